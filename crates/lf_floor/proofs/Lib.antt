@@ -1,0 +1,9 @@
+pub mod Boxes
+pub mod Cells
+pub mod Names
+pub mod Cases
+pub mod Kept
+pub mod Serving
+pub mod Answering
+pub mod Isolation
+pub mod Openings

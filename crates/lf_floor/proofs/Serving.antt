@@ -1,0 +1,38 @@
+-- What the outcome of the team at one position is to the floor.
+use Rattle.std.proofs.Common.{◌≡◌, ℕ, ◌<◌, List, true, false, Bool, set, get_or, Option, Some, None, Result, Ok, Err, refl, ap, sym, ◌∙◌, subst}
+use Rattle.std.specs.Prelude.{IfOk, OnErr, slice_get, slice_set}
+use Rattle.std.specs.declared.alloc.AllocError.{AllocError}
+use Rattle.std.proofs.lemmas.List.{set-get_or}
+use Rattle.lf_frame.specs.declared.frame.Frame.{Frame}
+use Rattle.lf_frame.specs.declared.place.Place.{Place}
+use Rattle.lf_rules.specs.Legalizer.{Legalizer}
+use Rattle.lf_proto.specs.declared.request.Order.{Order}
+use Rattle.lf_proto.specs.declared.reply.Reply.{Reply}
+use Rattle.lf_floor.specs.States.{TeamState, FloorState}
+use Rattle.lf_floor.specs.Outcomes.{Outcome, Reaches, RunsOut}
+use Rattle.lf_floor.specs.Steps.{ruled, answer_by, settled, Gives, StaysShort, floor_of}
+
+-- whatever holds of the team before and of its outcome holds of the team afterwards
+pub kept_by : (P : TeamState → Type 0) (o : Outcome) (old new : TeamState) (result : Result Reply AllocError) → IfOk result (λ reply. Reaches o reply new) → OnErr result (RunsOut o old new) → P old → P o.team → P new
+kept_by P o old new (Ok reply) ok err before after = subst P (sym ok.team_is) after
+kept_by P o old new (Err e) ok err before after = subst P (sym err.kept) before
+
+pub gives : (l : Legalizer) (f : Frame) (teams : List TeamState) (number : ℕ) (order : Order (List ℕ) Place) (s new : TeamState) (reply : Reply)
+    → slice_get teams number ≡ Some s → Reaches (ruled l f number order s) reply new
+    → Gives (answer_by (slice_get teams number) l (floor_of f teams) number order) reply (floor_of f (slice_set teams number new))
+gives l f teams number order s new reply there reaches =
+    let P : Option TeamState → Type 0 = λ o. Gives (answer_by o l (floor_of f teams) number order) reply (floor_of f (slice_set teams number new)) in
+    subst P (sym there) record {
+      reply_is = reaches.reply_is;
+      floor_is = ap (λ (t : TeamState). floor_of f (slice_set teams number t)) reaches.team_is;
+    }
+
+pub stays_short : (l : Legalizer) (f : Frame) (teams : List TeamState) (number : ℕ) (order : Order (List ℕ) Place) (s new : TeamState)
+    → slice_get teams number ≡ Some s → s ≡ get_or teams number s → RunsOut (ruled l f number order s) s new
+    → StaysShort (answer_by (slice_get teams number) l (floor_of f teams) number order) (floor_of f teams) (floor_of f (slice_set teams number new))
+stays_short l f teams number order s new there read out =
+    let P : Option TeamState → Type 0 = λ o. StaysShort (answer_by o l (floor_of f teams) number order) (floor_of f teams) (floor_of f (slice_set teams number new)) in
+    subst P (sym there) record {
+      kept = ap (λ (t : TeamState). floor_of f (slice_set teams number t)) (out.kept ∙ read) ∙ ap (floor_of f) (set-get_or teams number s);
+      may = out.may;
+    }

@@ -1,0 +1,25 @@
+use Rattle.std.proofs.Common.{ap, ◌∙◌}
+use Rattle.lf_proto.specs.Commands.{command_of}
+use Rattle.lf_floor.specs.States.{FloorState}
+use Rattle.lf_floor.specs.Teams.{state_of}
+use Rattle.lf_floor.proofs.Answering.{step_of_answer, others_kept, frame_kept}
+use Rattle.lf_floor.proofs.floor.Floor.step.Goals as goal
+
+pub returns-in-Ok-clause-step : goal.returns-in-Ok-clause-step
+returns-in-Ok-clause-step c = λ l. step_of_answer l c.args.self.now c.try_step.new.self (command_of c.args.request.now) c.in-Ok.reply (c.in-Ok.ensures.ok l)
+
+pub returns-in-Ok-clause-others : goal.returns-in-Ok-clause-others
+returns-in-Ok-clause-others c = λ team other.
+    let l = c.legalizer_is_there.ensures in
+    ap (λ (f : FloorState). state_of f team) (c.in-Ok.ensures.ok l).floor_is ∙ others_kept l c.args.self.now (command_of c.args.request.now) team other
+
+pub returns-in-Ok-clause-frame : goal.returns-in-Ok-clause-frame
+returns-in-Ok-clause-frame c =
+    let l = c.legalizer_is_there.ensures in
+    ap (λ (f : FloorState). f.frame) (c.in-Ok.ensures.ok l).floor_is ∙ frame_kept l c.args.self.now (command_of c.args.request.now)
+
+pub returns-in-Err-clause-others : goal.returns-in-Err-clause-others
+returns-in-Err-clause-others c = λ team other. ap (λ (f : FloorState). state_of f team) (c.in-Err.ensures.err c.legalizer_is_there.ensures).short.kept
+
+pub returns-in-Err-clause-frame : goal.returns-in-Err-clause-frame
+returns-in-Err-clause-frame c = ap (λ (f : FloorState). f.frame) (c.in-Err.ensures.err c.legalizer_is_there.ensures).short.kept

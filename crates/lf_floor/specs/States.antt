@@ -1,0 +1,18 @@
+-- What contracts see of a team and of a floor.
+use Rattle.std.specs.Prelude.{ℕ, List, Option}
+use Rattle.lf_frame.specs.declared.frame.Frame.{Frame}
+use Rattle.lf_frame.specs.declared.place.Place.{Place}
+use Rattle.lf_floor.specs.declared.cell.Cell.{Cell}
+
+-- a team: its cells in loading order; how many changes it has made; the working places before each change that can be
+-- undone, the newest first; and for each session slot the revision that the session has seen, None where the slot is free
+pub record TeamState : Type 0 where
+  pub cells : List Cell
+  pub revision : ℕ
+  pub entries : List (List (Option Place))
+  pub slots : List (Option ℕ)
+
+-- a floor: its frame, and a state for each team, the fence teams in the frame's order and the ground team last
+pub record FloorState : Type 0 where
+  pub frame : Frame
+  pub teams : List TeamState

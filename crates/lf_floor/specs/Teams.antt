@@ -1,0 +1,72 @@
+-- Teams and cells by their names, and cells among each other.
+use Rattle.std.specs.Prelude.{ℕ, ◌<◌, ◌≤◌, List, [], ◌∷◌, ◌++◌, length, map, position, bytes_eq, All, Option, Some, None, slice_get, option_map}
+use Rattle.lf_frame.specs.declared.frame.Frame.{Frame}
+use Rattle.lf_frame.specs.declared.place.Place.{Place}
+use Rattle.lf_rules.specs.declared.rule.Broken.{Broken}
+use Rattle.lf_frame.specs.Boxes.{IsSized, macro_of}
+use Rattle.lf_frame.specs.Fences.{ground_name}
+use Rattle.lf_rules.specs.Legality.{Trial, trial_of}
+use Rattle.lf_rules.specs.Legalizer.{Legalizer}
+use Rattle.lf_rules.specs.Choice.{spot_of}
+use Rattle.lf_rules.specs.declared.rule.Placed.{Placed}
+use Rattle.lf_rules.specs.Beside.{Member, with_box, boxes_beside}
+use Rattle.lf_floor.specs.declared.cell.Cell.{Cell}
+use Rattle.lf_floor.specs.States.{FloorState, TeamState}
+
+-- the names of all teams: those of the fences, in the frame's order, and last '-'
+abbrev pub team_names : Frame → List (List ℕ)
+team_names f = map (λ t. t.name) f.teams ++ ground_name ∷ []
+
+-- the number of the team of that name
+abbrev pub team_number : Frame → List ℕ → Option ℕ
+team_number f name = position (λ n. bytes_eq n name) (team_names f)
+
+abbrev pub state_at : List TeamState → Option ℕ → Option TeamState
+state_at teams None = None
+state_at teams (Some number) = slice_get teams number
+
+-- the state of the team of that name
+abbrev pub state_of : FloorState → List ℕ → Option TeamState
+state_of floor name = state_at floor.teams (team_number floor.frame name)
+
+-- the position of the cell of that name among these
+abbrev pub cell_named : List ℕ → List Cell → Option ℕ
+cell_named name cells = position (λ c. bytes_eq c.name name) cells
+
+-- the macro and the working place of a cell
+abbrev pub member_of : Frame → Cell → Member
+member_of f c = record { mac = macro_of f c.mac; place = option_map spot_of c.working }
+
+-- the box of a cell of that position, where it is placed
+abbrev pub box_if_placed : Frame → Cell → ℕ → List Placed
+box_if_placed f c own = with_box f own (macro_of f c.mac) (option_map spot_of c.working) []
+
+-- the cell's macro is one of the frame's, of whole size
+pub record IsSizedCell (f : Frame) (c : Cell) : Type 0 where
+  pub known : c.mac < length f.macros
+  pub sized : IsSized f (macro_of f c.mac)
+
+-- a team of the frame: the macros of its cells are the frame's, of whole size, and neither cells nor slots are too many to count
+pub record IsTeamOf (f : Frame) (s : TeamState) : Type 0 where
+  pub sized : All (λ c. IsSizedCell f c) s.cells
+  pub few_cells : length s.cells ≤ 4000000
+  pub few_slots : length s.slots ≤ 64
+
+-- where a team works: the frame, the team's number there, and the legalizer of its places
+pub record Setting : Type 0 where
+  pub legalizer : Legalizer
+  pub frame : Frame
+  pub number : ℕ
+
+-- the cell of that position, tried at a place beside the team's other placed cells
+abbrev pub trial_of_cell : Setting → List Cell → ℕ → Cell → Place → Trial
+trial_of_cell t cells own c place =
+    trial_of t.frame t.number (macro_of t.frame c.mac) place (boxes_beside t.frame (map (member_of t.frame) cells) own)
+
+abbrev pub broken_by : Option Cell → Setting → List Cell → ℕ → Place → Option Broken
+broken_by None t cells own place = None
+broken_by (Some c) t cells own place = t.legalizer.first_broken (trial_of_cell t cells own c place)
+
+-- the first rule that the cell of that position breaks at a place
+abbrev pub broken_at : Setting → List Cell → ℕ → Place → Option Broken
+broken_at t cells own place = broken_by (slice_get cells own) t cells own place

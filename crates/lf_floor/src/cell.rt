@@ -1,0 +1,126 @@
+//! A team's own cells.
+
+ghost use Rattle.std.specs.Prelude.{◌≡◌, ◌<◌, ◌≤◌, ◌++◌, All, length, IfOk, IfSome, OnOk, map};
+ghost use Rattle.lf_frame.specs.Boxes.{IsSized, macro_of};
+ghost use Rattle.lf_rules.specs.Legalizer.{Legalizer};
+ghost use Rattle.lf_rules.specs.Beside.{boxes_beside};
+ghost use Rattle.lf_floor.specs.Teams.{cell_named, member_of, IsSizedCell, box_if_placed, broken_at};
+ghost use Rattle.lf_floor.specs.Steps.{setting};
+ghost use Rattle.lf_floor.specs.Outcomes.{moved, places_of, working_at};
+
+use lf_frame::{Frame, Macro, Place};
+use lf_rules::{Broken, Placed, box_of, first_broken, verdict_is_one};
+use lf_units::Name;
+use std::alloc::{AllocError, Global};
+
+/// A cell of a team.
+#[derive(Drop)]
+pub struct Cell {
+    pub name: Name,
+    /// The number of its macro in the frame.
+    pub mac: usize,
+    /// Where the team has it now; none where it is unplaced.
+    pub working: Option<Place>,
+    /// Where the committed design has it; none where it is unplaced.
+    pub committed: Option<Place>,
+}
+
+/// The position of the cell of that name.
+pub fn cell_named(cells: &[Cell], name: &[u8]) -> Option<usize>
+    ensures found { result ≡ cell_named name.now cells.now }
+    ensures within { IfSome result (λ own. own < length cells.now) }
+{
+    cells.iter().position(|cell| cell.name.is(name))
+}
+
+/// The macro of a cell.
+fn macro_of<'a>(frame: &'a Frame, cell: &Cell) -> &'a Macro
+    requires { IsSizedCell frame.now cell.now }
+    ensures mac { result.now ≡ macro_of frame.now cell.now.mac }
+    ensures sized { IsSized frame.now result.now }
+{
+    &frame.macros.as_slice()[cell.mac]
+}
+
+/// Puts the box of the cell behind the others, where it is placed.
+fn push_box(
+    others: &mut Vec<Placed>,
+    frame: &Frame,
+    cell: &Cell,
+    own: u32,
+) -> Result<(), AllocError>
+    requires { IsSizedCell frame.now cell.now }
+    ensures { OnOk result (others.new.items ≡ others.old.items ++ box_if_placed frame.now cell.now own) }
+{
+    if let Some(place) = cell.working {
+        others.push(Placed {
+            own,
+            rect: box_of(frame, macro_of(frame, cell), &place),
+        })?;
+    }
+    Ok(())
+}
+
+/// The boxes of the other placed cells, in loading order.
+fn others_of(
+    alloc: Global,
+    frame: &Frame,
+    cells: &[Cell],
+    own: usize,
+) -> Result<Vec<Placed>, AllocError>
+    requires sized { All (IsSizedCell frame.now) cells.now }
+    requires few { length cells.now ≤ 4000000 }
+    ensures { IfOk result (λ others. others.items ≡ boxes_beside frame.now (map (member_of frame.now) cells.now) own) }
+{
+    let mut others = Vec::new(alloc);
+    for (number, cell) in cells.iter().enumerate() {
+        if number != own {
+            push_box(&mut others, frame, cell, number as u32)?;
+        }
+    }
+    Ok(others)
+}
+
+/// The first rule that the cell of that position breaks at the place, beside the others of its team.
+pub fn broken_at(
+    alloc: Global,
+    frame: &Frame,
+    team: usize,
+    cells: &[Cell],
+    own: usize,
+    place: &Place,
+) -> Result<Option<Broken>, AllocError>
+    requires within { own < length cells.now }
+    requires sized { All (IsSizedCell frame.now) cells.now }
+    requires few { length cells.now ≤ 4000000 }
+    ensures { IfOk result (λ broken. (l : Legalizer) → broken ≡ broken_at (setting l frame.now team) cells.now own place.now) }
+{
+    verdict_is_one();
+    let others = others_of(alloc, frame, cells, own)?;
+    Ok(first_broken(frame, team, macro_of(frame, &cells[own]), place, &others))
+}
+
+/// Where the cell of that position stands.
+pub fn working(cells: &[Cell], own: usize) -> Option<Place>
+    ensures { result ≡ working_at cells.now own }
+{
+    match cells.get(own) {
+        Some(cell) => cell.working,
+        None => None,
+    }
+}
+
+/// Puts one cell somewhere else.
+pub fn put(cells: &mut [Cell], own: usize, place: Option<Place>)
+    requires { own < length cells.old }
+    ensures { cells.new ≡ moved cells.old own place }
+{
+    cells[own].working = place;
+}
+
+/// A copy of the working places.
+pub fn places(alloc: Global, cells: &[Cell]) -> Result<Vec<Option<Place>>, AllocError>
+    ensures { IfOk result (λ places. places.items ≡ places_of cells.now) }
+{
+    cells.iter().map(|cell| cell.working).collect(alloc)
+}

@@ -1,0 +1,5 @@
+pub mod FenceLemmas
+pub mod LengthLemmas
+pub mod Wide
+pub mod StandingLemmas
+pub mod GroundLemmas

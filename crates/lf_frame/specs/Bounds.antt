@@ -1,0 +1,65 @@
+-- The ranges of numbers that a frame keeps in its types.
+use Rattle.std.specs.Prelude.{ℕ, ℤ, pos, negsuc, ◌≤◌, ◌≤ℤ◌, ◌<ℤ◌, List, All, length}
+use Rattle.lf_units.specs.declared.area.Point.{Point}
+use Rattle.lf_units.specs.declared.area.Rect.{Rect}
+
+-- from 1 to the largest value
+pub record IsWithin (value largest : ℕ) : Type 0 where
+  pub least : 1 ≤ value
+  pub most : value ≤ largest
+
+-- each limit is from 1 to its largest value
+pub record AreAllowed (rows fences components sessions undo revisions : ℕ) : Type 0 where
+  pub rows_within : IsWithin rows 65535
+  pub fences_within : IsWithin fences 1024
+  pub components_within : IsWithin components 4000000
+  pub sessions_within : IsWithin sessions 64
+  pub undo_within : IsWithin undo 1024
+  pub revisions_within : IsWithin revisions 4000000000
+
+-- a coordinate that a DEF text can hold: from -2147483647 to 2147483647
+pub record IsDefNumber (v : ℤ) : Type 0 where
+  pub above : negsuc 2147483647 <ℤ v
+  pub most : v ≤ℤ pos 2147483647
+
+-- a length that a LEF text can hold, in millionths of a micron: up to a million microns either way
+pub record IsLefLength (v : ℤ) : Type 0 where
+  pub least : negsuc 999999999999 ≤ℤ v
+  pub most : v ≤ℤ pos 1000000000000
+
+-- both lengths of a size or an offset
+pub record IsLefSize (p : Point) : Type 0 where
+  pub across : IsLefLength p.x
+  pub up : IsLefLength p.y
+
+-- two coordinates that a DEF text can hold, the lesser one first
+pub record IsDefRange (lo hi : ℤ) : Type 0 where
+  pub from : IsDefNumber lo
+  pub to : IsDefNumber hi
+  pub in_order : lo ≤ℤ hi
+
+-- a rectangle of a DEF text, its lower left corner before its upper right one
+pub record IsDefRect (r : Rect) : Type 0 where
+  pub across : IsDefRange r.x1 r.x2
+  pub up : IsDefRange r.y1 r.y2
+
+-- the range of an obstacle, which may reach past the largest coordinate by the largest size of a macro
+pub record IsObstacleRange (lo hi : ℤ) : Type 0 where
+  pub from : IsDefNumber lo
+  pub to : hi ≤ℤ pos 22147483647
+  pub in_order : lo ≤ℤ hi
+
+-- an obstacle: a blockage, or the box of a FIXED component
+pub record IsObstacle (r : Rect) : Type 0 where
+  pub across : IsObstacleRange r.x1 r.x2
+  pub up : IsObstacleRange r.y1 r.y2
+
+-- a byte that can stand in a word of a text
+pub record IsPrinted (byte : ℕ) : Type 0 where
+  pub least : 33 ≤ byte
+  pub most : byte ≤ 126
+
+-- a name of at most 1,024 bytes, each of which can stand in a word
+pub record IsName (name : List ℕ) : Type 0 where
+  pub short : length name ≤ 1024
+  pub printed : All IsPrinted name

@@ -1,0 +1,25 @@
+//! Laws on the definitions of boxes, ground and rows.
+
+ghost use Rattle.lf_frame.specs.Boxes.{TurnsBack};
+ghost use Rattle.lf_frame.specs.Ground.{GroundIsShared, TeamsStayApart};
+ghost use Rattle.lf_frame.specs.Standing.{StandsOnce};
+
+/// A size that is turned twice alike is what it was.
+pub fn size_turns_back()
+    ensures { TurnsBack }
+{}
+
+/// Each point is ground of one team and no other.
+pub fn ground_is_shared()
+    ensures { GroundIsShared }
+{}
+
+/// Boxes that stay in the grounds of different teams share no point.
+pub fn teams_stay_apart()
+    ensures { TeamsStayApart }
+{}
+
+/// A box has one height in sites and one bottom row.
+pub fn box_stands_once()
+    ensures { StandsOnce }
+{}

@@ -1,0 +1,21 @@
+//! The frame of a design: what every team sees and no command changes.
+#![tactic(auto)]
+
+mod assembled;
+mod checked;
+mod design;
+mod frame;
+mod laws;
+mod limits;
+mod loaded;
+mod measure;
+mod parts;
+mod place;
+
+pub use assembled::{Parts, frame_of, loaded_of};
+pub use frame::Frame;
+pub use laws::{box_stands_once, ground_is_shared, size_turns_back, teams_stay_apart};
+pub use limits::Limits;
+pub use loaded::{Cell, Loaded};
+pub use parts::{Header, Macro, Row, Site, Team};
+pub use place::Place;

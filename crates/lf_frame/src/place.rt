@@ -1,0 +1,31 @@
+//! Where a cell stands.
+
+ghost use Rattle.std.specs.Prelude.{◌≡◌, ◌<ℤ◌, negsuc};
+
+use lf_orient::Orient;
+
+/// The lower left corner of a cell's box in database units, and the cell's orientation
+/// (DEF COMPONENTS, the point of PLACED).
+///
+/// Neither number is -2147483648, which no DEF text can hold.
+#[derive(Clone, Copy, Debug, PartialEq, Eq)]
+pub struct Place {
+    pub x: i32,
+    pub y: i32,
+    pub orient: Orient,
+    pub ghost x_in_def: { negsuc 2147483647 <ℤ x },
+    pub ghost y_in_def: { negsuc 2147483647 <ℤ y },
+}
+
+impl Place {
+    /// The place at a corner that a DEF text can hold.
+    pub fn new(x: i32, y: i32, orient: Orient) -> Place
+        requires x_in_def { negsuc 2147483647 <ℤ x }
+        requires y_in_def { negsuc 2147483647 <ℤ y }
+        ensures x_is { result.x ≡ x }
+        ensures y_is { result.y ≡ y }
+        ensures orient_is { result.orient ≡ orient }
+    {
+        Place { x, y, orient }
+    }
+}

@@ -1,0 +1,53 @@
+-- The tables of orientations (LEF/DEF 5.8, SYMMETRY of MACRO and SITE): candidates of a macro, equality
+-- under a site's symmetry, and the rails, which are this project's profile.
+use Rattle.std.specs.Prelude.{◌≡◌, ◌⊎◌, Bool, true, false, ◌&&◌, IsTrue, Option, Some, None}
+use Rattle.lf_orient.specs.declared.Orient.{Orient}
+use Rattle.lf_orient.specs.declared.Orient.TheVariants.{N, S, FN, FS}
+use Rattle.lf_orient.specs.declared.Symmetry.{Symmetry}
+use Rattle.lf_orient.specs.declared.Rail.{Rail}
+use Rattle.lf_orient.specs.declared.Rail.TheVariants.{Ground, Power}
+
+-- the candidates of a macro: N always, X adds FS, Y adds FN, X and Y together add S
+abbrev pub is_allowed : Symmetry → Orient → Bool
+is_allowed _ N = true
+is_allowed s FS = s.x
+is_allowed s FN = s.y
+is_allowed s S = s.x && s.y
+is_allowed _ _ = false
+
+-- X makes N equal to FS, and FN equal to S
+abbrev pub flipped_over_x : Orient → Orient
+flipped_over_x N = FS
+flipped_over_x FS = N
+flipped_over_x FN = S
+flipped_over_x S = FN
+flipped_over_x o = o
+
+-- Y makes N equal to FN, and FS equal to S
+abbrev pub flipped_over_y : Orient → Orient
+flipped_over_y N = FN
+flipped_over_y FN = N
+flipped_over_y FS = S
+flipped_over_y S = FS
+flipped_over_y o = o
+
+-- two orientations are equal under a site's symmetry
+abbrev pub EqualUnder : Symmetry → Orient → Orient → Type 0
+EqualUnder s a b =
+    (a ≡ b)
+    ⊎ (IsTrue s.x × (b ≡ flipped_over_x a))
+    ⊎ (IsTrue s.y × (b ≡ flipped_over_y a))
+    ⊎ (IsTrue s.x × IsTrue s.y × (b ≡ flipped_over_x (flipped_over_y a)))
+
+-- the bottom rail of a row: ground for N and FN, power for S and FS
+abbrev pub rail_below : Orient → Option Rail
+rail_below N = Some Ground
+rail_below FN = Some Ground
+rail_below S = Some Power
+rail_below FS = Some Power
+rail_below _ = None
+
+-- the rail, changed once
+abbrev pub other_rail : Rail → Rail
+other_rail Ground = Power
+other_rail Power = Ground

@@ -1,0 +1,105 @@
+//! Orientations of cells and rows, the symmetries that allow them, and the supply rail at the bottom.
+#![tactic(auto)]
+
+ghost use Rattle.std.specs.Prelude.{◌≡◌, ◌↔◌, IsTrue};
+ghost use Rattle.lf_orient.specs.Orientation.{flipped_over_x, flipped_over_y, is_allowed, EqualUnder, rail_below, other_rail};
+
+/// The eight orientations of a DEF text: north, west, south, east, and each of them flipped
+/// (LEF/DEF 5.8, DEF COMPONENTS and ROW).
+#[derive(Clone, Copy, Debug, PartialEq, Eq)]
+pub enum Orient {
+    N,
+    W,
+    S,
+    E,
+    FN,
+    FW,
+    FS,
+    FE,
+}
+
+/// The axes over which a macro or a site may be flipped (LEF/DEF 5.8, LEF SYMMETRY of MACRO and SITE).
+///
+/// R90 plays no part: a cell that lies on its side is never legal.
+#[derive(Clone, Copy, Debug, PartialEq, Eq)]
+pub struct Symmetry {
+    pub x: bool,
+    pub y: bool,
+}
+
+/// The supply rail along the bottom of a row or a macro.
+#[derive(Clone, Copy, Debug, PartialEq, Eq)]
+pub enum Rail {
+    Ground,
+    Power,
+}
+
+/// Whether a macro of this symmetry may stand in this orientation.
+pub fn is_candidate(symmetry: Symmetry, orient: Orient) -> bool
+    ensures { result ≡ is_allowed symmetry orient }
+{
+    match orient {
+        Orient::N => true,
+        Orient::FS => symmetry.x,
+        Orient::FN => symmetry.y,
+        Orient::S => symmetry.x && symmetry.y,
+        _ => false,
+    }
+}
+
+/// The orientation flipped over the x axis.
+fn over_x(orient: Orient) -> Orient
+    ensures { result ≡ flipped_over_x orient }
+{
+    match orient {
+        Orient::N => Orient::FS,
+        Orient::FS => Orient::N,
+        Orient::FN => Orient::S,
+        Orient::S => Orient::FN,
+        _ => orient,
+    }
+}
+
+/// The orientation flipped over the y axis.
+fn over_y(orient: Orient) -> Orient
+    ensures { result ≡ flipped_over_y orient }
+{
+    match orient {
+        Orient::N => Orient::FN,
+        Orient::FN => Orient::N,
+        Orient::FS => Orient::S,
+        Orient::S => Orient::FS,
+        _ => orient,
+    }
+}
+
+/// Whether a site of this symmetry takes the two orientations for one.
+pub fn equal_under(symmetry: Symmetry, a: Orient, b: Orient) -> bool
+    ensures { IsTrue result ↔ EqualUnder symmetry a b }
+{
+    a == b
+        || (symmetry.x && b == over_x(a))
+        || (symmetry.y && b == over_y(a))
+        || (symmetry.x && symmetry.y && b == over_x(over_y(a)))
+}
+
+/// The rail along the bottom of a row of this orientation; none for a row that lies on its side.
+pub fn row_rail(orient: Orient) -> Option<Rail>
+    ensures { result ≡ rail_below orient }
+{
+    match orient {
+        Orient::N | Orient::FN => Some(Rail::Ground),
+        Orient::S | Orient::FS => Some(Rail::Power),
+        _ => None,
+    }
+}
+
+/// The other rail.
+pub fn opposite(rail: Rail) -> Rail
+    ensures { result ≡ other_rail rail }
+{
+    match rail {
+        Rail::Ground => Rail::Power,
+        Rail::Power => Rail::Ground,
+    }
+}

@@ -1,0 +1,27 @@
+-- A place is the one at its corner.
+use Rattle.std.proofs.Common.{◌≡◌, ℕ, List, Bool, true, false, ℤ, negsuc, Some, ◌<ℤ◌, ap, refl}
+use Rattle.std.proofs.Math.Dec.{T, T_prop}
+use Rattle.std.specs.Int.Signed.{lt_z, lt_z_yes}
+use Rattle.lf_frame.specs.declared.place.Place.{Place}
+use Rattle.lf_proto.specs.Requests.{shown, in_def, place_at, place_written, orient_named}
+use Rattle.lf_proto.specs.Numbers.{coordinate}
+
+-- a test that succeeds shows its fact, of which there is one proof at most
+shown-yes : {Fact : Type 0} (unique : (a b : Fact) → a ≡ b) (test : Bool) (fact : T test → Fact) (known : Fact) → T test → shown test fact ≡ Some known
+shown-yes unique true fact known t = ap Some (unique (fact tt) known)
+shown-yes unique false fact known t = absurd t
+
+less_unique : {x y : ℤ} (a b : x <ℤ y) → a ≡ b
+less_unique {x} {y} a b =
+    let fact : T (lt_z x y) → x <ℤ y = λ test. record { lt = test } in
+    ap fact (T_prop (lt_z x y) a.lt b.lt)
+
+pub in_def-some : (z : ℤ) (known : negsuc 2147483647 <ℤ z) → in_def z ≡ Some known
+in_def-some z known = shown-yes less_unique (lt_z (negsuc 2147483647) z) lt_z_yes known known.lt
+
+pub place_at-some : (p : Place) → place_at p.x p.y p.orient ≡ Some p
+place_at-some p = rw (in_def-some p.x p.x_in_def, in_def-some p.y p.y_in_def) refl
+
+-- three words write the place that has what each of them writes
+pub place_written-some : (x y orient : List ℕ) (p : Place) → coordinate x ≡ Some p.x → coordinate y ≡ Some p.y → orient_named orient ≡ Some p.orient → place_written x y orient ≡ Some p
+place_written-some x y orient p x_is y_is orient_is = rw (x_is, y_is, orient_is) (place_at-some p)

@@ -1,0 +1,193 @@
+-- A printed request reads back.
+use Rattle.std.proofs.Common.{◌≡◌, ℕ, suc, ◌<◌, ◌≤◌, ◌^◌, Bool, true, false, ◌&&◌, ◌==◌, cond, nat_lt, nat_le, List, [], ◌∷◌, ◌++◌, length, filter, drop, None, Some, refl, ap, ◌∙◌, arith, ℤ, pos, negsuc, neg_ℤ, ◌<ℤ◌}
+use Rattle.std.proofs.lemmas.Bool.Decides.{nat_tests}
+use Rattle.std.proofs.lemmas.Bool.{and_parts, lt-ltb}
+use Rattle.std.proofs.lemmas.Fmt.{decimal_is_IsNumeral, length-decimal-le}
+use Rattle.std.proofs.lemmas.Int.{ints}
+use Rattle.std.proofs.lemmas.List.Splits.{slice_split-cons_no}
+use Rattle.std.specs.Char.{is_ascii_digit}
+use Rattle.std.specs.Fmt.{decimal, signed_decimal}
+use Rattle.std.specs.List.{slice_split, onto_first, list_all, join_with_byte}
+use Rattle.std.specs.Prelude.{slice_index}
+use Rattle.lf_orient.specs.declared.Orient.{Orient}
+use Rattle.lf_orient.specs.declared.Orient.TheVariants.{N, W, S, E, FN, FW, FS, FE}
+use Rattle.lf_frame.specs.declared.place.Place.{Place}
+use Rattle.lf_proto.proofs.Blanks.{fields-blank, line_bytes-blank}
+use Rattle.lf_proto.proofs.Digits.{all_digits, is_digit_at, Digits}
+use Rattle.lf_proto.proofs.Places.{place_written-some}
+use Rattle.lf_proto.specs.Lines.{is_blank, is_line_byte, fields}
+use Rattle.lf_proto.specs.Numbers.{◌>>=◌, digits, below, session_number, negative, positive, coordinate}
+use Rattle.lf_proto.specs.Printed.{printed_fields, printed, is_visible, IsName, IsInRange, IsPlain, ReadsBack}
+use Rattle.lf_proto.specs.ReplyText.{orient_text}
+use Rattle.lf_proto.specs.Requests.{command_in, orient_named, place_written}
+use Rattle.lf_proto.specs.declared.request.Command.{Command}
+use Rattle.lf_proto.specs.declared.request.Command.TheVariants.{Bye, To}
+use Rattle.lf_proto.specs.declared.request.Order.TheVariants.{Open, Within}
+use Rattle.lf_proto.specs.declared.request.Action.TheVariants.{Where, Change as Changing}
+use Rattle.lf_proto.specs.declared.request.Change.TheVariants.{Place as Placing, Unplace}
+
+-- the digits of a number that has at most ten
+decimal_digits : (n : ℕ) → n < 10 ^ 10 → Digits (decimal n)
+decimal_digits n small = all_digits (decimal n) (decimal_is_IsNumeral n (omega arith)).0.1
+
+digits-decimal : (n : ℕ) → n < 10 ^ 10 → digits (decimal n) ≡ Some n
+digits-decimal n small =
+    let numeral = decimal_is_IsNumeral n (omega arith) in
+    let all : list_all is_ascii_digit (decimal n) ≡ true = decimal_digits n small in
+    let some : nat_lt 0 (length (decimal n)) ≡ true = lt-ltb 0 (length (decimal n)) numeral.0.0 in
+    let few : length (decimal n) ≤ 10 = length-decimal-le 10 n (omega arith) small (omega arith) in
+    let short : nat_le (length (decimal n)) 10 ≡ true = grind (arith, nat_tests) in
+    rw (all, some, short) (ap Some numeral.1)
+
+below-less : (limit n : ℕ) → n < limit → below limit n ≡ Some n
+below-less limit n small = ap (λ t. cond t (Some n) None) (lt-ltb n limit small)
+
+session_number-decimal : (n : ℕ) → n < 2 ^ 32 → session_number (decimal n) ≡ Some n
+session_number-decimal n small = ap (λ o. o >>= below (2 ^ 32)) (digits-decimal n (omega arith)) ∙ below-less (2 ^ 32) n small
+
+positive-decimal : (n : ℕ) → n < 2 ^ 31 → positive (decimal n) ≡ Some (pos n)
+positive-decimal n small =
+    ap (λ o. o >>= (λ m. below (2 ^ 31) m >>= (λ size. Some (pos size)))) (digits-decimal n (omega arith))
+    ∙ ap (λ o. o >>= (λ size. Some (pos size))) (below-less (2 ^ 31) n small)
+
+negative-decimal : (n : ℕ) → n < 2 ^ 31 → negative (decimal n) ≡ Some (neg_ℤ (pos n))
+negative-decimal n small =
+    ap (λ o. o >>= (λ m. below (2 ^ 31) m >>= (λ size. Some (neg_ℤ (pos size))))) (digits-decimal n (omega arith))
+    ∙ ap (λ o. o >>= (λ size. Some (neg_ℤ (pos size)))) (below-less (2 ^ 31) n small)
+
+-- no digit is a minus
+no_minus : (text : List ℕ) → Digits text → 0 < length text → (slice_index text 0 == 45) ≡ false
+no_minus text all some =
+    let range = is_digit_at text 0 all some in
+    grind (arith, nat_tests, range)
+
+coordinate-signed_decimal : (z : ℤ) → negsuc 2147483647 <ℤ z → z <ℤ pos (2 ^ 31) → coordinate (signed_decimal z) ≡ Some z
+coordinate-signed_decimal (pos n) low high =
+    let small : n < 2 ^ 31 = omega (arith, ints) in
+    let some = (decimal_is_IsNumeral n (omega arith)).0.0 in
+    ap (λ t. cond t (negative (drop 1 (decimal n))) (positive (decimal n))) (no_minus (decimal n) (decimal_digits n (omega arith)) some)
+    ∙ positive-decimal n small
+coordinate-signed_decimal (negsuc n) low high =
+    let small : suc n < 2 ^ 31 = omega (arith, ints) in
+    negative-decimal (suc n) small
+
+orient_named-text : (o : Orient) → orient_named (orient_text o) ≡ Some o
+orient_named-text N = refl
+orient_named-text W = refl
+orient_named-text S = refl
+orient_named-text E = refl
+orient_named-text FN = refl
+orient_named-text FW = refl
+orient_named-text FS = refl
+orient_named-text FE = refl
+
+place_written-printed : (p : Place) → IsInRange p → place_written (signed_decimal p.x) (signed_decimal p.y) (orient_text p.orient) ≡ Some p
+place_written-printed p range =
+    place_written-some (signed_decimal p.x) (signed_decimal p.y) (orient_text p.orient) p
+    (coordinate-signed_decimal p.x p.x_in_def range.x_in_range)
+    (coordinate-signed_decimal p.y p.y_in_def range.y_in_range)
+    (orient_named-text p.orient)
+
+command_in-printed : (command : Command (List ℕ) Place) → IsPlain command → command_in (printed_fields command) ≡ Some command
+command_in-printed Bye plain = absurd plain
+command_in-printed (To team Open) plain = refl
+command_in-printed (To team (Within session (Where cell))) (team_is, small, cell_is) =
+    ap (λ o. o >>= (λ n. Some (To team (Within n (Where cell))))) (session_number-decimal session small)
+command_in-printed (To team (Within session (Changing (Placing cell place)))) (team_is, small, cell_is, range) =
+    ap (λ o. o >>= (λ n. place_written (signed_decimal place.x) (signed_decimal place.y) (orient_text place.orient) >>= (λ p. Some (To team (Within n (Changing (Placing cell p))))))) (session_number-decimal session small)
+    ∙ ap (λ o. o >>= (λ p. Some (To team (Within session (Changing (Placing cell p)))))) (place_written-printed place range)
+command_in-printed (To team (Within session (Changing (Unplace cell)))) plain = absurd plain
+
+-- each field is a name
+abbrev AllNames : List (List ℕ) → Type 0
+AllNames [] = Unit {0}
+AllNames (word ∷ words) = IsName word × AllNames words
+
+not_blank : (b : ℕ) → is_visible b ≡ true → is_blank b ≡ false
+not_blank b visible = grind (arith, nat_tests)
+
+visible_line : (b : ℕ) → is_visible b ≡ true → is_line_byte b ≡ true
+visible_line b visible = grind (arith, nat_tests)
+
+digit_visible : (b : ℕ) → is_ascii_digit b ≡ true → is_visible b ≡ true
+digit_visible b digit = grind (arith, nat_tests)
+
+list_all-weaker : (p q : ℕ → Bool) → ((b : ℕ) → p b ≡ true → q b ≡ true) → (text : List ℕ) → list_all p text ≡ true → list_all q text ≡ true
+list_all-weaker p q weaker [] all = refl
+list_all-weaker p q weaker (b ∷ text) all =
+    let parts = and_parts (p b) (list_all p text) all in
+    rw (weaker b parts.0) (list_all-weaker p q weaker text parts.1)
+
+parts-visible : (name : List ℕ) → list_all is_visible name ≡ true → slice_split is_blank name ≡ name ∷ []
+parts-visible [] all = refl
+parts-visible (b ∷ name) all =
+    let parts = and_parts (is_visible b) (list_all is_visible name) all in
+    slice_split-cons_no is_blank b name (not_blank b parts.0) ∙ ap (onto_first b) (parts-visible name parts.1)
+
+fields-name : (name : List ℕ) → IsName name → fields name ≡ name ∷ []
+fields-name name is =
+    ap (filter (λ field. nat_lt 0 (length field))) (parts-visible name is.visible)
+    ∙ ap (λ t. cond t (name ∷ []) []) (lt-ltb 0 (length name) is.some)
+
+fields-joined : (words : List (List ℕ)) → AllNames words → fields (join_with_byte 32 words) ≡ words
+fields-joined [] names = refl
+fields-joined (word ∷ []) names = fields-name word names.0
+fields-joined (word ∷ next ∷ words) names =
+    fields-blank word 32 (join_with_byte 32 (next ∷ words)) refl
+    ∙ (ap (λ f. f ++ fields (join_with_byte 32 (next ∷ words))) (fields-name word names.0) ∙ ap (λ f. word ∷ f) (fields-joined (next ∷ words) names.1))
+
+line_bytes-joined : (words : List (List ℕ)) → AllNames words → list_all is_line_byte (join_with_byte 32 words) ≡ true
+line_bytes-joined [] names = refl
+line_bytes-joined (word ∷ []) names = list_all-weaker is_visible is_line_byte visible_line word names.0.visible
+line_bytes-joined (word ∷ next ∷ words) names =
+    line_bytes-blank word 32 (join_with_byte 32 (next ∷ words)) refl
+    ∙ (ap (λ t. t && list_all is_line_byte (join_with_byte 32 (next ∷ words))) (list_all-weaker is_visible is_line_byte visible_line word names.0.visible)
+    ∙ line_bytes-joined (next ∷ words) names.1)
+
+decimal_name : (n : ℕ) → n < 10 ^ 10 → IsName (decimal n)
+decimal_name n small = record {
+  some = (decimal_is_IsNumeral n (omega arith)).0.0;
+  visible = list_all-weaker is_ascii_digit is_visible digit_visible (decimal n) (decimal_digits n small);
+}
+
+signed_name : (z : ℤ) → negsuc 2147483647 <ℤ z → z <ℤ pos (2 ^ 31) → IsName (signed_decimal z)
+signed_name (pos n) low high = let small : n < 2 ^ 31 = omega (arith, ints) in decimal_name n (omega arith)
+signed_name (negsuc n) low high =
+    let small : suc n < 2 ^ 31 = omega (arith, ints) in
+    record { some = omega arith; visible = (decimal_name (suc n) (omega arith)).visible }
+
+orient_name : (o : Orient) → IsName (orient_text o)
+orient_name N = record { some = omega arith; visible = refl }
+orient_name W = record { some = omega arith; visible = refl }
+orient_name S = record { some = omega arith; visible = refl }
+orient_name E = record { some = omega arith; visible = refl }
+orient_name FN = record { some = omega arith; visible = refl }
+orient_name FW = record { some = omega arith; visible = refl }
+orient_name FS = record { some = omega arith; visible = refl }
+orient_name FE = record { some = omega arith; visible = refl }
+
+printed_names : (command : Command (List ℕ) Place) → IsPlain command → AllNames (printed_fields command)
+printed_names Bye plain = absurd plain
+printed_names (To team Open) plain = (record { some = omega arith; visible = refl }, (plain, tt))
+printed_names (To team (Within session (Where cell))) (team_is, small, cell_is) =
+    (record { some = omega arith; visible = refl }, (team_is, (decimal_name session (omega arith), (cell_is, tt))))
+printed_names (To team (Within session (Changing (Placing cell place)))) (team_is, small, cell_is, range) = (
+  record { some = omega arith; visible = refl },
+  (
+    team_is,
+    (
+      decimal_name session (omega arith),
+      (
+        cell_is,
+        (signed_name place.x place.x_in_def range.x_in_range, (signed_name place.y place.y_in_def range.y_in_range, (orient_name place.orient, tt))),
+      ),
+    ),
+  ),
+)
+printed_names (To team (Within session (Changing (Unplace cell)))) plain = absurd plain
+
+pub reads_back : ReadsBack
+reads_back command plain =
+    let names = printed_names command plain in
+    ap (λ t. cond t (command_in (fields (printed command))) None) (line_bytes-joined (printed_fields command) names)
+    ∙ (ap command_in (fields-joined (printed_fields command) names) ∙ command_in-printed command plain)

@@ -1,0 +1,32 @@
+-- A request as a command: its names are lists of bytes, and no parts of a line.
+use Rattle.std.specs.Prelude.{ℕ, List}
+use denote.Ref.{Bor}
+use Rattle.lf_frame.specs.declared.place.Place.{Place}
+use Rattle.lf_proto.specs.declared.request.Command.{Command}
+use Rattle.lf_proto.specs.declared.request.Command.TheVariants.{Bye, To}
+use Rattle.lf_proto.specs.declared.request.Order.{Order}
+use Rattle.lf_proto.specs.declared.request.Order.TheVariants.{Open, Within}
+use Rattle.lf_proto.specs.declared.request.Action.{Action}
+use Rattle.lf_proto.specs.declared.request.Action.TheVariants.{Where, Change as Changing}
+use Rattle.lf_proto.specs.declared.request.Change.{Change}
+use Rattle.lf_proto.specs.declared.request.Change.TheVariants.{Place as Placing, Unplace}
+
+-- a change whose cell is named by a list of bytes
+abbrev pub change_of : Change (Bor (List ℕ)) Place → Change (List ℕ) Place
+change_of (Placing cell place) = Placing cell.now place
+change_of (Unplace cell) = Unplace cell.now
+
+-- what a session asks, its cell named by a list of bytes
+abbrev pub action_of : Action (Bor (List ℕ)) Place → Action (List ℕ) Place
+action_of (Where cell) = Where cell.now
+action_of (Changing change) = Changing (change_of change)
+
+-- what is asked of a team, its cell named by a list of bytes
+abbrev pub order_of : Order (Bor (List ℕ)) Place → Order (List ℕ) Place
+order_of Open = Open
+order_of (Within session action) = Within session (action_of action)
+
+-- a command whose team and cell are named by lists of bytes
+abbrev pub command_of : Command (Bor (List ℕ)) Place → Command (List ℕ) Place
+command_of Bye = Bye
+command_of (To team order) = To team.now (order_of order)

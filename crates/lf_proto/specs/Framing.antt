@@ -1,0 +1,17 @@
+-- What a contract sees of a line framer.
+use Rattle.std.specs.Prelude.{ℕ, Bool, cond, List, ◌++◌, Option, Some, None}
+use Rattle.lf_proto.specs.Stream.{within_limit}
+
+-- the bytes that came since the last line feed, or None where they are over the limit; and the line that came last
+pub record Framing : Type 0 where
+  pub pending : Option (List ℕ)
+  pub line : List ℕ
+
+-- what is held after more bytes came
+abbrev pub with_more : Option (List ℕ) → List ℕ → Option (List ℕ)
+with_more None bytes = None
+with_more (Some held) bytes = within_limit (held ++ bytes)
+
+-- the bytes, unless they were too long
+abbrev pub held_of : Bool → List ℕ → Option (List ℕ)
+held_of too_long bytes = cond too_long None (Some bytes)

@@ -1,0 +1,10 @@
+pub mod Commands
+pub mod Feeds
+pub mod Framing
+pub mod Lines
+pub mod Numbers
+pub mod Printed
+pub mod ReplyText
+pub mod Requests
+pub mod Stream
+pub mod Words

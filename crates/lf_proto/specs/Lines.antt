@@ -1,0 +1,15 @@
+-- The bytes of a request line, and its fields.
+use Rattle.std.specs.Prelude.{ℕ, Bool, nat_lt, ◌==◌, ◌||◌, ◌&&◌, List, length, filter}
+use Rattle.std.specs.List.{slice_split}
+
+-- a space or a tab
+abbrev pub is_blank : ℕ → Bool
+is_blank b = b == 32 || b == 9
+
+-- what may stand in a line: blanks and visible characters
+abbrev pub is_line_byte : ℕ → Bool
+is_line_byte b = is_blank b || (nat_lt 32 b && nat_lt b 127)
+
+-- the runs of bytes between blanks
+abbrev pub fields : List ℕ → List (List ℕ)
+fields line = filter (λ field. nat_lt 0 (length field)) (slice_split is_blank line)

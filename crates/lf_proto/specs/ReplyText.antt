@@ -1,0 +1,60 @@
+-- The text of a reply, given the names of the cells that it is about.
+use Rattle.std.specs.Prelude.{ℕ, List, [], ◌∷◌, ◌++◌, Option, None, Some, codes, decimal}
+use Rattle.std.specs.Fmt.{signed_decimal}
+use Rattle.std.specs.List.{join_with_byte}
+use Rattle.lf_orient.specs.declared.Orient.{Orient}
+use Rattle.lf_orient.specs.declared.Orient.TheVariants.{N, W, S, E, FN, FW, FS, FE}
+use Rattle.lf_rules.specs.declared.rule.Rule.{Rule}
+use Rattle.lf_rules.specs.Legality.{number_of}
+use Rattle.lf_proto.specs.declared.reply.Reply.{Reply}
+use Rattle.lf_proto.specs.declared.reply.Reply.TheVariants.{Done, Opened, Revision, At, Refused}
+use Rattle.lf_proto.specs.declared.reply.Refusal.{Refusal}
+use Rattle.lf_proto.specs.declared.reply.Refusal.TheVariants.{BadRequest, NoTeam, NoSession, NoCell, Unplaced, Illegal, SessionsFull, RevisionsSpent, OutOfMemory}
+
+-- words with one space between each two, and a line feed
+abbrev pub line_text : List (List ℕ) → List ℕ
+line_text words = join_with_byte 32 words ++ 10 ∷ []
+
+-- the name of an orientation (LEF/DEF 5.8, DEF COMPONENTS)
+abbrev pub orient_text : Orient → List ℕ
+orient_text N = codes "N"
+orient_text W = codes "W"
+orient_text S = codes "S"
+orient_text E = codes "E"
+orient_text FN = codes "FN"
+orient_text FW = codes "FW"
+orient_text FS = codes "FS"
+orient_text FE = codes "FE"
+
+-- the other cell's name, where there is another cell
+abbrev pub other_words : Option ℕ → List ℕ → List (List ℕ)
+other_words None other_name = []
+other_words (Some other) other_name = other_name ∷ []
+
+-- a broken rule, the cell, and the other cell where there is one
+abbrev pub illegal_words : Rule → Option ℕ → List ℕ → List ℕ → List (List ℕ)
+illegal_words rule other cell_name other_name = codes "7" ∷ codes "Illegal" ∷ decimal (number_of rule) ∷ cell_name ∷ other_words other other_name
+
+-- a refusal: its number, its name, and what it is about
+abbrev pub refusal_words : Refusal → List ℕ → List ℕ → List (List ℕ)
+refusal_words BadRequest cell_name other_name = codes "1" ∷ codes "BadRequest" ∷ []
+refusal_words NoTeam cell_name other_name = codes "2" ∷ codes "NoTeam" ∷ []
+refusal_words NoSession cell_name other_name = codes "3" ∷ codes "NoSession" ∷ []
+refusal_words NoCell cell_name other_name = codes "5" ∷ codes "NoCell" ∷ []
+refusal_words (Unplaced cell) cell_name other_name = codes "6" ∷ codes "Unplaced" ∷ cell_name ∷ []
+refusal_words (Illegal rule cell other) cell_name other_name = illegal_words rule other cell_name other_name
+refusal_words SessionsFull cell_name other_name = codes "10" ∷ codes "SessionsFull" ∷ []
+refusal_words RevisionsSpent cell_name other_name = codes "11" ∷ codes "RevisionsSpent" ∷ []
+refusal_words OutOfMemory cell_name other_name = codes "12" ∷ codes "OutOfMemory" ∷ []
+
+-- the words of a reply
+abbrev pub reply_words : Reply → List ℕ → List ℕ → List (List ℕ)
+reply_words Done cell_name other_name = codes "ok" ∷ []
+reply_words (Opened session revision) cell_name other_name = codes "ok" ∷ decimal session ∷ decimal revision ∷ []
+reply_words (Revision revision) cell_name other_name = codes "ok" ∷ decimal revision ∷ []
+reply_words (At place) cell_name other_name = codes "ok" ∷ signed_decimal place.x ∷ signed_decimal place.y ∷ orient_text place.orient ∷ []
+reply_words (Refused refusal) cell_name other_name = codes "no" ∷ refusal_words refusal cell_name other_name
+
+-- the text of a reply
+abbrev pub reply_text : Reply → List ℕ → List ℕ → List ℕ
+reply_text reply cell_name other_name = line_text (reply_words reply cell_name other_name)

@@ -1,0 +1,161 @@
+//! Lines of a stream that comes in pieces.
+
+ghost use Rattle.std.specs.Prelude.{◌≡◌, ◌<◌, ◌≤◌, Some, [], IfOk, IfSome, length, position, vec_len, vec_capacity};
+ghost use Rattle.lf_proto.specs.Framing.{held_of, with_more};
+ghost use Rattle.lf_proto.specs.Feeds.{Feeds, FinishesAt, GivesTheLines};
+ghost use Rattle.lf_proto.specs.Stream.{is_line_feed, limit, without_return};
+
+use std::alloc::{AllocError, Global};
+use std::marker::Model;
+
+/// The most bytes of a line, its carriage return counted.
+const LIMIT: usize = 4096;
+
+/// What the bytes so far gave.
+#[derive(Clone, Copy, Debug, PartialEq, Eq)]
+pub enum Got {
+    /// No line has ended yet.
+    More,
+    /// A line has ended; `line` has it.
+    Line,
+    /// A line of more than 4,096 bytes, its carriage return counted, has ended.
+    TooLong,
+}
+
+/// How many bytes of a piece were used, and what they gave.
+#[derive(Clone, Copy, Debug, PartialEq, Eq)]
+pub struct Fed {
+    pub used: usize,
+    pub got: Got,
+}
+
+/// The lines of a stream whose pieces are fed one after the other. Only `new` takes memory.
+#[derive(Drop)]
+pub struct LineFramer {
+    buffer: Vec<u8>,
+    ended: bool,
+    too_long: bool,
+}
+
+impl Model for LineFramer {
+    ghost use Rattle.std.specs.Prelude.{◌≤◌, cond, Some, [], vec_len, vec_capacity};
+    ghost use Rattle.lf_proto.specs.Framing.{Framing, held_of};
+    ghost use Rattle.lf_proto.specs.Stream.{limit};
+
+    ghost Value = { Framing };
+
+    ghost view = { λ f. record { pending = cond f.ended (Some []) (held_of f.too_long f.buffer.items); line = f.buffer.items } };
+
+    ghost invariant = { λ f. (limit ≤ vec_capacity f.buffer) × (vec_len f.buffer ≤ limit) };
+}
+
+/// Adds the bytes where they fit, and says whether the line is over the limit now.
+fn take_in(buffer: &mut Vec<u8>, too_long: bool, bytes: &[u8]) -> bool
+    requires room { limit ≤ vec_capacity buffer.old }
+    requires within { vec_len buffer.old ≤ limit }
+    ensures held { held_of result buffer.new.items ≡ with_more (held_of too_long buffer.old.items) bytes.now }
+    ensures room { limit ≤ vec_capacity buffer.new }
+    ensures within { vec_len buffer.new ≤ limit }
+{
+    if too_long || bytes.len() > LIMIT - buffer.len() {
+        return true;
+    }
+    buffer.extend_from_slice(bytes).is_err()
+}
+
+/// Where the first line feed is.
+fn first_line_feed(piece: &[u8]) -> Option<usize>
+    ensures at { result ≡ position is_line_feed piece.now }
+    ensures below { IfSome result (λ at. at < length piece.now) }
+{
+    piece.iter().position(|byte| *byte == b'\n')
+}
+
+/// Drops one carriage return at the end.
+fn drop_return(buffer: &mut Vec<u8>)
+    requires room { limit ≤ vec_capacity buffer.old }
+    requires within { vec_len buffer.old ≤ limit }
+    ensures items { buffer.new.items ≡ without_return buffer.old.items }
+    ensures room { limit ≤ vec_capacity buffer.new }
+    ensures within { vec_len buffer.new ≤ limit }
+{
+    if buffer.last() == Some(&b'\r') {
+        buffer.truncate(buffer.len() - 1);
+    }
+}
+
+impl LineFramer {
+    /// A framer at the start of a stream, with room for the longest line.
+    pub fn new(alloc: Global) -> Result<LineFramer, AllocError>
+        ensures { IfOk result (λ framer. framer.pending ≡ Some []) }
+    {
+        Ok(LineFramer {
+            buffer: Vec::with_capacity(alloc, LIMIT)?,
+            ended: false,
+            too_long: false,
+        })
+    }
+
+    /// Takes the bytes of a piece up to its first line feed, or all of them; what it did not use is the caller's
+    /// to feed again.
+    pub fn feed(&mut self, piece: &[u8]) -> Fed
+        ensures { Feeds self.old piece.now result self.new }
+    {
+        if self.ended {
+            self.buffer.clear();
+            self.ended = false;
+            self.too_long = false;
+        }
+        match first_line_feed(piece) {
+            None => {
+                self.too_long = take_in(&mut self.buffer, self.too_long, piece);
+                Fed {
+                    used: piece.len(),
+                    got: Got::More,
+                }
+            }
+            Some(at) => {
+                self.too_long = take_in(&mut self.buffer, self.too_long, &piece[..at]);
+                drop_return(&mut self.buffer);
+                self.ended = true;
+                Fed {
+                    used: at + 1,
+                    got: if self.too_long {
+                        Got::TooLong
+                    } else {
+                        Got::Line
+                    },
+                }
+            }
+        }
+    }
+
+    /// The line that `feed` or `finish` has just given, without its line feed and the carriage return before it.
+    pub fn line(&self) -> &[u8]
+        ensures { result.now ≡ self.now.line }
+    {
+        &self.buffer
+    }
+
+    /// The last line at the end of the stream: what is held, if it has a byte. It keeps its carriage return.
+    pub fn finish(&mut self) -> Got
+        ensures given { FinishesAt self.old.pending result self.new.line }
+        ensures pending { self.new.pending ≡ Some [] }
+        ensures within { IfSome self.old.pending (λ bytes. length bytes ≤ limit) }
+    {
+        if self.ended || (self.buffer.is_empty() && !self.too_long) {
+            return Got::More;
+        }
+        self.ended = true;
+        if self.too_long {
+            Got::TooLong
+        } else {
+            Got::Line
+        }
+    }
+}
+
+/// However a stream is cut into pieces, feeding them to a new framer and finishing gives the stream's lines.
+pub fn gives_the_lines()
+    ensures { GivesTheLines }
+{}

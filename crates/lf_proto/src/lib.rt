@@ -1,0 +1,20 @@
+//! Request lines, requests, replies and their texts.
+#![tactic(auto)]
+
+mod framer;
+mod line;
+mod number;
+mod reply;
+mod request;
+mod request_list;
+mod text;
+
+pub use framer::{Fed, Got, LineFramer};
+pub use line::{BadRequest, parse_line};
+pub use reply::{Refusal, Reply};
+pub use request::{Action, Change, Command, Order, Request};
+pub use request_list::RequestList;
+pub use text::reply_text;
+
+#[cfg(test)]
+mod tests;

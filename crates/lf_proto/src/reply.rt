@@ -1,0 +1,48 @@
+//! What a session is told.
+
+use lf_frame::Place;
+use lf_rules::Rule;
+
+/// The reply to one command. A cell is named by its position among its team's cells, in loading order.
+#[derive(Clone, Copy, Debug, PartialEq, Eq)]
+pub enum Reply {
+    /// It is done, and there is nothing to tell.
+    Done,
+    /// The session that was opened, and the team's revision, which it has seen.
+    Opened { session: u32, revision: u32 },
+    /// The team's revision.
+    Revision(u32),
+    /// Where a cell stands.
+    At(Place),
+    /// Nothing was done.
+    Refused(Refusal),
+}
+
+/// Why a command was refused.
+#[derive(Clone, Copy, Debug, PartialEq, Eq)]
+pub enum Refusal {
+    /// The line is no request.
+    BadRequest,
+    /// No team has that name.
+    NoTeam,
+    /// The number is that of no open session of the team.
+    NoSession,
+    /// The cell is none of the team's.
+    NoCell,
+    /// The cell has no working place.
+    Unplaced {
+        cell: u32,
+    },
+    /// The place breaks this rule first; for `Overlap` the other cell is the first one that is met.
+    Illegal {
+        rule: Rule,
+        cell: u32,
+        other: Option<u32>,
+    },
+    /// The team has no free session slot.
+    SessionsFull,
+    /// The team has made as many changes as its revision limit allows.
+    RevisionsSpent,
+    /// A growth of memory was refused during the command.
+    OutOfMemory,
+}

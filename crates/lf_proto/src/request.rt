@@ -1,0 +1,176 @@
+//! What a session may ask.
+
+ghost use Rattle.std.specs.Prelude.{◌≡◌, IfOk};
+ghost use Rattle.lf_proto.specs.Commands.{action_of, change_of, command_of, order_of};
+
+use lf_frame::Place;
+use lf_units::Name;
+use std::alloc::{AllocError, Global};
+
+/// One command of a session. Its names are of the type `N`: slices of a line in a `Request`, lists of
+/// bytes in a contract. Its places are of the type `P`, which is `Place`.
+#[derive(Drop)]
+pub enum Command<N, P = Place> {
+    /// The end of a connection; its sessions stay.
+    Bye,
+    /// A command to the team of that name; `-` is the team of the ground outside all fences.
+    To { team: N, order: Order<N, P> },
+}
+
+/// What is asked of one team.
+#[derive(Drop)]
+pub enum Order<N, P = Place> {
+    /// Takes a session slot.
+    Open,
+    /// What the session of that number asks.
+    Within { session: u32, action: Action<N, P> },
+}
+
+/// What one session of a team asks.
+#[derive(Drop)]
+pub enum Action<N, P = Place> {
+    /// The working place of a cell.
+    Where { cell: N },
+    /// A change of the team's working places.
+    Change(Change<N, P>),
+}
+
+/// What changes a team's working places.
+#[derive(Drop)]
+pub enum Change<N, P = Place> {
+    /// The cell's working place becomes this one, where it is team-legal.
+    Place { cell: N, place: P },
+    /// The cell becomes unplaced.
+    Unplace { cell: N },
+}
+
+/// A command whose names are slices of its line.
+pub type Request<'a> = Command<&'a [u8]>;
+
+impl Change<&[u8]> {
+    /// A copy that owns its names.
+    pub fn to_owned(&self, alloc: Global) -> Result<Change<Name>, AllocError>
+        ensures { IfOk result (λ change. change ≡ change_of self.now) }
+    {
+        match self {
+            Change::Place { cell, place } => {
+                let cell = Name::from_slice(alloc, cell)?;
+                Ok(Change::Place {
+                    cell,
+                    place: *place,
+                })
+            }
+            Change::Unplace { cell } => Ok(Change::Unplace {
+                cell: Name::from_slice(alloc, cell)?,
+            }),
+        }
+    }
+}
+
+impl Action<&[u8]> {
+    /// A copy that owns its names.
+    pub fn to_owned(&self, alloc: Global) -> Result<Action<Name>, AllocError>
+        ensures { IfOk result (λ action. action ≡ action_of self.now) }
+    {
+        Ok(match self {
+            Action::Where { cell } => Action::Where {
+                cell: Name::from_slice(alloc, cell)?,
+            },
+            Action::Change(change) => Action::Change(change.to_owned(alloc)?),
+        })
+    }
+}
+
+impl Order<&[u8]> {
+    /// A copy that owns its names.
+    pub fn to_owned(&self, alloc: Global) -> Result<Order<Name>, AllocError>
+        ensures { IfOk result (λ order. order ≡ order_of self.now) }
+    {
+        Ok(match self {
+            Order::Open => Order::Open,
+            Order::Within { session, action } => Order::Within {
+                session: *session,
+                action: action.to_owned(alloc)?,
+            },
+        })
+    }
+}
+
+impl Command<&[u8]> {
+    /// A copy that owns its names.
+    pub fn to_owned(&self, alloc: Global) -> Result<Command<Name>, AllocError>
+        ensures { IfOk result (λ command. command ≡ command_of self.now) }
+    {
+        Ok(match self {
+            Command::Bye => Command::Bye,
+            Command::To { team, order } => Command::To {
+                team: Name::from_slice(alloc, team)?,
+                order: order.to_owned(alloc)?,
+            },
+        })
+    }
+}
+
+impl Change<Name> {
+    /// The same change with its names lent.
+    pub fn lent(&self) -> Change<&[u8]>
+        ensures { change_of result ≡ self.now }
+    {
+        match self {
+            Change::Place { cell, place } => {
+                let cell = cell.as_bytes();
+                Change::Place {
+                    cell,
+                    place: *place,
+                }
+            }
+            Change::Unplace { cell } => Change::Unplace {
+                cell: cell.as_bytes(),
+            },
+        }
+    }
+}
+
+impl Action<Name> {
+    /// The same action with its names lent.
+    pub fn lent(&self) -> Action<&[u8]>
+        ensures { action_of result ≡ self.now }
+    {
+        match self {
+            Action::Where { cell } => Action::Where {
+                cell: cell.as_bytes(),
+            },
+            Action::Change(change) => Action::Change(change.lent()),
+        }
+    }
+}
+
+impl Order<Name> {
+    /// The same order with its names lent.
+    pub fn lent(&self) -> Order<&[u8]>
+        ensures { order_of result ≡ self.now }
+    {
+        match self {
+            Order::Open => Order::Open,
+            Order::Within { session, action } => Order::Within {
+                session: *session,
+                action: action.lent(),
+            },
+        }
+    }
+}
+
+impl Command<Name> {
+    /// The same command with its names lent.
+    pub fn lent(&self) -> Request<'_>
+        ensures { command_of result ≡ self.now }
+    {
+        match self {
+            Command::Bye => Command::Bye,
+            Command::To { team, order } => Command::To {
+                team: team.as_bytes(),
+                order: order.lent(),
+            },
+        }
+    }
+}

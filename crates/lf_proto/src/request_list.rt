@@ -1,0 +1,72 @@
+//! Lists of requests that own their names.
+
+ghost use Rattle.std.specs.Prelude.{◌≡◌, [], ◌∷◌, ◌++◌, ◌↔◌, IsTrue, OnOk, OnErr, length, slice_get, option_map};
+ghost use Rattle.lf_proto.specs.Commands.{command_of};
+
+use crate::request::{Command, Request};
+use lf_units::Name;
+use std::alloc::{AllocError, Global};
+use std::marker::Model;
+
+/// Requests in order, each a copy of one that was pushed. Only `push` takes memory.
+#[derive(Drop)]
+pub struct RequestList {
+    alloc: Global,
+    commands: Vec<Command<Name>>,
+}
+
+impl Model for RequestList {
+    ghost use Rattle.std.specs.Prelude.{List, ℕ};
+    ghost use Rattle.lf_frame.specs.declared.place.Place.{Place};
+    ghost use Rattle.lf_proto.specs.declared.request.Command.{Command};
+
+    ghost Value = { List (Command (List ℕ) Place) };
+
+    ghost view = { λ l. l.commands.items };
+}
+
+impl RequestList {
+    /// The list without requests.
+    pub fn new(alloc: Global) -> RequestList
+        ensures { result ≡ [] }
+    {
+        RequestList {
+            alloc,
+            commands: Vec::new(alloc),
+        }
+    }
+
+    /// Puts a copy of the request behind the others; where memory is refused, the list is unchanged.
+    pub fn push(&mut self, request: &Request) -> Result<(), AllocError>
+        ensures ok { OnOk result (self.new ≡ self.old ++ command_of request.now ∷ []) }
+        ensures err { OnErr result (self.new ≡ self.old) }
+    {
+        let command = request.to_owned(self.alloc)?;
+        self.commands.push(command)?;
+        Ok(())
+    }
+
+    /// How many requests were pushed.
+    pub fn len(&self) -> usize
+        ensures { result ≡ length self.now }
+    {
+        self.commands.len()
+    }
+
+    /// Whether none was pushed.
+    pub fn is_empty(&self) -> bool
+        ensures { IsTrue result ↔ (self.now ≡ []) }
+    {
+        self.commands.is_empty()
+    }
+
+    /// The request at a position, the first at 0; none at or above `len`.
+    pub fn request(&self, position: usize) -> Option<Request<'_>>
+        ensures { option_map command_of result ≡ slice_get self.now position }
+    {
+        match self.commands.get(position) {
+            Some(command) => Some(command.lent()),
+            None => None,
+        }
+    }
+}

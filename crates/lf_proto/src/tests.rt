@@ -1,0 +1,222 @@
+use super::*;
+use lf_frame::Place;
+use lf_orient::Orient;
+use lf_rules::Rule;
+use std::alloc::{AllocError, Global};
+use std::test::Fail;
+
+/// The place that a line asks for.
+fn asked_place(line: &[u8]) -> Option<Place> {
+    let Ok(Command::To { order, .. }) = parse_line(line) else {
+        return None;
+    };
+    let Order::Within { action, .. } = order else {
+        return None;
+    };
+    match action {
+        Action::Change(Change::Place { place, .. }) => Some(place),
+        Action::Where { .. } => None,
+    }
+}
+
+#[test]
+fn reads_requests(rt: HostRuntime) {
+    let Ok(Command::To { team, order }) = parse_line(b" \twhere  A 4294967295\ta1 ") else {
+        assert!(rt; false, "a request");
+        return;
+    };
+    assert!(rt; team == b"A".as_slice());
+    let Order::Within { session, action } = order else {
+        assert!(rt; false, "within a session");
+        return;
+    };
+    assert_eq!(rt; session, 4_294_967_295);
+    let Action::Where { cell } = action else {
+        assert!(rt; false, "where");
+        return;
+    };
+    assert!(rt; cell == b"a1".as_slice());
+}
+
+#[test]
+fn reads_places(rt: HostRuntime) {
+    assert_eq!(rt;
+        asked_place(b"place A 0 a1 2147483647 -2147483647 FS"),
+        Some(Place::new(2_147_483_647, -2_147_483_647, Orient::FS))
+    );
+    assert_eq!(rt;
+        asked_place(b"place A 0 a1 -0 0000000400 N"),
+        Some(Place::new(0, 400, Orient::N))
+    );
+}
+
+#[test]
+fn reads_orientations(rt: HostRuntime) {
+    let names: [(&[u8], Orient); 8] = [
+        (b"place A 0 a1 1 2 N", Orient::N),
+        (b"place A 0 a1 1 2 W", Orient::W),
+        (b"place A 0 a1 1 2 S", Orient::S),
+        (b"place A 0 a1 1 2 E", Orient::E),
+        (b"place A 0 a1 1 2 FN", Orient::FN),
+        (b"place A 0 a1 1 2 FW", Orient::FW),
+        (b"place A 0 a1 1 2 FS", Orient::FS),
+        (b"place A 0 a1 1 2 FE", Orient::FE),
+    ];
+    for (line, orient) in names {
+        assert_eq!(rt; asked_place(line), Some(Place::new(1, 2, orient)));
+    }
+}
+
+#[test]
+fn refuses_lines(rt: HostRuntime) {
+    let lines: [&[u8]; 14] = [
+        b"",
+        b" \t ",
+        b"where A 0",
+        b"open",
+        b"open A B",
+        b"Open A",
+        b"move A",
+        b"place A 0 a1 2147483648 0 N",
+        b"place A 0 a1 -2147483648 0 N",
+        b"place A 0 a1 00000000001 0 N",
+        b"place A 0 a1 +1 0 N",
+        b"place A 0 a1 0 0 n",
+        b"where A 4294967296 a1",
+        b"where A -0 a1",
+    ];
+    for line in lines {
+        assert!(rt; parse_line(line).is_err());
+    }
+}
+
+#[test]
+fn takes_visible_bytes_and_blanks(rt: HostRuntime) {
+    for byte in 0..=255u8 {
+        let line = [b'o', b'p', b'e', b'n', b' ', b'A', byte];
+        let may_stand = byte == 9 || (32 <= byte && byte <= 126);
+        assert_eq!(rt; parse_line(&line).is_ok(), may_stand, "byte {byte}");
+    }
+}
+
+/// Whether a reply about the cells a2 and a1 has this text.
+fn has_text(alloc: Global, reply: Reply, line: &[u8]) -> Result<bool, AllocError> {
+    let mut out = Vec::new(alloc);
+    reply_text(&reply, b"a2", b"a1", &mut out)?;
+    Ok(out.as_slice() == line)
+}
+
+#[test]
+fn writes_replies(rt: HostRuntime) -> Result<(), Fail> {
+    let opened = Reply::Opened {
+        session: 7,
+        revision: 4_000_000_000,
+    };
+    assert!(rt; has_text(rt.alloc(), opened, b"ok 7 4000000000\n")?);
+    assert!(rt; has_text(rt.alloc(), Reply::Revision(0), b"ok 0\n")?);
+    let names: [(Orient, &[u8]); 8] = [
+        (Orient::N, b"ok 3600 -2147483647 N\n"),
+        (Orient::W, b"ok 3600 -2147483647 W\n"),
+        (Orient::S, b"ok 3600 -2147483647 S\n"),
+        (Orient::E, b"ok 3600 -2147483647 E\n"),
+        (Orient::FN, b"ok 3600 -2147483647 FN\n"),
+        (Orient::FW, b"ok 3600 -2147483647 FW\n"),
+        (Orient::FS, b"ok 3600 -2147483647 FS\n"),
+        (Orient::FE, b"ok 3600 -2147483647 FE\n"),
+    ];
+    for (orient, line) in names {
+        let at = Reply::At(Place::new(3600, -2_147_483_647, orient));
+        assert!(rt; has_text(rt.alloc(), at, line)?);
+    }
+    Ok(())
+}
+
+#[test]
+fn writes_refusals(rt: HostRuntime) -> Result<(), Fail> {
+    let refusals: [(Refusal, &[u8]); 8] = [
+        (Refusal::BadRequest, b"no 1 BadRequest\n"),
+        (Refusal::NoTeam, b"no 2 NoTeam\n"),
+        (Refusal::NoSession, b"no 3 NoSession\n"),
+        (Refusal::NoCell, b"no 5 NoCell\n"),
+        (Refusal::Unplaced { cell: 1 }, b"no 6 Unplaced a2\n"),
+        (Refusal::SessionsFull, b"no 10 SessionsFull\n"),
+        (Refusal::RevisionsSpent, b"no 11 RevisionsSpent\n"),
+        (Refusal::OutOfMemory, b"no 12 OutOfMemory\n"),
+    ];
+    for (refusal, line) in refusals {
+        assert!(rt; has_text(rt.alloc(), Reply::Refused(refusal), line)?);
+    }
+    Ok(())
+}
+
+#[test]
+fn writes_broken_rules(rt: HostRuntime) -> Result<(), Fail> {
+    let rules: [(Rule, Option<u32>, &[u8]); 8] = [
+        (Rule::Height, None, b"no 7 Illegal 1 a2\n"),
+        (Rule::Row, None, b"no 7 Illegal 2 a2\n"),
+        (Rule::Stand, None, b"no 7 Illegal 3 a2\n"),
+        (Rule::Orient, None, b"no 7 Illegal 4 a2\n"),
+        (Rule::Rail, None, b"no 7 Illegal 5 a2\n"),
+        (Rule::Fence, None, b"no 7 Illegal 6 a2\n"),
+        (Rule::Obstacle, None, b"no 7 Illegal 7 a2\n"),
+        (Rule::Overlap, Some(0), b"no 7 Illegal 8 a2 a1\n"),
+    ];
+    for (rule, other, line) in rules {
+        let illegal = Refusal::Illegal {
+            rule,
+            cell: 1,
+            other,
+        };
+        assert!(rt; has_text(rt.alloc(), Reply::Refused(illegal), line)?);
+    }
+    Ok(())
+}
+
+#[test]
+fn lists_requests(rt: HostRuntime) -> Result<(), Fail> {
+    let mut list = RequestList::new(rt.alloc());
+    assert!(rt; list.is_empty());
+    for line in [b"open A".as_slice(), b"place B 3 b1 5 6 E".as_slice()] {
+        let request = parse_line(line).ok().ok_or("a request")?;
+        list.push(&request)?;
+    }
+    assert_eq!(rt; list.len(), 2);
+    assert!(rt; list.request(2).is_none());
+    let Command::To { team, .. } = list.request(0).ok_or("the first request")?;
+    assert!(rt; team == b"A".as_slice());
+    let Command::To { team, .. } = list.request(1).ok_or("the second request")?;
+    assert!(rt; team == b"B".as_slice());
+    Ok(())
+}
+
+#[test]
+fn frames_lines(rt: HostRuntime) -> Result<(), Fail> {
+    let mut framer = LineFramer::new(rt.alloc())?;
+    let stream = b"open A\r\n\nopen B\r";
+    let fed = framer.feed(stream);
+    assert!(rt; fed.used == 8 && fed.got == Got::Line && framer.line() == b"open A".as_slice());
+    let fed = framer.feed(b"\nopen B\r");
+    assert!(rt; fed.used == 1 && fed.got == Got::Line && framer.line().is_empty());
+    let fed = framer.feed(b"open B\r");
+    assert!(rt; fed.used == 7 && fed.got == Got::More);
+    assert!(rt; framer.finish() == Got::Line && framer.line() == b"open B\r".as_slice());
+    assert!(rt; framer.finish() == Got::More);
+    Ok(())
+}
+
+#[test]
+fn bounds_lines(rt: HostRuntime) -> Result<(), Fail> {
+    let mut line = Vec::from_slice(rt.alloc(), b"open A")?;
+    line.resize(4096, b' ')?;
+    let mut framer = LineFramer::new(rt.alloc())?;
+    assert!(rt; framer.feed(&line).got == Got::More);
+    assert!(rt; framer.feed(b"\n").got == Got::Line);
+    assert!(rt; framer.line().len() == 4096 && parse_line(framer.line()).is_ok());
+    assert!(rt; framer.feed(&line).got == Got::More);
+    assert!(rt; framer.feed(b"\r\nopen B\n").used == 2);
+    assert!(rt; framer.feed(b"open B\n").got == Got::Line);
+    assert!(rt; framer.feed(&line).got == Got::More);
+    assert!(rt; framer.feed(b" ").got == Got::More);
+    assert!(rt; framer.finish() == Got::TooLong);
+    Ok(())
+}

@@ -1,0 +1,233 @@
+//! The texts of replies.
+
+ghost use Rattle.std.specs.Prelude.{◌≡◌, ◌<◌, ◌≤◌, ◌+◌, ◌++◌, [], ◌∷◌, OnOk, OnErr, IsOk, codes, length, map, take, vec_len, vec_capacity};
+ghost use Rattle.std.specs.List.{flat_map};
+ghost use Rattle.lf_proto.specs.ReplyText.{illegal_words, orient_text, refusal_words, reply_text, line_text};
+ghost use Rattle.lf_proto.specs.Words.{spaced, word_text};
+
+use crate::reply::{Refusal, Reply};
+use itoa::Buffer;
+use lf_orient::Orient;
+use lf_rules::Rule;
+use std::alloc::AllocError;
+
+/// A word of a reply line.
+#[derive(Clone, Copy)]
+enum Word<'a> {
+    Text(&'a [u8]),
+    Number(u32),
+    Signed(i32),
+}
+
+/// The name of an orientation.
+fn orient_name(orient: Orient) -> &'static [u8]
+    ensures { result.now ≡ orient_text orient }
+{
+    match orient {
+        Orient::N => b"N",
+        Orient::W => b"W",
+        Orient::S => b"S",
+        Orient::E => b"E",
+        Orient::FN => b"FN",
+        Orient::FW => b"FW",
+        Orient::FS => b"FS",
+        Orient::FE => b"FE",
+    }
+}
+
+/// Appends the bytes; an `Err` changes nothing.
+fn put(out: &mut Vec<u8>, bytes: &[u8]) -> Result<(), AllocError>
+    ensures ok { OnOk result (out.new.items ≡ out.old.items ++ bytes.now) }
+    ensures len { OnOk result (vec_len out.new ≡ vec_len out.old + length bytes.now) }
+    ensures err { OnErr result (out.new.items ≡ out.old.items) }
+    ensures full { OnErr result (vec_capacity out.old < vec_len out.old + length bytes.now) }
+    ensures capacity { vec_capacity out.old ≤ vec_capacity out.new }
+{
+    out.extend_from_slice(bytes)
+}
+
+/// Appends the word; an `Err` changes nothing.
+fn put_word(out: &mut Vec<u8>, word: &Word<'_>) -> Result<(), AllocError>
+    ensures ok { OnOk result (out.new.items ≡ out.old.items ++ word_text word.now) }
+    ensures err { OnErr result (out.new.items ≡ out.old.items) }
+    ensures full { OnErr result (vec_capacity out.old < vec_len out.old + length (word_text word.now)) }
+    ensures capacity { vec_capacity out.old ≤ vec_capacity out.new }
+{
+    match word {
+        Word::Text(text) => put(out, text),
+        Word::Number(number) => put(out, Buffer::new().format(*number).as_bytes()),
+        Word::Signed(number) => put(out, Buffer::new().format(*number).as_bytes()),
+    }
+}
+
+/// Appends a space and the word; an `Err` leaves a front of it.
+fn put_spaced(out: &mut Vec<u8>, word: &Word<'_>) -> Result<(), AllocError>
+    ensures ok { OnOk result (out.new.items ≡ out.old.items ++ spaced word.now) }
+    ensures kept { take (vec_len out.old) out.new.items ≡ out.old.items }
+    ensures full { OnErr result (vec_capacity out.old < vec_len out.old + length (spaced word.now)) }
+    ensures capacity { vec_capacity out.old ≤ vec_capacity out.new }
+{
+    put(out, b" ")?;
+    put_word(out, word)
+}
+
+/// Appends the words, a space before each; an `Err` leaves a front of them.
+fn put_words(out: &mut Vec<u8>, words: &[Word<'_>]) -> Result<(), AllocError>
+    ensures ok { OnOk result (out.new.items ≡ out.old.items ++ flat_map spaced words.now) }
+    ensures len { OnOk result (vec_len out.new ≡ vec_len out.old + length (flat_map spaced words.now)) }
+    ensures kept { take (vec_len out.old) out.new.items ≡ out.old.items }
+    ensures full { OnErr result (vec_capacity out.old < vec_len out.old + length (flat_map spaced words.now)) }
+    ensures capacity { vec_capacity out.old ≤ vec_capacity out.new }
+{
+    for word in words {
+        put_spaced(out, word)?;
+    }
+    Ok(())
+}
+
+/// Appends a line of words, the first of them given apart; an `Err` leaves a front of it.
+#[tactic(auto, using(crate::proofs::Fronts::line_is))]
+fn put_line(out: &mut Vec<u8>, first: &[u8], words: &[Word<'_>]) -> Result<(), AllocError>
+    ensures ok { OnOk result (out.new.items ≡ out.old.items ++ line_text (first.now ∷ map word_text words.now)) }
+    ensures kept { take (vec_len out.old) out.new.items ≡ out.old.items }
+    ensures full { OnErr result (vec_capacity out.old < vec_len out.old + length (line_text (first.now ∷ map word_text words.now))) }
+{
+    put(out, first)?;
+    put_words(out, words)?;
+    put(out, b"\n")
+}
+
+/// Appends the line of a refusal that names no cell.
+fn put_plain<'x>(out: &mut Vec<u8>, number: &'x [u8], name: &'x [u8]) -> Result<(), AllocError>
+    ensures ok { OnOk result (out.new.items ≡ out.old.items ++ line_text (codes "no" ∷ number.now ∷ name.now ∷ [])) }
+    ensures kept { take (vec_len out.old) out.new.items ≡ out.old.items }
+    ensures full { OnErr result (vec_capacity out.old < vec_len out.old + length (line_text (codes "no" ∷ number.now ∷ name.now ∷ []))) }
+{
+    put_line(out, b"no", &[Word::Text(number), Word::Text(name)])
+}
+
+/// Appends the line of a place that breaks a rule; the second name follows where there is another cell.
+fn put_illegal<'x>(
+    rule: Rule,
+    other: Option<u32>,
+    cell_name: &'x [u8],
+    other_name: &'x [u8],
+    out: &mut Vec<u8>,
+) -> Result<(), AllocError>
+    ensures ok { OnOk result (out.new.items ≡ out.old.items ++ line_text (codes "no" ∷ illegal_words rule other cell_name.now other_name.now)) }
+    ensures kept { take (vec_len out.old) out.new.items ≡ out.old.items }
+    ensures full { OnErr result (vec_capacity out.old < vec_len out.old + length (line_text (codes "no" ∷ illegal_words rule other cell_name.now other_name.now))) }
+{
+    let number = Word::Number(rule.number());
+    match other {
+        None => put_line(
+            out,
+            b"no",
+            &[
+                Word::Text(b"7"),
+                Word::Text(b"Illegal"),
+                number,
+                Word::Text(cell_name),
+            ],
+        ),
+        Some(_) => put_line(
+            out,
+            b"no",
+            &[
+                Word::Text(b"7"),
+                Word::Text(b"Illegal"),
+                number,
+                Word::Text(cell_name),
+                Word::Text(other_name),
+            ],
+        ),
+    }
+}
+
+/// Appends the line of a refusal; an `Err` leaves a front of it.
+fn put_refusal<'x>(
+    refusal: &Refusal,
+    cell_name: &'x [u8],
+    other_name: &'x [u8],
+    out: &mut Vec<u8>,
+) -> Result<(), AllocError>
+    ensures ok { OnOk result (out.new.items ≡ out.old.items ++ line_text (codes "no" ∷ refusal_words refusal.now cell_name.now other_name.now)) }
+    ensures kept { take (vec_len out.old) out.new.items ≡ out.old.items }
+    ensures full { OnErr result (vec_capacity out.old < vec_len out.old + length (line_text (codes "no" ∷ refusal_words refusal.now cell_name.now other_name.now))) }
+{
+    match refusal {
+        Refusal::BadRequest => put_plain(out, b"1", b"BadRequest"),
+        Refusal::NoTeam => put_plain(out, b"2", b"NoTeam"),
+        Refusal::NoSession => put_plain(out, b"3", b"NoSession"),
+        Refusal::NoCell => put_plain(out, b"5", b"NoCell"),
+        Refusal::Unplaced { .. } => put_line(
+            out,
+            b"no",
+            &[
+                Word::Text(b"6"),
+                Word::Text(b"Unplaced"),
+                Word::Text(cell_name),
+            ],
+        ),
+        Refusal::Illegal { rule, other, .. } => {
+            put_illegal(*rule, *other, cell_name, other_name, out)
+        }
+        Refusal::SessionsFull => put_plain(out, b"10", b"SessionsFull"),
+        Refusal::RevisionsSpent => put_plain(out, b"11", b"RevisionsSpent"),
+        Refusal::OutOfMemory => put_plain(out, b"12", b"OutOfMemory"),
+    }
+}
+
+/// Appends the line of a reply; an `Err` leaves a front of it.
+fn put_reply(
+    reply: &Reply,
+    cell_name: &[u8],
+    other_name: &[u8],
+    out: &mut Vec<u8>,
+) -> Result<(), AllocError>
+    ensures ok { OnOk result (out.new.items ≡ out.old.items ++ reply_text reply.now cell_name.now other_name.now) }
+    ensures kept { take (vec_len out.old) out.new.items ≡ out.old.items }
+    ensures full { OnErr result (vec_capacity out.old < vec_len out.old + length (reply_text reply.now cell_name.now other_name.now)) }
+{
+    match reply {
+        Reply::Done => put_line(out, b"ok", &[]),
+        Reply::Opened { session, revision } => put_line(
+            out,
+            b"ok",
+            &[Word::Number(*session), Word::Number(*revision)],
+        ),
+        Reply::Revision(revision) => put_line(out, b"ok", &[Word::Number(*revision)]),
+        Reply::At(place) => put_line(
+            out,
+            b"ok",
+            &[
+                Word::Signed(place.x),
+                Word::Signed(place.y),
+                Word::Text(orient_name(place.orient)),
+            ],
+        ),
+        Reply::Refused(refusal) => put_refusal(refusal, cell_name, other_name, out),
+    }
+}
+
+/// Appends the text of a reply, its line feed included, given the names of the cells that it is about.
+///
+/// `cell_name` is the name of the reply's cell and `other_name` that of the other cell of an overlap; a reply
+/// without them leaves them out. Where memory is refused, `out` is as it was.
+pub fn reply_text(
+    reply: &Reply,
+    cell_name: &[u8],
+    other_name: &[u8],
+    out: &mut Vec<u8>,
+) -> Result<(), AllocError>
+    ensures ok { OnOk result (out.new.items ≡ out.old.items ++ reply_text reply.now cell_name.now other_name.now) }
+    ensures err { OnErr result (out.new.items ≡ out.old.items) }
+    ensures succeeds { vec_len out.old + length (reply_text reply.now cell_name.now other_name.now) ≤ vec_capacity out.old → IsOk result }
+{
+    let before = out.len();
+    let written = put_reply(reply, cell_name, other_name, out);
+    if written.is_err() {
+        out.truncate(before);
+    }
+    written
+}

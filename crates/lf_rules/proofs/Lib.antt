@@ -1,0 +1,14 @@
+pub mod GroundLemmas
+pub mod SizeLemmas
+pub mod CoverLemmas
+pub mod RuleLemmas
+pub mod Deciding
+pub mod Verdicts
+pub mod ChoiceLemmas
+pub mod Order
+pub mod Looking
+pub mod SiteLemmas
+pub mod Choosing
+pub mod Legalizers
+pub mod BesideLemmas
+pub mod TidyLemmas

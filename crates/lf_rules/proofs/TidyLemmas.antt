@@ -1,0 +1,232 @@
+-- After a tidy in which no cell was stuck, every cell is placed and team-legal.
+use Rattle.std.proofs.Common.{◌≡◌, ◌⊎◌, ℕ, zero, suc, ◌+◌, ◌<◌, List, [], ◌∷◌, length, Option, Some, None, inl, inr, refl, sym, ◌∙◌, ap, subst, arith, slice_get, get_or}
+use Rattle.std.specs.Prelude.{All, slice_set, MatchOption}
+use Rattle.std.specs.Option.{option_map}
+use Rattle.std.proofs.lemmas.Option.{slice_get_within, get_or_from_slice_get}
+use Rattle.lf_units.specs.declared.area.Rect.{Rect}
+use Rattle.lf_units.specs.declared.area.Point.{Point}
+use Rattle.lf_units.specs.Area.{SharesPoint}
+use Rattle.lf_frame.specs.declared.frame.Frame.{Frame}
+use Rattle.lf_frame.specs.declared.parts.Macro.{Macro}
+use Rattle.lf_frame.specs.Boxes.{IsSized, macro_of}
+use Rattle.lf_rules.specs.declared.rule.Rule.TheVariants.{Height, Row as RowRule, Stand, Orient as OrientRule, Rail as RailRule, Fence, Obstacle, Overlap}
+use Rattle.lf_rules.specs.declared.rule.Placed.{Placed}
+use Rattle.lf_rules.specs.declared.rule.Broken.{Broken}
+use Rattle.lf_rules.specs.Legality.{Trial, Holds, IsTeamLegal, IsApart, box_of}
+use Rattle.lf_rules.specs.Choice.{Spot, Lifted, trial_at, IsLegalAt, IsChoice, anchor}
+use Rattle.lf_rules.specs.Legalizer.{Legalizer, IsVerdict}
+use Rattle.lf_rules.specs.Tidy.{Member, box_in, boxes_beside, lifted_from, StandsLegal, Tidied, Going, Stuck, target_of, sent_to, tidied_to, tidied_own, tidy_cell, tidied_from, tidied, point_of}
+use Rattle.lf_rules.proofs.BesideLemmas.{beside_hold, beside_each}
+
+-- rules 1 to 7 do not ask for the other cells
+beside_others : (c : Lifted) (others : List Placed) (p : Spot) → IsLegalAt c p →
+    IsApart (trial_at (record c { others = others }) p) → IsLegalAt (record c { others = others }) p
+beside_others c others p legal apart Height = legal Height
+beside_others c others p legal apart RowRule = legal RowRule
+beside_others c others p legal apart Stand = legal Stand
+beside_others c others p legal apart OrientRule = legal OrientRule
+beside_others c others p legal apart RailRule = legal RailRule
+beside_others c others p legal apart Fence = legal Fence
+beside_others c others p legal apart Obstacle = legal Obstacle
+beside_others c others p legal apart Overlap = apart
+
+turn : (a b : Rect) → SharesPoint a b → SharesPoint b a
+turn a b m = record { x = m.x; y = m.y; in_first = m.in_second; in_second = m.in_first }
+
+-- no other placed cell meets the box
+abbrev Clear : Frame → List Member → ℕ → Rect → Type 0
+Clear f cells own box = (k : ℕ) (m : Member) (p : Spot) → (k ≡ own → ⊥) → slice_get cells k ≡ Some m → m.place ≡ Some p → SharesPoint box (box_in f m.mac p) → ⊥
+
+-- a legal place meets none
+clear_of_legal : (f : Frame) (team : ℕ) (cells : List Member) (own mac : ℕ) (p : Spot) → IsLegalAt (lifted_from f team cells own mac) p → Clear f cells own (box_in f mac p)
+clear_of_legal f team cells own mac p legal = beside_each (λ rect. SharesPoint (box_in f mac p) rect → ⊥) f cells own (legal Overlap)
+
+-- a place that was legal among other cells is so among these where it meets none
+legal_of_clear : (f : Frame) (team : ℕ) (old new : List Member) (own mac : ℕ) (p : Spot) → IsLegalAt (lifted_from f team old own mac) p →
+    Clear f new own (box_in f mac p) → IsLegalAt (lifted_from f team new own mac) p
+legal_of_clear f team old new own mac p legal clear =
+    beside_others (lifted_from f team old own mac) (boxes_beside f new own) p legal (beside_hold (λ rect. SharesPoint (box_in f mac p) rect → ⊥) f new own clear)
+
+get_set : {X : Type 0} (xs : List X) (n : ℕ) (x y : X) → slice_get (slice_set xs n y) n ≡ Some x → x ≡ y
+get_set [] n x y e = absurd cc
+get_set (z ∷ xs) zero x y e = cc
+get_set (z ∷ xs) (suc n) x y e = get_set xs n x y e
+
+get_other : {X : Type 0} (xs : List X) (n k : ℕ) (y : X) → (k ≡ n → ⊥) → slice_get (slice_set xs n y) k ≡ slice_get xs k
+get_other [] n k y differ = refl
+get_other (z ∷ xs) zero zero y differ = absurd (differ refl)
+get_other (z ∷ xs) zero (suc k) y differ = refl
+get_other (z ∷ xs) (suc n) zero y differ = refl
+get_other (z ∷ xs) (suc n) (suc k) y differ = get_other xs n k y (λ e. differ (ap suc e))
+
+abbrev placed_at : ℕ → Spot → Member
+placed_at mac p = record { mac = mac; place = Some p }
+
+-- the new cell's box is clear among the new cells
+new_clear : (f : Frame) (cells : List Member) (n mac : ℕ) (p : Spot) (box : Rect) → Clear f cells n box → Clear f (slice_set cells n (placed_at mac p)) n box
+new_clear f cells n mac p box clear k m q differ there is = clear k m q differ (sym (get_other cells n k (placed_at mac p) differ) ∙ there) is
+
+order_of : (k n : ℕ) → (k ≡ n) ⊎ (k ≡ n → ⊥)
+order_of k n = elim cases [ inl less ↦ inr (λ e. omega arith) | inr rest ↦ elim rest [ inl same ↦ inl same | inr more ↦ inr (λ e. omega arith) ] ]
+  where
+    cases : (k < n) ⊎ ((k ≡ n) ⊎ (n < k))
+    cases = grind arith
+
+-- a box that was clear stays clear where a cell comes that does not meet it
+old_clear : (f : Frame) (cells : List Member) (own n mac : ℕ) (p : Spot) (box : Rect) → Clear f cells own box → (SharesPoint box (box_in f mac p) → ⊥) →
+    Clear f (slice_set cells n (placed_at mac p)) own box
+old_clear f cells own n mac p box clear apart k m q differ there is meets = elim (order_of k n) [
+  | inl same ↦
+    let here : slice_get (slice_set cells n (placed_at mac p)) n ≡ Some m = subst (λ (j : ℕ). slice_get (slice_set cells n (placed_at mac p)) j ≡ Some m) same there in
+    let new : m ≡ placed_at mac p = get_set cells n m (placed_at mac p) here in
+    let at : q ≡ p = some_one (sym is ∙ ap (λ (x : Member). x.place) new) in
+    apart (subst (λ (s : Spot). SharesPoint box (box_in f mac s)) at (subst (λ (j : ℕ). SharesPoint box (box_in f j q)) (ap (λ (x : Member). x.mac) new) meets))
+  | inr other ↦ clear k m q differ (sym (get_other cells n k (placed_at mac p) other) ∙ there) is meets
+]
+  where
+    some_one : {a b : Spot} → Some a ≡ Some b → a ≡ b
+    some_one e = cc
+
+-- the first cells are placed and team-legal
+abbrev Done : Frame → ℕ → ℕ → List Member → Type 0
+Done f team n cells = (own : ℕ) → own < n → StandsLegal f team cells own
+
+below_or_at : (own n : ℕ) → own < n + 1 → (own < n) ⊎ (own ≡ n)
+below_or_at own n less = grind arith
+
+-- the cell of number n goes to a place that is legal for it
+gone : (f : Frame) (team n : ℕ) (cells : List Member) (m : Member) (p : Spot) → slice_get cells n ≡ Some m →
+    IsLegalAt (lifted_from f team cells n m.mac) p → Done f team n cells → Done f team (n + 1) (slice_set cells n (placed_at m.mac p))
+gone f team n cells m p there legal done own less = elim (below_or_at own n less) [
+  | inr same ↦ subst (λ (j : ℕ). StandsLegal f team (slice_set cells n (placed_at m.mac p)) j) (sym same) (λ x here.
+      subst (λ (y : Member). MatchOption y.place ⊥ (λ s. IsLegalAt (lifted_from f team (slice_set cells n (placed_at m.mac p)) n y.mac) s)) (sym (get_set cells n x (placed_at m.mac p) here))
+      (legal_of_clear f team cells (slice_set cells n (placed_at m.mac p)) n m.mac p legal (new_clear f cells n m.mac p (box_in f m.mac p) (clear_of_legal f team cells n m.mac p legal))))
+  | inl before ↦
+    let other : own ≡ n → ⊥ = λ e. omega (arith, before, e) in
+    λ x here.
+      let was : slice_get cells own ≡ Some x = sym (get_other cells n own (placed_at m.mac p) other) ∙ here in
+      earlier other x was x.place refl (done own before x was)
+]
+  where
+    earlier : (own ≡ n → ⊥) → (x : Member) → slice_get cells own ≡ Some x → (place : Option Spot) → x.place ≡ place →
+        MatchOption place ⊥ (λ s. IsLegalAt (lifted_from f team cells own x.mac) s) →
+        MatchOption place ⊥ (λ s. IsLegalAt (lifted_from f team (slice_set cells n (placed_at m.mac p)) own x.mac) s)
+    earlier other x was None is stands = stands
+    earlier other x was (Some q) is stands =
+        legal_of_clear f team cells (slice_set cells n (placed_at m.mac p)) own x.mac q stands
+        (old_clear f cells own n m.mac p (box_in f x.mac q) (clear_of_legal f team cells own x.mac q stands)
+        (λ meets. clear_of_legal f team cells n m.mac p legal own x q other was is (turn (box_in f x.mac q) (box_in f m.mac p) meets)))
+
+-- the cell of number n stays, and its place is legal for it
+stayed : (f : Frame) (team n : ℕ) (cells : List Member) → StandsLegal f team cells n → Done f team n cells → Done f team (n + 1) cells
+stayed f team n cells stands done own less = elim (below_or_at own n less) [
+  | inl before ↦ done own before
+  | inr same ↦ subst (λ (j : ℕ). StandsLegal f team cells j) (sym same) stands
+]
+
+abbrev Sized : Frame → List Member → Type 0
+Sized f cells = (k : ℕ) (m : Member) → slice_get cells k ≡ Some m → IsSized f (macro_of f m.mac)
+
+-- how far tidying has come after the cells below n
+pub record Came (f : Frame) (team n count : ℕ) (cells : List Member) : Type 0 where
+  pub done : Done f team n cells
+  pub sized : Sized f cells
+  pub many : length cells ≡ count
+
+abbrev CameTo : Frame → ℕ → ℕ → ℕ → Tidied → Type 0
+CameTo f team n count (Going cells moved) = Came f team n count cells
+CameTo f team n count (Stuck own) = Unit {0}
+
+length_set : {X : Type 0} (xs : List X) (n : ℕ) (y : X) → length (slice_set xs n y) ≡ length xs
+length_set [] n y = refl
+length_set (x ∷ xs) zero y = refl
+length_set (x ∷ xs) (suc n) y = ap suc (length_set xs n y)
+
+-- the macros stay
+sized_set : (f : Frame) (cells : List Member) (n : ℕ) (m : Member) (p : Spot) → slice_get cells n ≡ Some m → Sized f cells → Sized f (slice_set cells n (placed_at m.mac p))
+sized_set f cells n m p there sized k x here = elim (order_of k n) [
+  | inl same ↦
+    let at : slice_get (slice_set cells n (placed_at m.mac p)) n ≡ Some x = subst (λ (j : ℕ). slice_get (slice_set cells n (placed_at m.mac p)) j ≡ Some x) same here in
+    subst (λ (y : Member). IsSized f (macro_of f y.mac)) (sym (get_set cells n x (placed_at m.mac p) at)) (sized n m there)
+  | inr other ↦ sized k x (sym (get_other cells n k (placed_at m.mac p) other) ∙ here)
+]
+
+-- the cell is sent to what the search has found
+sent : (f : Frame) (team n count : ℕ) (cells : List Member) (moved : ℕ) (m : Member) (target : Point) (found : Option Spot) → slice_get cells n ≡ Some m →
+    IsChoice (lifted_from f team cells n m.mac) target found → Came f team n count cells → CameTo f team (n + 1) count (sent_to found cells moved n m.mac)
+sent f team n count cells moved m target None there choice came = tt
+sent f team n count cells moved m target (Some p) there choice came = record {
+  done = gone f team n cells m p there choice.legal came.done;
+  sized = sized_set f cells n m p there came.sized;
+  many = length_set cells n (placed_at m.mac p) ∙ came.many;
+}
+
+same_member : {a b : Member} → Some a ≡ Some b → a ≡ b
+same_member e = cc
+
+-- a cell that stays breaks no rule
+stays : (f : Frame) (team n : ℕ) (cells : List Member) (m : Member) (p : Spot) → slice_get cells n ≡ Some m → m.place ≡ Some p →
+    IsLegalAt (lifted_from f team cells n m.mac) p → StandsLegal f team cells n
+stays f team n cells m p there is legal x here =
+    let same : m ≡ x = same_member (sym there ∙ here) in
+    subst (λ (y : Member). MatchOption y.place ⊥ (λ s. IsLegalAt (lifted_from f team cells n y.mac) s)) same (rw is legal)
+
+-- a placed cell stays or is sent, by its first broken rule
+judged : (l : Legalizer) (f : Frame) (team n count : ℕ) (cells : List Member) (moved : ℕ) (m : Member) (p : Spot) (verdict : Option Broken) →
+    slice_get cells n ≡ Some m → m.place ≡ Some p → IsVerdict (trial_at (lifted_from f team cells n m.mac) p) verdict → Came f team n count cells →
+    CameTo f team (n + 1) count (tidied_to (option_map (λ broken. point_of p) verdict) l (lifted_from f team cells n m.mac) cells moved n m.mac)
+judged l f team n count cells moved m p None there is legal came = record {
+  done = stayed f team n cells (stays f team n cells m p there is legal) came.done;
+  sized = came.sized;
+  many = came.many;
+}
+judged l f team n count cells moved m p (Some b) there is broken came =
+    sent f team n count cells moved m (point_of p) _ there (l.finds_best_place (lifted_from f team cells n m.mac) (point_of p) (came.sized n m there)) came
+
+placed_or_not : (l : Legalizer) (f : Frame) (team n count : ℕ) (cells : List Member) (moved : ℕ) (m : Member) (place : Option Spot) →
+    slice_get cells n ≡ Some m → m.place ≡ place → Came f team n count cells →
+    CameTo f team (n + 1) count (tidied_to (target_of l (lifted_from f team cells n m.mac) place) l (lifted_from f team cells n m.mac) cells moved n m.mac)
+placed_or_not l f team n count cells moved m None there is came =
+    sent f team n count cells moved m (anchor f team) _ there (l.finds_best_place (lifted_from f team cells n m.mac) (anchor f team) (came.sized n m there)) came
+placed_or_not l f team n count cells moved m (Some p) there is came =
+    judged l f team n count cells moved m p _ there is (l.finds_first_broken (trial_at (lifted_from f team cells n m.mac) p) (came.sized n m there)) came
+
+there_or_not : (l : Legalizer) (f : Frame) (team n count : ℕ) (cells : List Member) (moved : ℕ) (found : Option Member) → slice_get cells n ≡ found →
+    Came f team n count cells → CameTo f team (n + 1) count (tidied_own found l f team cells moved n)
+there_or_not l f team n count cells moved None past came = record {
+  done = stayed f team n cells (λ m here. absurd (none_some (sym past ∙ here))) came.done;
+  sized = came.sized;
+  many = came.many;
+}
+  where
+    none_some : {m : Member} → None ≡ Some m → ⊥
+    none_some e = cc
+there_or_not l f team n count cells moved (Some m) there came = placed_or_not l f team n count cells moved m m.place there refl came
+
+one_cell : (l : Legalizer) (f : Frame) (team n count : ℕ) (t : Tidied) → CameTo f team n count t → CameTo f team (n + 1) count (tidy_cell l f team t n)
+one_cell l f team n count (Stuck own) came = tt
+one_cell l f team n count (Going cells moved) came = there_or_not l f team n count cells moved (slice_get cells n) refl came
+
+all_cells : (l : Legalizer) (f : Frame) (team n count rest : ℕ) (t : Tidied) → CameTo f team n count t → CameTo f team (n + rest) count (tidied_from l f team n rest t)
+all_cells l f team n count zero t came = subst (λ (k : ℕ). CameTo f team k count t) (omega arith) came
+all_cells l f team n count (suc rest) t came =
+    subst (λ (k : ℕ). CameTo f team k count (tidied_from l f team (n + 1) rest (tidy_cell l f team t n))) (omega arith)
+    (all_cells l f team (n + 1) count rest (tidy_cell l f team t n) (one_cell l f team n count t came))
+
+sized_each : (f : Frame) (cells : List Member) → All (λ m. IsSized f (macro_of f m.mac)) cells → Sized f cells
+sized_each f cells all k m there =
+    let is : get_or cells k m ≡ m = get_or_from_slice_get cells k m m there in
+    rw is at (all k m (slice_get_within cells k m there))
+
+every : (f : Frame) (team : ℕ) (new : List Member) → Came f team (length new) (length new) new → (own : ℕ) → StandsLegal f team new own
+every f team new came own m here = came.done own (slice_get_within new own m here) m here
+
+pub tidied_legal : (l : Legalizer) (f : Frame) (team : ℕ) (cells new : List Member) (moved : ℕ) → All (λ m. IsSized f (macro_of f m.mac)) cells →
+    tidied l f team cells ≡ Going new moved → (own : ℕ) → StandsLegal f team new own
+unfolding tidied
+tidied_legal l f team cells new moved all is =
+    let begin : CameTo f team 0 (length cells) (Going cells 0) = record { done = λ own less. absurd (omega arith); sized = sized_each f cells all; many = refl } in
+    let end : CameTo f team (0 + length cells) (length cells) (tidied l f team cells) = all_cells l f team 0 (length cells) (length cells) (Going cells 0) begin in
+    let came : CameTo f team (0 + length cells) (length cells) (Going new moved) = subst (λ (t : Tidied). CameTo f team (0 + length cells) (length cells) t) is end in
+    let upto : Came f team (length cells) (length cells) new = subst (λ (k : ℕ). Came f team k (length cells) new) (omega arith) came in
+    every f team new (subst (λ (k : ℕ). Came f team k k new) (sym came.many) upto)

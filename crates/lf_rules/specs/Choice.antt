@@ -1,0 +1,123 @@
+-- Which place a cell gets: the key of a place, the best place, and the anchor of a team.
+use Rattle.std.specs.Prelude.{◌≡◌, ◌⊎◌, ℕ, ℤ, pos, ◌+◌, ◌<◌, ◌-ℤ◌, ◌<ℤ◌, List, [], ◌∷◌, Option, slice_get, IsSome, MatchOption}
+use Rattle.std.specs.Int.RustNames.{unsigned_abs}
+use Rattle.std.specs.Option.{option_map_or}
+use Rattle.lf_units.specs.declared.area.Point.{Point}
+use Rattle.lf_units.specs.declared.area.Rect.{Rect}
+use Rattle.lf_orient.specs.declared.Orient.{Orient}
+use Rattle.lf_orient.specs.declared.Orient.TheVariants.{N, S, FN, FS}
+use Rattle.lf_orient.specs.Orientation.{rail_below}
+use Rattle.lf_frame.specs.declared.frame.Frame.{Frame}
+use Rattle.lf_frame.specs.declared.parts.Macro.{Macro}
+use Rattle.lf_frame.specs.declared.parts.Row.{Row}
+use Rattle.lf_frame.specs.declared.place.Place.{Place}
+use Rattle.lf_frame.specs.Bounds.{IsDefNumber}
+use Rattle.lf_frame.specs.Boxes.{IsSized}
+use Rattle.lf_rules.specs.declared.rule.Placed.{Placed}
+use Rattle.lf_rules.specs.Legality.{Trial, IsTeamLegal}
+
+-- a place over all whole numbers
+pub record Spot : Type 0 where
+  pub x : ℤ
+  pub y : ℤ
+  pub orient : Orient
+
+-- a place of the program, over whole numbers
+abbrev pub spot_of : Place → Spot
+spot_of p = record { x = p.x; y = p.y; orient = p.orient }
+
+-- a cell that is taken away from its place: its team and its macro, and the team's other placed cells
+pub record Lifted : Type 0 where
+  pub frame : Frame
+  pub team : ℕ
+  pub mac : Macro
+  pub others : List Placed
+
+-- the cell, tried at a place
+abbrev pub trial_at : Lifted → Spot → Trial
+trial_at c p = record { frame = c.frame; team = c.team; mac = c.mac; x = p.x; y = p.y; orient = p.orient; others = c.others }
+
+-- the place is team-legal for the cell
+abbrev pub IsLegalAt : Lifted → Spot → Type 0
+IsLegalAt c p = IsTeamLegal (trial_at c p)
+
+-- a legal place of a macro of whole size has coordinates that a DEF text can hold
+abbrev pub LegalInRange : Type 0
+LegalInRange = (t : Trial) → IsSized t.frame t.mac → IsTeamLegal t → IsDefNumber t.x × IsDefNumber t.y
+
+-- ---- the best place
+
+-- of places that differ in their orientation only, N comes first, then S, FN and FS
+abbrev pub rank : Orient → ℕ
+rank N = 0
+rank S = 1
+rank FN = 2
+rank FS = 3
+rank _ = 4
+
+-- how far the place is from the target, along x and y together
+abbrev pub distance : Point → Spot → ℕ
+distance target p = unsigned_abs (p.x -ℤ target.x) + unsigned_abs (p.y -ℤ target.y)
+
+-- p has the lesser key: by distance, then y, then x, then rank
+abbrev pub Precedes : Point → Spot → Spot → Type 0
+Precedes target p q =
+    (distance target p < distance target q)
+    ⊎ ((distance target p ≡ distance target q)
+    × ((p.y <ℤ q.y) ⊎ ((p.y ≡ q.y) × ((p.x <ℤ q.x) ⊎ ((p.x ≡ q.x) × (rank p.orient < rank q.orient))))))
+
+-- both places have one key
+pub record SameKey (target : Point) (p q : Spot) : Type 0 where
+  pub as_far : distance target p ≡ distance target q
+  pub y_is : p.y ≡ q.y
+  pub x_is : p.x ≡ q.x
+  pub rank_is : rank p.orient ≡ rank q.orient
+
+-- the orientation is N, S, FN or FS, as that of each legal place
+abbrev pub IsUpright : Orient → Type 0
+IsUpright o = IsSome (rail_below o)
+
+-- two upright places of one key are one place
+abbrev pub KeysDiffer : Type 0
+KeysDiffer = (target : Point) (p q : Spot) → IsUpright p.orient → IsUpright q.orient → SameKey target p q → p ≡ q
+
+-- the keys order the upright places: none precedes itself, what precedes goes on, and of two places
+-- one precedes the other
+pub record KeyOrders : Type 0 where
+  pub not_itself : (target : Point) (p : Spot) → Precedes target p p → ⊥
+  pub through : (target : Point) (p q r : Spot) → Precedes target p q → Precedes target q r → Precedes target p r
+  pub total : (target : Point) (p q : Spot) → IsUpright p.orient → IsUpright q.orient → (p ≡ q) ⊎ (Precedes target p q ⊎ Precedes target q p)
+
+-- a legal place is upright
+abbrev pub LegalIsUpright : Type 0
+LegalIsUpright = (c : Lifted) (p : Spot) → IsLegalAt c p → IsUpright p.orient
+
+-- the team-legal place of least key
+pub record IsBest (c : Lifted) (target : Point) (best : Spot) : Type 0 where
+  pub legal : IsLegalAt c best
+  pub least : (p : Spot) → IsLegalAt c p → (p ≡ best) ⊎ Precedes target best p
+
+-- what a search for the best place finds: that place, and nothing only where no place is team-legal
+abbrev pub IsChoice : Lifted → Point → Option Spot → Type 0
+IsChoice c target found = MatchOption found ((p : Spot) → IsLegalAt c p → ⊥) (λ best. IsBest c target best)
+
+-- a search has one answer
+abbrev pub ChoiceIsOne : Type 0
+ChoiceIsOne = (c : Lifted) (target : Point) (a b : Option Spot) → IsChoice c target a → IsChoice c target b → a ≡ b
+
+-- ---- the anchor
+
+-- the lower left corner of the first rectangle; a fence has one
+abbrev pub first_corner : List Rect → Point
+first_corner [] = record { x = pos 0; y = pos 0 }
+first_corner (r ∷ _) = record { x = r.x1; y = r.y1 }
+
+-- the origin of the first row; a frame has one
+abbrev pub first_origin : List Row → Point
+first_origin [] = record { x = pos 0; y = pos 0 }
+first_origin (r ∷ _) = record { x = r.x; y = r.y }
+
+-- the target of a team's unplaced cells: the lower left corner of its first rectangle, and for the
+-- ground team the origin of the first heeded row
+abbrev pub anchor : Frame → ℕ → Point
+anchor f team = option_map_or (λ fence. first_corner fence.rects) (slice_get f.teams team) (first_origin f.rows)

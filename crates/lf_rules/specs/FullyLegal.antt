@@ -1,0 +1,42 @@
+-- When a whole design is legal: the movable cells of all teams together.
+use Rattle.std.specs.Prelude.{◌≤◌, ℕ, List, [], ◌∷◌, Option, None, All, AllPairs, IsSome}
+use Rattle.std.specs.Option.{option_map, ForSome}
+use Rattle.lf_units.specs.Area.{SharesPoint}
+use Rattle.lf_frame.specs.declared.frame.Frame.{Frame}
+use Rattle.lf_frame.specs.declared.loaded.Cell.{Cell}
+use Rattle.lf_frame.specs.declared.place.Place.{Place}
+use Rattle.lf_frame.specs.Boxes.{macro_of}
+use Rattle.lf_rules.specs.declared.rule.Rule.{Rule}
+use Rattle.lf_rules.specs.Legality.{Trial, Holds, number_of, box_of}
+use Rattle.lf_rules.specs.Choice.{Spot, spot_of}
+
+-- a movable cell of a design: its team, the number of its macro, and its place where it has one
+pub record Standing : Type 0 where
+  pub team : ℕ
+  pub mac : ℕ
+  pub place : Option Spot
+
+-- the cell at the place, with no other cell beside it
+abbrev pub alone_at : Frame → Standing → Spot → Trial
+alone_at f c p = record { frame = f; team = c.team; mac = macro_of f c.mac; x = p.x; y = p.y; orient = p.orient; others = [] }
+
+-- rules 1 to 7 hold for the cell at the place
+abbrev pub KeepsRules : Frame → Standing → Spot → Type 0
+KeepsRules f c p = (r : Rule) → number_of r ≤ 7 → Holds (alone_at f c p) r
+
+-- the boxes of the two cells share no point
+abbrev pub StandApart : Frame → Standing → Standing → Type 0
+StandApart f a b =
+    ForSome a.place (λ p. ForSome b.place (λ q. SharesPoint (box_of (alone_at f a p)) (box_of (alone_at f b q)) → ⊥))
+
+-- every movable cell is placed, rules 1 to 7 hold for each, and no two of any teams share a point
+pub record IsFullyLegal (f : Frame) (cells : List Standing) : Type 0 where
+  pub placed : All (λ c. IsSome c.place) cells
+  pub kept : All (λ c. ForSome c.place (λ p. KeepsRules f c p)) cells
+  pub apart : AllPairs (λ a b. StandApart f a b) cells
+
+-- the cells of a loaded design at these places, one for each cell in its order
+abbrev pub standing_at : List Cell → List (Option Place) → List Standing
+standing_at [] places = []
+standing_at (c ∷ cells) [] = record { team = c.team; mac = c.mac; place = None } ∷ standing_at cells []
+standing_at (c ∷ cells) (p ∷ places) = record { team = c.team; mac = c.mac; place = option_map spot_of p } ∷ standing_at cells places

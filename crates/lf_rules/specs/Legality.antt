@@ -1,0 +1,96 @@
+-- When a place is legal for a cell: the eight rules, and the first of them that is broken.
+use Rattle.std.specs.Prelude.{◌≡◌, ◌≢◌, ℕ, ℤ, ◌%◌, ◌<◌, List, All, IsTrue, Some, slice_get, take, MatchOption}
+use Rattle.lf_units.specs.declared.area.Rect.{Rect}
+use Rattle.lf_units.specs.Area.{SharesPoint}
+use Rattle.lf_orient.specs.declared.Orient.{Orient}
+use Rattle.lf_orient.specs.Orientation.{is_allowed, EqualUnder, rail_below}
+use Rattle.lf_frame.specs.declared.frame.Frame.{Frame}
+use Rattle.lf_frame.specs.declared.parts.Macro.{Macro}
+use Rattle.lf_frame.specs.declared.parts.Row.{Row}
+use Rattle.lf_frame.specs.declared.place.Place.{Place}
+use Rattle.lf_frame.specs.Boxes.{size_of, turned, box_at}
+use Rattle.lf_frame.specs.Ground.{StaysInGround, IsClear}
+use Rattle.lf_frame.specs.Standing.{IsSitesHigh, IsBottomRow, HasHeight, HasBottomRow, IsCarried}
+use Rattle.lf_rules.specs.declared.rule.Rule.{Rule}
+use Rattle.lf_rules.specs.declared.rule.Rule.TheVariants.{Height, Row as RowRule, Stand, Orient as OrientRule, Rail as RailRule, Fence, Obstacle, Overlap}
+use Rattle.lf_rules.specs.declared.rule.Placed.{Placed}
+use Rattle.lf_rules.specs.declared.rule.Broken.{Broken}
+
+-- a cell of a team, by its macro, tried at a place beside the team's other placed cells
+pub record Trial : Type 0 where
+  pub frame : Frame
+  pub team : ℕ
+  pub mac : Macro
+  pub x : ℤ
+  pub y : ℤ
+  pub orient : Orient
+  pub others : List Placed
+
+-- the same, at a place of the program
+abbrev pub trial_of : Frame → ℕ → Macro → Place → List Placed → Trial
+trial_of f team m p others = record { frame = f; team = team; mac = m; x = p.x; y = p.y; orient = p.orient; others = others }
+
+-- the box of the cell there
+abbrev pub box_of : Trial → Rect
+box_of t = box_at (turned (size_of t.frame t.mac) t.orient) t.x t.y
+
+-- the orientation fits the macro, and where the height is odd also the bottom row (LEF SYMMETRY of MACRO and SITE)
+abbrev pub IsOriented : Trial → Type 0
+IsOriented t =
+    IsTrue (is_allowed t.mac.symmetry t.orient)
+    × ((k : ℕ) (r : Row) → IsSitesHigh t.frame (box_of t) k → IsBottomRow t.frame (box_of t) r →
+    k % 2 ≡ 1 → EqualUnder t.frame.site.symmetry t.orient r.orient)
+
+-- where the height is even the macro's bottom rail is the bottom row's
+abbrev pub IsOnRail : Trial → Type 0
+IsOnRail t =
+    (k : ℕ) (r : Row) → IsSitesHigh t.frame (box_of t) k → IsBottomRow t.frame (box_of t) r →
+    k % 2 ≡ 0 → rail_below r.orient ≡ Some t.mac.rail
+
+-- the box shares no point with the box of another placed cell of the team
+abbrev pub IsApart : Trial → Type 0
+IsApart t = All (λ other. SharesPoint (box_of t) other.rect → ⊥) t.others
+
+-- The rule holds. What speaks of the height and the bottom row speaks of every one there is, and a box
+-- has one of each at most; so where a lesser rule fails, rules 3 and 5 say nothing, and rule 4 asks
+-- for the macro's orientation alone. No first broken rule depends on that.
+abbrev pub Holds : Trial → Rule → Type 0
+Holds t Height = HasHeight t.frame (box_of t)
+Holds t RowRule = HasBottomRow t.frame (box_of t)
+Holds t Stand = IsCarried t.frame (box_of t)
+Holds t OrientRule = IsOriented t
+Holds t RailRule = IsOnRail t
+Holds t Fence = StaysInGround t.frame t.team (box_of t)
+Holds t Obstacle = IsClear t.frame (box_of t)
+Holds t Overlap = IsApart t
+
+-- a place is team-legal: every rule holds
+abbrev pub IsTeamLegal : Trial → Type 0
+IsTeamLegal t = (r : Rule) → Holds t r
+
+-- the rules are tested in the order of their numbers
+abbrev pub number_of : Rule → ℕ
+number_of Height = 1
+number_of RowRule = 2
+number_of Stand = 3
+number_of OrientRule = 4
+number_of RailRule = 5
+number_of Fence = 6
+number_of Obstacle = 7
+number_of Overlap = 8
+
+-- the first of the placed cells whose box shares a point with this one bears this number
+pub record IsFirstMet (box : Rect) (others : List Placed) (own : ℕ) : Type 0 where
+  pub place : ℕ
+  pub cell : Placed
+  pub there : slice_get others place ≡ Some cell
+  pub named : cell.own ≡ own
+  pub meets : SharesPoint box cell.rect
+  pub first : All (λ other. SharesPoint box other.rect → ⊥) (take place others)
+
+-- the first broken rule: it is broken, each lesser one holds, and for Overlap the first other cell that
+-- is met is named
+pub record IsFirstBroken (t : Trial) (b : Broken) : Type 0 where
+  pub broken : Holds t b.rule → ⊥
+  pub lesser : (r : Rule) → number_of r < number_of b.rule → Holds t r
+  pub other : MatchOption b.other (b.rule ≢ Overlap) (λ own. (b.rule ≡ Overlap) × IsFirstMet (box_of t) t.others own)

@@ -1,0 +1,27 @@
+-- What the rules say of places, as functions: the first broken rule, and the best place.
+use Rattle.std.specs.Prelude.{◌≡◌, Option, MatchOption}
+use Rattle.lf_units.specs.declared.area.Point.{Point}
+use Rattle.lf_frame.specs.Boxes.{IsSized}
+use Rattle.lf_rules.specs.declared.rule.Broken.{Broken}
+use Rattle.lf_rules.specs.Legality.{Trial, IsTeamLegal, IsFirstBroken}
+use Rattle.lf_rules.specs.Choice.{Spot, Lifted, IsChoice}
+
+-- the answer for a trial: the first broken rule, and none exactly where the place is team-legal
+abbrev pub IsVerdict : Trial → Option Broken → Type 0
+IsVerdict t verdict = MatchOption verdict (IsTeamLegal t) (λ b. IsFirstBroken t b)
+
+-- a legalizer finds the first broken rule of each trial, and the best place of each cell, where the
+-- macro is whole in database units; by the laws of this crate there is one, and each answer is one only
+pub record Legalizer : Type 0 where
+  pub first_broken : Trial → Option Broken
+  pub best_place : Lifted → Point → Option Spot
+  pub finds_first_broken : (t : Trial) → IsSized t.frame t.mac → IsVerdict t (first_broken t)
+  pub finds_best_place : (c : Lifted) (target : Point) → IsSized c.frame c.mac → IsChoice c target (best_place c target)
+
+-- a trial has one verdict
+abbrev pub VerdictIsOne : Type 0
+VerdictIsOne = (t : Trial) (a b : Option Broken) → IsVerdict t a → IsVerdict t b → a ≡ b
+
+-- each trial of a macro of whole size has a verdict
+abbrev pub VerdictIsThere : Type 0
+VerdictIsThere = (t : Trial) → IsSized t.frame t.mac → (verdict : Option Broken) × IsVerdict t verdict

@@ -1,0 +1,96 @@
+-- A team's cells among each other, and tidying them.
+use Rattle.std.specs.Prelude.{◌≡◌, ◌==◌, ℕ, zero, suc, ◌+◌, List, [], ◌∷◌, All, filter, not, length, Option, Some, None, slice_get, slice_set, MatchOption}
+use Rattle.std.specs.Option.{option_map}
+use Rattle.lf_units.specs.declared.area.Point.{Point}
+use Rattle.lf_units.specs.declared.area.Rect.{Rect}
+use Rattle.lf_frame.specs.declared.frame.Frame.{Frame}
+use Rattle.lf_frame.specs.Boxes.{IsSized, size_of, turned, box_at, macro_of}
+use Rattle.lf_rules.specs.declared.rule.Placed.{Placed}
+use Rattle.lf_rules.specs.Legality.{IsTeamLegal}
+use Rattle.lf_rules.specs.Choice.{Spot, Lifted, trial_at, IsLegalAt, anchor}
+use Rattle.lf_rules.specs.Legalizer.{Legalizer}
+
+-- a cell of a team: the number of its macro, and its place where it has one
+pub record Member : Type 0 where
+  pub mac : ℕ
+  pub place : Option Spot
+
+-- the box of the macro of this number at a place
+abbrev pub box_in : Frame → ℕ → Spot → Rect
+box_in f mac p = box_at (turned (size_of f (macro_of f mac)) p.orient) p.x p.y
+
+-- a cell's box, bearing its number, in front of the others; an unplaced cell has none
+abbrev pub with_box : Frame → ℕ → ℕ → Option Spot → List Placed → List Placed
+with_box f own mac None rest = rest
+with_box f own mac (Some p) rest = record { own = own; rect = box_in f mac p } ∷ rest
+
+-- the boxes of the placed cells, which are numbered from `own` on
+abbrev pub boxes_from : Frame → ℕ → List Member → List Placed
+boxes_from f own [] = []
+boxes_from f own (m ∷ cells) = with_box f own m.mac m.place (boxes_from f (own + 1) cells)
+
+-- the boxes of the team's placed cells, in loading order, but for the cell of this number
+abbrev pub boxes_beside : Frame → List Member → ℕ → List Placed
+boxes_beside f cells own = filter (λ box. not (box.own == own)) (boxes_from f 0 cells)
+
+-- the cell of this number and macro, taken away from its place among the team's cells
+abbrev pub lifted_from : Frame → ℕ → List Member → ℕ → ℕ → Lifted
+lifted_from f team cells own mac = record { frame = f; team = team; mac = macro_of f mac; others = boxes_beside f cells own }
+
+-- the cell of this number is placed, and team-legal among the team's other cells
+abbrev pub StandsLegal : Frame → ℕ → List Member → ℕ → Type 0
+StandsLegal f team cells own =
+    (m : Member) → slice_get cells own ≡ Some m → MatchOption m.place ⊥ (λ p. IsLegalAt (lifted_from f team cells own m.mac) p)
+
+-- ---- tidying, cell by cell in loading order
+
+-- how far tidying has come: the cells, and how many of them went to their best place; or the number of
+-- a cell that has none
+pub data Tidied : Type 0 where
+  Going : List Member → ℕ → Tidied
+  Stuck : ℕ → Tidied
+
+abbrev pub point_of : Spot → Point
+point_of p = record { x = p.x; y = p.y }
+
+-- where an unplaced cell is tidied to: its team's anchor; a placed one stays where it breaks no rule,
+-- and else is tidied to its own corner
+abbrev pub target_of : Legalizer → Lifted → Option Spot → Option Point
+target_of l c None = Some (anchor c.frame c.team)
+target_of l c (Some p) = option_map (λ broken. point_of p) (l.first_broken (trial_at c p))
+
+-- the cell goes to its best place, where it has one
+abbrev pub sent_to : Option Spot → List Member → ℕ → ℕ → ℕ → Tidied
+sent_to None cells moved own mac = Stuck own
+sent_to (Some p) cells moved own mac = Going (slice_set cells own record { mac = mac; place = Some p }) (moved + 1)
+
+-- the cell stays without a target, and else goes to its best place for it
+abbrev pub tidied_to : Option Point → Legalizer → Lifted → List Member → ℕ → ℕ → ℕ → Tidied
+tidied_to None l c cells moved own mac = Going cells moved
+tidied_to (Some target) l c cells moved own mac = sent_to (l.best_place c target) cells moved own mac
+
+abbrev pub tidied_own : Option Member → Legalizer → Frame → ℕ → List Member → ℕ → ℕ → Tidied
+tidied_own None l f team cells moved own = Going cells moved
+tidied_own (Some m) l f team cells moved own =
+    let c = lifted_from f team cells own m.mac in tidied_to (target_of l c m.place) l c cells moved own m.mac
+
+-- one cell is tidied, unless an earlier one has no best place
+abbrev pub tidy_cell : Legalizer → Frame → ℕ → Tidied → ℕ → Tidied
+tidy_cell l f team (Stuck stuck) own = Stuck stuck
+tidy_cell l f team (Going cells moved) own = tidied_own (slice_get cells own) l f team cells moved own
+
+-- so many cells are tidied one after the other, from the number `own` on
+abbrev pub tidied_from : Legalizer → Frame → ℕ → ℕ → ℕ → Tidied → Tidied
+tidied_from l f team own zero t = t
+tidied_from l f team own (suc count) t = tidied_from l f team (own + 1) count (tidy_cell l f team t own)
+
+-- all cells of the team are tidied
+unfoldable pub tidied : Legalizer → Frame → ℕ → List Member → Tidied
+tidied l f team cells = tidied_from l f team 0 (length cells) (Going cells 0)
+
+-- after a tidy in which no cell was stuck, every cell is placed and team-legal
+abbrev pub TidiedIsLegal : Type 0
+TidiedIsLegal =
+    (l : Legalizer) (f : Frame) (team : ℕ) (cells new : List Member) (moved : ℕ) →
+    All (λ m. IsSized f (macro_of f m.mac)) cells →
+    tidied l f team cells ≡ Going new moved → (own : ℕ) → StandsLegal f team new own

@@ -1,0 +1,89 @@
+//! Whether rectangles together cover all of a box. If they leave points of it out, then one of these has as
+//! its x the box's x1 or some rectangle's x2, and as its y the box's y1 or some rectangle's y2.
+
+ghost use Rattle.std.specs.Prelude.{◌≡◌, ◌↔◌, ℤ, ◌<ℤ◌, IsTrue};
+ghost use Rattle.lf_units.specs.Area.{Covers, CoveredBy};
+
+use lf_units::{Point, Rect};
+
+/// Whether one of the rectangles holds the point.
+fn is_point_covered(rects: &[Rect], point: &Point) -> bool
+    ensures { IsTrue result ↔ CoveredBy rects.now point.now.x point.now.y }
+{
+    for rect in rects {
+        if rect.covers(point) {
+            return true;
+        }
+    }
+    false
+}
+
+/// Whether the point lies outside the box or in one of the rectangles.
+fn is_settled(rect: &Rect, rects: &[Rect], point: &Point) -> bool
+    ensures { IsTrue result ↔ (Covers rect.now point.now.x point.now.y → CoveredBy rects.now point.now.x point.now.y) }
+{
+    !rect.covers(point) || is_point_covered(rects, point)
+}
+
+/// The point of this x that is level with the rectangle's upper edge.
+fn level_with(foot: &Point, edge: &Rect) -> Point
+    ensures { result ≡ record { x = foot.now.x; y = edge.now.y2 } }
+{
+    Point {
+        x: foot.x,
+        y: edge.y2,
+    }
+}
+
+/// The point at the box's lower edge that is level with the rectangle's right edge.
+fn foot_of(rect: &Rect, edge: &Rect) -> Point
+    ensures { result ≡ record { x = edge.now.x2; y = rect.now.y1 } }
+{
+    Point {
+        x: edge.x2,
+        y: rect.y1,
+    }
+}
+
+/// The lower left corner of the box.
+fn corner_of(rect: &Rect) -> Point
+    ensures { result ≡ record { x = rect.now.x1; y = rect.now.y1 } }
+{
+    Point {
+        x: rect.x1,
+        y: rect.y1,
+    }
+}
+
+/// Whether the rectangles cover the points of the box that have the foot's x.
+fn is_column_covered(rect: &Rect, rects: &[Rect], foot: &Point) -> bool
+    requires high { rect.now.y1 <ℤ rect.now.y2 }
+    requires lowest { foot.now.y ≡ rect.now.y1 }
+    ensures { IsTrue result ↔ ((y : ℤ) → Covers rect.now foot.now.x y → CoveredBy rects.now foot.now.x y) }
+{
+    if !is_settled(rect, rects, foot) {
+        return false;
+    }
+    for edge in rects {
+        if !is_settled(rect, rects, &level_with(foot, edge)) {
+            return false;
+        }
+    }
+    true
+}
+
+/// Whether the rectangles cover every point of the box.
+pub fn is_covered(rect: &Rect, rects: &[Rect]) -> bool
+    requires { rect.now.y1 <ℤ rect.now.y2 }
+    ensures { IsTrue result ↔ ((x y : ℤ) → Covers rect.now x y → CoveredBy rects.now x y) }
+{
+    if !is_column_covered(rect, rects, &corner_of(rect)) {
+        return false;
+    }
+    for edge in rects {
+        if !is_column_covered(rect, rects, &foot_of(rect, edge)) {
+            return false;
+        }
+    }
+    true
+}

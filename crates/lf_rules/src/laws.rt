@@ -1,0 +1,50 @@
+//! Laws on the definitions of a legal place.
+
+ghost use Rattle.lf_rules.specs.Choice.{ChoiceIsOne, KeyOrders, KeysDiffer, LegalInRange, LegalIsUpright};
+ghost use Rattle.lf_rules.specs.Legalizer.{Legalizer, VerdictIsOne, VerdictIsThere};
+ghost use Rattle.lf_rules.specs.Tidy.{TidiedIsLegal};
+
+/// A trial has one verdict: one first broken rule with one other cell, or none.
+pub fn verdict_is_one()
+    ensures { VerdictIsOne }
+{}
+
+/// Each trial of a macro of whole size has a verdict.
+pub fn verdict_is_there()
+    ensures { VerdictIsThere }
+{}
+
+/// A legal place stands upright: N, S, FN or FS.
+pub fn legal_is_upright()
+    ensures { LegalIsUpright }
+{}
+
+/// Two different upright places never have one key for a target.
+pub fn keys_differ()
+    ensures { KeysDiffer }
+{}
+
+/// The keys for a target order the upright places, and each two of them.
+pub fn key_is_total()
+    ensures { KeyOrders }
+{}
+
+/// A search for a best place has one answer.
+pub fn choice_is_one()
+    ensures { ChoiceIsOne }
+{}
+
+/// A team-legal place has coordinates that a DEF text can hold.
+pub fn legal_in_range()
+    ensures { LegalInRange }
+{}
+
+/// There is a legalizer: each trial has a first broken rule or none, and each cell a best place or none.
+pub fn legalizer_is_there()
+    ensures { Legalizer }
+{}
+
+/// After a tidy in which no cell was stuck, every cell of the team is placed and team-legal.
+pub fn tidied_is_legal()
+    ensures { TidiedIsLegal }
+{}

@@ -1,0 +1,120 @@
+//! The rules on rows: height, bottom row, the rows that carry the box.
+
+ghost use Rattle.std.specs.Prelude.{◌≡◌, ◌↔◌, ℕ, ℤ, pos, ◌<◌, ◌≤◌, ◌+ℤ◌, ◌-ℤ◌, ◌*ℤ◌, ◌<ℤ◌, ◌≤ℤ◌, IsTrue, MatchOption, Contains, if◌then◌else◌, IfSome};
+ghost use Rattle.std.specs.Option.{option_map};
+ghost use Rattle.lf_orient.specs.Orientation.{rail_below};
+ghost use Rattle.lf_frame.specs.Rows.{IsHeeded};
+ghost use Rattle.lf_frame.specs.declared.parts.Row.{Row};
+ghost use Rattle.lf_frame.specs.Standing.{IsSitesHigh, IsRowOfBox, IsBottomRow, Carries, changed};
+ghost use Rattle.lf_rules.specs.Solid.{IsSolid};
+
+use lf_frame::{Frame, Row};
+use lf_orient::{Orient, Rail, opposite, row_rail};
+use lf_units::{Point, Rect};
+
+/// The y that is this many site heights above the box's lower edge.
+fn level(pitch: &Point, rect: &Rect, sites: u32) -> i64
+    requires high { pos 0 <ℤ pitch.now.y }
+    requires low { pitch.now.y ≤ℤ pos 20000000000 }
+    requires solid { IsSolid rect.now }
+    requires few { sites ≤ 8 }
+    ensures { result ≡ rect.now.y1 +ℤ (pos sites *ℤ pitch.now.y) }
+{
+    rect.y1 + i64::from(sites) * pitch.y
+}
+
+/// How many core sites the box is high, where that is from 1 to 8.
+pub fn height_in_sites(frame: &Frame, rect: &Rect) -> Option<u32>
+    requires { IsSolid rect.now }
+    ensures { MatchOption result ((k : ℕ) → IsSitesHigh frame.now rect.now k → ⊥) (λ k. IsSitesHigh frame.now rect.now k) }
+{
+    for k in 1..9u32 {
+        if rect.y2 == level(&frame.pitch, rect, k) {
+            return Some(k);
+        }
+    }
+    None
+}
+
+/// Whether the box's left edge is a whole number of core sites right of the row's.
+fn is_on_grid(pitch: &Point, rect: &Rect, row: &Row) -> bool
+    requires wide { pos 0 <ℤ pitch.now.x }
+    requires solid { IsSolid rect.now }
+    requires left { row.now.x ≤ℤ rect.now.x1 }
+    ensures { IsTrue result ↔ ((site : ℕ) × (rect.now.x1 -ℤ row.now.x ≡ pos site *ℤ pitch.now.x)) }
+{
+    let offset = rect.x1 - i64::from(row.x);
+    offset % pitch.x == 0
+}
+
+/// Whether the row lies so many site heights above the box's lower edge, under all of its width.
+fn is_row_of_box(frame: &Frame, rect: &Rect, sites: u32, row: &Row) -> bool
+    requires solid { IsSolid rect.now }
+    requires few { sites ≤ 8 }
+    requires heeded { IsHeeded frame.now.pitch row.now }
+    ensures { IsTrue result ↔ IsRowOfBox frame.now rect.now sites row.now }
+{
+    if i64::from(row.y) != level(&frame.pitch, rect, sites) {
+        return false;
+    }
+    if rect.x1 < i64::from(row.x) {
+        return false;
+    }
+    if row.right_edge(&frame.pitch) < rect.x2 {
+        return false;
+    }
+    true
+}
+
+/// The row at the box's lower edge, under all of its width, whose grid holds the box's left edge.
+pub fn bottom_row<'a>(frame: &'a Frame, rect: &Rect) -> Option<&'a Row>
+    requires { IsSolid rect.now }
+    ensures { MatchOption result ((r : Row) → IsBottomRow frame.now rect.now r → ⊥) (λ r. IsBottomRow frame.now rect.now r.now) }
+{
+    for row in frame.rows.as_slice() {
+        if is_row_of_box(frame, rect, 0, row) && is_on_grid(&frame.pitch, rect, row) {
+            return Some(row);
+        }
+    }
+    None
+}
+
+/// The rail of a row of this orientation, changed so many times.
+fn changed_rail(orient: Orient, times: u32) -> Option<Rail>
+    ensures { result ≡ option_map (changed times) (rail_below orient) }
+{
+    let mut rail = row_rail(orient);
+    for _ in 0..times {
+        rail = rail.map(opposite);
+    }
+    rail
+}
+
+/// Whether a heeded row carries the box so many site heights above its bottom row.
+fn is_carried(frame: &Frame, rect: &Rect, bottom: &Row, sites: u32) -> bool
+    requires solid { IsSolid rect.now }
+    requires few { sites ≤ 8 }
+    ensures { IsTrue result ↔ ((s : Row) × Carries frame.now rect.now bottom.now sites s) }
+{
+    let rail = changed_rail(bottom.orient, sites);
+    for row in frame.rows.as_slice() {
+        if is_row_of_box(frame, rect, sites, row) && row_rail(row.orient) == rail {
+            return true;
+        }
+    }
+    false
+}
+
+/// Whether heeded rows carry the box over all of its height.
+pub fn is_standing(frame: &Frame, rect: &Rect, bottom: &Row, height: u32) -> bool
+    requires solid { IsSolid rect.now }
+    requires few { height ≤ 8 }
+    ensures { IsTrue result ↔ ((j : ℕ) → j < height → (s : Row) × Carries frame.now rect.now bottom.now j s) }
+{
+    for sites in 0..height {
+        if !is_carried(frame, rect, bottom, sites) {
+            return false;
+        }
+    }
+    true
+}

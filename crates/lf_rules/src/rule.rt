@@ -1,0 +1,62 @@
+//! The rules by name, and what an answer says of them.
+
+ghost use Rattle.std.specs.Prelude.{◌≡◌};
+
+use lf_units::Rect;
+
+/// The eight rules of a legal place, in the order in which they are tested.
+#[derive(Clone, Copy, Debug, PartialEq, Eq)]
+pub enum Rule {
+    /// The box is from 1 to 8 core sites high.
+    Height,
+    /// A row lies at its lower edge, holds its x range, and has its x on the grid of sites.
+    Row,
+    /// Rows of alternating rails carry it over all of its height.
+    Stand,
+    /// Its orientation fits the macro, and where its height is odd the bottom row.
+    Orient,
+    /// Where its height is even, its bottom rail is the bottom row's.
+    Rail,
+    /// It stays in its team's ground.
+    Fence,
+    /// It meets no obstacle.
+    Obstacle,
+    /// It meets no other placed cell of its team.
+    Overlap,
+}
+
+impl Rule {
+    ghost use Rattle.lf_rules.specs.Legality.{number_of};
+
+    /// The rule's number in replies and reports, from 1 to 8.
+    pub fn number(self) -> u32
+        ensures { result ≡ number_of self }
+    {
+        match self {
+            Rule::Height => 1,
+            Rule::Row => 2,
+            Rule::Stand => 3,
+            Rule::Orient => 4,
+            Rule::Rail => 5,
+            Rule::Fence => 6,
+            Rule::Obstacle => 7,
+            Rule::Overlap => 8,
+        }
+    }
+}
+
+/// Another placed cell of the team: its number in the team's loading order, and its box in database
+/// units.
+#[derive(Clone, Copy, Debug, PartialEq, Eq)]
+pub struct Placed {
+    pub own: u32,
+    pub rect: Rect,
+}
+
+/// The first broken rule.
+#[derive(Clone, Copy, Debug, PartialEq, Eq)]
+pub struct Broken {
+    pub rule: Rule,
+    /// For Overlap the number of the first cell in loading order that is met; none for another rule.
+    pub other: Option<u32>,
+}

@@ -1,0 +1,4 @@
+pub mod Digits
+pub mod Edges
+pub mod Pairs
+pub mod Same

@@ -1,0 +1,3 @@
+pub mod Area
+pub mod Length
+pub mod Number

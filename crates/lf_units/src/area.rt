@@ -1,0 +1,62 @@
+//! Whole points, rectangles and spans.
+
+ghost use Rattle.std.specs.Prelude.{ℤ, ◌↔◌, ◌≤ℤ◌, ◌<ℤ◌, IsTrue};
+ghost use Rattle.lf_units.specs.Area.{SharesPoint, Covers};
+
+/// A whole point, or a size: x across and y up, in database units or in millionths of a micron.
+#[derive(Clone, Copy, Debug, PartialEq, Eq)]
+pub struct Point {
+    pub x: i64,
+    pub y: i64,
+}
+
+/// The whole points (x, y) with x1 <= x < x2 and y1 <= y < y2, in database units.
+///
+/// A rectangle whose edges leave no point between them is allowed, and covers nothing.
+#[derive(Clone, Copy, Debug, PartialEq, Eq)]
+pub struct Rect {
+    pub x1: i64,
+    pub y1: i64,
+    pub x2: i64,
+    pub y2: i64,
+}
+
+/// The whole numbers from lo on and below hi, in database units.
+#[derive(Clone, Copy, Debug, PartialEq, Eq)]
+pub struct Span {
+    pub lo: i64,
+    pub hi: i64,
+}
+
+impl Rect {
+    /// Whether the point lies in the rectangle.
+    #[tactic(auto, using(crate::proofs::Edges::edges))]
+    pub fn covers(&self, point: &Point) -> bool
+        ensures { IsTrue result ↔ Covers self.now point.now.x point.now.y }
+    {
+        if point.x < self.x1 || self.x2 <= point.x {
+            return false;
+        }
+        self.y1 <= point.y && point.y < self.y2
+    }
+
+    /// Whether a point lies in both: rectangles that only touch do not overlap.
+    #[tactic(auto, using(crate::proofs::Edges::edges))]
+    pub fn overlaps(&self, other: &Rect) -> bool
+        ensures { IsTrue result ↔ SharesPoint self.now other.now }
+    {
+        if self.x2 <= self.x1 || self.y2 <= self.y1 {
+            return false;
+        }
+        if other.x2 <= other.x1 || other.y2 <= other.y1 {
+            return false;
+        }
+        if self.x2 <= other.x1 || self.y2 <= other.y1 {
+            return false;
+        }
+        if other.x2 <= self.x1 || other.y2 <= self.y1 {
+            return false;
+        }
+        true
+    }
+}
