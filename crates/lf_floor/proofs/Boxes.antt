@@ -9,18 +9,18 @@ use Rattle.lf_rules.specs.declared.rule.Placed.{Placed}
 use Rattle.lf_frame.specs.Boxes.{IsSized, macro_of}
 use Rattle.lf_rules.specs.Legality.{trial_of}
 use Rattle.lf_rules.specs.Legalizer.{Legalizer, IsVerdict, VerdictIsOne}
-use Rattle.lf_rules.specs.Beside.{boxes_from, boxes_beside}
+use Rattle.lf_rules.specs.Team.{boxes_from, boxes_beside}
 use Rattle.lf_floor.specs.declared.cell.Cell.{Cell}
 use Rattle.lf_floor.specs.Teams.{member_of, broken_at, broken_by}
 use Rattle.lf_floor.specs.Steps.{setting}
 
 -- the boxes of the cells from that position on, but for the cell `own`
 abbrev pub beside_from : Frame → ℕ → ℕ → List Cell → List Placed
-beside_from f own n cells = filter (λ p. not (eqb p.own own)) (boxes_from f n (map (member_of f) cells))
+beside_from f own n cells = filter (λ p. not (eqb p.own own)) (boxes_from f n (map member_of cells))
 
 -- a verdict on the cell's trial is what every legalizer says
 pub broken_is : (l : Legalizer) (f : Frame) (team : ℕ) (cells : List Cell) (own : ℕ) (c : Cell) (mac : Macro) (place : Place) (others : List Placed) (found : Option Broken)
-    → VerdictIsOne → slice_get cells own ≡ Some c → mac ≡ macro_of f c.mac → others ≡ boxes_beside f (map (member_of f) cells) own → IsSized f mac
+    → VerdictIsOne → slice_get cells own ≡ Some c → mac ≡ macro_of f c.mac → others ≡ boxes_beside f (map member_of cells) own → IsSized f mac
     → IsVerdict (trial_of f team mac place others) found → found ≡ broken_at (setting l f team) cells own place
 broken_is l f team cells own c mac place others found one there is beside sized verdict =
     let same : found ≡ l.first_broken (trial_of f team mac place others) =

@@ -9,7 +9,7 @@ use Rattle.lf_rules.specs.Legality.{Trial, trial_of}
 use Rattle.lf_rules.specs.Legalizer.{Legalizer}
 use Rattle.lf_rules.specs.Choice.{spot_of}
 use Rattle.lf_rules.specs.declared.rule.Placed.{Placed}
-use Rattle.lf_rules.specs.Beside.{Member, with_box, boxes_beside}
+use Rattle.lf_rules.specs.Team.{Member, with_box, boxes_beside}
 use Rattle.lf_floor.specs.declared.cell.Cell.{Cell}
 use Rattle.lf_floor.specs.States.{FloorState, TeamState}
 
@@ -34,12 +34,12 @@ abbrev pub cell_named : List ℕ → List Cell → Option ℕ
 cell_named name cells = position (λ c. bytes_eq c.name name) cells
 
 -- the macro and the working place of a cell
-abbrev pub member_of : Frame → Cell → Member
-member_of f c = record { mac = macro_of f c.mac; place = option_map spot_of c.working }
+abbrev pub member_of : Cell → Member
+member_of c = record { mac = c.mac; place = option_map spot_of c.working }
 
 -- the box of a cell of that position, where it is placed
 abbrev pub box_if_placed : Frame → Cell → ℕ → List Placed
-box_if_placed f c own = with_box f own (macro_of f c.mac) (option_map spot_of c.working) []
+box_if_placed f c own = with_box f own c.mac (option_map spot_of c.working) []
 
 -- the cell's macro is one of the frame's, of whole size
 pub record IsSizedCell (f : Frame) (c : Cell) : Type 0 where
@@ -61,7 +61,7 @@ pub record Setting : Type 0 where
 -- the cell of that position, tried at a place beside the team's other placed cells
 abbrev pub trial_of_cell : Setting → List Cell → ℕ → Cell → Place → Trial
 trial_of_cell t cells own c place =
-    trial_of t.frame t.number (macro_of t.frame c.mac) place (boxes_beside t.frame (map (member_of t.frame) cells) own)
+    trial_of t.frame t.number (macro_of t.frame c.mac) place (boxes_beside t.frame (map member_of cells) own)
 
 abbrev pub broken_by : Option Cell → Setting → List Cell → ℕ → Place → Option Broken
 broken_by None t cells own place = None

@@ -3,7 +3,7 @@
 ghost use Rattle.std.specs.Prelude.{◌≡◌, ◌<◌, ◌≤◌, ◌++◌, All, length, IfOk, IfSome, OnOk, map};
 ghost use Rattle.lf_frame.specs.Boxes.{IsSized, macro_of};
 ghost use Rattle.lf_rules.specs.Legalizer.{Legalizer};
-ghost use Rattle.lf_rules.specs.Beside.{boxes_beside};
+ghost use Rattle.lf_rules.specs.Team.{boxes_beside};
 ghost use Rattle.lf_floor.specs.Teams.{cell_named, member_of, IsSizedCell, box_if_placed, broken_at};
 ghost use Rattle.lf_floor.specs.Steps.{setting};
 ghost use Rattle.lf_floor.specs.Outcomes.{moved, places_of, working_at};
@@ -70,7 +70,7 @@ fn others_of(
 ) -> Result<Vec<Placed>, AllocError>
     requires sized { All (IsSizedCell frame.now) cells.now }
     requires few { length cells.now ≤ 4000000 }
-    ensures { IfOk result (λ others. others.items ≡ boxes_beside frame.now (map (member_of frame.now) cells.now) own) }
+    ensures { IfOk result (λ others. others.items ≡ boxes_beside frame.now (map member_of cells.now) own) }
 {
     let mut others = Vec::new(alloc);
     for (number, cell) in cells.iter().enumerate() {

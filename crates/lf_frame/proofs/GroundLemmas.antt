@@ -15,12 +15,13 @@ use Rattle.lf_frame.specs.Ground.{InGround, StaysInGround}
 fences_one : (f : Frame) (s t : ℕ) (u v : Team) (x y : ℤ) → slice_get f.teams s ≡ Some u → slice_get f.teams t ≡ Some v →
     CoveredBy u.rects x y → CoveredBy v.rects x y → s ≡ t
 fences_one f s t u v x y is_u is_v first second = elim order [
-    | inl less ↦ absurd (apart s t u v less is_u is_v first second)
-    | inr rest ↦ elim rest [ inl same ↦ same | inr more ↦ absurd (apart t s v u more is_v is_u second first) ]
-  ]
+  | inl less ↦ absurd (apart s t u v less is_u is_v first second)
+  | inr rest ↦ elim rest [ inl same ↦ same | inr more ↦ absurd (apart t s v u more is_v is_u second first) ]
+]
   where
     order : (s < t) ⊎ ((s ≡ t) ⊎ (t < s))
     order = grind arith
+
     apart : (i j : ℕ) (a b : Team) → i < j → slice_get f.teams i ≡ Some a → slice_get f.teams j ≡ Some b → CoveredBy a.rects x y → CoveredBy b.rects x y → ⊥
     apart i j a b less is_a is_b covers_a covers_b =
         let here : get_or f.teams i a ≡ a = get_or_from_slice_get f.teams i a a is_a in

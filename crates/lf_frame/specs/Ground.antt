@@ -25,7 +25,7 @@ abbrev pub IsClear : Frame → Rect → Type 0
 IsClear f box = All (λ obstacle. SharesPoint box obstacle → ⊥) f.obstacles
 
 -- each point is ground of one team
-pub record GroundIsShared : Type 0 where
+pub record PointHasOneTeam : Type 0 where
   pub some_team : (f : Frame) (x y : ℤ) → (team : ℕ) × InGround f team x y
   pub one_team : (f : Frame) (s t : ℕ) (x y : ℤ) → InGround f s x y → InGround f t x y → s ≡ t
 

@@ -58,6 +58,6 @@ pub record StandsOn (f : Frame) (box : Rect) : Type 0 where
   pub stand : IsCarried f box
 
 -- a box has one height in sites, and where it has points one bottom row
-pub record StandsOnce : Type 0 where
+pub record StandingIsOne : Type 0 where
   pub height : (f : Frame) (box : Rect) (j k : ℕ) → IsSitesHigh f box j → IsSitesHigh f box k → j ≡ k
   pub bottom : (f : Frame) (box : Rect) (r s : Row) → box.x1 <ℤ box.x2 → IsBottomRow f box r → IsBottomRow f box s → r ≡ s

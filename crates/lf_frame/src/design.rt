@@ -35,8 +35,8 @@ fn is_whole(micros: i64, units: u32) -> bool
     }
 }
 
-/// Whether a cell may be of the macro.
-fn is_sized(frame: &Frame, mac: &Macro) -> bool
+/// Whether a cell may be of the macro: its size is whole in database units and above 0 both ways.
+pub fn is_sized(frame: &Frame, mac: &Macro) -> bool
     ensures { IsTrue result ↔ IsSized frame.now mac.now }
 {
     if !is_lef_size(&mac.size) {

@@ -1,8 +1,8 @@
 //! Laws on the definitions of boxes, ground and rows.
 
 ghost use Rattle.lf_frame.specs.Boxes.{TurnsBack};
-ghost use Rattle.lf_frame.specs.Ground.{GroundIsShared, TeamsStayApart};
-ghost use Rattle.lf_frame.specs.Standing.{StandsOnce};
+ghost use Rattle.lf_frame.specs.Ground.{PointHasOneTeam, TeamsStayApart};
+ghost use Rattle.lf_frame.specs.Standing.{StandingIsOne};
 
 /// A size that is turned twice alike is what it was.
 pub fn size_turns_back()
@@ -10,8 +10,8 @@ pub fn size_turns_back()
 {}
 
 /// Each point is ground of one team and no other.
-pub fn ground_is_shared()
-    ensures { GroundIsShared }
+pub fn point_has_one_team()
+    ensures { PointHasOneTeam }
 {}
 
 /// Boxes that stay in the grounds of different teams share no point.
@@ -20,6 +20,6 @@ pub fn teams_stay_apart()
 {}
 
 /// A box has one height in sites and one bottom row.
-pub fn box_stands_once()
-    ensures { StandsOnce }
+pub fn standing_is_one()
+    ensures { StandingIsOne }
 {}

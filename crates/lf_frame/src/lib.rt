@@ -13,9 +13,13 @@ mod parts;
 mod place;
 
 pub use assembled::{Parts, frame_of, loaded_of};
+pub use design::is_sized;
 pub use frame::Frame;
-pub use laws::{box_stands_once, ground_is_shared, size_turns_back, teams_stay_apart};
+pub use laws::{point_has_one_team, size_turns_back, standing_is_one, teams_stay_apart};
 pub use limits::Limits;
 pub use loaded::{Cell, Loaded};
 pub use parts::{Header, Macro, Row, Site, Team};
 pub use place::Place;
+
+#[cfg(test)]
+mod tests;

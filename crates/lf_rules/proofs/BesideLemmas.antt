@@ -7,7 +7,7 @@ use Rattle.lf_units.specs.declared.area.Rect.{Rect}
 use Rattle.lf_frame.specs.declared.frame.Frame.{Frame}
 use Rattle.lf_rules.specs.declared.rule.Placed.{Placed}
 use Rattle.lf_rules.specs.Choice.{Spot}
-use Rattle.lf_rules.specs.Tidy.{Member, box_in, with_box, boxes_from, boxes_beside}
+use Rattle.lf_rules.specs.Team.{Member, box_in, with_box, boxes_from, boxes_beside}
 
 -- what holds of each element that passes the test holds of the filtered list
 filtered_hold : {X : Type 0} (P : X → Type 0) (test : X → Bool) (xs : List X) → All (λ x. test x ≡ true → P x) xs → All P (filter test xs)

@@ -12,3 +12,4 @@ pub mod Choosing
 pub mod Legalizers
 pub mod BesideLemmas
 pub mod TidyLemmas
+pub mod DesignLemmas

@@ -15,7 +15,8 @@ use Rattle.lf_rules.specs.declared.rule.Broken.{Broken}
 use Rattle.lf_rules.specs.Legality.{Trial, Holds, IsTeamLegal, IsApart, box_of}
 use Rattle.lf_rules.specs.Choice.{Spot, Lifted, trial_at, IsLegalAt, IsChoice, anchor}
 use Rattle.lf_rules.specs.Legalizer.{Legalizer, IsVerdict}
-use Rattle.lf_rules.specs.Tidy.{Member, box_in, boxes_beside, lifted_from, StandsLegal, Tidied, Going, Stuck, target_of, sent_to, tidied_to, tidied_own, tidy_cell, tidied_from, tidied, point_of}
+use Rattle.lf_rules.specs.Team.{Member, box_in, boxes_beside, lifted_from, StandsLegal}
+use Rattle.lf_rules.specs.Tidy.{Tidied, Going, Stuck, target_of, sent_to, tidied_to, tidied_own, tidy_cell, tidied_from, tidied, point_of}
 use Rattle.lf_rules.proofs.BesideLemmas.{beside_hold, beside_each}
 
 -- rules 1 to 7 do not ask for the other cells
@@ -30,15 +31,15 @@ beside_others c others p legal apart Fence = legal Fence
 beside_others c others p legal apart Obstacle = legal Obstacle
 beside_others c others p legal apart Overlap = apart
 
-turn : (a b : Rect) → SharesPoint a b → SharesPoint b a
+pub turn : (a b : Rect) → SharesPoint a b → SharesPoint b a
 turn a b m = record { x = m.x; y = m.y; in_first = m.in_second; in_second = m.in_first }
 
 -- no other placed cell meets the box
-abbrev Clear : Frame → List Member → ℕ → Rect → Type 0
+abbrev pub Clear : Frame → List Member → ℕ → Rect → Type 0
 Clear f cells own box = (k : ℕ) (m : Member) (p : Spot) → (k ≡ own → ⊥) → slice_get cells k ≡ Some m → m.place ≡ Some p → SharesPoint box (box_in f m.mac p) → ⊥
 
 -- a legal place meets none
-clear_of_legal : (f : Frame) (team : ℕ) (cells : List Member) (own mac : ℕ) (p : Spot) → IsLegalAt (lifted_from f team cells own mac) p → Clear f cells own (box_in f mac p)
+pub clear_of_legal : (f : Frame) (team : ℕ) (cells : List Member) (own mac : ℕ) (p : Spot) → IsLegalAt (lifted_from f team cells own mac) p → Clear f cells own (box_in f mac p)
 clear_of_legal f team cells own mac p legal = beside_each (λ rect. SharesPoint (box_in f mac p) rect → ⊥) f cells own (legal Overlap)
 
 -- a place that was legal among other cells is so among these where it meets none
@@ -77,10 +78,10 @@ old_clear : (f : Frame) (cells : List Member) (own n mac : ℕ) (p : Spot) (box 
     Clear f (slice_set cells n (placed_at mac p)) own box
 old_clear f cells own n mac p box clear apart k m q differ there is meets = elim (order_of k n) [
   | inl same ↦
-    let here : slice_get (slice_set cells n (placed_at mac p)) n ≡ Some m = subst (λ (j : ℕ). slice_get (slice_set cells n (placed_at mac p)) j ≡ Some m) same there in
-    let new : m ≡ placed_at mac p = get_set cells n m (placed_at mac p) here in
-    let at : q ≡ p = some_one (sym is ∙ ap (λ (x : Member). x.place) new) in
-    apart (subst (λ (s : Spot). SharesPoint box (box_in f mac s)) at (subst (λ (j : ℕ). SharesPoint box (box_in f j q)) (ap (λ (x : Member). x.mac) new) meets))
+      let here : slice_get (slice_set cells n (placed_at mac p)) n ≡ Some m = subst (λ (j : ℕ). slice_get (slice_set cells n (placed_at mac p)) j ≡ Some m) same there in
+      let new : m ≡ placed_at mac p = get_set cells n m (placed_at mac p) here in
+      let at : q ≡ p = some_one (sym is ∙ ap (λ (x : Member). x.place) new) in
+      apart (subst (λ (s : Spot). SharesPoint box (box_in f mac s)) at (subst (λ (j : ℕ). SharesPoint box (box_in f j q)) (ap (λ (x : Member). x.mac) new) meets))
   | inr other ↦ clear k m q differ (sym (get_other cells n k (placed_at mac p) other) ∙ there) is meets
 ]
   where
@@ -102,8 +103,8 @@ gone f team n cells m p there legal done own less = elim (below_or_at own n less
       subst (λ (y : Member). MatchOption y.place ⊥ (λ s. IsLegalAt (lifted_from f team (slice_set cells n (placed_at m.mac p)) n y.mac) s)) (sym (get_set cells n x (placed_at m.mac p) here))
       (legal_of_clear f team cells (slice_set cells n (placed_at m.mac p)) n m.mac p legal (new_clear f cells n m.mac p (box_in f m.mac p) (clear_of_legal f team cells n m.mac p legal))))
   | inl before ↦
-    let other : own ≡ n → ⊥ = λ e. omega (arith, before, e) in
-    λ x here.
+      let other : own ≡ n → ⊥ = λ e. omega (arith, before, e) in
+      λ x here.
       let was : slice_get cells own ≡ Some x = sym (get_other cells n own (placed_at m.mac p) other) ∙ here in
       earlier other x was x.place refl (done own before x was)
 ]
@@ -146,8 +147,8 @@ length_set (x ∷ xs) (suc n) y = ap suc (length_set xs n y)
 sized_set : (f : Frame) (cells : List Member) (n : ℕ) (m : Member) (p : Spot) → slice_get cells n ≡ Some m → Sized f cells → Sized f (slice_set cells n (placed_at m.mac p))
 sized_set f cells n m p there sized k x here = elim (order_of k n) [
   | inl same ↦
-    let at : slice_get (slice_set cells n (placed_at m.mac p)) n ≡ Some x = subst (λ (j : ℕ). slice_get (slice_set cells n (placed_at m.mac p)) j ≡ Some x) same here in
-    subst (λ (y : Member). IsSized f (macro_of f y.mac)) (sym (get_set cells n x (placed_at m.mac p) at)) (sized n m there)
+      let at : slice_get (slice_set cells n (placed_at m.mac p)) n ≡ Some x = subst (λ (j : ℕ). slice_get (slice_set cells n (placed_at m.mac p)) j ≡ Some x) same here in
+      subst (λ (y : Member). IsSized f (macro_of f y.mac)) (sym (get_set cells n x (placed_at m.mac p) at)) (sized n m there)
   | inr other ↦ sized k x (sym (get_other cells n k (placed_at m.mac p) other) ∙ here)
 ]
 

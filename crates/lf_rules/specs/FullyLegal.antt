@@ -1,5 +1,5 @@
 -- When a whole design is legal: the movable cells of all teams together.
-use Rattle.std.specs.Prelude.{◌≤◌, ℕ, List, [], ◌∷◌, Option, None, All, AllPairs, IsSome}
+use Rattle.std.specs.Prelude.{◌≡◌, ℕ, ◌+◌, ◌≤◌, List, [], ◌∷◌, Option, None, Some, All, AllPairs, IsSome, slice_get, length, ◌<◌}
 use Rattle.std.specs.Option.{option_map, ForSome}
 use Rattle.lf_units.specs.Area.{SharesPoint}
 use Rattle.lf_frame.specs.declared.frame.Frame.{Frame}
@@ -7,8 +7,9 @@ use Rattle.lf_frame.specs.declared.loaded.Cell.{Cell}
 use Rattle.lf_frame.specs.declared.place.Place.{Place}
 use Rattle.lf_frame.specs.Boxes.{macro_of}
 use Rattle.lf_rules.specs.declared.rule.Rule.{Rule}
-use Rattle.lf_rules.specs.Legality.{Trial, Holds, number_of, box_of}
+use Rattle.lf_rules.specs.Legality.{Trial, Holds, number_of}
 use Rattle.lf_rules.specs.Choice.{Spot, spot_of}
+use Rattle.lf_rules.specs.Team.{Member, box_in, StandsLegal}
 
 -- a movable cell of a design: its team, the number of its macro, and its place where it has one
 pub record Standing : Type 0 where
@@ -24,10 +25,9 @@ alone_at f c p = record { frame = f; team = c.team; mac = macro_of f c.mac; x = 
 abbrev pub KeepsRules : Frame → Standing → Spot → Type 0
 KeepsRules f c p = (r : Rule) → number_of r ≤ 7 → Holds (alone_at f c p) r
 
--- the boxes of the two cells share no point
+-- where both cells are placed, their boxes share no point
 abbrev pub StandApart : Frame → Standing → Standing → Type 0
-StandApart f a b =
-    ForSome a.place (λ p. ForSome b.place (λ q. SharesPoint (box_of (alone_at f a p)) (box_of (alone_at f b q)) → ⊥))
+StandApart f a b = ForSome a.place (λ p. ForSome b.place (λ q. SharesPoint (box_in f a.mac p) (box_in f b.mac q) → ⊥))
 
 -- every movable cell is placed, rules 1 to 7 hold for each, and no two of any teams share a point
 pub record IsFullyLegal (f : Frame) (cells : List Standing) : Type 0 where
@@ -40,3 +40,25 @@ abbrev pub standing_at : List Cell → List (Option Place) → List Standing
 standing_at [] places = []
 standing_at (c ∷ cells) [] = record { team = c.team; mac = c.mac; place = None } ∷ standing_at cells []
 standing_at (c ∷ cells) (p ∷ places) = record { team = c.team; mac = c.mac; place = option_map spot_of p } ∷ standing_at cells places
+
+-- a cell of the team
+abbrev pub standing_in : ℕ → Member → Standing
+standing_in team m = record { team = team; mac = m.mac; place = m.place }
+
+-- the cells of a team, in front of the others
+abbrev pub with_team : ℕ → List Member → List Standing → List Standing
+with_team team [] rest = rest
+with_team team (m ∷ cells) rest = standing_in team m ∷ with_team team cells rest
+
+-- the cells of all teams, which are numbered from `team` on
+abbrev pub standing_from : ℕ → List (List Member) → List Standing
+standing_from team [] = []
+standing_from team (cells ∷ teams) = with_team team cells (standing_from (team + 1) teams)
+
+-- a design in which each team's cells are placed and team-legal is fully legal: what the teams have
+-- tested apart from each other holds of all together
+abbrev pub TeamsMakeLegal : Type 0
+TeamsMakeLegal =
+    (f : Frame) (teams : List (List Member)) →
+    ((team : ℕ) (cells : List Member) → slice_get teams team ≡ Some cells → (own : ℕ) → StandsLegal f team cells own) →
+    IsFullyLegal f (standing_from 0 teams)

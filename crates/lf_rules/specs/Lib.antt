@@ -2,6 +2,6 @@ pub mod Legality
 pub mod Solid
 pub mod Choice
 pub mod Legalizer
-pub mod FullyLegal
+pub mod Team
 pub mod Tidy
-pub mod Beside
+pub mod FullyLegal

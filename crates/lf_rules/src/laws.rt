@@ -1,6 +1,7 @@
 //! Laws on the definitions of a legal place.
 
 ghost use Rattle.lf_rules.specs.Choice.{ChoiceIsOne, KeyOrders, KeysDiffer, LegalInRange, LegalIsUpright};
+ghost use Rattle.lf_rules.specs.FullyLegal.{TeamsMakeLegal};
 ghost use Rattle.lf_rules.specs.Legalizer.{Legalizer, VerdictIsOne, VerdictIsThere};
 ghost use Rattle.lf_rules.specs.Tidy.{TidiedIsLegal};
 
@@ -47,4 +48,9 @@ pub fn legalizer_is_there()
 /// After a tidy in which no cell was stuck, every cell of the team is placed and team-legal.
 pub fn tidied_is_legal()
     ensures { TidiedIsLegal }
+{}
+
+/// A design in which each team's cells are placed and team-legal is fully legal.
+pub fn teams_make_legal()
+    ensures { TeamsMakeLegal }
 {}

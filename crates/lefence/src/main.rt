@@ -1,0 +1,41 @@
+//! The program `lefence`: it hands its words and the standard streams to `lf_app`.
+#![tactic(auto)]
+
+use std::alloc::{AllocError, Global};
+use std::io;
+use std::process::ExitCode;
+
+/// The exit status where the words name no task.
+const USAGE: u8 = 2;
+
+/// The words of the command line as texts.
+fn words_of(alloc: Global, words: &[String]) -> Result<Vec<&str>, AllocError> {
+    let mut texts = Vec::new(alloc);
+    for word in words {
+        texts.push(word.as_str())?;
+    }
+    Ok(texts)
+}
+
+fn main(rt: HostRuntime) -> io::Result<ExitCode> {
+    let words: Vec<String> = std::env::args(&rt)?.collect(rt.alloc())?;
+    let texts = words_of(rt.alloc(), words.as_slice())?;
+    match lf_app::command_of(texts.as_slice()) {
+        Ok(task) => {
+            let mut reader = rt.reader();
+            let mut writer = io::writer(&rt);
+            let mut faults = rt.stderr();
+            Ok(ExitCode::from(lf_app::perform(
+                &rt,
+                task,
+                &mut reader,
+                &mut writer,
+                &mut faults,
+            )))
+        }
+        Err(fault) => {
+            eprintln!(rt; "lefence: {fault}")?;
+            Ok(ExitCode::from(USAGE))
+        }
+    }
+}

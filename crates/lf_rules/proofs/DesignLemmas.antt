@@ -1,0 +1,106 @@
+-- A design in which each team's cells are placed and team-legal is fully legal.
+use Rattle.std.proofs.Common.{◌≡◌, ◌⊎◌, ℕ, zero, suc, ◌+◌, ◌<◌, ◌≤◌, List, [], ◌∷◌, Option, Some, None, inl, inr, refl, sym, ◌∙◌, ap, subst, arith, slice_get}
+use Rattle.std.specs.Prelude.{All, AllPairs, IsSome, MatchOption}
+use Rattle.std.specs.Option.{ForSome}
+use Rattle.std.proofs.lemmas.List.Elements.{All-nil, All-cons}
+use Rattle.std.proofs.lemmas.List.Kept.{AllPairs-cons}
+use Rattle.lf_units.specs.Area.{SharesPoint}
+use Rattle.lf_frame.specs.declared.frame.Frame.{Frame}
+use Rattle.lf_frame.proofs.GroundLemmas.{teams_apart}
+use Rattle.lf_rules.specs.declared.rule.Rule.{Rule}
+use Rattle.lf_rules.specs.declared.rule.Rule.TheVariants.{Height, Row as RowRule, Stand, Orient as OrientRule, Rail as RailRule, Fence, Obstacle, Overlap}
+use Rattle.lf_rules.specs.Legality.{number_of, Holds}
+use Rattle.lf_rules.specs.Choice.{Spot, IsLegalAt}
+use Rattle.lf_rules.specs.Team.{Member, box_in, lifted_from, StandsLegal}
+use Rattle.lf_rules.specs.FullyLegal.{Standing, alone_at, KeepsRules, StandApart, IsFullyLegal, standing_in, with_team, standing_from}
+use Rattle.lf_rules.proofs.TidyLemmas.{clear_of_legal}
+
+-- what holds of each cell of the team and of the others holds of all
+team_hold : (P : Standing → Type 0) (team : ℕ) (cells : List Member) (rest : List Standing) →
+    ((own : ℕ) (m : Member) → slice_get cells own ≡ Some m → P (standing_in team m)) → All P rest → All P (with_team team cells rest)
+team_hold P team [] rest h all = all
+team_hold P team (m ∷ cells) rest h all =
+    All-cons P (standing_in team m) (with_team team cells rest) (h 0 m refl) (team_hold P team cells rest (λ own x there. h (suc own) x there) all)
+
+teams_hold : (P : Standing → Type 0) (team : ℕ) (teams : List (List Member)) →
+    ((k : ℕ) (cells : List Member) → slice_get teams k ≡ Some cells → (own : ℕ) (m : Member) → slice_get cells own ≡ Some m → P (standing_in (team + k) m)) →
+    All P (standing_from team teams)
+teams_hold P team [] h = All-nil P
+teams_hold P team (cells ∷ teams) h =
+    team_hold P team cells (standing_from (team + 1) teams) (λ own m there. subst (λ (n : ℕ). P (standing_in n m)) (omega arith) (h 0 cells refl own m there))
+    (teams_hold P (team + 1) teams (λ k others is own m there. subst (λ (n : ℕ). P (standing_in n m)) (omega arith) (h (suc k) others is own m there)))
+
+-- what holds between each two cells of the team, of each of them and of the others among each other
+team_pairs : (R : Standing → Standing → Type 0) (team : ℕ) (cells : List Member) (rest : List Standing) →
+    ((i j : ℕ) (a b : Member) → i < j → slice_get cells i ≡ Some a → slice_get cells j ≡ Some b → R (standing_in team a) (standing_in team b)) →
+    ((i : ℕ) (a : Member) → slice_get cells i ≡ Some a → All (R (standing_in team a)) rest) →
+    AllPairs R rest → AllPairs R (with_team team cells rest)
+team_pairs R team [] rest within beyond pairs = pairs
+team_pairs R team (m ∷ cells) rest within beyond pairs =
+    AllPairs-cons R (standing_in team m) (with_team team cells rest)
+    (team_hold (R (standing_in team m)) team cells rest (λ own x there. within 0 (suc own) m x (omega arith) refl there) (beyond 0 m refl))
+    (team_pairs R team cells rest (λ i j a b less here there. within (suc i) (suc j) a b (omega arith) here there) (λ i a there. beyond (suc i) a there) pairs)
+
+-- a team-legal cell keeps rules 1 to 7 alone
+keeps : (f : Frame) (team : ℕ) (cells : List Member) (own : ℕ) (m : Member) (p : Spot) → IsLegalAt (lifted_from f team cells own m.mac) p → KeepsRules f (standing_in team m) p
+keeps f team cells own m p legal Height few = legal Height
+keeps f team cells own m p legal RowRule few = legal RowRule
+keeps f team cells own m p legal Stand few = legal Stand
+keeps f team cells own m p legal OrientRule few = legal OrientRule
+keeps f team cells own m p legal RailRule few = legal RailRule
+keeps f team cells own m p legal Fence few = legal Fence
+keeps f team cells own m p legal Obstacle few = legal Obstacle
+keeps f team cells own m p legal Overlap few = absurd (omega arith)
+
+-- a cell that stands legal is placed, and legal at its place
+placed_there : (P : Spot → Type 0) (place : Option Spot) → MatchOption place ⊥ P → IsSome place
+placed_there P None stands = absurd stands
+placed_there P (Some p) stands = refl
+
+legal_there : (P : Spot → Type 0) (place : Option Spot) → MatchOption place ⊥ P → (p : Spot) → place ≡ Some p → P p
+legal_there P None stands p is = absurd stands
+legal_there P (Some q) stands p is = let same : q ≡ p = cc in subst P same stands
+
+-- the design of the teams from `team` on, each of whose cells stands legal
+abbrev TeamsLegal : Frame → ℕ → List (List Member) → Type 0
+TeamsLegal f team teams = (k : ℕ) (cells : List Member) → slice_get teams k ≡ Some cells → (own : ℕ) → StandsLegal f (team + k) cells own
+
+legal_at : (f : Frame) (team : ℕ) (cells : List Member) (own : ℕ) (m : Member) (p : Spot) → StandsLegal f team cells own → slice_get cells own ≡ Some m → m.place ≡ Some p →
+    IsLegalAt (lifted_from f team cells own m.mac) p
+legal_at f team cells own m p stands there is = legal_there (λ s. IsLegalAt (lifted_from f team cells own m.mac) s) m.place (stands m there) p is
+
+-- two cells of one team stand apart
+one_team : (f : Frame) (team : ℕ) (cells : List Member) (i j : ℕ) (a b : Member) → i < j → ((own : ℕ) → StandsLegal f team cells own) →
+    slice_get cells i ≡ Some a → slice_get cells j ≡ Some b → StandApart f (standing_in team a) (standing_in team b)
+one_team f team cells i j a b less stands here there p is_p q is_q meet =
+    clear_of_legal f team cells i a.mac p (legal_at f team cells i a p (stands i) here is_p) j b q (λ e. omega (arith, less, e)) there is_q meet
+
+-- two cells of different teams stand apart
+two_teams : (f : Frame) (s t : ℕ) (first second : List Member) (i j : ℕ) (a b : Member) → (s ≡ t → ⊥) → StandsLegal f s first i → StandsLegal f t second j →
+    slice_get first i ≡ Some a → slice_get second j ≡ Some b → StandApart f (standing_in s a) (standing_in t b)
+two_teams f s t first second i j a b differ stands_a stands_b here there p is_p q is_q meet =
+    teams_apart f s t (box_in f a.mac p) (box_in f b.mac q) differ (legal_at f s first i a p stands_a here is_p Fence) (legal_at f t second j b q stands_b there is_q Fence) meet
+
+teams_pairs : (f : Frame) (team : ℕ) (teams : List (List Member)) → TeamsLegal f team teams → AllPairs (λ a b. StandApart f a b) (standing_from team teams)
+teams_pairs f team [] legal = λ i j d less within. absurd (omega arith)
+teams_pairs f team (cells ∷ teams) legal =
+    team_pairs (λ a b. StandApart f a b) team cells (standing_from (team + 1) teams)
+    (λ i j a b less here there. one_team f team cells i j a b less own_legal here there)
+    (λ i a here. teams_hold (λ b. StandApart f (standing_in team a) b) (team + 1) teams
+    (λ k others is own m there. two_teams f team ((team + 1) + k) cells others i own a m (λ e. omega (arith, e)) (own_legal i) (later k others is own) here there))
+    (teams_pairs f (team + 1) teams later)
+  where
+    own_legal : (own : ℕ) → StandsLegal f team cells own
+    own_legal own = subst (λ (n : ℕ). StandsLegal f n cells own) (omega arith) (legal 0 cells refl own)
+
+    later : TeamsLegal f (team + 1) teams
+    later k others is own = subst (λ (n : ℕ). StandsLegal f n others own) (omega arith) (legal (suc k) others is own)
+
+pub teams_legal : (f : Frame) (teams : List (List Member)) → ((team : ℕ) (cells : List Member) → slice_get teams team ≡ Some cells → (own : ℕ) → StandsLegal f team cells own) →
+    IsFullyLegal f (standing_from 0 teams)
+teams_legal f teams legal = record {
+  placed = teams_hold (λ c. IsSome c.place) 0 teams (λ k cells is own m there. placed_there (λ s. IsLegalAt (lifted_from f k cells own m.mac) s) m.place (legal k cells is own m there));
+  kept = teams_hold (λ c. ForSome c.place (λ p. KeepsRules f c p)) 0 teams
+      (λ k cells is own m there p is_p. subst (λ (n : ℕ). KeepsRules f (standing_in n m) p) (omega arith) (keeps f k cells own m p (legal_at f k cells own m p (legal k cells is own) there is_p)));
+  apart = teams_pairs f 0 teams (λ k cells is own. subst (λ (n : ℕ). StandsLegal f n cells own) (omega arith) (legal k cells is own));
+}

@@ -1,0 +1,39 @@
+-- The cells of a team, and a cell beside the others.
+use Rattle.std.specs.Prelude.{◌≡◌, ◌==◌, ℕ, ◌+◌, List, [], ◌∷◌, filter, not, Option, Some, None, slice_get, MatchOption}
+use Rattle.lf_units.specs.declared.area.Rect.{Rect}
+use Rattle.lf_frame.specs.declared.frame.Frame.{Frame}
+use Rattle.lf_frame.specs.Boxes.{size_of, turned, box_at, macro_of}
+use Rattle.lf_rules.specs.declared.rule.Placed.{Placed}
+use Rattle.lf_rules.specs.Choice.{Spot, Lifted, IsLegalAt}
+
+-- a cell of a team: the number of its macro, and its place where it has one
+pub record Member : Type 0 where
+  pub mac : ℕ
+  pub place : Option Spot
+
+-- the box of the macro of this number at a place
+abbrev pub box_in : Frame → ℕ → Spot → Rect
+box_in f mac p = box_at (turned (size_of f (macro_of f mac)) p.orient) p.x p.y
+
+-- a cell's box, bearing its number, in front of the others; an unplaced cell has none
+abbrev pub with_box : Frame → ℕ → ℕ → Option Spot → List Placed → List Placed
+with_box f own mac None rest = rest
+with_box f own mac (Some p) rest = record { own = own; rect = box_in f mac p } ∷ rest
+
+-- the boxes of the placed cells, which are numbered from `own` on
+abbrev pub boxes_from : Frame → ℕ → List Member → List Placed
+boxes_from f own [] = []
+boxes_from f own (m ∷ cells) = with_box f own m.mac m.place (boxes_from f (own + 1) cells)
+
+-- the boxes of the team's placed cells, in loading order, but for the cell of this number
+abbrev pub boxes_beside : Frame → List Member → ℕ → List Placed
+boxes_beside f cells own = filter (λ box. not (box.own == own)) (boxes_from f 0 cells)
+
+-- the cell of this number and macro, taken away from its place among the team's cells
+abbrev pub lifted_from : Frame → ℕ → List Member → ℕ → ℕ → Lifted
+lifted_from f team cells own mac = record { frame = f; team = team; mac = macro_of f mac; others = boxes_beside f cells own }
+
+-- the cell of this number is placed, and team-legal among the team's other cells
+abbrev pub StandsLegal : Frame → ℕ → List Member → ℕ → Type 0
+StandsLegal f team cells own =
+    (m : Member) → slice_get cells own ≡ Some m → MatchOption m.place ⊥ (λ p. IsLegalAt (lifted_from f team cells own m.mac) p)
