@@ -25,13 +25,7 @@ fn main(rt: HostRuntime) -> io::Result<ExitCode> {
             let mut reader = rt.reader();
             let mut writer = io::writer(&rt);
             let mut faults = rt.stderr();
-            Ok(ExitCode::from(lf_app::perform(
-                &rt,
-                task,
-                &mut reader,
-                &mut writer,
-                &mut faults,
-            )))
+            Ok(ExitCode::from(lf_app::perform(&rt, task, &mut reader, &mut writer, &mut faults)))
         }
         Err(fault) => {
             eprintln!(rt; "lefence: {fault}")?;

@@ -1,5 +1,7 @@
 //! The built-in design W: four rows, two fences, a blockage and five cells, all unplaced.
 
+ghost use Rattle.std.specs.Prelude.{◌≡◌, IfOk, IfSome};
+
 use lf_frame::{Cell, Header, Limits, Loaded, Macro, Parts, Row, Site, Team, frame_of, loaded_of};
 use lf_orient::{Orient, Rail, Symmetry};
 use lf_units::{Name, Point, Rect, Sequence};
@@ -110,7 +112,9 @@ fn header(alloc: Global) -> Result<Header, AllocError> {
     })
 }
 
-fn parts(alloc: Global, limits: Limits) -> Result<Parts, AllocError> {
+fn parts(alloc: Global, limits: Limits) -> Result<Parts, AllocError>
+    ensures { IfOk result (λ parts. parts.limits ≡ limits) }
+{
     Ok(Parts {
         site: site(alloc)?,
         rows: rows(alloc)?,
@@ -149,8 +153,10 @@ fn cells(alloc: Global) -> Result<Sequence<Cell>, AllocError> {
     Ok(cells)
 }
 
-/// The design W on these limits; a test shows that it is one.
-pub fn design_w(alloc: Global, limits: Limits) -> Result<Option<Loaded>, AllocError> {
+/// The design W on these limits; that it is one, a test shows.
+pub fn design_w(alloc: Global, limits: Limits) -> Result<Option<Loaded>, AllocError>
+    ensures { IfOk result (λ found. IfSome found (λ design. design.frame.limits ≡ limits)) }
+{
     let parts = parts(alloc, limits)?;
     let cells = cells(alloc)?;
     match frame_of(parts) {

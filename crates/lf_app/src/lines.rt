@@ -76,11 +76,7 @@ fn team_of<'a>(request: &Request<'a>) -> &'a [u8]
 }
 
 /// Puts the text that answers a line, given without its line end; a line over the limit is none.
-fn answer_line(
-    floor: &mut Floor,
-    line: Option<&[u8]>,
-    text: &mut Vec<u8>,
-) -> Result<(), AllocError>
+fn answer_line(floor: &mut Floor, line: Option<&[u8]>, text: &mut Vec<u8>) -> Result<(), AllocError>
     ensures { (l : Legalizer) → OnOk result (AnswersLine l floor.old (option_map (λ bytes. bytes.now) line.entry) text.old.items text.new.items floor.new) }
 {
     let Some(bytes) = line else {

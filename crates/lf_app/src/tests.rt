@@ -10,13 +10,7 @@ fn answers(rt: &HostRuntime, input: &str, output: &str) -> Result<bool, Fail> {
     let mut reader = input.as_bytes();
     let mut written = Vec::new(rt.alloc());
     let mut faults = Vec::new(rt.alloc());
-    let status = perform(
-        rt,
-        Task::Demo,
-        &mut reader,
-        &mut written,
-        &mut faults,
-    );
+    let status = perform(rt, Task::Demo, &mut reader, &mut written, &mut faults);
     Ok(status == 0 && faults.is_empty() && written.as_slice() == output.as_bytes())
 }
 
@@ -61,7 +55,13 @@ fn a_cell_of_two_rows_stands_on_its_rail(rt: HostRuntime) -> Result<(), Fail> {
 #[test]
 fn other_teams_cells_are_unknown(rt: HostRuntime) -> Result<(), Fail> {
     let input = "open A\nplace A 0 b1 0 0 N\nplace A 0 zz 0 0 N\nwhere A 0 a1\n";
-    assert!(rt; answers(&rt, input, "ok 0 0\nno 5 NoCell\nno 5 NoCell\nno 6 Unplaced a1\n")?);
+    assert!(rt;
+        answers(
+            &rt,
+            input,
+            "ok 0 0\nno 5 NoCell\nno 5 NoCell\nno 6 Unplaced a1\n"
+        )?
+    );
     Ok(())
 }
 
@@ -108,7 +108,10 @@ fn revisions_are_spent(rt: HostRuntime) -> Result<(), Fail> {
     let mut written = Vec::new(rt.alloc());
     let ending = answer_lines(rt.alloc(), &mut floor, &mut reader, &mut written);
     assert_eq!(rt; ending, Ending::Done);
-    assert_eq!(rt; written.as_slice(), b"ok 0 0\nok 1\nno 11 RevisionsSpent\n".as_slice());
+    assert_eq!(rt;
+        written.as_slice(),
+        b"ok 0 0\nok 1\nno 11 RevisionsSpent\n".as_slice()
+    );
     Ok(())
 }
 
@@ -152,5 +155,8 @@ fn words_name_the_demo(rt: HostRuntime) {
     assert_eq!(rt; command_of(&["lefence"]), Ok(Task::Demo));
     assert_eq!(rt; command_of(&["lefence", "demo"]), Ok(Task::Demo));
     assert_eq!(rt; command_of(&["lefence", "verify"]), Err(UsageFault::Usage));
-    assert_eq!(rt; command_of(&["lefence", "demo", "more"]), Err(UsageFault::Usage));
+    assert_eq!(rt;
+        command_of(&["lefence", "demo", "more"]),
+        Err(UsageFault::Usage)
+    );
 }

@@ -3,3 +3,4 @@ pub mod LengthLemmas
 pub mod Wide
 pub mod StandingLemmas
 pub mod GroundLemmas
+pub mod CellLemmas

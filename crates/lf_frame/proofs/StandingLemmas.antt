@@ -1,11 +1,11 @@
 -- A box has one height in sites and one bottom row.
-use Rattle.std.proofs.Common.{◌≡◌, ℕ, ℤ, pos, negsuc, ◌*◌, ◌<◌, ◌/◌, ◌*ℤ◌, ◌<ℤ◌, ◌⊎◌, inl, inr, length, get_or, refl, sym, ◌∙◌, ap, arith}
+use Rattle.std.proofs.Common.{◌≡◌, ℕ, ℤ, pos, negsuc, ◌*◌, ◌<◌, ◌/◌, ◌*ℤ◌, ◌<ℤ◌, ◌⊎◌, inl, inr, get_or, sym, ◌∙◌, ap, arith}
 use Rattle.std.specs.Prelude.{Contains}
 use Rattle.std.proofs.lemmas.Int.{ints}
 use Rattle.std.proofs.lemmas.List.{get_or_default}
 use Rattle.std.proofs.Math.Nat.{mul-div_left}
 use Rattle.lf_units.specs.declared.area.Rect.{Rect}
-use Rattle.lf_units.specs.Area.{Covers, SharesPoint}
+use Rattle.lf_units.specs.Area.{SharesPoint}
 use Rattle.lf_frame.specs.declared.frame.Frame.{Frame}
 use Rattle.lf_frame.specs.declared.parts.Row.{Row}
 use Rattle.lf_frame.specs.Rows.{row_area}

@@ -4,7 +4,7 @@ use Rattle.std.specs.Option.{ForSome}
 use Rattle.lf_frame.specs.declared.frame.Frame.{Frame}
 use Rattle.lf_frame.specs.declared.loaded.Cell.{Cell}
 use Rattle.lf_frame.specs.Bounds.{IsName}
-use Rattle.lf_frame.specs.Boxes.{IsSized}
+use Rattle.lf_frame.specs.Boxes.{IsSized, macro_of}
 use Rattle.lf_frame.specs.Ground.{IsTeam}
 
 -- the cell's team and macro are there, the macro is whole, and the name is one
@@ -13,6 +13,10 @@ pub record IsCell (f : Frame) (c : Cell) : Type 0 where
   pub mac_known : c.mac < length f.macros
   pub mac_sized : ForSome (slice_get f.macros c.mac) (λ m. IsSized f m)
   pub name_printed : IsName c.name
+
+-- the macro of a cell's number is whole in database units
+abbrev pub CellIsSized : Type 0
+CellIsSized = (f : Frame) (c : Cell) → IsCell f c → IsSized f (macro_of f c.mac)
 
 -- no two cells bear one name
 abbrev pub CellsNamed : List Cell → Type 0

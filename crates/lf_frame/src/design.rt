@@ -3,7 +3,7 @@
 ghost use Rattle.std.specs.Prelude.{◌≡◌, ◌≢◌, ◌↔◌, ℕ, ℤ, pos, ◌<◌, ◌≤◌, ◌<ℤ◌, All, IsTrue, length};
 ghost use Rattle.lf_frame.specs.Bounds.{IsLefLength, IsPrinted, IsName};
 ghost use Rattle.lf_units.specs.Length.{IsLength, in_dbu};
-ghost use Rattle.lf_frame.specs.Boxes.{IsSized};
+ghost use Rattle.lf_frame.specs.Boxes.{IsSized, macro_of};
 ghost use Rattle.lf_frame.specs.Design.{IsCell, CellsNamed, ComponentsRise, MakeDesign};
 
 use crate::checked::is_lef_size;
@@ -33,6 +33,14 @@ fn is_whole(micros: i64, units: u32) -> bool
         Some(length) => 0 < length,
         None => false,
     }
+}
+
+/// The macro of this number, as cells bear it.
+pub fn mac_at(frame: &Frame, number: usize) -> &Macro
+    requires { number < length frame.now.macros }
+    ensures { result.now ≡ macro_of frame.now number }
+{
+    &frame.macros.as_slice()[number]
 }
 
 /// Whether a cell may be of the macro: its size is whole in database units and above 0 both ways.

@@ -1,6 +1,7 @@
 //! Laws on the definitions of boxes, ground and rows.
 
 ghost use Rattle.lf_frame.specs.Boxes.{TurnsBack};
+ghost use Rattle.lf_frame.specs.Design.{CellIsSized};
 ghost use Rattle.lf_frame.specs.Ground.{PointHasOneTeam, TeamsStayApart};
 ghost use Rattle.lf_frame.specs.Standing.{StandingIsOne};
 
@@ -22,4 +23,9 @@ pub fn teams_stay_apart()
 /// A box has one height in sites and one bottom row.
 pub fn standing_is_one()
     ensures { StandingIsOne }
+{}
+
+/// The macro of a cell's number is whole in database units.
+pub fn cell_is_sized()
+    ensures { CellIsSized }
 {}

@@ -13,9 +13,11 @@ mod parts;
 mod place;
 
 pub use assembled::{Parts, frame_of, loaded_of};
-pub use design::is_sized;
+pub use design::{is_sized, mac_at};
 pub use frame::Frame;
-pub use laws::{point_has_one_team, size_turns_back, standing_is_one, teams_stay_apart};
+pub use laws::{
+    cell_is_sized, point_has_one_team, size_turns_back, standing_is_one, teams_stay_apart,
+};
 pub use limits::Limits;
 pub use loaded::{Cell, Loaded};
 pub use parts::{Header, Macro, Row, Site, Team};

@@ -1,4 +1,5 @@
-//! Orientations of cells and rows, the symmetries that allow them, and the supply rail at the bottom.
+//! Orientations of cells and rows, the symmetries that allow them, and the supply rail at the
+//! bottom.
 #![tactic(auto)]
 
 ghost use Rattle.std.specs.Prelude.{◌≡◌, ◌↔◌, IsTrue};
@@ -6,6 +7,9 @@ ghost use Rattle.lf_orient.specs.Orientation.{flipped_over_x, flipped_over_y, is
 
 /// The eight orientations of a DEF text: north, west, south, east, and each of them flipped
 /// (LEF/DEF 5.8, DEF COMPONENTS and ROW).
+///
+/// N, S, FN and FS stand upright. W, E, FW and FE lie on their side: cells may be loaded so, and
+/// are never legal.
 #[derive(Clone, Copy, Debug, PartialEq, Eq)]
 pub enum Orient {
     N,
@@ -18,23 +22,27 @@ pub enum Orient {
     FE,
 }
 
-/// The axes over which a macro or a site may be flipped (LEF/DEF 5.8, LEF SYMMETRY of MACRO and SITE).
+/// The axes over which a macro or a site may be flipped (LEF/DEF 5.8, LEF MACRO and LEF SITE,
+/// SYMMETRY).
 ///
 /// R90 plays no part: a cell that lies on its side is never legal.
 #[derive(Clone, Copy, Debug, PartialEq, Eq)]
 pub struct Symmetry {
+    /// SYMMETRY X: may be flipped over the x axis, as N to FS.
     pub x: bool,
+    /// SYMMETRY Y: may be flipped over the y axis, as N to FN.
     pub y: bool,
 }
 
-/// The supply rail along the bottom of a row or a macro.
+/// The supply rail along the bottom of a row or a macro: its ground pin's (USE GROUND), or its
+/// power pin's (USE POWER; LEF/DEF 5.8, LEF PIN).
 #[derive(Clone, Copy, Debug, PartialEq, Eq)]
 pub enum Rail {
     Ground,
     Power,
 }
 
-/// Whether a macro of this symmetry may stand in this orientation.
+/// Whether a macro of this symmetry may stand in this orientation: as it is drawn it always may.
 pub fn is_candidate(symmetry: Symmetry, orient: Orient) -> bool
     ensures { result ≡ is_allowed symmetry orient }
 {
@@ -47,7 +55,7 @@ pub fn is_candidate(symmetry: Symmetry, orient: Orient) -> bool
     }
 }
 
-/// The orientation flipped over the x axis.
+/// The orientation flipped over the x axis; one that lies on its side plays no part, and is left.
 fn over_x(orient: Orient) -> Orient
     ensures { result ≡ flipped_over_x orient }
 {
@@ -60,7 +68,7 @@ fn over_x(orient: Orient) -> Orient
     }
 }
 
-/// The orientation flipped over the y axis.
+/// The orientation flipped over the y axis; one that lies on its side plays no part, and is left.
 fn over_y(orient: Orient) -> Orient
     ensures { result ≡ flipped_over_y orient }
 {
@@ -73,7 +81,8 @@ fn over_y(orient: Orient) -> Orient
     }
 }
 
-/// Whether a site of this symmetry takes the two orientations for one.
+/// Whether a site of this symmetry takes the two orientations for one, so that a cell of the one
+/// may stand in a row of the other.
 pub fn equal_under(symmetry: Symmetry, a: Orient, b: Orient) -> bool
     ensures { IsTrue result ↔ EqualUnder symmetry a b }
 {
@@ -94,7 +103,7 @@ pub fn row_rail(orient: Orient) -> Option<Rail>
     }
 }
 
-/// The other rail.
+/// The other rail: rails take turns from row to row, and from one side of a row to the other.
 pub fn opposite(rail: Rail) -> Rail
     ensures { result ≡ other_rail rail }
 {
@@ -103,3 +112,6 @@ pub fn opposite(rail: Rail) -> Rail
         Rail::Power => Rail::Ground,
     }
 }
+
+#[cfg(test)]
+mod tests;

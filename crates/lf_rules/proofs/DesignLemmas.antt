@@ -1,18 +1,15 @@
 -- A design in which each team's cells are placed and team-legal is fully legal.
-use Rattle.std.proofs.Common.{◌≡◌, ◌⊎◌, ℕ, zero, suc, ◌+◌, ◌<◌, ◌≤◌, List, [], ◌∷◌, Option, Some, None, inl, inr, refl, sym, ◌∙◌, ap, subst, arith, slice_get}
+use Rattle.std.proofs.Common.{◌≡◌, ℕ, suc, ◌+◌, ◌<◌, List, [], ◌∷◌, Option, Some, None, refl, subst, arith, slice_get}
 use Rattle.std.specs.Prelude.{All, AllPairs, IsSome, MatchOption}
 use Rattle.std.specs.Option.{ForSome}
 use Rattle.std.proofs.lemmas.List.Elements.{All-nil, All-cons}
 use Rattle.std.proofs.lemmas.List.Kept.{AllPairs-cons}
-use Rattle.lf_units.specs.Area.{SharesPoint}
 use Rattle.lf_frame.specs.declared.frame.Frame.{Frame}
 use Rattle.lf_frame.proofs.GroundLemmas.{teams_apart}
-use Rattle.lf_rules.specs.declared.rule.Rule.{Rule}
 use Rattle.lf_rules.specs.declared.rule.Rule.TheVariants.{Height, Row as RowRule, Stand, Orient as OrientRule, Rail as RailRule, Fence, Obstacle, Overlap}
-use Rattle.lf_rules.specs.Legality.{number_of, Holds}
 use Rattle.lf_rules.specs.Choice.{Spot, IsLegalAt}
 use Rattle.lf_rules.specs.Team.{Member, box_in, lifted_from, StandsLegal}
-use Rattle.lf_rules.specs.FullyLegal.{Standing, alone_at, KeepsRules, StandApart, IsFullyLegal, standing_in, with_team, standing_from}
+use Rattle.lf_rules.specs.FullyLegal.{Standing, KeepsRules, StandApart, IsFullyLegal, standing_in, with_team, standing_from}
 use Rattle.lf_rules.proofs.TidyLemmas.{clear_of_legal}
 
 -- what holds of each cell of the team and of the others holds of all

@@ -13,3 +13,4 @@ pub mod Legalizers
 pub mod BesideLemmas
 pub mod TidyLemmas
 pub mod DesignLemmas
+pub mod KeptLemmas

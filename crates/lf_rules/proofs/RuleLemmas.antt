@@ -1,21 +1,17 @@
 -- The rules of a trial, from what is known at one height and one bottom row.
-use Rattle.std.proofs.Common.{◌≡◌, ℕ, ℤ, pos, negsuc, ◌*◌, ◌<◌, ◌%◌, ◌/◌, ◌*ℤ◌, ◌<ℤ◌, ◌⊎◌, inl, inr, length, get_or, Some, None, refl, sym, ◌∙◌, ap, subst, arith, IsTrue}
-use Rattle.std.specs.Prelude.{All, Contains}
-use Rattle.std.proofs.lemmas.Int.{ints}
-use Rattle.std.proofs.lemmas.List.{get_or_default}
+use Rattle.std.proofs.Common.{◌≡◌, ℕ, ℤ, ◌<◌, ◌%◌, ◌<ℤ◌, length, get_or, Some, None, refl, sym, subst, arith, IsTrue}
+use Rattle.std.specs.Prelude.{All}
 use Rattle.std.proofs.lemmas.Option.{slice_get_within, get_or_from_slice_get}
-use Rattle.std.proofs.Math.Nat.{mul-div_left}
 use Rattle.lf_units.specs.declared.area.Rect.{Rect}
 use Rattle.lf_units.specs.Area.{Covers, SharesPoint}
 use Rattle.lf_orient.specs.Orientation.{is_allowed, EqualUnder, rail_below}
 use Rattle.lf_frame.specs.declared.frame.Frame.{Frame}
 use Rattle.lf_frame.specs.declared.parts.Row.{Row}
-use Rattle.lf_frame.specs.Rows.{row_area}
 use Rattle.lf_frame.proofs.StandingLemmas.{height_one, bottom_one}
 use Rattle.lf_rules.specs.declared.rule.Rule.{Rule}
 use Rattle.lf_rules.specs.declared.rule.Rule.TheVariants.{Height, Row as RowRule, Stand, Orient as OrientRule, Rail as RailRule, Fence, Obstacle, Overlap}
 use Rattle.lf_rules.specs.Legality.{IsFirstMet, Trial, box_of, Holds, number_of, IsTeamLegal, IsFirstBroken}
-use Rattle.lf_frame.specs.Standing.{IsSitesHigh, IsBottomRow, IsRowOfBox, Carries}
+use Rattle.lf_frame.specs.Standing.{IsSitesHigh, IsBottomRow, Carries}
 use Rattle.lf_frame.specs.Ground.{InGround}
 
 -- what holds at the height and the bottom row holds at each height and bottom row there are

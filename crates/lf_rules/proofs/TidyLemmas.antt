@@ -7,12 +7,11 @@ use Rattle.lf_units.specs.declared.area.Rect.{Rect}
 use Rattle.lf_units.specs.declared.area.Point.{Point}
 use Rattle.lf_units.specs.Area.{SharesPoint}
 use Rattle.lf_frame.specs.declared.frame.Frame.{Frame}
-use Rattle.lf_frame.specs.declared.parts.Macro.{Macro}
 use Rattle.lf_frame.specs.Boxes.{IsSized, macro_of}
 use Rattle.lf_rules.specs.declared.rule.Rule.TheVariants.{Height, Row as RowRule, Stand, Orient as OrientRule, Rail as RailRule, Fence, Obstacle, Overlap}
 use Rattle.lf_rules.specs.declared.rule.Placed.{Placed}
 use Rattle.lf_rules.specs.declared.rule.Broken.{Broken}
-use Rattle.lf_rules.specs.Legality.{Trial, Holds, IsTeamLegal, IsApart, box_of}
+use Rattle.lf_rules.specs.Legality.{IsApart}
 use Rattle.lf_rules.specs.Choice.{Spot, Lifted, trial_at, IsLegalAt, IsChoice, anchor}
 use Rattle.lf_rules.specs.Legalizer.{Legalizer, IsVerdict}
 use Rattle.lf_rules.specs.Team.{Member, box_in, boxes_beside, lifted_from, StandsLegal}

@@ -1,5 +1,5 @@
 -- When a whole design is legal: the movable cells of all teams together.
-use Rattle.std.specs.Prelude.{◌≡◌, ℕ, ◌+◌, ◌≤◌, List, [], ◌∷◌, Option, None, Some, All, AllPairs, IsSome, slice_get, length, ◌<◌}
+use Rattle.std.specs.Prelude.{◌≡◌, ℕ, ◌+◌, ◌≤◌, List, [], ◌∷◌, Option, None, Some, All, AllPairs, IsSome, slice_get}
 use Rattle.std.specs.Option.{option_map, ForSome}
 use Rattle.lf_units.specs.Area.{SharesPoint}
 use Rattle.lf_frame.specs.declared.frame.Frame.{Frame}

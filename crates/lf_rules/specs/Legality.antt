@@ -52,8 +52,8 @@ abbrev pub IsApart : Trial → Type 0
 IsApart t = All (λ other. SharesPoint (box_of t) other.rect → ⊥) t.others
 
 -- The rule holds. What speaks of the height and the bottom row speaks of every one there is, and a box
--- has one of each at most; so where a lesser rule fails, rules 3 and 5 say nothing, and rule 4 asks
--- for the macro's orientation alone. No first broken rule depends on that.
+-- has one of each at most. So where rule 1 or 2 fails, rules 3 and 5 say nothing, and rule 4 asks for
+-- an orientation of the macro alone; the first broken rule is the lesser one in any case.
 abbrev pub Holds : Trial → Rule → Type 0
 Holds t Height = HasHeight t.frame (box_of t)
 Holds t RowRule = HasBottomRow t.frame (box_of t)

@@ -1,5 +1,5 @@
 -- Tidying a team, cell by cell in loading order.
-use Rattle.std.specs.Prelude.{◌≡◌, ℕ, zero, suc, ◌+◌, List, All, length, Option, Some, None, slice_get, slice_set}
+use Rattle.std.specs.Prelude.{◌≡◌, ℕ, zero, suc, ◌+◌, List, All, length, map, Option, Some, None, slice_get, slice_set}
 use Rattle.std.specs.Option.{option_map}
 use Rattle.lf_units.specs.declared.area.Point.{Point}
 use Rattle.lf_frame.specs.declared.frame.Frame.{Frame}
@@ -58,3 +58,9 @@ TidiedIsLegal =
     (l : Legalizer) (f : Frame) (team : ℕ) (cells new : List Member) (moved : ℕ) →
     All (λ m. IsSized f (macro_of f m.mac)) cells →
     tidied l f team cells ≡ Going new moved → (own : ℕ) → StandsLegal f team new own
+
+-- tidying moves cells alone: their number, order and macros stay
+abbrev pub TidiedKeepsCells : Type 0
+TidiedKeepsCells =
+    (l : Legalizer) (f : Frame) (team : ℕ) (cells new : List Member) (moved : ℕ) →
+    tidied l f team cells ≡ Going new moved → map (λ m. m.mac) new ≡ map (λ m. m.mac) cells

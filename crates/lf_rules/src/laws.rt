@@ -3,7 +3,7 @@
 ghost use Rattle.lf_rules.specs.Choice.{ChoiceIsOne, KeyOrders, KeysDiffer, LegalInRange, LegalIsUpright};
 ghost use Rattle.lf_rules.specs.FullyLegal.{TeamsMakeLegal};
 ghost use Rattle.lf_rules.specs.Legalizer.{Legalizer, VerdictIsOne, VerdictIsThere};
-ghost use Rattle.lf_rules.specs.Tidy.{TidiedIsLegal};
+ghost use Rattle.lf_rules.specs.Tidy.{TidiedIsLegal, TidiedKeepsCells};
 
 /// A trial has one verdict: one first broken rule with one other cell, or none.
 pub fn verdict_is_one()
@@ -48,6 +48,11 @@ pub fn legalizer_is_there()
 /// After a tidy in which no cell was stuck, every cell of the team is placed and team-legal.
 pub fn tidied_is_legal()
     ensures { TidiedIsLegal }
+{}
+
+/// Tidying moves cells alone: their number, order and macros stay.
+pub fn tidied_keeps_cells()
+    ensures { TidiedKeepsCells }
 {}
 
 /// A design in which each team's cells are placed and team-legal is fully legal.

@@ -1,4 +1,4 @@
--- Rectangles as sets of whole points.
+-- Rectangles as sets of whole points: what they cover is said by points, and never by comparing edges.
 use Rattle.std.specs.Prelude.{ℤ, ◌≤ℤ◌, ◌<ℤ◌, List, Any}
 use Rattle.lf_units.specs.declared.area.Rect.{Rect}
 
@@ -9,7 +9,7 @@ pub record Covers (r : Rect) (x y : ℤ) : Type 0 where
   pub bottom : r.y1 ≤ℤ y
   pub top : y <ℤ r.y2
 
--- two rectangles overlap: they share a point
+-- two rectangles overlap: some point lies in both, so that touching edges or corners are no overlap
 pub record SharesPoint (a b : Rect) : Type 0 where
   pub x : ℤ
   pub y : ℤ

@@ -2,10 +2,10 @@
 use Rattle.std.specs.Prelude.{◌≡◌, ℕ, ℤ, pos, ◌*ℤ◌}
 use Rattle.std.specs.Int.RustNames.{int_div}
 
--- the length in database units is that many millionths of a micron: the product comes out whole
+-- so many database units are as long as so many millionths of a micron
 abbrev pub IsLength : ℕ → ℤ → ℤ → Type 0
 IsLength units micros dbu = dbu *ℤ pos 1000000 ≡ micros *ℤ pos units
 
--- the length in database units, with what is no whole unit left off
+-- the length in database units, where it is a whole number of them; else what is no whole unit is left off
 abbrev pub in_dbu : ℕ → ℤ → ℤ
 in_dbu units micros = int_div (micros *ℤ pos units) (pos 1000000)

@@ -21,7 +21,7 @@ pub struct Rect {
     pub y2: i64,
 }
 
-/// The whole numbers from lo on and below hi, in database units.
+/// The whole numbers from lo on and below hi, in database units: a stretch along one axis.
 #[derive(Clone, Copy, Debug, PartialEq, Eq)]
 pub struct Span {
     pub lo: i64,
@@ -29,7 +29,8 @@ pub struct Span {
 }
 
 impl Rect {
-    /// Whether the point lies in the rectangle.
+    /// Whether the point lies in the rectangle: its left and lower edges do, its right and upper
+    /// ones do not.
     #[tactic(auto, using(crate::proofs::Edges::edges))]
     pub fn covers(&self, point: &Point) -> bool
         ensures { IsTrue result ↔ Covers self.now point.now.x point.now.y }
@@ -40,7 +41,8 @@ impl Rect {
         self.y1 <= point.y && point.y < self.y2
     }
 
-    /// Whether a point lies in both: rectangles that only touch do not overlap.
+    /// Whether a point lies in both: rectangles that only touch do not overlap, and one without
+    /// points overlaps none.
     #[tactic(auto, using(crate::proofs::Edges::edges))]
     pub fn overlaps(&self, other: &Rect) -> bool
         ensures { IsTrue result ↔ SharesPoint self.now other.now }

@@ -7,7 +7,7 @@ ghost use Rattle.std.specs.Str.Parse.{starts_with_minus, without_leading_sign, d
 ghost use Rattle.lf_units.specs.Length.{IsLength};
 ghost use Rattle.lf_units.specs.Number.{fixed_of, digits_fixed, up_to, is_point, is_not_zero, with_sign};
 
-/// Why a text is no number: the first of these that holds.
+/// Why a text is not the number asked for: the first of these that holds.
 #[derive(Clone, Copy, Debug, PartialEq, Eq)]
 pub enum NumberFault {
     /// Not an optional sign and then digits with at most one point, at least one digit among them.
@@ -138,8 +138,11 @@ fn value_of(
     }
 }
 
-/// The number that a text writes, in units of 1 / 10 ^ `decimals`: lengths of LEF keep six decimals,
-/// so they come in millionths of a micron, and coordinates of DEF none.
+/// The number that a text writes, in units of 1 / 10 ^ `decimals`: lengths of LEF keep six
+/// decimals, so they come in millionths of a micron, and coordinates of DEF none.
+///
+/// The text is an optional sign and decimal digits with at most one point, as `-.5` or `100.00`.
+/// `max` bounds the number without its sign, in the same units.
 pub fn read_fixed(text: &[u8], decimals: usize, max: u64) -> Result<i64, NumberFault>
     requires decimals { decimals ≤ 6 }
     requires max { max ≤ 10 ^ 12 }
@@ -156,7 +159,8 @@ pub fn read_fixed(text: &[u8], decimals: usize, max: u64) -> Result<i64, NumberF
 
 /// A length in millionths of a micron in database units, where it is a whole number of them.
 ///
-/// `units` is how many database units one micron has (DEF `UNITS DISTANCE MICRONS`).
+/// `units` is how many database units one micron has (LEF/DEF 5.8, DEF UNITS). A length that falls
+/// between two database units has no such number, and none is rounded.
 pub fn micros_to_dbu(length: i64, units: u32) -> Option<i64>
     requires low { negsuc 999999999999 ≤ℤ length }
     requires high { length ≤ℤ pos (10 ^ 12) }

@@ -5,7 +5,8 @@ ghost use Rattle.std.specs.Prelude.{◌≡◌, [], ◌∷◌, ◌++◌, length, 
 use std::alloc::{AllocError, Global};
 use std::marker::Model;
 
-/// A list of values that a public type holds: a contract sees the list itself, and no capacity.
+/// A list of values that a public type holds: a contract sees the list itself, and no capacity, so
+/// two of them are equal where their elements are.
 #[derive(Drop)]
 pub struct Sequence<T> {
     values: Vec<T>,
@@ -40,21 +41,25 @@ impl<T> Sequence<T> {
     pub fn into_vec(self) -> Vec<T>
         ensures { result.items ≡ self }
     {
-        self.values
+        let Self { values } = self;
+        values
     }
 
+    /// The elements, lent.
     pub fn as_slice(&self) -> &[T]
         ensures { result.now ≡ self.now }
     {
         self.values.as_slice()
     }
 
+    /// How many elements the list has.
     pub fn len(&self) -> usize
         ensures { result ≡ length self.now }
     {
         self.values.len()
     }
 
+    /// Whether the list has no element.
     pub fn is_empty(&self) -> bool
         ensures { IsTrue result ↔ (self.now ≡ []) }
     {
@@ -63,7 +68,7 @@ impl<T> Sequence<T> {
 }
 
 impl<T: Drop> Sequence<T> {
-    /// Puts a value behind the others.
+    /// Puts a value behind the others; where memory runs out, the value is dropped.
     pub fn push(&mut self, value: T) -> Result<(), AllocError>
         ensures ok { OnOk result (self.new ≡ self.old ++ value ∷ []) }
         ensures err { OnErr result (self.new ≡ self.old) }
@@ -73,7 +78,7 @@ impl<T: Drop> Sequence<T> {
     }
 }
 
-/// The bytes of a name, or of another word of a text.
+/// The bytes of a name, or of another word of a text. Upper and lower case differ, as in the texts.
 #[derive(Drop)]
 pub struct Name {
     bytes: Vec<u8>,
@@ -97,13 +102,14 @@ impl Name {
         })
     }
 
-    /// The bytes of a vector.
+    /// The name of a vector's bytes, without a copy.
     pub fn from_vec(bytes: Vec<u8>) -> Self
         ensures { result ≡ bytes.items }
     {
         Name { bytes }
     }
 
+    /// The bytes, lent.
     pub fn as_bytes(&self) -> &[u8]
         ensures { result.now ≡ self.now }
     {
@@ -114,13 +120,13 @@ impl Name {
     pub fn is(&self, bytes: &[u8]) -> bool
         ensures { result ≡ bytes_eq self.now bytes.now }
     {
-        self.bytes.as_slice() == bytes
+        self.as_bytes() == bytes
     }
 
     /// Whether the two names are one.
     pub fn is_same(&self, other: &Name) -> bool
         ensures { IsTrue result ↔ (self.now ≡ other.now) }
     {
-        self.bytes.as_slice() == other.bytes.as_slice()
+        self.as_bytes() == other.as_bytes()
     }
 }

@@ -1,0 +1,4 @@
+pub mod Keys
+pub mod Positions
+pub mod Parts
+pub mod Places

@@ -1,0 +1,49 @@
+-- A search for the first place of a piece, from one end of the name to the next.
+use Rattle.std.proofs.Common.{◌≡◌, ℕ, ◌≤◌, List, [], ◌∷◌, ◌++◌, length, drop, refl, sym, ap, ◌∙◌, append_assoc, arith, length-append}
+use Rattle.std.proofs.Math.Seq.{drop-append_seam}
+use Rattle.std.proofs.lemmas.List.{drop-append-le}
+use Rattle.lf_names.specs.Places.{IsBehindFirst}
+
+-- the end is one of the name's, and every place of the piece lies in it
+pub record IsEndWithAll (name piece end : List ℕ) : Type 0 where
+  pub before : List ℕ
+  pub is : name ≡ before ++ end
+  pub all : (front later : List ℕ) → name ≡ front ++ (piece ++ later) → (ahead : List ℕ) × (end ≡ ahead ++ (piece ++ later))
+
+pub all_of_name : (name piece : List ℕ) → IsEndWithAll name piece name
+all_of_name name piece = record { before = []; is = refl; all = λ front later e. (front, e) }
+
+-- where the piece does not stand at its front, the end without its first byte has all places too
+pub shorter_end : (name piece end rest : List ℕ) (c : ℕ) → IsEndWithAll name piece end → end ≡ c ∷ rest → ((later : List ℕ) → end ≡ piece ++ later → ⊥) → IsEndWithAll name piece rest
+shorter_end name piece end rest c h cut apart = record {
+  before = h.before ++ c ∷ [];
+  is = h.is ∙ ap (λ l. h.before ++ l) cut ∙ sym (append_assoc h.before (c ∷ []) rest);
+  all = λ front later e. let at = h.all front later e in ahead at.0 later at.1;
+}
+  where
+    ahead : (front later : List ℕ) → end ≡ front ++ (piece ++ later) → (other : List ℕ) × (rest ≡ other ++ (piece ++ later))
+    ahead [] later e = absurd (apart later e)
+    ahead (d ∷ front) later e = (front, cc)
+
+-- an end without bytes, at whose front the piece does not stand, has no place of it
+pub no_place : (name piece end : List ℕ) → IsEndWithAll name piece end → end ≡ [] → ((later : List ℕ) → end ≡ piece ++ later → ⊥) → (before rest : List ℕ) → name ≡ before ++ (piece ++ rest) → ⊥
+no_place name piece end h empty apart before rest e = let at = h.all before rest e in ahead at.0 at.1
+  where
+    ahead : (front : List ℕ) → end ≡ front ++ (piece ++ rest) → ⊥
+    ahead [] is = apart rest is
+    ahead (d ∷ front) is = cc
+
+-- what is behind a later place of the piece is an end of what is behind an earlier one
+behind : (piece rest ahead later : List ℕ) → piece ++ rest ≡ ahead ++ (piece ++ later) → (more : List ℕ) × (rest ≡ more ++ later)
+behind piece rest ahead later e =
+    let fits : length piece ≤ length (ahead ++ piece) = simp length-append (omega arith) in (
+      drop (length piece) (ahead ++ piece),
+      sym (drop-append_seam piece rest) ∙ ap (drop (length piece)) (e ∙ sym (append_assoc ahead piece later)) ∙ drop-append-le (length piece) (ahead ++ piece) later fits,
+    )
+
+-- what stands behind the piece at the front of such an end
+pub first_place : (name piece end rest : List ℕ) → IsEndWithAll name piece end → end ≡ piece ++ rest → IsBehindFirst name piece rest
+first_place name piece end rest h at = record {
+  found = (h.before, h.is ∙ ap (λ l. h.before ++ l) at);
+  first = λ before later e. let other = h.all before later e in behind piece rest other.0 later (sym at ∙ other.1);
+}

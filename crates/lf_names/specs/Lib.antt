@@ -1,0 +1,4 @@
+pub mod Names
+pub mod Adds
+pub mod Pattern
+pub mod Places

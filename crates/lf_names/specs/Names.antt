@@ -1,0 +1,7 @@
+-- A list of distinct names, in the order in which they were first seen.
+use Rattle.std.specs.Prelude.{ℕ, List, Option, position}
+use Rattle.std.specs.Str.{bytes_eq}
+
+-- where the name stands in the list, if it is there
+abbrev pub position_of : List (List ℕ) → List ℕ → Option ℕ
+position_of names name = position (bytes_eq name) names

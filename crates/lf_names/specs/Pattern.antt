@@ -1,0 +1,42 @@
+-- What a pattern of names stands for (DEF GROUPS, whose entries name components by patterns).
+use Rattle.std.specs.Prelude.{◌≡◌, ℕ, ◌==◌, Bool, false, not, ◌&&◌, if◌then◌else◌, List, [], ◌∷◌, ◌++◌, map}
+
+-- a part of a pattern: a byte that stands for itself, or a star
+pub data Part : Type 0 where
+  byte : ℕ → Part
+  star : Part
+
+-- the bytes * and \
+abbrev pub asterisk : ℕ
+asterisk = 42
+
+abbrev pub backslash : ℕ
+backslash = 92
+
+-- an asterisk is a star, unless it is escaped, which is to say directly after a backslash; every other
+-- byte, a backslash too, stands for itself
+abbrev pub part_of : Bool → ℕ → Part
+part_of escaped c = if c == asterisk && not escaped then star else byte c
+
+-- the parts of some bytes, of which the first is escaped or not
+abbrev pub parts_from : Bool → List ℕ → List Part
+parts_from escaped [] = []
+parts_from escaped (c ∷ rest) = part_of escaped c ∷ parts_from (c == backslash) rest
+
+-- the parts of a pattern, one for each byte
+abbrev pub parts_of : List ℕ → List Part
+parts_of pattern = parts_from false pattern
+
+-- the name is what the parts become when each star is replaced by some run of bytes, none included
+abbrev pub Becomes : List Part → List ℕ → Type 0
+Becomes [] name = name ≡ []
+Becomes (byte c ∷ parts) name = (rest : List ℕ) × (name ≡ c ∷ rest) × Becomes parts rest
+Becomes (star ∷ parts) name = (run : List ℕ) × (rest : List ℕ) × (name ≡ run ++ rest) × Becomes parts rest
+
+-- the pattern stands for the name
+abbrev pub Matches : List ℕ → List ℕ → Type 0
+Matches pattern name = Becomes (parts_of pattern) name
+
+-- the pattern has no star: each of its bytes stands for itself
+abbrev pub IsLiteral : List ℕ → Type 0
+IsLiteral pattern = parts_of pattern ≡ map byte pattern

@@ -1,0 +1,107 @@
+//! Patterns that stand for names.
+
+ghost use Rattle.std.specs.Prelude.{◌≡◌, ◌≢◌, ◌<◌, ◌↔◌, ℕ, List, ◌∷◌, ◌++◌, length, map, IsTrue, IfSome, MatchOption};
+ghost use Rattle.lf_names.specs.Pattern.{byte, star, parts_of, Becomes, Matches, IsLiteral};
+ghost use Rattle.lf_names.specs.Places.{IsBehindFirst};
+
+use std::marker::Model;
+
+/// A pattern of names, as a DEF GROUPS entry lists them: `*` stands for any run of bytes, none
+/// included. A `*` directly after a backslash is an ordinary byte, and so is every backslash: `a\*`
+/// stands for these three bytes alone.
+#[derive(Drop)]
+pub struct Pattern<'a> {
+    bytes: &'a [u8],
+}
+
+impl<'a> Model for Pattern<'a> {
+    ghost use Rattle.std.specs.Prelude.{List, ℕ};
+
+    ghost Value = { List ℕ };
+
+    ghost view = { λ p. p.bytes.now };
+}
+
+impl<'a> Pattern<'a> {
+    /// The pattern of these bytes. Every run of bytes is a pattern.
+    pub fn new(bytes: &'a [u8]) -> Self
+        ensures { result ≡ bytes.now }
+    {
+        Pattern { bytes }
+    }
+
+    /// Whether the pattern has no star, so that it stands for its own bytes alone.
+    pub fn is_literal(&self) -> bool
+        ensures literal { IsTrue result ↔ IsLiteral self.now }
+        ensures own_bytes { IsTrue result → (name : List ℕ) → (Matches self.now name ↔ (name ≡ self.now)) }
+    {
+        split_at_star(self.bytes).is_none()
+    }
+
+    /// Whether the pattern stands for the name. Takes no memory, and time at most in proportion to
+    /// the name's length times the pattern's.
+    pub fn matches(&self, name: &[u8]) -> bool
+        ensures { IsTrue result ↔ Matches self.now name.now }
+    {
+        stands_for(self.bytes, name)
+    }
+}
+
+/// What `Pattern::matches` answers. Up to the first star the name must agree byte for byte.
+fn stands_for(pattern: &[u8], name: &[u8]) -> bool
+    ensures { IsTrue result ↔ Matches pattern.now name.now }
+{
+    let Some((piece, behind)) = split_at_star(pattern) else {
+        return pattern == name;
+    };
+    match name.strip_prefix(piece) {
+        Some(rest) => stands_for_an_end(behind, rest),
+        None => false,
+    }
+}
+
+/// Whether the pattern stands for some end of the name. The bytes between two stars are best sought
+/// at their first place, since that leaves most to the stars behind them.
+fn stands_for_an_end(pattern: &[u8], name: &[u8]) -> bool
+    ensures { IsTrue result ↔ Becomes (star ∷ parts_of pattern.now) name.now }
+{
+    let mut remaining_pattern = pattern;
+    let mut remaining_name = name;
+    while let Some((piece, behind)) = split_at_star(remaining_pattern) {
+        let Some(after) = behind_first(remaining_name, piece) else {
+            return false;
+        };
+        remaining_pattern = behind;
+        remaining_name = after;
+    }
+    remaining_name.ends_with(remaining_pattern)
+}
+
+/// The bytes before the pattern's first star, which stand for themselves, and the pattern behind it.
+fn split_at_star(pattern: &[u8]) -> Option<(&[u8], &[u8])>
+    ensures parts { MatchOption result (IsLiteral pattern.now) (λ p. parts_of pattern.now ≡ map byte p.0.now ++ star ∷ parts_of p.1.now) }
+    ensures shorter { IfSome result (λ p. length p.1.now < length pattern.now) }
+{
+    let mut escaped = false;
+    for (at, &byte) in pattern.iter().enumerate() {
+        if byte == b'*' && !escaped {
+            return Some((&pattern[..at], &pattern[at + 1..]));
+        }
+        escaped = byte == b'\\';
+    }
+    None
+}
+
+/// What the name has behind the first place of the piece.
+fn behind_first<'x>(name: &'x [u8], piece: &[u8]) -> Option<&'x [u8]>
+    ensures { MatchOption result ((before rest : List ℕ) → name.now ≢ before ++ (piece.now ++ rest)) (λ rest. IsBehindFirst name.now piece.now rest.now) }
+{
+    let mut end = name;
+    loop {
+        if let Some(rest) = end.strip_prefix(piece) {
+            return Some(rest);
+        }
+        let (_, shorter) = end.split_first()?;
+        end = shorter;
+    }
+}

@@ -1,0 +1,106 @@
+//! A table of distinct names.
+
+ghost use Rattle.std.specs.Prelude.{◌≡◌, ◌≢◌, ◌↔◌, [], IfOk, IfSome, IfNone, OnErr, AllPairs, Contains, IsTrue, length, take, slice_get, Some, None};
+ghost use Rattle.std.specs.Option.{option_map};
+ghost use Rattle.lf_names.specs.Names.{position_of};
+ghost use Rattle.lf_names.specs.Adds.{Adds};
+
+use indexmap::IndexSet;
+use std::alloc::{AllocError, Allocator, Global};
+use std::hash::{BuildHasherDefault, FoldHasher};
+use std::marker::Model;
+
+/// Where a name that was added stands in its table.
+#[derive(Clone, Copy, Debug, PartialEq, Eq)]
+pub enum Added {
+    /// The name was new, and now stands last.
+    New(usize),
+    /// The name was in the table already.
+    Present(usize),
+}
+
+/// Distinct names, in the order in which they were first seen. A name's place in that order is its
+/// position, which stays as it is while the table grows.
+///
+/// A name is looked up in a time that does not depend on how many there are, but for names chosen
+/// against the fixed hash.
+#[derive(Drop)]
+pub struct NameTable<A: Allocator + Copy = Global> {
+    names: IndexSet<Vec<u8, A>, BuildHasherDefault<FoldHasher>, A>,
+}
+
+impl<A: Allocator + Copy> Model for NameTable<A> {
+    ghost use Rattle.std.specs.Prelude.{List, ℕ, map};
+
+    ghost Value = { List (List ℕ) };
+
+    ghost view = { λ t. map (λ v. v.items) t.names.keys };
+}
+
+impl<A: Allocator + Copy> NameTable<A> {
+    /// The empty table, which takes no memory.
+    pub fn new(alloc: A) -> Self
+        ensures { result ≡ [] }
+    {
+        NameTable {
+            names: IndexSet::new(alloc),
+        }
+    }
+
+    /// Adds the name behind the others, unless it is there already. An `Err`, for want of memory,
+    /// can only come of a new name.
+    pub fn add(&mut self, name: &[u8]) -> Result<Added, AllocError>
+        ensures ok { IfOk result (λ added. Adds self.old name.now added self.new) }
+        ensures err { OnErr result (self.new ≡ self.old) }
+        ensures only_new { OnErr result (position_of self.old name.now ≡ None) }
+    {
+        match self.names.get_index_of(name) {
+            Some(position) => Ok(Added::Present(position)),
+            None => {
+                let position = self.names.len();
+                let copy = Vec::from_slice(*self.names.allocator(), name)?;
+                self.names.insert(copy)?;
+                Ok(Added::New(position))
+            }
+        }
+    }
+
+    /// The name's position.
+    pub fn find(&self, name: &[u8]) -> Option<usize>
+        ensures position { result ≡ position_of self.now name.now }
+        ensures found { IfSome result (λ at. slice_get self.now at ≡ Some name.now) }
+        ensures absent { IfNone result (¬ Contains self.now name.now) }
+    {
+        self.names.get_index_of(name)
+    }
+
+    /// The name at the position.
+    pub fn name_at(&self, position: usize) -> Option<&[u8]>
+        ensures name { option_map (λ name. name.now) result ≡ slice_get self.now position }
+        ensures found_there { IfSome result (λ name. position_of self.now name.now ≡ Some position) }
+    {
+        Some(self.names.as_slice().get(position)?.as_slice())
+    }
+
+    /// How many names there are, which all differ.
+    pub fn len(&self) -> usize
+        ensures len { result ≡ length self.now }
+        ensures distinct { AllPairs (λ name later. name ≢ later) self.now }
+    {
+        self.names.len()
+    }
+
+    /// Whether there is no name.
+    pub fn is_empty(&self) -> bool
+        ensures { IsTrue result ↔ (self.now ≡ []) }
+    {
+        self.names.is_empty()
+    }
+
+    /// Keeps the first `len` names and drops the others. Takes no memory.
+    pub fn truncate(&mut self, len: usize)
+        ensures { self.new ≡ take len self.old }
+    {
+        self.names.truncate(len);
+    }
+}

@@ -1,0 +1,135 @@
+//! Tests of what no clause says.
+
+use super::*;
+use linked_list_allocator::LocalHeap;
+use std::alloc::AllocError;
+use std::test::Fail;
+
+#[test]
+fn gives_names_their_positions(rt: HostRuntime) -> Result<(), Fail> {
+    let mut table = NameTable::new(rt.alloc());
+    assert!(rt; table.is_empty());
+    assert_eq!(rt; table.add(b"a")?, Added::New(0));
+    assert_eq!(rt; table.add(b"b")?, Added::New(1));
+    assert_eq!(rt; table.add(b"a")?, Added::Present(0));
+    assert_eq!(rt; table.len(), 2);
+    assert!(rt; table.find(b"b") == Some(1));
+    assert!(rt; table.find(b"c").is_none());
+    assert!(rt; table.name_at(1) == Some(b"b".as_slice()));
+    assert!(rt; table.name_at(2).is_none());
+    table.truncate(1);
+    assert!(rt; table.find(b"b").is_none());
+    assert_eq!(rt; table.add(b"c")?, Added::New(1));
+    Ok(())
+}
+
+/// Takes all that is left of the heap, which is given back when the blocks are dropped.
+fn take_all(heap: &LocalHeap) -> Result<Vec<Vec<u8, &LocalHeap>, &LocalHeap>, AllocError> {
+    let mut blocks = Vec::with_capacity(heap, 32)?;
+    for size in [2048usize, 1024, 512, 256, 128, 64, 32, 16] {
+        for _ in 0..4 {
+            if let Ok(block) = Vec::with_capacity(heap, size) {
+                blocks.push(block)?;
+            }
+        }
+    }
+    Ok(blocks)
+}
+
+/// With every growth refused the table answers as before, and once memory is given back it grows.
+#[test]
+fn stays_as_it_was_where_memory_is_refused(rt: HostRuntime) -> Result<(), Fail> {
+    let heap = LocalHeap::new(rt.alloc(), 4096)?;
+    let mut table: NameTable<&LocalHeap> = NameTable::new(&heap);
+    assert_eq!(rt; table.add(b"a")?, Added::New(0));
+    let blocks = take_all(&heap)?;
+    assert!(rt; Vec::<u8, &LocalHeap>::with_capacity(&heap, 1).is_err());
+
+    assert!(rt; table.add(b"b").is_err());
+    assert_eq!(rt; table.len(), 1);
+    assert!(rt; table.find(b"b").is_none());
+    assert!(rt; table.name_at(0) == Some(b"a".as_slice()));
+    assert_eq!(rt; table.add(b"a")?, Added::Present(0));
+
+    drop(blocks);
+    assert_eq!(rt; table.add(b"b")?, Added::New(1));
+    Ok(())
+}
+
+/// Each growth refused in turn: in heaps of every size, the first name for which there is no
+/// memory leaves the names before it where they are.
+#[test]
+fn keeps_its_names_at_every_refusal(rt: HostRuntime) -> Result<(), Fail> {
+    for units in 4..200usize {
+        let heap = LocalHeap::new(rt.alloc(), units * 16)?;
+        let mut table: NameTable<&LocalHeap> = NameTable::new(&heap);
+        let mut names = 0..200u8;
+        let refused = names.find(|name| table.add(&[*name]).is_err());
+        let Some(refused) = refused else {
+            assert!(rt; false, "no growth was refused");
+            return Ok(());
+        };
+        assert_eq!(rt; table.len(), usize::from(refused));
+        assert!(rt; table.find(&[refused]).is_none());
+        for earlier in 0..refused {
+            assert!(rt; table.find(&[earlier]) == Some(usize::from(earlier)));
+        }
+    }
+    Ok(())
+}
+
+#[test]
+fn patterns_stand_for_their_names(rt: HostRuntime) {
+    let rows: [(&[u8], &[u8], bool); 21] = [
+        (b"a*", b"a", true),
+        (b"a*", b"a1", true),
+        (b"a*", b"b1", false),
+        (b"a\\*", b"a\\*", true),
+        (b"a\\*", b"a", false),
+        (b"a\\*", b"a*", false),
+        (b"a\\*", b"a\\", false),
+        (b"a\\*", b"a\\b", false),
+        (b"a\\\\*", b"a\\\\*", true),
+        (b"a\\\\*", b"a\\\\b", false),
+        (b"a\\**", b"a\\*", true),
+        (b"a\\**", b"a\\*b", true),
+        (b"a\\**", b"a\\b", false),
+        (b"top/*/u*7", b"top/core/u17", true),
+        (b"top/*/u*7", b"top/core/alu/u7", true),
+        (b"top/*/u*7", b"top/u7", false),
+        (b"*ab*ab", b"ab", false),
+        (b"*ab*ab", b"abab", true),
+        (b"a", b"ab", false),
+        (b"**", b"", true),
+        (b"", b"a", false),
+    ];
+    for (pattern, name, stands) in rows {
+        assert_eq!(rt;
+            Pattern::new(pattern).matches(name),
+            stands,
+            "{pattern:?} {name:?}"
+        );
+    }
+}
+
+#[test]
+fn only_a_pattern_without_a_star_is_literal(rt: HostRuntime) {
+    assert!(rt; Pattern::new(b"u1").is_literal());
+    assert!(rt; Pattern::new(b"a\\*").is_literal());
+    assert!(rt; !Pattern::new(b"a*").is_literal());
+    assert!(rt; !Pattern::new(b"a\\**").is_literal());
+}
+
+/// Many stars before a letter that never comes: found out without going back to an earlier star.
+#[test]
+fn many_stars_end_quickly(rt: HostRuntime) -> Result<(), Fail> {
+    let name = vec![in rt.alloc(); b'a'; 1024]?;
+    let mut pattern = Vec::new(rt.alloc());
+    for _ in 0..500 {
+        pattern.extend_from_slice(b"*a")?;
+    }
+    assert!(rt; Pattern::new(&pattern).matches(&name));
+    pattern.extend_from_slice(b"*b*")?;
+    assert!(rt; !Pattern::new(&pattern).matches(&name));
+    Ok(())
+}

@@ -1,0 +1,59 @@
+-- Tidying moves cells alone.
+use Rattle.std.proofs.Common.{◌≡◌, ℕ, zero, suc, ◌+◌, List, [], ◌∷◌, Option, Some, None, refl, ◌∙◌, ap, slice_get}
+use Rattle.std.specs.Prelude.{map, slice_set, length}
+use Rattle.lf_units.specs.declared.area.Point.{Point}
+use Rattle.lf_frame.specs.declared.frame.Frame.{Frame}
+use Rattle.lf_rules.specs.Choice.{Spot, Lifted}
+use Rattle.lf_rules.specs.Legalizer.{Legalizer}
+use Rattle.lf_rules.specs.Team.{Member, lifted_from}
+use Rattle.lf_rules.specs.Tidy.{Tidied, Going, Stuck, target_of, sent_to, tidied_to, tidied_own, tidy_cell, tidied_from, tidied}
+
+abbrev macs_of : List Member → List ℕ
+macs_of cells = map (λ m. m.mac) cells
+
+abbrev placed_at : ℕ → Option Spot → Member
+placed_at mac place = record { mac = mac; place = place }
+
+-- a cell that is set to another place keeps all macros
+macs_set : (cells : List Member) (n : ℕ) (m : Member) (place : Option Spot) → slice_get cells n ≡ Some m → macs_of (slice_set cells n (placed_at m.mac place)) ≡ macs_of cells
+macs_set [] n m place there = refl
+macs_set (x ∷ cells) zero m place there =
+    let same : m ≡ x = cc in
+    ap (λ (y : Member). y.mac ∷ macs_of cells) same
+macs_set (x ∷ cells) (suc n) m place there = ap (λ (macs : List ℕ). x.mac ∷ macs) (macs_set cells n m place there)
+
+-- so far the macros are these
+abbrev HasMacs : List ℕ → Tidied → Type 0
+HasMacs macs (Going cells moved) = macs_of cells ≡ macs
+HasMacs macs (Stuck own) = Unit {0}
+
+sent : (macs : List ℕ) (found : Option Spot) (cells : List Member) (moved n : ℕ) (m : Member) → slice_get cells n ≡ Some m → macs_of cells ≡ macs → HasMacs macs (sent_to found cells moved n m.mac)
+sent macs None cells moved n m there is = tt
+sent macs (Some p) cells moved n m there is = macs_set cells n m (Some p) there ∙ is
+
+to_target : (macs : List ℕ) (target : Option Point) (l : Legalizer) (c : Lifted) (cells : List Member) (moved n : ℕ) (m : Member) → slice_get cells n ≡ Some m → macs_of cells ≡ macs →
+    HasMacs macs (tidied_to target l c cells moved n m.mac)
+to_target macs None l c cells moved n m there is = is
+to_target macs (Some target) l c cells moved n m there is = sent macs (l.best_place c target) cells moved n m there is
+
+one_own : (macs : List ℕ) (found : Option Member) (l : Legalizer) (f : Frame) (team : ℕ) (cells : List Member) (moved n : ℕ) → slice_get cells n ≡ found → macs_of cells ≡ macs →
+    HasMacs macs (tidied_own found l f team cells moved n)
+one_own macs None l f team cells moved n there is = is
+one_own macs (Some m) l f team cells moved n there is =
+    to_target macs (target_of l (lifted_from f team cells n m.mac) m.place) l (lifted_from f team cells n m.mac) cells moved n m there is
+
+one_cell : (macs : List ℕ) (l : Legalizer) (f : Frame) (team n : ℕ) (t : Tidied) → HasMacs macs t → HasMacs macs (tidy_cell l f team t n)
+one_cell macs l f team n (Stuck own) is = tt
+one_cell macs l f team n (Going cells moved) is = one_own macs (slice_get cells n) l f team cells moved n refl is
+
+all_cells : (macs : List ℕ) (l : Legalizer) (f : Frame) (team n count : ℕ) (t : Tidied) → HasMacs macs t → HasMacs macs (tidied_from l f team n count t)
+all_cells macs l f team n zero t is = is
+all_cells macs l f team n (suc count) t is = all_cells macs l f team (n + 1) count (tidy_cell l f team t n) (one_cell macs l f team n t is)
+
+going : (macs : List ℕ) (t : Tidied) (new : List Member) (moved : ℕ) → t ≡ Going new moved → HasMacs macs t → macs_of new ≡ macs
+going macs t new moved is has = let at : HasMacs macs (Going new moved) = rw is at has in at
+
+pub tidied_kept : (l : Legalizer) (f : Frame) (team : ℕ) (cells new : List Member) (moved : ℕ) → tidied l f team cells ≡ Going new moved → map (λ m. m.mac) new ≡ map (λ m. m.mac) cells
+unfolding tidied
+tidied_kept l f team cells new moved is =
+    going (macs_of cells) (tidied l f team cells) new moved is (all_cells (macs_of cells) l f team 0 (length cells) (Going cells 0) refl)
