@@ -1,0 +1,12 @@
+pub mod Blockages
+pub mod Components
+pub mod Contents
+pub mod Coordinates
+pub mod Document
+pub mod Entries
+pub mod Groups
+pub mod Header
+pub mod Laws
+pub mod Ranges
+pub mod Regions
+pub mod Rows

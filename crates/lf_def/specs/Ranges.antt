@@ -1,0 +1,90 @@
+-- The ranges and bounds of what a DEF text says.
+use Rattle.std.specs.Prelude.{◌≡◌, ℕ, ◌≤◌, List, All, IfSome, ℤ, pos, negsuc, ◌≤ℤ◌}
+use Rattle.lf_units.specs.declared.area.Point.{Point}
+use Rattle.lf_units.specs.declared.area.Rect.{Rect}
+use Rattle.lf_lex.specs.Reading.{IsName}
+use Rattle.lf_def.specs.declared.header.Header.{Header}
+use Rattle.lf_def.specs.declared.rows.Row.{Row}
+use Rattle.lf_def.specs.declared.regions.Region.{Region}
+use Rattle.lf_def.specs.declared.groups.Group.{Group}
+use Rattle.lf_def.specs.declared.groups.GroupParts.{GroupParts}
+use Rattle.lf_def.specs.declared.components.Component.{Component}
+use Rattle.lf_def.specs.declared.components.Location.{Location}
+use Rattle.lf_def.specs.declared.components.Placement.{Placement}
+use Rattle.lf_def.specs.declared.blockages.Blockage.{Blockage}
+use Rattle.lf_def.specs.declared.parts.DocParts.{DocParts}
+
+-- a coordinate lies between -2147483647 and 2147483647
+pub record IsCoordinate (x : ℤ) : Type 0 where
+  pub low : negsuc 2147483646 ≤ℤ x
+  pub high : x ≤ℤ pos 2147483647
+
+pub record HasCoordinates (p : Point) : Type 0 where
+  pub x : IsCoordinate p.x
+  pub y : IsCoordinate p.y
+
+-- a rectangle has its lower left corner before its upper right one
+pub record IsRect (r : Rect) : Type 0 where
+  pub x1 : IsCoordinate r.x1
+  pub y1 : IsCoordinate r.y1
+  pub x2 : IsCoordinate r.x2
+  pub y2 : IsCoordinate r.y2
+  pub across : r.x1 ≤ℤ r.x2
+  pub up : r.y1 ≤ℤ r.y2
+
+-- a count lies from 1 to the largest one
+pub record IsCount (most n : ℕ) : Type 0 where
+  pub some : 1 ≤ n
+  pub few : n ≤ most
+
+-- names, a divider and brackets are words or quoted texts as they stand; UNITS is from 1 to 20000
+pub record IsHeader (h : Header) : Type 0 where
+  pub design : IsName h.design
+  pub units : IfSome h.units (λ n. IsCount 20000 n)
+
+pub record IsRow (r : Row) : Type 0 where
+  pub name : IsName r.name
+  pub site : IsName r.site
+  pub x : IsCoordinate r.x
+  pub y : IsCoordinate r.y
+  pub sites_x : IsCount 2147483647 r.sites_x
+  pub sites_y : IsCount 2147483647 r.sites_y
+  pub step : IfSome r.step (λ p. HasCoordinates p)
+
+pub record IsRegion (r : Region) : Type 0 where
+  pub name : IsName r.name
+  pub rects : All IsRect r.rects
+
+pub record IsGroup (g : Group) : Type 0 where
+  pub name : IsName g.name
+  pub patterns : All IsName g.patterns
+  pub region : IfSome g.region (λ n. IsName n)
+
+abbrev pub IsLocation : Location → Type 0
+IsLocation p = IsCoordinate p.x × IsCoordinate p.y
+
+abbrev pub IsPlacement : Placement → Type 0
+IsPlacement p = IfSome p.place (λ q. IsLocation q)
+
+pub record IsComponent (c : Component) : Type 0 where
+  pub name : IsName c.name
+  pub mac : IsName c.mac
+  pub placement : IfSome c.placement (λ p. IsPlacement p)
+
+pub record IsBlockage (b : Blockage) : Type 0 where
+  pub rects : All IsRect b.rects
+
+-- what is known of a group so far
+pub record AreGroupParts (g : GroupParts) : Type 0 where
+  pub patterns : All IsName g.patterns
+  pub region : IfSome g.region (λ n. IsName n)
+
+-- what is known of a text so far
+pub record AreParts (p : DocParts) : Type 0 where
+  pub design : IfSome p.header.design (λ n. IsName n)
+  pub units : IfSome p.header.units (λ n. IsCount 20000 n)
+  pub rows : All IsRow p.rows
+  pub regions : All IsRegion p.regions
+  pub groups : All IsGroup p.groups
+  pub components : All IsComponent p.components
+  pub blockages : All IsBlockage p.blockages

@@ -1,0 +1,221 @@
+//! Placement blockages.
+
+ghost use Rattle.std.specs.Prelude.{◌≡◌, All, IfOk, IfSome};
+ghost use Rattle.lf_lex.specs.Tokens.{lexeme};
+ghost use Rattle.lf_lex.specs.Reading.{Reads, ReadsOn, block, turn};
+ghost use Rattle.lf_def.specs.Blockages as grammar;
+ghost use Rattle.lf_def.specs.Ranges.{IsRect, IsBlockage};
+
+use crate::coordinates::rect;
+use crate::entries::Due;
+use lf_lex::{FaultNumber, Lexer, ReadError, Token, end_name, fault_at, is, to_semicolon, token};
+use lf_units::{Rect, Sequence};
+use std::alloc::Global;
+
+/// A placement blockage (LEF/DEF 5.8, DEF BLOCKAGES), in database units.
+#[derive(Drop)]
+pub struct Blockage {
+    /// It has a SOFT clause.
+    pub soft: bool,
+    /// It has a PARTIAL clause.
+    pub partial: bool,
+    /// Its rectangles in the order of the text, each with its lower left corner before its upper right one.
+    pub rects: Sequence<Rect>,
+}
+
+/// What is known of a blockage so far.
+#[derive(Drop)]
+pub struct BlockageParts {
+    pub soft: bool,
+    pub partial: bool,
+    pub rects: Sequence<Rect>,
+    pub due: Due,
+}
+
+/// One more rectangle, behind RECT.
+#[tactic(auto, unfolding(crate::specs::Blockages::with_rect))]
+fn with_rect(lexer: &mut Lexer, parts: &mut BlockageParts) -> Result<bool, ReadError>
+    requires rects { All IsRect parts.old.rects }
+    ensures read { Reads (turn parts.new) result (grammar.with_rect parts.old) lexer.old lexer.new }
+    ensures rects { All IsRect parts.new.rects }
+{
+    let rect = rect(lexer)?;
+    parts.rects.push(rect)?;
+    parts.due = Due::Item;
+    Ok(true)
+}
+
+/// Notes the word of a clause.
+fn note(parts: &mut BlockageParts, word: &Token)
+    requires rects { All IsRect parts.old.rects }
+    ensures parts { parts.new ≡ grammar.noted parts.old (lexeme word.now) }
+    ensures rects { All IsRect parts.new.rects }
+{
+    parts.soft = parts.soft || is(b"SOFT", word);
+    parts.partial = parts.partial || is(b"PARTIAL", word);
+    parts.due = Due::Rest;
+}
+
+/// A token of a blockage that is no separator, with what belongs to it; whether more follow.
+#[tactic(auto, unfolding(crate::specs::Blockages::blockage_part))]
+fn blockage_part(
+    lexer: &mut Lexer,
+    parts: &mut BlockageParts,
+    token: &Token,
+) -> Result<bool, ReadError>
+    requires rects { All IsRect parts.old.rects }
+    ensures read { ReadsOn (turn parts.new) result (grammar.blockage_part parts.old.due parts.old (lexeme token.now)) lexer.old lexer.new }
+    ensures rects { All IsRect parts.new.rects }
+{
+    match parts.due {
+        Due::Keyword => {
+            note(parts, token);
+            Ok(true)
+        }
+        Due::Rest => {
+            if is(b"RECT", token) {
+                with_rect(lexer, parts)
+            } else {
+                Ok(true)
+            }
+        }
+        Due::Item | Due::Separator => {
+            if is(b"RECT", token) {
+                with_rect(lexer, parts)
+            } else {
+                Err(fault_at(FaultNumber::Unexpected, token.line))
+            }
+        }
+    }
+}
+
+/// A token of a blockage, with what belongs to it; whether more follow.
+#[tactic(auto, unfolding(crate::specs::Blockages::blockage_from))]
+fn blockage_from(
+    lexer: &mut Lexer,
+    parts: &mut BlockageParts,
+    token: &Token,
+) -> Result<bool, ReadError>
+    requires rects { All IsRect parts.old.rects }
+    ensures read { ReadsOn (turn parts.new) result (grammar.blockage_from parts.old (lexeme token.now)) lexer.old lexer.new }
+    ensures rects { All IsRect parts.new.rects }
+{
+    if is(b";", token) {
+        Ok(false)
+    } else if is(b"+", token) {
+        parts.due = Due::Keyword;
+        Ok(true)
+    } else {
+        blockage_part(lexer, parts, token)
+    }
+}
+
+#[tactic(auto, unfolding(crate::specs::Blockages::blockage_token))]
+fn blockage_token(lexer: &mut Lexer, parts: &mut BlockageParts) -> Result<bool, ReadError>
+    requires rects { All IsRect parts.old.rects }
+    ensures read { Reads (turn parts.new) result (grammar.blockage_token parts.old) lexer.old lexer.new }
+    ensures rects { All IsRect parts.new.rects }
+{
+    let token = token(lexer)?;
+    blockage_from(lexer, parts, &token)
+}
+
+/// The tokens of a placement blockage behind PLACEMENT, with its `;`.
+fn blockage_rest(lexer: &mut Lexer, parts: &mut BlockageParts) -> Result<(), ReadError>
+    requires rects { All IsRect parts.old.rects }
+    ensures read { Reads (λ _. parts.new) result (block grammar.blockage_token parts.old) lexer.old lexer.new }
+    ensures rects { All IsRect parts.new.rects }
+{
+    while blockage_token(lexer, parts)? {}
+    Ok(())
+}
+
+/// What is known of a placement blockage behind PLACEMENT.
+fn no_blockage(alloc: Global) -> BlockageParts
+    ensures parts { result ≡ grammar.no_blockage }
+    ensures rects { All IsRect result.rects }
+{
+    BlockageParts {
+        soft: false,
+        partial: false,
+        rects: Sequence::new(alloc),
+        due: Due::Item,
+    }
+}
+
+/// A blockage behind its minus; none where it blocks a layer.
+#[tactic(auto, unfolding(crate::specs::Blockages::blockage))]
+fn read_blockage(alloc: Global, lexer: &mut Lexer) -> Result<Option<Blockage>, ReadError>
+    ensures read { Reads (λ b. b) result grammar.blockage lexer.old lexer.new }
+    ensures range { IfOk result (λ b. IfSome b (λ x. IsBlockage x)) }
+{
+    let token = token(lexer)?;
+    if is(b"LAYER", &token) {
+        to_semicolon(lexer)?;
+        return Ok(None);
+    }
+    if !is(b"PLACEMENT", &token) {
+        return Err(fault_at(FaultNumber::Unexpected, token.line));
+    }
+    let mut parts = no_blockage(alloc);
+    blockage_rest(lexer, &mut parts)?;
+    Ok(Some(Blockage {
+        soft: parts.soft,
+        partial: parts.partial,
+        rects: parts.rects,
+    }))
+}
+
+/// An entry, or END BLOCKAGES; whether more follow.
+#[tactic(auto, unfolding(crate::specs::Blockages::blockage_or_end))]
+fn blockage_or_end(
+    alloc: Global,
+    lexer: &mut Lexer,
+    blockages: &mut Sequence<Blockage>,
+) -> Result<bool, ReadError>
+    requires range { All IsBlockage blockages.old }
+    ensures read { Reads (turn blockages.new) result (grammar.blockage_or_end blockages.old) lexer.old lexer.new }
+    ensures range { All IsBlockage blockages.new }
+{
+    let token = token(lexer)?;
+    if is(b"-", &token) {
+        if let Some(blockage) = read_blockage(alloc, lexer)? {
+            blockages.push(blockage)?;
+        }
+        return Ok(true);
+    }
+    if is(b"END", &token) {
+        end_name(lexer, b"BLOCKAGES")?;
+        return Ok(false);
+    }
+    Err(fault_at(FaultNumber::Unexpected, token.line))
+}
+
+/// The entries of a section, and its END.
+fn blockage_entries(
+    alloc: Global,
+    lexer: &mut Lexer,
+    blockages: &mut Sequence<Blockage>,
+) -> Result<(), ReadError>
+    requires range { All IsBlockage blockages.old }
+    ensures read { Reads (λ _. blockages.new) result (block grammar.blockage_or_end blockages.old) lexer.old lexer.new }
+    ensures range { All IsBlockage blockages.new }
+{
+    while blockage_or_end(alloc, lexer, blockages)? {}
+    Ok(())
+}
+
+/// A BLOCKAGES section behind its keyword: its blockages go behind the others.
+#[tactic(auto, unfolding(crate::specs::Blockages::blockages))]
+pub fn blockages(
+    alloc: Global,
+    lexer: &mut Lexer,
+    blockages: &mut Sequence<Blockage>,
+) -> Result<(), ReadError>
+    requires range { All IsBlockage blockages.old }
+    ensures read { Reads (λ _. blockages.new) result (grammar.blockages blockages.old) lexer.old lexer.new }
+    ensures range { All IsBlockage blockages.new }
+{
+    to_semicolon(lexer)?;
+    blockage_entries(alloc, lexer, blockages)
+}

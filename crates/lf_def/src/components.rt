@@ -1,0 +1,346 @@
+//! Components, and where their placement clauses stand in the text.
+
+ghost use Rattle.std.specs.Prelude.{◌≡◌, All, IfOk, IfSome, codes};
+ghost use Rattle.lf_lex.specs.Tokens.{lexeme};
+ghost use Rattle.lf_lex.specs.Reading.{Reads, ReadsOn, block, turn};
+ghost use Rattle.lf_def.specs.Entries.{entry_or_end};
+ghost use Rattle.lf_def.specs.Components as grammar;
+ghost use Rattle.lf_def.specs.Ranges.{IsCoordinate, IsLocation, IsPlacement, IsComponent};
+
+use crate::coordinates::{orient_of, point_rest};
+use crate::entries::Due;
+use lf_lex::{
+    FaultNumber, Lexer, ReadError, Token, end_name, fault_at, is, keyword, name, to_semicolon,
+    token,
+};
+use lf_orient::Orient;
+use lf_units::{Name, Sequence};
+use std::alloc::Global;
+
+/// What a placement clause says (LEF/DEF 5.8, DEF COMPONENTS).
+#[derive(Clone, Copy, Debug, PartialEq, Eq)]
+pub enum PlacementKind {
+    Fixed,
+    Cover,
+    Placed,
+    Unplaced,
+}
+
+/// The lower left corner of a component's box, in database units, and its orientation.
+#[derive(Clone, Copy, Debug, PartialEq, Eq)]
+pub struct Location {
+    pub x: i32,
+    pub y: i32,
+    pub orient: Orient,
+}
+
+/// A placement clause, and where it stands.
+#[derive(Clone, Copy, Debug, PartialEq, Eq)]
+pub struct Placement {
+    pub kind: PlacementKind,
+    /// Where the component stands; none for UNPLACED, whose point is not heeded.
+    pub place: Option<Location>,
+    /// The offset of its `+` in the text.
+    pub start: usize,
+    /// The offset behind its last token: the orientation, or UNPLACED where no point stands behind it.
+    pub stop: usize,
+}
+
+/// A component (LEF/DEF 5.8, DEF COMPONENTS).
+#[derive(Drop)]
+pub struct Component {
+    pub name: Name,
+    /// The name of its macro.
+    pub mac: Name,
+    /// Its placement clause; a component without one is unplaced.
+    pub placement: Option<Placement>,
+    /// The offset of its `;` in the text.
+    pub semicolon: usize,
+}
+
+/// What is known of a component so far.
+#[derive(Clone, Copy, Debug, PartialEq, Eq)]
+pub struct ComponentParts {
+    pub placement: Option<Placement>,
+    pub due: Due,
+    /// The point of UNPLACED may stand here.
+    pub point: bool,
+    /// The offset of the last `+`.
+    pub plus: usize,
+    /// The offset of the `;`, once it was read.
+    pub semicolon: usize,
+}
+
+/// A location, and where its orientation ends in the text.
+#[derive(Clone, Copy, Debug, PartialEq, Eq)]
+pub struct Located {
+    pub location: Location,
+    pub stop: usize,
+}
+
+/// A coordinate of a component.
+fn narrow(x: i64) -> i32
+    requires { IsCoordinate x }
+    ensures { result ≡ x }
+{
+    x as i32
+}
+
+/// `x y ) orient` behind the first parenthesis.
+#[tactic(auto, unfolding(crate::specs::Components::located_rest))]
+fn located_rest(lexer: &mut Lexer) -> Result<Located, ReadError>
+    ensures read { Reads (λ p. p) result grammar.located_rest lexer.old lexer.new }
+    ensures range { IfOk result (λ p. IsLocation p.location) }
+{
+    let point = point_rest(lexer)?;
+    let token = token(lexer)?;
+    let orient = orient_of(&token)?;
+    let location = Location {
+        x: narrow(point.x),
+        y: narrow(point.y),
+        orient,
+    };
+    Ok(Located {
+        location,
+        stop: token.stop,
+    })
+}
+
+/// `( x y ) orient` behind FIXED, COVER or PLACED.
+#[tactic(auto, unfolding(crate::specs::Components::placed))]
+fn placed(lexer: &mut Lexer, kind: PlacementKind, plus: usize) -> Result<Placement, ReadError>
+    ensures read { Reads (λ p. p) result (grammar.placed kind plus) lexer.old lexer.new }
+    ensures range { IfOk result (λ p. IsPlacement p) }
+{
+    keyword(lexer, b"(")?;
+    let located = located_rest(lexer)?;
+    Ok(Placement {
+        kind,
+        place: Some(located.location),
+        start: plus,
+        stop: located.stop,
+    })
+}
+
+/// Whether the token begins a placement clause.
+fn is_placement_word(token: &Token) -> bool
+    ensures { result ≡ grammar.is_placement_word (lexeme token.now) }
+{
+    is(b"FIXED", token) || is(b"COVER", token) || is(b"PLACED", token) || is(b"UNPLACED", token)
+}
+
+/// A placement clause, of which the plus and the word were read.
+#[tactic(auto, unfolding(crate::specs::Components::placement))]
+fn read_placement(lexer: &mut Lexer, plus: usize, word: &Token) -> Result<Placement, ReadError>
+    ensures read { ReadsOn (λ p. p) result (grammar.placement plus (lexeme word.now)) lexer.old lexer.new }
+    ensures range { IfOk result (λ p. IsPlacement p) }
+{
+    if is(b"FIXED", word) {
+        placed(lexer, PlacementKind::Fixed, plus)
+    } else if is(b"COVER", word) {
+        placed(lexer, PlacementKind::Cover, plus)
+    } else if is(b"PLACED", word) {
+        placed(lexer, PlacementKind::Placed, plus)
+    } else {
+        Ok(Placement {
+            kind: PlacementKind::Unplaced,
+            place: None,
+            start: plus,
+            stop: word.stop,
+        })
+    }
+}
+
+/// The only placement clause: a second one is Unexpected.
+#[tactic(auto, unfolding(crate::specs::Components::only_placement))]
+fn only_placement(
+    lexer: &mut Lexer,
+    first: Option<Placement>,
+    plus: usize,
+    word: &Token,
+) -> Result<Placement, ReadError>
+    ensures read { ReadsOn (λ p. p) result (grammar.only_placement first plus (lexeme word.now)) lexer.old lexer.new }
+    ensures range { IfOk result (λ p. IsPlacement p) }
+{
+    match first {
+        None => read_placement(lexer, plus, word),
+        Some(_) => Err(fault_at(FaultNumber::Unexpected, word.line)),
+    }
+}
+
+/// A clause of which the plus and the word were read.
+#[tactic(auto, unfolding(crate::specs::Components::clause))]
+fn clause(lexer: &mut Lexer, parts: &mut ComponentParts, word: &Token) -> Result<bool, ReadError>
+    requires range { IfSome parts.old.placement (λ p. IsPlacement p) }
+    ensures read { ReadsOn (turn parts.new) result (grammar.clause parts.old (lexeme word.now)) lexer.old lexer.new }
+    ensures range { IfSome parts.new.placement (λ p. IsPlacement p) }
+{
+    if is_placement_word(word) {
+        let placement = only_placement(lexer, parts.placement, parts.plus, word)?;
+        parts.placement = Some(placement);
+        parts.due = Due::Separator;
+        parts.point = is(b"UNPLACED", word);
+    } else {
+        parts.due = Due::Rest;
+    }
+    Ok(true)
+}
+
+/// The point and the orientation of UNPLACED, behind the first parenthesis.
+#[tactic(auto, unfolding(crate::specs::Components::unplaced_point))]
+fn unplaced_point(lexer: &mut Lexer, parts: &mut ComponentParts) -> Result<bool, ReadError>
+    requires range { IfSome parts.old.placement (λ p. IsPlacement p) }
+    ensures read { Reads (turn parts.new) result (grammar.unplaced_point parts.old) lexer.old lexer.new }
+    ensures range { IfSome parts.new.placement (λ p. IsPlacement p) }
+{
+    let located = located_rest(lexer)?;
+    if let Some(placement) = &mut parts.placement {
+        placement.stop = located.stop;
+    }
+    parts.point = false;
+    Ok(true)
+}
+
+/// A token of a component that is no separator, with what belongs to it; whether more follow.
+#[tactic(auto, unfolding(crate::specs::Components::component_part))]
+fn component_part(
+    lexer: &mut Lexer,
+    parts: &mut ComponentParts,
+    token: &Token,
+) -> Result<bool, ReadError>
+    requires range { IfSome parts.old.placement (λ p. IsPlacement p) }
+    ensures read { ReadsOn (turn parts.new) result (grammar.component_part parts.old.due parts.old (lexeme token.now)) lexer.old lexer.new }
+    ensures range { IfSome parts.new.placement (λ p. IsPlacement p) }
+{
+    match parts.due {
+        Due::Item => Ok(true),
+        Due::Keyword => clause(lexer, parts, token),
+        Due::Rest => Ok(true),
+        Due::Separator => {
+            if parts.point && is(b"(", token) {
+                unplaced_point(lexer, parts)
+            } else {
+                Err(fault_at(FaultNumber::Unexpected, token.line))
+            }
+        }
+    }
+}
+
+/// A token of a component, with what belongs to it; whether more follow.
+#[tactic(auto, unfolding(crate::specs::Components::component_from))]
+fn component_from(
+    lexer: &mut Lexer,
+    parts: &mut ComponentParts,
+    token: &Token,
+) -> Result<bool, ReadError>
+    requires range { IfSome parts.old.placement (λ p. IsPlacement p) }
+    ensures read { ReadsOn (turn parts.new) result (grammar.component_from parts.old (lexeme token.now)) lexer.old lexer.new }
+    ensures range { IfSome parts.new.placement (λ p. IsPlacement p) }
+{
+    if is(b";", token) {
+        parts.semicolon = token.start;
+        Ok(false)
+    } else if is(b"+", token) {
+        parts.due = Due::Keyword;
+        parts.plus = token.start;
+        Ok(true)
+    } else {
+        component_part(lexer, parts, token)
+    }
+}
+
+#[tactic(auto, unfolding(crate::specs::Components::component_token))]
+fn component_token(lexer: &mut Lexer, parts: &mut ComponentParts) -> Result<bool, ReadError>
+    requires range { IfSome parts.old.placement (λ p. IsPlacement p) }
+    ensures read { Reads (turn parts.new) result (grammar.component_token parts.old) lexer.old lexer.new }
+    ensures range { IfSome parts.new.placement (λ p. IsPlacement p) }
+{
+    let token = token(lexer)?;
+    component_from(lexer, parts, &token)
+}
+
+/// The tokens of a component behind its macro, with its `;`.
+fn component_parts(lexer: &mut Lexer) -> Result<ComponentParts, ReadError>
+    ensures read { Reads (λ p. p) result (block grammar.component_token grammar.no_component) lexer.old lexer.new }
+    ensures range { IfOk result (λ parts. IfSome parts.placement (λ p. IsPlacement p)) }
+{
+    let mut parts = ComponentParts {
+        placement: None,
+        due: Due::Item,
+        point: false,
+        plus: 0,
+        semicolon: 0,
+    };
+    while component_token(lexer, &mut parts)? {}
+    Ok(parts)
+}
+
+/// A component behind its minus.
+#[tactic(auto, unfolding(crate::specs::Components::component))]
+fn read_component(alloc: Global, lexer: &mut Lexer) -> Result<Component, ReadError>
+    ensures read { Reads (λ c. c) result grammar.component lexer.old lexer.new }
+    ensures range { IfOk result (λ c. IsComponent c) }
+{
+    let component = name(lexer)?;
+    let mac = name(lexer)?;
+    let parts = component_parts(lexer)?;
+    Ok(Component {
+        name: Name::from_slice(alloc, component.text)?,
+        mac: Name::from_slice(alloc, mac.text)?,
+        placement: parts.placement,
+        semicolon: parts.semicolon,
+    })
+}
+
+/// An entry, or END COMPONENTS; whether more follow.
+#[tactic(auto, unfolding(crate::specs::Entries::entry_or_end))]
+fn component_or_end(
+    alloc: Global,
+    lexer: &mut Lexer,
+    components: &mut Sequence<Component>,
+) -> Result<bool, ReadError>
+    requires range { All IsComponent components.old }
+    ensures read { Reads (turn components.new) result (entry_or_end (codes "COMPONENTS") grammar.component components.old) lexer.old lexer.new }
+    ensures range { All IsComponent components.new }
+{
+    let token = token(lexer)?;
+    if is(b"-", &token) {
+        let component = read_component(alloc, lexer)?;
+        components.push(component)?;
+        return Ok(true);
+    }
+    if is(b"END", &token) {
+        end_name(lexer, b"COMPONENTS")?;
+        return Ok(false);
+    }
+    Err(fault_at(FaultNumber::Unexpected, token.line))
+}
+
+/// The entries of a section, and its END.
+fn component_entries(
+    alloc: Global,
+    lexer: &mut Lexer,
+    components: &mut Sequence<Component>,
+) -> Result<(), ReadError>
+    requires range { All IsComponent components.old }
+    ensures read { Reads (λ _. components.new) result (block (entry_or_end (codes "COMPONENTS") grammar.component) components.old) lexer.old lexer.new }
+    ensures range { All IsComponent components.new }
+{
+    while component_or_end(alloc, lexer, components)? {}
+    Ok(())
+}
+
+/// A COMPONENTS section behind its keyword: its components go behind the others.
+#[tactic(auto, unfolding(crate::specs::Entries::section))]
+pub fn components(
+    alloc: Global,
+    lexer: &mut Lexer,
+    components: &mut Sequence<Component>,
+) -> Result<(), ReadError>
+    requires range { All IsComponent components.old }
+    ensures read { Reads (λ _. components.new) result (grammar.components components.old) lexer.old lexer.new }
+    ensures range { All IsComponent components.new }
+{
+    to_semicolon(lexer)?;
+    component_entries(alloc, lexer, components)
+}

@@ -1,0 +1,155 @@
+//! Coordinates, points, rectangles, counts and orientations of DEF.
+
+ghost use Rattle.std.specs.Prelude.{◌≡◌, ◌≤ℤ◌, Ok, IfOk, MatchResult};
+ghost use Rattle.std.specs.Int.{int_min, int_max};
+ghost use Rattle.lf_lex.specs.Tokens.{lexeme};
+ghost use Rattle.lf_lex.specs.Reading.{Reads, Fails};
+ghost use Rattle.lf_def.specs.Coordinates as grammar;
+ghost use Rattle.lf_def.specs.Ranges.{IsCoordinate, HasCoordinates, IsCount, IsRect};
+
+use lf_lex::{FaultNumber, Lexer, ReadError, Token, fault_at, is, keyword, token};
+use lf_orient::Orient;
+use lf_units::{Point, Rect, Span, read_fixed};
+
+/// The whole number that a token writes, else BadNumber.
+fn dbu_of(token: &Token) -> Result<i64, ReadError>
+    ensures read { MatchResult result (λ x. grammar.dbu_of (lexeme token.now) ≡ Ok x) (λ e. Fails e (grammar.dbu_of (lexeme token.now))) }
+    ensures range { IfOk result (λ x. IsCoordinate x) }
+{
+    match read_fixed(token.text, 0, 2_147_483_647) {
+        Ok(value) => Ok(value),
+        Err(_) => Err(fault_at(FaultNumber::BadNumber, token.line)),
+    }
+}
+
+/// A coordinate.
+#[tactic(auto, unfolding(crate::specs::Coordinates::dbu))]
+pub fn dbu(lexer: &mut Lexer) -> Result<i64, ReadError>
+    ensures read { Reads (λ x. x) result grammar.dbu lexer.old lexer.new }
+    ensures range { IfOk result (λ x. IsCoordinate x) }
+{
+    let token = token(lexer)?;
+    dbu_of(&token)
+}
+
+/// The number where it lies from 1 to the largest one, else BadNumber.
+fn up_to(most: u32, value: i64, line: usize) -> Result<u32, ReadError>
+    ensures read { MatchResult result (λ n. grammar.up_to most value line ≡ Ok n) (λ e. Fails e (grammar.up_to most value line)) }
+    ensures range { IfOk result (λ n. IsCount most n) }
+{
+    if value < 1 || value > most as i64 {
+        return Err(fault_at(FaultNumber::BadNumber, line));
+    }
+    Ok(value as u32)
+}
+
+/// A whole number from 1 to the largest one.
+#[tactic(auto, unfolding(crate::specs::Coordinates::count))]
+pub fn count(lexer: &mut Lexer, most: u32) -> Result<u32, ReadError>
+    ensures read { Reads (λ n. n) result (grammar.count most) lexer.old lexer.new }
+    ensures range { IfOk result (λ n. IsCount most n) }
+{
+    let token = token(lexer)?;
+    let value = dbu_of(&token)?;
+    up_to(most, value, token.line)
+}
+
+/// `x y )` behind the first parenthesis.
+#[tactic(auto, unfolding(crate::specs::Coordinates::point_rest))]
+pub fn point_rest(lexer: &mut Lexer) -> Result<Point, ReadError>
+    ensures read { Reads (λ p. p) result grammar.point_rest lexer.old lexer.new }
+    ensures range { IfOk result (λ p. HasCoordinates p) }
+{
+    let x = dbu(lexer)?;
+    let y = dbu(lexer)?;
+    keyword(lexer, b")")?;
+    Ok(Point { x, y })
+}
+
+/// `( x y )`.
+#[tactic(auto, unfolding(crate::specs::Coordinates::point))]
+fn point(lexer: &mut Lexer) -> Result<Point, ReadError>
+    ensures read { Reads (λ p. p) result grammar.point lexer.old lexer.new }
+    ensures range { IfOk result (λ p. HasCoordinates p) }
+{
+    keyword(lexer, b"(")?;
+    point_rest(lexer)
+}
+
+/// The numbers from the lesser of two on up to the greater.
+fn between(a: i64, b: i64) -> Span
+    requires a { IsCoordinate a }
+    requires b { IsCoordinate b }
+    ensures span { result ≡ record { lo = int_min a b; hi = int_max a b } }
+    ensures lo { IsCoordinate result.lo }
+    ensures hi { IsCoordinate result.hi }
+    ensures order { result.lo ≤ℤ result.hi }
+{
+    Span {
+        lo: a.min(b),
+        hi: a.max(b),
+    }
+}
+
+/// The rectangle with these two opposite corners.
+fn rect_between(p: &Point, q: &Point) -> Rect
+    requires first { HasCoordinates p.now }
+    requires second { HasCoordinates q.now }
+    ensures rect { result ≡ grammar.rect_between p.now q.now }
+    ensures range { IsRect result }
+{
+    let across = between(p.x, q.x);
+    let up = between(p.y, q.y);
+    Rect {
+        x1: across.lo,
+        y1: up.lo,
+        x2: across.hi,
+        y2: up.hi,
+    }
+}
+
+/// `x y ) ( x y )` behind the first parenthesis.
+#[tactic(auto, unfolding(crate::specs::Coordinates::rect_rest))]
+pub fn rect_rest(lexer: &mut Lexer) -> Result<Rect, ReadError>
+    ensures read { Reads (λ r. r) result grammar.rect_rest lexer.old lexer.new }
+    ensures range { IfOk result (λ r. IsRect r) }
+{
+    let corner = point_rest(lexer)?;
+    let opposite = point(lexer)?;
+    Ok(rect_between(&corner, &opposite))
+}
+
+/// `( x y ) ( x y )`.
+#[tactic(auto, unfolding(crate::specs::Coordinates::rect))]
+pub fn rect(lexer: &mut Lexer) -> Result<Rect, ReadError>
+    ensures read { Reads (λ r. r) result grammar.rect lexer.old lexer.new }
+    ensures range { IfOk result (λ r. IsRect r) }
+{
+    keyword(lexer, b"(")?;
+    rect_rest(lexer)
+}
+
+/// The orientation that a token names, else Unexpected.
+pub fn orient_of(token: &Token) -> Result<Orient, ReadError>
+    ensures { MatchResult result (λ o. grammar.orient_of (lexeme token.now) ≡ Ok o) (λ e. Fails e (grammar.orient_of (lexeme token.now))) }
+{
+    if is(b"N", token) {
+        Ok(Orient::N)
+    } else if is(b"W", token) {
+        Ok(Orient::W)
+    } else if is(b"S", token) {
+        Ok(Orient::S)
+    } else if is(b"E", token) {
+        Ok(Orient::E)
+    } else if is(b"FN", token) {
+        Ok(Orient::FN)
+    } else if is(b"FW", token) {
+        Ok(Orient::FW)
+    } else if is(b"FS", token) {
+        Ok(Orient::FS)
+    } else if is(b"FE", token) {
+        Ok(Orient::FE)
+    } else {
+        Err(fault_at(FaultNumber::Unexpected, token.line))
+    }
+}

@@ -1,0 +1,37 @@
+//! What a DEF text says.
+
+ghost use Rattle.std.specs.Prelude.{All};
+ghost use Rattle.std.proofs.Props.{props};
+ghost use Rattle.lf_def.specs.Document.{IsReadFrom};
+ghost use Rattle.lf_def.specs.Ranges.{IsHeader, IsRow, IsRegion, IsGroup, IsComponent, IsBlockage};
+
+use crate::blockages::Blockage;
+use crate::components::Component;
+use crate::groups::Group;
+use crate::header::Header;
+use crate::regions::Region;
+use crate::rows::Row;
+use lf_units::Sequence;
+
+/// What a DEF text says of placement, each list in the order of the text, with the text itself.
+///
+/// Only reading a text gives a document: its fields are what its text says. Coordinates lie between
+/// -2147483647 and 2147483647; names are 1,024 bytes long at most and hold bytes from 33 to 126.
+#[derive(Drop)]
+pub struct DefDoc<'a> {
+    /// The whole text.
+    pub text: &'a [u8],
+    pub header: Header,
+    pub rows: Sequence<Row>,
+    pub regions: Sequence<Region>,
+    pub groups: Sequence<Group>,
+    pub components: Sequence<Component>,
+    pub blockages: Sequence<Blockage>,
+    pub ghost read: { IsReadFrom text.now header rows regions groups components blockages },
+    pub ghost header_range: { IsHeader header } by { Prim.hlevel props },
+    pub ghost rows_range: { All IsRow rows } by { Prim.hlevel props },
+    pub ghost regions_range: { All IsRegion regions } by { Prim.hlevel props },
+    pub ghost groups_range: { All IsGroup groups } by { Prim.hlevel props },
+    pub ghost components_range: { All IsComponent components } by { Prim.hlevel props },
+    pub ghost blockages_range: { All IsBlockage blockages } by { Prim.hlevel props },
+}

@@ -1,0 +1,221 @@
+//! Groups: which components belong to a region.
+
+ghost use Rattle.std.specs.Prelude.{◌≡◌, All, IfOk, IfSome, codes};
+ghost use Rattle.lf_lex.specs.Tokens.{lexeme, IsSpelled};
+ghost use Rattle.lf_lex.specs.Reading.{Reads, ReadsOn, IsName, block, turn};
+ghost use Rattle.lf_def.specs.Entries.{entry_or_end};
+ghost use Rattle.lf_def.specs.Groups as grammar;
+ghost use Rattle.lf_def.specs.Ranges.{IsGroup, AreGroupParts};
+
+use crate::entries::{Due, check_name, keep_first};
+use lf_lex::{
+    FaultNumber, Lexer, ReadError, Token, end_name, fault_at, is, name, to_semicolon, token,
+};
+use lf_units::{Name, Sequence};
+use std::alloc::Global;
+
+/// A group of components (LEF/DEF 5.8, DEF GROUPS).
+#[derive(Drop)]
+pub struct Group {
+    pub name: Name,
+    /// Names of components, in the order of the text; a `*` that is not directly behind a backslash
+    /// stands for any run of bytes.
+    pub patterns: Sequence<Name>,
+    /// The region of the first REGION clause, where there is one.
+    pub region: Option<Name>,
+}
+
+/// What is known of a group so far.
+#[derive(Drop)]
+pub struct GroupParts {
+    pub patterns: Sequence<Name>,
+    pub region: Option<Name>,
+    pub due: Due,
+}
+
+/// One more pattern.
+#[tactic(auto, unfolding(crate::specs::Groups::with_pattern))]
+fn with_pattern(
+    alloc: Global,
+    lexer: &Lexer,
+    parts: &mut GroupParts,
+    token: &Token,
+) -> Result<bool, ReadError>
+    requires spelled { IsSpelled (lexeme token.now) }
+    requires names { AreGroupParts parts.old }
+    ensures read { ReadsOn (turn parts.new) result (grammar.with_pattern parts.old (lexeme token.now)) lexer.now lexer.now }
+    ensures names { AreGroupParts parts.new }
+{
+    check_name(token)?;
+    let pattern = Name::from_slice(alloc, token.text)?;
+    parts.patterns.push(pattern)?;
+    Ok(true)
+}
+
+/// A REGION clause behind its word.
+#[tactic(auto, unfolding(crate::specs::Groups::with_region))]
+fn with_region(alloc: Global, lexer: &mut Lexer, parts: &mut GroupParts) -> Result<bool, ReadError>
+    requires names { AreGroupParts parts.old }
+    ensures read { Reads (turn parts.new) result (grammar.with_region parts.old) lexer.old lexer.new }
+    ensures names { AreGroupParts parts.new }
+{
+    let region = name(lexer)?;
+    if is(b"(", &region) {
+        return Err(fault_at(FaultNumber::Unexpected, region.line));
+    }
+    keep_first(alloc, &mut parts.region, region.text)?;
+    parts.due = Due::Separator;
+    Ok(true)
+}
+
+/// A token of a group that is no separator, with what belongs to it; whether more follow.
+#[tactic(auto, unfolding(crate::specs::Groups::group_part))]
+fn group_part(
+    alloc: Global,
+    lexer: &mut Lexer,
+    parts: &mut GroupParts,
+    token: &Token,
+) -> Result<bool, ReadError>
+    requires spelled { IsSpelled (lexeme token.now) }
+    requires names { AreGroupParts parts.old }
+    ensures read { ReadsOn (turn parts.new) result (grammar.group_part parts.old.due parts.old (lexeme token.now)) lexer.old lexer.new }
+    ensures names { AreGroupParts parts.new }
+{
+    match parts.due {
+        Due::Item => with_pattern(alloc, lexer, parts, token),
+        Due::Keyword => {
+            if is(b"REGION", token) {
+                with_region(alloc, lexer, parts)
+            } else {
+                parts.due = Due::Rest;
+                Ok(true)
+            }
+        }
+        Due::Rest => Ok(true),
+        Due::Separator => Err(fault_at(FaultNumber::Unexpected, token.line)),
+    }
+}
+
+/// A token of a group, with what belongs to it; whether more follow.
+#[tactic(auto, unfolding(crate::specs::Groups::group_from))]
+fn group_from(
+    alloc: Global,
+    lexer: &mut Lexer,
+    parts: &mut GroupParts,
+    token: &Token,
+) -> Result<bool, ReadError>
+    requires spelled { IsSpelled (lexeme token.now) }
+    requires names { AreGroupParts parts.old }
+    ensures read { ReadsOn (turn parts.new) result (grammar.group_from parts.old (lexeme token.now)) lexer.old lexer.new }
+    ensures names { AreGroupParts parts.new }
+{
+    if is(b";", token) {
+        Ok(false)
+    } else if is(b"+", token) {
+        parts.due = Due::Keyword;
+        Ok(true)
+    } else {
+        group_part(alloc, lexer, parts, token)
+    }
+}
+
+#[tactic(auto, unfolding(crate::specs::Groups::group_token))]
+fn group_token(alloc: Global, lexer: &mut Lexer, parts: &mut GroupParts) -> Result<bool, ReadError>
+    requires names { AreGroupParts parts.old }
+    ensures read { Reads (turn parts.new) result (grammar.group_token parts.old) lexer.old lexer.new }
+    ensures names { AreGroupParts parts.new }
+{
+    let token = token(lexer)?;
+    group_from(alloc, lexer, parts, &token)
+}
+
+/// The tokens of a group behind its name, with its `;`.
+fn group_rest(alloc: Global, lexer: &mut Lexer, parts: &mut GroupParts) -> Result<(), ReadError>
+    requires names { AreGroupParts parts.old }
+    ensures read { Reads (λ _. parts.new) result (block grammar.group_token parts.old) lexer.old lexer.new }
+    ensures names { AreGroupParts parts.new }
+{
+    while group_token(alloc, lexer, parts)? {}
+    Ok(())
+}
+
+/// What is known of a group behind its name.
+fn no_group(alloc: Global) -> GroupParts
+    ensures parts { result ≡ grammar.no_group }
+    ensures names { AreGroupParts result }
+{
+    GroupParts {
+        patterns: Sequence::new(alloc),
+        region: None,
+        due: Due::Item,
+    }
+}
+
+/// A group behind its minus.
+#[tactic(auto, unfolding(crate::specs::Groups::group))]
+fn read_group(alloc: Global, lexer: &mut Lexer) -> Result<Group, ReadError>
+    ensures read { Reads (λ g. g) result grammar.group lexer.old lexer.new }
+    ensures range { IfOk result (λ g. IsGroup g) }
+{
+    let name = name(lexer)?;
+    let mut parts = no_group(alloc);
+    group_rest(alloc, lexer, &mut parts)?;
+    Ok(Group {
+        name: Name::from_slice(alloc, name.text)?,
+        patterns: parts.patterns,
+        region: parts.region,
+    })
+}
+
+/// An entry, or END GROUPS; whether more follow.
+#[tactic(auto, unfolding(crate::specs::Entries::entry_or_end))]
+fn group_or_end(
+    alloc: Global,
+    lexer: &mut Lexer,
+    groups: &mut Sequence<Group>,
+) -> Result<bool, ReadError>
+    requires range { All IsGroup groups.old }
+    ensures read { Reads (turn groups.new) result (entry_or_end (codes "GROUPS") grammar.group groups.old) lexer.old lexer.new }
+    ensures range { All IsGroup groups.new }
+{
+    let token = token(lexer)?;
+    if is(b"-", &token) {
+        let group = read_group(alloc, lexer)?;
+        groups.push(group)?;
+        return Ok(true);
+    }
+    if is(b"END", &token) {
+        end_name(lexer, b"GROUPS")?;
+        return Ok(false);
+    }
+    Err(fault_at(FaultNumber::Unexpected, token.line))
+}
+
+/// The entries of a section, and its END.
+fn group_entries(
+    alloc: Global,
+    lexer: &mut Lexer,
+    groups: &mut Sequence<Group>,
+) -> Result<(), ReadError>
+    requires range { All IsGroup groups.old }
+    ensures read { Reads (λ _. groups.new) result (block (entry_or_end (codes "GROUPS") grammar.group) groups.old) lexer.old lexer.new }
+    ensures range { All IsGroup groups.new }
+{
+    while group_or_end(alloc, lexer, groups)? {}
+    Ok(())
+}
+
+/// A GROUPS section behind its keyword: its groups go behind the others.
+#[tactic(auto, unfolding(crate::specs::Entries::section))]
+pub fn groups(
+    alloc: Global,
+    lexer: &mut Lexer,
+    groups: &mut Sequence<Group>,
+) -> Result<(), ReadError>
+    requires range { All IsGroup groups.old }
+    ensures read { Reads (λ _. groups.new) result (grammar.groups groups.old) lexer.old lexer.new }
+    ensures range { All IsGroup groups.new }
+{
+    to_semicolon(lexer)?;
+    group_entries(alloc, lexer, groups)
+}

@@ -1,0 +1,35 @@
+//! Reads the parts of DEF texts that placement needs: header, rows, regions, groups, components with
+//! where their placement clauses stand in the text, and placement blockages.
+#![tactic(auto)]
+
+mod blockages;
+mod components;
+mod coordinates;
+mod document;
+mod entries;
+mod groups;
+mod header;
+mod laws;
+mod parts;
+mod regions;
+mod rows;
+mod sample;
+mod statements;
+mod texts;
+
+pub use blockages::Blockage;
+pub use components::{Component, Location, Placement, PlacementKind};
+pub use document::DefDoc;
+pub use groups::Group;
+pub use header::Header;
+pub use laws::{
+    nothing_behind_end_design_counts, statements_read_alike, statements_take_tokens,
+    the_same_tokens_say_the_same,
+};
+pub use regions::{Region, RegionKind};
+pub use rows::Row;
+pub use sample::W_DEF;
+pub use texts::read_def;
+
+#[cfg(test)]
+mod tests;

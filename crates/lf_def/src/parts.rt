@@ -1,0 +1,20 @@
+//! What is known of a text so far.
+
+use crate::blockages::Blockage;
+use crate::components::Component;
+use crate::groups::Group;
+use crate::header::HeaderParts;
+use crate::regions::Region;
+use crate::rows::Row;
+use lf_units::Sequence;
+
+/// What the statements that were read say.
+#[derive(Drop)]
+pub struct DocParts {
+    pub header: HeaderParts,
+    pub rows: Sequence<Row>,
+    pub regions: Sequence<Region>,
+    pub groups: Sequence<Group>,
+    pub components: Sequence<Component>,
+    pub blockages: Sequence<Blockage>,
+}

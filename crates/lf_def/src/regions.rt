@@ -1,0 +1,235 @@
+//! Regions: fences and guides.
+
+ghost use Rattle.std.specs.Prelude.{◌≡◌, Ok, All, IfOk, IfErr, MatchResult, codes};
+ghost use Rattle.lf_lex.specs.Tokens.{lexeme};
+ghost use Rattle.lf_lex.specs.Reading.{Reads, ReadsOn, Fails, block, turn};
+ghost use Rattle.lf_lex.specs.declared.fault.ReadError.TheVariants.{Memory};
+ghost use Rattle.lf_def.specs.Entries.{entry_or_end};
+ghost use Rattle.lf_def.specs.Regions as grammar;
+ghost use Rattle.lf_def.specs.Ranges.{IsRect, IsRegion};
+
+use crate::coordinates::{rect, rect_rest};
+use crate::entries::Due;
+use lf_lex::{
+    FaultNumber, Lexer, ReadError, Token, end_name, fault_at, is, name, to_semicolon, token,
+};
+use lf_units::{Name, Rect, Sequence};
+use std::alloc::Global;
+
+/// What a region asks of the components of its groups (LEF/DEF 5.8, DEF REGIONS, TYPE).
+#[derive(Clone, Copy, Debug, PartialEq, Eq)]
+pub enum RegionKind {
+    /// They stand in it, and no others do.
+    Fence,
+    /// They should stand in it.
+    Guide,
+}
+
+/// A region (LEF/DEF 5.8, DEF REGIONS), in database units.
+#[derive(Drop)]
+pub struct Region {
+    pub name: Name,
+    /// The first TYPE, where there is one.
+    pub kind: Option<RegionKind>,
+    /// Its rectangles in the order of the text, at least one, each with its lower left corner before its
+    /// upper right one. They may overlap.
+    pub rects: Sequence<Rect>,
+}
+
+/// What is known of a region so far.
+#[derive(Drop)]
+pub struct RegionParts {
+    pub kind: Option<RegionKind>,
+    pub rects: Sequence<Rect>,
+    pub due: Due,
+}
+
+/// The type that a token names, else Unexpected.
+fn kind_of(token: &Token) -> Result<RegionKind, ReadError>
+    ensures { MatchResult result (λ k. grammar.kind_of (lexeme token.now) ≡ Ok k) (λ e. Fails e (grammar.kind_of (lexeme token.now))) }
+{
+    if is(b"FENCE", token) {
+        Ok(RegionKind::Fence)
+    } else if is(b"GUIDE", token) {
+        Ok(RegionKind::Guide)
+    } else {
+        Err(fault_at(FaultNumber::Unexpected, token.line))
+    }
+}
+
+/// One more rectangle, behind its first parenthesis.
+#[tactic(auto, unfolding(crate::specs::Regions::with_rect))]
+fn with_rect(lexer: &mut Lexer, parts: &mut RegionParts) -> Result<bool, ReadError>
+    requires rects { All IsRect parts.old.rects }
+    ensures read { Reads (turn parts.new) result (grammar.with_rect parts.old) lexer.old lexer.new }
+    ensures rects { All IsRect parts.new.rects }
+{
+    let rect = rect_rest(lexer)?;
+    parts.rects.push(rect)?;
+    Ok(true)
+}
+
+/// A TYPE clause behind its word.
+#[tactic(auto, unfolding(crate::specs::Regions::with_kind))]
+fn with_kind(lexer: &mut Lexer, parts: &mut RegionParts) -> Result<bool, ReadError>
+    requires rects { All IsRect parts.old.rects }
+    ensures read { Reads (turn parts.new) result (grammar.with_kind parts.old) lexer.old lexer.new }
+    ensures rects { All IsRect parts.new.rects }
+{
+    let token = token(lexer)?;
+    let kind = kind_of(&token)?;
+    parts.kind = parts.kind.or(Some(kind));
+    parts.due = Due::Separator;
+    Ok(true)
+}
+
+/// A token of a region that is no separator, with what belongs to it; whether more follow.
+#[tactic(auto, unfolding(crate::specs::Regions::region_part))]
+fn region_part(lexer: &mut Lexer, parts: &mut RegionParts, token: &Token) -> Result<bool, ReadError>
+    requires rects { All IsRect parts.old.rects }
+    ensures read { ReadsOn (turn parts.new) result (grammar.region_part parts.old.due parts.old (lexeme token.now)) lexer.old lexer.new }
+    ensures rects { All IsRect parts.new.rects }
+{
+    match parts.due {
+        Due::Item => {
+            if is(b"(", token) {
+                with_rect(lexer, parts)
+            } else {
+                Err(fault_at(FaultNumber::Unexpected, token.line))
+            }
+        }
+        Due::Keyword => {
+            if is(b"TYPE", token) {
+                with_kind(lexer, parts)
+            } else {
+                parts.due = Due::Rest;
+                Ok(true)
+            }
+        }
+        Due::Rest => Ok(true),
+        Due::Separator => Err(fault_at(FaultNumber::Unexpected, token.line)),
+    }
+}
+
+/// A token of a region, with what belongs to it; whether more follow.
+#[tactic(auto, unfolding(crate::specs::Regions::region_from))]
+fn region_from(lexer: &mut Lexer, parts: &mut RegionParts, token: &Token) -> Result<bool, ReadError>
+    requires rects { All IsRect parts.old.rects }
+    ensures read { ReadsOn (turn parts.new) result (grammar.region_from parts.old (lexeme token.now)) lexer.old lexer.new }
+    ensures rects { All IsRect parts.new.rects }
+{
+    if is(b";", token) {
+        Ok(false)
+    } else if is(b"+", token) {
+        parts.due = Due::Keyword;
+        Ok(true)
+    } else {
+        region_part(lexer, parts, token)
+    }
+}
+
+#[tactic(auto, unfolding(crate::specs::Regions::region_token))]
+fn region_token(lexer: &mut Lexer, parts: &mut RegionParts) -> Result<bool, ReadError>
+    requires rects { All IsRect parts.old.rects }
+    ensures read { Reads (turn parts.new) result (grammar.region_token parts.old) lexer.old lexer.new }
+    ensures rects { All IsRect parts.new.rects }
+{
+    let token = token(lexer)?;
+    region_from(lexer, parts, &token)
+}
+
+/// The tokens of a region behind its first rectangle, with its `;`.
+fn region_rest(lexer: &mut Lexer, parts: &mut RegionParts) -> Result<(), ReadError>
+    requires rects { All IsRect parts.old.rects }
+    ensures read { Reads (λ _. parts.new) result (block grammar.region_token parts.old) lexer.old lexer.new }
+    ensures rects { All IsRect parts.new.rects }
+{
+    while region_token(lexer, parts)? {}
+    Ok(())
+}
+
+/// What is known of a region behind its first rectangle.
+fn first_rect(alloc: Global, rect: Rect) -> Result<RegionParts, ReadError>
+    requires rect { IsRect rect }
+    ensures parts { IfOk result (λ parts. parts ≡ grammar.first_rect rect) }
+    ensures memory { IfErr result (λ e. e ≡ Memory) }
+    ensures rects { IfOk result (λ parts. All IsRect parts.rects) }
+{
+    let mut rects = Sequence::new(alloc);
+    rects.push(rect)?;
+    Ok(RegionParts {
+        kind: None,
+        rects,
+        due: Due::Item,
+    })
+}
+
+/// A region behind its minus.
+#[tactic(auto, unfolding(crate::specs::Regions::region))]
+fn read_region(alloc: Global, lexer: &mut Lexer) -> Result<Region, ReadError>
+    ensures read { Reads (λ r. r) result grammar.region lexer.old lexer.new }
+    ensures range { IfOk result (λ r. IsRegion r) }
+{
+    let name = name(lexer)?;
+    let rect = rect(lexer)?;
+    let mut parts = first_rect(alloc, rect)?;
+    region_rest(lexer, &mut parts)?;
+    Ok(Region {
+        name: Name::from_slice(alloc, name.text)?,
+        kind: parts.kind,
+        rects: parts.rects,
+    })
+}
+
+/// An entry, or END REGIONS; whether more follow.
+#[tactic(auto, unfolding(crate::specs::Entries::entry_or_end))]
+fn region_or_end(
+    alloc: Global,
+    lexer: &mut Lexer,
+    regions: &mut Sequence<Region>,
+) -> Result<bool, ReadError>
+    requires range { All IsRegion regions.old }
+    ensures read { Reads (turn regions.new) result (entry_or_end (codes "REGIONS") grammar.region regions.old) lexer.old lexer.new }
+    ensures range { All IsRegion regions.new }
+{
+    let token = token(lexer)?;
+    if is(b"-", &token) {
+        let region = read_region(alloc, lexer)?;
+        regions.push(region)?;
+        return Ok(true);
+    }
+    if is(b"END", &token) {
+        end_name(lexer, b"REGIONS")?;
+        return Ok(false);
+    }
+    Err(fault_at(FaultNumber::Unexpected, token.line))
+}
+
+/// The entries of a section, and its END.
+fn region_entries(
+    alloc: Global,
+    lexer: &mut Lexer,
+    regions: &mut Sequence<Region>,
+) -> Result<(), ReadError>
+    requires range { All IsRegion regions.old }
+    ensures read { Reads (λ _. regions.new) result (block (entry_or_end (codes "REGIONS") grammar.region) regions.old) lexer.old lexer.new }
+    ensures range { All IsRegion regions.new }
+{
+    while region_or_end(alloc, lexer, regions)? {}
+    Ok(())
+}
+
+/// A REGIONS section behind its keyword: its regions go behind the others.
+#[tactic(auto, unfolding(crate::specs::Entries::section))]
+pub fn regions(
+    alloc: Global,
+    lexer: &mut Lexer,
+    regions: &mut Sequence<Region>,
+) -> Result<(), ReadError>
+    requires range { All IsRegion regions.old }
+    ensures read { Reads (λ _. regions.new) result (grammar.regions regions.old) lexer.old lexer.new }
+    ensures range { All IsRegion regions.new }
+{
+    to_semicolon(lexer)?;
+    region_entries(alloc, lexer, regions)
+}

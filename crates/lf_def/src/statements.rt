@@ -1,0 +1,189 @@
+//! The statements of a text, up to END DESIGN.
+
+ghost use Rattle.std.specs.Prelude.{◌≡◌, Ok, All, IfOk, IfErr};
+ghost use Rattle.lf_lex.specs.Tokens.{lexeme};
+ghost use Rattle.lf_lex.specs.Reading.{Reads, ReadsOn, Fails, turn};
+ghost use Rattle.lf_def.specs.Document as grammar;
+ghost use Rattle.lf_def.specs.Rows.{with_row};
+ghost use Rattle.lf_def.specs.Ranges.{AreParts, IsRow};
+
+use crate::blockages::blockages;
+use crate::components::components;
+use crate::groups::groups;
+use crate::header::{header_statement, is_header, no_header};
+use crate::parts::DocParts;
+use crate::regions::regions;
+use crate::rows::{Row, read_row};
+use lf_lex::{
+    FaultNumber, Lexer, ReadError, Token, fault_at, is, is_any_word, to_end, to_semicolon, to_word,
+    token,
+};
+use lf_units::Sequence;
+use std::alloc::Global;
+
+/// Whether the token begins a section that is passed over to END and its keyword.
+fn is_passed_section(token: &Token) -> bool
+    ensures { result ≡ grammar.is_passed_section (lexeme token.now) }
+{
+    is(b"PROPERTYDEFINITIONS", token)
+        || is(b"VIAS", token)
+        || is(b"STYLES", token)
+        || is(b"NONDEFAULTRULES", token)
+        || is(b"PINS", token)
+        || is(b"PINPROPERTIES", token)
+        || is(b"SLOTS", token)
+        || is(b"FILLS", token)
+        || is(b"SPECIALNETS", token)
+        || is(b"NETS", token)
+        || is(b"SCANCHAINS", token)
+}
+
+/// Whether the token begins a statement that is passed over to its semicolon.
+fn is_passed_statement(token: &Token) -> bool
+    ensures { result ≡ grammar.is_passed_statement (lexeme token.now) }
+{
+    is(b"TRACKS", token)
+        || is(b"GCELLGRID", token)
+        || is(b"HISTORY", token)
+        || is(b"TECHNOLOGY", token)
+        || is(b"DIEAREA", token)
+        || is(b"COMPONENTMASKSHIFT", token)
+        || is(b"NAMESCASESENSITIVE", token)
+}
+
+/// A statement that says nothing of placement, of which the first token was read.
+#[tactic(auto, unfolding(crate::specs::Document::passed_from))]
+fn passed_from(lexer: &mut Lexer, token: &Token) -> Result<(), ReadError>
+    ensures { ReadsOn (λ x. x) result (grammar.passed_from (lexeme token.now)) lexer.old lexer.new }
+{
+    if is_passed_section(token) {
+        to_end(lexer, token.text)
+    } else if is(b"BEGINEXT", token) {
+        to_word(lexer, b"ENDEXT")
+    } else if is_passed_statement(token) {
+        to_semicolon(lexer)
+    } else if is_any_word(token) {
+        Err(fault_at(FaultNumber::UnknownStatement, token.line))
+    } else {
+        Err(fault_at(FaultNumber::Unexpected, token.line))
+    }
+}
+
+/// DESIGN behind an END.
+#[tactic(auto, unfolding(crate::specs::Document::end_design))]
+fn end_design(lexer: &mut Lexer, parts: &DocParts) -> Result<(), ReadError>
+    ensures { Reads (λ x. x) result (grammar.end_design parts.now) lexer.old lexer.new }
+{
+    let token = token(lexer)?;
+    if !is_any_word(&token) {
+        return Err(fault_at(FaultNumber::Unexpected, token.line));
+    }
+    if !is(b"DESIGN", &token) {
+        return Err(fault_at(FaultNumber::WrongEnd, token.line));
+    }
+    if parts.header.design.is_some() {
+        Ok(())
+    } else {
+        Err(fault_at(FaultNumber::Unexpected, token.line))
+    }
+}
+
+/// A row behind its keyword: it goes behind the others.
+#[tactic(auto, unfolding(crate::specs::Rows::with_row))]
+fn add_row(alloc: Global, lexer: &mut Lexer, rows: &mut Sequence<Row>) -> Result<(), ReadError>
+    requires range { All IsRow rows.old }
+    ensures read { Reads (λ _. rows.new) result (with_row rows.old) lexer.old lexer.new }
+    ensures range { All IsRow rows.new }
+{
+    let row = read_row(alloc, lexer)?;
+    rows.push(row)?;
+    Ok(())
+}
+
+/// A row or a section, of which the keyword was read, or a statement that is passed over.
+#[tactic(auto, unfolding(crate::specs::Document::body_statement))]
+fn body_statement(
+    alloc: Global,
+    lexer: &mut Lexer,
+    parts: &mut DocParts,
+    token: &Token,
+) -> Result<(), ReadError>
+    requires range { AreParts parts.old }
+    ensures read { ReadsOn (λ _. parts.new) result (grammar.body_statement parts.old (lexeme token.now)) lexer.old lexer.new }
+    ensures range { AreParts parts.new }
+{
+    if is(b"ROW", token) {
+        add_row(alloc, lexer, &mut parts.rows)
+    } else if is(b"REGIONS", token) {
+        regions(alloc, lexer, &mut parts.regions)
+    } else if is(b"GROUPS", token) {
+        groups(alloc, lexer, &mut parts.groups)
+    } else if is(b"COMPONENTS", token) {
+        components(alloc, lexer, &mut parts.components)
+    } else if is(b"BLOCKAGES", token) {
+        blockages(alloc, lexer, &mut parts.blockages)
+    } else {
+        passed_from(lexer, token)
+    }
+}
+
+/// A statement of the text, of which the first token was read; whether more follow.
+#[tactic(auto, unfolding(crate::specs::Document::statement_from))]
+fn statement_from(
+    alloc: Global,
+    lexer: &mut Lexer,
+    parts: &mut DocParts,
+    token: &Token,
+) -> Result<bool, ReadError>
+    requires range { AreParts parts.old }
+    ensures read { ReadsOn (turn parts.new) result (grammar.statement_from parts.old (lexeme token.now)) lexer.old lexer.new }
+    ensures range { AreParts parts.new }
+{
+    if is(b"END", token) {
+        end_design(lexer, parts)?;
+        return Ok(false);
+    }
+    if is_header(token) {
+        header_statement(alloc, lexer, &mut parts.header, token)?;
+    } else {
+        body_statement(alloc, lexer, parts, token)?;
+    }
+    Ok(true)
+}
+
+#[tactic(auto, unfolding(crate::specs::Document::statement))]
+fn statement(alloc: Global, lexer: &mut Lexer, parts: &mut DocParts) -> Result<bool, ReadError>
+    requires range { AreParts parts.old }
+    ensures read { Reads (turn parts.new) result (grammar.statement parts.old) lexer.old lexer.new }
+    ensures range { AreParts parts.new }
+{
+    let token = token(lexer)?;
+    statement_from(alloc, lexer, parts, &token)
+}
+
+/// What is known before the first statement.
+fn no_parts(alloc: Global) -> DocParts
+    ensures parts { result ≡ grammar.no_parts }
+    ensures range { AreParts result }
+{
+    DocParts {
+        header: no_header(),
+        rows: Sequence::new(alloc),
+        regions: Sequence::new(alloc),
+        groups: Sequence::new(alloc),
+        components: Sequence::new(alloc),
+        blockages: Sequence::new(alloc),
+    }
+}
+
+/// The statements of a text up to END DESIGN.
+pub fn read_statements(alloc: Global, text: &[u8]) -> Result<DocParts, ReadError>
+    ensures ok { IfOk result (λ parts. grammar.parts_of text.now ≡ Ok parts) }
+    ensures fault { IfErr result (λ e. Fails e (grammar.parts_of text.now)) }
+    ensures range { IfOk result (λ parts. AreParts parts) }
+{
+    let mut lexer = Lexer::new(text);
+    let mut parts = no_parts(alloc);
+    while statement(alloc, &mut lexer, &mut parts)? {}
+    Ok(parts)
+}

@@ -1,0 +1,374 @@
+use super::*;
+use lf_lex::{FaultNumber, LoadFault};
+use lf_orient::Orient;
+use lf_units::{Point, Rect};
+use std::alloc::{AllocError, Global};
+use std::test::Fail;
+
+/// The text with one of its lines, numbered from 1, exchanged for another.
+fn with_line(
+    alloc: Global,
+    text: &[u8],
+    number: usize,
+    line: &[u8],
+) -> Result<Vec<u8>, AllocError> {
+    let mut new = Vec::new(alloc);
+    for (i, old) in text.split(|byte| *byte == b'\n').enumerate() {
+        if i > 0 {
+            new.push(b'\n')?;
+        }
+        if number.checked_sub(1) == Some(i) {
+            new.extend_from_slice(line)?;
+        } else {
+            new.extend_from_slice(old)?;
+        }
+    }
+    Ok(new)
+}
+
+/// The first lines of the text, so many of them.
+fn first_lines(alloc: Global, text: &[u8], count: usize) -> Result<Vec<u8>, AllocError> {
+    let mut new = Vec::new(alloc);
+    for (i, line) in text.split(|byte| *byte == b'\n').enumerate() {
+        if i < count {
+            new.extend_from_slice(line)?;
+            new.push(b'\n')?;
+        }
+    }
+    Ok(new)
+}
+
+fn at_line(number: FaultNumber, line: usize) -> Option<LoadFault<'static>> {
+    Some(LoadFault {
+        number,
+        line: Some(line),
+        name: None,
+    })
+}
+
+/// What a text is refused for.
+fn refusal<'a>(rt: &HostRuntime, text: &'a [u8]) -> Option<LoadFault<'a>> {
+    read_def(rt.alloc(), text).err()
+}
+
+#[test]
+fn reads_the_sample(rt: HostRuntime) -> Result<(), Fail> {
+    let Ok(doc) = read_def(rt.alloc(), W_DEF) else {
+        return Err(Fail::from("the sample"));
+    };
+    assert!(rt; doc.text == W_DEF);
+    assert!(rt; doc.header.version.is(b"5.8"));
+    assert!(rt; doc.header.divider.is(b"\"/\""));
+    assert!(rt; doc.header.brackets.is(b"\"[]\""));
+    assert!(rt; doc.header.design.is(b"w"));
+    assert!(rt; doc.header.units == Some(1000));
+    let [_, row, _, _] = doc.rows.as_slice() else {
+        return Err(Fail::from("four rows"));
+    };
+    assert!(rt; row.name.is(b"r1"));
+    assert!(rt; row.site.is(b"core"));
+    assert_eq!(rt; row.x, 0);
+    assert_eq!(rt; row.y, 2000);
+    assert_eq!(rt; row.orient, Orient::FS);
+    assert_eq!(rt; row.sites_x, 50);
+    assert_eq!(rt; row.sites_y, 1);
+    assert!(rt; row.step == Some(Point { x: 200, y: 0 }));
+    let [_, region] = doc.regions.as_slice() else {
+        return Err(Fail::from("two regions"));
+    };
+    assert!(rt; region.name.is(b"B"));
+    assert!(rt; region.kind == Some(RegionKind::Fence));
+    let [rect] = region.rects.as_slice() else {
+        return Err(Fail::from("one rectangle"));
+    };
+    assert_eq!(rt;
+        *rect,
+        Rect {
+            x1: 6000,
+            y1: 0,
+            x2: 10_000,
+            y2: 8000
+        }
+    );
+    Ok(())
+}
+
+#[test]
+fn reads_the_groups_and_blockages_of_the_sample(rt: HostRuntime) -> Result<(), Fail> {
+    let Ok(doc) = read_def(rt.alloc(), W_DEF) else {
+        return Err(Fail::from("the sample"));
+    };
+    let [group, _] = doc.groups.as_slice() else {
+        return Err(Fail::from("two groups"));
+    };
+    assert!(rt; group.name.is(b"ga"));
+    assert!(rt; matches!(&group.region, Some(region) if region.is(b"A")));
+    let [pattern] = group.patterns.as_slice() else {
+        return Err(Fail::from("one pattern"));
+    };
+    assert!(rt; pattern.is(b"a*"));
+    let [blockage] = doc.blockages.as_slice() else {
+        return Err(Fail::from("one blockage"));
+    };
+    assert!(rt; !blockage.soft && !blockage.partial);
+    assert_eq!(rt; blockage.rects.len(), 1);
+    Ok(())
+}
+
+/// The clause of a2 is `+ UNPLACED` of line 16, and the `;` of a1 stands at the end of line 15.
+#[test]
+fn says_where_placement_clauses_stand(rt: HostRuntime) -> Result<(), Fail> {
+    let Ok(doc) = read_def(rt.alloc(), W_DEF) else {
+        return Err(Fail::from("the sample"));
+    };
+    let [a1, a2, _, _, _] = doc.components.as_slice() else {
+        return Err(Fail::from("five components"));
+    };
+    assert!(rt; a1.name.is(b"a1") && a1.mac.is(b"INV"));
+    assert!(rt; a1.placement.is_none());
+    let before = first_lines(rt.alloc(), W_DEF, 14)?;
+    assert_eq!(rt; a1.semicolon, before.len() + 23);
+    assert!(rt; doc.text.get(a1.semicolon) == Some(&b';'));
+    let Some(placement) = a2.placement else {
+        return Err(Fail::from("a placement clause"));
+    };
+    assert_eq!(rt; placement.kind, PlacementKind::Unplaced);
+    assert!(rt; placement.place.is_none());
+    assert!(rt; doc.text.get(placement.start..placement.stop) == Some(b"+ UNPLACED".as_slice()));
+    Ok(())
+}
+
+#[test]
+fn reads_all_orientations(rt: HostRuntime) -> Result<(), Fail> {
+    let cases: [(&[u8], Orient); 8] = [
+        (b"- a1 INV X + FIXED ( -5 6 ) N ;", Orient::N),
+        (b"- a1 INV X + FIXED ( -5 6 ) W ;", Orient::W),
+        (b"- a1 INV X + FIXED ( -5 6 ) S ;", Orient::S),
+        (b"- a1 INV X + FIXED ( -5 6 ) E ;", Orient::E),
+        (b"- a1 INV X + FIXED ( -5 6 ) FN ;", Orient::FN),
+        (b"- a1 INV X + FIXED ( -5 6 ) FW ;", Orient::FW),
+        (b"- a1 INV X + FIXED ( -5 6 ) FS ;", Orient::FS),
+        (b"- a1 INV X + FIXED ( -5 6 ) FE ;", Orient::FE),
+    ];
+    for (line, orient) in cases {
+        let text = with_line(rt.alloc(), W_DEF, 15, line)?;
+        let Ok(doc) = read_def(rt.alloc(), &text) else {
+            return Err(Fail::from("a fixed component"));
+        };
+        let [a1, ..] = doc.components.as_slice() else {
+            return Err(Fail::from("a component"));
+        };
+        let Some(placement) = a1.placement else {
+            return Err(Fail::from("a placement clause"));
+        };
+        assert_eq!(rt; placement.kind, PlacementKind::Fixed);
+        assert!(rt;
+            placement.place
+                == Some(Location {
+                    x: -5,
+                    y: 6,
+                    orient
+                })
+        );
+        let from = line.len() - 2 - placement.stop.saturating_sub(placement.start);
+        assert!(rt;
+            doc.text.get(placement.start..placement.stop) == line.get(from..line.len() - 2)
+        );
+    }
+    Ok(())
+}
+
+/// Clauses in any order, a plus without a word, points behind UNPLACED, tokens before the first clause,
+/// sections more than once, corners in any order, properties of a row, and what is passed over.
+#[test]
+fn reads_lenient_forms(rt: HostRuntime) -> Result<(), Fail> {
+    let text = b"UNITS DISTANCE MICRONS 2000 ; TRACKS X 0.5 DO 3 ; DESIGN d ; DESIGN e ;
+GROUPS many ; - g + + SOFT ( a + REGION r + REGION s + ; - h ; END GROUPS
+COMPONENTS ; - c m ( x ) + EEQMASTER y + UNPLACED ( 1 2 ) N + ; END COMPONENTS
+PINS 1 ; - p + END NETS END PINS REGIONS 0 ; - r ( 9 8 ) ( 1 2 ) ( 0 0 ) ( 0 0 ) + X + TYPE GUIDE + TYPE FENCE ;
+END REGIONS ROW s t 1 2 N + PROPERTY a 1 ; ROW u t 1 2 N DO 2 BY 3 ; BEGINEXT \"x\" END ENDEXT
+BLOCKAGES 2 ; - LAYER m1 RECT ( 0 0 ) ( 1 1 ) ; - PLACEMENT + PARTIAL 0.5 RECT ( 2 2 ) ( 1 1 ) + SOFT ; END BLOCKAGES
+COMPONENTS 1 ; - d m + COVER ( 0 0 ) S ; END COMPONENTS END DESIGN \"";
+    let Ok(doc) = read_def(rt.alloc(), text) else {
+        return Err(Fail::from("lenient forms"));
+    };
+    assert!(rt; doc.header.version.is(b"5.8") && doc.header.design.is(b"d"));
+    assert_eq!(rt; doc.rows.len(), 2);
+    assert_eq!(rt; doc.groups.len(), 2);
+    let [c, d] = doc.components.as_slice() else {
+        return Err(Fail::from("two components"));
+    };
+    assert!(rt;
+        matches!(c.placement, Some(p) if p.kind == PlacementKind::Unplaced && p.place.is_none())
+    );
+    assert!(rt;
+        matches!(c.placement, Some(p) if doc.text.get(p.start..p.stop) == Some(b"+ UNPLACED ( 1 2 ) N".as_slice()))
+    );
+    assert!(rt; matches!(d.placement, Some(p) if p.kind == PlacementKind::Cover));
+    let [region] = doc.regions.as_slice() else {
+        return Err(Fail::from("one region"));
+    };
+    assert!(rt; region.kind == Some(RegionKind::Guide));
+    let [first, second] = region.rects.as_slice() else {
+        return Err(Fail::from("two rectangles"));
+    };
+    assert!(rt; first.x1 == 1 && first.y1 == 2 && first.x2 == 9 && first.y2 == 8);
+    assert!(rt; second.x1 == 0 && second.x2 == 0);
+    let [group, _] = doc.groups.as_slice() else {
+        return Err(Fail::from("two groups"));
+    };
+    assert!(rt; matches!(&group.region, Some(name) if name.is(b"r")));
+    let [blockage] = doc.blockages.as_slice() else {
+        return Err(Fail::from("one blockage"));
+    };
+    assert!(rt; blockage.soft && blockage.partial);
+    Ok(())
+}
+
+#[test]
+fn refuses_changed_lines(rt: HostRuntime) -> Result<(), Fail> {
+    let cases: [(usize, &[u8], FaultNumber, usize); 20] = [
+        (14, b"COMPONENT 5 ;", FaultNumber::UnknownStatement, 14),
+        (20, b"END REGIONS", FaultNumber::WrongEnd, 20),
+        (
+            6,
+            b"ROW r0 core 0 0 Q DO 50 BY 1 STEP 200 0 ;",
+            FaultNumber::Unexpected,
+            6,
+        ),
+        (
+            11,
+            b"- A ( 0 0 ) ( 12.5 4000 ) + TYPE FENCE ;",
+            FaultNumber::BadNumber,
+            11,
+        ),
+        (
+            15,
+            b"- a\x80 INV + SOURCE DIST ;",
+            FaultNumber::BadToken,
+            15,
+        ),
+        (3, b"BUSBITCHARS \"[] ;", FaultNumber::UnexpectedEnd, 29),
+        (
+            5,
+            b"UNITS DISTANCE MICRONS 20001 ;",
+            FaultNumber::BadNumber,
+            5,
+        ),
+        (5, b"UNITS DISTANCE MICRONS 0 ;", FaultNumber::BadNumber, 5),
+        (
+            6,
+            b"ROW r0 core 0 0 N DO 0 BY 1 ;",
+            FaultNumber::BadNumber,
+            6,
+        ),
+        (6, b";", FaultNumber::UnknownStatement, 6),
+        (6, b"\"ROW\"", FaultNumber::Unexpected, 6),
+        (11, b";", FaultNumber::Unexpected, 11),
+        (
+            11,
+            b"- A ( 0 0 ) ( 4 4 ) + TYPE FENCE X ;",
+            FaultNumber::Unexpected,
+            11,
+        ),
+        (
+            11,
+            b"- A ( 0 0 ) ( 4 4 ) + TYPE BLOCK ;",
+            FaultNumber::Unexpected,
+            11,
+        ),
+        (
+            16,
+            b"- a2 INV + PLACED ( 0 0 ) N +\nFIXED ( 0 0 ) N ;",
+            FaultNumber::Unexpected,
+            17,
+        ),
+        (
+            16,
+            b"- a2 INV + PLACED ( 0 0 ) N X ;",
+            FaultNumber::Unexpected,
+            16,
+        ),
+        (
+            22,
+            b"- PLACEMENT ( 0 0 ) ( 1 1 ) ;",
+            FaultNumber::Unexpected,
+            22,
+        ),
+        (25, b"- ga a* + REGION ( ;", FaultNumber::Unexpected, 25),
+        (28, b"END \"DESIGN\"", FaultNumber::Unexpected, 28),
+        (28, b"END DESIGNS", FaultNumber::WrongEnd, 28),
+    ];
+    for (number, line, fault, at) in cases {
+        let text = with_line(rt.alloc(), W_DEF, number, line)?;
+        assert!(rt; refusal(&rt, &text) == at_line(fault, at), "line {number}");
+    }
+    Ok(())
+}
+
+#[test]
+fn asks_for_the_end_of_the_design(rt: HostRuntime) -> Result<(), Fail> {
+    assert!(rt; refusal(&rt, b"") == at_line(FaultNumber::UnexpectedEnd, 1));
+    assert!(rt; refusal(&rt, b"\nEND\nDESIGN") == at_line(FaultNumber::Unexpected, 3));
+    let without_end = first_lines(rt.alloc(), W_DEF, 27)?;
+    assert!(rt; refusal(&rt, &without_end) == at_line(FaultNumber::UnexpectedEnd, 28));
+    let cut = first_lines(rt.alloc(), W_DEF, 17)?;
+    assert!(rt; refusal(&rt, &cut) == at_line(FaultNumber::UnexpectedEnd, 18));
+    let commented = with_line(rt.alloc(), W_DEF, 9, b"# \x80\xff \"")?;
+    assert!(rt; refusal(&rt, &commented).is_none());
+    Ok(())
+}
+
+#[test]
+fn bounds_names_and_numbers(rt: HostRuntime) -> Result<(), Fail> {
+    let mut line = Vec::from_slice(rt.alloc(), b"- ")?;
+    line.extend_from_slice(&[b'a'; 1024])?;
+    let mut short = Vec::from_slice(rt.alloc(), &line)?;
+    short.extend_from_slice(b" INV ;")?;
+    let text = with_line(rt.alloc(), W_DEF, 15, &short)?;
+    assert!(rt; refusal(&rt, &text).is_none());
+    line.extend_from_slice(b"a INV ;")?;
+    let text = with_line(rt.alloc(), W_DEF, 15, &line)?;
+    assert!(rt; refusal(&rt, &text) == at_line(FaultNumber::TooMany, 15));
+    let mut row = Vec::from_slice(rt.alloc(), b"ROW r0 core ")?;
+    row.extend_from_slice(&[b'9'; 400])?;
+    row.extend_from_slice(b" 0 N ;")?;
+    let text = with_line(rt.alloc(), W_DEF, 6, &row)?;
+    assert!(rt; refusal(&rt, &text) == at_line(FaultNumber::BadNumber, 6));
+    Ok(())
+}
+
+/// Each prefix that is shorter by two bytes or more is refused for a fault of the text; without its last
+/// line feed the text is read.
+#[test]
+fn refuses_each_prefix(rt: HostRuntime) -> Result<(), Fail> {
+    let mut prefix = Vec::new(rt.alloc());
+    for byte in W_DEF {
+        if prefix.len() + 1 < W_DEF.len() {
+            let fault = refusal(&rt, &prefix);
+            assert!(rt; matches!(fault, Some(fault) if fault.line.is_some()));
+        } else {
+            assert!(rt; refusal(&rt, &prefix).is_none());
+        }
+        prefix.push(*byte)?;
+    }
+    Ok(())
+}
+
+/// A text of more than a megabyte, with many components, is read to its end.
+#[test]
+fn reads_a_megabyte(rt: HostRuntime) -> Result<(), Fail> {
+    let mut text = Vec::from_slice(rt.alloc(), b"DESIGN many ;\nCOMPONENTS 20000 ;\n")?;
+    for i in 0..20_000u32 {
+        let line = format!(in rt.alloc(); "- c{i} INVX1 + SOURCE DIST + PLACED ( {i} 0 ) FS ;\n")?;
+        text.extend_from_slice(line.as_bytes())?;
+    }
+    assert!(rt; text.len() > 1_000_000);
+    assert!(rt; refusal(&rt, &text) == at_line(FaultNumber::UnexpectedEnd, 20_003));
+    text.extend_from_slice(b"END COMPONENTS\nEND DESIGN\n")?;
+    let Ok(doc) = read_def(rt.alloc(), &text) else {
+        return Err(Fail::from("a megabyte"));
+    };
+    assert_eq!(rt; doc.components.len(), 20_000);
+    Ok(())
+}

@@ -1,0 +1,14 @@
+use Rattle.std.proofs.Common.{◌≤◌, length}
+use Rattle.lf_lex.specs.Reading.{block}
+use Rattle.lf_lex.proofs.Turns.{Going}
+use Rattle.lf_lef.specs.Pins.{pin_statement}
+use Rattle.lf_lef.proofs.pins.pin_body.Given as goal
+
+abbrev pub invariant-loop : goal.invariant-loop
+invariant-loop l = record {
+  going : Going (pin_statement l.name) l.pin l.lexer (block (pin_statement l.name) l.initial.pin l.initial.lexer);
+  fewer : length l.lexer.tokens ≤ length l.initial.lexer.tokens;
+}
+
+abbrev pub decreases-loop : goal.decreases-loop
+decreases-loop l = length l.lexer.tokens

@@ -1,0 +1,62 @@
+-- Lengths and points of LEF, in millionths of a micron.
+use Rattle.std.specs.Prelude.{ℕ, ◌^◌, ℤ, pos, negsuc, ◌≤ℤ◌, Result, Ok, Err, codes, if◌then◌else◌}
+use Rattle.lf_units.specs.declared.area.Point.{Point}
+use Rattle.lf_units.specs.declared.number.NumberFault.{NumberFault}
+use Rattle.lf_units.specs.Number.{fixed_of}
+use Rattle.lf_lex.specs.declared.fault.FaultNumber.TheVariants.{BadNumber}
+use Rattle.lf_lex.specs.declared.fault.ReadFault.{ReadFault}
+use Rattle.lf_lex.specs.Tokens.{Lexeme}
+use Rattle.lf_lex.specs.Reading.{◌>>=◌, Reader, taken, fault_at, token, is, keyword}
+
+-- a length lies between -1,000,000 and 1,000,000 microns
+pub record IsInRange (length : ℤ) : Type 0 where
+  pub low : negsuc 999999999999 ≤ℤ length
+  pub high : length ≤ℤ pos (10 ^ 12)
+
+-- both lengths of a point or a size do
+pub record HasRange (p : Point) : Type 0 where
+  pub x : IsInRange p.x
+  pub y : IsInRange p.y
+
+abbrev pub or_bad_number : Result ℤ NumberFault → ℕ → Result ℤ ReadFault
+or_bad_number (Ok x) line = Ok x
+or_bad_number (Err e) line = fault_at BadNumber line
+
+-- the length that the token writes; six decimals of a micron are kept
+abbrev pub micros_of : Lexeme → Result ℤ ReadFault
+micros_of t = or_bad_number (fixed_of t.text 6 (10 ^ 12)) t.line
+
+-- a length
+unfoldable pub micros : Reader ℤ
+micros l = do
+  t ← token l
+  length ← micros_of t.value
+  taken length t.rest
+
+-- a point, of which the first token was read: x y, or ( x y )
+unfoldable pub point_from : Lexeme → Reader Point
+point_from t l =
+    if is (codes "(") t then (micros l >>= λ x. micros x.rest >>= λ y. keyword (codes ")") y.rest >>= λ stop. taken (record { x = x.value; y = y.value }) stop.rest)
+    else (micros_of t >>= λ x. micros l >>= λ y. taken (record { x = x; y = y.value }) y.rest)
+
+-- a point
+unfoldable pub point : Reader Point
+point l = do
+  t ← token l
+  point_from t.value t.rest
+
+-- SIZE w BY h ; behind its keyword (LEF SITE, LEF MACRO)
+unfoldable pub size : Reader Point
+size l = do
+  width ← micros l
+  by ← keyword (codes "BY") width.rest
+  height ← micros by.rest
+  stop ← keyword (codes ";") height.rest
+  taken (record { x = width.value; y = height.value }) stop.rest
+
+-- ORIGIN x y ; behind its keyword (LEF MACRO)
+unfoldable pub origin : Reader Point
+origin l = do
+  p ← point l
+  stop ← keyword (codes ";") p.rest
+  taken p.value stop.rest

@@ -1,0 +1,9 @@
+pub mod Contents
+pub mod Laws
+pub mod Lengths
+pub mod Library
+pub mod MacroRange
+pub mod Macros
+pub mod Pins
+pub mod Printed
+pub mod Sites

@@ -1,0 +1,96 @@
+-- LEF texts: the statements of a library, up to END LIBRARY or the end of the text between statements.
+use Rattle.std.specs.Prelude.{◌≡◌, ◌⊎◌, ℕ, nat_le, Bool, ◌||◌, List, [], ◌∷◌, ◌++◌, length, Option, Some, None, Result, Ok, Err, codes, if◌then◌else◌}
+use Rattle.lf_names.specs.Names.{position_of}
+use Rattle.lf_lex.specs.declared.fault.FaultNumber.TheVariants.{TooMany}
+use Rattle.lf_lex.specs.declared.fault.ReadFault.{ReadFault}
+use Rattle.lf_lex.specs.declared.fault.LoadFault.{LoadFault}
+use Rattle.lf_lex.specs.declared.fault.ReadError.TheVariants.{Memory, Fault}
+use Rattle.lf_lex.specs.Faults.{load_fault_of}
+use Rattle.lf_lex.specs.Tokens.{Lexeme, tokens_of}
+use Rattle.lf_lex.specs.Reading.{◌>>=◌, Reader, Statement, Taken, Turn, taken, goes_on, ends, fault_at, next, is, name, end_name, to_semicolon, to_end, to_word, block}
+use Rattle.lf_lef.specs.Contents.{Contents, site_names, macro_names}
+use Rattle.lf_lef.specs.Sites.{site_parts, site_of}
+use Rattle.lf_lef.specs.Macros.{macro_parts, macro_of}
+
+-- where nothing has the name yet, there has to be room for one thing more
+abbrev pub room_for : Option ℕ → ℕ → Lexeme → Result (Unit {0}) ReadFault
+room_for (Some at) count t = Ok tt
+room_for None count t = if nat_le 1000000 count then fault_at TooMany t.line else Ok tt
+
+-- of several things of one name the first stands
+abbrev pub with_first : {A : Type 0} → Option ℕ → List A → A → List A
+with_first (Some at) things thing = things
+with_first None things thing = things ++ thing ∷ []
+
+-- SITE name, its statements, END name; behind its keyword
+unfoldable pub with_site : Contents → Reader Contents
+with_site c l = do
+  n ← name l
+  room ← room_for (position_of (site_names c.sites) n.value.text) (length c.sites) n.value
+  parts ← site_parts n.value.text n.rest
+  taken (record c { sites = with_first (position_of (site_names c.sites) n.value.text) c.sites (site_of n.value.text parts.value) }) parts.rest
+
+-- MACRO name, its statements, END name; behind its keyword
+unfoldable pub with_macro : Contents → Reader Contents
+with_macro c l = do
+  n ← name l
+  room ← room_for (position_of (macro_names c.macros) n.value.text) (length c.macros) n.value
+  parts ← macro_parts n.value.text n.rest
+  taken (record c { macros = with_first (position_of (macro_names c.macros) n.value.text) c.macros (macro_of n.value.text parts.value) }) parts.rest
+
+-- what is passed over to END and the name that follows its keyword (LEF LAYER, VIA, VIARULE, NONDEFAULTRULE, ARRAY)
+abbrev pub is_named : Lexeme → Bool
+is_named t = is (codes "LAYER") t || is (codes "VIA") t || is (codes "VIARULE") t || is (codes "NONDEFAULTRULE") t || is (codes "ARRAY") t
+
+-- what is passed over to END and its keyword (LEF UNITS, PROPERTYDEFINITIONS, SPACING and groups of older texts)
+abbrev pub is_group : Lexeme → Bool
+is_group t = is (codes "UNITS") t || is (codes "PROPERTYDEFINITIONS") t || is (codes "SPACING") t || is (codes "IRDROP") t || is (codes "NOISETABLE") t || is (codes "CORRECTIONTABLE") t
+
+-- the name, and all up to END and that name
+unfoldable pub to_named_end : Reader (Unit {0})
+to_named_end l = do
+  n ← name l
+  to_end n.value.text n.rest
+
+-- A statement that says nothing of sites and macros, of which the first token was read.
+unfoldable pub passed_from : Lexeme → Reader (Unit {0})
+passed_from t l =
+    if is_named t then to_named_end l
+    else if is_group t then to_end t.text l
+    else if is (codes "BEGINEXT") t then to_word (codes "ENDEXT") l
+    else if is (codes ";") t then taken tt l
+    else to_semicolon l
+
+-- A statement of the text, of which the first token was read: SITE and MACRO count, and others are passed over.
+unfoldable pub statement_from : Contents → Lexeme → Reader (Turn Contents)
+statement_from c t l =
+    if is (codes "END") t then (end_name (codes "LIBRARY") l >>= λ stop. ends c stop.rest)
+    else if is (codes "SITE") t then (with_site c l >>= λ new. goes_on new.value new.rest)
+    else if is (codes "MACRO") t then (with_macro c l >>= λ new. goes_on new.value new.rest)
+    else (passed_from t l >>= λ stop. goes_on c stop.rest)
+
+-- the end of the text between statements ends the library too
+abbrev pub statement_or_end : Contents → Option Lexeme → Reader (Turn Contents)
+statement_or_end c None l = ends c l
+statement_or_end c (Some t) l = statement_from c t l
+
+unfoldable pub statement : Statement Contents
+statement c l = do
+  t ← next l
+  statement_or_end c t.value t.rest
+
+-- what a library holds after a text, and what is left behind its END LIBRARY
+abbrev pub library : Contents → Reader Contents
+library c l = block statement c l
+
+abbrev pub value_of : {A : Type 0} → Result (Taken A) ReadFault → Result A ReadFault
+value_of (Ok x) = Ok x.value
+value_of (Err e) = Err e
+
+-- What a library holds after a text is read into it, or the text's first fault.
+abbrev pub library_after : Contents → List ℕ → Result Contents ReadFault
+library_after c text = value_of (library c (tokens_of text))
+
+-- a refusal of the text: its fault with its line, or want of memory
+abbrev pub Refuses : LoadFault → Result Contents ReadFault → Type 0
+Refuses fault reading = (fault ≡ load_fault_of Memory) ⊎ ((first : ReadFault) × (reading ≡ Err first) × (fault ≡ load_fault_of (Fault first)))

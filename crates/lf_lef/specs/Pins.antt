@@ -1,0 +1,107 @@
+-- LEF MACRO PIN and its PORT, as far as supply rails need them.
+use Rattle.std.specs.Prelude.{ℕ, Bool, true, false, ◌&&◌, not, List, [], ◌∷◌, ◌++◌, ℤ, pos, ◌+ℤ◌, int_le, Option, Some, None, codes, if◌then◌else◌}
+use Rattle.std.specs.Int.{int_min, int_max}
+use Rattle.std.specs.List.{list_any}
+use Rattle.std.specs.Str.{bytes_eq}
+use Rattle.lf_orient.specs.declared.Rail.{Rail}
+use Rattle.lf_orient.specs.declared.Rail.TheVariants as rail
+use Rattle.lf_lex.specs.Tokens.{Lexeme}
+use Rattle.lf_lex.specs.Reading.{◌>>=◌, Reader, Statement, Turn, taken, goes_on, ends, token, is, name, end_name, to_semicolon, block, first_stands}
+use Rattle.lf_lef.specs.declared.pins.PinUse.{PinUse}
+use Rattle.lf_lef.specs.declared.pins.PinUse.TheVariants.{Power, Ground, Other}
+use Rattle.lf_lef.specs.declared.pins.Reach.{Reach}
+use Rattle.lf_lef.specs.declared.pins.Pin.{Pin}
+use Rattle.lf_lef.specs.Lengths.{micros, point_from, point}
+use Rattle.lf_lef.specs.Sites.{one_word}
+
+-- MASK n, where it stands
+unfoldable pub past_mask : Lexeme → Reader Lexeme
+past_mask t l = if is (codes "MASK") t then (micros l >>= λ n. token n.rest) else taken t l
+
+-- ITERATE, where it stands
+unfoldable pub past_iterate : Lexeme → Reader Lexeme
+past_iterate t l = if is (codes "ITERATE") t then token l else taken t l
+
+-- how far up a rectangle reaches, by any two opposite corners
+abbrev pub reach_of : ℤ → ℤ → Reach
+reach_of a b = record { low = int_min a b; high = int_max a b }
+
+-- RECT [MASK n] [ITERATE] pt pt .. ; behind its keyword: of an ITERATE the first rectangle counts
+unfoldable pub rect : Reader Reach
+rect l = do
+  t ← token l
+  past ← past_mask t.value t.rest
+  first ← past_iterate past.value past.rest
+  corner ← point_from first.value first.rest
+  opposite ← point corner.rest
+  stop ← to_semicolon opposite.rest
+  taken (reach_of corner.value.y opposite.value.y) stop.rest
+
+-- A statement of a port, of which the first token was read: every RECT counts, others are passed over, and an END alone is the last.
+unfoldable pub port_statement_from : List Reach → Lexeme → Reader (Turn (List Reach))
+port_statement_from reaches t l =
+    if is (codes "END") t then ends reaches l
+    else if is (codes "RECT") t then (rect l >>= λ r. goes_on (reaches ++ r.value ∷ []) r.rest)
+    else if is (codes ";") t then goes_on reaches l
+    else (to_semicolon l >>= λ stop. goes_on reaches stop.rest)
+
+unfoldable pub port_statement : Statement (List Reach)
+port_statement reaches l = do
+  t ← token l
+  port_statement_from reaches t.value t.rest
+
+-- the use that a word names: all but POWER and GROUND play no part
+abbrev pub use_named : List ℕ → PinUse
+use_named w = if bytes_eq w (codes "POWER") then Power else if bytes_eq w (codes "GROUND") then Ground else Other
+
+-- A statement of a pin, of which the first token was read: the first USE stands, every PORT counts, and others are passed over.
+unfoldable pub pin_statement_from : List ℕ → Pin → Lexeme → Reader (Turn Pin)
+pin_statement_from name pin t l =
+    if is (codes "END") t then (end_name name l >>= λ stop. ends pin stop.rest)
+    else if is (codes "USE") t then (one_word l >>= λ w. goes_on (record pin { supply = first_stands pin.supply (use_named w.value) }) w.rest)
+    else if is (codes "PORT") t then (block port_statement pin.reaches l >>= λ r. goes_on (record pin { reaches = r.value }) r.rest)
+    else if is (codes ";") t then goes_on pin l
+    else (to_semicolon l >>= λ stop. goes_on pin stop.rest)
+
+unfoldable pub pin_statement : List ℕ → Statement Pin
+pin_statement name pin l = do
+  t ← token l
+  pin_statement_from name pin t.value t.rest
+
+abbrev pub no_pin : Pin
+no_pin = record { supply = None; reaches = [] }
+
+-- PIN name, its statements, END name; behind its keyword
+unfoldable pub pin : Reader Pin
+pin l = do
+  n ← name l
+  block (pin_statement n.value.text) no_pin n.rest
+
+-- The bottom rail, which is this project's profile.
+
+-- the rectangle reaches the line y = 0 after ORIGIN is added
+abbrev pub is_at_bottom : ℤ → Reach → Bool
+is_at_bottom origin r = int_le (r.low +ℤ origin) (pos 0) && int_le (pos 0) (r.high +ℤ origin)
+
+-- the pin has this use
+abbrev pub is_same_use : PinUse → PinUse → Bool
+is_same_use Power Power = true
+is_same_use Ground Ground = true
+is_same_use Other Other = true
+is_same_use _ _ = false
+
+abbrev pub is_used_as : PinUse → Option PinUse → Bool
+is_used_as supply None = false
+is_used_as supply (Some u) = is_same_use u supply
+
+-- the pin has this use, and a rectangle of it reaches the bottom
+abbrev pub is_supply_at_bottom : PinUse → ℤ → Pin → Bool
+is_supply_at_bottom supply origin p = is_used_as supply p.supply && list_any (is_at_bottom origin) p.reaches
+
+-- so does one of the pins
+abbrev pub has_at_bottom : PinUse → ℤ → List Pin → Bool
+has_at_bottom supply origin pins = list_any (is_supply_at_bottom supply origin) pins
+
+-- power where a power pin reaches the bottom and no ground pin does, else ground
+abbrev pub rail_of : ℤ → List Pin → Rail
+rail_of origin pins = if has_at_bottom Power origin pins && not (has_at_bottom Ground origin pins) then rail.Power else rail.Ground

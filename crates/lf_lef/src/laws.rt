@@ -1,0 +1,65 @@
+//! What is true of the grammar of LEF, whatever is read.
+
+ghost use Rattle.std.specs.Prelude.{◌≡◌, List, ℕ};
+ghost use Rattle.lf_lex.specs.Tokens.{Lexed};
+ghost use Rattle.lf_lex.specs.Reading.{block, taken};
+ghost use Rattle.lf_lef.specs.declared.sites.SiteParts.{SiteParts};
+ghost use Rattle.lf_lef.specs.declared.pins.Pin.{Pin};
+ghost use Rattle.lf_lef.specs.declared.macros.MacroParts.{MacroParts};
+ghost use Rattle.lf_lex.specs.Laws.{TakesTokens, ReadsAlike};
+ghost use Rattle.lf_lef.specs.Sites.{symmetry_word, site_statement, site_parts};
+ghost use Rattle.lf_lef.specs.Pins.{port_statement, pin_statement};
+ghost use Rattle.lf_lef.specs.Contents.{Contents, BeginsWith};
+ghost use Rattle.lf_lef.specs.Laws.{EndsBefore, SiteStands, PinStands, MacroStands};
+ghost use Rattle.lf_lef.specs.Library.{statement, library};
+ghost use Rattle.lf_lef.specs.declared.sites.Site.{Site};
+ghost use Rattle.lf_lef.specs.declared.macros.Macro.{Macro};
+ghost use Rattle.lf_lef.specs.Printed.{PassesOver, ReadsSite, ReadsMacro};
+ghost use Rattle.lf_lef.specs.Macros.{passed_statement, macro_statement, macro_parts};
+
+/// Each statement behind which more follow takes a token, so every block comes to its END or to a fault.
+pub fn statements_take_tokens()
+    ensures symmetry { TakesTokens symmetry_word }
+    ensures site { (name : List ℕ) → TakesTokens (site_statement name) }
+    ensures port { TakesTokens port_statement }
+    ensures pin { (name : List ℕ) → TakesTokens (pin_statement name) }
+    ensures passed { TakesTokens passed_statement }
+    ensures cell { (name : List ℕ) → TakesTokens (macro_statement name) }
+    ensures text { TakesTokens statement }
+{}
+
+/// White space, comments and what stands behind play no part in what the statements of a site or a macro say.
+pub fn statements_read_alike()
+    ensures site { (name : List ℕ) → ReadsAlike (site_parts name) }
+    ensures cell { (name : List ℕ) → ReadsAlike (macro_parts name) }
+{}
+
+/// What stands behind END LIBRARY plays no part: where reading a text leaves tokens unread, any bytes may
+/// stand from the first of these on.
+pub fn nothing_behind_end_library_counts()
+    ensures { (before after : Contents) (text : List ℕ) → EndsBefore before after text }
+{}
+
+/// Of several statements of one kind the first stands, and every PIN and RECT counts; of several sites or
+/// macros of one name the first stands, in one text or several.
+pub fn first_of_each_kind_stands()
+    ensures site { (name : List ℕ) (old new : SiteParts) (l m : Lexed) → block (site_statement name) old l ≡ taken new m → SiteStands old new }
+    ensures pin { (name : List ℕ) (old new : Pin) (l m : Lexed) → block (pin_statement name) old l ≡ taken new m → PinStands old new }
+    ensures cell { (name : List ℕ) (old new : MacroParts) (l m : Lexed) → block (macro_statement name) old l ≡ taken new m → MacroStands old new }
+    ensures text { (old new : Contents) (l m : Lexed) → library old l ≡ taken new m → BeginsWith old new }
+{}
+
+/// Statements that are passed over play no part, however many there are.
+pub fn passed_over_statements_play_no_part()
+    ensures { (c : Contents) → PassesOver c }
+{}
+
+/// A printed SITE is read back, alone and behind any statements that are passed over.
+pub fn a_printed_site_is_read_back()
+    ensures { (c : Contents) (s : Site) → ReadsSite c s }
+{}
+
+/// A printed MACRO with one PIN is read back, alone and behind any statements that are passed over.
+pub fn a_printed_macro_is_read_back()
+    ensures { (c : Contents) (m : Macro) → ReadsMacro c m }
+{}

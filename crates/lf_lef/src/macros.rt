@@ -1,0 +1,166 @@
+//! Macros: MACRO name, its statements, END name.
+
+ghost use Rattle.std.specs.Prelude.{◌≡◌, IfOk, IfSome};
+ghost use Rattle.lf_lex.specs.Tokens.{lexeme};
+ghost use Rattle.lf_lex.specs.Reading.{Reads, ReadsOn, block, turn};
+ghost use Rattle.lf_lef.specs.Lengths.{HasRange};
+ghost use Rattle.lf_lef.specs.Macros as grammar;
+ghost use Rattle.lf_lef.specs.MacroRange.{HasRanges};
+
+use crate::lengths::{keep_first, origin, size};
+use crate::pins::{Pin, rail_of, read_pin};
+use crate::sites::{no_point, symmetry};
+use lf_lex::{Lexer, ReadError, Token, end_name, is, to_end, to_semicolon, token};
+use lf_orient::{Rail, Symmetry};
+use lf_units::{Name, Point, Sequence};
+use std::alloc::Global;
+
+/// A library cell (LEF/DEF 5.8, LEF MACRO). Its lengths are millionths of a micron.
+#[derive(Drop)]
+pub struct Macro {
+    pub name: Name,
+    /// Its width and height; 0 by 0 where it has no SIZE.
+    pub size: Point,
+    /// What is added to its points; 0 0 where it has no ORIGIN.
+    pub origin: Point,
+    pub symmetry: Symmetry,
+    /// The supply rail along its bottom: power where a RECT of a POWER pin reaches y = 0 once ORIGIN is
+    /// added and none of a GROUND pin does, else ground.
+    pub rail: Rail,
+}
+
+/// What the statements of a macro say: of each kind the first, and all pins.
+#[derive(Drop)]
+pub struct MacroParts {
+    pub size: Option<Point>,
+    pub origin: Option<Point>,
+    pub symmetry: Option<Symmetry>,
+    pub pins: Sequence<Pin>,
+}
+
+#[tactic(auto, unfolding(crate::specs::Macros::passed_statement))]
+fn passed_statement(lexer: &mut Lexer) -> Result<bool, ReadError>
+    ensures { Reads (turn tt) result (grammar.passed_statement tt) lexer.old lexer.new }
+{
+    let token = token(lexer)?;
+    if is(b"END", &token) {
+        return Ok(false);
+    }
+    if !is(b";", &token) {
+        to_semicolon(lexer)?;
+    }
+    Ok(true)
+}
+
+/// OBS or DENSITY behind its keyword.
+fn passed_group(lexer: &mut Lexer) -> Result<(), ReadError>
+    ensures { Reads (λ x. x) result grammar.passed_group lexer.old lexer.new }
+{
+    while passed_statement(lexer)? {}
+    Ok(())
+}
+
+/// A statement of a macro that says nothing of it, of which the first token was read.
+#[tactic(auto, unfolding(crate::specs::Macros::passed_from))]
+fn passed_from(lexer: &mut Lexer, token: &Token) -> Result<(), ReadError>
+    ensures { ReadsOn (λ x. x) result (grammar.passed_from (lexeme token.now)) lexer.old lexer.new }
+{
+    if is(b"OBS", token) || is(b"DENSITY", token) {
+        passed_group(lexer)
+    } else if is(b"TIMING", token) {
+        to_end(lexer, b"TIMING")
+    } else if !is(b";", token) {
+        to_semicolon(lexer)
+    } else {
+        Ok(())
+    }
+}
+
+/// A statement of a macro, of which the first token was read; whether more follow.
+#[tactic(auto, unfolding(crate::specs::Macros::macro_statement_from))]
+fn macro_statement_from(
+    alloc: Global,
+    lexer: &mut Lexer,
+    name: &[u8],
+    parts: &mut MacroParts,
+    token: &Token,
+) -> Result<bool, ReadError>
+    requires range { HasRanges parts.old.size parts.old.origin }
+    ensures read { ReadsOn (turn parts.new) result (grammar.macro_statement_from name.now parts.old (lexeme token.now)) lexer.old lexer.new }
+    ensures range { HasRanges parts.new.size parts.new.origin }
+{
+    if is(b"END", token) {
+        end_name(lexer, name)?;
+        return Ok(false);
+    }
+    if is(b"ORIGIN", token) {
+        let origin = origin(lexer)?;
+        keep_first(&mut parts.origin, origin);
+    } else if is(b"SIZE", token) {
+        let size = size(lexer)?;
+        keep_first(&mut parts.size, size);
+    } else if is(b"SYMMETRY", token) {
+        let symmetry = symmetry(lexer)?;
+        parts.symmetry = parts.symmetry.or(Some(symmetry));
+    } else if is(b"PIN", token) {
+        let pin = read_pin(alloc, lexer)?;
+        parts.pins.push(pin)?;
+    } else {
+        passed_from(lexer, token)?;
+    }
+    Ok(true)
+}
+
+#[tactic(auto, unfolding(crate::specs::Macros::macro_statement))]
+fn macro_statement(
+    alloc: Global,
+    lexer: &mut Lexer,
+    name: &[u8],
+    parts: &mut MacroParts,
+) -> Result<bool, ReadError>
+    requires range { HasRanges parts.old.size parts.old.origin }
+    ensures read { Reads (turn parts.new) result (grammar.macro_statement name.now parts.old) lexer.old lexer.new }
+    ensures range { HasRanges parts.new.size parts.new.origin }
+{
+    let token = token(lexer)?;
+    macro_statement_from(alloc, lexer, name, parts, &token)
+}
+
+/// What is known of a macro before its first statement.
+fn no_parts(alloc: Global) -> MacroParts
+    ensures { result ≡ grammar.no_macro_parts }
+{
+    MacroParts {
+        size: None,
+        origin: None,
+        symmetry: None,
+        pins: Sequence::new(alloc),
+    }
+}
+
+/// The statements of a macro, and its END name.
+pub fn macro_parts(alloc: Global, lexer: &mut Lexer, name: &[u8]) -> Result<MacroParts, ReadError>
+    ensures read { Reads (λ p. p) result (grammar.macro_parts name.now) lexer.old lexer.new }
+    ensures range { IfOk result (λ parts. HasRanges parts.size parts.origin) }
+{
+    let mut parts = no_parts(alloc);
+    while macro_statement(alloc, lexer, name, &mut parts)? {}
+    Ok(parts)
+}
+
+/// The macro that the statements describe.
+pub fn macro_of(name: Name, parts: &MacroParts) -> Macro
+    requires range { HasRanges parts.now.size parts.now.origin }
+    ensures macro_is { result ≡ grammar.macro_of name parts.now }
+    ensures size { HasRange result.size }
+    ensures origin { HasRange result.origin }
+{
+    let origin = parts.origin.unwrap_or(no_point());
+    Macro {
+        name,
+        size: parts.size.unwrap_or(no_point()),
+        origin,
+        symmetry: parts.symmetry.unwrap_or(Symmetry { x: false, y: false }),
+        rail: rail_of(origin.y, parts.pins.as_slice()),
+    }
+}

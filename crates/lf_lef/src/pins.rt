@@ -1,0 +1,239 @@
+//! Pins of macros, as far as supply rails need them.
+
+ghost use Rattle.std.specs.Prelude.{◌≡◌, [], ◌+ℤ◌};
+ghost use Rattle.std.specs.List.{list_any};
+ghost use Rattle.lf_lex.specs.Tokens.{lexeme};
+ghost use Rattle.lf_lex.specs.Reading.{Reads, ReadsOn, block, turn};
+ghost use Rattle.lf_lef.specs.Pins as grammar;
+
+use crate::lengths::{micros, point, point_from};
+use crate::sites::one_word;
+use lf_lex::{Lexer, ReadError, Token, end_name, is, name, to_semicolon, token};
+use lf_orient::Rail;
+use lf_units::Sequence;
+use std::alloc::Global;
+
+/// What a pin is used for.
+#[derive(Clone, Copy, Debug, PartialEq, Eq)]
+pub enum PinUse {
+    Power,
+    Ground,
+    Other,
+}
+
+/// How far up a rectangle reaches, from its bottom to its top edge, in millionths of a micron.
+#[derive(Clone, Copy, Debug, PartialEq, Eq)]
+pub struct Reach {
+    pub low: i64,
+    pub high: i64,
+}
+
+/// A pin: the first USE, and the rectangles of all its ports.
+#[derive(Drop)]
+pub struct Pin {
+    pub supply: Option<PinUse>,
+    pub reaches: Sequence<Reach>,
+}
+
+#[tactic(auto, unfolding(crate::specs::Pins::past_mask))]
+fn past_mask<'a>(lexer: &mut Lexer<'a>, first: Token<'a>) -> Result<Token<'a>, ReadError>
+    ensures { ReadsOn lexeme result (grammar.past_mask (lexeme first.entry)) lexer.old lexer.new }
+{
+    if !is(b"MASK", &first) {
+        return Ok(first);
+    }
+    micros(lexer)?;
+    token(lexer)
+}
+
+#[tactic(auto, unfolding(crate::specs::Pins::past_iterate))]
+fn past_iterate<'a>(lexer: &mut Lexer<'a>, first: Token<'a>) -> Result<Token<'a>, ReadError>
+    ensures { ReadsOn lexeme result (grammar.past_iterate (lexeme first.entry)) lexer.old lexer.new }
+{
+    if !is(b"ITERATE", &first) {
+        return Ok(first);
+    }
+    token(lexer)
+}
+
+/// The reach between two opposite corners.
+fn reach_of(a: i64, b: i64) -> Reach
+    ensures { result ≡ grammar.reach_of a b }
+{
+    Reach {
+        low: a.min(b),
+        high: a.max(b),
+    }
+}
+
+/// `RECT [MASK n] [ITERATE] pt pt .. ;` behind its keyword.
+#[tactic(auto, unfolding(crate::specs::Pins::rect))]
+fn rect(lexer: &mut Lexer) -> Result<Reach, ReadError>
+    ensures { Reads (λ r. r) result grammar.rect lexer.old lexer.new }
+{
+    let first = token(lexer)?;
+    let first = past_mask(lexer, first)?;
+    let first = past_iterate(lexer, first)?;
+    let corner = point_from(lexer, &first)?;
+    let opposite = point(lexer)?;
+    to_semicolon(lexer)?;
+    Ok(reach_of(corner.y, opposite.y))
+}
+
+/// A statement of a port, of which the first token was read; whether more follow.
+#[tactic(auto, unfolding(crate::specs::Pins::port_statement_from))]
+fn port_statement_from(
+    lexer: &mut Lexer,
+    reaches: &mut Sequence<Reach>,
+    token: &Token,
+) -> Result<bool, ReadError>
+    ensures { ReadsOn (turn reaches.new) result (grammar.port_statement_from reaches.old (lexeme token.now)) lexer.old lexer.new }
+{
+    if is(b"END", token) {
+        return Ok(false);
+    }
+    if is(b"RECT", token) {
+        let reach = rect(lexer)?;
+        reaches.push(reach)?;
+    } else if !is(b";", token) {
+        to_semicolon(lexer)?;
+    }
+    Ok(true)
+}
+
+#[tactic(auto, unfolding(crate::specs::Pins::port_statement))]
+fn port_statement(lexer: &mut Lexer, reaches: &mut Sequence<Reach>) -> Result<bool, ReadError>
+    ensures { Reads (turn reaches.new) result (grammar.port_statement reaches.old) lexer.old lexer.new }
+{
+    let token = token(lexer)?;
+    port_statement_from(lexer, reaches, &token)
+}
+
+/// A port behind its keyword: its rectangles go behind the others.
+fn port(lexer: &mut Lexer, reaches: &mut Sequence<Reach>) -> Result<(), ReadError>
+    ensures { Reads (λ _. reaches.new) result (block grammar.port_statement reaches.old) lexer.old lexer.new }
+{
+    while port_statement(lexer, reaches)? {}
+    Ok(())
+}
+
+/// The use that a word names.
+fn use_named(word: &[u8]) -> PinUse
+    ensures { result ≡ grammar.use_named word.now }
+{
+    if word == b"POWER".as_slice() {
+        PinUse::Power
+    } else if word == b"GROUND".as_slice() {
+        PinUse::Ground
+    } else {
+        PinUse::Other
+    }
+}
+
+/// A statement of a pin, of which the first token was read; whether more follow.
+#[tactic(auto, unfolding(crate::specs::Pins::pin_statement_from))]
+fn pin_statement_from(
+    lexer: &mut Lexer,
+    name: &[u8],
+    pin: &mut Pin,
+    token: &Token,
+) -> Result<bool, ReadError>
+    ensures { ReadsOn (turn pin.new) result (grammar.pin_statement_from name.now pin.old (lexeme token.now)) lexer.old lexer.new }
+{
+    if is(b"END", token) {
+        end_name(lexer, name)?;
+        return Ok(false);
+    }
+    if is(b"USE", token) {
+        let word = one_word(lexer)?;
+        pin.supply = pin.supply.or(Some(use_named(word)));
+    } else if is(b"PORT", token) {
+        port(lexer, &mut pin.reaches)?;
+    } else if !is(b";", token) {
+        to_semicolon(lexer)?;
+    }
+    Ok(true)
+}
+
+#[tactic(auto, unfolding(crate::specs::Pins::pin_statement))]
+fn pin_statement(lexer: &mut Lexer, name: &[u8], pin: &mut Pin) -> Result<bool, ReadError>
+    ensures { Reads (turn pin.new) result (grammar.pin_statement name.now pin.old) lexer.old lexer.new }
+{
+    let token = token(lexer)?;
+    pin_statement_from(lexer, name, pin, &token)
+}
+
+fn pin_body(lexer: &mut Lexer, name: &[u8], pin: &mut Pin) -> Result<(), ReadError>
+    ensures { Reads (λ _. pin.new) result (block (grammar.pin_statement name.now) pin.old) lexer.old lexer.new }
+{
+    while pin_statement(lexer, name, pin)? {}
+    Ok(())
+}
+
+/// `PIN name`, its statements and `END name`, behind its keyword.
+#[tactic(auto, unfolding(crate::specs::Pins::pin))]
+pub fn read_pin(alloc: Global, lexer: &mut Lexer) -> Result<Pin, ReadError>
+    ensures { Reads (λ p. p) result grammar.pin lexer.old lexer.new }
+{
+    let name = name(lexer)?;
+    let mut pin = Pin {
+        supply: None,
+        reaches: Sequence::new(alloc),
+    };
+    pin_body(lexer, name.text, &mut pin)?;
+    Ok(pin)
+}
+
+/// A height of the macro's own coordinates once ORIGIN is added.
+fn moved(y: i64, origin: i64) -> i128
+    ensures { result ≡ y +ℤ origin }
+{
+    y as i128 + origin as i128
+}
+
+fn is_at_bottom(origin: i64, reach: &Reach) -> bool
+    ensures { result ≡ grammar.is_at_bottom origin reach.now }
+{
+    moved(reach.low, origin) <= 0 && 0 <= moved(reach.high, origin)
+}
+
+fn reaches_bottom(origin: i64, reaches: &[Reach]) -> bool
+    ensures { result ≡ list_any (grammar.is_at_bottom origin) reaches.now }
+{
+    reaches.iter().any(|reach| is_at_bottom(origin, reach))
+}
+
+fn is_used_as(supply: PinUse, given: Option<PinUse>) -> bool
+    ensures { result ≡ grammar.is_used_as supply given }
+{
+    match given {
+        Some(given) => given == supply,
+        None => false,
+    }
+}
+
+fn is_supply_at_bottom(supply: PinUse, origin: i64, pin: &Pin) -> bool
+    ensures { result ≡ grammar.is_supply_at_bottom supply origin pin.now }
+{
+    is_used_as(supply, pin.supply) && reaches_bottom(origin, pin.reaches.as_slice())
+}
+
+fn has_at_bottom(supply: PinUse, origin: i64, pins: &[Pin]) -> bool
+    ensures { result ≡ grammar.has_at_bottom supply origin pins.now }
+{
+    pins.iter()
+        .any(|pin| is_supply_at_bottom(supply, origin, pin))
+}
+
+/// The rail along the bottom of a macro whose ORIGIN has this y.
+pub fn rail_of(origin: i64, pins: &[Pin]) -> Rail
+    ensures { result ≡ grammar.rail_of origin pins.now }
+{
+    let power = has_at_bottom(PinUse::Power, origin, pins);
+    let ground = has_at_bottom(PinUse::Ground, origin, pins);
+    if power && !ground {
+        Rail::Power
+    } else {
+        Rail::Ground
+    }
+}

@@ -1,0 +1,147 @@
+//! Sites: SITE name, its statements, END name.
+
+ghost use Rattle.std.specs.Prelude.{◌≡◌, IfSome, IfOk, OnOk};
+ghost use Rattle.lf_lex.specs.Tokens.{lexeme};
+ghost use Rattle.lf_lex.specs.Reading.{Reads, ReadsOn, block, turn};
+ghost use Rattle.lf_lef.specs.Lengths.{HasRange};
+ghost use Rattle.lf_lef.specs.Sites as grammar;
+
+use crate::lengths::{keep_first, size};
+use lf_lex::{
+    FaultNumber, Lexer, ReadError, Token, end_name, fault_at, is, keyword, to_semicolon, token,
+    word,
+};
+use lf_orient::Symmetry;
+use lf_units::{Name, Point};
+
+/// A placement site (LEF/DEF 5.8, LEF SITE). Its lengths are millionths of a micron.
+#[derive(Drop)]
+pub struct Site {
+    pub name: Name,
+    /// Its CLASS is CORE.
+    pub core: bool,
+    /// Its width and height; 0 by 0 where it has no SIZE.
+    pub size: Point,
+    pub symmetry: Symmetry,
+}
+
+/// What the statements of a site say: of each kind the first.
+#[derive(Clone, Copy, Debug, PartialEq, Eq)]
+pub struct SiteParts {
+    pub core: Option<bool>,
+    pub symmetry: Option<Symmetry>,
+    pub size: Option<Point>,
+}
+
+/// A word and a semicolon.
+#[tactic(auto, unfolding(crate::specs::Sites::one_word))]
+pub fn one_word<'a>(lexer: &mut Lexer<'a>) -> Result<&'a [u8], ReadError>
+    ensures { Reads (λ w. w.now) result grammar.one_word lexer.old lexer.new }
+{
+    let word = word(lexer)?;
+    keyword(lexer, b";")?;
+    Ok(word.text)
+}
+
+#[tactic(auto, unfolding(crate::specs::Sites::symmetry_word))]
+fn symmetry_word(lexer: &mut Lexer, symmetry: &mut Symmetry) -> Result<bool, ReadError>
+    ensures { Reads (turn symmetry.new) result (grammar.symmetry_word symmetry.old) lexer.old lexer.new }
+{
+    let token = token(lexer)?;
+    if is(b";", &token) {
+        return Ok(false);
+    }
+    if is(b"X", &token) {
+        symmetry.x = true;
+    } else if is(b"Y", &token) {
+        symmetry.y = true;
+    } else if !is(b"R90", &token) {
+        return Err(fault_at(FaultNumber::Unexpected, token.line));
+    }
+    Ok(true)
+}
+
+/// `SYMMETRY {X | Y | R90} .. ;` behind its keyword.
+pub fn symmetry(lexer: &mut Lexer) -> Result<Symmetry, ReadError>
+    ensures { Reads (λ s. s) result grammar.symmetry lexer.old lexer.new }
+{
+    let mut symmetry = Symmetry { x: false, y: false };
+    while symmetry_word(lexer, &mut symmetry)? {}
+    Ok(symmetry)
+}
+
+/// A statement of a site, of which the first token was read; whether more follow.
+#[tactic(auto, unfolding(crate::specs::Sites::site_statement_from))]
+fn site_statement_from(
+    lexer: &mut Lexer,
+    name: &[u8],
+    parts: &mut SiteParts,
+    token: &Token,
+) -> Result<bool, ReadError>
+    requires range { IfSome parts.old.size (λ p. HasRange p) }
+    ensures read { ReadsOn (turn parts.new) result (grammar.site_statement_from name.now parts.old (lexeme token.now)) lexer.old lexer.new }
+    ensures range { IfSome parts.new.size (λ p. HasRange p) }
+{
+    if is(b"END", token) {
+        end_name(lexer, name)?;
+        return Ok(false);
+    }
+    if is(b"CLASS", token) {
+        let class = one_word(lexer)?;
+        parts.core = parts.core.or(Some(class == b"CORE".as_slice()));
+    } else if is(b"SYMMETRY", token) {
+        let symmetry = symmetry(lexer)?;
+        parts.symmetry = parts.symmetry.or(Some(symmetry));
+    } else if is(b"SIZE", token) {
+        let size = size(lexer)?;
+        keep_first(&mut parts.size, size);
+    } else if !is(b";", token) {
+        to_semicolon(lexer)?;
+    }
+    Ok(true)
+}
+
+#[tactic(auto, unfolding(crate::specs::Sites::site_statement))]
+fn site_statement(lexer: &mut Lexer, name: &[u8], parts: &mut SiteParts) -> Result<bool, ReadError>
+    requires range { IfSome parts.old.size (λ p. HasRange p) }
+    ensures read { Reads (turn parts.new) result (grammar.site_statement name.now parts.old) lexer.old lexer.new }
+    ensures range { IfSome parts.new.size (λ p. HasRange p) }
+{
+    let first = token(lexer)?;
+    site_statement_from(lexer, name, parts, &first)
+}
+
+/// The statements of a site, and its END name.
+pub fn site_parts(lexer: &mut Lexer, name: &[u8]) -> Result<SiteParts, ReadError>
+    ensures read { Reads (λ p. p) result (grammar.site_parts name.now) lexer.old lexer.new }
+    ensures range { IfOk result (λ parts. IfSome parts.size (λ p. HasRange p)) }
+{
+    let mut parts = SiteParts {
+        core: None,
+        symmetry: None,
+        size: None,
+    };
+    while site_statement(lexer, name, &mut parts)? {}
+    Ok(parts)
+}
+
+/// No point or no size: 0 and 0.
+pub fn no_point() -> Point
+    ensures { result ≡ grammar.no_point }
+{
+    Point { x: 0, y: 0 }
+}
+
+/// The site that the statements describe.
+pub fn site_of(name: Name, parts: &SiteParts) -> Site
+    requires range { IfSome parts.now.size (λ p. HasRange p) }
+    ensures site { result ≡ grammar.site_of name parts.now }
+    ensures range { HasRange result.size }
+{
+    Site {
+        name,
+        core: parts.core.unwrap_or(false),
+        size: parts.size.unwrap_or(no_point()),
+        symmetry: parts.symmetry.unwrap_or(Symmetry { x: false, y: false }),
+    }
+}

@@ -1,0 +1,179 @@
+//! LEF texts: the statements of a library.
+
+ghost use Rattle.std.specs.Prelude.{◌≡◌, ◌<◌, Ok, Option, None, length, map, IfOk, IfErr, OnOk, OnErr, MatchResult, MatchOption};
+ghost use Rattle.std.specs.Option.{option_map};
+ghost use Rattle.lf_names.specs.Names.{position_of};
+ghost use Rattle.lf_lex.specs.Tokens.{lexeme};
+ghost use Rattle.lf_lex.specs.Reading.{Reads, ReadsOn, ReadsTurn, Fails, turn};
+ghost use Rattle.lf_lef.specs.Contents.{site_names, macro_names, BeginsWith};
+ghost use Rattle.lf_lef.specs.Library as grammar;
+
+use crate::library::Library;
+use crate::macros::{macro_of, macro_parts};
+use crate::sites::{site_of, site_parts};
+use lf_lex::{
+    FaultNumber, Lexer, LoadFault, ReadError, Token, end_name, fault_at, is, name, next, to_end,
+    to_semicolon, to_word,
+};
+use lf_units::Name;
+
+/// Where nothing has the name yet, there has to be room for one thing more, else TooMany.
+fn room_for(known: Option<usize>, count: usize, name: &Token) -> Result<(), ReadError>
+    ensures read { MatchResult result (λ x. grammar.room_for known count (lexeme name.now) ≡ Ok x) (λ e. Fails e (grammar.room_for known count (lexeme name.now))) }
+    ensures room { OnOk result (known ≡ None → count < 1000000) }
+{
+    if known.is_none() && count >= 1_000_000 {
+        return Err(fault_at(FaultNumber::TooMany, name.line));
+    }
+    Ok(())
+}
+
+/// SITE behind its keyword.
+#[tactic(auto, unfolding(crate::specs::Library::with_site))]
+fn site(library: &mut Library, lexer: &mut Lexer) -> Result<(), ReadError>
+    ensures read { Reads (λ _. library.new) result (grammar.with_site library.old) lexer.old lexer.new }
+    ensures kept { BeginsWith library.old library.new }
+{
+    let name = name(lexer)?;
+    let known_site = library.find_site(name.text);
+    room_for(known_site, library.sites().len(), &name)?;
+    let parts = site_parts(lexer, name.text)?;
+    if known_site.is_none() {
+        let name = Name::from_slice(library.alloc(), name.text)?;
+        library.add_site(site_of(name, &parts))?;
+    }
+    Ok(())
+}
+
+/// MACRO behind its keyword.
+#[tactic(auto, unfolding(crate::specs::Library::with_macro))]
+fn cell(library: &mut Library, lexer: &mut Lexer) -> Result<(), ReadError>
+    ensures read { Reads (λ _. library.new) result (grammar.with_macro library.old) lexer.old lexer.new }
+    ensures kept { BeginsWith library.old library.new }
+{
+    let name = name(lexer)?;
+    let known_macro = library.find_macro(name.text);
+    room_for(known_macro, library.macros().len(), &name)?;
+    let parts = macro_parts(library.alloc(), lexer, name.text)?;
+    if known_macro.is_none() {
+        let name = Name::from_slice(library.alloc(), name.text)?;
+        library.add_macro(macro_of(name, &parts))?;
+    }
+    Ok(())
+}
+
+/// Whether a statement of this keyword is passed over to END and the name behind the keyword.
+fn is_named(token: &Token) -> bool
+    ensures { result ≡ grammar.is_named (lexeme token.now) }
+{
+    is(b"LAYER", token)
+        || is(b"VIA", token)
+        || is(b"VIARULE", token)
+        || is(b"NONDEFAULTRULE", token)
+        || is(b"ARRAY", token)
+}
+
+/// Whether a statement of this keyword is passed over to END and the keyword.
+fn is_group(token: &Token) -> bool
+    ensures { result ≡ grammar.is_group (lexeme token.now) }
+{
+    is(b"UNITS", token)
+        || is(b"PROPERTYDEFINITIONS", token)
+        || is(b"SPACING", token)
+        || is(b"IRDROP", token)
+        || is(b"NOISETABLE", token)
+        || is(b"CORRECTIONTABLE", token)
+}
+
+#[tactic(auto, unfolding(crate::specs::Library::to_named_end))]
+fn to_named_end(lexer: &mut Lexer) -> Result<(), ReadError>
+    ensures { Reads (λ x. x) result grammar.to_named_end lexer.old lexer.new }
+{
+    let name = name(lexer)?;
+    to_end(lexer, name.text)
+}
+
+/// A statement that says nothing of sites and macros, of which the first token was read.
+#[tactic(auto, unfolding(crate::specs::Library::passed_from))]
+fn passed_from(lexer: &mut Lexer, token: &Token) -> Result<(), ReadError>
+    ensures { ReadsOn (λ x. x) result (grammar.passed_from (lexeme token.now)) lexer.old lexer.new }
+{
+    if is_named(token) {
+        to_named_end(lexer)
+    } else if is_group(token) {
+        to_end(lexer, token.text)
+    } else if is(b"BEGINEXT", token) {
+        to_word(lexer, b"ENDEXT")
+    } else if !is(b";", token) {
+        to_semicolon(lexer)
+    } else {
+        Ok(())
+    }
+}
+
+/// A statement of the text, of which the first token was read; whether more follow.
+#[tactic(auto, unfolding(crate::specs::Library::statement_from))]
+fn statement_from(
+    library: &mut Library,
+    lexer: &mut Lexer,
+    token: &Token,
+) -> Result<bool, ReadError>
+    ensures read { ReadsOn (turn library.new) result (grammar.statement_from library.old (lexeme token.now)) lexer.old lexer.new }
+    ensures kept { BeginsWith library.old library.new }
+{
+    if is(b"END", token) {
+        end_name(lexer, b"LIBRARY")?;
+        return Ok(false);
+    }
+    if is(b"SITE", token) {
+        site(library, lexer)?;
+    } else if is(b"MACRO", token) {
+        cell(library, lexer)?;
+    } else {
+        passed_from(lexer, token)?;
+    }
+    Ok(true)
+}
+
+#[tactic(auto, unfolding(crate::specs::Library::statement))]
+fn statement(library: &mut Library, lexer: &mut Lexer) -> Result<bool, ReadError>
+    ensures read { ReadsTurn (turn library.new) result (grammar.statement library.old) lexer.old lexer.new }
+    ensures kept { BeginsWith library.old library.new }
+{
+    match next(lexer)? {
+        Some(token) => statement_from(library, lexer, &token),
+        None => Ok(false),
+    }
+}
+
+/// The statements of a text; what was read up to a failure stays in the library.
+fn read_statements(library: &mut Library, text: &[u8]) -> Result<(), ReadError>
+    ensures ok { OnOk result (grammar.library_after library.old text.now ≡ Ok library.new) }
+    ensures fault { IfErr result (λ e. Fails e (grammar.library_after library.old text.now)) }
+    ensures kept { BeginsWith library.old library.new }
+{
+    let mut lexer = Lexer::new(text);
+    while statement(library, &mut lexer)? {}
+    Ok(())
+}
+
+/// Adds the sites and macros of a LEF text, up to END LIBRARY or the end of the text between
+/// statements. Of several sites or macros of one name the first stands, in one text or several.
+///
+/// The refusal is the first fault in the order of the tokens, with its line: BadToken, UnexpectedEnd,
+/// Unexpected, BadNumber, WrongEnd or TooMany; or OutOfMemory. The library is unchanged after it.
+pub fn read_lef<'a>(library: &mut Library, text: &'a [u8]) -> Result<(), LoadFault<'a>>
+    ensures ok { OnOk result (grammar.library_after library.old text.now ≡ Ok library.new) }
+    ensures fault { IfErr result (λ fault. grammar.Refuses fault (grammar.library_after library.old text.now)) }
+    ensures err { OnErr result (library.new ≡ library.old) }
+{
+    let sites = library.sites().len();
+    let macros = library.macros().len();
+    match read_statements(library, text) {
+        Ok(()) => Ok(()),
+        Err(error) => {
+            library.truncate(sites, macros);
+            Err(error.into_load_fault())
+        }
+    }
+}

@@ -1,0 +1,5 @@
+pub mod Faults
+pub mod Laws
+pub mod Reading
+pub mod Splices
+pub mod Tokens

@@ -1,0 +1,71 @@
+-- A text in which some runs of bytes are replaced.
+use Rattle.std.specs.Prelude.{◌≡◌, ℕ, ◌-◌, ◌≤◌, ◌==◌, take, drop, ◌++◌, map, Bool, true, false, not, ◌&&◌, List, [], ◌∷◌}
+use Rattle.std.specs.List.{list_all}
+use Rattle.lf_lex.specs.declared.tokens.TokenKind.TheVariants.{Word}
+use Rattle.lf_lex.specs.Tokens.{Lexeme, Plain, plain, tokens_of, is_word_byte}
+
+-- bytes that take the place of those from one offset up to another
+pub record Splice : Type 0 where
+  pub start : ℕ
+  pub stop : ℕ
+  pub new : List ℕ
+
+-- What is left of a text from a place on, with the splices made.
+unfoldable pub spliced : ℕ → List Splice → List ℕ → List ℕ
+spliced at [] bytes = bytes
+spliced at (s ∷ ss) bytes = take (s.start - at) bytes ++ (s.new ++ spliced s.stop ss (drop (s.stop - at) bytes))
+
+-- splices one behind the other, within a text of so many bytes
+abbrev pub Rising : ℕ → ℕ → List Splice → Type 0
+Rising at len [] = at ≤ len
+Rising at len (s ∷ ss) = (at ≤ s.start) × (s.start ≤ s.stop) × Rising s.stop len ss
+
+-- words with a space before each
+abbrev pub spaced : List (List ℕ) → List ℕ
+spaced [] = []
+spaced (w ∷ ws) = 32 ∷ w ++ spaced ws
+
+-- words with one space between
+abbrev pub joined : List (List ℕ) → List ℕ
+joined [] = []
+joined (w ∷ ws) = w ++ spaced ws
+
+-- bytes that are one word where white space follows
+abbrev pub is_word_text : List ℕ → Bool
+is_word_text [] = false
+is_word_text (b ∷ bytes) = not (b == 35) && not (b == 34) && list_all is_word_byte (b ∷ bytes)
+
+abbrev pub word_of : List ℕ → Plain
+word_of w = record { text = w; kind = Word }
+
+-- a run of tokens ends with a word, at a place
+abbrev pub LastIs : ℕ → Lexeme → List Lexeme → Type 0
+LastIs stop t [] = (t.stop ≡ stop) × (is_word_text t.text ≡ true)
+LastIs stop t (u ∷ us) = LastIs stop u us
+
+-- what one splice does to the tokens: the run that it replaces by words, and what stands behind; an insertion stands before a token
+abbrev pub Makes : Splice → List (List ℕ) → List Lexeme → List Lexeme → Type 0
+Makes s ws [] [] = ⊥
+Makes s ws [] (t ∷ after) = (s.start ≡ t.start) × (s.stop ≡ t.start) × (s.new ≡ joined ws ++ 32 ∷ [])
+Makes s ws (t ∷ middle) after = (s.start ≡ t.start) × LastIs s.stop t middle × (s.new ≡ joined ws)
+
+pub record Step (s : Splice) (p : List Lexeme) (q : List Plain) (Then : List Lexeme → List Plain → Type 0) : Type 0 where
+  pub before : List Lexeme
+  pub middle : List Lexeme
+  pub after : List Lexeme
+  pub words : List (List ℕ)
+  pub later : List Plain
+  pub tokens : p ≡ before ++ (middle ++ after)
+  pub makes : Makes s words middle after
+  pub spelled : list_all is_word_text words ≡ true
+  pub new : q ≡ map plain before ++ (map word_of words ++ later)
+  pub next : Then after later
+
+-- splices of a run of tokens, and what the run becomes
+abbrev pub Edited : List Splice → List Lexeme → List Plain → Type 0
+Edited [] p q = map plain p ≡ q
+Edited (s ∷ ss) p q = Step s p q (Edited ss)
+
+-- The tokens of a text whose splices are made are what the splices make of its tokens, places apart.
+abbrev pub SplicesTokens : List ℕ → Type 0
+SplicesTokens text = (ss : List Splice) (q : List Plain) → Edited ss (tokens_of text).tokens q → map plain (tokens_of (spliced 0 ss text)).tokens ≡ q

@@ -1,0 +1,120 @@
+//! What is answered to a text that cannot be read or a design that cannot be loaded.
+
+ghost use Rattle.std.specs.Prelude.{◌≡◌};
+ghost use Rattle.lf_lex.specs.declared.fault.ReadError.TheVariants.{Memory};
+ghost use Rattle.lf_lex.specs.Faults.{load_fault_of};
+
+use std::alloc::{AllocError, AllocFailed};
+
+/// The refusals of reading and loading, from number 1 to number 24.
+#[derive(Clone, Copy, Debug, PartialEq, Eq)]
+pub enum FaultNumber {
+    /// A byte that no token may hold.
+    BadToken,
+    /// The text ends where more is due.
+    UnexpectedEnd,
+    /// Another token than the one that is due.
+    Unexpected,
+    /// No number, too fine a number or too large a number where a number is due.
+    BadNumber,
+    /// END and another name than the one that is due.
+    WrongEnd,
+    /// A word that begins no statement of DEF.
+    UnknownStatement,
+    /// The DEF text has no UNITS.
+    NoUnits,
+    /// A row names a site that no LEF text has.
+    NoSite,
+    /// There is no row of core sites.
+    NoRows,
+    /// A row has more than one site upwards.
+    VerticalRow,
+    /// A row's step is not the width of its site.
+    BadStep,
+    /// A row lies on its side or upside down.
+    RowOrient,
+    /// A row shares a point with an earlier one.
+    RowsOverlap,
+    /// A component has a macro that no LEF text has.
+    NoMacro,
+    /// A component's macro has no size with both lengths above 0.
+    NoSize,
+    /// A size is no whole number of database units.
+    NotWhole,
+    /// A component bears an earlier one's name.
+    SecondName,
+    /// A fence bears an earlier one's name.
+    SecondRegion,
+    /// A group's region is in no REGIONS entry.
+    NoRegion,
+    /// A fence bears the name of the ground outside all fences.
+    TeamName,
+    /// A fence shares a point with an earlier one.
+    FencesOverlap,
+    /// Groups of two fences name one component.
+    TwoFences,
+    /// A name is too long, or there is one thing more than the limit of its kind.
+    TooMany,
+    /// A growth of memory was refused.
+    OutOfMemory,
+}
+
+/// A refusal of a text or a design, with the line or the name that it speaks of.
+///
+/// Readers name the line, loading names the entry, and want of memory names neither.
+#[derive(Clone, Copy, Debug, PartialEq, Eq)]
+pub struct LoadFault<'a> {
+    pub number: FaultNumber,
+    pub line: Option<usize>,
+    pub name: Option<&'a [u8]>,
+}
+
+/// The first fault of a text, in the order of its tokens, and the line of that token.
+#[derive(Clone, Copy, Debug, PartialEq, Eq)]
+pub struct ReadFault {
+    pub number: FaultNumber,
+    pub line: usize,
+}
+
+/// Why a reader gave up: a fault of the text, or a growth of memory that was refused.
+#[derive(Debug, Drop)]
+pub enum ReadError {
+    Memory,
+    Fault(ReadFault),
+}
+
+impl From<AllocError> for ReadError {
+    ghost from_gives = { λ _ e. e ≡ Memory };
+
+    fn from(_e: AllocError) -> ReadError {
+        ReadError::Memory
+    }
+}
+
+impl<T: Drop> From<AllocFailed<T>> for ReadError {
+    ghost from_gives = { λ _ e. e ≡ Memory };
+
+    fn from(_e: AllocFailed<T>) -> ReadError {
+        ReadError::Memory
+    }
+}
+
+impl ReadError {
+    /// The refusal that a public reader answers.
+    pub fn into_load_fault<'a>(self) -> LoadFault<'a>
+        ensures { result ≡ load_fault_of self }
+    {
+        match self {
+            ReadError::Memory => LoadFault {
+                number: FaultNumber::OutOfMemory,
+                line: None,
+                name: None,
+            },
+            ReadError::Fault(fault) => LoadFault {
+                number: fault.number,
+                line: Some(fault.line),
+                name: None,
+            },
+        }
+    }
+}

@@ -1,0 +1,86 @@
+//! The lexer, and what is true of the tokens of every text.
+
+ghost use Rattle.std.specs.Prelude.{◌≡◌, ◌+◌, ◌≤◌, List, ℕ, length, drop, All, IfOk, IfSome};
+ghost use Rattle.lf_lex.specs.Splices.{SplicesTokens};
+ghost use Rattle.lf_lex.specs.Tokens.{tokens_of, lexeme, Answers, AreSlices, CutsAtTokens, IsSpelled};
+
+use crate::scan::{line_feeds, quoted_token, skip_blank, word_token};
+use crate::tokens::{LexFault, Token};
+use std::marker::Model;
+
+/// Gives the tokens of a text one by one. A fault stays.
+#[derive(Drop)]
+pub struct Lexer<'a> {
+    text: &'a [u8],
+    at: usize,
+    line: usize,
+}
+
+impl<'a> Model for Lexer<'a> {
+    ghost use Rattle.std.specs.Prelude.{◌+◌, ◌≤◌, length, drop};
+    ghost use Rattle.lf_lex.specs.Tokens.{Lexed, tokens_from};
+
+    ghost Value = { Lexed };
+
+    ghost view = { λ l. tokens_from 0 l.at l.line (drop l.at l.text.now) };
+
+    ghost invariant = { λ l. (l.at ≤ length l.text.now) × (l.line ≤ l.at + 1) };
+}
+
+impl<'a> Lexer<'a> {
+    pub fn new(text: &'a [u8]) -> Self
+        ensures { result ≡ tokens_of text.now }
+    {
+        Lexer {
+            text,
+            at: 0,
+            line: 1,
+        }
+    }
+
+    /// The line on which the text ends.
+    pub fn end_line(&self) -> usize
+        ensures { result ≡ self.now.end_line }
+    {
+        self.line + line_feeds(&self.text[self.at..])
+    }
+
+    /// The next token, or None at the end.
+    pub fn next_token(&mut self) -> Result<Option<Token<'a>>, LexFault>
+        ensures tokens { Answers result self.old self.new }
+        ensures spelled { IfOk result (λ token. IfSome token (λ t. IsSpelled (lexeme t))) }
+    {
+        let (at, line) = skip_blank(self.text, self.at, self.line);
+        if at == self.text.len() {
+            return Ok(None);
+        }
+        let token = if self.text[at] == b'"' {
+            quoted_token(self.text, at, line)?
+        } else {
+            word_token(self.text, at, line)?
+        };
+        self.at = token.stop;
+        self.line = line + line_feeds(token.text);
+        Ok(Some(token))
+    }
+}
+
+/// The kind of each token of a text follows from its bytes, and words have no bytes but those from 33 to 126.
+pub fn kinds_follow_texts()
+    ensures { (text : List ℕ) → All IsSpelled (tokens_of text).tokens }
+{}
+
+/// The tokens of a text are slices of it, one behind the other.
+pub fn slices_in_order()
+    ensures { (text : List ℕ) → AreSlices text 0 (tokens_of text).tokens }
+{}
+
+/// Whatever stands in place of a token and all behind it, the tokens before it stay.
+pub fn cuts_at_tokens()
+    ensures { (text : List ℕ) → CutsAtTokens text }
+{}
+
+/// The tokens of a text with splices made between its tokens.
+pub fn splices_tokens()
+    ensures { (text : List ℕ) → SplicesTokens text }
+{}

@@ -1,0 +1,200 @@
+//! The words by which LEF and DEF are read, token by token.
+
+ghost use Rattle.std.specs.Prelude.{◌≡◌, ◌<◌, ◌≤◌, length, true, false, IfOk, MatchResult, OnSome};
+ghost use Rattle.std.specs.Option.{option_map};
+ghost use Rattle.std.specs.List.{list_all};
+ghost use Rattle.lf_lex.specs.Tokens.{lexeme, is_word_byte, IsSpelled};
+ghost use Rattle.lf_lex.specs.declared.fault.FaultNumber.TheVariants.{Unexpected};
+ghost use Rattle.lf_lex.specs.Reading as reading;
+ghost use Rattle.lf_lex.specs.Reading.{Reads, Fails, IsName, turn, taken};
+
+use crate::fault::{FaultNumber, ReadError, ReadFault};
+use crate::lexer::Lexer;
+use crate::tokens::{LexFault, Token, TokenKind};
+
+/// A fault of the text at a line.
+pub fn fault_at(number: FaultNumber, line: usize) -> ReadError
+    ensures { result ≡ reading.error_at number line }
+{
+    ReadError::Fault(ReadFault { number, line })
+}
+
+fn lexer_error(fault: LexFault) -> ReadError
+    ensures { result ≡ reading.lexer_error fault }
+{
+    match fault {
+        LexFault::BadToken { line } => fault_at(FaultNumber::BadToken, line),
+        LexFault::UnexpectedEnd { line } => fault_at(FaultNumber::UnexpectedEnd, line),
+    }
+}
+
+/// Another token stands where this one was due.
+fn unexpected(found: &Token) -> ReadError
+    ensures { result ≡ reading.error_at Unexpected found.now.line }
+{
+    fault_at(FaultNumber::Unexpected, found.line)
+}
+
+/// The next token; UnexpectedEnd at the end of the text.
+pub fn token<'a>(lexer: &mut Lexer<'a>) -> Result<Token<'a>, ReadError>
+    ensures read { Reads lexeme result reading.token lexer.old lexer.new }
+    ensures spelled { IfOk result (λ t. IsSpelled (lexeme t)) }
+{
+    match lexer.next_token() {
+        Ok(Some(token)) => Ok(token),
+        Ok(None) => Err(fault_at(FaultNumber::UnexpectedEnd, lexer.end_line())),
+        Err(fault) => Err(lexer_error(fault)),
+    }
+}
+
+/// The next token, or None at the end of the text.
+pub fn next<'a>(lexer: &mut Lexer<'a>) -> Result<Option<Token<'a>>, ReadError>
+    ensures { MatchResult result (λ t. (reading.next lexer.old ≡ taken (option_map lexeme t) lexer.new) × OnSome t (length lexer.new.tokens < length lexer.old.tokens)) (λ e. Fails e (reading.next lexer.old)) }
+{
+    match lexer.next_token() {
+        Ok(token) => Ok(token),
+        Err(fault) => Err(lexer_error(fault)),
+    }
+}
+
+/// Whether the token's bytes are these.
+pub fn is(word: &[u8], token: &Token) -> bool
+    ensures { result ≡ reading.is word.now (lexeme token.now) }
+{
+    token.text == word
+}
+
+/// Whether the token is a word, `;` among them.
+pub fn is_any_word(token: &Token) -> bool
+    ensures { result ≡ reading.kind_is_word (lexeme token.now).kind }
+{
+    match token.kind {
+        TokenKind::Word => true,
+        TokenKind::Quoted => false,
+    }
+}
+
+/// Whether the token is a word other than `;`.
+pub fn is_word(token: &Token) -> bool
+    ensures { result ≡ reading.is_word (lexeme token.now) }
+{
+    is_any_word(token) && !is(b";", token)
+}
+
+/// Past the token that is due, else Unexpected.
+#[tactic(auto, unfolding(crate::specs::Reading::keyword))]
+pub fn keyword(lexer: &mut Lexer, due: &[u8]) -> Result<(), ReadError>
+    ensures { Reads (λ x. x) result (reading.keyword due.now) lexer.old lexer.new }
+{
+    let given = token(lexer)?;
+    if is(due, &given) {
+        Ok(())
+    } else {
+        Err(unexpected(&given))
+    }
+}
+
+/// A word other than `;`, of any length, else Unexpected.
+#[tactic(auto, unfolding(crate::specs::Reading::word))]
+pub fn word<'a>(lexer: &mut Lexer<'a>) -> Result<Token<'a>, ReadError>
+    ensures read { Reads lexeme result reading.word lexer.old lexer.new }
+    ensures printable { IfOk result (λ t. list_all is_word_byte (lexeme t).text ≡ true) }
+{
+    let word = token(lexer)?;
+    if is_word(&word) {
+        Ok(word)
+    } else {
+        Err(unexpected(&word))
+    }
+}
+
+/// A word other than `;` of at most 1,024 bytes, else Unexpected or TooMany.
+#[tactic(auto, unfolding(crate::specs::Reading::name))]
+pub fn name<'a>(lexer: &mut Lexer<'a>) -> Result<Token<'a>, ReadError>
+    ensures read { Reads lexeme result reading.name lexer.old lexer.new }
+    ensures name { IfOk result (λ t. IsName (lexeme t).text) }
+{
+    let name = word(lexer)?;
+    if name.text.len() > 1024 {
+        Err(fault_at(FaultNumber::TooMany, name.line))
+    } else {
+        Ok(name)
+    }
+}
+
+/// Past the name that is due behind an END: WrongEnd for another word, Unexpected for a quoted text.
+#[tactic(auto, unfolding(crate::specs::Reading::end_name))]
+pub fn end_name(lexer: &mut Lexer, due: &[u8]) -> Result<(), ReadError>
+    ensures { Reads (λ x. x) result (reading.end_name due.now) lexer.old lexer.new }
+{
+    let name = token(lexer)?;
+    if !is_any_word(&name) {
+        return Err(unexpected(&name));
+    }
+    if is(due, &name) {
+        Ok(())
+    } else {
+        Err(fault_at(FaultNumber::WrongEnd, name.line))
+    }
+}
+
+#[tactic(auto, unfolding(crate::specs::Reading::passed_token))]
+fn passed_token(lexer: &mut Lexer) -> Result<bool, ReadError>
+    ensures { Reads (turn tt) result (reading.passed_token tt) lexer.old lexer.new }
+{
+    let token = token(lexer)?;
+    Ok(!is(b";", &token))
+}
+
+/// Past the next `;`.
+pub fn to_semicolon(lexer: &mut Lexer) -> Result<(), ReadError>
+    ensures { Reads (λ x. x) result reading.to_semicolon lexer.old lexer.new }
+{
+    while passed_token(lexer)? {}
+    Ok(())
+}
+
+#[tactic(auto, unfolding(crate::specs::Reading::passed_to_end))]
+fn passed_to_end(lexer: &mut Lexer, due: &[u8], behind_end: &mut bool) -> Result<bool, ReadError>
+    ensures { Reads (turn behind_end.new) result (reading.passed_to_end due.now behind_end.old) lexer.old lexer.new }
+{
+    let token = token(lexer)?;
+    if *behind_end && is(due, &token) {
+        return Ok(false);
+    }
+    *behind_end = is(b"END", &token);
+    Ok(true)
+}
+
+fn up_to_end(lexer: &mut Lexer, due: &[u8]) -> Result<bool, ReadError>
+    ensures { Reads (λ x. x) result (reading.block (reading.passed_to_end due.now) false) lexer.old lexer.new }
+{
+    let mut behind_end = false;
+    while passed_to_end(lexer, due, &mut behind_end)? {}
+    Ok(behind_end)
+}
+
+/// Past the next END that stands directly before the name, and past that name.
+#[tactic(auto, unfolding(crate::specs::Reading::to_end))]
+pub fn to_end(lexer: &mut Lexer, due: &[u8]) -> Result<(), ReadError>
+    ensures { Reads (λ x. x) result (reading.to_end due.now) lexer.old lexer.new }
+{
+    up_to_end(lexer, due)?;
+    Ok(())
+}
+
+#[tactic(auto, unfolding(crate::specs::Reading::passed_to_word))]
+fn passed_to_word(lexer: &mut Lexer, due: &[u8]) -> Result<bool, ReadError>
+    ensures { Reads (turn tt) result (reading.passed_to_word due.now tt) lexer.old lexer.new }
+{
+    let token = token(lexer)?;
+    Ok(!is(due, &token))
+}
+
+/// Past the next such word.
+pub fn to_word(lexer: &mut Lexer, due: &[u8]) -> Result<(), ReadError>
+    ensures { Reads (λ x. x) result (reading.to_word due.now) lexer.old lexer.new }
+{
+    while passed_to_word(lexer, due)? {}
+    Ok(())
+}
