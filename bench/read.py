@@ -10,16 +10,24 @@ import resource
 import subprocess
 import sys
 import tempfile
-import time
 
 TOP = os.path.dirname(os.path.dirname(os.path.abspath(__file__)))
 PROGRAM = os.path.join(TOP, "crates", "lefence_bench", "out", "lefence_bench")
 
 
-def generated(folder, kind, count):
-    path = os.path.join(folder, f"{count}.{kind}")
+def write(path, kind, count):
     with open(path, "wb") as out:
         subprocess.run([sys.executable, os.path.join(TOP, "bench", "generate.py"), kind, str(count)], stdout=out, check=True)
+
+
+def generated(folder, kind, count):
+    # a folder for each text, since KLayout takes the LEF texts beside a DEF text along
+    own = os.path.join(folder, f"{kind}{count}")
+    os.makedirs(own)
+    path = os.path.join(own, f"text.{kind}")
+    write(path, kind, count)
+    if kind == "def":
+        write(os.path.join(own, "macros.lef"), "lef", 200)
     return path
 
 
@@ -34,10 +42,9 @@ def run(task, path):
 
 
 def split_seconds(path):
-    data = open(path, "rb").read()
-    start = time.perf_counter()
-    data.split()
-    return time.perf_counter() - start
+    # in a process of its own: a child's peak memory begins with its parent's
+    script = "import sys,time;data=open(sys.argv[1],'rb').read();t=time.perf_counter();data.split();print(time.perf_counter()-t)"
+    return float(subprocess.run([sys.executable, "-c", script, path], capture_output=True, check=True).stdout)
 
 
 def klayout_seconds(path):
