@@ -24,7 +24,7 @@ pub broken_is : (l : Legalizer) (f : Frame) (team : ℕ) (cells : List Cell) (ow
     → IsVerdict (trial_of f team mac place others) found → found ≡ broken_at (setting l f team) cells own place
 broken_is l f team cells own c mac place others found one there is beside sized verdict =
     let same : found ≡ l.first_broken (trial_of f team mac place others) =
-        one (trial_of f team mac place others) found (l.first_broken (trial_of f team mac place others)) verdict (l.finds_first_broken (trial_of f team mac place others) sized) in
+    one (trial_of f team mac place others) found (l.first_broken (trial_of f team mac place others)) verdict (l.finds_first_broken (trial_of f team mac place others) sized) in
     same
     ∙ ap (λ (m : Macro). l.first_broken (trial_of f team m place others)) is
     ∙ ap (λ (os : List Placed). l.first_broken (trial_of f team (macro_of f c.mac) place os)) beside

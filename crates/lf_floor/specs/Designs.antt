@@ -6,7 +6,7 @@ use Rattle.lf_floor.specs.declared.cell.Cell.{Cell}
 use Rattle.lf_floor.specs.States.{TeamState, FloorState}
 use Rattle.lf_floor.specs.Teams.{team_number}
 
--- both places of a cell are the one that was loaded
+-- a cell as it is loaded: its place in the DEF text is its working place and its committed place
 abbrev pub opening_cell : LoadedCell → Cell
 opening_cell c = record { name = c.name; mac = c.mac; working = c.place; committed = c.place }
 
@@ -23,7 +23,7 @@ abbrev pub opening_teams : Loaded → ℕ → ℕ → List TeamState
 opening_teams design number zero = []
 opening_teams design number (suc more) = opening_team design number ∷ opening_teams design (number + 1) more
 
--- the fence teams and the ground team
+-- the floor as it is loaded: the fence teams in the frame's order, and last the team of the ground
 abbrev pub opening : Loaded → FloorState
 opening design = record { frame = design.frame; teams = opening_teams design 0 (length design.frame.teams + 1) }
 

@@ -12,7 +12,7 @@ use Rattle.lf_floor.specs.Teams.{team_number, state_of}
 use Rattle.lf_floor.specs.Steps.{Step, ruled}
 use Rattle.lf_floor.specs.Outcomes.{is_short}
 
--- the floor goes from old to new by these commands, with one reply to each
+-- the floor goes from old to new by these commands in order, with one reply to each
 abbrev pub Run : Legalizer → FloorState → List (Command (List ℕ) Place) → List Reply → FloorState → Type 0
 Run l old [] [] new = new ≡ old
 Run l old (command ∷ commands) (reply ∷ replies) new = (mid : FloorState) × Step l old command reply mid × Run l mid commands replies new
@@ -31,33 +31,34 @@ abbrev pub own_state : Legalizer → Frame → ℕ → List (Order (List ℕ) Pl
 own_state l f number [] s = s
 own_state l f number (order ∷ orders) s = own_state l f number orders (ruled l f number order s).team
 
--- an order to the team that was not answered by want of memory is put in front of the later ones
+-- an order to the team, not answered OutOfMemory, is put in front of the later ones
 abbrev pub asked_before : List ℕ → Command (List ℕ) Place → Reply → List (Order (List ℕ) Place) → List (Order (List ℕ) Place)
 asked_before team Bye reply later = later
 asked_before team (To name order) reply later = if bytes_eq name team && not (is_short reply) then order ∷ later else later
 
--- what a team asked, without what was answered by want of memory
+-- the orders of a run to the team of that name, without those answered OutOfMemory
 abbrev pub asked : List ℕ → List (Command (List ℕ) Place) → List Reply → List (Order (List ℕ) Place)
 asked team [] replies = []
 asked team (command ∷ commands) [] = []
 asked team (command ∷ commands) (reply ∷ replies) = asked_before team command reply (asked team commands replies)
 
+-- the reply to an order of the team, where it is not OutOfMemory, is put in front of the later ones
 abbrev pub told_before : List ℕ → Command (List ℕ) Place → Reply → List Reply → List Reply
 told_before team Bye reply later = later
 told_before team (To name order) reply later = if bytes_eq name team && not (is_short reply) then reply ∷ later else later
 
--- what a team was told, without want of memory
+-- the replies of a run to the team of that name, without OutOfMemory
 abbrev pub told : List ℕ → List (Command (List ℕ) Place) → List Reply → List Reply
 told team [] replies = []
 told team (command ∷ commands) [] = []
 told team (command ∷ commands) (reply ∷ replies) = told_before team command reply (told team commands replies)
 
--- the team was told, and is left, what its own orders alone come to
+-- the team was told, and has become, what its own orders alone come to from its state at the start
 pub record IsOwnRun (l : Legalizer) (frame : Frame) (number : ℕ) (team : List ℕ) (s : TeamState) (commands : List (Command (List ℕ) Place)) (replies : List Reply) (new : FloorState) : Type 0 where
   pub replies_are : told team commands replies ≡ own_replies l frame number (asked team commands replies) s
   pub state_is : state_of new team ≡ Some (own_state l frame number (asked team commands replies) s)
 
--- each team was
+-- every team was told, and has become, what its own orders alone come to
 abbrev pub IsIsolated : Legalizer → FloorState → List (Command (List ℕ) Place) → List Reply → FloorState → Type 0
 IsIsolated l old commands replies new =
     (team : List ℕ) (number : ℕ) (s : TeamState) → team_number old.frame team ≡ Some number → state_of old team ≡ Some s

@@ -4,15 +4,17 @@ use Rattle.lf_frame.specs.declared.frame.Frame.{Frame}
 use Rattle.lf_frame.specs.declared.place.Place.{Place}
 use Rattle.lf_floor.specs.declared.cell.Cell.{Cell}
 
--- a team: its cells in loading order; how many changes it has made; the working places before each change that can be
--- undone, the newest first; and for each session slot the revision that the session has seen, None where the slot is free
+-- a team: its cells in loading order; its revision, which is how many changes it has made; the working places before each
+-- change that can be undone, the newest first; and for each session slot the revision that its session has seen, None
+-- where the slot is free
 pub record TeamState : Type 0 where
   pub cells : List Cell
   pub revision : ℕ
   pub entries : List (List (Option Place))
   pub slots : List (Option ℕ)
 
--- a floor: its frame, and a state for each team, the fence teams in the frame's order and the ground team last
+-- a floor: its frame, and a state for each team: the fence teams in the frame's order, and last the team of the ground
+-- outside all fences
 pub record FloorState : Type 0 where
   pub frame : Frame
   pub teams : List TeamState

@@ -28,25 +28,29 @@ pub record Answer : Type 0 where
   pub reply : Reply
   pub floor : FloorState
 
--- what the team of that number makes of an order
+-- what an order to the team of that number comes to, in this state of the team
 abbrev pub ruled : Legalizer → Frame → ℕ → Order (List ℕ) Place → TeamState → Outcome
 ruled l f number order s = outcome_of (setting l f number) order s
 
--- the team's outcome, on the floor
+-- the team's outcome on the floor: the team of that number is the outcome's, and the others stay
 abbrev pub settled : FloorState → ℕ → Outcome → Answer
 settled floor number o = record { reply = o.reply; floor = record floor { teams = slice_set floor.teams number o.team } }
 
+-- no team has the name
 abbrev pub no_team : FloorState → Answer
 no_team floor = record { reply = Refused NoTeam; floor = floor }
 
+-- the answer of the team in this state
 abbrev pub answer_by : Option TeamState → Legalizer → FloorState → ℕ → Order (List ℕ) Place → Answer
 answer_by None l floor number order = no_team floor
 answer_by (Some s) l floor number order = settled floor number (ruled l floor.frame number order s)
 
+-- the answer of the team of that number
 abbrev pub answer_at : Option ℕ → Legalizer → FloorState → Order (List ℕ) Place → Answer
 answer_at None l floor order = no_team floor
 answer_at (Some number) l floor order = answer_by (slice_get floor.teams number) l floor number order
 
+-- the end of a connection: its sessions stay
 abbrev pub parted : FloorState → Answer
 parted floor = record { reply = Done; floor = floor }
 
@@ -57,23 +61,23 @@ answer_of l floor (To team order) = answer_at (team_number floor.frame team) l f
 
 -- ---- a step
 
--- the commands that take no memory
+-- the commands that take no memory, so that OutOfMemory is never told: bye, open and where
 abbrev pub TakesNone : Command (List ℕ) Place → Type 0
 TakesNone Bye = Unit {0}
 TakesNone (To team Open) = Unit {0}
 TakesNone (To team (Within session (Where cell))) = Unit {0}
 TakesNone _ = ⊥
 
--- this is the reply, and this is the floor
+-- the reply and the floor are those of the answer
 pub record Gives (answer : Answer) (reply : Reply) (floor : FloorState) : Type 0 where
   pub reply_is : reply ≡ answer.reply
   pub floor_is : floor ≡ answer.floor
 
--- memory was there: the reply and the floor are the answer's
+-- memory sufficed: the reply and the floor are those of the command's answer
 abbrev pub Answers : Legalizer → FloorState → Command (List ℕ) Place → Reply → FloorState → Type 0
 Answers l old command reply new = Gives (answer_of l old command) reply new
 
--- memory ran out where the answer may take some, and the floor is as it was
+-- memory ran out: the answer is one that OutOfMemory may stand in for, and the floor is as it was
 pub record StaysShort (answer : Answer) (old new : FloorState) : Type 0 where
   pub kept : new ≡ old
   pub may : may_be_short answer.reply ≡ true
@@ -83,7 +87,8 @@ pub record RunsShort (l : Legalizer) (old : FloorState) (command : Command (List
   pub short : StaysShort (answer_of l old command) old new
   pub takes : TakesNone command → ⊥
 
--- a command is answered with this reply, and the floor goes from old to new
+-- a command is answered with this reply, and the floor goes from old to new: the reply is OutOfMemory and the floor stays, or
+-- both are the answer's
 abbrev pub Step : Legalizer → FloorState → Command (List ℕ) Place → Reply → FloorState → Type 0
 Step l old command reply new = MatchBool (is_short reply) (RunsShort l old command new) (Answers l old command reply new)
 

@@ -1,4 +1,4 @@
--- Teams and cells by their names, and cells among each other.
+-- Teams and cells by their names, and a team's cells beside each other (LEF/DEF 5.8, DEF REGIONS, GROUPS and COMPONENTS).
 use Rattle.std.specs.Prelude.{ℕ, ◌<◌, ◌≤◌, List, [], ◌∷◌, ◌++◌, length, map, position, bytes_eq, All, Option, Some, None, slice_get, option_map}
 use Rattle.lf_frame.specs.declared.frame.Frame.{Frame}
 use Rattle.lf_frame.specs.declared.place.Place.{Place}
@@ -17,23 +17,24 @@ use Rattle.lf_floor.specs.States.{FloorState, TeamState}
 abbrev pub team_names : Frame → List (List ℕ)
 team_names f = map (λ t. t.name) f.teams ++ ground_name ∷ []
 
--- the number of the team of that name
+-- the number of the team of that name: its position among all teams; None where no team has the name
 abbrev pub team_number : Frame → List ℕ → Option ℕ
 team_number f name = position (λ n. bytes_eq n name) (team_names f)
 
+-- the state of the team of that number
 abbrev pub state_at : List TeamState → Option ℕ → Option TeamState
 state_at teams None = None
 state_at teams (Some number) = slice_get teams number
 
--- the state of the team of that name
+-- the state of the team of that name; None where no team has the name
 abbrev pub state_of : FloorState → List ℕ → Option TeamState
 state_of floor name = state_at floor.teams (team_number floor.frame name)
 
--- the position of the cell of that name among these
+-- the position of the cell of that name among these; None where none of them has it, whoever else may
 abbrev pub cell_named : List ℕ → List Cell → Option ℕ
 cell_named name cells = position (λ c. bytes_eq c.name name) cells
 
--- the macro and the working place of a cell
+-- the macro and the working place of a cell, as the rules see it
 abbrev pub member_of : Cell → Member
 member_of c = record { mac = c.mac; place = option_map spot_of c.working }
 
@@ -46,7 +47,8 @@ pub record IsSizedCell (f : Frame) (c : Cell) : Type 0 where
   pub known : c.mac < length f.macros
   pub sized : IsSized f (macro_of f c.mac)
 
--- a team of the frame: the macros of its cells are the frame's, of whole size, and neither cells nor slots are too many to count
+-- a team of the frame: the macros of its cells are the frame's, of whole size, and cells and slots are no more than a design
+-- may have
 pub record IsTeamOf (f : Frame) (s : TeamState) : Type 0 where
   pub sized : All (λ c. IsSizedCell f c) s.cells
   pub few_cells : length s.cells ≤ 4000000
@@ -63,10 +65,11 @@ abbrev pub trial_of_cell : Setting → List Cell → ℕ → Cell → Place → 
 trial_of_cell t cells own c place =
     trial_of t.frame t.number (macro_of t.frame c.mac) place (boxes_beside t.frame (map member_of cells) own)
 
+-- the first rule that this cell breaks; no cell breaks none
 abbrev pub broken_by : Option Cell → Setting → List Cell → ℕ → Place → Option Broken
 broken_by None t cells own place = None
 broken_by (Some c) t cells own place = t.legalizer.first_broken (trial_of_cell t cells own c place)
 
--- the first rule that the cell of that position breaks at a place
+-- the first rule that the cell of that position breaks at a place, beside the working places of its own team alone
 abbrev pub broken_at : Setting → List Cell → ℕ → Place → Option Broken
 broken_at t cells own place = broken_by (slice_get cells own) t cells own place

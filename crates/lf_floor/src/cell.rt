@@ -13,11 +13,11 @@ use lf_rules::{Broken, Placed, box_of, first_broken, verdict_is_one};
 use lf_units::Name;
 use std::alloc::{AllocError, Global};
 
-/// A cell of a team.
+/// A movable cell of a team (LEF/DEF 5.8, DEF COMPONENTS).
 #[derive(Drop)]
 pub struct Cell {
     pub name: Name,
-    /// The number of its macro in the frame.
+    /// The position of its macro in the frame.
     pub mac: usize,
     /// Where the team has it now; none where it is unplaced.
     pub working: Option<Place>,
@@ -25,7 +25,8 @@ pub struct Cell {
     pub committed: Option<Place>,
 }
 
-/// The position of the cell of that name.
+/// The position of the team's cell of that name; none for another team's cell, as for one that no
+/// team has.
 pub fn cell_named(cells: &[Cell], name: &[u8]) -> Option<usize>
     ensures found { result ≡ cell_named name.now cells.now }
     ensures within { IfSome result (λ own. own < length cells.now) }
@@ -42,7 +43,7 @@ fn macro_of<'a>(frame: &'a Frame, cell: &Cell) -> &'a Macro
     &frame.macros.as_slice()[cell.mac]
 }
 
-/// Puts the box of the cell behind the others, where it is placed.
+/// Puts the box of the cell behind the others, where it is placed; `own` is the cell's position.
 fn push_box(
     others: &mut Vec<Placed>,
     frame: &Frame,
@@ -61,7 +62,7 @@ fn push_box(
     Ok(())
 }
 
-/// The boxes of the other placed cells, in loading order.
+/// The boxes of the team's placed cells but the one of that position, in loading order.
 fn others_of(
     alloc: Global,
     frame: &Frame,
@@ -81,7 +82,10 @@ fn others_of(
     Ok(others)
 }
 
-/// The first rule that the cell of that position breaks at the place, beside the others of its team.
+/// The first rule that the cell of that position breaks at the place, beside the others of its
+/// team.
+///
+/// `Err` where memory for the others' boxes is refused.
 pub fn broken_at(
     alloc: Global,
     frame: &Frame,
@@ -100,7 +104,8 @@ pub fn broken_at(
     Ok(first_broken(frame, team, macro_of(frame, &cells[own]), place, &others))
 }
 
-/// Where the cell of that position stands.
+/// The working place of the cell of that position; none where it is unplaced, or there is no such
+/// cell.
 pub fn working(cells: &[Cell], own: usize) -> Option<Place>
     ensures { result ≡ working_at cells.now own }
 {
@@ -110,7 +115,7 @@ pub fn working(cells: &[Cell], own: usize) -> Option<Place>
     }
 }
 
-/// Puts one cell somewhere else.
+/// Changes the working place of the cell of that position; its committed place stays.
 pub fn put(cells: &mut [Cell], own: usize, place: Option<Place>)
     requires { own < length cells.old }
     ensures { cells.new ≡ moved cells.old own place }
@@ -118,7 +123,7 @@ pub fn put(cells: &mut [Cell], own: usize, place: Option<Place>)
     cells[own].working = place;
 }
 
-/// A copy of the working places.
+/// A copy of the working places, in loading order.
 pub fn places(alloc: Global, cells: &[Cell]) -> Result<Vec<Option<Place>>, AllocError>
     ensures { IfOk result (λ places. places.items ≡ places_of cells.now) }
 {

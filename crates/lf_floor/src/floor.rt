@@ -15,12 +15,15 @@ use crate::cell::{Cell, working};
 use crate::opening::opening_teams;
 use crate::team::Team;
 use lf_frame::{Frame, Loaded, Place};
-use lf_rules::legalizer_is_there;
 use lf_proto::{Command, Order, Refusal, Reply, Request, RequestList};
+use lf_rules::legalizer_is_there;
 use std::alloc::{AllocError, Global};
 use std::marker::Model;
 
-/// All teams in one frame.
+/// The teams of a design in their common frame: the fence teams in the frame's order, and last `-`,
+/// the team of the ground outside all fences.
+///
+/// Contracts see the frame and each team's state.
 #[derive(Drop)]
 pub struct Floor {
     alloc: Global,
@@ -47,7 +50,8 @@ fn is_outside(name: &[u8]) -> bool
     matches!(name, [b'-'])
 }
 
-/// The number of the team of that name: the fence teams in the frame's order, and last the one named `-`.
+/// The number of the team of that name: the fence teams in the frame's order, and last the one
+/// named `-`.
 fn team_named(frame: &Frame, name: &[u8]) -> Option<usize>
     ensures found { result ≡ team_number frame.now name.now }
     ensures within { IfSome result (λ number. number < length frame.now.teams + 1) }
@@ -107,7 +111,10 @@ fn push_within(replies: &mut Vec<Reply>, reply: Reply)
 }
 
 impl Floor {
-    /// The floor of a design as it is loaded: each team in its opening state.
+    /// The floor of a design as it is loaded: each team has its own cells at their places in the
+    /// DEF text, at revision 0, with nothing to undo and no session open.
+    ///
+    /// `Err` where memory is refused; the design is then gone.
     pub fn start(alloc: Global, loaded: Loaded) -> Result<Floor, AllocError>
         ensures { IfOk result (λ floor. floor ≡ opening loaded) }
     {
@@ -120,14 +127,19 @@ impl Floor {
         })
     }
 
-    /// The working place of the team's cell of that position.
+    /// The working place of the team's cell of that position in loading order, the first at 0.
+    ///
+    /// None where the cell is unplaced, the team has no such cell, or there is no such team.
     pub fn place_of(&self, team: &[u8], own: usize) -> Option<Place>
         ensures { result ≡ option_and_then (λ s. working_at s.cells own) (state_of self.now team.now) }
     {
         working(self.cells_of(team)?, own)
     }
 
-    /// The name of the team's cell of that position.
+    /// The name of the team's cell of that position in loading order, the first at 0: replies name
+    /// cells by it.
+    ///
+    /// None where the team has no such cell, or there is no such team.
     pub fn name_of(&self, team: &[u8], own: usize) -> Option<&[u8]>
         ensures { option_map (λ name. name.now) result ≡ option_and_then (λ s. name_at s.cells own) (state_of self.now team.now) }
     {
@@ -158,9 +170,11 @@ impl Floor {
         }
     }
 
-    /// Answers one command.
+    /// Answers one command: the team that it names answers by its own state alone, and no other
+    /// team changes.
     ///
-    /// `OutOfMemory` stands in the place of an accepted change or of a broken rule alone, and then nothing is changed.
+    /// `NoTeam` comes before any refusal of a team. `OutOfMemory` stands only in the place of an
+    /// accepted change or of a broken rule, and then nothing has changed.
     pub fn step(&mut self, request: &Request) -> Reply
         ensures step { (l : Legalizer) → Step l self.old (command_of request.now) result self.new }
         ensures others { (team : List ℕ) → ¬ IsTo team (command_of request.now) → state_of self.new team ≡ state_of self.old team }
@@ -173,7 +187,10 @@ impl Floor {
         }
     }
 
-    /// Answers requests in order. Memory for the list of replies is taken before the first one is answered.
+    /// Answers requests in order, each as `step` does, with one reply to each.
+    ///
+    /// Memory for all replies is taken first: `Err` where it is refused, and then no request was
+    /// answered.
     pub fn run(&mut self, requests: &RequestList) -> Result<Vec<Reply>, AllocError>
         ensures run { (l : Legalizer) → IfOk result (λ replies. Run l self.old requests.now replies.items self.new) }
         ensures isolated { (l : Legalizer) → IfOk result (λ replies. IsIsolated l self.old requests.now replies.items self.new) }

@@ -12,3 +12,6 @@ mod team;
 pub use cell::Cell;
 pub use floor::Floor;
 pub use laws::{other_designs_do_not_matter, others_do_not_matter};
+
+#[cfg(test)]
+mod tests;

@@ -9,7 +9,7 @@ use lf_frame::{Cell as LoadedCell, Loaded};
 use lf_units::Name;
 use std::alloc::{AllocError, Global};
 
-/// The cells of one team, each where it was loaded.
+/// The cells of the team of that number, in loading order, each where it was loaded.
 fn own_cells(alloc: Global, cells: &[LoadedCell], team: usize) -> Result<Vec<Cell>, AllocError>
     ensures { IfOk result (λ own. own.items ≡ own_cells team cells.now) }
 {

@@ -1,4 +1,5 @@
-//! One team: its cells, its undo entries and its sessions.
+//! One team: its cells, its revision, its undo entries and its sessions, and what each order does
+//! to them.
 
 ghost use Rattle.std.specs.Prelude.{Some, ◌≡◌, ◌<◌, ◌≤◌, ◌+◌, ◌∷◌, [], IfOk, IfSome, OnOk, OnErr, length, position, is_none, replicate, slice_set, take};
 ghost use Rattle.lf_rules.specs.Legalizer.{Legalizer};
@@ -46,7 +47,7 @@ impl Model for Team {
     ghost view = { λ t. record { cells = t.cells.items; revision = t.revision; entries = t.entries.items; slots = t.slots.items } };
 }
 
-/// The least free slot.
+/// The least free session slot; none where all are taken.
 fn free_slot(slots: &[Option<u32>]) -> Option<usize>
     ensures free { result ≡ position is_none slots.now }
     ensures within { IfSome result (λ session. session < length slots.now) }
@@ -54,7 +55,7 @@ fn free_slot(slots: &[Option<u32>]) -> Option<usize>
     slots.iter().position(|slot| slot.is_none())
 }
 
-/// The revision that an open session has seen.
+/// The revision that a session has seen; none where it is not open.
 fn seen(slots: &[Option<u32>], session: u32) -> Option<u32>
     ensures { result ≡ seen_at slots.now session }
 {
@@ -84,7 +85,7 @@ fn remember_entry(entries: &mut Vec<Entry>, entry: Entry, limit: usize) -> Resul
 }
 
 impl Team {
-    /// A team that nobody has asked anything.
+    /// A team that nobody has asked anything, with so many session slots.
     pub fn opening(alloc: Global, cells: Vec<Cell>, sessions: usize) -> Result<Team, AllocError>
         ensures { IfOk result (λ team. team ≡ record { cells = cells.items; revision = 0; entries = []; slots = replicate sessions None }) }
     {
@@ -103,7 +104,7 @@ impl Team {
         self.cells.as_slice()
     }
 
-    /// Takes the least free session slot.
+    /// Takes the least free session slot; `SessionsFull` where there is none.
     #[tactic(auto, unfolding(crate::specs::Outcomes::opened))]
     fn open(&mut self) -> Reply
         requires { length self.old.slots ≤ 64 }
@@ -121,7 +122,8 @@ impl Team {
         }
     }
 
-    /// Tells where a cell stands.
+    /// Tells where a cell stands: `NoCell` where the team has none of that name, else `Unplaced`
+    /// where it stands nowhere.
     #[tactic(auto, unfolding(crate::specs::Outcomes::located))]
     fn locate(&self, name: &[u8]) -> Reply
         requires { length self.now.cells ≤ 4000000 }
@@ -142,7 +144,11 @@ impl Team {
         ensures err { OnErr result (self.new ≡ self.old) }
     {
         let places = places(alloc, &self.cells)?;
-        remember_entry(&mut self.entries, Entry { places }, frame.limits.undo as usize)
+        remember_entry(
+            &mut self.entries,
+            Entry { places },
+            frame.limits.undo as usize,
+        )
     }
 
     /// Counts one more change, which the session has then seen.
@@ -155,7 +161,8 @@ impl Team {
         Reply::Revision(self.revision)
     }
 
-    /// Puts a cell at a place, where that breaks no rule.
+    /// Puts a cell at a place: `NoCell` where the team has none of that name, else `Illegal` where
+    /// the place breaks a rule.
     #[tactic(auto, unfolding(crate::specs::Outcomes::placed))]
     fn place(
         &mut self,
@@ -186,7 +193,7 @@ impl Team {
         Ok(self.count_change(session))
     }
 
-    /// Takes the cell of that position from its place.
+    /// Takes the cell of that position from its place; `Unplaced` where it has none.
     fn unplace_own(
         &mut self,
         alloc: Global,
@@ -208,7 +215,8 @@ impl Team {
         Ok(self.count_change(session))
     }
 
-    /// Takes a cell from its place.
+    /// Takes a cell from its place: `NoCell` where the team has none of that name, else `Unplaced`
+    /// where it stands nowhere.
     #[tactic(auto, unfolding(crate::specs::Outcomes::unplaced))]
     fn unplace(
         &mut self,
@@ -248,7 +256,8 @@ impl Team {
         }
     }
 
-    /// Makes a change, where a revision is left.
+    /// Makes a change; `RevisionsSpent`, before any other refusal, where the team has made as many
+    /// as it may.
     fn change(
         &mut self,
         alloc: Global,
@@ -267,7 +276,7 @@ impl Team {
         self.apply(alloc, frame, number, session, change)
     }
 
-    /// Answers what a session asks.
+    /// Answers what a session asks; `NoSession`, before any other refusal, where it is not open.
     fn act(
         &mut self,
         alloc: Global,
@@ -290,6 +299,8 @@ impl Team {
     }
 
     /// Answers an order to this team, the one of that number in the frame.
+    ///
+    /// `Err` where memory is refused, and then the team is unchanged.
     pub fn serve(
         &mut self,
         alloc: Global,
