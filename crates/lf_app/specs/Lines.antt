@@ -6,7 +6,7 @@ use Rattle.lf_proto.specs.declared.request.Command.{Command}
 use Rattle.lf_proto.specs.declared.request.Command.TheVariants.{Bye, To}
 use Rattle.lf_proto.specs.declared.reply.Reply.{Reply}
 use Rattle.lf_proto.specs.declared.reply.Reply.TheVariants.{Refused}
-use Rattle.lf_proto.specs.declared.reply.Refusal.TheVariants.{BadRequest, Unplaced, Illegal}
+use Rattle.lf_proto.specs.declared.reply.Refusal.TheVariants.{BadRequest, Unplaced, NoPlace, Illegal}
 use Rattle.lf_proto.specs.ReplyText.{reply_text}
 use Rattle.lf_proto.specs.Requests.{command_on}
 use Rattle.lf_floor.specs.States.{FloorState}
@@ -17,6 +17,7 @@ use Rattle.lf_floor.specs.Steps.{Step}
 -- the positions of the cells that a reply names: the cell, and the other one
 abbrev pub cells_in : Reply → Option ℕ × Option ℕ
 cells_in (Refused (Unplaced cell)) = (Some cell, None)
+cells_in (Refused (NoPlace cell)) = (Some cell, None)
 cells_in (Refused (Illegal rule cell other)) = (Some cell, other)
 cells_in _ = (None, None)
 

@@ -32,6 +32,7 @@ fn cells_in(reply: &Reply) -> (Option<u32>, Option<u32>)
 {
     match reply {
         Reply::Refused(Refusal::Unplaced { cell }) => (Some(*cell), None),
+        Reply::Refused(Refusal::NoPlace { cell }) => (Some(*cell), None),
         Reply::Refused(Refusal::Illegal { cell, other, .. }) => (Some(*cell), *other),
         _ => (None, None),
     }

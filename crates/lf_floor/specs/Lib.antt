@@ -5,3 +5,5 @@ pub mod Steps
 pub mod Runs
 pub mod Designs
 pub mod Laws
+pub mod Verbs
+pub mod VerbLaws

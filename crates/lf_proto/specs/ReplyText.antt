@@ -4,12 +4,13 @@ use Rattle.std.specs.Fmt.{signed_decimal}
 use Rattle.std.specs.List.{join_with_byte}
 use Rattle.lf_orient.specs.declared.Orient.{Orient}
 use Rattle.lf_orient.specs.declared.Orient.TheVariants.{N, W, S, E, FN, FW, FS, FE}
+use Rattle.lf_frame.specs.declared.place.Place.{Place}
 use Rattle.lf_rules.specs.declared.rule.Rule.{Rule}
 use Rattle.lf_rules.specs.Legality.{number_of}
 use Rattle.lf_proto.specs.declared.reply.Reply.{Reply}
-use Rattle.lf_proto.specs.declared.reply.Reply.TheVariants.{Done, Opened, Revision, At, Refused}
+use Rattle.lf_proto.specs.declared.reply.Reply.TheVariants.{Done, Opened, Revision, At, Legalized, Tidied, Refused}
 use Rattle.lf_proto.specs.declared.reply.Refusal.{Refusal}
-use Rattle.lf_proto.specs.declared.reply.Refusal.TheVariants.{BadRequest, NoTeam, NoSession, NoCell, Unplaced, Illegal, SessionsFull, RevisionsSpent, OutOfMemory}
+use Rattle.lf_proto.specs.declared.reply.Refusal.TheVariants.{BadRequest, NoTeam, NoSession, Stale, NoCell, Unplaced, Illegal, NoPlace, NothingToUndo, SessionsFull, RevisionsSpent, OutOfMemory}
 
 -- words with one space between each two, and a line feed
 abbrev pub line_text : List (List ℕ) → List ℕ
@@ -26,6 +27,10 @@ orient_text FW = codes "FW"
 orient_text FS = codes "FS"
 orient_text FE = codes "FE"
 
+-- a place: its corner and its orientation
+abbrev pub place_words : Place → List (List ℕ)
+place_words place = signed_decimal place.x ∷ signed_decimal place.y ∷ orient_text place.orient ∷ []
+
 -- the other cell's name, where there is another cell
 abbrev pub other_words : Option ℕ → List ℕ → List (List ℕ)
 other_words None other_name = []
@@ -40,9 +45,12 @@ abbrev pub refusal_words : Refusal → List ℕ → List ℕ → List (List ℕ)
 refusal_words BadRequest cell_name other_name = codes "1" ∷ codes "BadRequest" ∷ []
 refusal_words NoTeam cell_name other_name = codes "2" ∷ codes "NoTeam" ∷ []
 refusal_words NoSession cell_name other_name = codes "3" ∷ codes "NoSession" ∷ []
+refusal_words (Stale revision) cell_name other_name = codes "4" ∷ codes "Stale" ∷ decimal revision ∷ []
 refusal_words NoCell cell_name other_name = codes "5" ∷ codes "NoCell" ∷ []
 refusal_words (Unplaced cell) cell_name other_name = codes "6" ∷ codes "Unplaced" ∷ cell_name ∷ []
 refusal_words (Illegal rule cell other) cell_name other_name = illegal_words rule other cell_name other_name
+refusal_words (NoPlace cell) cell_name other_name = codes "8" ∷ codes "NoPlace" ∷ cell_name ∷ []
+refusal_words NothingToUndo cell_name other_name = codes "9" ∷ codes "NothingToUndo" ∷ []
 refusal_words SessionsFull cell_name other_name = codes "10" ∷ codes "SessionsFull" ∷ []
 refusal_words RevisionsSpent cell_name other_name = codes "11" ∷ codes "RevisionsSpent" ∷ []
 refusal_words OutOfMemory cell_name other_name = codes "12" ∷ codes "OutOfMemory" ∷ []
@@ -52,7 +60,9 @@ abbrev pub reply_words : Reply → List ℕ → List ℕ → List (List ℕ)
 reply_words Done cell_name other_name = codes "ok" ∷ []
 reply_words (Opened session revision) cell_name other_name = codes "ok" ∷ decimal session ∷ decimal revision ∷ []
 reply_words (Revision revision) cell_name other_name = codes "ok" ∷ decimal revision ∷ []
-reply_words (At place) cell_name other_name = codes "ok" ∷ signed_decimal place.x ∷ signed_decimal place.y ∷ orient_text place.orient ∷ []
+reply_words (At place) cell_name other_name = codes "ok" ∷ place_words place
+reply_words (Legalized revision place) cell_name other_name = codes "ok" ∷ decimal revision ∷ place_words place
+reply_words (Tidied revision moved) cell_name other_name = codes "ok" ∷ decimal revision ∷ decimal moved ∷ []
 reply_words (Refused refusal) cell_name other_name = codes "no" ∷ refusal_words refusal cell_name other_name
 
 -- the text of a reply

@@ -12,8 +12,12 @@ pub enum Reply {
     Opened { session: u32, revision: u32 },
     /// The team's revision.
     Revision(u32),
-    /// Where a cell stands.
+    /// Where a cell stands, or would stand best.
     At(Place),
+    /// The team's revision after a change, and where the cell has gone.
+    Legalized { revision: u32, place: Place },
+    /// The team's revision after a tidy, and how many cells went to their best place.
+    Tidied { revision: u32, moved: u32 },
     /// Nothing was done.
     Refused(Refusal),
 }
@@ -27,6 +31,10 @@ pub enum Refusal {
     NoTeam,
     /// The number is that of no open session of the team.
     NoSession,
+    /// The session has not seen the team's revision, which is this one.
+    Stale {
+        revision: u32,
+    },
     /// The cell is none of the team's.
     NoCell,
     /// The cell has no working place.
@@ -39,6 +47,12 @@ pub enum Refusal {
         cell: u32,
         other: Option<u32>,
     },
+    /// No place is team-legal for the cell.
+    NoPlace {
+        cell: u32,
+    },
+    /// The team has no undo entry.
+    NothingToUndo,
     /// The team has no free session slot.
     SessionsFull,
     /// The team has made as many changes as its revision limit allows.

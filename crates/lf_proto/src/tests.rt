@@ -15,7 +15,7 @@ fn asked_place(line: &[u8]) -> Option<Place> {
     };
     match action {
         Action::Change(Change::Place { place, .. }) => Some(place),
-        Action::Where { .. } => None,
+        _ => None,
     }
 }
 
@@ -132,13 +132,31 @@ fn writes_replies(rt: HostRuntime) -> Result<(), Fail> {
 }
 
 #[test]
+fn writes_changes(rt: HostRuntime) -> Result<(), Fail> {
+    let best = Reply::Legalized {
+        revision: 1,
+        place: Place::new(3600, 0, Orient::N),
+    };
+    assert!(rt; has_text(rt.alloc(), best, b"ok 1 3600 0 N\n")?);
+    let tidied = Reply::Tidied {
+        revision: 1,
+        moved: 3,
+    };
+    assert!(rt; has_text(rt.alloc(), tidied, b"ok 1 3\n")?);
+    Ok(())
+}
+
+#[test]
 fn writes_refusals(rt: HostRuntime) -> Result<(), Fail> {
-    let refusals: [(Refusal, &[u8]); 8] = [
+    let refusals: [(Refusal, &[u8]); 11] = [
         (Refusal::BadRequest, b"no 1 BadRequest\n"),
         (Refusal::NoTeam, b"no 2 NoTeam\n"),
         (Refusal::NoSession, b"no 3 NoSession\n"),
+        (Refusal::Stale { revision: 12 }, b"no 4 Stale 12\n"),
         (Refusal::NoCell, b"no 5 NoCell\n"),
         (Refusal::Unplaced { cell: 1 }, b"no 6 Unplaced a2\n"),
+        (Refusal::NoPlace { cell: 1 }, b"no 8 NoPlace a2\n"),
+        (Refusal::NothingToUndo, b"no 9 NothingToUndo\n"),
         (Refusal::SessionsFull, b"no 10 SessionsFull\n"),
         (Refusal::RevisionsSpent, b"no 11 RevisionsSpent\n"),
         (Refusal::OutOfMemory, b"no 12 OutOfMemory\n"),
@@ -172,6 +190,14 @@ fn writes_broken_rules(rt: HostRuntime) -> Result<(), Fail> {
     Ok(())
 }
 
+/// Whether the request is to the team of that name.
+fn is_to(request: &Request<'_>, name: &[u8]) -> bool {
+    match request {
+        Command::Bye => false,
+        Command::To { team, .. } => *team == name,
+    }
+}
+
 #[test]
 fn lists_requests(rt: HostRuntime) -> Result<(), Fail> {
     let mut list = RequestList::new(rt.alloc());
@@ -182,10 +208,8 @@ fn lists_requests(rt: HostRuntime) -> Result<(), Fail> {
     }
     assert_eq!(rt; list.len(), 2);
     assert!(rt; list.request(2).is_none());
-    let Command::To { team, .. } = list.request(0).ok_or("the first request")?;
-    assert!(rt; team == b"A".as_slice());
-    let Command::To { team, .. } = list.request(1).ok_or("the second request")?;
-    assert!(rt; team == b"B".as_slice());
+    assert!(rt; is_to(&list.request(0).ok_or("the first request")?, b"A"));
+    assert!(rt; is_to(&list.request(1).ok_or("the second request")?, b"B"));
     Ok(())
 }
 

@@ -159,6 +159,15 @@ fn put_refusal<'x>(
         Refusal::BadRequest => put_plain(out, b"1", b"BadRequest"),
         Refusal::NoTeam => put_plain(out, b"2", b"NoTeam"),
         Refusal::NoSession => put_plain(out, b"3", b"NoSession"),
+        Refusal::Stale { revision } => put_line(
+            out,
+            b"no",
+            &[
+                Word::Text(b"4"),
+                Word::Text(b"Stale"),
+                Word::Number(*revision),
+            ],
+        ),
         Refusal::NoCell => put_plain(out, b"5", b"NoCell"),
         Refusal::Unplaced { .. } => put_line(
             out,
@@ -172,6 +181,16 @@ fn put_refusal<'x>(
         Refusal::Illegal { rule, other, .. } => {
             put_illegal(*rule, *other, cell_name, other_name, out)
         }
+        Refusal::NoPlace { .. } => put_line(
+            out,
+            b"no",
+            &[
+                Word::Text(b"8"),
+                Word::Text(b"NoPlace"),
+                Word::Text(cell_name),
+            ],
+        ),
+        Refusal::NothingToUndo => put_plain(out, b"9", b"NothingToUndo"),
         Refusal::SessionsFull => put_plain(out, b"10", b"SessionsFull"),
         Refusal::RevisionsSpent => put_plain(out, b"11", b"RevisionsSpent"),
         Refusal::OutOfMemory => put_plain(out, b"12", b"OutOfMemory"),
@@ -205,6 +224,24 @@ fn put_reply(
                 Word::Signed(place.y),
                 Word::Text(orient_name(place.orient)),
             ],
+        ),
+        Reply::Legalized {
+            revision,
+            place: best,
+        } => put_line(
+            out,
+            b"ok",
+            &[
+                Word::Number(*revision),
+                Word::Signed(best.x),
+                Word::Signed(best.y),
+                Word::Text(orient_name(best.orient)),
+            ],
+        ),
+        Reply::Tidied { revision, moved } => put_line(
+            out,
+            b"ok",
+            &[Word::Number(*revision), Word::Number(*moved)],
         ),
         Reply::Refused(refusal) => put_refusal(refusal, cell_name, other_name, out),
     }

@@ -1,0 +1,252 @@
+-- What a verb leaves as it was, and what a change counts.
+use Rattle.std.proofs.Common.{◌≡◌, ◌≢◌, ℕ, zero, suc, ◌+◌, ◌<◌, List, [], ◌∷◌, Bool, true, false, length, set, map, get_or, Option, Some, None, refl, ap, sym, ◌∙◌, subst, arith}
+use Rattle.std.specs.Prelude.{All, slice_set, slice_index_or}
+use Rattle.std.proofs.lemmas.List.{length-set, length-map}
+use Rattle.lf_frame.specs.declared.frame.Frame.{Frame}
+use Rattle.lf_frame.specs.declared.place.Place.{Place}
+use Rattle.lf_proto.specs.declared.reply.Reply.{Reply}
+use Rattle.lf_proto.specs.declared.reply.Reply.TheVariants.{Refused}
+use Rattle.lf_proto.specs.declared.reply.Refusal.{Refusal}
+use Rattle.lf_floor.specs.declared.cell.Cell.{Cell}
+use Rattle.lf_floor.specs.States.{TeamState}
+use Rattle.lf_floor.specs.Teams.{Setting, IsSizedCell, IsTeamOf}
+use Rattle.lf_floor.specs.Outcomes.{Outcome, is_short, refused, changed, moved, working_at, seen_at}
+use Rattle.lf_floor.specs.Verbs.{TeamVerb, Open, Within, SessionVerb, Close, Sync, Where, Find, Changing, ChangeVerb, Commit, restored, exchanged, back_to_committed, as_committed, places_in, outcome_of_verb}
+use Rattle.lf_floor.specs.VerbLaws.{MayChange, IsCounted, CountsOne, KeepsCells, is_accepted, is_granted, is_change, is_commit, committed_places, told_revision}
+use Rattle.lf_floor.proofs.VerbCases.{VerbLeaves, verb_by, asking}
+
+-- ---- refusals
+
+-- the rules never say that memory ran out
+pub never_short : (t : Setting) (verb : TeamVerb) (s : TeamState) → is_short (outcome_of_verb t verb s).reply ≡ false
+never_short t verb s = verb_by t s (λ v o. is_short o.reply ≡ false) record {
+  refusal = λ v r plain. plain;
+  opens = λ session e. refl;
+  closes = λ session. refl;
+  syncs = λ session. refl;
+  tells = λ session name place. refl;
+  finds = λ session name target place. refl;
+  places = λ session own name place may named e. refl;
+  legalizes = λ session own name target place may named e. refl;
+  tidies = λ session count members may e. refl;
+  unplaces = λ session own name may named. refl;
+  swaps = λ session first second name other p q may named named' at at' e e'. refl;
+  undoes = λ session old entries may e. refl;
+  commits = λ session may u b. refl;
+  reverts = λ session may. refl;
+} verb
+
+-- the outcome leaves the team, if it is a refusal
+abbrev LeavesIfRefused : TeamState → Outcome → Type 0
+LeavesIfRefused s o = (refusal : Refusal) → o.reply ≡ Refused refusal → o.team ≡ s
+
+granted : (s : TeamState) (o : Outcome) → is_accepted o ≡ true → LeavesIfRefused s o
+granted s o accepted refusal is = absurd (never (sym accepted ∙ ap is_granted is)) where
+  never : true ≡ false → ⊥
+  never e = cc
+
+pub refusal_leaves : (t : Setting) (verb : TeamVerb) (s : TeamState) → LeavesIfRefused s (outcome_of_verb t verb s)
+refusal_leaves t verb s = verb_by t s (λ v o. LeavesIfRefused s o) record {
+  refusal = λ v r plain refusal is. refl;
+  opens = λ session e. granted s _ refl;
+  closes = λ session. granted s _ refl;
+  syncs = λ session. granted s _ refl;
+  tells = λ session name place. granted s _ refl;
+  finds = λ session name target place. granted s _ refl;
+  places = λ session own name place may named e. granted s _ refl;
+  legalizes = λ session own name target place may named e. granted s _ refl;
+  tidies = λ session count members may e. granted s _ refl;
+  unplaces = λ session own name may named. granted s _ refl;
+  swaps = λ session first second name other p q may named named' at at' e e'. granted s _ refl;
+  undoes = λ session old entries may e. granted s _ refl;
+  commits = λ session may u b. granted s _ refl;
+  reverts = λ session may. granted s _ refl;
+} verb
+
+-- ---- revisions
+
+seen_set : (slots : List (Option ℕ)) (session old new : ℕ) → seen_at slots session ≡ Some old → seen_at (slice_set slots session (Some new)) session ≡ Some new
+seen_set [] session old new e = absurd cc
+seen_set (x ∷ xs) zero old new e = refl
+seen_set (x ∷ xs) (suc k) old new e = seen_set xs k old new e
+
+seen_other : (slots : List (Option ℕ)) (session other : ℕ) (new : Option ℕ) → other ≢ session → seen_at (slice_set slots session new) other ≡ seen_at slots other
+seen_other [] session other new differ = refl
+seen_other (x ∷ xs) zero zero new differ = absurd (differ refl)
+seen_other (x ∷ xs) zero (suc other) new differ = refl
+seen_other (x ∷ xs) (suc k) zero new differ = refl
+seen_other (x ∷ xs) (suc k) (suc other) new differ = seen_other xs k other new (λ e. differ (ap suc e))
+
+-- the change is counted, if it is accepted
+abbrev Counts : Setting → TeamState → TeamVerb → Outcome → Type 0
+Counts t s (Within session (Changing change)) o = is_accepted o ≡ true → CountsOne t session s o
+Counts t s _ o = Unit {0}
+
+pub false_true : false ≡ true → ⊥
+false_true e = cc
+
+refused_counts : (t : Setting) (s : TeamState) (verb : TeamVerb) (r : Refusal) → Counts t s verb (refused r s)
+refused_counts t s Open r = tt
+refused_counts t s (Within session Close) r = tt
+refused_counts t s (Within session Sync) r = tt
+refused_counts t s (Within session (Where name)) r = tt
+refused_counts t s (Within session (Find name target)) r = tt
+refused_counts t s (Within session (Changing change)) r = λ denied. absurd (false_true denied)
+
+counts : (t : Setting) (session : ℕ) (s : TeamState) (reply : Reply) (cells : List Cell) (entries : List (List (Option Place))) → MayChange t session s → told_revision reply ≡ Some (s.revision + 1)
+    → CountsOne t session s (record { reply = reply; team = (changed session cells entries s).team })
+counts t session s reply cells entries may told = record {
+  allowed = may;
+  counts = record {
+    counted = refl;
+    told = told;
+    seen = seen_set s.slots session s.revision (s.revision + 1) may.seen;
+    others = λ other differ. seen_other s.slots session other (Some (s.revision + 1)) differ;
+  };
+}
+
+pub change_counted : (t : Setting) (verb : TeamVerb) (s : TeamState) → Counts t s verb (outcome_of_verb t verb s)
+change_counted t verb s = verb_by t s (λ v o. Counts t s v o) record {
+  refusal = λ v r plain. refused_counts t s v r;
+  opens = λ session e. tt;
+  closes = λ session. tt;
+  syncs = λ session. tt;
+  tells = λ session name place. tt;
+  finds = λ session name target place. tt;
+  places = λ session own name place may named e accepted. counts t session s _ _ _ may refl;
+  legalizes = λ session own name target place may named e accepted. counts t session s _ _ _ may refl;
+  tidies = λ session count members may e accepted. counts t session s _ _ _ may refl;
+  unplaces = λ session own name may named accepted. counts t session s _ _ _ may refl;
+  swaps = λ session first second name other p q may named named' at at' e e' accepted. counts t session s _ _ _ may refl;
+  undoes = λ session old entries may e accepted. counts t session s _ _ _ may refl;
+  commits = λ session may u b accepted. counts t session s _ _ _ may refl;
+  reverts = λ session may accepted. counts t session s _ _ _ may refl;
+} verb
+
+-- the verb leaves the cells, if it is no change
+abbrev LooksOnly : TeamState → TeamVerb → Outcome → Type 0
+LooksOnly s verb o = is_change verb ≡ false → KeepsCells s o.team
+
+same_cells : (s : TeamState) (slots : List (Option ℕ)) → KeepsCells s (record s { slots = slots })
+same_cells s slots = record { cells = refl; revision = refl; entries = refl }
+
+pub look_kept : (t : Setting) (verb : TeamVerb) (s : TeamState) → LooksOnly s verb (outcome_of_verb t verb s)
+look_kept t verb s = verb_by t s (λ v o. LooksOnly s v o) record {
+  refusal = λ v r plain denied. same_cells s s.slots;
+  opens = λ session e denied. same_cells s _;
+  closes = λ session denied. same_cells s _;
+  syncs = λ session denied. same_cells s _;
+  tells = λ session name place denied. same_cells s s.slots;
+  finds = λ session name target place denied. same_cells s s.slots;
+  places = λ session own name place may named e denied. absurd (false_true (sym denied));
+  legalizes = λ session own name target place may named e denied. absurd (false_true (sym denied));
+  tidies = λ session count members may e denied. absurd (false_true (sym denied));
+  unplaces = λ session own name may named denied. absurd (false_true (sym denied));
+  swaps = λ session first second name other p q may named named' at at' e e' denied. absurd (false_true (sym denied));
+  undoes = λ session old entries may e denied. absurd (false_true (sym denied));
+  commits = λ session may u b denied. absurd (false_true (sym denied));
+  reverts = λ session may denied. absurd (false_true (sym denied));
+} verb
+
+-- ---- what moving cells leaves
+
+-- a part of a cell that its working place is none of
+abbrev pub IsFixed : {X : Type 0} → (Cell → X) → Type 0
+IsFixed part = (c : Cell) (place : Option Place) → part (record c { working = place }) ≡ part c
+
+pub moved_part : {X : Type 0} (part : Cell → X) → IsFixed part → (cells : List Cell) (own : ℕ) (place : Option Place) → map part (moved cells own place) ≡ map part cells
+moved_part part fixed [] own place = refl
+moved_part part fixed (c ∷ cs) zero place = ap (λ x. x ∷ map part cs) (fixed c place)
+moved_part part fixed (c ∷ cs) (suc own) place = ap (λ xs. part c ∷ xs) (moved_part part fixed cs own place)
+
+pub restored_part : {X : Type 0} (part : Cell → X) → IsFixed part → (places : List (Option Place)) (cells : List Cell) → map part (restored places cells) ≡ map part cells
+restored_part part fixed [] cells = refl
+restored_part part fixed (place ∷ places) [] = refl
+restored_part part fixed (place ∷ places) (c ∷ cs) =
+    ap (λ x. x ∷ map part (restored places cs)) (fixed c place) ∙ ap (λ xs. part c ∷ xs) (restored_part part fixed places cs)
+
+pub back_part : {X : Type 0} (part : Cell → X) → IsFixed part → (cells : List Cell) → map part (map back_to_committed cells) ≡ map part cells
+back_part part fixed [] = refl
+back_part part fixed (c ∷ cs) = ap (λ x. x ∷ map part (map back_to_committed cs)) (fixed c c.committed) ∙ ap (λ xs. part c ∷ xs) (back_part part fixed cs)
+
+pub exchanged_part : {X : Type 0} (part : Cell → X) → IsFixed part → (cells : List Cell) (first second : ℕ) → map part (exchanged cells first second) ≡ map part cells
+exchanged_part part fixed cells first second =
+    moved_part part fixed (moved cells first (working_at cells second)) second (working_at cells first) ∙ moved_part part fixed cells first (working_at cells second)
+
+pub committed_macs : (cells : List Cell) → map (λ c. c.mac) (map as_committed cells) ≡ map (λ c. c.mac) cells
+committed_macs [] = refl
+committed_macs (c ∷ cs) = ap (λ xs. c.mac ∷ xs) (committed_macs cs)
+
+-- ---- a team of the frame
+
+mac_at : (old new : List Cell) → map (λ c. c.mac) new ≡ map (λ c. c.mac) old → (i : ℕ) (d : Cell) → (get_or new i d).mac ≡ (get_or old i d).mac
+mac_at [] [] same i d = refl
+mac_at [] (c ∷ cs) same i d = absurd cc
+mac_at (b ∷ bs) [] same i d = absurd cc
+mac_at (b ∷ bs) (c ∷ cs) same zero d = cc
+mac_at (b ∷ bs) (c ∷ cs) same (suc i) d =
+    let rest : map (λ c. c.mac) cs ≡ map (λ c. c.mac) bs = cc in
+    mac_at bs cs rest i d
+
+pub same_length : (old new : List Cell) → map (λ c. c.mac) new ≡ map (λ c. c.mac) old → length new ≡ length old
+same_length old new same = sym (length-map new (λ (c : Cell). c.mac)) ∙ ap length same ∙ length-map old (λ (c : Cell). c.mac)
+
+sized_as : (f : Frame) (c d : Cell) → d.mac ≡ c.mac → IsSizedCell f c → IsSizedCell f d
+sized_as f c d same h = record {
+  known = rw same h.known;
+  sized = rw same h.sized;
+}
+
+-- the macros of the cells say whether a team is one of the frame
+like_team : (f : Frame) (s : TeamState) (cells : List Cell) (revision : ℕ) (entries : List (List (Option Place))) (slots : List (Option ℕ))
+    → map (λ c. c.mac) cells ≡ map (λ c. c.mac) s.cells → length slots ≡ length s.slots → IsTeamOf f s
+    → IsTeamOf f (record { cells = cells; revision = revision; entries = entries; slots = slots })
+like_team f s cells revision entries slots macs slot h =
+    let long = same_length s.cells cells macs in
+    record {
+      sized = λ i d within. sized_as f (get_or s.cells i d) (get_or cells i d) (mac_at s.cells cells macs i d) (h.sized i d (rw long at within));
+      few_cells = rw long h.few_cells;
+      few_slots = rw slot h.few_slots;
+    }
+
+pub verb_keeps : (t : Setting) (verb : TeamVerb) (s : TeamState) → IsTeamOf t.frame s → IsTeamOf t.frame (outcome_of_verb t verb s).team
+verb_keeps t verb s h = verb_by t s (λ v o. IsTeamOf t.frame o.team) record {
+  refusal = λ v r plain. h;
+  opens = λ session e. like_team t.frame s _ _ _ _ refl (length-set s.slots session (Some s.revision)) h;
+  closes = λ session. like_team t.frame s _ _ _ _ refl (length-set s.slots session None) h;
+  syncs = λ session. like_team t.frame s _ _ _ _ refl (length-set s.slots session (Some s.revision)) h;
+  tells = λ session name place. h;
+  finds = λ session name target place. h;
+  places = λ session own name place may named e. like_team t.frame s _ _ _ _ (moved_part (λ c. c.mac) (λ c p. refl) s.cells own (Some place)) (length-set s.slots session (Some (s.revision + 1))) h;
+  legalizes = λ session own name target place may named e. like_team t.frame s _ _ _ _ (moved_part (λ c. c.mac) (λ c p. refl) s.cells own (Some place)) (length-set s.slots session (Some (s.revision + 1))) h;
+  tidies = λ session count members may e. like_team t.frame s _ _ _ _ (restored_part (λ c. c.mac) (λ c p. refl) (places_in members) s.cells) (length-set s.slots session (Some (s.revision + 1))) h;
+  unplaces = λ session own name may named. like_team t.frame s _ _ _ _ (moved_part (λ c. c.mac) (λ c p. refl) s.cells own None) (length-set s.slots session (Some (s.revision + 1))) h;
+  swaps = λ session first second name other p q may named named' at at' e e'. like_team t.frame s _ _ _ _ (exchanged_part (λ c. c.mac) (λ c p. refl) s.cells first second) (length-set s.slots session (Some (s.revision + 1))) h;
+  undoes = λ session old entries may e. like_team t.frame s _ _ _ _ (restored_part (λ c. c.mac) (λ c p. refl) old s.cells) (length-set s.slots session (Some (s.revision + 1))) h;
+  commits = λ session may u b. like_team t.frame s _ _ _ _ (committed_macs s.cells) (length-set s.slots session (Some (s.revision + 1))) h;
+  reverts = λ session may. like_team t.frame s _ _ _ _ (back_part (λ c. c.mac) (λ c p. refl) s.cells) (length-set s.slots session (Some (s.revision + 1))) h;
+} verb
+
+-- ---- committed places
+
+-- the committed places stay, unless the verb is a commit
+abbrev StayCommitted : TeamState → TeamVerb → Outcome → Type 0
+StayCommitted s verb o = is_commit verb ≡ false → committed_places o.team ≡ committed_places s
+
+pub committed_stay : (t : Setting) (verb : TeamVerb) (s : TeamState) → StayCommitted s verb (outcome_of_verb t verb s)
+committed_stay t verb s = verb_by t s (λ v o. StayCommitted s v o) record {
+  refusal = λ v r plain other. refl;
+  opens = λ session e other. refl;
+  closes = λ session other. refl;
+  syncs = λ session other. refl;
+  tells = λ session name place other. refl;
+  finds = λ session name target place other. refl;
+  places = λ session own name place may named e other. moved_part (λ c. c.committed) (λ c p. refl) s.cells own (Some place);
+  legalizes = λ session own name target place may named e other. moved_part (λ c. c.committed) (λ c p. refl) s.cells own (Some place);
+  tidies = λ session count members may e other. restored_part (λ c. c.committed) (λ c p. refl) (places_in members) s.cells;
+  unplaces = λ session own name may named other. moved_part (λ c. c.committed) (λ c p. refl) s.cells own None;
+  swaps = λ session first second name name' p q may named named' at at' e e' other. exchanged_part (λ c. c.committed) (λ c p. refl) s.cells first second;
+  undoes = λ session old entries may e other. restored_part (λ c. c.committed) (λ c p. refl) old s.cells;
+  commits = λ session may u b other. absurd (false_true (sym other));
+  reverts = λ session may other. back_part (λ c. c.committed) (λ c p. refl) s.cells;
+} verb
