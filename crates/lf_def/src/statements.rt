@@ -157,8 +157,8 @@ fn statement(alloc: Global, lexer: &mut Lexer, parts: &mut DocParts) -> Result<b
     ensures read { Reads (turn parts.new) result (grammar.statement parts.old) lexer.old lexer.new }
     ensures range { AreParts parts.new }
 {
-    let token = token(lexer)?;
-    statement_from(alloc, lexer, parts, &token)
+    let first = token(lexer)?;
+    statement_from(alloc, lexer, parts, &first)
 }
 
 /// What is known before the first statement.

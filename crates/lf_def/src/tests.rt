@@ -127,7 +127,7 @@ fn says_where_placement_clauses_stand(rt: HostRuntime) -> Result<(), Fail> {
     assert!(rt; a1.name.is(b"a1") && a1.mac.is(b"INV"));
     assert!(rt; a1.placement.is_none());
     let before = first_lines(rt.alloc(), W_DEF, 14)?;
-    assert_eq!(rt; a1.semicolon, before.len() + 23);
+    assert!(rt; a1.semicolon.checked_sub(before.len()) == Some(23));
     assert!(rt; doc.text.get(a1.semicolon) == Some(&b';'));
     let Some(placement) = a2.placement else {
         return Err(Fail::from("a placement clause"));
@@ -138,27 +138,38 @@ fn says_where_placement_clauses_stand(rt: HostRuntime) -> Result<(), Fail> {
     Ok(())
 }
 
+/// The placement clause of a component with this clause, and whether its bytes are said to be these.
+fn placement_of(alloc: Global, clause: &[u8]) -> Result<Option<(Placement, bool)>, AllocError> {
+    let mut text = Vec::from_slice(alloc, b"DESIGN d ; COMPONENTS 1 ; - a INV X ")?;
+    text.extend_from_slice(clause)?;
+    text.extend_from_slice(b" ; END COMPONENTS END DESIGN")?;
+    let Ok(doc) = read_def(alloc, &text) else {
+        return Ok(None);
+    };
+    let [component] = doc.components.as_slice() else {
+        return Ok(None);
+    };
+    let Some(placement) = component.placement else {
+        return Ok(None);
+    };
+    let same = doc.text.get(placement.start..placement.stop) == Some(clause);
+    Ok(Some((placement, same)))
+}
+
 #[test]
 fn reads_all_orientations(rt: HostRuntime) -> Result<(), Fail> {
     let cases: [(&[u8], Orient); 8] = [
-        (b"- a1 INV X + FIXED ( -5 6 ) N ;", Orient::N),
-        (b"- a1 INV X + FIXED ( -5 6 ) W ;", Orient::W),
-        (b"- a1 INV X + FIXED ( -5 6 ) S ;", Orient::S),
-        (b"- a1 INV X + FIXED ( -5 6 ) E ;", Orient::E),
-        (b"- a1 INV X + FIXED ( -5 6 ) FN ;", Orient::FN),
-        (b"- a1 INV X + FIXED ( -5 6 ) FW ;", Orient::FW),
-        (b"- a1 INV X + FIXED ( -5 6 ) FS ;", Orient::FS),
-        (b"- a1 INV X + FIXED ( -5 6 ) FE ;", Orient::FE),
+        (b"+ FIXED ( -5 6 ) N", Orient::N),
+        (b"+ FIXED ( -5 6 ) W", Orient::W),
+        (b"+ FIXED ( -5 6 ) S", Orient::S),
+        (b"+ FIXED ( -5 6 ) E", Orient::E),
+        (b"+ FIXED ( -5 6 ) FN", Orient::FN),
+        (b"+ FIXED ( -5 6 ) FW", Orient::FW),
+        (b"+ FIXED ( -5 6 ) FS", Orient::FS),
+        (b"+ FIXED ( -5 6 ) FE", Orient::FE),
     ];
-    for (line, orient) in cases {
-        let text = with_line(rt.alloc(), W_DEF, 15, line)?;
-        let Ok(doc) = read_def(rt.alloc(), &text) else {
-            return Err(Fail::from("a fixed component"));
-        };
-        let [a1, ..] = doc.components.as_slice() else {
-            return Err(Fail::from("a component"));
-        };
-        let Some(placement) = a1.placement else {
+    for (clause, orient) in cases {
+        let Some((placement, same)) = placement_of(rt.alloc(), clause)? else {
             return Err(Fail::from("a placement clause"));
         };
         assert_eq!(rt; placement.kind, PlacementKind::Fixed);
@@ -170,76 +181,150 @@ fn reads_all_orientations(rt: HostRuntime) -> Result<(), Fail> {
                     orient
                 })
         );
-        let from = line.len() - 2 - placement.stop.saturating_sub(placement.start);
-        assert!(rt;
-            doc.text.get(placement.start..placement.stop) == line.get(from..line.len() - 2)
-        );
+        assert!(rt; same);
     }
     Ok(())
 }
 
-/// Clauses in any order, a plus without a word, points behind UNPLACED, tokens before the first clause,
-/// sections more than once, corners in any order, properties of a row, and what is passed over.
+/// An UNPLACED clause runs to the end of its own orientation, whose point is not heeded.
 #[test]
-fn reads_lenient_forms(rt: HostRuntime) -> Result<(), Fail> {
+fn reads_a_point_behind_unplaced(rt: HostRuntime) -> Result<(), Fail> {
+    let clause = b"+\nUNPLACED ( 1 2 ) N";
+    let Some((placement, same)) = placement_of(rt.alloc(), clause)? else {
+        return Err(Fail::from("a placement clause"));
+    };
+    assert_eq!(rt; placement.kind, PlacementKind::Unplaced);
+    assert!(rt; placement.place.is_none());
+    assert!(rt; same);
+    Ok(())
+}
+
+/// Statements in any order, sections more than once, a plus without a word, tokens before the first
+/// clause, properties of a row, and what is passed over.
+#[test]
+fn reads_statements_in_any_order(rt: HostRuntime) -> Result<(), Fail> {
     let text = b"UNITS DISTANCE MICRONS 2000 ; TRACKS X 0.5 DO 3 ; DESIGN d ; DESIGN e ;
-GROUPS many ; - g + + SOFT ( a + REGION r + REGION s + ; - h ; END GROUPS
-COMPONENTS ; - c m ( x ) + EEQMASTER y + UNPLACED ( 1 2 ) N + ; END COMPONENTS
-PINS 1 ; - p + END NETS END PINS REGIONS 0 ; - r ( 9 8 ) ( 1 2 ) ( 0 0 ) ( 0 0 ) + X + TYPE GUIDE + TYPE FENCE ;
-END REGIONS ROW s t 1 2 N + PROPERTY a 1 ; ROW u t 1 2 N DO 2 BY 3 ; BEGINEXT \"x\" END ENDEXT
-BLOCKAGES 2 ; - LAYER m1 RECT ( 0 0 ) ( 1 1 ) ; - PLACEMENT + PARTIAL 0.5 RECT ( 2 2 ) ( 1 1 ) + SOFT ; END BLOCKAGES
+COMPONENTS ; - c m ( x ) + EEQMASTER y + + ; END COMPONENTS PINS 1 ; - p + END NETS END PINS
+ROW s t 1 2 N + PROPERTY a 1 ; BEGINEXT \"x\" END ENDEXT ROW u t 1 2 N DO 2 BY 3 ;
 COMPONENTS 1 ; - d m + COVER ( 0 0 ) S ; END COMPONENTS END DESIGN \"";
     let Ok(doc) = read_def(rt.alloc(), text) else {
-        return Err(Fail::from("lenient forms"));
+        return Err(Fail::from("statements in any order"));
     };
-    assert!(rt; doc.header.version.is(b"5.8") && doc.header.design.is(b"d"));
-    assert_eq!(rt; doc.rows.len(), 2);
-    assert_eq!(rt; doc.groups.len(), 2);
+    assert!(rt; doc.header.version.is(b"5.8"));
+    assert!(rt; doc.header.design.is(b"d"));
+    assert!(rt; doc.header.units == Some(2000));
     let [c, d] = doc.components.as_slice() else {
         return Err(Fail::from("two components"));
     };
-    assert!(rt;
-        matches!(c.placement, Some(p) if p.kind == PlacementKind::Unplaced && p.place.is_none())
-    );
-    assert!(rt;
-        matches!(c.placement, Some(p) if doc.text.get(p.start..p.stop) == Some(b"+ UNPLACED ( 1 2 ) N".as_slice()))
-    );
-    assert!(rt; matches!(d.placement, Some(p) if p.kind == PlacementKind::Cover));
+    assert!(rt; c.placement.is_none());
+    assert!(rt; d.placement.is_some());
+    let [s, u] = doc.rows.as_slice() else {
+        return Err(Fail::from("two rows"));
+    };
+    assert_eq!(rt; s.sites_x, 1);
+    assert_eq!(rt; u.sites_y, 3);
+    assert!(rt; u.step.is_none());
+    Ok(())
+}
+
+/// Corners in any order, and the first of several TYPE and REGION clauses.
+#[test]
+fn reads_regions_and_groups(rt: HostRuntime) -> Result<(), Fail> {
+    let text = b"DESIGN d ; REGIONS 0 ; - r ( 9 8 ) ( 1 2 ) ( 0 0 ) ( 0 0 ) + X + TYPE GUIDE
++ TYPE FENCE ; END REGIONS GROUPS many ; - g + + SOFT ( a + REGION r + REGION s + ; - h ; END GROUPS
+END DESIGN";
+    let Ok(doc) = read_def(rt.alloc(), text) else {
+        return Err(Fail::from("regions and groups"));
+    };
     let [region] = doc.regions.as_slice() else {
         return Err(Fail::from("one region"));
     };
     assert!(rt; region.kind == Some(RegionKind::Guide));
-    let [first, second] = region.rects.as_slice() else {
+    let [first, _] = region.rects.as_slice() else {
         return Err(Fail::from("two rectangles"));
     };
-    assert!(rt; first.x1 == 1 && first.y1 == 2 && first.x2 == 9 && first.y2 == 8);
-    assert!(rt; second.x1 == 0 && second.x2 == 0);
+    assert_eq!(rt;
+        *first,
+        Rect {
+            x1: 1,
+            y1: 2,
+            x2: 9,
+            y2: 8
+        }
+    );
     let [group, _] = doc.groups.as_slice() else {
         return Err(Fail::from("two groups"));
     };
     assert!(rt; matches!(&group.region, Some(name) if name.is(b"r")));
+    Ok(())
+}
+
+/// Blockages of layers are passed over, and SOFT and PARTIAL are noted.
+#[test]
+fn reads_blockages(rt: HostRuntime) -> Result<(), Fail> {
+    let text = b"DESIGN d ; BLOCKAGES 2 ; - LAYER m1 RECT ( 0 0 ) ( 1 1 ) ;
+- PLACEMENT + PARTIAL 0.5 RECT ( 2 2 ) ( 1 1 ) + SOFT ; END BLOCKAGES END DESIGN";
+    let Ok(doc) = read_def(rt.alloc(), text) else {
+        return Err(Fail::from("blockages"));
+    };
     let [blockage] = doc.blockages.as_slice() else {
         return Err(Fail::from("one blockage"));
     };
-    assert!(rt; blockage.soft && blockage.partial);
+    assert!(rt; blockage.soft);
+    assert!(rt; blockage.partial);
+    assert_eq!(rt; blockage.rects.len(), 1);
     Ok(())
 }
 
 #[test]
-fn refuses_changed_lines(rt: HostRuntime) -> Result<(), Fail> {
-    let cases: [(usize, &[u8], FaultNumber, usize); 20] = [
+fn refuses_changed_statements(rt: HostRuntime) -> Result<(), Fail> {
+    let cases: [(usize, &[u8], FaultNumber, usize); 8] = [
         (14, b"COMPONENT 5 ;", FaultNumber::UnknownStatement, 14),
         (20, b"END REGIONS", FaultNumber::WrongEnd, 20),
+        (3, b"BUSBITCHARS \"[] ;", FaultNumber::UnexpectedEnd, 29),
+        (
+            5,
+            b"UNITS DISTANCE MICRONS 20001 ;",
+            FaultNumber::BadNumber,
+            5,
+        ),
+        (6, b";", FaultNumber::UnknownStatement, 6),
+        (6, b"\"ROW\"", FaultNumber::Unexpected, 6),
+        (28, b"END \"DESIGN\"", FaultNumber::Unexpected, 28),
+        (28, b"END DESIGNS", FaultNumber::WrongEnd, 28),
+    ];
+    for (number, line, fault, at) in cases {
+        let text = with_line(rt.alloc(), W_DEF, number, line)?;
+        assert!(rt; refusal(&rt, &text) == at_line(fault, at), "line {number}");
+    }
+    Ok(())
+}
+
+#[test]
+fn refuses_changed_entries(rt: HostRuntime) -> Result<(), Fail> {
+    let cases: [(usize, &[u8], FaultNumber, usize); 8] = [
         (
             6,
-            b"ROW r0 core 0 0 Q DO 50 BY 1 STEP 200 0 ;",
+            b"ROW r core 0 0 Q DO 50 BY 1 ;",
             FaultNumber::Unexpected,
             6,
         ),
         (
-            11,
-            b"- A ( 0 0 ) ( 12.5 4000 ) + TYPE FENCE ;",
+            6,
+            b"ROW r core 0 0 N DO 0 BY 1 ;",
             FaultNumber::BadNumber,
+            6,
+        ),
+        (
+            11,
+            b"- A ( 0 0 ) ( 12.5 4000 ) ;",
+            FaultNumber::BadNumber,
+            11,
+        ),
+        (
+            11,
+            b"- A ( 0 0 ) ( 4 4 ) + TYPE FENCE X ;",
+            FaultNumber::Unexpected,
             11,
         ),
         (
@@ -248,46 +333,11 @@ fn refuses_changed_lines(rt: HostRuntime) -> Result<(), Fail> {
             FaultNumber::BadToken,
             15,
         ),
-        (3, b"BUSBITCHARS \"[] ;", FaultNumber::UnexpectedEnd, 29),
-        (
-            5,
-            b"UNITS DISTANCE MICRONS 20001 ;",
-            FaultNumber::BadNumber,
-            5,
-        ),
-        (5, b"UNITS DISTANCE MICRONS 0 ;", FaultNumber::BadNumber, 5),
-        (
-            6,
-            b"ROW r0 core 0 0 N DO 0 BY 1 ;",
-            FaultNumber::BadNumber,
-            6,
-        ),
-        (6, b";", FaultNumber::UnknownStatement, 6),
-        (6, b"\"ROW\"", FaultNumber::Unexpected, 6),
-        (11, b";", FaultNumber::Unexpected, 11),
-        (
-            11,
-            b"- A ( 0 0 ) ( 4 4 ) + TYPE FENCE X ;",
-            FaultNumber::Unexpected,
-            11,
-        ),
-        (
-            11,
-            b"- A ( 0 0 ) ( 4 4 ) + TYPE BLOCK ;",
-            FaultNumber::Unexpected,
-            11,
-        ),
         (
             16,
-            b"- a2 INV + PLACED ( 0 0 ) N +\nFIXED ( 0 0 ) N ;",
+            b"- a2 INV + UNPLACED +\nFIXED ( 0 0 ) N ;",
             FaultNumber::Unexpected,
             17,
-        ),
-        (
-            16,
-            b"- a2 INV + PLACED ( 0 0 ) N X ;",
-            FaultNumber::Unexpected,
-            16,
         ),
         (
             22,
@@ -296,8 +346,6 @@ fn refuses_changed_lines(rt: HostRuntime) -> Result<(), Fail> {
             22,
         ),
         (25, b"- ga a* + REGION ( ;", FaultNumber::Unexpected, 25),
-        (28, b"END \"DESIGN\"", FaultNumber::Unexpected, 28),
-        (28, b"END DESIGNS", FaultNumber::WrongEnd, 28),
     ];
     for (number, line, fault, at) in cases {
         let text = with_line(rt.alloc(), W_DEF, number, line)?;
@@ -344,7 +392,7 @@ fn bounds_names_and_numbers(rt: HostRuntime) -> Result<(), Fail> {
 fn refuses_each_prefix(rt: HostRuntime) -> Result<(), Fail> {
     let mut prefix = Vec::new(rt.alloc());
     for byte in W_DEF {
-        if prefix.len() + 1 < W_DEF.len() {
+        if prefix.len().saturating_add(1) < W_DEF.len() {
             let fault = refusal(&rt, &prefix);
             assert!(rt; matches!(fault, Some(fault) if fault.line.is_some()));
         } else {

@@ -10,3 +10,6 @@ pub mod Openings
 pub mod VerbCases
 pub mod VerbKept
 pub mod VerbBack
+pub mod Standing
+pub mod Tidying
+pub mod VerbLegal

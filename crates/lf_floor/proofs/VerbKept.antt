@@ -179,7 +179,7 @@ committed_macs (c ∷ cs) = ap (λ xs. c.mac ∷ xs) (committed_macs cs)
 
 -- ---- a team of the frame
 
-mac_at : (old new : List Cell) → map (λ c. c.mac) new ≡ map (λ c. c.mac) old → (i : ℕ) (d : Cell) → (get_or new i d).mac ≡ (get_or old i d).mac
+pub mac_at : (old new : List Cell) → map (λ c. c.mac) new ≡ map (λ c. c.mac) old → (i : ℕ) (d : Cell) → (get_or new i d).mac ≡ (get_or old i d).mac
 mac_at [] [] same i d = refl
 mac_at [] (c ∷ cs) same i d = absurd cc
 mac_at (b ∷ bs) [] same i d = absurd cc
@@ -191,7 +191,7 @@ mac_at (b ∷ bs) (c ∷ cs) same (suc i) d =
 pub same_length : (old new : List Cell) → map (λ c. c.mac) new ≡ map (λ c. c.mac) old → length new ≡ length old
 same_length old new same = sym (length-map new (λ (c : Cell). c.mac)) ∙ ap length same ∙ length-map old (λ (c : Cell). c.mac)
 
-sized_as : (f : Frame) (c d : Cell) → d.mac ≡ c.mac → IsSizedCell f c → IsSizedCell f d
+pub sized_as : (f : Frame) (c d : Cell) → d.mac ≡ c.mac → IsSizedCell f c → IsSizedCell f d
 sized_as f c d same h = record {
   known = rw same h.known;
   sized = rw same h.sized;

@@ -1,7 +1,8 @@
 -- Laws on what the verbs of the command table come to.
-use Rattle.std.specs.Prelude.{◌≡◌, ◌≢◌, ℕ, ◌+◌, ◌<◌, List, Option, Some, None, Bool, true, false, map}
+use Rattle.std.specs.Prelude.{◌≡◌, ◌≢◌, ℕ, ◌+◌, ◌<◌, List, Option, Some, None, Bool, true, false, map, slice_get, option_map}
 use Rattle.lf_units.specs.declared.area.Point.{Point}
 use Rattle.lf_frame.specs.declared.place.Place.{Place}
+use Rattle.lf_rules.specs.Choice.{IsChoice, spot_of}
 use Rattle.lf_rules.specs.Team.{StandsLegal}
 use Rattle.lf_rules.specs.Tidy.{Stuck, tidied}
 use Rattle.lf_proto.specs.declared.request.Order.{Order}
@@ -14,10 +15,11 @@ use Rattle.lf_proto.specs.declared.reply.Reply.{Reply}
 use Rattle.lf_proto.specs.declared.reply.Reply.TheVariants.{Revision, Legalized, Tidied as TidyDone, Refused}
 use Rattle.lf_proto.specs.declared.reply.Refusal.{Refusal}
 use Rattle.lf_proto.specs.declared.reply.Refusal.TheVariants.{NoPlace}
+use Rattle.lf_floor.specs.declared.cell.Cell.{Cell}
 use Rattle.lf_floor.specs.States.{TeamState}
 use Rattle.lf_floor.specs.Teams.{Setting, IsTeamOf, cell_named, member_of}
 use Rattle.lf_floor.specs.Outcomes.{Outcome, is_short, refused, places_of, seen_at, outcome_of}
-use Rattle.lf_floor.specs.Verbs.{TeamVerb, Open, Within, SessionVerb, Close, Sync, Where, Find, Changing, ChangeVerb, PlaceAt, Legalize, Tidy, Unplace, Swap, Undo, Commit, Revert, outcome_of_verb}
+use Rattle.lf_floor.specs.Verbs.{TeamVerb, Open, Within, SessionVerb, Close, Sync, Where, Find, Changing, ChangeVerb, PlaceAt, Legalize, Tidy, Unplace, Swap, Undo, Commit, Revert, lifted_cell, best_at, outcome_of_verb}
 
 -- what a change comes to that a session asks
 abbrev pub outcome_of_asking : Setting → ℕ → ChangeVerb → TeamState → Outcome
@@ -141,6 +143,12 @@ OnlyCommitCommits =
     → committed_places (outcome_of_verb t verb s).team ≡ committed_places s
 
 -- ---- legal places
+
+-- the place that find and legalize take is the best place, and there is none only where no place is team-legal for the cell
+abbrev pub BestIsFound : Type 0
+BestIsFound =
+    (t : Setting) (s : TeamState) (own : ℕ) (c : Cell) (target : Point) → IsTeamOf t.frame s → slice_get s.cells own ≡ Some c
+    → IsChoice (lifted_cell t s.cells own c) target (option_map spot_of (best_at t s.cells own target))
 
 -- every cell of the team is placed and team-legal
 abbrev pub AreLegal : Setting → TeamState → Type 0

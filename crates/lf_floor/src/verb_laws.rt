@@ -1,6 +1,8 @@
 //! Laws on what the verbs of the command table come to.
 
-ghost use Rattle.lf_floor.specs.VerbLaws.{NeverOutOfMemory, RefusalKeeps, StuckTidyKeeps, ChangeCounts, LookKeeps, UndoBringsBack, RevertAfterCommitKeeps, OnlyCommitCommits, TidyMakesLegal, CommitFindsLegal, PlaceMakesLegal, LegalizeMakesLegal, SwapMakesLegal, VerbKeepsTeam, OrderIsVerb};
+ghost use Rattle.lf_floor.specs.VerbLaws.{NeverOutOfMemory, RefusalKeeps, StuckTidyKeeps, ChangeCounts, LookKeeps, UndoBringsBack, RevertAfterCommitKeeps, OnlyCommitCommits, BestIsFound, TidyMakesLegal, CommitFindsLegal, PlaceMakesLegal, LegalizeMakesLegal, SwapMakesLegal, VerbKeepsTeam, OrderIsVerb};
+
+use lf_rules::legal_in_range;
 
 /// No verb ever comes to `OutOfMemory`: only a growth that was really refused is answered so.
 pub fn never_out_of_memory()
@@ -42,30 +44,47 @@ pub fn only_commit_commits()
     ensures { OnlyCommitCommits }
 {}
 
+/// The place that find and legalize take is the best place, and there is none only where no place is team-legal.
+pub fn best_is_found()
+    ensures { BestIsFound }
+{
+    legal_in_range();
+}
+
 /// After an accepted tidy every cell of the team is placed and team-legal.
 pub fn tidy_makes_legal()
     ensures { TidyMakesLegal }
-{}
+{
+    legal_in_range();
+}
 
 /// After an accepted commit every cell of the team is placed and team-legal.
 pub fn commit_finds_legal()
     ensures { CommitFindsLegal }
-{}
+{
+    legal_in_range();
+}
 
 /// After an accepted place the cell is team-legal.
 pub fn place_makes_legal()
     ensures { PlaceMakesLegal }
-{}
+{
+    legal_in_range();
+}
 
 /// After an accepted legalize the cell is team-legal.
 pub fn legalize_makes_legal()
     ensures { LegalizeMakesLegal }
-{}
+{
+    legal_in_range();
+}
 
 /// After an accepted swap both cells are team-legal.
 pub fn swap_makes_legal()
     ensures { SwapMakesLegal }
-{}
+{
+    legal_in_range();
+}
 
 /// A team of the frame stays one, whatever is asked of it.
 pub fn verb_keeps_team()

@@ -16,10 +16,10 @@ use Rattle.lf_lex.specs.declared.tokens.TokenKind.TheVariants.{Word}
 use Rattle.lf_lex.specs.declared.fault.ReadFault.{ReadFault}
 use Rattle.lf_lex.specs.Tokens.{Lexed, Lexeme, Plain, plain, with_tokens}
 use Rattle.lf_lex.specs.Splices.{word_of}
-use Rattle.lf_lex.specs.Reading.{◌>>=◌, Taken, Turn, Statement, taken, turn, name, word, keyword, end_name, passed_token, to_semicolon, statements, block, first_stands}
+use Rattle.lf_lex.specs.Reading.{◌>>=◌, Taken, Turn, Statement, taken, turn, name, word, keyword, end_name, passed_token, to_semicolon, passed_to_end, to_end, passed_to_word, to_word, statements, block, first_stands}
 use Rattle.lf_lex.proofs.Turns.{Going, begins, turn_on, turn_ends}
 use Rattle.lf_lex.proofs.Runs.{Goes, same_run, split_alike, with_both}
-use Rattle.lf_lex.proofs.Following.{passed_token_goes}
+use Rattle.lf_lex.proofs.Following.{passed_token_goes, passed_to_end_goes, passed_to_word_goes}
 use Rattle.lf_lef.specs.declared.sites.Site.{Site}
 use Rattle.lf_lef.specs.declared.sites.SiteParts.{SiteParts}
 use Rattle.lf_lef.specs.declared.pins.Reach.{Reach}
@@ -31,8 +31,8 @@ use Rattle.lf_lef.specs.Lengths.{or_bad_number, micros, point_from, point, size,
 use Rattle.lf_lef.specs.Sites.{one_word, symmetry_word, symmetry, site_statement_from, site_statement, no_site_parts, site_parts, site_of}
 use Rattle.lf_lef.specs.Pins.{past_mask, past_iterate, reach_of, rect, port_statement_from, port_statement, use_named, pin_statement_from, pin_statement, no_pin, pin}
 use Rattle.lf_lef.specs.Macros.{macro_statement_from, macro_statement, no_macro_parts, macro_parts, macro_of}
-use Rattle.lf_lef.specs.Library.{with_site, with_macro, passed_from, statement_from, statement, library}
-use Rattle.lf_lef.specs.Printed.{Spells, Writes, IsPrintable, class_words, symmetry_words, size_words, origin_words, end_words, site_words, use_words, port_words, pin_words, macro_words, EndAtSemicolon, IsPassedOver, ArePassedOver, words_before, PassesOver, ReadsSite, ReadsMacro}
+use Rattle.lf_lef.specs.Library.{with_site, with_macro, to_named_end, passed_from, statement_from, statement, library}
+use Rattle.lf_lef.specs.Printed.{Spells, Writes, IsPrintable, class_words, symmetry_words, size_words, origin_words, end_words, site_words, use_words, port_words, pin_words, macro_words, EndAtSemicolon, IsOther, HaveNo, NamedGroup, named_word, layer, via, via_rule, rule, array, Group, group_word, units, property_definitions, spacing, ir_drop, noise_table, correction_table, Passed, passed_words, empty, plain_statement, named, grouped, extension, IsWhole, AreWhole, words_behind, PassesOver, ReadsSite, ReadsMacro}
 use Rattle.lf_lef.proofs.Following.{site_statement_goes, port_statement_goes, pin_statement_goes, macro_statement_goes}
 use Rattle.lf_lef.proofs.Whole.{due_statement, due_statement_follows, due_token, with_token_left, statement_goes}
 
@@ -329,14 +329,91 @@ macro_due c n a b w h v u x1 y1 x2 y2 y o p left low right high k hn ha hb hw hh
 
 -- Statements that are passed over.
 
-passed_due : (c : Contents) (w : List ℕ) (ws : List (List ℕ)) (k : Lexed) → IsPassedOver (w ∷ ws) → due_statement c (words (w ∷ ws) k) ≡ taken (turn c true) k
+passed_due : (c : Contents) (w : List ℕ) (ws : List (List ℕ)) (k : Lexed) → IsOther w → EndAtSemicolon ws → due_statement c (words (w ∷ ws) k) ≡ taken (turn c true) k
 unfolding due_statement statement_from passed_from
-passed_due c w ws k h =
-    let o = h.0 in
+passed_due c w ws k o h =
     rw (differs w (codes "END") o.0) (rw (differs w (codes "SITE") o.1) (rw (differs w (codes "MACRO") o.2)
     (rw (differs w (codes "LAYER") o.3) (rw (differs w (codes "VIA") o.4) (rw (differs w (codes "VIARULE") o.5) (rw (differs w (codes "NONDEFAULTRULE") o.6) (rw (differs w (codes "ARRAY") o.7)
     (rw (differs w (codes "UNITS") o.8) (rw (differs w (codes "PROPERTYDEFINITIONS") o.9) (rw (differs w (codes "SPACING") o.10) (rw (differs w (codes "IRDROP") o.11) (rw (differs w (codes "NOISETABLE") o.12) (rw (differs w (codes "CORRECTIONTABLE") o.13)
-    (rw (differs w (codes "BEGINEXT") o.14) (rw (differs w (codes ";") o.15) (rw (semicolon_reads ws k h.1) refl))))))))))))))))
+    (rw (differs w (codes "BEGINEXT") o.14) (rw (differs w (codes ";") o.15) (rw (semicolon_reads ws k h) refl))))))))))))))))
+
+inside_turn : (due w : List ℕ) (k : Lexed) → w ≢ codes "END" → passed_to_end due false (words (w ∷ []) k) ≡ taken (turn false true) k
+unfolding passed_to_end
+inside_turn due w k h = rw (differs w (codes "END") h) refl
+
+end_turn : (due : List ℕ) (k : Lexed) → passed_to_end due false (words (codes "END" ∷ []) k) ≡ taken (turn true true) k
+unfolding passed_to_end
+end_turn due k = refl
+
+due_turn : (due : List ℕ) (k : Lexed) → passed_to_end due true (words (due ∷ []) k) ≡ taken (turn true false) k
+unfolding passed_to_end
+due_turn due k = rw (same_bytes due) refl
+
+passing_end : (due : List ℕ) (between : List (List ℕ)) (k : Lexed) (total : Result (Taken Bool) ReadFault) → HaveNo (codes "END") between → Going (passed_to_end due) false (words (between ++ end_words due) k) total → total ≡ taken true k
+passing_end due [] k total h g =
+    last (passed_to_end due) true true (words (due ∷ []) k) k total (on (passed_to_end due) (passed_to_end_goes due) false true (words (end_words due) k) (words (due ∷ []) k) total g (end_turn due (words (due ∷ []) k))) (due_turn due k)
+passing_end due (w ∷ ws) k total h g =
+    passing_end due ws k total h.1 (on (passed_to_end due) (passed_to_end_goes due) false false (words (w ∷ (ws ++ end_words due)) k) (words (ws ++ end_words due) k) total g (inside_turn due w (words (ws ++ end_words due) k) h.0))
+
+to_end_reads : (due : List ℕ) (between : List (List ℕ)) (k : Lexed) → HaveNo (codes "END") between → to_end due (words (between ++ end_words due) k) ≡ taken tt k
+unfolding to_end
+to_end_reads due between k h =
+    let all = block (passed_to_end due) false (words (between ++ end_words due) k) in
+    rw (passing_end due between k all h (begins (passed_to_end due) false (words (between ++ end_words due) k))) refl
+
+outside_turn : (due w : List ℕ) (k : Lexed) → w ≢ due → passed_to_word due tt (words (w ∷ []) k) ≡ taken (turn tt true) k
+unfolding passed_to_word
+outside_turn due w k h = rw (differs w due h) refl
+
+word_turn : (due : List ℕ) (k : Lexed) → passed_to_word due tt (words (due ∷ []) k) ≡ taken (turn tt false) k
+unfolding passed_to_word
+word_turn due k = rw (same_bytes due) refl
+
+passing_word : (due : List ℕ) (between : List (List ℕ)) (k : Lexed) (total : Result (Taken (Unit {0})) ReadFault) → HaveNo due between → Going (passed_to_word due) tt (words (between ++ due ∷ []) k) total → total ≡ taken tt k
+passing_word due [] k total h g = last (passed_to_word due) tt tt (words (due ∷ []) k) k total g (word_turn due k)
+passing_word due (w ∷ ws) k total h g =
+    passing_word due ws k total h.1 (on (passed_to_word due) (passed_to_word_goes due) tt tt (words (w ∷ (ws ++ due ∷ [])) k) (words (ws ++ due ∷ []) k) total g (outside_turn due w (words (ws ++ due ∷ []) k) h.0))
+
+to_word_reads : (due : List ℕ) (between : List (List ℕ)) (k : Lexed) → HaveNo due between → to_word due (words (between ++ due ∷ []) k) ≡ taken tt k
+to_word_reads due between k h = passing_word due between k (to_word due (words (between ++ due ∷ []) k)) h (begins (passed_to_word due) tt (words (between ++ due ∷ []) k))
+
+named_reads : (name : List ℕ) (between : List (List ℕ)) (k : Lexed) → IsPrintable name → HaveNo (codes "END") between → to_named_end (words (name ∷ (between ++ end_words name)) k) ≡ taken tt k
+unfolding to_named_end
+named_reads n between k p h = rw (name_reads n (words (between ++ end_words n) k) p) (to_end_reads n between k h)
+
+named_due : (c : Contents) (keyword : NamedGroup) (name : List ℕ) (between : List (List ℕ)) (k : Lexed) → IsPrintable name → HaveNo (codes "END") between
+    → due_statement c (words (named_word keyword ∷ name ∷ (between ++ end_words name)) k) ≡ taken (turn c true) k
+unfolding due_statement statement_from passed_from
+named_due c layer n between k p h = rw (named_reads n between k p h) refl
+named_due c via n between k p h = rw (named_reads n between k p h) refl
+named_due c via_rule n between k p h = rw (named_reads n between k p h) refl
+named_due c rule n between k p h = rw (named_reads n between k p h) refl
+named_due c array n between k p h = rw (named_reads n between k p h) refl
+
+group_due : (c : Contents) (keyword : Group) (between : List (List ℕ)) (k : Lexed) → HaveNo (codes "END") between
+    → due_statement c (words (group_word keyword ∷ (between ++ end_words (group_word keyword))) k) ≡ taken (turn c true) k
+unfolding due_statement statement_from passed_from
+group_due c units between k h = rw (to_end_reads (group_word units) between k h) refl
+group_due c property_definitions between k h = rw (to_end_reads (group_word property_definitions) between k h) refl
+group_due c spacing between k h = rw (to_end_reads (group_word spacing) between k h) refl
+group_due c ir_drop between k h = rw (to_end_reads (group_word ir_drop) between k h) refl
+group_due c noise_table between k h = rw (to_end_reads (group_word noise_table) between k h) refl
+group_due c correction_table between k h = rw (to_end_reads (group_word correction_table) between k h) refl
+
+extension_due : (c : Contents) (between : List (List ℕ)) (k : Lexed) → HaveNo (codes "ENDEXT") between → due_statement c (words (codes "BEGINEXT" ∷ (between ++ codes "ENDEXT" ∷ [])) k) ≡ taken (turn c true) k
+unfolding due_statement statement_from passed_from
+extension_due c between k h = rw (to_word_reads (codes "ENDEXT") between k h) refl
+
+empty_due : (c : Contents) (k : Lexed) → due_statement c (words (codes ";" ∷ []) k) ≡ taken (turn c true) k
+unfolding due_statement statement_from passed_from
+empty_due c k = refl
+
+whole_due : (c : Contents) (p : Passed) (k : Lexed) → IsWhole p → due_statement c (words (passed_words p) k) ≡ taken (turn c true) k
+whole_due c empty k h = empty_due c k
+whole_due c (plain_statement w ws) k h = passed_due c w ws k h.0 h.1
+whole_due c (named keyword name between) k h = named_due c keyword name between k h.0 h.1
+whole_due c (grouped keyword between) k h = group_due c keyword between k h
+whole_due c (extension between) k h = extension_due c between k h
 
 -- Whole texts.
 
@@ -387,16 +464,15 @@ library_step c c' ws p k h e = library_turn c c' (with_tokens p k) k (when_due c
 words_append : (a b : List (List ℕ)) → map word_of (a ++ b) ≡ map plain (map word_token a ++ map word_token b)
 words_append a b = plain_words (a ++ b) ∙ ap (λ (z : List Lexeme). map plain z) (map-append word_token a b)
 
-pass_all : (ps : List (List (List ℕ))) (c : Contents) (ws : List (List ℕ)) (p : List Lexeme) (k : Lexed) (r : Result (Taken Contents) ReadFault) → ArePassedOver ps → Spells p (words_before ps ws)
+pass_all : (ps : List Passed) (c : Contents) (ws : List (List ℕ)) (p : List Lexeme) (k : Lexed) (r : Result (Taken Contents) ReadFault) → AreWhole ps → Spells p (words_behind ps ws)
     → ((q : List Lexeme) → Spells q ws → library c (with_tokens q k) ≡ r) → library c (with_tokens p k) ≡ r
 pass_all [] c ws p k r h e final = final p e
-pass_all ([] ∷ ps) c ws p k r h e final = absurd h.0
-pass_all ((w ∷ vs) ∷ ps) c ws p k r h e final =
-    let cut = split_alike p (map word_token (w ∷ vs)) (map word_token (words_before ps ws)) (e ∙ words_append (w ∷ vs) (words_before ps ws)) in
-    let front : Spells cut.front (w ∷ vs) = cut.front_alike ∙ sym (plain_words (w ∷ vs)) in
-    let back : Spells cut.back (words_before ps ws) = cut.back_alike ∙ sym (plain_words (words_before ps ws)) in
+pass_all (first ∷ ps) c ws p k r h e final =
+    let cut = split_alike p (map word_token (passed_words first)) (map word_token (words_behind ps ws)) (e ∙ words_append (passed_words first) (words_behind ps ws)) in
+    let front : Spells cut.front (passed_words first) = cut.front_alike ∙ sym (plain_words (passed_words first)) in
+    let back : Spells cut.back (words_behind ps ws) = cut.back_alike ∙ sym (plain_words (words_behind ps ws)) in
     ap (λ (z : List Lexeme). library c (with_tokens z k)) cut.whole ∙ ap (λ (z : Lexed). library c z) (with_both cut.front cut.back k)
-    ∙ library_step c c (w ∷ vs) cut.front (with_tokens cut.back k) (λ k. passed_due c w vs k h.0) front ∙ pass_all ps c ws cut.back k r h.1 back final
+    ∙ library_step c c (passed_words first) cut.front (with_tokens cut.back k) (λ k. whole_due c first k h.0) front ∙ pass_all ps c ws cut.back k r h.1 back final
 
 nothing_spelled : (q : List Lexeme) (k : Lexed) → Spells q [] → with_tokens q k ≡ k
 nothing_spelled [] k e = refl

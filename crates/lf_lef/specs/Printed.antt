@@ -69,7 +69,59 @@ macro_words name x y w h symmetry pin = codes "MACRO" ∷ name ∷ (origin_words
 
 -- Statements that are passed over.
 
--- a word that begins a statement of its own
+-- what is passed over to END and the name behind the keyword
+pub data NamedGroup : Type 0 where
+  layer : NamedGroup
+  via : NamedGroup
+  via_rule : NamedGroup
+  rule : NamedGroup
+  array : NamedGroup
+
+abbrev pub named_word : NamedGroup → List ℕ
+named_word layer = codes "LAYER"
+named_word via = codes "VIA"
+named_word via_rule = codes "VIARULE"
+named_word rule = codes "NONDEFAULTRULE"
+named_word array = codes "ARRAY"
+
+-- what is passed over to END and the keyword
+pub data Group : Type 0 where
+  units : Group
+  property_definitions : Group
+  spacing : Group
+  ir_drop : Group
+  noise_table : Group
+  correction_table : Group
+
+abbrev pub group_word : Group → List ℕ
+group_word units = codes "UNITS"
+group_word property_definitions = codes "PROPERTYDEFINITIONS"
+group_word spacing = codes "SPACING"
+group_word ir_drop = codes "IRDROP"
+group_word noise_table = codes "NOISETABLE"
+group_word correction_table = codes "CORRECTIONTABLE"
+
+-- a statement that says nothing of sites and macros
+pub data Passed : Type 0 where
+  -- a semicolon alone
+  empty : Passed
+  -- a first word, and all up to a semicolon
+  plain_statement : List ℕ → List (List ℕ) → Passed
+  -- a keyword and a name, what stands in between, END and the name
+  named : NamedGroup → List ℕ → List (List ℕ) → Passed
+  -- a keyword, what stands in between, END and the keyword
+  grouped : Group → List (List ℕ) → Passed
+  -- BEGINEXT, what stands in between, ENDEXT
+  extension : List (List ℕ) → Passed
+
+abbrev pub passed_words : Passed → List (List ℕ)
+passed_words empty = codes ";" ∷ []
+passed_words (plain_statement w ws) = w ∷ ws
+passed_words (named keyword name between) = named_word keyword ∷ name ∷ (between ++ end_words name)
+passed_words (grouped keyword between) = group_word keyword ∷ (between ++ end_words (group_word keyword))
+passed_words (extension between) = codes "BEGINEXT" ∷ (between ++ codes "ENDEXT" ∷ [])
+
+-- a word that begins none of the statements that are read otherwise
 abbrev pub IsOther : List ℕ → Type 0
 IsOther w =
     (w ≢ codes "END") × (w ≢ codes "SITE") × (w ≢ codes "MACRO")
@@ -83,41 +135,49 @@ EndAtSemicolon [] = ⊥
 EndAtSemicolon (w ∷ []) = w ≡ codes ";"
 EndAtSemicolon (w ∷ (v ∷ ws)) = (w ≢ codes ";") × EndAtSemicolon (v ∷ ws)
 
--- a statement that is passed over to its semicolon
-abbrev pub IsPassedOver : List (List ℕ) → Type 0
-IsPassedOver [] = ⊥
-IsPassedOver (w ∷ ws) = IsOther w × EndAtSemicolon ws
+-- none of the words is this one
+abbrev pub HaveNo : List ℕ → List (List ℕ) → Type 0
+HaveNo word [] = Unit {0}
+HaveNo word (w ∷ ws) = (w ≢ word) × HaveNo word ws
 
--- statements, each of which is passed over
-abbrev pub ArePassedOver : List (List (List ℕ)) → Type 0
-ArePassedOver [] = Unit {0}
-ArePassedOver (p ∷ ps) = IsPassedOver p × ArePassedOver ps
+-- the statement ends with its last word and not before
+abbrev pub IsWhole : Passed → Type 0
+IsWhole empty = Unit {0}
+IsWhole (plain_statement w ws) = IsOther w × EndAtSemicolon ws
+IsWhole (named keyword name between) = IsPrintable name × HaveNo (codes "END") between
+IsWhole (grouped keyword between) = HaveNo (codes "END") between
+IsWhole (extension between) = HaveNo (codes "ENDEXT") between
 
--- the words of statements, one behind the other, and then these
-abbrev pub words_before : List (List (List ℕ)) → List (List ℕ) → List (List ℕ)
-words_before [] words = words
-words_before (p ∷ ps) words = p ++ words_before ps words
+-- each of the statements is whole
+abbrev pub AreWhole : List Passed → Type 0
+AreWhole [] = Unit {0}
+AreWhole (p ∷ ps) = IsWhole p × AreWhole ps
+
+-- the words of the statements, one behind the other, and then these
+abbrev pub words_behind : List Passed → List (List ℕ) → List (List ℕ)
+words_behind [] words = words
+words_behind (p ∷ ps) words = passed_words p ++ words_behind ps words
 
 -- What is read.
 
 -- statements that are passed over play no part, whatever stands behind
 abbrev pub PassesOver : Contents → Type 0
-PassesOver c = (passed : List (List (List ℕ))) (tokens : List Lexeme) (behind : Lexed) → ArePassedOver passed → Spells tokens (words_before passed []) → library c (with_tokens tokens behind) ≡ library c behind
+PassesOver c = (passed : List Passed) (tokens : List Lexeme) (behind : Lexed) → AreWhole passed → Spells tokens (words_behind passed []) → library c (with_tokens tokens behind) ≡ library c behind
 
 -- a printed site of a name that is new is read back, behind statements that are passed over and whatever stands behind it
 abbrev pub ReadsSite : Contents → Site → Type 0
-ReadsSite c s = (passed : List (List (List ℕ))) (class w h : List ℕ) (tokens : List Lexeme) (behind : Lexed)
-    → ArePassedOver passed → IsPrintable s.name → class ≢ codes ";" → bytes_eq class (codes "CORE") ≡ s.core → Writes w s.size.x → Writes h s.size.y
+ReadsSite c s = (passed : List Passed) (class w h : List ℕ) (tokens : List Lexeme) (behind : Lexed)
+    → AreWhole passed → IsPrintable s.name → class ≢ codes ";" → bytes_eq class (codes "CORE") ≡ s.core → Writes w s.size.x → Writes h s.size.y
     → position_of (site_names c.sites) s.name ≡ None → length c.sites < 1000000
-    → Spells tokens (words_before passed (site_words s.name class s.symmetry w h))
+    → Spells tokens (words_behind passed (site_words s.name class s.symmetry w h))
     → library c (with_tokens tokens behind) ≡ library (record c { sites = c.sites ++ s ∷ [] }) behind
 
 -- a printed macro of a name that is new is read back with the rail that its pin gives it, behind statements that are passed over and whatever stands behind it
 abbrev pub ReadsMacro : Contents → Macro → Type 0
-ReadsMacro c m = (passed : List (List (List ℕ))) (x y w h pin use_word x1 y1 x2 y2 : List ℕ) (low high left right : ℤ) (tokens : List Lexeme) (behind : Lexed)
-    → ArePassedOver passed → IsPrintable m.name → IsPrintable pin → use_word ≢ codes ";" → Writes x m.origin.x → Writes y m.origin.y → Writes w m.size.x → Writes h m.size.y
+ReadsMacro c m = (passed : List Passed) (x y w h pin use_word x1 y1 x2 y2 : List ℕ) (low high left right : ℤ) (tokens : List Lexeme) (behind : Lexed)
+    → AreWhole passed → IsPrintable m.name → IsPrintable pin → use_word ≢ codes ";" → Writes x m.origin.x → Writes y m.origin.y → Writes w m.size.x → Writes h m.size.y
     → Writes x1 left → Writes y1 low → Writes x2 right → Writes y2 high
     → m.rail ≡ rail_of m.origin.y (record { supply = Some (use_named use_word); reaches = reach_of low high ∷ [] } ∷ [])
     → position_of (macro_names c.macros) m.name ≡ None → length c.macros < 1000000
-    → Spells tokens (words_before passed (macro_words m.name x y w h m.symmetry (pin_words pin use_word x1 y1 x2 y2)))
+    → Spells tokens (words_behind passed (macro_words m.name x y w h m.symmetry (pin_words pin use_word x1 y1 x2 y2)))
     → library c (with_tokens tokens behind) ≡ library (record c { macros = c.macros ++ m ∷ [] }) behind

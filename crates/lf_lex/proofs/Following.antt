@@ -1,11 +1,10 @@
 -- The words that the readers share take a run of tokens, and read alike from tokens that differ in their places alone.
-use Rattle.std.proofs.Common.{◌≡◌, ℕ, ◌<◌, Bool, true, false, ◌&&◌, List, length, refl, ap, arith}
+use Rattle.std.proofs.Common.{◌≡◌, ℕ, Bool, true, false, ◌&&◌, List, length, refl, ap}
 use Rattle.std.specs.Prelude.{not, nat_lt, codes}
 use Rattle.std.specs.Str.{bytes_eq}
 use Rattle.lf_lex.specs.declared.tokens.TokenKind.{TokenKind}
-use Rattle.lf_lex.specs.declared.fault.FaultNumber.TheVariants.{Unexpected, WrongEnd, TooMany}
-use Rattle.lf_lex.specs.Tokens.{Lexed, Lexeme, Plain, plain}
-use Rattle.lf_lex.specs.Reading.{Reader, Taken, Turn, Statement, taken, turn, token, is, kind_is_word, is_word, keyword, word, name, end_name, passed_token, to_semicolon, passed_to_end, to_end, passed_to_word, to_word, block}
+use Rattle.lf_lex.specs.Tokens.{Lexeme, Plain, plain}
+use Rattle.lf_lex.specs.Reading.{turn, token, is, kind_is_word, is_word, keyword, word, name, end_name, passed_token, to_semicolon, passed_to_end, to_end, passed_to_word, to_word, block}
 use Rattle.lf_lex.proofs.Runs.{Follows, Goes, same, turn_bare, bind, choose, pure, fault, token_follows, takes_one, block_follows}
 
 pub text_alike : (t t' : Lexeme) → plain t' ≡ plain t → t'.text ≡ t.text

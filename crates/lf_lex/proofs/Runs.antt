@@ -1,6 +1,6 @@
 -- Reading takes a run of tokens, and reads the same from tokens that differ in their places alone, whatever stands behind.
 use Rattle.std.proofs.Common.{◌≡◌, ℕ, zero, suc, ◌+◌, ◌≤◌, ◌<◌, Bool, true, false, cond, List, [], ◌∷◌, ◌++◌, map, length, Result, Ok, Err, refl, sym, ap, ◌∙◌, arith}
-use Rattle.std.proofs.lemmas.List.{append_assoc, append_cancel_right, append-nil, map-append}
+use Rattle.std.proofs.lemmas.List.{append_assoc, append_cancel_right, append-nil}
 use Rattle.lf_lex.specs.Tokens.{Lexed, Lexeme, Plain, plain, with_tokens}
 use Rattle.lf_lex.specs.declared.fault.ReadFault.{ReadFault}
 use Rattle.lf_lex.specs.Laws.{TakesTokens, ReadsAlike}
@@ -209,8 +209,11 @@ turn_more bare statement s' s1 y l l1 m f shorter next =
           let g' = next a.value.state (ap (λ (z : Turn _). z.state) a.alike) in
           let b = g'.again c.back (c.back_alike ∙ ap (λ (z : List Lexeme). map plain z) (same_run g.run g'.run l1 m g.whole g'.whole)) in
           let positive : 0 < length c.front = omega (arith, same_length c.front f.run c.front_alike, total, shorter) in
-          record { value = b.value; alike = b.alike;
-            takes = λ n lt k. more_takes statement s' b.value p c.front c.back a.value n k c.whole positive lt (a.takes (with_tokens c.back k)) (ap (λ (z : Turn _). z.more) a.alike) (λ j h. b.takes j h k) };
+          record {
+            value = b.value;
+            alike = b.alike;
+            takes = λ n lt k. more_takes statement s' b.value p c.front c.back a.value n k c.whole positive lt (a.takes (with_tokens c.back k)) (ap (λ (z : Turn _). z.more) a.alike) (λ j h. b.takes j h k);
+          };
     }
 
 turn_by : {S D : Type 0} (bare : S → D) (statement : Statement S) (n : ℕ) (s s' y : S) (l m : Lexed) → bare s' ≡ bare s
@@ -241,7 +244,8 @@ pub block_follows : {S D : Type 0} (bare : S → D) (statement : Statement S) �
 block_follows bare statement each goes s s' a l m x e =
     let t = turns_follow bare statement each goes (suc (length l.tokens)) s s' x l m a e in
     record {
-      run = t.run; whole = t.whole;
+      run = t.run;
+      whole = t.whole;
       again = λ p q. let b = t.again p q in
           record { value = b.value; alike = b.alike; takes = λ k. b.takes (suc (length (p ++ k.tokens))) (omega (arith, length_both p k.tokens)) k };
     }

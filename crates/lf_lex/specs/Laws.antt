@@ -1,5 +1,5 @@
 -- What is true of reading, whatever is read.
-use Rattle.std.specs.Prelude.{◌≡◌, ◌<◌, List, length, map, true}
+use Rattle.std.specs.Prelude.{◌≡◌, ◌<◌, List, length, map}
 use Rattle.lf_lex.specs.Tokens.{Lexed, Lexeme, plain, with_tokens}
 use Rattle.lf_lex.specs.Reading.{Reader, Statement, taken, goes_on}
 

@@ -25,7 +25,7 @@ pub enum FaultNumber {
     NoUnits,
     /// A row names a site that no LEF text has.
     NoSite,
-    /// There is no row of core sites.
+    /// No row has a site of class CORE with both lengths above 0.
     NoRows,
     /// A row has more than one site upwards.
     VerticalRow,

@@ -1,0 +1,6 @@
+use Rattle.lf_floor.specs.Verbs.{Within, Changing, Legalize}
+use Rattle.lf_floor.proofs.VerbLegal.{verb_legal}
+use Rattle.lf_floor.proofs.verb_laws.legalize_makes_legal.Goals as goal
+
+pub returns : goal.returns
+returns c t session name target s known accepted = verb_legal t s known c.legal_in_range.ensures (Within session (Changing (Legalize name target))) accepted

@@ -1,0 +1,6 @@
+use Rattle.lf_floor.specs.Verbs.{Within, Changing, Swap}
+use Rattle.lf_floor.proofs.VerbLegal.{verb_legal}
+use Rattle.lf_floor.proofs.verb_laws.swap_makes_legal.Goals as goal
+
+pub returns : goal.returns
+returns c t session first second s known accepted = verb_legal t s known c.legal_in_range.ensures (Within session (Changing (Swap first second))) accepted
