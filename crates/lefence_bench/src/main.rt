@@ -23,19 +23,33 @@ fn count_tokens(text: &[u8]) -> u64 {
 }
 
 /// How many sites and macros the LEF text has.
-fn count_library<'a>(alloc: Global, text: &'a [u8]) -> std::result::Result<(usize, usize), LoadFault<'a>> {
+fn count_library<'a>(
+    alloc: Global,
+    text: &'a [u8],
+) -> std::result::Result<(usize, usize), LoadFault<'a>> {
     let mut library = Library::new(alloc);
     read_lef(&mut library, text)?;
     Ok((library.sites().len(), library.macros().len()))
 }
 
 /// How many rows, components and groups the DEF text has.
-fn count_document<'a>(alloc: Global, text: &'a [u8]) -> std::result::Result<(usize, usize, usize), LoadFault<'a>> {
+fn count_document<'a>(
+    alloc: Global,
+    text: &'a [u8],
+) -> std::result::Result<(usize, usize, usize), LoadFault<'a>> {
     let document = read_def(alloc, text)?;
-    Ok((document.rows.len(), document.components.len(), document.groups.len()))
+    Ok((
+        document.rows.len(),
+        document.components.len(),
+        document.groups.len(),
+    ))
 }
 
-fn read<R: Files + AllocGlobal + Clock + Print + Eprint>(rt: &R, task: &str, file: &str) -> Result<()> {
+fn read<R: Files + AllocGlobal + Clock + Print + Eprint>(
+    rt: &R,
+    task: &str,
+    file: &str,
+) -> Result<()> {
     let text = fs::read(rt, file)?;
     let start = Instant::now(rt)?;
     match task {
@@ -58,7 +72,9 @@ fn read<R: Files + AllocGlobal + Clock + Print + Eprint>(rt: &R, task: &str, fil
             let counts = count_document(rt.alloc(), &text);
             let taken = start.elapsed(rt)?;
             match counts {
-                Ok((rows, components, groups)) => println!(rt; "rows {rows} components {components} groups {groups}")?,
+                Ok((rows, components, groups)) => println!(rt;
+                    "rows {rows} components {components} groups {groups}"
+                )?,
                 Err(fault) => println!(rt; "{fault:?}")?,
             }
             eprintln!(rt; "{} ns", taken.as_nanos())?;

@@ -78,7 +78,7 @@ same_member a b p q e h = cc
 placed_member : (c : Cell) (m : Member) → m.mac ≡ c.mac → IsPlacedAt m → member_of (record c { working = option_and_then place_of_spot m.place }) ≡ m
 placed_member c m mac at =
     let place : option_map spot_of (option_and_then place_of_spot m.place) ≡ m.place =
-        ap (λ (o : Option Spot). option_map spot_of (option_and_then place_of_spot o)) at.1 ∙ ap (λ (o : Option Place). option_map spot_of o) at.2 ∙ sym at.1 in
+    ap (λ (o : Option Spot). option_map spot_of (option_and_then place_of_spot o)) at.1 ∙ ap (λ (o : Option Place). option_map spot_of o) at.2 ∙ sym at.1 in
     same_member c.mac m.mac (option_map spot_of (option_and_then place_of_spot m.place)) m.place (sym mac) place
 
 -- where each cell stands at a place of the program, the team's cells are the tidied ones
