@@ -34,7 +34,7 @@ word_local : Local word
 unfolding word
 word_local = local_bind token _ token_local (λ t. local_choose (is_word t) _ _ (local_pure t) (local_fault _))
 
-name_local : Local name
+pub name_local : Local name
 unfolding name
 name_local = local_bind word _ word_local (λ t. local_choose (nat_lt 1024 (length t.text)) _ _ (local_fault _) (local_pure t))
 

@@ -1,7 +1,11 @@
+pub mod Back
+pub mod Clauses
 pub mod Faults
 pub mod Following
 pub mod Kept
 pub mod Local
 pub mod Places
+pub mod PrintedEntries
 pub mod Ranges
+pub mod Rising
 pub mod Same

@@ -10,17 +10,17 @@ use Rattle.lf_def.specs.Document.{Document, document_of, document_from, parts_of
 use Rattle.lf_def.specs.Laws.{SaysTheSame, document_without_places, ComponentReadsAlike}
 use Rattle.lf_def.proofs.Places.{bare_doc, statements_follow, component_follows}
 
-abbrev document_at : DocParts → Document
+abbrev pub document_at : DocParts → Document
 document_at s = record { header = header_of s.header; rows = s.rows; regions = s.regions; groups = s.groups; components = s.components; blockages = s.blockages }
 
 -- where reading a text gives a document, its statements were read
-record Said (r : Result (Taken DocParts) ReadFault) (d : Document) : Type 0 where
+pub record Said (r : Result (Taken DocParts) ReadFault) (d : Document) : Type 0 where
   pub parts : DocParts
   pub rest : Lexed
   pub read : r ≡ taken parts rest
   pub gives : document_at parts ≡ d
 
-said : (r : Result (Taken DocParts) ReadFault) (d : Document) → document_from (value_of r) ≡ Ok d → Said r d
+pub said : (r : Result (Taken DocParts) ReadFault) (d : Document) → document_from (value_of r) ≡ Ok d → Said r d
 said (Err f) d e = absurd cc
 said (Ok t) d e = record { parts = t.value; rest = t.rest; read = refl; gives = ok_is (document_at t.value) d e }
   where

@@ -1,12 +1,14 @@
 -- What is true of reading DEF, whatever is read.
-use Rattle.std.specs.Prelude.{◌≡◌, ℕ, ◌+◌, ◌≤◌, ◌<◌, List, [], ◌∷◌, ◌++◌, map, length, take, Option, Some, None, Ok}
+use Rattle.std.specs.Prelude.{◌≡◌, ◌⊎◌, codes, true, ℕ, ◌+◌, ◌≤◌, ◌<◌, List, [], ◌∷◌, ◌++◌, map, length, take, Option, Some, None, Ok}
 use Rattle.std.specs.Option.{option_map}
 use Rattle.lf_lex.specs.Tokens.{Lexed, Lexeme, plain, tokens_of, with_tokens}
-use Rattle.lf_lex.specs.Reading.{taken, behind, block}
+use Rattle.lf_orient.specs.declared.Orient.{Orient}
+use Rattle.lf_lex.specs.Reading.{taken, behind, block, is}
 use Rattle.lf_def.specs.declared.components.Component.{Component}
 use Rattle.lf_def.specs.declared.components.Placement.{Placement}
 use Rattle.lf_def.specs.declared.parts.DocParts.{DocParts}
-use Rattle.lf_def.specs.Components.{component}
+use Rattle.lf_def.specs.Coordinates.{orient_of}
+use Rattle.lf_def.specs.Components.{component, is_placement_word}
 use Rattle.lf_def.specs.Document.{Document, document_of, statement, no_parts, document_from}
 
 -- Where things stand in the text is left out.
@@ -35,3 +37,66 @@ SaysTheSame a b = map plain (tokens_of a).tokens ≡ map plain (tokens_of b).tok
 abbrev pub EndsBefore : List ℕ → Type 0
 EndsBefore text = (read : List Lexeme) (t : Lexeme) (unread : List Lexeme) (parts : DocParts) → (tokens_of text).tokens ≡ read ++ t ∷ unread
     → block statement no_parts (tokens_of text) ≡ taken parts (behind (t ∷ unread) (tokens_of text)) → (bytes : List ℕ) → document_of (take t.start text ++ bytes) ≡ document_of text
+
+-- Where placement clauses stand.
+
+-- ( x y ) orient
+abbrev pub IsPlace : List Lexeme → Type 0
+IsPlace (start ∷ x ∷ y ∷ stop ∷ o ∷ []) = (is (codes "(") start ≡ true) × (is (codes ")") stop ≡ true) × ((orient : Orient) × (orient_of o ≡ Ok orient))
+IsPlace _ = ⊥
+
+-- the last of these tokens ends there
+abbrev pub LastEnds : ℕ → Lexeme → List Lexeme → Type 0
+LastEnds stop t [] = t.stop ≡ stop
+LastEnds stop t (u ∷ us) = LastEnds stop u us
+
+-- The tokens of a placement clause: its plus, its word, and a place, which UNPLACED may lack. The clause runs from the first byte of its plus to the last byte of its last token.
+pub record IsClause (p : Placement) (clause : List Lexeme) : Type 0 where
+  pub plus : Lexeme
+  pub word : Lexeme
+  pub more : List Lexeme
+  pub tokens : clause ≡ plus ∷ word ∷ more
+  pub plus_is : is (codes "+") plus ≡ true
+  pub word_is : is_placement_word word ≡ true
+  pub more_is : ((is (codes "UNPLACED") word ≡ true) × (more ≡ [])) ⊎ IsPlace more
+  pub start : p.start ≡ plus.start
+  pub stop : LastEnds p.stop word more
+
+-- the clause stands among these tokens
+pub record ClauseAmong (tokens : List Lexeme) (p : Placement) : Type 0 where
+  pub before : List Lexeme
+  pub clause : List Lexeme
+  pub after : List Lexeme
+  pub whole : tokens ≡ before ++ (clause ++ after)
+  pub is : IsClause p clause
+
+-- so does the clause of a component that has one
+abbrev pub HasClause : List Lexeme → Option Placement → Type 0
+HasClause tokens None = Unit {0}
+HasClause tokens (Some p) = ClauseAmong tokens p
+
+-- A component's tokens: its placement clause stands among them, and its semicolon is the last.
+pub record IsComponentOf (tokens : List Lexeme) (c : Component) : Type 0 where
+  pub front : List Lexeme
+  pub last : Lexeme
+  pub whole : tokens ≡ front ++ last ∷ []
+  pub last_is : is (codes ";") last ≡ true
+  pub semicolon : c.semicolon ≡ last.start
+  pub clause : HasClause front c.placement
+
+abbrev pub ComponentsStand : Type 0
+ComponentsStand = (l m : Lexed) (c : Component) → component l ≡ taken c m → (run : List Lexeme) × (l ≡ with_tokens run m) × IsComponentOf run c
+
+-- a placement clause from one place on and up to another
+abbrev pub ClauseWithin : ℕ → ℕ → Option Placement → Type 0
+ClauseWithin from to None = Unit {0}
+ClauseWithin from to (Some p) = (from ≤ p.start) × (p.start < p.stop) × (p.stop ≤ to)
+
+-- components one behind the other, from one place on and up to another, each with its clause before its semicolon
+abbrev pub Rising : ℕ → ℕ → List Component → Type 0
+Rising from to [] = from ≤ to
+Rising from to (c ∷ cs) = (from ≤ c.semicolon) × ClauseWithin from c.semicolon c.placement × Rising (c.semicolon + 1) to cs
+
+-- The components of a document stand in its text in their order.
+abbrev pub ComponentsRise : List ℕ → Type 0
+ComponentsRise text = (d : Document) → document_of text ≡ Ok d → Rising 0 (length text) d.components

@@ -7,6 +7,7 @@ pub mod Entries
 pub mod Groups
 pub mod Header
 pub mod Laws
+pub mod Printed
 pub mod Ranges
 pub mod Regions
 pub mod Rows

@@ -23,7 +23,8 @@ pub use document::DefDoc;
 pub use groups::Group;
 pub use header::Header;
 pub use laws::{
-    nothing_behind_end_design_counts, statements_read_alike, statements_take_tokens,
+    clauses_stand_in_components, components_rise, nothing_behind_end_design_counts,
+    printed_entries_read_back, statements_read_alike, statements_take_tokens,
     the_same_tokens_say_the_same,
 };
 pub use regions::{Region, RegionKind};

@@ -13,3 +13,4 @@ pub mod VerbBack
 pub mod Standing
 pub mod Tidying
 pub mod VerbLegal
+pub mod VerbRows

@@ -1,30 +1,25 @@
 -- When the cells of a team stand at team-legal places.
-use Rattle.std.proofs.Common.{◌≡◌, ◌≢◌, ℕ, zero, suc, ◌+◌, ◌<◌, List, [], ◌∷◌, Bool, true, false, not, cond, eqb, length, map, filter, get_or, Option, Some, None, ℤ, negsuc, ◌<ℤ◌, refl, ap, sym, ◌∙◌, subst, arith}
-use Rattle.std.specs.Prelude.{All, slice_get, slice_set, position, bytes_eq, is_none, filter_map, option_map, option_and_then, MatchOption}
-use Rattle.std.specs.List.{range_with_len, position_from, cons_option}
+use Rattle.std.proofs.Common.{◌≡◌, ◌≢◌, ℕ, zero, suc, ◌+◌, ◌<◌, List, [], ◌∷◌, not, cond, eqb, length, map, filter, Option, Some, None, negsuc, ◌<ℤ◌, refl, ap, sym, ◌∙◌, subst, arith}
+use Rattle.std.specs.Prelude.{All, slice_get, bytes_eq, option_map, option_and_then, MatchOption}
+use Rattle.std.specs.List.{position_from}
 use Rattle.std.proofs.lemmas.Bool.{eq-eqb}
 use Rattle.std.proofs.lemmas.Iterator.Adapters.{position_from-zero}
-use Rattle.std.proofs.lemmas.List.Elements.{All-map}
 use Rattle.std.proofs.lemmas.List.Quantifiers.{position-Some}
 use Rattle.std.proofs.lemmas.Option.{slice_get-map, slice_get_within, get_or_from_slice_get}
-use Rattle.lf_units.specs.declared.area.Point.{Point}
 use Rattle.lf_frame.specs.declared.frame.Frame.{Frame}
 use Rattle.lf_frame.specs.declared.place.Place.{Place}
 use Rattle.lf_frame.specs.Boxes.{IsSized, macro_of}
 use Rattle.lf_rules.specs.declared.rule.Broken.{Broken}
 use Rattle.lf_rules.specs.declared.rule.Placed.{Placed}
-use Rattle.lf_rules.specs.Legality.{IsTeamLegal}
-use Rattle.lf_rules.specs.Choice.{Spot, Lifted, spot_of, trial_at, IsLegalAt, IsChoice, IsBest, LegalInRange}
-use Rattle.lf_rules.specs.Legalizer.{Legalizer, IsVerdict}
+use Rattle.lf_rules.specs.Choice.{Spot, Lifted, spot_of, trial_at, IsLegalAt, LegalInRange}
+use Rattle.lf_rules.specs.Legalizer.{IsVerdict}
 use Rattle.lf_rules.specs.Team.{Member, with_box, boxes_from, boxes_beside, lifted_from, StandsLegal}
-use Rattle.lf_rules.specs.Tidy.{Tidied, Going, Stuck, target_of, sent_to, tidied_to, tidied_own, tidy_cell, tidied_from, tidied}
-use Rattle.lf_rules.proofs.TidyLemmas.{tidied_legal}
-use Rattle.lf_proto.specs.Requests.{in_def, place_at}
+use Rattle.lf_proto.specs.Requests.{in_def}
 use Rattle.lf_proto.proofs.Places.{place_at-some}
 use Rattle.lf_floor.specs.declared.cell.Cell.{Cell}
 use Rattle.lf_floor.specs.Teams.{Setting, IsSizedCell, cell_named, member_of, trial_of_cell, broken_at, broken_by}
 use Rattle.lf_floor.specs.Outcomes.{moved, working_at}
-use Rattle.lf_floor.specs.Verbs.{place_of_spot, lifted_cell, best_at, restored, places_in, broken_where, exchanged, as_committed, first_unplaced, BrokenCell, broken_cells}
+use Rattle.lf_floor.specs.Verbs.{place_of_spot, lifted_cell, broken_where}
 
 -- ---- cells by their position
 

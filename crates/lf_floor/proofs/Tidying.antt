@@ -1,5 +1,5 @@
 -- What tidying makes of a team's cells, and what a commit has tested.
-use Rattle.std.proofs.Common.{◌≡◌, ◌≢◌, ℕ, zero, suc, ◌+◌, ◌<◌, List, [], ◌∷◌, Bool, true, false, cond, length, map, get_or, Option, Some, None, refl, ap, sym, ◌∙◌, subst, arith}
+use Rattle.std.proofs.Common.{◌≡◌, ℕ, zero, suc, ◌+◌, ◌<◌, List, [], ◌∷◌, Bool, true, false, cond, length, map, Option, Some, None, refl, ap, sym, ◌∙◌, subst, arith}
 use Rattle.std.specs.Prelude.{All, slice_get, slice_set, is_none, filter_map, option_map, option_and_then, MatchOption}
 use Rattle.std.specs.List.{range_with_len, position_from, cons_option}
 use Rattle.std.proofs.lemmas.Iterator.Adapters.{position_from-zero}
@@ -19,7 +19,7 @@ use Rattle.lf_floor.specs.declared.cell.Cell.{Cell}
 use Rattle.lf_floor.specs.Teams.{Setting, IsSizedCell, member_of}
 use Rattle.lf_floor.specs.Outcomes.{working_at}
 use Rattle.lf_floor.specs.Verbs.{place_of_spot, lifted_cell, best_at, restored, places_in, broken_where, as_committed, first_unplaced, BrokenCell, broken_cells}
-use Rattle.lf_floor.proofs.Standing.{some_one, member_there, member_is, spot_is, place_is, sized_at, stands_where}
+use Rattle.lf_floor.proofs.Standing.{some_one, member_there, place_is, sized_at, stands_where}
 
 none_some : {X : Type 0} {x : X} → None ≡ Some x → ⊥
 none_some e = cc

@@ -1,8 +1,7 @@
 -- What undo and revert bring back, and requests as verbs.
-use Rattle.std.proofs.Common.{◌≡◌, ℕ, zero, suc, ◌+◌, ◌-◌, ◌<◌, ◌≤◌, List, [], ◌∷◌, Bool, true, false, cond, eqb, ltb, map, take, length, Option, Some, None, refl, ap, sym, ◌∙◌, subst, arith}
+use Rattle.std.proofs.Common.{◌≡◌, ℕ, zero, suc, ◌<◌, ◌≤◌, List, [], ◌∷◌, Bool, true, cond, ltb, map, take, length, Option, Some, None, refl, ap, sym, ◌∙◌, subst, arith}
 use Rattle.std.proofs.lemmas.Bool.{eq-eqb, lt-ltb}
 use Rattle.lf_frame.specs.declared.place.Place.{Place}
-use Rattle.lf_frame.specs.declared.limits.Limits.{Limits}
 use Rattle.lf_rules.specs.Tidy.{Tidied, Stuck, tidied}
 use Rattle.lf_proto.specs.declared.request.Order.{Order}
 use Rattle.lf_proto.specs.declared.request.Order.TheVariants.{Open as Opens, Within as Asks}
@@ -14,10 +13,10 @@ use Rattle.lf_proto.specs.declared.reply.Refusal.TheVariants.{NoPlace, Revisions
 use Rattle.lf_floor.specs.declared.cell.Cell.{Cell}
 use Rattle.lf_floor.specs.States.{TeamState}
 use Rattle.lf_floor.specs.Teams.{Setting, member_of}
-use Rattle.lf_floor.specs.Outcomes.{Outcome, refused, changed, with_entry, places_of, moved, seen_at, after_change, if_left, if_open, outcome_of}
-use Rattle.lf_floor.specs.Verbs.{TeamVerb, Open, Within, SessionVerb, Close, Sync, Where, Find, Changing, ChangeVerb, PlaceAt, Legalize, Tidy, Unplace, Swap, Undo, Commit, Revert, restored, recorded, places_in, exchanged, reverted, undone, undone_by, tidied_by, tidied_team, back_to_committed, as_committed, outcome_of_change, unless_spent, unless_stale, outcome_within, outcome_by_slot, outcome_of_verb}
+use Rattle.lf_floor.specs.Outcomes.{Outcome, refused, with_entry, places_of, seen_at, after_change, if_left, if_open, outcome_of}
+use Rattle.lf_floor.specs.Verbs.{TeamVerb, Open, Within, Close, Sync, Where, Find, Changing, ChangeVerb, Tidy, Undo, Commit, Revert, restored, recorded, places_in, reverted, undone, undone_by, tidied_by, tidied_team, back_to_committed, as_committed, outcome_of_change, unless_spent, outcome_by_slot, outcome_of_verb}
 use Rattle.lf_floor.specs.VerbLaws.{MayChange, Leads, HasSeen, verb_of, verb_of_change, is_accepted, is_recorded, is_commit, outcome_of_asking}
-use Rattle.lf_floor.proofs.VerbCases.{VerbLeaves, verb_by, asking}
+use Rattle.lf_floor.proofs.VerbCases.{verb_by, asking}
 use Rattle.lf_floor.proofs.VerbKept.{moved_part, restored_part, exchanged_part, back_part, same_length, false_true}
 
 -- ---- a session that may change

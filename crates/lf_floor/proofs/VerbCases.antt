@@ -1,6 +1,6 @@
 -- One case analysis of what a verb comes to, for every law about it.
-use Rattle.std.proofs.Common.{◌≡◌, ℕ, ◌+◌, ◌<◌, List, [], ◌∷◌, Bool, true, false, cond, eqb, ltb, Option, Some, None, map, refl, sym, ◌∙◌, ap, subst}
-use Rattle.std.specs.Prelude.{position, is_none, slice_get}
+use Rattle.std.proofs.Common.{◌≡◌, ℕ, ◌+◌, List, [], ◌∷◌, Bool, true, false, cond, eqb, ltb, Option, Some, None, map, refl, ◌∙◌, ap}
+use Rattle.std.specs.Prelude.{position, is_none}
 use Rattle.std.proofs.lemmas.Bool.{eqb-true, ltb-true}
 use Rattle.lf_units.specs.declared.area.Point.{Point}
 use Rattle.lf_frame.specs.declared.place.Place.{Place}
@@ -10,12 +10,11 @@ use Rattle.lf_rules.specs.Tidy.{Tidied, Going, Stuck, tidied}
 use Rattle.lf_proto.specs.declared.reply.Reply.TheVariants.{Done, Revision, At, Legalized, Tidied as TidyDone, Refused}
 use Rattle.lf_proto.specs.declared.reply.Refusal.{Refusal}
 use Rattle.lf_proto.specs.declared.reply.Refusal.TheVariants.{NoSession, Stale, NoCell, Unplaced, Illegal, NoPlace, NothingToUndo, RevisionsSpent, SessionsFull}
-use Rattle.lf_floor.specs.declared.cell.Cell.{Cell}
 use Rattle.lf_floor.specs.States.{TeamState}
 use Rattle.lf_floor.specs.Teams.{Setting, cell_named, member_of, broken_at}
 use Rattle.lf_floor.specs.Outcomes.{Outcome, is_short, refused, changed, with_slot, seen_at, moved, working_at, opened, opened_at, located, located_own, located_at, placed, placed_own, placed_unless, unplaced, unplaced_own, unplaced_from}
-use Rattle.lf_floor.specs.Verbs.{TeamVerb, Open, Within, SessionVerb, Close, Sync, Where, Find, Changing, ChangeVerb, PlaceAt, Legalize, Tidy, Unplace, Swap, Undo, Commit, Revert, closed, synced, best_at, found, found_own, found_at, recorded, telling, legalized, legalized_own, legalized_at, restored, places_in, tidied_by, tidied_team, broken_where, exchanged, swapped_unless, swapped_to, swapped_from, swapped_own, swapped, back_to_committed, reverted, undone_by, undone, first_unplaced, BrokenCell, broken_cells, as_committed, committed_unless, committed, outcome_of_change, unless_spent, unless_stale, outcome_within, outcome_by_slot, outcome_of_verb}
-use Rattle.lf_floor.specs.VerbLaws.{MayChange, outcome_of_asking}
+use Rattle.lf_floor.specs.Verbs.{TeamVerb, Open, Within, SessionVerb, Close, Sync, Where, Find, Changing, ChangeVerb, PlaceAt, Legalize, Tidy, Unplace, Swap, Undo, Commit, Revert, closed, synced, best_at, found, found_own, found_at, recorded, telling, legalized, legalized_own, legalized_at, restored, places_in, tidied_by, tidied_team, broken_where, exchanged, swapped_unless, swapped_from, swapped_own, swapped, back_to_committed, reverted, undone_by, undone, first_unplaced, BrokenCell, broken_cells, as_committed, committed_unless, committed, outcome_of_change, unless_spent, unless_stale, outcome_within, outcome_by_slot, outcome_of_verb}
+use Rattle.lf_floor.specs.VerbLaws.{MayChange}
 
 -- the session asks this change
 abbrev pub asking : ℕ → ChangeVerb → TeamVerb

@@ -1,6 +1,6 @@
 -- What a verb leaves as it was, and what a change counts.
-use Rattle.std.proofs.Common.{◌≡◌, ◌≢◌, ℕ, zero, suc, ◌+◌, ◌<◌, List, [], ◌∷◌, Bool, true, false, length, set, map, get_or, Option, Some, None, refl, ap, sym, ◌∙◌, subst, arith}
-use Rattle.std.specs.Prelude.{All, slice_set, slice_index_or}
+use Rattle.std.proofs.Common.{◌≡◌, ◌≢◌, ℕ, zero, suc, ◌+◌, List, [], ◌∷◌, true, false, length, map, get_or, Option, Some, None, refl, ap, sym, ◌∙◌}
+use Rattle.std.specs.Prelude.{slice_set}
 use Rattle.std.proofs.lemmas.List.{length-set, length-map}
 use Rattle.lf_frame.specs.declared.frame.Frame.{Frame}
 use Rattle.lf_frame.specs.declared.place.Place.{Place}
@@ -11,9 +11,9 @@ use Rattle.lf_floor.specs.declared.cell.Cell.{Cell}
 use Rattle.lf_floor.specs.States.{TeamState}
 use Rattle.lf_floor.specs.Teams.{Setting, IsSizedCell, IsTeamOf}
 use Rattle.lf_floor.specs.Outcomes.{Outcome, is_short, refused, changed, moved, working_at, seen_at}
-use Rattle.lf_floor.specs.Verbs.{TeamVerb, Open, Within, SessionVerb, Close, Sync, Where, Find, Changing, ChangeVerb, Commit, restored, exchanged, back_to_committed, as_committed, places_in, outcome_of_verb}
-use Rattle.lf_floor.specs.VerbLaws.{MayChange, IsCounted, CountsOne, KeepsCells, is_accepted, is_granted, is_change, is_commit, committed_places, told_revision}
-use Rattle.lf_floor.proofs.VerbCases.{VerbLeaves, verb_by, asking}
+use Rattle.lf_floor.specs.Verbs.{TeamVerb, Open, Within, Close, Sync, Where, Find, Changing, restored, exchanged, back_to_committed, as_committed, places_in, outcome_of_verb}
+use Rattle.lf_floor.specs.VerbLaws.{MayChange, CountsOne, KeepsCells, is_accepted, is_granted, is_change, is_commit, committed_places, told_revision}
+use Rattle.lf_floor.proofs.VerbCases.{verb_by}
 
 -- ---- refusals
 

@@ -1,19 +1,19 @@
 -- After an accepted place, legalize, swap, tidy or commit the cells are team-legal.
-use Rattle.std.proofs.Common.{◌≡◌, ◌≢◌, ◌⊎◌, inl, inr, ℕ, zero, suc, ◌+◌, ◌<◌, List, [], ◌∷◌, Bool, true, false, length, map, get_or, Option, Some, None, refl, ap, sym, ◌∙◌, subst, arith}
+use Rattle.std.proofs.Common.{◌≡◌, ◌≢◌, ◌⊎◌, inl, inr, ℕ, List, true, map, get_or, Option, Some, None, refl, ap, sym, ◌∙◌, subst}
 use Rattle.std.specs.Prelude.{All, slice_get, option_and_then}
 use Rattle.std.proofs.lemmas.Bool.Decides.{eqb_tells}
 use Rattle.lf_units.specs.declared.area.Point.{Point}
 use Rattle.lf_frame.specs.declared.place.Place.{Place}
-use Rattle.lf_rules.specs.Choice.{spot_of, LegalInRange}
+use Rattle.lf_rules.specs.Choice.{LegalInRange}
 use Rattle.lf_rules.specs.Team.{StandsLegal}
 use Rattle.lf_proto.specs.declared.reply.Refusal.{Refusal}
 use Rattle.lf_floor.specs.declared.cell.Cell.{Cell}
 use Rattle.lf_floor.specs.States.{TeamState}
 use Rattle.lf_floor.specs.Teams.{Setting, IsSizedCell, IsTeamOf, cell_named, member_of, broken_at}
 use Rattle.lf_floor.specs.Outcomes.{Outcome, refused, moved, working_at}
-use Rattle.lf_floor.specs.Verbs.{TeamVerb, Open, Within, SessionVerb, Close, Sync, Where, Find, Changing, ChangeVerb, PlaceAt, Legalize, Tidy, Unplace, Swap, Undo, Commit, Revert, best_at, broken_where, exchanged, outcome_of_verb}
+use Rattle.lf_floor.specs.Verbs.{TeamVerb, Open, Within, Close, Sync, Where, Find, Changing, ChangeVerb, PlaceAt, Legalize, Tidy, Swap, Commit, best_at, broken_where, exchanged, outcome_of_verb}
 use Rattle.lf_floor.specs.VerbLaws.{HasLegal, AreLegal, is_accepted}
-use Rattle.lf_floor.proofs.VerbCases.{VerbLeaves, verb_by, asking}
+use Rattle.lf_floor.proofs.VerbCases.{verb_by}
 use Rattle.lf_floor.proofs.VerbKept.{moved_part, exchanged_part, mac_at, same_length, sized_as, false_true}
 use Rattle.lf_floor.proofs.Standing.{named_there, named_alike, working_is, moved_here, moved_there, sized_at, unbroken, stands_moved, stands_where}
 use Rattle.lf_floor.proofs.Tidying.{tidied_stand, best_legal, committed_stand}

@@ -7,3 +7,4 @@ pub mod Designs
 pub mod Laws
 pub mod Verbs
 pub mod VerbLaws
+pub mod VerbRows

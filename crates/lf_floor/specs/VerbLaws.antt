@@ -19,7 +19,7 @@ use Rattle.lf_floor.specs.declared.cell.Cell.{Cell}
 use Rattle.lf_floor.specs.States.{TeamState}
 use Rattle.lf_floor.specs.Teams.{Setting, IsTeamOf, cell_named, member_of}
 use Rattle.lf_floor.specs.Outcomes.{Outcome, is_short, refused, places_of, seen_at, outcome_of}
-use Rattle.lf_floor.specs.Verbs.{TeamVerb, Open, Within, SessionVerb, Close, Sync, Where, Find, Changing, ChangeVerb, PlaceAt, Legalize, Tidy, Unplace, Swap, Undo, Commit, Revert, lifted_cell, best_at, outcome_of_verb}
+use Rattle.lf_floor.specs.Verbs.{TeamVerb, Open, Within, SessionVerb, Where, Changing, ChangeVerb, PlaceAt, Legalize, Tidy, Unplace, Swap, Undo, Commit, Revert, lifted_cell, best_at, outcome_of_verb}
 
 -- what a change comes to that a session asks
 abbrev pub outcome_of_asking : Setting → ℕ → ChangeVerb → TeamState → Outcome
@@ -41,7 +41,7 @@ pub record MayChange (t : Setting) (session : ℕ) (s : TeamState) : Type 0 wher
 
 -- ---- refusals
 
--- memory plays no part in the rules
+-- no verb comes to OutOfMemory: memory plays no part in the rules
 abbrev pub NeverOutOfMemory : Type 0
 NeverOutOfMemory = (t : Setting) (verb : TeamVerb) (s : TeamState) → is_short (outcome_of_verb t verb s).reply ≡ false
 
@@ -79,6 +79,7 @@ pub record CountsOne (t : Setting) (session : ℕ) (old : TeamState) (o : Outcom
   pub allowed : MayChange t session old
   pub counts : IsCounted session old o
 
+-- an accepted change counts one more revision
 abbrev pub ChangeCounts : Type 0
 ChangeCounts =
     (t : Setting) (session : ℕ) (change : ChangeVerb) (s : TeamState)
@@ -199,10 +200,12 @@ VerbKeepsTeam = (t : Setting) (verb : TeamVerb) (s : TeamState) → IsTeamOf t.f
 
 -- ---- requests and verbs
 
+-- the verb of a change
 abbrev pub verb_of_change : Change (List ℕ) Place → ChangeVerb
 verb_of_change (Places cell place) = PlaceAt cell place
 verb_of_change (Unplaces cell) = Unplace cell
 
+-- the verb of what a session asks
 abbrev pub verb_of_action : Action (List ℕ) Place → SessionVerb
 verb_of_action (AsksWhere cell) = Where cell
 verb_of_action (Changes change) = Changing (verb_of_change change)

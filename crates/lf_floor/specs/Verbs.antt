@@ -1,10 +1,14 @@
 -- What each verb of the command table comes to: the reply, and the team afterwards.
-use Rattle.std.specs.Prelude.{◌≡◌, ℕ, ◌+◌, ◌<◌, List, [], ◌∷◌, Option, Some, None, Bool, nat_lt, ◌==◌, position, is_none, map, filter_map, length, slice_get, option_map, option_and_then, if◌then◌else◌}
+--
+-- A verb is refused by the first of these that holds: no session slot is free (open), or the session is not open (any
+-- other verb); for a change, the session has not seen the team's revision, and then no revision is left; the team has no
+-- cell of a name, the first before the second; a cell is unplaced, the first before the second (where, unplace, swap,
+-- commit); a place breaks a rule (place, swap, commit); a cell has no best place (find, legalize, tidy); there is no undo
+-- entry (undo).
+use Rattle.std.specs.Prelude.{ℕ, ◌+◌, List, [], ◌∷◌, Option, Some, None, nat_lt, ◌==◌, position, is_none, map, filter_map, length, slice_get, option_map, option_and_then, if◌then◌else◌}
 use Rattle.std.specs.List.{range_with_len}
 use Rattle.lf_units.specs.declared.area.Point.{Point}
 use Rattle.lf_frame.specs.declared.place.Place.{Place}
-use Rattle.lf_frame.specs.declared.limits.Limits.{Limits}
-use Rattle.lf_frame.specs.Boxes.{macro_of}
 use Rattle.lf_rules.specs.declared.rule.Broken.{Broken}
 use Rattle.lf_rules.specs.Choice.{Spot, Lifted}
 use Rattle.lf_rules.specs.Team.{Member, lifted_from}
@@ -12,7 +16,7 @@ use Rattle.lf_rules.specs.Tidy.{Tidied, Going, Stuck, tidied}
 use Rattle.lf_proto.specs.Numbers.{◌>>=◌}
 use Rattle.lf_proto.specs.Requests.{place_at}
 use Rattle.lf_proto.specs.declared.reply.Reply.{Reply}
-use Rattle.lf_proto.specs.declared.reply.Reply.TheVariants.{Done, Revision, At, Legalized, Tidied as TidyDone, Refused}
+use Rattle.lf_proto.specs.declared.reply.Reply.TheVariants.{Done, Revision, At, Legalized, Tidied as TidyDone}
 use Rattle.lf_proto.specs.declared.reply.Refusal.TheVariants.{NoSession, Stale, NoCell, Unplaced, Illegal, NoPlace, NothingToUndo, RevisionsSpent}
 use Rattle.lf_floor.specs.declared.cell.Cell.{Cell}
 use Rattle.lf_floor.specs.States.{TeamState}
@@ -72,10 +76,12 @@ best_at t cells own target = do
   best ← t.legalizer.best_place (lifted_cell t cells own c) target
   place_of_spot best
 
+-- the cell has this best place, or none
 abbrev pub found_at : Option Place → ℕ → TeamState → Outcome
 found_at None own s = refused (NoPlace own) s
 found_at (Some place) own s = record { reply = At place; team = s }
 
+-- the cell is the one of this position, or none of the team's
 abbrev pub found_own : Option ℕ → Setting → Point → TeamState → Outcome
 found_own None t target s = refused NoCell s
 found_own (Some own) t target s = found_at (best_at t s.cells own target) own s
@@ -94,11 +100,13 @@ recorded t session cells s = changed session cells (with_entry t.frame.limits s)
 abbrev pub telling : Reply → Outcome → Outcome
 telling reply o = record o { reply = reply }
 
+-- the cell goes to this place, and the reply tells it; or the cell has no place
 abbrev pub legalized_at : Option Place → Setting → ℕ → ℕ → TeamState → Outcome
 legalized_at None t session own s = refused (NoPlace own) s
 legalized_at (Some place) t session own s =
     telling (Legalized (s.revision + 1) place) (recorded t session (moved s.cells own (Some place)) s)
 
+-- the cell is the one of this position, or none of the team's
 abbrev pub legalized_own : Option ℕ → Setting → ℕ → Point → TeamState → Outcome
 legalized_own None t session target s = refused NoCell s
 legalized_own (Some own) t session target s = legalized_at (best_at t s.cells own target) t session own s
@@ -117,6 +125,7 @@ restored (place ∷ places) (c ∷ cells) = record c { working = place } ∷ res
 abbrev pub places_in : List Member → List (Option Place)
 places_in members = map (λ m. option_and_then place_of_spot m.place) members
 
+-- the cells stand where tidying has them, and the reply tells how many went to their best place; or one has none
 abbrev pub tidied_by : Tidied → Setting → ℕ → TeamState → Outcome
 tidied_by (Stuck own) t session s = refused (NoPlace own) s
 tidied_by (Going members count) t session s =
@@ -136,21 +145,24 @@ broken_where t cells own = do
 abbrev pub exchanged : List Cell → ℕ → ℕ → List Cell
 exchanged cells first second = moved (moved cells first (working_at cells second)) second (working_at cells first)
 
+-- the first cell's broken rule, else the second's, else the cells exchanged
 abbrev pub swapped_unless : Option Broken → Option Broken → Setting → ℕ → ℕ → ℕ → List Cell → TeamState → Outcome
 swapped_unless (Some broken) other t session first second cells s = refused (Illegal broken.rule first broken.other) s
 swapped_unless None (Some broken) t session first second cells s = refused (Illegal broken.rule second broken.other) s
 swapped_unless None None t session first second cells s = recorded t session cells s
 
--- both stand where the other one stood, and the first is tested before the second
+-- each cell is tested among the cells as they stand after the exchange
 abbrev pub swapped_to : List Cell → Setting → ℕ → ℕ → ℕ → TeamState → Outcome
 swapped_to cells t session first second s =
     swapped_unless (broken_where t cells first) (broken_where t cells second) t session first second cells s
 
+-- both cells are placed, or the first unplaced one of them is named
 abbrev pub swapped_from : Option Place → Option Place → Setting → ℕ → ℕ → ℕ → TeamState → Outcome
 swapped_from None place t session first second s = refused (Unplaced first) s
 swapped_from (Some place) None t session first second s = refused (Unplaced second) s
 swapped_from (Some place) (Some other) t session first second s = swapped_to (exchanged s.cells first second) t session first second s
 
+-- both cells are the team's, or one is not
 abbrev pub swapped_own : Option ℕ → Option ℕ → Setting → ℕ → TeamState → Outcome
 swapped_own None other t session s = refused NoCell s
 swapped_own (Some first) None t session s = refused NoCell s
@@ -171,6 +183,7 @@ reverted t session s = recorded t session (map back_to_committed s.cells) s
 
 -- ---- changes that cannot be undone
 
+-- the newest entry's places are the working places, and the later entries are left; or there is none
 abbrev pub undone_by : List (List (Option Place)) → ℕ → TeamState → Outcome
 undone_by [] session s = refused NothingToUndo s
 undone_by (places ∷ entries) session s = changed session (restored places s.cells) entries s
@@ -197,6 +210,7 @@ broken_cells t cells =
 abbrev pub as_committed : Cell → Cell
 as_committed c = record c { committed = c.working }
 
+-- the first unplaced cell, else the first that breaks a rule, else the places are committed
 abbrev pub committed_unless : Option ℕ → List BrokenCell → ℕ → TeamState → Outcome
 committed_unless (Some own) illegal session s = refused (Unplaced own) s
 committed_unless None (first ∷ others) session s = refused (Illegal first.broken.rule first.own first.broken.other) s
@@ -208,6 +222,7 @@ committed t session s = committed_unless (first_unplaced s.cells) (broken_cells 
 
 -- ---- which is asked
 
+-- which change is asked
 abbrev pub outcome_of_change : Setting → ℕ → ChangeVerb → TeamState → Outcome
 outcome_of_change t session (PlaceAt name place) s = placed t session name place s
 outcome_of_change t session (Legalize name target) s = legalized t session name target s
@@ -227,6 +242,7 @@ unless_spent t session change s =
 abbrev pub unless_stale : ℕ → Setting → ℕ → ChangeVerb → TeamState → Outcome
 unless_stale seen t session change s = if seen == s.revision then unless_spent t session change s else refused (Stale s.revision) s
 
+-- what is asked by a session that has seen this revision
 abbrev pub outcome_within : ℕ → Setting → ℕ → SessionVerb → TeamState → Outcome
 outcome_within seen t session Close s = closed session s
 outcome_within seen t session Sync s = synced session s
@@ -234,6 +250,7 @@ outcome_within seen t session (Where name) s = located name s
 outcome_within seen t session (Find name target) s = found t name target s
 outcome_within seen t session (Changing change) s = unless_stale seen t session change s
 
+-- the session is open, and has seen this revision, or it is not
 abbrev pub outcome_by_slot : Option ℕ → Setting → ℕ → SessionVerb → TeamState → Outcome
 outcome_by_slot None t session verb s = refused NoSession s
 outcome_by_slot (Some seen) t session verb s = outcome_within seen t session verb s

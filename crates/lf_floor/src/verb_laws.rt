@@ -1,6 +1,7 @@
 //! Laws on what the verbs of the command table come to.
 
 ghost use Rattle.lf_floor.specs.VerbLaws.{NeverOutOfMemory, RefusalKeeps, StuckTidyKeeps, ChangeCounts, LookKeeps, UndoBringsBack, RevertAfterCommitKeeps, OnlyCommitCommits, BestIsFound, TidyMakesLegal, CommitFindsLegal, PlaceMakesLegal, LegalizeMakesLegal, SwapMakesLegal, VerbKeepsTeam, OrderIsVerb};
+ghost use Rattle.lf_floor.specs.VerbRows.{VerbRows};
 
 use lf_rules::legal_in_range;
 
@@ -94,4 +95,9 @@ pub fn verb_keeps_team()
 /// An order comes to what its verb comes to, where its session is not stale.
 pub fn order_is_verb()
     ensures { OrderIsVerb }
+{}
+
+/// What verbs come to on a team of three cells, by what the legalizer finds.
+pub fn verb_rows()
+    ensures { VerbRows }
 {}

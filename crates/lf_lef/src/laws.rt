@@ -43,10 +43,14 @@ pub fn nothing_behind_end_library_counts()
 /// Of several statements of one kind the first stands, and every PIN and RECT counts; of several sites or
 /// macros of one name the first stands, in one text or several.
 pub fn first_of_each_kind_stands()
-    ensures site { (name : List ℕ) (old new : SiteParts) (l m : Lexed) → block (site_statement name) old l ≡ taken new m → SiteStands old new }
-    ensures pin { (name : List ℕ) (old new : Pin) (l m : Lexed) → block (pin_statement name) old l ≡ taken new m → PinStands old new }
-    ensures cell { (name : List ℕ) (old new : MacroParts) (l m : Lexed) → block (macro_statement name) old l ≡ taken new m → MacroStands old new }
-    ensures text { (old new : Contents) (l m : Lexed) → library old l ≡ taken new m → BeginsWith old new }
+    ensures site { (name : List ℕ) (old new : SiteParts) (l m : Lexed)
+        → block (site_statement name) old l ≡ taken new m → SiteStands old new }
+    ensures pin { (name : List ℕ) (old new : Pin) (l m : Lexed)
+        → block (pin_statement name) old l ≡ taken new m → PinStands old new }
+    ensures cell { (name : List ℕ) (old new : MacroParts) (l m : Lexed)
+        → block (macro_statement name) old l ≡ taken new m → MacroStands old new }
+    ensures text { (old new : Contents) (l m : Lexed)
+        → library old l ≡ taken new m → BeginsWith old new }
 {}
 
 /// Statements that are passed over play no part, however many there are.

@@ -11,7 +11,8 @@ use lf_units::{Point, read_fixed};
 
 /// The length that a token writes, else BadNumber.
 fn micros_of(token: &Token) -> Result<i64, ReadError>
-    ensures read { MatchResult result (λ x. grammar.micros_of (lexeme token.now) ≡ Ok x) (λ e. Fails e (grammar.micros_of (lexeme token.now))) }
+    ensures read { MatchResult result (λ x. grammar.micros_of (lexeme token.now) ≡ Ok x)
+        (λ e. Fails e (grammar.micros_of (lexeme token.now))) }
     ensures range { IfOk result (λ x. IsInRange x) }
 {
     match read_fixed(token.text, 6, 1_000_000_000_000) {
@@ -33,7 +34,8 @@ pub fn micros(lexer: &mut Lexer) -> Result<i64, ReadError>
 /// A point, of which the first token was read.
 #[tactic(auto, unfolding(crate::specs::Lengths::point_from))]
 pub fn point_from(lexer: &mut Lexer, token: &Token) -> Result<Point, ReadError>
-    ensures read { Reads (λ p. p) result (grammar.point_from (lexeme token.now)) lexer.old lexer.new }
+    ensures read { Reads (λ p. p) result
+        (grammar.point_from (lexeme token.now)) lexer.old lexer.new }
     ensures range { IfOk result (λ p. HasRange p) }
 {
     if is(b"(", token) {

@@ -31,7 +31,9 @@ impl Model for Library {
 
     ghost view = { λ l. record { sites = l.sites.items; macros = l.macros.items } };
 
-    ghost invariant = { λ l. (l.site_table ≡ site_names l.sites.items) × (l.macro_table ≡ macro_names l.macros.items) × AreSites l.sites.items × AreMacros l.macros.items };
+    ghost invariant = { λ l. (l.site_table ≡ site_names l.sites.items) ×
+        (l.macro_table ≡ macro_names l.macros.items) × AreSites l.sites.items × AreMacros
+        l.macros.items };
 }
 
 impl Library {
@@ -89,7 +91,8 @@ impl Library {
         requires site { IsSite site }
         requires fresh { position_of (site_names self.old.sites) site.name ≡ None }
         requires room { length self.old.sites < 1000000 }
-        ensures ok { OnOk result (self.new ≡ record self.old { sites = self.old.sites ++ site ∷ [] }) }
+        ensures ok { OnOk result
+            (self.new ≡ record self.old { sites = self.old.sites ++ site ∷ [] }) }
         ensures err { OnErr result (self.new ≡ self.old) }
     {
         push_site(&mut self.sites, &mut self.site_table, site)
@@ -100,7 +103,8 @@ impl Library {
         requires cell { IsMacro cell }
         requires fresh { position_of (macro_names self.old.macros) cell.name ≡ None }
         requires room { length self.old.macros < 1000000 }
-        ensures ok { OnOk result (self.new ≡ record self.old { macros = self.old.macros ++ cell ∷ [] }) }
+        ensures ok { OnOk result
+            (self.new ≡ record self.old { macros = self.old.macros ++ cell ∷ [] }) }
         ensures err { OnErr result (self.new ≡ self.old) }
     {
         push_macro(&mut self.macros, &mut self.macro_table, cell)
@@ -108,7 +112,8 @@ impl Library {
 
     /// Keeps the first sites and macros, so many of each. Takes no memory.
     pub(crate) fn truncate(&mut self, sites: usize, macros: usize)
-        ensures { self.new ≡ record { sites = take sites self.old.sites; macros = take macros self.old.macros } }
+        ensures { self.new ≡ record
+            { sites = take sites self.old.sites; macros = take macros self.old.macros } }
     {
         self.sites.truncate(sites);
         self.site_table.truncate(sites);

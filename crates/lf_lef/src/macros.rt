@@ -86,7 +86,8 @@ fn macro_statement_from(
     token: &Token,
 ) -> Result<bool, ReadError>
     requires range { HasRanges parts.old.size parts.old.origin }
-    ensures read { ReadsOn (turn parts.new) result (grammar.macro_statement_from name.now parts.old (lexeme token.now)) lexer.old lexer.new }
+    ensures read { ReadsOn (turn parts.new) result
+        (grammar.macro_statement_from name.now parts.old (lexeme token.now)) lexer.old lexer.new }
     ensures range { HasRanges parts.new.size parts.new.origin }
 {
     if is(b"END", token) {
@@ -119,7 +120,8 @@ fn macro_statement(
     parts: &mut MacroParts,
 ) -> Result<bool, ReadError>
     requires range { HasRanges parts.old.size parts.old.origin }
-    ensures read { Reads (turn parts.new) result (grammar.macro_statement name.now parts.old) lexer.old lexer.new }
+    ensures read { Reads (turn parts.new) result
+        (grammar.macro_statement name.now parts.old) lexer.old lexer.new }
     ensures range { HasRanges parts.new.size parts.new.origin }
 {
     let token = token(lexer)?;

@@ -48,7 +48,8 @@ fn past_mask<'a>(lexer: &mut Lexer<'a>, first: Token<'a>) -> Result<Token<'a>, R
 
 #[tactic(auto, unfolding(crate::specs::Pins::past_iterate))]
 fn past_iterate<'a>(lexer: &mut Lexer<'a>, first: Token<'a>) -> Result<Token<'a>, ReadError>
-    ensures { ReadsOn lexeme result (grammar.past_iterate (lexeme first.entry)) lexer.old lexer.new }
+    ensures { ReadsOn lexeme result
+        (grammar.past_iterate (lexeme first.entry)) lexer.old lexer.new }
 {
     if !is(b"ITERATE", &first) {
         return Ok(first);
@@ -87,7 +88,8 @@ fn port_statement_from(
     reaches: &mut Sequence<Reach>,
     token: &Token,
 ) -> Result<bool, ReadError>
-    ensures { ReadsOn (turn reaches.new) result (grammar.port_statement_from reaches.old (lexeme token.now)) lexer.old lexer.new }
+    ensures { ReadsOn (turn reaches.new) result
+        (grammar.port_statement_from reaches.old (lexeme token.now)) lexer.old lexer.new }
 {
     if is(b"END", token) {
         return Ok(false);
@@ -103,7 +105,8 @@ fn port_statement_from(
 
 #[tactic(auto, unfolding(crate::specs::Pins::port_statement))]
 fn port_statement(lexer: &mut Lexer, reaches: &mut Sequence<Reach>) -> Result<bool, ReadError>
-    ensures { Reads (turn reaches.new) result (grammar.port_statement reaches.old) lexer.old lexer.new }
+    ensures { Reads (turn reaches.new) result
+        (grammar.port_statement reaches.old) lexer.old lexer.new }
 {
     let token = token(lexer)?;
     port_statement_from(lexer, reaches, &token)
@@ -111,7 +114,8 @@ fn port_statement(lexer: &mut Lexer, reaches: &mut Sequence<Reach>) -> Result<bo
 
 /// A port behind its keyword: its rectangles go behind the others.
 fn port(lexer: &mut Lexer, reaches: &mut Sequence<Reach>) -> Result<(), ReadError>
-    ensures { Reads (λ _. reaches.new) result (block grammar.port_statement reaches.old) lexer.old lexer.new }
+    ensures { Reads (λ _. reaches.new) result
+        (block grammar.port_statement reaches.old) lexer.old lexer.new }
 {
     while port_statement(lexer, reaches)? {}
     Ok(())
@@ -138,7 +142,8 @@ fn pin_statement_from(
     pin: &mut Pin,
     token: &Token,
 ) -> Result<bool, ReadError>
-    ensures { ReadsOn (turn pin.new) result (grammar.pin_statement_from name.now pin.old (lexeme token.now)) lexer.old lexer.new }
+    ensures { ReadsOn (turn pin.new) result
+        (grammar.pin_statement_from name.now pin.old (lexeme token.now)) lexer.old lexer.new }
 {
     if is(b"END", token) {
         end_name(lexer, name)?;
@@ -157,14 +162,16 @@ fn pin_statement_from(
 
 #[tactic(auto, unfolding(crate::specs::Pins::pin_statement))]
 fn pin_statement(lexer: &mut Lexer, name: &[u8], pin: &mut Pin) -> Result<bool, ReadError>
-    ensures { Reads (turn pin.new) result (grammar.pin_statement name.now pin.old) lexer.old lexer.new }
+    ensures { Reads (turn pin.new) result
+        (grammar.pin_statement name.now pin.old) lexer.old lexer.new }
 {
     let token = token(lexer)?;
     pin_statement_from(lexer, name, pin, &token)
 }
 
 fn pin_body(lexer: &mut Lexer, name: &[u8], pin: &mut Pin) -> Result<(), ReadError>
-    ensures { Reads (λ _. pin.new) result (block (grammar.pin_statement name.now) pin.old) lexer.old lexer.new }
+    ensures { Reads (λ _. pin.new) result
+        (block (grammar.pin_statement name.now) pin.old) lexer.old lexer.new }
 {
     while pin_statement(lexer, name, pin)? {}
     Ok(())

@@ -45,7 +45,8 @@ pub fn one_word<'a>(lexer: &mut Lexer<'a>) -> Result<&'a [u8], ReadError>
 
 #[tactic(auto, unfolding(crate::specs::Sites::symmetry_word))]
 fn symmetry_word(lexer: &mut Lexer, symmetry: &mut Symmetry) -> Result<bool, ReadError>
-    ensures { Reads (turn symmetry.new) result (grammar.symmetry_word symmetry.old) lexer.old lexer.new }
+    ensures { Reads (turn symmetry.new) result
+        (grammar.symmetry_word symmetry.old) lexer.old lexer.new }
 {
     let token = token(lexer)?;
     if is(b";", &token) {
@@ -79,7 +80,8 @@ fn site_statement_from(
     token: &Token,
 ) -> Result<bool, ReadError>
     requires range { IfSome parts.old.size (λ p. HasRange p) }
-    ensures read { ReadsOn (turn parts.new) result (grammar.site_statement_from name.now parts.old (lexeme token.now)) lexer.old lexer.new }
+    ensures read { ReadsOn (turn parts.new) result
+        (grammar.site_statement_from name.now parts.old (lexeme token.now)) lexer.old lexer.new }
     ensures range { IfSome parts.new.size (λ p. HasRange p) }
 {
     if is(b"END", token) {
@@ -104,7 +106,8 @@ fn site_statement_from(
 #[tactic(auto, unfolding(crate::specs::Sites::site_statement))]
 fn site_statement(lexer: &mut Lexer, name: &[u8], parts: &mut SiteParts) -> Result<bool, ReadError>
     requires range { IfSome parts.old.size (λ p. HasRange p) }
-    ensures read { Reads (turn parts.new) result (grammar.site_statement name.now parts.old) lexer.old lexer.new }
+    ensures read { Reads (turn parts.new) result
+        (grammar.site_statement name.now parts.old) lexer.old lexer.new }
     ensures range { IfSome parts.new.size (λ p. HasRange p) }
 {
     let first = token(lexer)?;

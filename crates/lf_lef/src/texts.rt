@@ -19,7 +19,8 @@ use lf_units::Name;
 
 /// Where nothing has the name yet, there has to be room for one thing more, else TooMany.
 fn room_for(known: Option<usize>, count: usize, name: &Token) -> Result<(), ReadError>
-    ensures read { MatchResult result (λ x. grammar.room_for known count (lexeme name.now) ≡ Ok x) (λ e. Fails e (grammar.room_for known count (lexeme name.now))) }
+    ensures read { MatchResult result (λ x. grammar.room_for known count (lexeme name.now) ≡ Ok x)
+        (λ e. Fails e (grammar.room_for known count (lexeme name.now))) }
     ensures room { OnOk result (known ≡ None → count < 1000000) }
 {
     if known.is_none() && count >= 1_000_000 {
@@ -31,7 +32,8 @@ fn room_for(known: Option<usize>, count: usize, name: &Token) -> Result<(), Read
 /// SITE behind its keyword.
 #[tactic(auto, unfolding(crate::specs::Library::with_site))]
 fn site(library: &mut Library, lexer: &mut Lexer) -> Result<(), ReadError>
-    ensures read { Reads (λ _. library.new) result (grammar.with_site library.old) lexer.old lexer.new }
+    ensures read { Reads (λ _. library.new) result
+        (grammar.with_site library.old) lexer.old lexer.new }
     ensures kept { BeginsWith library.old library.new }
 {
     let name = name(lexer)?;
@@ -48,7 +50,8 @@ fn site(library: &mut Library, lexer: &mut Lexer) -> Result<(), ReadError>
 /// MACRO behind its keyword.
 #[tactic(auto, unfolding(crate::specs::Library::with_macro))]
 fn cell(library: &mut Library, lexer: &mut Lexer) -> Result<(), ReadError>
-    ensures read { Reads (λ _. library.new) result (grammar.with_macro library.old) lexer.old lexer.new }
+    ensures read { Reads (λ _. library.new) result
+        (grammar.with_macro library.old) lexer.old lexer.new }
     ensures kept { BeginsWith library.old library.new }
 {
     let name = name(lexer)?;
@@ -118,7 +121,8 @@ fn statement_from(
     lexer: &mut Lexer,
     token: &Token,
 ) -> Result<bool, ReadError>
-    ensures read { ReadsOn (turn library.new) result (grammar.statement_from library.old (lexeme token.now)) lexer.old lexer.new }
+    ensures read { ReadsOn (turn library.new) result
+        (grammar.statement_from library.old (lexeme token.now)) lexer.old lexer.new }
     ensures kept { BeginsWith library.old library.new }
 {
     if is(b"END", token) {
@@ -137,7 +141,8 @@ fn statement_from(
 
 #[tactic(auto, unfolding(crate::specs::Library::statement))]
 fn statement(library: &mut Library, lexer: &mut Lexer) -> Result<bool, ReadError>
-    ensures read { ReadsTurn (turn library.new) result (grammar.statement library.old) lexer.old lexer.new }
+    ensures read { ReadsTurn (turn library.new) result
+        (grammar.statement library.old) lexer.old lexer.new }
     ensures kept { BeginsWith library.old library.new }
 {
     match next(lexer)? {
@@ -164,7 +169,8 @@ fn read_statements(library: &mut Library, text: &[u8]) -> Result<(), ReadError>
 /// Unexpected, BadNumber, WrongEnd or TooMany; or OutOfMemory. The library is unchanged after it.
 pub fn read_lef<'a>(library: &mut Library, text: &'a [u8]) -> Result<(), LoadFault<'a>>
     ensures ok { OnOk result (grammar.library_after library.old text.now ≡ Ok library.new) }
-    ensures fault { IfErr result (λ fault. grammar.Refuses fault (grammar.library_after library.old text.now)) }
+    ensures fault { IfErr result
+        (λ fault. grammar.Refuses fault (grammar.library_after library.old text.now)) }
     ensures err { OnErr result (library.new ≡ library.old) }
 {
     let sites = library.sites().len();

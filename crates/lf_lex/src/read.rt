@@ -49,7 +49,10 @@ pub fn token<'a>(lexer: &mut Lexer<'a>) -> Result<Token<'a>, ReadError>
 
 /// The next token, or None at the end of the text.
 pub fn next<'a>(lexer: &mut Lexer<'a>) -> Result<Option<Token<'a>>, ReadError>
-    ensures { MatchResult result (λ t. (reading.next lexer.old ≡ taken (option_map lexeme t) lexer.new) × OnSome t (length lexer.new.tokens < length lexer.old.tokens)) (λ e. Fails e (reading.next lexer.old)) }
+    ensures { MatchResult result
+        (λ t. (reading.next lexer.old ≡ taken (option_map lexeme t) lexer.new) × OnSome t
+        (length lexer.new.tokens < length lexer.old.tokens)) (λ e. Fails e
+        (reading.next lexer.old)) }
 {
     match lexer.next_token() {
         Ok(token) => Ok(token),
@@ -156,7 +159,8 @@ pub fn to_semicolon(lexer: &mut Lexer) -> Result<(), ReadError>
 
 #[tactic(auto, unfolding(crate::specs::Reading::passed_to_end))]
 fn passed_to_end(lexer: &mut Lexer, due: &[u8], behind_end: &mut bool) -> Result<bool, ReadError>
-    ensures { Reads (turn behind_end.new) result (reading.passed_to_end due.now behind_end.old) lexer.old lexer.new }
+    ensures { Reads (turn behind_end.new) result
+        (reading.passed_to_end due.now behind_end.old) lexer.old lexer.new }
 {
     let token = token(lexer)?;
     if *behind_end && is(due, &token) {
@@ -167,7 +171,8 @@ fn passed_to_end(lexer: &mut Lexer, due: &[u8], behind_end: &mut bool) -> Result
 }
 
 fn up_to_end(lexer: &mut Lexer, due: &[u8]) -> Result<bool, ReadError>
-    ensures { Reads (λ x. x) result (reading.block (reading.passed_to_end due.now) false) lexer.old lexer.new }
+    ensures { Reads (λ x. x) result
+        (reading.block (reading.passed_to_end due.now) false) lexer.old lexer.new }
 {
     let mut behind_end = false;
     while passed_to_end(lexer, due, &mut behind_end)? {}

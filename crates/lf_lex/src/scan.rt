@@ -64,7 +64,8 @@ pub fn skip_blank(text: &[u8], start: usize, start_line: usize) -> (usize, usize
     ensures within { result.0 ≤ length text.now }
     ensures line { result.1 ≤ result.0 + 1 }
     ensures token { BeginsToken (drop result.0 text.now) }
-    ensures same { tokens_from 0 result.0 result.1 (drop result.0 text.now) ≡ tokens_from 0 start start_line (drop start text.now) }
+    ensures same { tokens_from 0 result.0 result.1 (drop result.0 text.now) ≡ tokens_from 0 start
+        start_line (drop start text.now) }
 {
     let mut at = start;
     let mut line = start_line;

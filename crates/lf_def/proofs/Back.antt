@@ -1,0 +1,131 @@
+-- Reading words back: from tokens with these bytes a reader gives this value, places apart, whatever stands behind.
+use Rattle.std.proofs.Common.{◌≡◌, ℕ, zero, suc, ◌+◌, ◌<◌, Bool, true, false, cond, List, [], ◌∷◌, ◌++◌, map, length, Result, Ok, Err, refl, sym, ap, ◌∙◌, arith}
+use Rattle.std.proofs.lemmas.List.{map-append}
+use Rattle.lf_lex.specs.declared.tokens.TokenKind.TheVariants.{Word}
+use Rattle.lf_lex.specs.declared.fault.ReadFault.{ReadFault}
+use Rattle.lf_lex.specs.Tokens.{Lexed, Lexeme, Plain, plain, with_tokens}
+use Rattle.lf_lex.specs.Splices.{word_of}
+use Rattle.lf_lex.specs.Reading.{◌>>=◌, Reader, Taken, Turn, Statement, taken, turn, token, is, statements, block}
+use Rattle.lf_lex.proofs.Runs.{Again, TurnsAgain, same, turn_bare, left, with_both, length_both}
+use Rattle.lf_def.specs.Printed.{ReadsBack}
+
+abbrev pub Back : {A B : Type 0} → (A → B) → Reader A → List (List ℕ) → A → Type 0
+Back bare reader ws x = (p : List Lexeme) → map plain p ≡ map word_of ws → Again bare reader p x
+
+no_words : (p : List Lexeme) → map plain p ≡ [] → p ≡ []
+no_words [] e = refl
+no_words (t ∷ p) e = absurd cc
+
+head_is : (u v : Plain) (us vs : List Plain) → ◌≡◌ {A = List Plain} (u ∷ us) (v ∷ vs) → (u ≡ v) × (us ≡ vs)
+head_is u v us vs e = (cc, cc)
+
+pub back_pure : {A B : Type 0} (bare : A → B) (x x' : A) → bare x' ≡ bare x → Back bare (λ l. taken x' l) [] x
+back_pure bare x x' e p q = record { value = x'; alike = e; takes = λ l. ap (λ (z : List Lexeme). taken x' (with_tokens z l)) (no_words p q) }
+
+-- a token with the bytes of a word
+abbrev pub token_with : List ℕ → Lexeme
+token_with w = record { text = w; kind = Word; start = 0; stop = 0; line = 0 }
+
+pub back_token : (w : List ℕ) → Back plain token (w ∷ []) (token_with w)
+back_token w [] e = absurd cc
+back_token w (t ∷ p) e =
+    let h = head_is (plain t) (word_of w) (map plain p) [] e in
+    record { value = t; alike = h.0; takes = λ l. ap (λ (z : List Lexeme). token (with_tokens (t ∷ z) l)) (no_words p h.1) }
+
+-- tokens with the bytes of two runs of words are two runs
+record Halves (p : List Lexeme) (us vs : List Plain) : Type 0 where
+  pub front : List Lexeme
+  pub back : List Lexeme
+  pub whole : p ≡ front ++ back
+  pub front_is : map plain front ≡ us
+  pub back_is : map plain back ≡ vs
+
+halves : (p : List Lexeme) (us vs : List Plain) → map plain p ≡ us ++ vs → Halves p us vs
+halves p [] vs e = record { front = []; back = p; whole = refl; front_is = refl; back_is = e }
+halves [] (u ∷ us) vs e = absurd cc
+halves (t ∷ p) (u ∷ us) vs e =
+    let h = head_is (plain t) u (map plain p) (us ++ vs) e in
+    let r = halves p us vs h.1 in
+    record { front = t ∷ r.front; back = r.back; whole = ap (λ (z : List Lexeme). t ∷ z) r.whole; front_is = ap (λ (z : Plain). z ∷ map plain r.front) h.0 ∙ ap (λ (z : List Plain). u ∷ z) r.front_is; back_is = r.back_is }
+
+takes_both : {A B : Type 0} (r : Reader A) (k : Taken A → Result (Taken B) ReadFault) (p front back : List Lexeme) (l : Lexed) (x : A) (y : B) → p ≡ front ++ back
+    → r (with_tokens front (with_tokens back l)) ≡ taken x (with_tokens back l) → k (left x (with_tokens back l)) ≡ taken y l → (r (with_tokens p l) >>= k) ≡ taken y l
+takes_both r k p front back l x y e f g = rw (e, with_both front back l, f) g
+
+pub back_bind : {A B C D : Type 0} (bareA : A → C) (bareB : B → D) (r : Reader A) (k : Taken A → Result (Taken B) ReadFault) (ws vs : List (List ℕ)) (x : A) (y : B)
+    → Back bareA r ws x → ((x' : A) → bareA x' ≡ bareA x → Back bareB (λ l. k (left x' l)) vs y) → Back bareB (λ l. r l >>= k) (ws ++ vs) y
+back_bind bareA bareB r k ws vs x y f next p e =
+    let s = halves p (map word_of ws) (map word_of vs) (e ∙ map-append word_of ws vs) in
+    let a = f s.front s.front_is in
+    let b = next a.value a.alike s.back s.back_is in
+    record { value = b.value; alike = b.alike; takes = λ l. takes_both r k p s.front s.back l a.value b.value s.whole (a.takes (with_tokens s.back l)) (b.takes l) }
+
+-- a first token, and what is read behind it
+pub back_first : {B D : Type 0} (bareB : B → D) (k : Taken Lexeme → Result (Taken B) ReadFault) (w : List ℕ) (vs : List (List ℕ)) (y : B)
+    → ((t : Lexeme) → plain t ≡ word_of w → Back bareB (λ l. k (left t l)) vs y) → Back bareB (λ l. token l >>= k) (w ∷ vs) y
+back_first bareB k w vs y next = back_bind plain bareB token k (w ∷ []) vs (token_with w) y (back_token w) next
+
+pub back_yes : {A B : Type 0} (bare : A → B) (c : Bool) (r s : Reader A) (ws : List (List ℕ)) (x : A) → c ≡ true → Back bare r ws x → Back bare (λ l. cond c (r l) (s l)) ws x
+back_yes bare true r s ws x e f = f
+back_yes bare false r s ws x e f = absurd cc
+
+pub back_no : {A B : Type 0} (bare : A → B) (c : Bool) (r s : Reader A) (ws : List (List ℕ)) (x : A) → c ≡ false → Back bare s ws x → Back bare (λ l. cond c (r l) (s l)) ws x
+back_no bare true r s ws x e f = absurd cc
+back_no bare false r s ws x e f = f
+
+pub back_given : {A B D : Type 0} (bare : B → D) (o : Result A ReadFault) (k : A → Reader B) (v : A) (ws : List (List ℕ)) (x : B) → o ≡ Ok v → Back bare (k v) ws x → Back bare (λ l. o >>= λ v. k v l) ws x
+back_given bare (Err q) k v ws x e f = absurd cc
+back_given {A = A} bare (Ok u) k v ws x e f = let h : v ≡ u = same_ok e in rw h at f
+  where
+    same_ok : ◌≡◌ {A = Result A ReadFault} (Ok u) (Ok v) → v ≡ u
+    same_ok g = cc
+
+-- Statement after statement.
+
+abbrev pub TurnsBack : {S D : Type 0} → (S → D) → Statement S → S → List (List ℕ) → S → Type 0
+TurnsBack bare statement s ws y = (p : List Lexeme) → map plain p ≡ map word_of ws → TurnsAgain bare statement s p y
+
+last_takes : {S : Type 0} (statement : Statement S) (s : S) (p : List Lexeme) (v : Turn S) (n : ℕ) (l : Lexed) → length p < n
+    → statement s (with_tokens p l) ≡ taken v l → v.more ≡ false → statements statement n s (with_tokens p l) ≡ taken v.state l
+unfolding statements
+last_takes statement s p v zero l lt e f = absurd (omega arith)
+last_takes statement s p v (suc n) l lt e f = rw e (rw f refl)
+
+more_takes : {S : Type 0} (statement : Statement S) (s y : S) (p front back : List Lexeme) (v : Turn S) (n : ℕ) (l : Lexed) → p ≡ front ++ back → 0 < length front → length p < n
+    → statement s (with_tokens front (with_tokens back l)) ≡ taken v (with_tokens back l) → v.more ≡ true
+    → ((k : ℕ) → length back < k → statements statement k v.state (with_tokens back l) ≡ taken y l) → statements statement n s (with_tokens p l) ≡ taken y l
+unfolding statements
+more_takes statement s y p front back v zero l w positive lt e f next = absurd (omega arith)
+more_takes statement s y p front back v (suc n) l w positive lt e f next =
+    let both = ap (λ (z : List Lexeme). length z) w ∙ length_both front back in
+    rw (w, with_both front back l, e) (rw f (next n (omega (arith, both, lt, positive))))
+
+pub turns_last : {S D : Type 0} (bare : S → D) (statement : Statement S) (s y : S) (ws : List (List ℕ)) → Back (turn_bare bare) (statement s) ws (turn y false) → TurnsBack bare statement s ws y
+turns_last bare statement s y ws f p e =
+    let a = f p e in
+    record { value = a.value.state; alike = ap (λ (z : Turn _). z.state) a.alike; takes = λ n lt l. last_takes statement s p a.value n l lt (a.takes l) (ap (λ (z : Turn _). z.more) a.alike) }
+
+front_some : (front : List Lexeme) (w : List ℕ) (ws : List (List ℕ)) → map plain front ≡ map word_of (w ∷ ws) → 0 < length front
+front_some [] w ws e = absurd cc
+front_some (t ∷ front) w ws e = omega arith
+
+pub turns_more : {S D : Type 0} (bare : S → D) (statement : Statement S) (s s1 y : S) (w : List ℕ) (ws vs : List (List ℕ)) → Back (turn_bare bare) (statement s) (w ∷ ws) (turn s1 true)
+    → ((s1' : S) → bare s1' ≡ bare s1 → TurnsBack bare statement s1' vs y) → TurnsBack bare statement s (w ∷ (ws ++ vs)) y
+turns_more bare statement s s1 y w ws vs f next p e =
+    let c = halves p (map word_of (w ∷ ws)) (map word_of vs) (e ∙ map-append word_of (w ∷ ws) vs) in
+    let a = f c.front c.front_is in
+    let b = next a.value.state (ap (λ (z : Turn _). z.state) a.alike) c.back c.back_is in
+    record {
+      value = b.value;
+      alike = b.alike;
+      takes = λ n lt l. more_takes statement s b.value p c.front c.back a.value n l c.whole (front_some c.front w ws c.front_is) lt (a.takes (with_tokens c.back l)) (ap (λ (z : Turn _). z.more) a.alike) (λ j h. b.takes j h l);
+    }
+
+pub block_back : {S D : Type 0} (bare : S → D) (statement : Statement S) (s y : S) (ws : List (List ℕ)) → TurnsBack bare statement s ws y → Back bare (block statement s) ws y
+block_back bare statement s y ws f p e =
+    let t = f p e in
+    record { value = t.value; alike = t.alike; takes = λ l. t.takes (suc (length (p ++ l.tokens))) (omega (arith, length_both p l.tokens)) l }
+
+-- where no places are left out it is the value itself
+pub reads_back : {A : Type 0} (reader : Reader A) (ws : List (List ℕ)) (x : A) → Back same reader ws x → ReadsBack reader ws x
+reads_back reader ws x f p e l = let a = f p e in a.takes l ∙ ap (λ (z : _). taken z l) a.alike

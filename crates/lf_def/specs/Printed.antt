@@ -1,0 +1,205 @@
+-- Printed DEF texts: the words that say a value, with white space between.
+use Rattle.std.specs.Prelude.{◌≡◌, ◌≢◌, ℕ, List, [], ◌∷◌, ◌++◌, All, IfSome, map, ℤ, pos, Bool, true, false, Option, Some, None, Ok, codes}
+use Rattle.std.specs.List.{list_all}
+use Rattle.lf_units.specs.declared.area.Point.{Point}
+use Rattle.lf_units.specs.declared.area.Rect.{Rect}
+use Rattle.lf_units.specs.Number.{fixed_of}
+use Rattle.lf_orient.specs.declared.Orient.{Orient}
+use Rattle.lf_orient.specs.declared.Orient.TheVariants.{N, W, S, E, FN, FW, FS, FE}
+use Rattle.lf_lex.specs.Tokens.{Lexed, Lexeme, plain, with_tokens}
+use Rattle.lf_lex.specs.Reading.{Reader, taken, IsName}
+use Rattle.lf_lex.specs.Splices.{is_word_text, joined, word_of}
+use Rattle.lf_def.specs.declared.rows.Row.{Row}
+use Rattle.lf_def.specs.declared.regions.Region.{Region}
+use Rattle.lf_def.specs.declared.regions.RegionKind.{RegionKind}
+use Rattle.lf_def.specs.declared.regions.RegionKind.TheVariants.{Fence, Guide}
+use Rattle.lf_def.specs.declared.groups.Group.{Group}
+use Rattle.lf_def.specs.declared.components.Component.{Component}
+use Rattle.lf_def.specs.declared.components.Location.{Location}
+use Rattle.lf_def.specs.declared.components.Placement.{Placement}
+use Rattle.lf_def.specs.declared.components.PlacementKind.{PlacementKind}
+use Rattle.lf_def.specs.declared.components.PlacementKind.TheVariants.{Fixed, Cover, Placed, Unplaced}
+use Rattle.lf_def.specs.declared.blockages.Blockage.{Blockage}
+use Rattle.lf_def.specs.declared.parts.DocParts.{DocParts}
+use Rattle.lf_def.specs.Ranges.{IsCoordinate, IsRow, IsRect, IsLocation}
+use Rattle.lf_def.specs.Document.{Document, document_of, document_from, no_parts}
+use Rattle.lf_def.specs.Laws.{document_without_places}
+
+-- a way of writing numbers, by which each coordinate is read as what it is
+abbrev pub WritesNumbers : (ℤ → List ℕ) → Type 0
+WritesNumbers print = (x : ℤ) → IsCoordinate x → fixed_of (print x) 0 2147483647 ≡ Ok x
+
+-- a name other than a semicolon
+pub record IsWord (n : List ℕ) : Type 0 where
+  pub name : IsName n
+  pub other : n ≢ codes ";"
+
+abbrev pub orient_word : Orient → List ℕ
+orient_word N = codes "N"
+orient_word W = codes "W"
+orient_word S = codes "S"
+orient_word E = codes "E"
+orient_word FN = codes "FN"
+orient_word FW = codes "FW"
+orient_word FS = codes "FS"
+orient_word FE = codes "FE"
+
+-- ( x1 y1 ) ( x2 y2 ): the lower left corner, and the upper right one
+abbrev pub rect_words : (ℤ → List ℕ) → Rect → List (List ℕ) → List (List ℕ)
+rect_words print r rest = codes "(" ∷ print r.x1 ∷ print r.y1 ∷ codes ")" ∷ codes "(" ∷ print r.x2 ∷ print r.y2 ∷ codes ")" ∷ rest
+
+-- Rows (DEF ROW).
+
+abbrev pub step_words : (ℤ → List ℕ) → Option Point → List (List ℕ)
+step_words print None = codes ";" ∷ []
+step_words print (Some p) = codes "STEP" ∷ print p.x ∷ print p.y ∷ codes ";" ∷ []
+
+-- name site x y orient DO numX BY numY [STEP sx sy] ;
+abbrev pub row_words : (ℤ → List ℕ) → Row → List (List ℕ)
+row_words print r = r.name ∷ r.site ∷ print r.x ∷ print r.y ∷ orient_word r.orient ∷ codes "DO" ∷ print (pos r.sites_x) ∷ codes "BY" ∷ print (pos r.sites_y) ∷ step_words print r.step
+
+pub record IsPrintedRow (r : Row) : Type 0 where
+  pub row : IsRow r
+  pub name : IsWord r.name
+  pub site : IsWord r.site
+
+-- Regions (DEF REGIONS).
+
+abbrev pub kind_words : Option RegionKind → List (List ℕ)
+kind_words None = codes ";" ∷ []
+kind_words (Some Fence) = codes "+" ∷ codes "TYPE" ∷ codes "FENCE" ∷ codes ";" ∷ []
+kind_words (Some Guide) = codes "+" ∷ codes "TYPE" ∷ codes "GUIDE" ∷ codes ";" ∷ []
+
+abbrev pub rects_words : (ℤ → List ℕ) → List Rect → List (List ℕ) → List (List ℕ)
+rects_words print [] rest = rest
+rects_words print (r ∷ rs) rest = rect_words print r (rects_words print rs rest)
+
+-- name pt pt {pt pt} [+ TYPE FENCE | + TYPE GUIDE] ;
+abbrev pub region_words : (ℤ → List ℕ) → Region → List (List ℕ)
+region_words print r = r.name ∷ rects_words print r.rects (kind_words r.kind)
+
+pub record IsPrintedRegion (r : Region) : Type 0 where
+  pub name : IsWord r.name
+  pub rects : All IsRect r.rects
+  pub some : r.rects ≢ []
+
+-- Groups (DEF GROUPS).
+
+abbrev pub group_region_words : Option (List ℕ) → List (List ℕ)
+group_region_words None = codes ";" ∷ []
+group_region_words (Some n) = codes "+" ∷ codes "REGION" ∷ n ∷ codes ";" ∷ []
+
+-- name {pattern} [+ REGION name] ;
+abbrev pub group_words : Group → List (List ℕ)
+group_words g = g.name ∷ (g.patterns ++ group_region_words g.region)
+
+-- a pattern is no plus
+pub record IsPattern (p : List ℕ) : Type 0 where
+  pub word : IsWord p
+  pub other : p ≢ codes "+"
+
+-- the name of a region is no parenthesis
+pub record IsRegionName (n : List ℕ) : Type 0 where
+  pub word : IsWord n
+  pub other : n ≢ codes "("
+
+pub record IsPrintedGroup (g : Group) : Type 0 where
+  pub name : IsWord g.name
+  pub patterns : All IsPattern g.patterns
+  pub region : IfSome g.region (λ n. IsRegionName n)
+
+-- Components (DEF COMPONENTS).
+
+abbrev pub kind_word : PlacementKind → List ℕ
+kind_word Fixed = codes "FIXED"
+kind_word Cover = codes "COVER"
+kind_word Placed = codes "PLACED"
+kind_word Unplaced = codes "UNPLACED"
+
+abbrev pub location_words : (ℤ → List ℕ) → Option Location → List (List ℕ)
+location_words print None = codes ";" ∷ []
+location_words print (Some p) = codes "(" ∷ print p.x ∷ print p.y ∷ codes ")" ∷ orient_word p.orient ∷ codes ";" ∷ []
+
+abbrev pub placement_words : (ℤ → List ℕ) → Option Placement → List (List ℕ)
+placement_words print None = codes ";" ∷ []
+placement_words print (Some p) = codes "+" ∷ kind_word p.kind ∷ location_words print p.place
+
+-- name macro [+ FIXED pt orient | + COVER pt orient | + PLACED pt orient | + UNPLACED] ;
+abbrev pub component_words : (ℤ → List ℕ) → Component → List (List ℕ)
+component_words print c = c.name ∷ c.mac ∷ placement_words print c.placement
+
+-- UNPLACED has no place, and the others have one
+abbrev pub HasPlace : PlacementKind → Option Location → Type 0
+HasPlace Unplaced None = Unit {0}
+HasPlace Unplaced (Some p) = ⊥
+HasPlace _ None = ⊥
+HasPlace _ (Some p) = IsLocation p
+
+pub record IsPrintedComponent (c : Component) : Type 0 where
+  pub name : IsWord c.name
+  pub mac : IsWord c.mac
+  pub placement : IfSome c.placement (λ p. HasPlace p.kind p.place)
+
+-- Blockages (DEF BLOCKAGES).
+
+abbrev pub block_rects_words : (ℤ → List ℕ) → List Rect → List (List ℕ)
+block_rects_words print [] = codes ";" ∷ []
+block_rects_words print (r ∷ rs) = codes "RECT" ∷ rect_words print r (block_rects_words print rs)
+
+abbrev pub soft_words : Bool → List (List ℕ) → List (List ℕ)
+soft_words true rest = codes "+" ∷ codes "SOFT" ∷ rest
+soft_words false rest = rest
+
+-- PLACEMENT [+ SOFT] [+ PARTIAL density] {RECT pt pt} ;
+abbrev pub partial_words : Bool → List (List ℕ) → List (List ℕ)
+partial_words true rest = codes "+" ∷ codes "PARTIAL" ∷ codes "0.5" ∷ rest
+partial_words false rest = rest
+
+abbrev pub blockage_words : (ℤ → List ℕ) → Blockage → List (List ℕ)
+blockage_words print b = codes "PLACEMENT" ∷ soft_words b.soft (partial_words b.partial (block_rects_words print b.rects))
+
+abbrev pub IsPrintedBlockage : Blockage → Type 0
+IsPrintedBlockage b = All IsRect b.rects
+
+-- Whole texts.
+
+-- what stands between DESIGN and END DESIGN: passed over up to a semicolon, passed over up to END and the keyword, or read; a section begins with its count
+pub data Printed : Type 0 where
+  Passed : (keyword : List ℕ) (words : List (List ℕ)) → Printed
+  PassedSection : (keyword : List ℕ) (words : List (List ℕ)) → Printed
+  ARow : Row → Printed
+  Regions : (count : List ℕ) → List Region → Printed
+  Groups : (count : List ℕ) → List Group → Printed
+  Components : (count : List ℕ) → List Component → Printed
+  Blockages : (count : List ℕ) → List Blockage → Printed
+
+-- each entry behind its minus
+abbrev pub entries_words : {A : Type 0} → (A → List (List ℕ)) → List A → List (List ℕ) → List (List ℕ)
+entries_words words [] rest = rest
+entries_words words (x ∷ xs) rest = codes "-" ∷ (words x ++ entries_words words xs rest)
+
+abbrev pub section_words : {A : Type 0} → List ℕ → List ℕ → (A → List (List ℕ)) → List A → List (List ℕ)
+section_words keyword count words xs = keyword ∷ count ∷ codes ";" ∷ entries_words words xs (codes "END" ∷ keyword ∷ [])
+
+abbrev pub words_of : (ℤ → List ℕ) → Printed → List (List ℕ)
+words_of print (Passed keyword words) = keyword ∷ (words ++ codes ";" ∷ [])
+words_of print (PassedSection keyword words) = keyword ∷ (words ++ codes "END" ∷ keyword ∷ [])
+words_of print (ARow r) = codes "ROW" ∷ row_words print r
+words_of print (Regions count rs) = section_words (codes "REGIONS") count (region_words print) rs
+words_of print (Groups count gs) = section_words (codes "GROUPS") count group_words gs
+words_of print (Components count cs) = section_words (codes "COMPONENTS") count (component_words print) cs
+words_of print (Blockages count bs) = section_words (codes "BLOCKAGES") count (blockage_words print) bs
+
+-- what the statement adds to what is known
+abbrev pub with_printed : DocParts → Printed → DocParts
+with_printed s (Passed keyword words) = s
+with_printed s (PassedSection keyword words) = s
+with_printed s (ARow r) = record s { rows = s.rows ++ r ∷ [] }
+with_printed s (Regions count rs) = record s { regions = s.regions ++ rs }
+with_printed s (Groups count gs) = record s { groups = s.groups ++ gs }
+with_printed s (Components count cs) = record s { components = s.components ++ cs }
+with_printed s (Blockages count bs) = record s { blockages = s.blockages ++ bs }
+
+-- From tokens with these bytes this value is read, whatever stands behind them.
+abbrev pub ReadsBack : {A : Type 0} → Reader A → List (List ℕ) → A → Type 0
+ReadsBack reader words x = (tokens : List Lexeme) → map plain tokens ≡ map word_of words → (behind : Lexed) → reader (with_tokens tokens behind) ≡ taken x behind
