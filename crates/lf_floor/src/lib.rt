@@ -17,11 +17,7 @@ pub use verb_laws::{
     best_is_found, change_counts, commit_finds_legal, legalize_makes_legal, look_keeps,
     never_out_of_memory, only_commit_commits, order_is_verb, place_makes_legal, refusal_keeps,
     revert_after_commit_keeps, stuck_tidy_keeps, swap_makes_legal, tidy_makes_legal,
-<<<<<<< ours
-    undo_brings_back, verb_keeps_team,
-=======
     undo_brings_back, verb_keeps_team, verb_rows,
->>>>>>> theirs
 };
 
 #[cfg(test)]
