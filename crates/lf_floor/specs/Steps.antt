@@ -40,7 +40,7 @@ settled floor number o = record { reply = o.reply; floor = record floor { teams 
 abbrev pub no_team : FloorState → Answer
 no_team floor = record { reply = Refused NoTeam; floor = floor }
 
--- the answer of the team in this state
+-- the answer of the team in this state; no team, no state
 abbrev pub answer_by : Option TeamState → Legalizer → FloorState → ℕ → Order (List ℕ) Place → Answer
 answer_by None l floor number order = no_team floor
 answer_by (Some s) l floor number order = settled floor number (ruled l floor.frame number order s)

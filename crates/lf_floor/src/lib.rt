@@ -1,6 +1,8 @@
-//! The floor of all teams: a step for each command, and runs of many.
+//! The floor of all teams: a step for each command, runs of many, and the law that what other teams
+//! have and ask plays no part in a team's replies.
 #![tactic(auto)]
 
+/// Requests and replies, which the floor's calls take and give.
 pub use lf_proto as proto;
 
 mod cell;

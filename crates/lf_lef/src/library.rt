@@ -31,9 +31,9 @@ impl Model for Library {
 
     ghost view = { λ l. record { sites = l.sites.items; macros = l.macros.items } };
 
-    ghost invariant = { λ l. (l.site_table ≡ site_names l.sites.items) ×
-        (l.macro_table ≡ macro_names l.macros.items) × AreSites l.sites.items × AreMacros
-        l.macros.items };
+    ghost invariant = { λ l. (l.site_table ≡ site_names l.sites.items)
+        × (l.macro_table ≡ macro_names l.macros.items)
+        × AreSites l.sites.items × AreMacros l.macros.items };
 }
 
 impl Library {
