@@ -7,7 +7,7 @@ use Rattle.std.proofs.lemmas.List.Quantifiers.{position-Some}
 use Rattle.lf_frame.specs.declared.frame.Frame.{Frame}
 use Rattle.lf_frame.specs.declared.loaded.Cell.{Cell as LoadedCell}
 use Rattle.lf_frame.specs.declared.loaded.Loaded.{Loaded}
-use Rattle.lf_frame.specs.declared.parts.Macro.{Macro}
+use Rattle.lf_lef.specs.declared.macros.Macro.{Macro}
 use Rattle.lf_frame.specs.declared.parts.Team.{Team}
 use Rattle.lf_frame.specs.Boxes.{macro_of, no_macro}
 use Rattle.lf_frame.specs.Design.{IsCell}

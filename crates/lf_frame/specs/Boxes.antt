@@ -8,7 +8,7 @@ use Rattle.lf_orient.specs.declared.Orient.TheVariants.{W, E, FW, FE}
 use Rattle.lf_orient.specs.declared.Rail.TheVariants.{Ground}
 use Rattle.lf_frame.specs.Bounds.{IsLefSize}
 use Rattle.lf_frame.specs.declared.frame.Frame.{Frame}
-use Rattle.lf_frame.specs.declared.parts.Macro.{Macro}
+use Rattle.lf_lef.specs.declared.macros.Macro.{Macro}
 
 -- the size of a macro that stands upright, in database units
 abbrev pub size_of : Frame → Macro → Point

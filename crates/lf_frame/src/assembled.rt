@@ -10,7 +10,8 @@ use crate::design::make_design;
 use crate::frame::Frame;
 use crate::limits::Limits;
 use crate::loaded::{Cell, Loaded};
-use crate::parts::{Header, Macro, Row, Site, Team};
+use crate::parts::{Header, Row, Team};
+use lf_lef::{Macro, Site};
 use lf_units::{Rect, Sequence};
 
 /// The parts of a frame.

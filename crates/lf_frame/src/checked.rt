@@ -9,7 +9,8 @@ ghost use Rattle.lf_frame.specs.Fences.{IsFence, AreApart, FencesNamed, FencesAp
 ghost use Rattle.lf_frame.specs.Premise.{MakeFrame};
 
 use crate::assembled::Parts;
-use crate::parts::{Macro, Row, Site, Team};
+use crate::parts::{Row, Team};
+use lf_lef::{Macro, Site};
 use lf_orient::row_rail;
 use lf_units::{Point, Rect, micros_to_dbu};
 

@@ -9,7 +9,7 @@ ghost use Rattle.lf_frame.specs.Design.{IsCell, CellsNamed, ComponentsRise, Make
 use crate::checked::is_lef_size;
 use crate::frame::Frame;
 use crate::loaded::Cell;
-use crate::parts::Macro;
+use lf_lef::Macro;
 use lf_units::micros_to_dbu;
 
 /// Whether the bytes may be a name.

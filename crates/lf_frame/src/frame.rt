@@ -6,7 +6,8 @@ ghost use Rattle.lf_frame.specs.Rows.{IsPitch, IsHeeded, RowsApart};
 ghost use Rattle.lf_frame.specs.Fences.{IsFence, FencesNamed, FencesApart};
 
 use crate::limits::Limits;
-use crate::parts::{Header, Macro, Row, Site, Team};
+use crate::parts::{Header, Row, Team};
+use lf_lef::{Macro, Site};
 use lf_units::{Point, Rect, Sequence};
 
 /// What every team sees, and no command changes.

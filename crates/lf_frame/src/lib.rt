@@ -18,9 +18,10 @@ pub use frame::Frame;
 pub use laws::{
     cell_is_sized, point_has_one_team, size_turns_back, standing_is_one, teams_stay_apart,
 };
+pub use lf_lef::{Macro, Site};
 pub use limits::Limits;
 pub use loaded::{Cell, Loaded};
-pub use parts::{Header, Macro, Row, Site, Team};
+pub use parts::{Header, Row, Team};
 pub use place::Place;
 
 #[cfg(test)]

@@ -1,31 +1,7 @@
 //! The parts of a frame.
 
-use lf_orient::{Orient, Rail, Symmetry};
-use lf_units::{Name, Point, Rect, Sequence};
-
-/// A site of a LEF text (LEF SITE); lengths are millionths of a micron.
-#[derive(Drop)]
-pub struct Site {
-    pub name: Name,
-    /// Whether its CLASS is CORE.
-    pub core: bool,
-    /// SIZE; 0 by 0 where the text gives none.
-    pub size: Point,
-    pub symmetry: Symmetry,
-}
-
-/// A macro of a LEF text (LEF MACRO); lengths are millionths of a micron.
-#[derive(Drop)]
-pub struct Macro {
-    pub name: Name,
-    /// SIZE; 0 by 0 where the text gives none.
-    pub size: Point,
-    /// ORIGIN; 0 and 0 where the text gives none.
-    pub origin: Point,
-    pub symmetry: Symmetry,
-    /// The supply rail along its lower edge.
-    pub rail: Rail,
-}
+use lf_orient::Orient;
+use lf_units::{Name, Rect, Sequence};
 
 /// A row of core sites (DEF ROW): its lower left corner in database units, and its number of sites.
 #[derive(Drop)]

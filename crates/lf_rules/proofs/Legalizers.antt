@@ -2,7 +2,7 @@
 use Rattle.std.proofs.Common.{Option, Some, None, inl, inr}
 use Rattle.lf_units.specs.declared.area.Point.{Point}
 use Rattle.lf_frame.specs.declared.frame.Frame.{Frame}
-use Rattle.lf_frame.specs.declared.parts.Macro.{Macro}
+use Rattle.lf_lef.specs.declared.macros.Macro.{Macro}
 use Rattle.lf_rules.specs.declared.rule.Broken.{Broken}
 use Rattle.lf_rules.specs.Legality.{Trial, IsTeamLegal}
 use Rattle.lf_frame.specs.Boxes.{IsSized}

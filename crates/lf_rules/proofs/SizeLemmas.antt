@@ -4,7 +4,7 @@ use Rattle.lf_units.specs.declared.area.Point.{Point}
 use Rattle.lf_orient.specs.declared.Orient.{Orient}
 use Rattle.lf_orient.specs.declared.Orient.TheVariants.{N, W, S, E, FN, FW, FS, FE}
 use Rattle.lf_frame.specs.declared.frame.Frame.{Frame}
-use Rattle.lf_frame.specs.declared.parts.Macro.{Macro}
+use Rattle.lf_lef.specs.declared.macros.Macro.{Macro}
 use Rattle.lf_frame.proofs.LengthLemmas.{small_length}
 use Rattle.lf_frame.specs.Boxes.{size_of, turned, IsSized}
 

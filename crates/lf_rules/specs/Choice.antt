@@ -8,7 +8,7 @@ use Rattle.lf_orient.specs.declared.Orient.{Orient}
 use Rattle.lf_orient.specs.declared.Orient.TheVariants.{N, S, FN, FS}
 use Rattle.lf_orient.specs.Orientation.{rail_below}
 use Rattle.lf_frame.specs.declared.frame.Frame.{Frame}
-use Rattle.lf_frame.specs.declared.parts.Macro.{Macro}
+use Rattle.lf_lef.specs.declared.macros.Macro.{Macro}
 use Rattle.lf_frame.specs.declared.parts.Row.{Row}
 use Rattle.lf_frame.specs.declared.place.Place.{Place}
 use Rattle.lf_frame.specs.Bounds.{IsDefNumber}
