@@ -1,11 +1,11 @@
 -- Reading words back: from tokens with these bytes a reader gives this value, places apart, whatever stands behind.
-use Rattle.std.proofs.Common.{◌≡◌, ℕ, zero, suc, ◌+◌, ◌<◌, Bool, true, false, cond, List, [], ◌∷◌, ◌++◌, map, length, Result, Ok, Err, refl, sym, ap, ◌∙◌, arith}
+use Rattle.std.proofs.Common.{◌≡◌, ℕ, zero, suc, ◌<◌, Bool, true, false, cond, List, [], ◌∷◌, ◌++◌, map, length, Result, Ok, Err, refl, ap, ◌∙◌, arith}
 use Rattle.std.proofs.lemmas.List.{map-append}
 use Rattle.lf_lex.specs.declared.tokens.TokenKind.TheVariants.{Word}
 use Rattle.lf_lex.specs.declared.fault.ReadFault.{ReadFault}
 use Rattle.lf_lex.specs.Tokens.{Lexed, Lexeme, Plain, plain, with_tokens}
 use Rattle.lf_lex.specs.Splices.{word_of}
-use Rattle.lf_lex.specs.Reading.{◌>>=◌, Reader, Taken, Turn, Statement, taken, turn, token, is, statements, block}
+use Rattle.lf_lex.specs.Reading.{◌>>=◌, Reader, Taken, Turn, Statement, taken, turn, token, statements, block}
 use Rattle.lf_lex.proofs.Runs.{Again, TurnsAgain, same, turn_bare, left, with_both, length_both}
 use Rattle.lf_def.specs.Printed.{ReadsBack}
 

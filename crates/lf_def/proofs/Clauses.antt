@@ -1,17 +1,15 @@
 -- Which tokens a component is, and which of them its placement clause.
-use Rattle.std.proofs.Common.{◌≡◌, ◌⊎◌, ℕ, zero, suc, ◌+◌, ◌≤◌, ◌<◌, Bool, true, false, ◌&&◌, ◌||◌, cond, List, [], ◌∷◌, ◌++◌, ℤ, length, Option, Some, None, Result, Ok, Err, inl, inr, refl, sym, ap, ◌∙◌, arith, subst}
+use Rattle.std.proofs.Common.{◌≡◌, ◌⊎◌, ℕ, zero, suc, Bool, true, false, ◌&&◌, ◌||◌, cond, List, [], ◌∷◌, ◌++◌, ℤ, Option, Some, None, Result, Ok, Err, inl, inr, refl, sym, ap, ◌∙◌}
 use Rattle.std.specs.Prelude.{codes}
 use Rattle.std.specs.Str.{bytes_eq}
 use Rattle.std.proofs.lemmas.Slice.Eq.{bytes_eq-Decides}
 use Rattle.std.specs.Option.{option_map}
 use Rattle.std.proofs.lemmas.List.{append_assoc, append-nil}
 use Rattle.lf_units.specs.declared.area.Point.{Point}
-use Rattle.lf_units.specs.declared.number.NumberFault.{NumberFault}
-use Rattle.lf_units.specs.Number.{fixed_of}
 use Rattle.lf_orient.specs.declared.Orient.{Orient}
 use Rattle.lf_lex.specs.declared.fault.ReadFault.{ReadFault}
 use Rattle.lf_lex.specs.Tokens.{Lexed, Lexeme, with_token, with_tokens}
-use Rattle.lf_lex.specs.Reading.{◌>>=◌, Reader, Taken, Turn, Statement, taken, turn, fault_at, token, first_of, behind, is, word, name, keyword, statements, block}
+use Rattle.lf_lex.specs.Reading.{◌>>=◌, Taken, Turn, taken, turn, token, first_of, behind, is, name, keyword, statements, block}
 use Rattle.lf_lex.proofs.Runs.{left, ok_is, with_both}
 use Rattle.lf_def.specs.declared.entries.Due.{Due}
 use Rattle.lf_def.specs.declared.entries.Due.TheVariants.{Item, Keyword, Rest, Separator}
@@ -20,11 +18,10 @@ use Rattle.lf_def.specs.declared.components.ComponentParts.{ComponentParts}
 use Rattle.lf_def.specs.declared.components.Located.{Located}
 use Rattle.lf_def.specs.declared.components.Placement.{Placement}
 use Rattle.lf_def.specs.declared.components.PlacementKind.{PlacementKind}
-use Rattle.lf_def.specs.declared.components.PlacementKind.TheVariants.{Fixed, Cover, Placed, Unplaced}
-use Rattle.lf_def.specs.Coordinates.{or_bad_number, dbu_of, dbu, point_rest, orient_of}
+use Rattle.lf_def.specs.declared.components.PlacementKind.TheVariants.{Fixed, Cover, Placed}
+use Rattle.lf_def.specs.Coordinates.{dbu_of, dbu, point_rest, orient_of}
 use Rattle.lf_def.specs.Components.{located_rest, placed, unplaced, is_placement_word, placement, only_placement, clause, up_to_stop, unplaced_point, component_part, component_from, component_token, no_component, component}
-use Rattle.lf_def.specs.Laws.{IsPlace, LastEnds, IsClause, ClauseAmong, HasClause, IsComponentOf, ComponentsStand}
-use Rattle.lf_def.proofs.Local.{Takes}
+use Rattle.lf_def.specs.Laws.{IsPlace, LastEnds, ClauseAmong, HasClause, ComponentsStand}
 use Rattle.lf_def.proofs.Kept.{name_local}
 
 not_both : true ≡ false → ⊥

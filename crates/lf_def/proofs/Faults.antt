@@ -1,5 +1,5 @@
 -- A fault of what is read is a fault of the value.
-use Rattle.std.proofs.Common.{◌≡◌, Result, refl}
+use Rattle.std.proofs.Common.{Result, refl}
 use Rattle.lf_lex.specs.declared.fault.ReadFault.{ReadFault}
 use Rattle.lf_lex.specs.declared.fault.ReadError.{ReadError}
 use Rattle.lf_lex.specs.declared.fault.ReadError.TheVariants.{Memory, Fault}

@@ -1,9 +1,6 @@
 -- The statements of DEF take a run of tokens, and read alike from tokens that differ in their places alone.
-use Rattle.std.proofs.Common.{◌≡◌, ℕ, ◌<◌, Bool, true, false, ◌&&◌, ◌||◌, cond, List, [], ◌∷◌, ◌++◌, map, ℤ, pos, negsuc, length, Option, Some, None, Result, Ok, Err, refl, ap, sym, ◌∙◌}
+use Rattle.std.proofs.Common.{◌≡◌, ℕ, Bool, true, false, ◌&&◌, cond, List, [], ◌∷◌, ◌++◌, ℤ, pos, negsuc, length, Option, Some, None, Result, Ok, Err, refl, ap, sym, ◌∙◌}
 use Rattle.std.specs.Prelude.{codes, not, nat_lt, nat_le}
-use Rattle.std.specs.Str.{bytes_eq}
-use Rattle.std.specs.Option.{option_map}
-use Rattle.std.proofs.lemmas.List.{map-append}
 use Rattle.lf_units.specs.declared.area.Point.{Point}
 use Rattle.lf_units.specs.declared.area.Rect.{Rect}
 use Rattle.lf_units.specs.declared.number.NumberFault.{NumberFault}
@@ -13,9 +10,9 @@ use Rattle.lf_orient.specs.declared.Orient.TheVariants.{N, W, S, E, FN, FW, FS, 
 use Rattle.lf_lex.specs.declared.fault.FaultNumber.TheVariants.{BadNumber, Unexpected, TooMany}
 use Rattle.lf_lex.specs.declared.fault.ReadFault.{ReadFault}
 use Rattle.lf_lex.specs.Tokens.{Lexed, Lexeme, Plain, plain}
-use Rattle.lf_lex.specs.Reading.{◌>>=◌, Reader, Taken, Turn, Statement, taken, turn, fault_at, token, is, is_word, kind_is_word, word, keyword, name, end_name, to_semicolon, to_end, to_word, block, first_stands}
+use Rattle.lf_lex.specs.Reading.{◌>>=◌, Reader, Turn, Statement, taken, turn, fault_at, token, is, is_word, kind_is_word, word, keyword, name, end_name, to_semicolon, block, first_stands}
 use Rattle.lf_lex.proofs.Runs.{Follows, Goes, same, turn_bare, bind, choose, given, pure, fault, token_follows, takes_one, block_follows}
-use Rattle.lf_lex.proofs.Following.{text_alike, kind_alike, is_alike, keyword_follows, word_follows, name_follows, end_name_follows, to_semicolon_follows, to_end_follows, to_word_follows}
+use Rattle.lf_lex.proofs.Following.{text_alike, is_alike, keyword_follows, word_follows, name_follows, end_name_follows, to_semicolon_follows}
 use Rattle.lf_def.specs.declared.entries.Due.{Due}
 use Rattle.lf_def.specs.declared.entries.Due.TheVariants.{Item, Keyword, Rest, Separator}
 use Rattle.lf_def.specs.declared.rows.Row.{Row}
@@ -31,7 +28,7 @@ use Rattle.lf_def.specs.declared.blockages.BlockageParts.{BlockageParts}
 use Rattle.lf_def.specs.declared.header.HeaderParts.{HeaderParts}
 use Rattle.lf_def.specs.Coordinates.{or_bad_number, dbu_of, dbu, up_to, count, point_rest, point, rect_between, rect_rest, rect, orient_of}
 use Rattle.lf_def.specs.Entries.{entry_or_end, section, name_of}
-use Rattle.lf_def.specs.Header.{version, quoted, design, units, is_header, header_statement}
+use Rattle.lf_def.specs.Header.{version, quoted, design, units, header_statement}
 use Rattle.lf_def.specs.Rows.{row_end, step, sites, one_site, sites_from, row}
 use Rattle.lf_def.specs.Regions as regions
 use Rattle.lf_def.specs.Groups as groups

@@ -1,11 +1,10 @@
 -- What stands behind a component, a statement or the end of the design plays no part in it.
-use Rattle.std.proofs.Common.{◌≡◌, ℕ, ◌-◌, Bool, true, false, ◌&&◌, cond, List, [], ◌∷◌, ◌++◌, length, take, Option, Some, None, Result, Ok, Err, refl, sym, ap, ◌∙◌, arith}
+use Rattle.std.proofs.Common.{◌≡◌, ℕ, ◌-◌, ◌&&◌, List, ◌∷◌, ◌++◌, length, take, Option, Some, None, Result, refl, sym, ap, ◌∙◌, arith}
 use Rattle.std.specs.Prelude.{codes, nat_lt}
-use Rattle.std.specs.Option.{option_map}
 use Rattle.lf_lex.specs.declared.fault.ReadFault.{ReadFault}
-use Rattle.lf_lex.specs.Tokens.{Lexed, Lexeme, plain, with_tokens, tokens_of, tokens_from, CutsAtTokens}
-use Rattle.lf_lex.specs.Reading.{◌>>=◌, Reader, Taken, Turn, taken, turn, token, behind, is, is_word, word, name, keyword, end_name, to_semicolon, block}
-use Rattle.lf_lex.proofs.Runs.{Follows, same, reads_alike, ok_is, same_run, with_both}
+use Rattle.lf_lex.specs.Tokens.{Lexed, Lexeme, with_tokens, tokens_of, tokens_from, CutsAtTokens}
+use Rattle.lf_lex.specs.Reading.{Reader, Taken, token, behind, is, is_word, word, name, keyword, end_name, to_semicolon, block}
+use Rattle.lf_lex.proofs.Runs.{same_run}
 use Rattle.lf_lex.proofs.Following.{keyword_follows, end_name_follows, to_semicolon_follows}
 use Rattle.lf_lex.proofs.Cutting.{cut}
 use Rattle.lf_def.specs.declared.entries.Due.{Due}
@@ -14,7 +13,7 @@ use Rattle.lf_def.specs.declared.components.Component.{Component}
 use Rattle.lf_def.specs.declared.components.ComponentParts.{ComponentParts}
 use Rattle.lf_def.specs.declared.components.Placement.{Placement}
 use Rattle.lf_def.specs.declared.components.PlacementKind.{PlacementKind}
-use Rattle.lf_def.specs.declared.components.PlacementKind.TheVariants.{Fixed, Cover, Placed, Unplaced}
+use Rattle.lf_def.specs.declared.components.PlacementKind.TheVariants.{Fixed, Cover, Placed}
 use Rattle.lf_def.specs.declared.parts.DocParts.{DocParts}
 use Rattle.lf_def.specs.Coordinates.{point_rest, orient_of}
 use Rattle.lf_def.specs.Entries.{entry_or_end, section}
@@ -23,12 +22,12 @@ use Rattle.lf_def.specs.Rows.{with_row}
 use Rattle.lf_def.specs.Regions.{regions}
 use Rattle.lf_def.specs.Groups.{groups}
 use Rattle.lf_def.specs.Blockages.{blockages}
-use Rattle.lf_def.specs.Components.{located_rest, placed, unplaced, is_placement_word, placement, only_placement, clause, up_to_stop, unplaced_point, component_part, component_from, component_token, no_component, component, components}
-use Rattle.lf_def.specs.Document.{passed_from, end_design, body_statement, statement_from, statement, no_parts, value_of, document_from, document_of, parts_of}
+use Rattle.lf_def.specs.Components.{located_rest, placed, unplaced, is_placement_word, placement, only_placement, clause, unplaced_point, component_part, component_from, component_token, no_component, component, components}
+use Rattle.lf_def.specs.Document.{passed_from, end_design, body_statement, statement_from, statement, no_parts, value_of, document_from}
 use Rattle.lf_def.specs.Laws.{EndsBefore}
-use Rattle.lf_def.proofs.Following.{point_rest_follows, header_follows, entry_from, entry_or_end_is, entry_or_end_goes}
+use Rattle.lf_def.proofs.Following.{point_rest_follows, header_follows, entry_from, entry_or_end_goes}
 use Rattle.lf_def.proofs.Places.{with_row_follows, regions_alike, groups_alike, blockages_alike, passed_follows, end_design_follows, component_follows, component_token_goes, statement_goes}
-use Rattle.lf_def.proofs.Local.{Local, Takes, local_of, local_pure, local_fault, local_choose, local_given, local_bind, token_local, local_block}
+use Rattle.lf_def.proofs.Local.{Local, local_of, local_pure, local_fault, local_choose, local_given, local_bind, token_local, local_block}
 
 word_local : Local word
 unfolding word

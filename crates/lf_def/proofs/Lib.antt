@@ -5,7 +5,11 @@ pub mod Following
 pub mod Kept
 pub mod Local
 pub mod Places
+pub mod PrintedBlockages
 pub mod PrintedEntries
+pub mod PrintedLists
+pub mod PrintedPlaces
+pub mod PrintedSections
 pub mod Ranges
 pub mod Rising
 pub mod Same

@@ -1,13 +1,9 @@
 -- Reading takes a run of tokens, and what stands behind the run plays no part.
-use Rattle.std.proofs.Common.{◌≡◌, ℕ, zero, suc, ◌+◌, ◌-◌, ◌≤◌, ◌<◌, Bool, true, false, ◌&&◌, cond, List, [], ◌∷◌, ◌++◌, length, take, Option, Some, None, Result, Ok, Err, refl, sym, ap, ◌∙◌, arith}
-use Rattle.std.specs.Prelude.{codes}
-use Rattle.std.specs.Option.{option_map}
-use Rattle.std.proofs.lemmas.List.{append_assoc, append-nil}
+use Rattle.std.proofs.Common.{◌≡◌, ℕ, zero, suc, ◌<◌, Bool, true, false, cond, List, [], ◌∷◌, ◌++◌, length, Result, Ok, Err, refl, sym, ap, ◌∙◌, arith}
 use Rattle.lf_lex.specs.declared.fault.ReadFault.{ReadFault}
-use Rattle.lf_lex.specs.Tokens.{Lexed, Lexeme, plain, with_tokens, tokens_of, tokens_from, CutsAtTokens}
-use Rattle.lf_lex.specs.Reading.{◌>>=◌, Reader, Taken, Turn, Statement, taken, turn, token, first_of, behind, is, name, keyword, end_name, to_semicolon, statements, block}
-use Rattle.lf_lex.proofs.Runs.{Follows, Goes, same, left, ok_is, with_both, same_run, length_both}
-use Rattle.lf_lex.proofs.Cutting.{cut}
+use Rattle.lf_lex.specs.Tokens.{Lexed, Lexeme, with_tokens}
+use Rattle.lf_lex.specs.Reading.{◌>>=◌, Reader, Taken, Turn, Statement, taken, turn, token, first_of, behind, statements, block}
+use Rattle.lf_lex.proofs.Runs.{Follows, Goes, same, left, ok_is, with_both, length_both}
 
 -- the run that was taken, whatever stands behind
 pub record Takes {A : Type 0} (reader : Reader A) (l m : Lexed) (x : A) : Type 0 where

@@ -1,15 +1,13 @@
 -- Components and whole texts read alike from tokens that differ in their places alone, but for the places that components bear.
-use Rattle.std.proofs.Common.{◌≡◌, ℕ, ◌<◌, Bool, true, false, ◌&&◌, ◌||◌, cond, List, [], ◌∷◌, ◌++◌, map, ℤ, length, Option, Some, None, Result, Ok, Err, refl, ap, sym, ◌∙◌}
+use Rattle.std.proofs.Common.{◌≡◌, ℕ, Bool, true, false, ◌&&◌, ◌||◌, List, [], ◌∷◌, ◌++◌, map, Option, Some, None, refl, ap, sym, ◌∙◌}
 use Rattle.std.specs.Prelude.{codes, not, is_some}
 use Rattle.std.specs.Str.{bytes_eq}
 use Rattle.std.specs.Option.{option_map}
 use Rattle.std.proofs.lemmas.List.{map-append}
 use Rattle.lf_units.specs.declared.area.Point.{Point}
 use Rattle.lf_orient.specs.declared.Orient.{Orient}
-use Rattle.lf_lex.specs.declared.fault.FaultNumber.TheVariants.{Unexpected, WrongEnd, UnknownStatement}
-use Rattle.lf_lex.specs.declared.fault.ReadFault.{ReadFault}
 use Rattle.lf_lex.specs.Tokens.{Lexed, Lexeme, Plain, plain}
-use Rattle.lf_lex.specs.Reading.{◌>>=◌, Reader, Taken, Turn, Statement, taken, turn, fault_at, token, is, kind_is_word, keyword, name, to_semicolon, to_end, to_word, block}
+use Rattle.lf_lex.specs.Reading.{turn, token, is, kind_is_word, keyword, name, to_end, block}
 use Rattle.lf_lex.proofs.Runs.{Follows, Goes, same, turn_bare, bind, choose, given, pure, fault, token_follows, takes_one, block_follows}
 use Rattle.lf_lex.proofs.Following.{text_alike, is_alike, keyword_follows, name_follows, to_semicolon_follows, to_end_follows, to_word_follows}
 use Rattle.lf_def.specs.declared.entries.Due.{Due}
@@ -20,7 +18,7 @@ use Rattle.lf_def.specs.declared.components.Located.{Located}
 use Rattle.lf_def.specs.declared.components.Location.{Location}
 use Rattle.lf_def.specs.declared.components.Placement.{Placement}
 use Rattle.lf_def.specs.declared.components.PlacementKind.{PlacementKind}
-use Rattle.lf_def.specs.declared.components.PlacementKind.TheVariants.{Fixed, Cover, Placed, Unplaced}
+use Rattle.lf_def.specs.declared.components.PlacementKind.TheVariants.{Fixed, Cover, Placed}
 use Rattle.lf_def.specs.declared.header.HeaderParts.{HeaderParts}
 use Rattle.lf_def.specs.declared.rows.Row.{Row}
 use Rattle.lf_def.specs.declared.regions.Region.{Region}
@@ -29,13 +27,12 @@ use Rattle.lf_def.specs.declared.blockages.Blockage.{Blockage}
 use Rattle.lf_def.specs.declared.parts.DocParts.{DocParts}
 use Rattle.lf_def.specs.Coordinates.{point_rest, orient_of}
 use Rattle.lf_def.specs.Header.{is_header, header_statement}
-use Rattle.lf_def.specs.Entries.{section}
 use Rattle.lf_def.specs.Rows.{row, with_row}
 use Rattle.lf_def.specs.Regions.{region, regions}
 use Rattle.lf_def.specs.Groups.{group, groups}
 use Rattle.lf_def.specs.Blockages.{blockages}
 use Rattle.lf_def.specs.Components.{located_rest, placed, unplaced, is_placement_word, placement, only_placement, clause, up_to_stop, unplaced_point, component_part, component_from, component_token, no_component, component, components}
-use Rattle.lf_def.specs.Document.{is_passed_section, is_passed_statement, passed_from, end_design, body_statement, statement_from, statement, no_parts}
+use Rattle.lf_def.specs.Document.{is_passed_section, is_passed_statement, passed_from, end_design, body_statement, statement_from, statement}
 use Rattle.lf_def.specs.Laws.{placement_without_places, without_places}
 use Rattle.lf_def.proofs.Following.{Grows, same_grows, point_rest_follows, orient_again, row_follows, region_follows, group_follows, blockages_follow, header_follows, section_follows}
 

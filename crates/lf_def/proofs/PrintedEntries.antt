@@ -1,10 +1,9 @@
 -- Printed rows, regions, groups, components and blockages read back.
-use Rattle.std.proofs.Common.{◌≡◌, ◌≢◌, ℕ, zero, suc, ◌≤◌, ◌<◌, Bool, true, false, ◌&&◌, ◌||◌, cond, List, [], ◌∷◌, ◌++◌, All, map, ℤ, pos, negsuc, ◌≤ℤ◌, length, Option, Some, None, Result, Ok, Err, refl, ap, sym, ◌∙◌, arith}
-use Rattle.std.proofs.lemmas.List.{append_assoc, append-nil}
+use Rattle.std.proofs.Common.{◌≡◌, ◌≢◌, ℕ, ◌≤◌, Bool, true, false, ◌&&◌, List, [], ◌∷◌, ◌++◌, ℤ, pos, ◌≤ℤ◌, length, Option, Some, None, Result, Ok, refl, ap, ◌∙◌, arith}
+use Rattle.std.proofs.lemmas.List.{append-nil}
 use Rattle.std.specs.Prelude.{codes, not, nat_lt, nat_le, IfSome}
 use Rattle.std.specs.Int.{int_min, int_max}
 use Rattle.std.specs.Str.{bytes_eq}
-use Rattle.std.specs.Option.{option_map}
 use Rattle.std.proofs.lemmas.Bool.Decides.{nat_tests}
 use Rattle.std.proofs.lemmas.Int.{ints, clamps}
 use Rattle.std.proofs.lemmas.Slice.Eq.{bytes_eq-Decides}
@@ -13,20 +12,18 @@ use Rattle.lf_units.specs.declared.area.Rect.{Rect}
 use Rattle.lf_units.specs.Number.{fixed_of}
 use Rattle.lf_orient.specs.declared.Orient.{Orient}
 use Rattle.lf_orient.specs.declared.Orient.TheVariants.{N, W, S, E, FN, FW, FS, FE}
-use Rattle.lf_lex.specs.declared.tokens.TokenKind.TheVariants.{Word}
 use Rattle.lf_lex.specs.declared.fault.ReadFault.{ReadFault}
-use Rattle.lf_lex.specs.Tokens.{Lexed, Lexeme, Plain, plain}
+use Rattle.lf_lex.specs.Tokens.{Lexeme, Plain, plain}
 use Rattle.lf_lex.specs.Splices.{word_of}
-use Rattle.lf_lex.specs.Reading.{◌>>=◌, Reader, Taken, Turn, taken, turn, token, is, is_word, kind_is_word, word, keyword, name, IsName, block}
-use Rattle.lf_lex.proofs.Runs.{same, left, turn_bare}
-use Rattle.lf_lex.proofs.Following.{text_alike}
+use Rattle.lf_lex.specs.Reading.{◌>>=◌, Reader, Taken, token, is, is_word, kind_is_word, word, keyword, name}
+use Rattle.lf_lex.proofs.Runs.{same, left}
 use Rattle.lf_def.specs.declared.rows.Row.{Row}
 use Rattle.lf_def.specs.declared.rows.Sites.{Sites}
 use Rattle.lf_def.specs.Coordinates.{or_bad_number, dbu_of, dbu, up_to, count, point_rest, point, rect_between, rect_rest, rect, orient_of}
-use Rattle.lf_def.specs.Rows.{row_end, step, sites, one_site, sites_from, row}
+use Rattle.lf_def.specs.Rows.{row_end, step, sites, sites_from, row}
 use Rattle.lf_def.specs.Ranges.{IsCoordinate, HasCoordinates, IsCount, IsRow, IsRect}
 use Rattle.lf_def.specs.Printed.{WritesNumbers, IsWord, orient_word, rect_words, step_words, row_words, IsPrintedRow}
-use Rattle.lf_def.proofs.Back.{Back, TurnsBack, back_pure, back_bind, back_first, back_yes, back_no, back_given, token_with, turns_last, turns_more, block_back}
+use Rattle.lf_def.proofs.Back.{Back, back_pure, back_bind, back_first, back_yes, back_no, back_given, token_with}
 
 -- a token with the bytes of a word is what the word is
 pub is_at : (due w : List ℕ) (t : Lexeme) → plain t ≡ word_of w → is due t ≡ bytes_eq w due
@@ -43,7 +40,7 @@ pub keyword_back : (due : List ℕ) → bytes_eq due due ≡ true → Back same 
 unfolding keyword
 keyword_back due own = back_first same _ due [] tt (λ t e. back_yes same (is due t) _ _ [] tt (is_at due due t e ∙ own) (back_pure same tt tt refl))
 
-word_test : (b : Bool) → b ≡ false → (true && not b) ≡ true
+pub word_test : (b : Bool) → b ≡ false → (true && not b) ≡ true
 word_test b e = rw e refl
 
 pub word_back : (n : List ℕ) → n ≢ codes ";" → Back plain word (n ∷ []) (token_with n)
@@ -52,7 +49,7 @@ word_back n other =
     back_first plain _ n [] (token_with n) (λ t e. back_yes plain (is_word t) _ _ [] (token_with n)
     (ap (λ (p : Plain). kind_is_word p.kind && not (bytes_eq p.text (codes ";"))) e ∙ word_test (bytes_eq n (codes ";")) (not_eq n (codes ";") other)) (back_pure plain (token_with n) t e))
 
-short_test : (n : ℕ) → n ≤ 1024 → nat_lt 1024 n ≡ false
+pub short_test : (n : ℕ) → n ≤ 1024 → nat_lt 1024 n ≡ false
 short_test n h = grind (arith, nat_tests)
 
 pub name_back : (n : List ℕ) → IsWord n → Back plain name (n ∷ []) (token_with n)

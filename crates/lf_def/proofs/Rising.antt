@@ -1,18 +1,16 @@
 -- The components of a document stand in its text in their order, one behind the other.
-use Rattle.std.proofs.Common.{◌≡◌, ◌⊎◌, ℕ, zero, suc, ◌+◌, ◌-◌, ◌≤◌, ◌<◌, Bool, true, false, ◌&&◌, cond, List, [], ◌∷◌, ◌++◌, length, take, drop, Option, Some, None, Result, Ok, Err, refl, sym, ap, ◌∙◌, arith, subst, min}
+use Rattle.std.proofs.Common.{◌≡◌, ℕ, zero, suc, ◌+◌, ◌-◌, ◌≤◌, ◌<◌, Bool, true, false, cond, List, [], ◌∷◌, ◌++◌, length, take, drop, Option, Some, None, Result, Err, refl, sym, ap, ◌∙◌, arith, min}
 use Rattle.std.specs.Prelude.{codes}
-use Rattle.std.specs.Str.{bytes_eq}
 use Rattle.std.proofs.lemmas.Slice.Eq.{bytes_eq-Decides}
 use Rattle.std.proofs.lemmas.List.{append_assoc, length-take, length-drop}
 use Rattle.lf_lex.specs.declared.fault.ReadFault.{ReadFault}
-use Rattle.lf_lex.specs.Tokens.{Lexed, Lexeme, AreSlices, with_token, with_tokens, tokens_of}
-use Rattle.lf_lex.specs.Reading.{◌>>=◌, Reader, Taken, Turn, taken, turn, token, is, end_name, to_semicolon, statements, block}
-use Rattle.lf_lex.proofs.Runs.{left, ok_is}
+use Rattle.lf_lex.specs.Tokens.{Lexed, Lexeme, AreSlices, with_token, tokens_of}
+use Rattle.lf_lex.specs.Reading.{◌>>=◌, Reader, Taken, Turn, taken, turn, is, end_name, to_semicolon, statements, block}
+use Rattle.lf_lex.proofs.Runs.{ok_is}
 use Rattle.lf_lex.proofs.Slices.{slices_from}
 use Rattle.lf_lex.proofs.Following.{to_semicolon_follows, end_name_follows}
 use Rattle.lf_def.specs.declared.components.Component.{Component}
 use Rattle.lf_def.specs.declared.components.Placement.{Placement}
-use Rattle.lf_def.specs.declared.header.HeaderParts.{HeaderParts}
 use Rattle.lf_def.specs.declared.parts.DocParts.{DocParts}
 use Rattle.lf_def.specs.Entries.{entry_or_end, section}
 use Rattle.lf_def.specs.Header.{is_header, header_statement}
@@ -21,13 +19,13 @@ use Rattle.lf_def.specs.Regions.{regions}
 use Rattle.lf_def.specs.Groups.{groups}
 use Rattle.lf_def.specs.Blockages.{blockages}
 use Rattle.lf_def.specs.Components.{component, components}
-use Rattle.lf_def.specs.Document.{Document, document_of, passed_from, end_design, body_statement, statement_from, statement, no_parts}
-use Rattle.lf_def.specs.Laws.{LastEnds, IsClause, ClauseAmong, HasClause, IsComponentOf, ClauseWithin, Rising, ComponentsRise}
+use Rattle.lf_def.specs.Document.{Document, passed_from, end_design, body_statement, statement_from, statement, no_parts}
+use Rattle.lf_def.specs.Laws.{LastEnds, ClauseAmong, HasClause, IsComponentOf, ClauseWithin, Rising, ComponentsRise}
 use Rattle.lf_def.proofs.Following.{header_follows}
 use Rattle.lf_def.proofs.Places.{with_row_follows, regions_alike, groups_alike, blockages_alike, passed_follows, end_design_follows}
-use Rattle.lf_def.proofs.Local.{Local, Takes, local_of, token_local}
-use Rattle.lf_def.proofs.Clauses.{bind_ok, token_ok, if_ok, components_stand}
-use Rattle.lf_def.proofs.Same.{Said, said}
+use Rattle.lf_def.proofs.Local.{Local, local_of}
+use Rattle.lf_def.proofs.Clauses.{bind_ok, token_ok, components_stand}
+use Rattle.lf_def.proofs.Same.{said}
 
 -- the place behind a run of tokens
 behind_run : ℕ → List Lexeme → ℕ

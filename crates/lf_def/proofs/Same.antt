@@ -1,12 +1,12 @@
 -- Texts whose tokens have the same bytes say the same, places apart.
-use Rattle.std.proofs.Common.{◌≡◌, ℕ, List, [], ◌∷◌, ◌++◌, map, Option, Some, None, Result, Ok, Err, refl, sym, ap, ◌∙◌}
+use Rattle.std.proofs.Common.{◌≡◌, ℕ, List, map, Result, Ok, Err, refl, sym, ap, ◌∙◌}
 use Rattle.lf_lex.specs.declared.fault.ReadFault.{ReadFault}
-use Rattle.lf_lex.specs.Tokens.{Lexed, Lexeme, Plain, plain, with_tokens, tokens_of}
+use Rattle.lf_lex.specs.Tokens.{Lexed, Lexeme, plain, with_tokens, tokens_of}
 use Rattle.lf_lex.specs.Reading.{Taken, taken, behind, block}
-use Rattle.lf_lex.proofs.Runs.{Run, split_alike}
+use Rattle.lf_lex.proofs.Runs.{split_alike}
 use Rattle.lf_def.specs.declared.parts.DocParts.{DocParts}
 use Rattle.lf_def.specs.Header.{header_of}
-use Rattle.lf_def.specs.Document.{Document, document_of, document_from, parts_of, value_of, statement, no_parts}
+use Rattle.lf_def.specs.Document.{Document, document_from, value_of, statement, no_parts}
 use Rattle.lf_def.specs.Laws.{SaysTheSame, document_without_places, ComponentReadsAlike}
 use Rattle.lf_def.proofs.Places.{bare_doc, statements_follow, component_follows}
 

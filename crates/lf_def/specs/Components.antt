@@ -1,5 +1,5 @@
 -- DEF COMPONENTS: - name macro {token} {+ clause} ; with the place of its placement clause in the text.
-use Rattle.std.specs.Prelude.{ℕ, Bool, true, false, ◌&&◌, ◌||◌, List, Option, Some, None, codes, if◌then◌else◌}
+use Rattle.std.specs.Prelude.{ℕ, Bool, false, ◌&&◌, ◌||◌, List, Option, Some, None, codes, if◌then◌else◌}
 use Rattle.std.specs.Option.{option_map}
 use Rattle.lf_lex.specs.declared.fault.FaultNumber.TheVariants.{Unexpected}
 use Rattle.lf_lex.specs.Tokens.{Lexeme}
@@ -12,7 +12,7 @@ use Rattle.lf_def.specs.declared.components.Located.{Located}
 use Rattle.lf_def.specs.declared.components.Placement.{Placement}
 use Rattle.lf_def.specs.declared.components.PlacementKind.{PlacementKind}
 use Rattle.lf_def.specs.declared.components.PlacementKind.TheVariants.{Fixed, Cover, Placed, Unplaced}
-use Rattle.lf_def.specs.Coordinates.{dbu, point_rest, orient_of}
+use Rattle.lf_def.specs.Coordinates.{point_rest, orient_of}
 use Rattle.lf_def.specs.Entries.{section}
 
 -- x y ) orient behind the first parenthesis, and where the orientation ends in the text

@@ -1,5 +1,5 @@
 -- Coordinates, points, rectangles, counts and orientations of DEF. Coordinates are whole database units.
-use Rattle.std.specs.Prelude.{ℕ, nat_le, ◌&&◌, List, [], ◌∷◌, ℤ, pos, negsuc, Result, Ok, Err, codes, if◌then◌else◌}
+use Rattle.std.specs.Prelude.{ℕ, nat_le, ◌&&◌, ℤ, pos, negsuc, Result, Ok, Err, codes, if◌then◌else◌}
 use Rattle.std.specs.Int.{int_min, int_max}
 use Rattle.lf_units.specs.declared.area.Point.{Point}
 use Rattle.lf_units.specs.declared.area.Rect.{Rect}

@@ -3,7 +3,7 @@ use Rattle.std.specs.Prelude.{ℕ, nat_lt, not, List, [], ◌∷◌, ◌++◌, l
 use Rattle.lf_lex.specs.declared.fault.FaultNumber.TheVariants.{Unexpected, TooMany}
 use Rattle.lf_lex.specs.declared.fault.ReadFault.{ReadFault}
 use Rattle.lf_lex.specs.Tokens.{Lexeme}
-use Rattle.lf_lex.specs.Reading.{◌>>=◌, Reader, Statement, taken, goes_on, ends, fault_at, token, is, is_word, end_name, to_semicolon, block}
+use Rattle.lf_lex.specs.Reading.{◌>>=◌, Reader, Statement, goes_on, ends, fault_at, token, is, is_word, end_name, to_semicolon, block}
 
 -- - entry .. ; or END and the keyword of the section
 unfoldable pub entry_or_end : {A : Type 0} → List ℕ → Reader A → Statement (List A)

@@ -1,5 +1,5 @@
 -- DEF VERSION, DIVIDERCHAR, BUSBITCHARS, DESIGN and UNITS: of each the first stands.
-use Rattle.std.specs.Prelude.{ℕ, Bool, ◌||◌, List, [], Option, None, codes, unwrap_or, if◌then◌else◌}
+use Rattle.std.specs.Prelude.{ℕ, Bool, ◌||◌, List, [], None, codes, unwrap_or, if◌then◌else◌}
 use Rattle.lf_lex.specs.declared.fault.FaultNumber.TheVariants.{Unexpected}
 use Rattle.lf_lex.specs.Tokens.{Lexeme}
 use Rattle.lf_lex.specs.Reading.{◌>>=◌, Reader, taken, fault_at, token, word, name, is, keyword, kind_is_word, first_stands}

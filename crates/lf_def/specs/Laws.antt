@@ -9,7 +9,7 @@ use Rattle.lf_def.specs.declared.components.Placement.{Placement}
 use Rattle.lf_def.specs.declared.parts.DocParts.{DocParts}
 use Rattle.lf_def.specs.Coordinates.{orient_of}
 use Rattle.lf_def.specs.Components.{component, is_placement_word}
-use Rattle.lf_def.specs.Document.{Document, document_of, statement, no_parts, document_from}
+use Rattle.lf_def.specs.Document.{Document, document_of, statement, no_parts}
 
 -- Where things stand in the text is left out.
 

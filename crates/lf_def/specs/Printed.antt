@@ -1,6 +1,5 @@
 -- Printed DEF texts: the words that say a value, with white space between.
 use Rattle.std.specs.Prelude.{◌≡◌, ◌≢◌, ℕ, List, [], ◌∷◌, ◌++◌, All, IfSome, map, ℤ, pos, Bool, true, false, Option, Some, None, Ok, codes}
-use Rattle.std.specs.List.{list_all}
 use Rattle.lf_units.specs.declared.area.Point.{Point}
 use Rattle.lf_units.specs.declared.area.Rect.{Rect}
 use Rattle.lf_units.specs.Number.{fixed_of}
@@ -8,7 +7,7 @@ use Rattle.lf_orient.specs.declared.Orient.{Orient}
 use Rattle.lf_orient.specs.declared.Orient.TheVariants.{N, W, S, E, FN, FW, FS, FE}
 use Rattle.lf_lex.specs.Tokens.{Lexed, Lexeme, plain, with_tokens}
 use Rattle.lf_lex.specs.Reading.{Reader, taken, IsName}
-use Rattle.lf_lex.specs.Splices.{is_word_text, joined, word_of}
+use Rattle.lf_lex.specs.Splices.{word_of}
 use Rattle.lf_def.specs.declared.rows.Row.{Row}
 use Rattle.lf_def.specs.declared.regions.Region.{Region}
 use Rattle.lf_def.specs.declared.regions.RegionKind.{RegionKind}
@@ -20,10 +19,9 @@ use Rattle.lf_def.specs.declared.components.Placement.{Placement}
 use Rattle.lf_def.specs.declared.components.PlacementKind.{PlacementKind}
 use Rattle.lf_def.specs.declared.components.PlacementKind.TheVariants.{Fixed, Cover, Placed, Unplaced}
 use Rattle.lf_def.specs.declared.blockages.Blockage.{Blockage}
-use Rattle.lf_def.specs.declared.parts.DocParts.{DocParts}
 use Rattle.lf_def.specs.Ranges.{IsCoordinate, IsRow, IsRect, IsLocation}
-use Rattle.lf_def.specs.Document.{Document, document_of, document_from, no_parts}
-use Rattle.lf_def.specs.Laws.{document_without_places}
+use Rattle.lf_def.specs.Components.{component}
+use Rattle.lf_def.specs.Laws.{without_places}
 
 -- a way of writing numbers, by which each coordinate is read as what it is
 abbrev pub WritesNumbers : (ℤ → List ℕ) → Type 0
@@ -161,45 +159,20 @@ blockage_words print b = codes "PLACEMENT" ∷ soft_words b.soft (partial_words 
 abbrev pub IsPrintedBlockage : Blockage → Type 0
 IsPrintedBlockage b = All IsRect b.rects
 
--- Whole texts.
+-- From tokens with these bytes this value is read, whatever stands behind them.
+abbrev pub ReadsBack : {A : Type 0} → Reader A → List (List ℕ) → A → Type 0
+ReadsBack reader words x = (tokens : List Lexeme) → map plain tokens ≡ map word_of words → (behind : Lexed) → reader (with_tokens tokens behind) ≡ taken x behind
 
--- what stands between DESIGN and END DESIGN: passed over up to a semicolon, passed over up to END and the keyword, or read; a section begins with its count
-pub data Printed : Type 0 where
-  Passed : (keyword : List ℕ) (words : List (List ℕ)) → Printed
-  PassedSection : (keyword : List ℕ) (words : List (List ℕ)) → Printed
-  ARow : Row → Printed
-  Regions : (count : List ℕ) → List Region → Printed
-  Groups : (count : List ℕ) → List Group → Printed
-  Components : (count : List ℕ) → List Component → Printed
-  Blockages : (count : List ℕ) → List Blockage → Printed
+-- the same for a component, but for where it stands
+abbrev pub ComponentReadsBack : List (List ℕ) → Component → Type 0
+ComponentReadsBack words c = (tokens : List Lexeme) → map plain tokens ≡ map word_of words → (behind : Lexed)
+    → (read : Component) × (component (with_tokens tokens behind) ≡ taken read behind) × (without_places read ≡ without_places c)
 
 -- each entry behind its minus
 abbrev pub entries_words : {A : Type 0} → (A → List (List ℕ)) → List A → List (List ℕ) → List (List ℕ)
 entries_words words [] rest = rest
 entries_words words (x ∷ xs) rest = codes "-" ∷ (words x ++ entries_words words xs rest)
 
+-- count ; entries END and the keyword
 abbrev pub section_words : {A : Type 0} → List ℕ → List ℕ → (A → List (List ℕ)) → List A → List (List ℕ)
-section_words keyword count words xs = keyword ∷ count ∷ codes ";" ∷ entries_words words xs (codes "END" ∷ keyword ∷ [])
-
-abbrev pub words_of : (ℤ → List ℕ) → Printed → List (List ℕ)
-words_of print (Passed keyword words) = keyword ∷ (words ++ codes ";" ∷ [])
-words_of print (PassedSection keyword words) = keyword ∷ (words ++ codes "END" ∷ keyword ∷ [])
-words_of print (ARow r) = codes "ROW" ∷ row_words print r
-words_of print (Regions count rs) = section_words (codes "REGIONS") count (region_words print) rs
-words_of print (Groups count gs) = section_words (codes "GROUPS") count group_words gs
-words_of print (Components count cs) = section_words (codes "COMPONENTS") count (component_words print) cs
-words_of print (Blockages count bs) = section_words (codes "BLOCKAGES") count (blockage_words print) bs
-
--- what the statement adds to what is known
-abbrev pub with_printed : DocParts → Printed → DocParts
-with_printed s (Passed keyword words) = s
-with_printed s (PassedSection keyword words) = s
-with_printed s (ARow r) = record s { rows = s.rows ++ r ∷ [] }
-with_printed s (Regions count rs) = record s { regions = s.regions ++ rs }
-with_printed s (Groups count gs) = record s { groups = s.groups ++ gs }
-with_printed s (Components count cs) = record s { components = s.components ++ cs }
-with_printed s (Blockages count bs) = record s { blockages = s.blockages ++ bs }
-
--- From tokens with these bytes this value is read, whatever stands behind them.
-abbrev pub ReadsBack : {A : Type 0} → Reader A → List (List ℕ) → A → Type 0
-ReadsBack reader words x = (tokens : List Lexeme) → map plain tokens ≡ map word_of words → (behind : Lexed) → reader (with_tokens tokens behind) ≡ taken x behind
+section_words keyword count words xs = count ∷ codes ";" ∷ entries_words words xs (codes "END" ∷ keyword ∷ [])

@@ -1,5 +1,5 @@
 -- The ranges and bounds of what a DEF text says.
-use Rattle.std.specs.Prelude.{◌≡◌, ℕ, ◌≤◌, List, All, IfSome, ℤ, pos, negsuc, ◌≤ℤ◌}
+use Rattle.std.specs.Prelude.{ℕ, ◌≤◌, All, IfSome, ℤ, pos, negsuc, ◌≤ℤ◌}
 use Rattle.lf_units.specs.declared.area.Point.{Point}
 use Rattle.lf_units.specs.declared.area.Rect.{Rect}
 use Rattle.lf_lex.specs.Reading.{IsName}

@@ -1,5 +1,5 @@
 -- DEF REGIONS: - name pt pt {pt pt} {+ clause} ;
-use Rattle.std.specs.Prelude.{ℕ, List, [], ◌∷◌, ◌++◌, Option, None, Result, Ok, codes, if◌then◌else◌}
+use Rattle.std.specs.Prelude.{List, [], ◌∷◌, ◌++◌, None, Result, Ok, codes, if◌then◌else◌}
 use Rattle.lf_units.specs.declared.area.Rect.{Rect}
 use Rattle.lf_lex.specs.declared.fault.FaultNumber.TheVariants.{Unexpected}
 use Rattle.lf_lex.specs.declared.fault.ReadFault.{ReadFault}

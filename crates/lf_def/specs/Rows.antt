@@ -1,5 +1,5 @@
 -- DEF ROW: ROW name site x y orient [DO numX BY numY [STEP sx sy]] [+ ..] ;
-use Rattle.std.specs.Prelude.{ℕ, List, [], ◌∷◌, ◌++◌, Option, Some, None, codes, if◌then◌else◌}
+use Rattle.std.specs.Prelude.{List, [], ◌∷◌, ◌++◌, Option, Some, None, codes, if◌then◌else◌}
 use Rattle.lf_units.specs.declared.area.Point.{Point}
 use Rattle.lf_lex.specs.declared.fault.FaultNumber.TheVariants.{Unexpected}
 use Rattle.lf_lex.specs.Tokens.{Lexeme}

@@ -1,16 +1,20 @@
 //! What is true of the grammar of DEF, whatever is read.
 
-ghost use Rattle.std.specs.Prelude.{List, ℕ, ℤ, codes};
+ghost use Rattle.std.specs.Prelude.{◌≢◌, List, ◌++◌, ℕ, ℤ, Some, All, codes};
 ghost use Rattle.lf_lex.specs.Laws.{TakesTokens, ReadsAlike};
 ghost use Rattle.lf_def.specs.Entries.{entry_or_end};
 ghost use Rattle.lf_def.specs.Rows.{row};
-ghost use Rattle.lf_def.specs.Regions.{region, region_token};
-ghost use Rattle.lf_def.specs.Groups.{group, group_token};
+ghost use Rattle.lf_def.specs.Regions.{region, region_token, regions};
+ghost use Rattle.lf_def.specs.Groups.{group, group_token, groups};
 ghost use Rattle.lf_def.specs.Components.{component, component_token};
 ghost use Rattle.lf_def.specs.Blockages.{blockage, blockage_token, blockage_or_end};
 ghost use Rattle.lf_def.specs.Document.{statement};
 ghost use Rattle.lf_def.specs.declared.rows.Row.{Row};
-ghost use Rattle.lf_def.specs.Printed.{WritesNumbers, ReadsBack, row_words, IsPrintedRow};
+ghost use Rattle.lf_def.specs.declared.regions.Region.{Region};
+ghost use Rattle.lf_def.specs.declared.groups.Group.{Group};
+ghost use Rattle.lf_def.specs.declared.components.Component.{Component};
+ghost use Rattle.lf_def.specs.declared.blockages.Blockage.{Blockage};
+ghost use Rattle.lf_def.specs.Printed.{WritesNumbers, ReadsBack, row_words, IsPrintedRow, region_words, IsPrintedRegion, group_words, IsPrintedGroup, component_words, IsPrintedComponent, ComponentReadsBack, blockage_words, IsPrintedBlockage, section_words};
 ghost use Rattle.lf_def.specs.Laws.{ComponentReadsAlike, SaysTheSame, EndsBefore, ComponentsStand, ComponentsRise};
 
 /// Each statement, entry and token behind which more follow takes a token, so every block comes to its
@@ -48,9 +52,14 @@ pub fn nothing_behind_end_design_counts()
     ensures { (text : List ℕ) → EndsBefore text }
 {}
 
-/// A printed row reads back as that row, however its numbers are written.
+/// A printed row, region, group, component or blockage reads back as what it is, however its numbers are
+/// written and whatever stands behind it; a component but for where it stands.
 pub fn printed_entries_read_back()
     ensures row { (print : ℤ → List ℕ) → WritesNumbers print → (r : Row) → IsPrintedRow r → ReadsBack row (row_words print r) r }
+    ensures region { (print : ℤ → List ℕ) → WritesNumbers print → (r : Region) → IsPrintedRegion r → ReadsBack region (region_words print r) r }
+    ensures group { (g : Group) → IsPrintedGroup g → ReadsBack group (group_words g) g }
+    ensures component { (print : ℤ → List ℕ) → WritesNumbers print → (c : Component) → IsPrintedComponent c → ComponentReadsBack (component_words print c) c }
+    ensures blockage { (print : ℤ → List ℕ) → WritesNumbers print → (b : Blockage) → IsPrintedBlockage b → ReadsBack blockage (blockage_words print b) (Some b) }
 {}
 
 /// The placement clause of a component runs from the first byte of its `+` to the last byte of its last
@@ -64,4 +73,11 @@ pub fn clauses_stand_in_components()
 /// each before its own `;`, and behind the `;` of the component before it.
 pub fn components_rise()
     ensures { (text : List ℕ) → ComponentsRise text }
+{}
+
+/// A printed REGIONS or GROUPS section reads back as its list, behind the entries of earlier sections,
+/// whatever count it bears.
+pub fn printed_sections_read_back()
+    ensures regions { (print : ℤ → List ℕ) → WritesNumbers print → (count : List ℕ) → count ≢ codes ";" → (new known : List Region) → All IsPrintedRegion new → ReadsBack (regions known) (section_words (codes "REGIONS") count (region_words print) new) (known ++ new) }
+    ensures groups { (count : List ℕ) → count ≢ codes ";" → (new known : List Group) → All IsPrintedGroup new → ReadsBack (groups known) (section_words (codes "GROUPS") count group_words new) (known ++ new) }
 {}

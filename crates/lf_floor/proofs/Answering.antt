@@ -1,5 +1,5 @@
 -- What the answer to a command is: from the team's part in it to the step.
-use Rattle.std.proofs.Common.{◌≡◌, ◌≢◌, ℕ, zero, suc, ◌<◌, List, [], ◌∷◌, ◌++◌, Bool, true, false, set, map, length, get_or, Option, Some, None, refl, ap, sym, ◌∙◌, subst, arith}
+use Rattle.std.proofs.Common.{◌≡◌, ◌≢◌, ℕ, zero, suc, ◌<◌, List, [], ◌∷◌, Bool, false, set, length, get_or, Option, Some, None, refl, ap, sym, ◌∙◌, subst, arith}
 use Rattle.std.specs.Prelude.{slice_get, position, bytes_eq, is_none, MatchBool}
 use Rattle.std.proofs.lemmas.Bool.{both_ways}
 use Rattle.std.proofs.lemmas.List.Quantifiers.{position-Some}
@@ -18,7 +18,7 @@ use Rattle.lf_proto.specs.declared.reply.Reply.TheVariants.{Done, Refused}
 use Rattle.lf_proto.specs.declared.reply.Refusal.TheVariants.{NoTeam}
 use Rattle.lf_floor.specs.States.{TeamState, FloorState}
 use Rattle.lf_floor.specs.Teams.{team_names, team_number, state_at, state_of}
-use Rattle.lf_floor.specs.Outcomes.{Outcome, is_short, may_be_short, opened, opened_at, located, located_own, located_at, working_at, if_open, seen_at}
+use Rattle.lf_floor.specs.Outcomes.{is_short, may_be_short, opened, opened_at, located, located_own, located_at, working_at, if_open, seen_at}
 use Rattle.lf_floor.specs.Teams.{cell_named}
 use Rattle.lf_floor.specs.Steps.{Answer, setting, ruled, no_team, settled, answer_by, answer_at, answer_of, Answers, Gives, RunsShort, StaysShort, Step, TakesNone, IsTo}
 use Rattle.lf_floor.proofs.Kept.{outcome_plain}

@@ -1,5 +1,5 @@
 -- The boxes of a team's placed cells, and the first broken rule beside them.
-use Rattle.std.proofs.Common.{◌≡◌, ℕ, ◌<◌, List, [], ◌∷◌, Bool, true, false, not, eqb, length, get_or, map, filter, Option, Some, None, refl, ap, sym, ◌∙◌, subst}
+use Rattle.std.proofs.Common.{◌≡◌, ℕ, List, not, eqb, map, filter, Option, Some, ap, sym, ◌∙◌}
 use Rattle.std.specs.Prelude.{slice_get}
 use Rattle.lf_frame.specs.declared.frame.Frame.{Frame}
 use Rattle.lf_lef.specs.declared.macros.Macro.{Macro}

@@ -1,16 +1,15 @@
 -- What no command changes: the macros of a team's cells, their number, the number of slots.
-use Rattle.std.proofs.Common.{◌≡◌, ℕ, zero, suc, ◌+◌, ◌<◌, ◌≤◌, List, [], ◌∷◌, Bool, true, false, length, set, Option, Some, None, refl, ap, sym, ◌∙◌, subst, get_or, arith}
-use Rattle.std.specs.Prelude.{All, slice_set}
+use Rattle.std.proofs.Common.{◌≡◌, ℕ, zero, suc, ◌+◌, ◌<◌, List, [], ◌∷◌, false, length, Option, Some, None, refl, ap, subst, get_or}
+use Rattle.std.specs.Prelude.{All}
 use Rattle.std.proofs.lemmas.List.{length-set}
 use Rattle.lf_frame.specs.declared.frame.Frame.{Frame}
 use Rattle.lf_frame.specs.declared.place.Place.{Place}
 use Rattle.lf_proto.specs.declared.request.Order.{Order}
-use Rattle.lf_proto.specs.declared.reply.Reply.TheVariants.{Refused}
 use Rattle.lf_floor.specs.declared.cell.Cell.{Cell}
 use Rattle.lf_floor.specs.States.{TeamState}
 use Rattle.lf_floor.specs.Teams.{Setting, IsSizedCell, IsTeamOf}
-use Rattle.lf_floor.specs.Outcomes.{Outcome, is_short, outcome_of, moved}
-use Rattle.lf_floor.proofs.Cases.{Leaves, outcome_by}
+use Rattle.lf_floor.specs.Outcomes.{is_short, outcome_of, moved}
+use Rattle.lf_floor.proofs.Cases.{outcome_by}
 
 moved_length : (cells : List Cell) (own : ℕ) (place : Option Place) → length (moved cells own place) ≡ length cells
 moved_length [] own place = refl

@@ -1,5 +1,5 @@
 -- What the outcome of the team at one position is to the floor.
-use Rattle.std.proofs.Common.{◌≡◌, ℕ, ◌<◌, List, true, false, Bool, set, get_or, Option, Some, None, Result, Ok, Err, refl, ap, sym, ◌∙◌, subst}
+use Rattle.std.proofs.Common.{◌≡◌, ℕ, List, get_or, Option, Some, Result, Ok, Err, ap, sym, ◌∙◌, subst}
 use Rattle.std.specs.Prelude.{IfOk, OnErr, slice_get, slice_set}
 use Rattle.std.specs.declared.alloc.AllocError.{AllocError}
 use Rattle.std.proofs.lemmas.List.{set-get_or}
@@ -8,9 +8,9 @@ use Rattle.lf_frame.specs.declared.place.Place.{Place}
 use Rattle.lf_rules.specs.Legalizer.{Legalizer}
 use Rattle.lf_proto.specs.declared.request.Order.{Order}
 use Rattle.lf_proto.specs.declared.reply.Reply.{Reply}
-use Rattle.lf_floor.specs.States.{TeamState, FloorState}
+use Rattle.lf_floor.specs.States.{TeamState}
 use Rattle.lf_floor.specs.Outcomes.{Outcome, Reaches, RunsOut}
-use Rattle.lf_floor.specs.Steps.{ruled, answer_by, settled, Gives, StaysShort, floor_of}
+use Rattle.lf_floor.specs.Steps.{ruled, answer_by, Gives, StaysShort, floor_of}
 
 -- whatever holds of the team before and of its outcome holds of the team afterwards
 pub kept_by : (P : TeamState → Type 0) (o : Outcome) (old new : TeamState) (result : Result Reply AllocError) → IfOk result (λ reply. Reaches o reply new) → OnErr result (RunsOut o old new) → P old → P o.team → P new

@@ -1,4 +1,4 @@
-use Rattle.std.proofs.Common.{sym, ◌∙◌}
+use Rattle.std.proofs.Common.{sym}
 use Rattle.lf_floor.proofs.Names.{fence_is, outside_is, unknown_is}
 use Rattle.lf_floor.proofs.floor.team_named.Goals as goal
 

@@ -1,4 +1,4 @@
-use Rattle.std.proofs.Common.{arith, ap, sym, ◌≡◌, ◌<◌, ◌+◌, ℕ, List, length}
+use Rattle.std.proofs.Common.{arith, ap, ◌≡◌, ◌<◌, ◌+◌, List, length}
 use Rattle.lf_frame.specs.declared.parts.Team.{Team}
 use Rattle.lf_floor.proofs.Openings.{more_teams, last_team}
 use Rattle.lf_floor.proofs.opening.opening_teams.Goals as goal

@@ -1,4 +1,3 @@
-use Rattle.std.proofs.Common.{sym}
 use Rattle.lf_floor.proofs.Openings.{opening_whole}
 use Rattle.lf_floor.proofs.floor.Floor.start.Goals as goal
 

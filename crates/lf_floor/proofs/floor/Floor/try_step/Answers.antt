@@ -1,4 +1,3 @@
-use Rattle.std.proofs.Common.{refl, sym}
 use Rattle.std.proofs.lemmas.Result.{IfOk-weaker, on_err_weaker}
 use Rattle.lf_proto.specs.Commands.{order_of}
 use Rattle.lf_floor.specs.Steps.{floor_of}
