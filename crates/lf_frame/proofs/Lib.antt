@@ -4,3 +4,8 @@ pub mod Wide
 pub mod StandingLemmas
 pub mod GroundLemmas
 pub mod CellLemmas
+pub mod Firsts
+pub mod RectLemmas
+pub mod RowEdges
+pub mod NameLemmas
+pub mod ClaimLemmas

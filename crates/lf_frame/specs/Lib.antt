@@ -6,3 +6,6 @@ pub mod Ground
 pub mod Standing
 pub mod Premise
 pub mod Design
+pub mod Entries
+pub mod Loading
+pub mod Refusals

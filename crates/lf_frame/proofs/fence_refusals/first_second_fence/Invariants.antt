@@ -1,0 +1,6 @@
+use Rattle.lf_frame.specs.Refusals.{BearsEarlierFence}
+use Rattle.lf_frame.proofs.Firsts.{NoneBelow}
+use Rattle.lf_frame.proofs.fence_refusals.first_second_fence.Given as goal
+
+abbrev pub invariant-loop-number : goal.invariant-loop-number
+invariant-loop-number l = NoneBelow BearsEarlierFence l.regions l.number

@@ -1,0 +1,16 @@
+-- The first entry of a list that breaks a rule, where an entry is read with those before it.
+use Rattle.std.specs.Prelude.{ℕ, ◌<◌, List, length, take, Option, slice_index_or, MatchOption}
+
+-- no entry breaks the rule
+abbrev pub NoneBreaks : {A : Type 0} → (List A → A → Type 0) → List A → Type 0
+NoneBreaks {A} breaks entries = (k : ℕ) (d : A) → k < length entries → breaks (take k entries) (slice_index_or entries k d) → ⊥
+
+-- the entry at this place breaks the rule, and none before it does
+pub record IsFirst {A : Type 0} (breaks : List A → A → Type 0) (entries : List A) (place : ℕ) : Type 0 where
+  pub within : place < length entries
+  pub breaking : (d : A) → breaks (take place entries) (slice_index_or entries place d)
+  pub none_before : (k : ℕ) (d : A) → k < place → breaks (take k entries) (slice_index_or entries k d) → ⊥
+
+-- the place of the first entry that breaks the rule, or none
+abbrev pub FirstIs : {A : Type 0} → (List A → A → Type 0) → List A → Option ℕ → Type 0
+FirstIs breaks entries found = MatchOption found (NoneBreaks breaks entries) (IsFirst breaks entries)

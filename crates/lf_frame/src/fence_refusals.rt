@@ -1,0 +1,252 @@
+//! What loading refuses of regions and groups.
+
+ghost use Rattle.std.specs.Prelude.{[], ◌≡◌, ◌≢◌, ◌↔◌, ℕ, ◌<◌, ◌≤◌, true, None, List, All, Any, IsTrue, MatchOption, IfSome, length};
+ghost use Rattle.lf_units.specs.Area.{SharesPoint};
+ghost use Rattle.lf_frame.specs.Entries.{FirstIs};
+ghost use Rattle.lf_frame.specs.Loading.{is_fence as is_fence_region};
+ghost use Rattle.lf_frame.specs.Refusals.{BearsEarlierFence, HasNoRegion, BearsGroundName, SharePoint, MeetsEarlierFence, IsFenceTooMany};
+ghost use Rattle.lf_frame.specs.Refusals.{HasTwoFences, IsClaimedTwice, HasOtherClaim};
+ghost use Rattle.lf_frame.specs.Loading.{NamedBy, IsClaimed, Claims};
+
+use crate::component_refusals::is_movable;
+use lf_def::{Component, Group, Region, RegionKind};
+use lf_names::Pattern;
+use lf_units::{Name, Rect};
+
+/// Whether the region's TYPE is FENCE.
+pub fn is_fence(region: &Region) -> bool
+    ensures { result ≡ is_fence_region region.now }
+{
+    match region.kind {
+        Some(RegionKind::Fence) => true,
+        Some(RegionKind::Guide) => false,
+        None => false,
+    }
+}
+
+/// Whether a fence of the list bears the name.
+pub fn is_fence_named(name: &Name, regions: &[Region]) -> bool
+    ensures { IsTrue result ↔ Any (λ e. (is_fence_region e ≡ true) × (e.name ≡ name.now)) regions.now }
+{
+    for region in regions {
+        if is_fence(region) && region.name.is_same(name) {
+            return true;
+        }
+    }
+    false
+}
+
+/// The first fence that bears an earlier fence's name.
+pub fn first_second_fence(regions: &[Region]) -> Option<usize>
+    ensures { FirstIs BearsEarlierFence regions.now result }
+{
+    for (number, region) in regions.iter().enumerate() {
+        if is_fence(region) && is_fence_named(&region.name, &regions[..number]) {
+            return Some(number);
+        }
+    }
+    None
+}
+
+/// Whether the region is a fence named `-`.
+fn bears_ground_name(region: &Region) -> bool
+    ensures { IsTrue result ↔ BearsGroundName [] region.now }
+{
+    is_fence(region) && region.name.is(b"-")
+}
+
+/// The first fence named `-`.
+pub fn first_ground_name(regions: &[Region]) -> Option<usize>
+    ensures { FirstIs BearsGroundName regions.now result }
+{
+    for (number, region) in regions.iter().enumerate() {
+        if bears_ground_name(region) {
+            return Some(number);
+        }
+    }
+    None
+}
+
+/// Whether no region bears the name.
+fn is_no_region(name: &Name, regions: &[Region]) -> bool
+    ensures { IsTrue result ↔ All (λ r. r.name ≢ name.now) regions.now }
+{
+    regions.iter().all(|region| !region.name.is_same(name))
+}
+
+/// Whether the group has a region that no entry of REGIONS is.
+fn has_no_region(group: &Group, regions: &[Region]) -> bool
+    ensures { IsTrue result ↔ HasNoRegion regions.now [] group.now }
+{
+    match &group.region {
+        Some(name) => is_no_region(name, regions),
+        None => false,
+    }
+}
+
+/// The first group whose region no entry of REGIONS is.
+pub fn first_without_region(groups: &[Group], regions: &[Region]) -> Option<usize>
+    ensures { FirstIs (HasNoRegion regions.now) groups.now result }
+{
+    for (number, group) in groups.iter().enumerate() {
+        if has_no_region(group, regions) {
+            return Some(number);
+        }
+    }
+    None
+}
+
+/// Whether the rectangle shares a point with one of the list.
+fn meets_rect(rect: &Rect, others: &[Rect]) -> bool
+    ensures { IsTrue result ↔ Any (λ b. SharesPoint rect.now b) others.now }
+{
+    others.iter().any(|other| rect.overlaps(other))
+}
+
+/// Whether a rectangle of the one list shares a point with one of the other.
+fn do_rects_meet(first: &[Rect], second: &[Rect]) -> bool
+    ensures { IsTrue result ↔ Any (λ a. Any (λ b. SharesPoint a b) second.now) first.now }
+{
+    for rect in first {
+        if meets_rect(rect, second) {
+            return true;
+        }
+    }
+    false
+}
+
+/// Whether a point lies in rectangles of both regions.
+fn do_regions_meet(first: &Region, second: &Region) -> bool
+    ensures { IsTrue result ↔ SharePoint first.now.rects second.now.rects }
+{
+    do_rects_meet(first.rects.as_slice(), second.rects.as_slice())
+}
+
+/// Whether a fence of the list shares a point with the region.
+fn meets_one_of(region: &Region, earlier: &[Region]) -> bool
+    ensures { IsTrue result ↔ Any (λ e. (is_fence_region e ≡ true) × SharePoint e.rects region.now.rects) earlier.now }
+{
+    for other in earlier {
+        if is_fence(other) && do_regions_meet(other, region) {
+            return true;
+        }
+    }
+    false
+}
+
+/// The first fence that shares a point with an earlier fence.
+pub fn first_fence_overlap(regions: &[Region]) -> Option<usize>
+    ensures { FirstIs MeetsEarlierFence regions.now result }
+{
+    for (number, region) in regions.iter().enumerate() {
+        if is_fence(region) && meets_one_of(region, &regions[..number]) {
+            return Some(number);
+        }
+    }
+    None
+}
+
+/// The first fence that stands behind so many fences as the limit allows.
+pub fn first_fence_too_many(regions: &[Region], limit: usize) -> Option<usize>
+    ensures { FirstIs (IsFenceTooMany limit) regions.now result }
+{
+    let mut fences = 0;
+    for (number, region) in regions.iter().enumerate() {
+        if is_fence(region) {
+            if limit <= fences {
+                return Some(number);
+            }
+            fences += 1;
+        }
+    }
+    None
+}
+
+/// Whether a pattern of the group stands for the name.
+fn is_named_by(group: &Group, name: &[u8]) -> bool
+    ensures { IsTrue result ↔ NamedBy group.now name.now }
+{
+    group
+        .patterns
+        .as_slice()
+        .iter()
+        .any(|pattern| Pattern::new(pattern.as_bytes()).matches(name))
+}
+
+/// The fence that the group is bound to, where it is one and the group names the component.
+fn claim_of<'d>(group: &'d Group, regions: &[Region], name: &[u8]) -> Option<&'d Name>
+    ensures { MatchOption result ((fence : List ℕ) → Claims regions.now group.now name.now fence → ⊥) (λ fence. Claims regions.now group.now name.now fence.now) }
+{
+    let Some(fence) = &group.region else {
+        return None;
+    };
+    if !is_fence_named(fence, regions) {
+        return None;
+    }
+    if !is_named_by(group, name) {
+        return None;
+    }
+    Some(fence)
+}
+
+/// The fence of the first group that is bound to a fence and names the component.
+pub fn first_claim<'d>(groups: &'d [Group], regions: &[Region], name: &[u8]) -> Option<&'d Name>
+    ensures { MatchOption result ((fence : List ℕ) → IsClaimed regions.now groups.now name.now fence → ⊥) (λ fence. IsClaimed regions.now groups.now name.now fence.now) }
+{
+    for group in groups {
+        if let Some(fence) = claim_of(group, regions, name) {
+            return Some(fence);
+        }
+    }
+    None
+}
+
+/// Whether a group that is bound to another fence names the component.
+fn has_other_claim(groups: &[Group], regions: &[Region], name: &[u8], fence: &Name) -> bool
+    ensures { IsTrue result ↔ HasOtherClaim regions.now groups.now name.now fence.now }
+{
+    for group in groups {
+        if let Some(other) = claim_of(group, regions, name) {
+            if !other.is_same(fence) {
+                return true;
+            }
+        }
+    }
+    false
+}
+
+/// Whether groups of two different fences name the component.
+fn has_two_fences(groups: &[Group], regions: &[Region], name: &[u8]) -> bool
+    ensures { IsTrue result ↔ HasTwoFences regions.now groups.now name.now }
+{
+    match first_claim(groups, regions, name) {
+        Some(fence) => has_other_claim(groups, regions, name, fence),
+        None => false,
+    }
+}
+
+/// Whether teams may move the component, and groups of two different fences name it.
+fn is_claimed_twice(component: &Component, groups: &[Group], regions: &[Region]) -> bool
+    ensures { IsTrue result ↔ IsClaimedTwice regions.now groups.now [] component.now }
+{
+    if !is_movable(component) {
+        return false;
+    }
+    has_two_fences(groups, regions, component.name.as_bytes())
+}
+
+/// The first movable component that groups of two different fences name.
+pub fn first_claimed_twice(
+    components: &[Component],
+    groups: &[Group],
+    regions: &[Region],
+) -> Option<usize>
+    ensures { FirstIs (IsClaimedTwice regions.now groups.now) components.now result }
+{
+    for (number, component) in components.iter().enumerate() {
+        if is_claimed_twice(component, groups, regions) {
+            return Some(number);
+        }
+    }
+    None
+}
