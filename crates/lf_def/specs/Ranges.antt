@@ -1,5 +1,5 @@
 -- The ranges and bounds of what a DEF text says.
-use Rattle.std.specs.Prelude.{ℕ, ◌≤◌, All, IfSome, ℤ, pos, negsuc, ◌≤ℤ◌}
+use Rattle.std.specs.Prelude.{ℕ, ◌≤◌, ◌<◌, length, All, IfSome, ℤ, pos, negsuc, ◌≤ℤ◌}
 use Rattle.lf_units.specs.declared.area.Point.{Point}
 use Rattle.lf_units.specs.declared.area.Rect.{Rect}
 use Rattle.lf_lex.specs.Reading.{IsName}
@@ -51,9 +51,11 @@ pub record IsRow (r : Row) : Type 0 where
   pub sites_y : IsCount 2147483647 r.sites_y
   pub step : IfSome r.step (λ p. HasCoordinates p)
 
+-- a region has at least one rectangle
 pub record IsRegion (r : Region) : Type 0 where
   pub name : IsName r.name
   pub rects : All IsRect r.rects
+  pub has_rect : 0 < length r.rects
 
 pub record IsGroup (g : Group) : Type 0 where
   pub name : IsName g.name

@@ -1,6 +1,6 @@
 //! Regions: fences and guides.
 
-ghost use Rattle.std.specs.Prelude.{◌≡◌, Ok, All, IfOk, IfErr, MatchResult, codes};
+ghost use Rattle.std.specs.Prelude.{◌≡◌, ◌<◌, length, Ok, All, IfOk, IfErr, MatchResult, codes};
 ghost use Rattle.lf_lex.specs.Tokens.{lexeme};
 ghost use Rattle.lf_lex.specs.Reading.{Reads, ReadsOn, Fails, block, turn};
 ghost use Rattle.lf_lex.specs.declared.fault.ReadError.TheVariants.{Memory};
@@ -61,8 +61,10 @@ fn kind_of(token: &Token) -> Result<RegionKind, ReadError>
 #[tactic(auto, unfolding(crate::specs::Regions::with_rect))]
 fn with_rect(lexer: &mut Lexer, parts: &mut RegionParts) -> Result<bool, ReadError>
     requires rects { All IsRect parts.old.rects }
+    requires some { 0 < length parts.old.rects }
     ensures read { Reads (turn parts.new) result (grammar.with_rect parts.old) lexer.old lexer.new }
     ensures rects { All IsRect parts.new.rects }
+    ensures some { 0 < length parts.new.rects }
 {
     let rect = rect_rest(lexer)?;
     parts.rects.push(rect)?;
@@ -73,8 +75,10 @@ fn with_rect(lexer: &mut Lexer, parts: &mut RegionParts) -> Result<bool, ReadErr
 #[tactic(auto, unfolding(crate::specs::Regions::with_kind))]
 fn with_kind(lexer: &mut Lexer, parts: &mut RegionParts) -> Result<bool, ReadError>
     requires rects { All IsRect parts.old.rects }
+    requires some { 0 < length parts.old.rects }
     ensures read { Reads (turn parts.new) result (grammar.with_kind parts.old) lexer.old lexer.new }
     ensures rects { All IsRect parts.new.rects }
+    ensures some { 0 < length parts.new.rects }
 {
     let token = token(lexer)?;
     let kind = kind_of(&token)?;
@@ -87,8 +91,10 @@ fn with_kind(lexer: &mut Lexer, parts: &mut RegionParts) -> Result<bool, ReadErr
 #[tactic(auto, unfolding(crate::specs::Regions::region_part))]
 fn region_part(lexer: &mut Lexer, parts: &mut RegionParts, token: &Token) -> Result<bool, ReadError>
     requires rects { All IsRect parts.old.rects }
+    requires some { 0 < length parts.old.rects }
     ensures read { ReadsOn (turn parts.new) result (grammar.region_part parts.old.due parts.old (lexeme token.now)) lexer.old lexer.new }
     ensures rects { All IsRect parts.new.rects }
+    ensures some { 0 < length parts.new.rects }
 {
     match parts.due {
         Due::Item => {
@@ -115,8 +121,10 @@ fn region_part(lexer: &mut Lexer, parts: &mut RegionParts, token: &Token) -> Res
 #[tactic(auto, unfolding(crate::specs::Regions::region_from))]
 fn region_from(lexer: &mut Lexer, parts: &mut RegionParts, token: &Token) -> Result<bool, ReadError>
     requires rects { All IsRect parts.old.rects }
+    requires some { 0 < length parts.old.rects }
     ensures read { ReadsOn (turn parts.new) result (grammar.region_from parts.old (lexeme token.now)) lexer.old lexer.new }
     ensures rects { All IsRect parts.new.rects }
+    ensures some { 0 < length parts.new.rects }
 {
     if is(b";", token) {
         Ok(false)
@@ -131,8 +139,10 @@ fn region_from(lexer: &mut Lexer, parts: &mut RegionParts, token: &Token) -> Res
 #[tactic(auto, unfolding(crate::specs::Regions::region_token))]
 fn region_token(lexer: &mut Lexer, parts: &mut RegionParts) -> Result<bool, ReadError>
     requires rects { All IsRect parts.old.rects }
+    requires some { 0 < length parts.old.rects }
     ensures read { Reads (turn parts.new) result (grammar.region_token parts.old) lexer.old lexer.new }
     ensures rects { All IsRect parts.new.rects }
+    ensures some { 0 < length parts.new.rects }
 {
     let token = token(lexer)?;
     region_from(lexer, parts, &token)
@@ -141,8 +151,10 @@ fn region_token(lexer: &mut Lexer, parts: &mut RegionParts) -> Result<bool, Read
 /// The tokens of a region behind its first rectangle, with its `;`.
 fn region_rest(lexer: &mut Lexer, parts: &mut RegionParts) -> Result<(), ReadError>
     requires rects { All IsRect parts.old.rects }
+    requires some { 0 < length parts.old.rects }
     ensures read { Reads (λ _. parts.new) result (block grammar.region_token parts.old) lexer.old lexer.new }
     ensures rects { All IsRect parts.new.rects }
+    ensures some { 0 < length parts.new.rects }
 {
     while region_token(lexer, parts)? {}
     Ok(())
@@ -154,6 +166,7 @@ fn first_rect(alloc: Global, rect: Rect) -> Result<RegionParts, ReadError>
     ensures parts { IfOk result (λ parts. parts ≡ grammar.first_rect rect) }
     ensures memory { IfErr result (λ e. e ≡ Memory) }
     ensures rects { IfOk result (λ parts. All IsRect parts.rects) }
+    ensures some { IfOk result (λ parts. 0 < length parts.rects) }
 {
     let mut rects = Sequence::new(alloc);
     rects.push(rect)?;

@@ -9,3 +9,5 @@ pub mod RectLemmas
 pub mod RowEdges
 pub mod NameLemmas
 pub mod ClaimLemmas
+pub mod CoreLemmas
+pub mod Numbers

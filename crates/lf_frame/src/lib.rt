@@ -3,16 +3,20 @@
 
 mod assembled;
 mod checked;
+
 mod component_refusals;
 mod design;
 mod fence_refusals;
+mod findings;
 mod frame;
 mod laws;
 mod limits;
 mod loaded;
 mod measure;
 mod parts;
+mod pitch;
 mod place;
+mod refusal;
 mod row_refusals;
 
 pub use assembled::{Parts, frame_of, loaded_of};

@@ -1,8 +1,9 @@
 //! What loading refuses of rows.
 
-ghost use Rattle.std.specs.Prelude.{[], ◌≡◌, ◌≢◌, ◌↔◌, ℕ, ℤ, pos, ◌<◌, ◌≤◌, ◌<ℤ◌, ◌≤ℤ◌, ◌+ℤ◌, ◌*ℤ◌, true, None, All, Any, IsTrue, MatchOption, length};
+ghost use Rattle.std.specs.Prelude.{[], ◌≡◌, ◌≢◌, ◌↔◌, ℕ, ℤ, pos, ◌<◌, ◌≤◌, ◌<ℤ◌, ◌≤ℤ◌, ◌+ℤ◌, ◌*ℤ◌, true, None, All, Any, IsTrue, IfSome, MatchOption, length};
 ghost use Rattle.std.specs.Option.{option_copied};
 ghost use Rattle.lf_units.specs.Area.{SharesPoint};
+ghost use Rattle.lf_lef.specs.Lengths.{HasRange};
 ghost use Rattle.lf_def.specs.Ranges.{IsRow};
 ghost use Rattle.lf_frame.specs.Rows.{row_area};
 ghost use Rattle.lf_frame.specs.Entries.{FirstIs};
@@ -17,7 +18,8 @@ use lf_units::Point;
 
 /// The site of that name.
 pub fn site_named<'l>(library: &'l Library, name: &[u8]) -> Option<&'l Site>
-    ensures { option_copied result ≡ site_named library.now name.now }
+    ensures site { option_copied result ≡ site_named library.now name.now }
+    ensures range { IfSome result (λ s. HasRange s.now.size) }
 {
     library.sites().get(library.find_site(name)?)
 }
@@ -41,7 +43,8 @@ fn core_row<'d>(rows: &'d [Row], library: &Library) -> Option<&'d Row>
 
 /// The core site: that of the first row whose site has CLASS CORE and a SIZE with both lengths above 0.
 pub fn core_site<'l>(library: &'l Library, rows: &[Row]) -> Option<&'l Site>
-    ensures { option_copied result ≡ core_site_of library.now rows.now }
+    ensures core { option_copied result ≡ core_site_of library.now rows.now }
+    ensures range { IfSome result (λ s. HasRange s.now.size) }
 {
     match core_row(rows, library) {
         Some(row) => site_named(library, row.site.as_bytes()),

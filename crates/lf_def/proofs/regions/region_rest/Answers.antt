@@ -14,6 +14,7 @@ loop-preserved c = record {
   going = turn_on region_token c.loop.parts c.region_token.new.parts c.loop.lexer c.region_token.new.lexer _ c.in_ok-region_token.field-0 c.loop.invariant.going c.if-branch.true c.in_ok-region_token.ensures.read.0 c.in_ok-region_token.ensures.read.1;
   fewer = omega (arith, c.in_ok-region_token.ensures.read.1);
   rects = c.region_token.ensures.rects;
+  some = c.region_token.ensures.some;
 }
 
 pub returns-clause-read : goal.returns-clause-read

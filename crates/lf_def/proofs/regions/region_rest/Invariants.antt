@@ -1,4 +1,4 @@
-use Rattle.std.proofs.Common.{◌≤◌, length}
+use Rattle.std.proofs.Common.{◌≤◌, ◌<◌, length}
 use Rattle.std.specs.Prelude.{All}
 use Rattle.lf_lex.specs.Reading.{block}
 use Rattle.lf_lex.proofs.Turns.{Going}
@@ -11,6 +11,7 @@ invariant-loop l = record {
   going : Going region_token l.parts l.lexer (block region_token l.initial.parts l.initial.lexer);
   fewer : length l.lexer.tokens ≤ length l.initial.lexer.tokens;
   rects : All IsRect l.parts.rects;
+  some : 0 < length l.parts.rects;
 }
 
 abbrev pub decreases-loop : goal.decreases-loop

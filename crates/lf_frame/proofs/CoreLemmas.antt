@@ -1,0 +1,58 @@
+-- The core site has a size, and its size in database units is one of a frame's rows.
+use Rattle.std.proofs.Common.{◌≡◌, ℕ, ℤ, pos, negsuc, ◌*◌, ◌*ℤ◌, ◌≤◌, ◌<◌, ◌≤ℤ◌, ◌<ℤ◌, Bool, true, false, List, [], ◌∷◌, Option, Some, None, refl, arith}
+use Rattle.std.specs.Prelude.{IfSome, ◌&&◌, int_lt}
+use Rattle.std.specs.Option.{option_copied}
+use Rattle.std.proofs.Common.{Bor}
+use Rattle.std.proofs.lemmas.Bool.{and_parts, false≢true}
+use Rattle.std.proofs.lemmas.Int.{ints}
+use Rattle.std.proofs.lemmas.Nat.{mul-le}
+use Rattle.lf_units.specs.declared.area.Point.{Point}
+use Rattle.lf_units.specs.Length.{IsLength, in_dbu}
+use Rattle.lf_lef.specs.declared.sites.Site.{Site}
+use Rattle.lf_lef.specs.Contents.{Contents}
+use Rattle.lf_lef.specs.Lengths.{HasRange}
+use Rattle.lf_def.specs.declared.rows.Row.{Row}
+use Rattle.lf_frame.specs.Loading.{site_named, has_size, is_core, core_site, size_in_dbu, IsWholeSize}
+use Rattle.lf_frame.specs.Rows.{IsPitch}
+use Rattle.lf_frame.proofs.LengthLemmas.{small_length}
+
+sized : (found : Option Site) → is_core found ≡ true → IfSome found (λ s. has_size s.size ≡ true)
+sized None is = tt
+sized (Some s) is = (and_parts s.core (has_size s.size) is).1
+
+-- the site of the first row of core sites has a size
+pub core_sized : (library : Contents) (rows : List Row) → IfSome (core_site library rows) (λ s. has_size s.size ≡ true)
+core_sized library [] = tt
+core_sized library (r ∷ rs) = by (is_core (site_named library r.site)) refl (core_sized library rs)
+  where
+    by : (t : Bool) → is_core (site_named library r.site) ≡ t → IfSome (core_site library rs) (λ s. has_size s.size ≡ true) → IfSome (core_site library (r ∷ rs)) (λ s. has_size s.size ≡ true)
+    by true is rest = rw is (sized (site_named library r.site) is)
+    by false is rest = rw is rest
+
+above : (x : ℤ) → int_lt (pos 0) x ≡ true → pos 0 <ℤ x
+above x is = grind (arith, ints)
+
+-- a length above 0 is above 0 in database units
+positive_length : (units : ℕ) (micros dbu : ℤ) → 1 ≤ units → pos 0 <ℤ micros → IsLength units micros dbu → pos 0 <ℤ dbu
+positive_length units (pos m) dbu some more e =
+    let least : 1 * 1 ≤ m * units = mul-le 1 1 m units (omega (arith, ints)) some in
+    let is : dbu *ℤ pos 1000000 ≡ pos (m * units) = e in
+    omega (arith, ints)
+positive_length units (negsuc m) dbu some more e = grind (arith, ints)
+
+pub pitch_of_core : (units : ℕ) (size : Point) → 1 ≤ units → units ≤ 20000 → HasRange size → has_size size ≡ true → IsWholeSize units size → IsPitch units size (size_in_dbu units size)
+pitch_of_core units size some few range is whole =
+    let parts = and_parts (int_lt (pos 0) size.x) (int_lt (pos 0) size.y) is in
+    record {
+      across = whole.across;
+      up = whole.up;
+      wide = positive_length units size.x (in_dbu units size.x) some (above size.x parts.0) whole.across;
+      high = positive_length units size.y (in_dbu units size.y) some (above size.y parts.1) whole.up;
+      x_small = small_length units size.x (in_dbu units size.x) few range.x.high whole.across;
+      y_small = small_length units size.y (in_dbu units size.y) few range.y.high whole.up;
+    }
+
+-- what holds of a site holds of the site that is lent
+pub of_lent : (lent : Option (Bor Site)) {found : Option Site} → IfSome found (λ s. has_size s.size ≡ true) → option_copied lent ≡ found → IfSome lent (λ s. has_size s.now.size ≡ true)
+of_lent None {found} is same = tt
+of_lent (Some s) {found} is same = rw (← same) at is
