@@ -11,3 +11,4 @@ pub mod NameLemmas
 pub mod ClaimLemmas
 pub mod CoreLemmas
 pub mod Numbers
+pub mod SizeBounds

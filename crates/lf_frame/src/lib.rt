@@ -3,6 +3,7 @@
 
 mod assembled;
 mod checked;
+mod copies;
 
 mod component_refusals;
 mod design;

@@ -39,7 +39,8 @@ fn length_in_dbu(length: i64, units: u32) -> i64
 pub fn size_in_units(size: &Point, units: u32) -> Point
     requires most { units ≤ 20000 }
     requires range { HasRange size.now }
-    requires sized { has_size size.now ≡ true }
+    requires wide { pos 0 <ℤ size.now.x }
+    requires high { pos 0 <ℤ size.now.y }
     ensures { result ≡ size_in_dbu units size.now }
 {
     let across = length_in_dbu(size.x, units);

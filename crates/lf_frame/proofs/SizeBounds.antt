@@ -1,0 +1,30 @@
+-- The size of a box stays small.
+use Rattle.std.proofs.Common.{pos, ◌≤ℤ◌, ◌<ℤ◌, ℕ}
+use Rattle.lf_units.specs.declared.area.Point.{Point}
+use Rattle.lf_orient.specs.declared.Orient.{Orient}
+use Rattle.lf_orient.specs.declared.Orient.TheVariants.{N, W, S, E, FN, FW, FS, FE}
+use Rattle.lf_frame.specs.Rows.{IsPitch}
+use Rattle.lf_frame.specs.Boxes.{turned}
+
+-- a size that is above 0 both ways, and small
+pub record IsSmall (size : Point) : Type 0 where
+  pub wide : pos 0 <ℤ size.x
+  pub high : pos 0 <ℤ size.y
+  pub x_small : size.x ≤ℤ pos 20000000000
+  pub y_small : size.y ≤ℤ pos 20000000000
+
+pub small_pitch : (units : ℕ) (size pitch : Point) → IsPitch units size pitch → IsSmall pitch
+small_pitch units size pitch p = record { wide = p.wide; high = p.high; x_small = p.x_small; y_small = p.y_small }
+
+swapped : (size : Point) → IsSmall size → IsSmall record { x = size.y; y = size.x }
+swapped size m = record { wide = m.high; high = m.wide; x_small = m.y_small; y_small = m.x_small }
+
+pub turned_small : (size : Point) (o : Orient) → IsSmall size → IsSmall (turned size o)
+turned_small size E m = swapped size m
+turned_small size W m = swapped size m
+turned_small size FE m = swapped size m
+turned_small size FW m = swapped size m
+turned_small size N m = m
+turned_small size S m = m
+turned_small size FN m = m
+turned_small size FS m = m

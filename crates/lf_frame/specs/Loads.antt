@@ -1,0 +1,103 @@
+-- What loading gives: the frame, and the movable cells with their teams.
+use Rattle.std.specs.Prelude.{◌≡◌, ℕ, cond, true, ◌||◌, List, [], ◌++◌, length, map, filter, filter_map, flat_map, slice_get, Option, Some, None, option_map, MatchOption, IfSome, pos, ◌<ℤ◌}
+use Rattle.std.specs.List.{AllZip, enumerate_from}
+use Rattle.std.specs.Option.{option_and_then}
+use Rattle.lf_units.specs.declared.area.Rect.{Rect}
+use Rattle.lf_names.specs.Names.{position_of}
+use Rattle.lf_lef.specs.declared.macros.Macro.{Macro}
+use Rattle.lf_lef.specs.Contents.{Contents, macro_names}
+use Rattle.lf_def.specs.declared.regions.Region.{Region}
+use Rattle.lf_def.specs.declared.groups.Group.{Group}
+use Rattle.lf_def.specs.declared.components.Component.{Component}
+use Rattle.lf_def.specs.declared.components.Location.{Location}
+use Rattle.lf_def.specs.declared.blockages.Blockage.{Blockage}
+use Rattle.lf_frame.specs.declared.place.Place.{Place}
+use Rattle.lf_frame.specs.declared.parts.Header.{Header}
+use Rattle.lf_frame.specs.declared.parts.Team.{Team}
+use Rattle.lf_frame.specs.declared.frame.Frame.{Frame}
+use Rattle.lf_frame.specs.declared.loaded.Cell.{Cell}
+use Rattle.lf_frame.specs.declared.loaded.Loaded.{Loaded}
+use Rattle.lf_frame.specs.Rows.{IsPitch}
+use Rattle.lf_frame.specs.Boxes.{turned, box_at}
+use Rattle.lf_frame.specs.Loading.{macro_named, size_in_dbu, is_heeded, frame_row, fences, is_fixed, is_movable, IsClaimed}
+use Rattle.lf_frame.specs.Findings.{Inputs, units_in, core_in, IsAccepted}
+
+-- the head of the document, with its database units of a micron
+abbrev pub header_in : Inputs → Header
+header_in i = record {
+  version = i.document.header.version;
+  divider = i.document.header.divider;
+  brackets = i.document.header.brackets;
+  design = i.document.header.design;
+  units = units_in i;
+}
+
+-- a fence as the frame has it
+abbrev pub frame_team : Region → Team
+frame_team r = record { name = r.name; rects = r.rects }
+
+-- where a component stands; an unplaced one stands nowhere
+abbrev pub location : Component → Option Location
+location c = option_and_then (λ p. p.place) c.placement
+
+-- the macro has a size above 0 both ways that is whole in database units
+pub record IsSizedIn (units : ℕ) (m : Macro) : Type 0 where
+  pub wide : pos 0 <ℤ m.size.x
+  pub high : pos 0 <ℤ m.size.y
+  pub whole : IsPitch units m.size (size_in_dbu units m.size)
+
+-- the macro of a component, where it is FIXED, has such a size
+abbrev pub FixedIsSized : Contents → ℕ → Component → Type 0
+FixedIsSized library units c = is_fixed c ≡ true → IfSome (macro_named library c.mac) (IsSizedIn units)
+
+-- the box of a FIXED component: that of its macro at its place
+abbrev pub fixed_box : Contents → ℕ → Component → Option Rect
+fixed_box library units c =
+    cond (is_fixed c) (option_and_then (λ p. option_map (λ m. box_at (turned (size_in_dbu units m.size) p.orient) p.x p.y) (macro_named library c.mac)) (location c)) None
+
+-- the rectangles of a placement blockage that is neither SOFT nor PARTIAL
+abbrev pub blocked : Blockage → List Rect
+blocked b = cond (b.soft || b.partial) [] b.rects
+
+-- the obstacles: the boxes of FIXED components, and then the rectangles of blockages
+abbrev pub obstacles_in : Inputs → List Rect
+obstacles_in i = filter_map (fixed_box i.library (units_in i)) i.document.components ++ flat_map blocked i.document.blockages
+
+-- the frame of what is loaded
+pub record IsFrameOf (i : Inputs) (f : Frame) : Type 0 where
+  pub site : core_in i ≡ Some f.site
+  pub rows : f.rows ≡ map frame_row (filter (is_heeded f.site) i.document.rows)
+  pub teams : f.teams ≡ map frame_team (fences i.document.regions)
+  pub obstacles : f.obstacles ≡ obstacles_in i
+  pub macros : f.macros ≡ i.library.macros
+  pub header : f.header ≡ header_in i
+  pub limits : f.limits ≡ i.limits
+
+-- the team of a movable component: the fence that claims it, by its position among the fences, or the ground team, whose number is the number of fences, where no fence does
+abbrev pub IsTeamOf : List Region → List Group → List ℕ → ℕ → Type 0
+IsTeamOf regions groups name team =
+    MatchOption (slice_get (fences regions) team)
+    ((team ≡ length (fences regions)) × ((fence : List ℕ) → IsClaimed regions groups name fence → ⊥))
+    (λ fence. IsClaimed regions groups name fence.name)
+
+-- the movable components, each with its position among all components
+abbrev pub movables : List Component → List (ℕ × Component)
+movables components = filter (λ e. is_movable e.1) (enumerate_from 0 components)
+
+-- a place as the document has it
+abbrev pub as_location : Place → Location
+as_location p = record { x = p.x; y = p.y; orient = p.orient }
+
+-- the cell of a movable component
+pub record IsCellOf (i : Inputs) (entry : ℕ × Component) (c : Cell) : Type 0 where
+  pub name : c.name ≡ entry.1.name
+  pub team : IsTeamOf i.document.regions i.document.groups entry.1.name c.team
+  pub mac : position_of (macro_names i.library.macros) entry.1.mac ≡ Some c.mac
+  pub place : option_map as_location c.place ≡ location entry.1
+  pub component : c.component ≡ entry.0
+
+-- the design of what is loaded: no refusal finds anything, and its frame and its cells, in the order of the text, are these
+pub record IsLoadedFrom (i : Inputs) (l : Loaded) : Type 0 where
+  pub accepted : IsAccepted i
+  pub frame : IsFrameOf i l.frame
+  pub cells : AllZip (IsCellOf i) (movables i.document.components) l.cells
