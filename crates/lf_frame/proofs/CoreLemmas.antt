@@ -1,5 +1,12 @@
 -- The core site has a size, and its size in database units is one of a frame's rows.
-use Rattle.std.proofs.Common.{◌≡◌, ℕ, ℤ, pos, negsuc, ◌*◌, ◌*ℤ◌, ◌≤◌, ◌<◌, ◌≤ℤ◌, ◌<ℤ◌, Bool, true, false, List, [], ◌∷◌, Option, Some, None, refl, arith}
+use Rattle.std.proofs.Common.{◌≡◌, ℕ, ℤ, pos, negsuc, ◌*◌, ◌*ℤ◌, ◌≤◌, ◌<◌, ◌≤ℤ◌, ◌<ℤ◌, Bool, true, false, List, [], ◌∷◌, length, map, get_or, Option, Some, None, refl, sym, ap, ◌∙◌, arith}
+use Rattle.std.specs.Prelude.{filter, slice_get, unwrap_or}
+use Rattle.std.specs.Str.{bytes_eq}
+use Rattle.std.proofs.lemmas.List.{get_or-map}
+use Rattle.std.proofs.lemmas.List.Quantifiers.{position-Some}
+use Rattle.std.proofs.lemmas.Option.{none-some, slice_get_within, unwrap_or-slice_get}
+use Rattle.std.proofs.lemmas.Slice.Eq.{bytes_eq-Decides}
+use Rattle.lf_names.specs.Names.{position_of}
 use Rattle.std.specs.Prelude.{IfSome, ◌&&◌, int_lt}
 use Rattle.std.specs.Option.{option_copied}
 use Rattle.std.proofs.Common.{Bor}
@@ -9,10 +16,10 @@ use Rattle.std.proofs.lemmas.Nat.{mul-le}
 use Rattle.lf_units.specs.declared.area.Point.{Point}
 use Rattle.lf_units.specs.Length.{IsLength, in_dbu}
 use Rattle.lf_lef.specs.declared.sites.Site.{Site}
-use Rattle.lf_lef.specs.Contents.{Contents}
+use Rattle.lf_lef.specs.Contents.{Contents, site_names}
 use Rattle.lf_lef.specs.Lengths.{HasRange}
 use Rattle.lf_def.specs.declared.rows.Row.{Row}
-use Rattle.lf_frame.specs.Loading.{site_named, has_size, is_core, core_site, size_in_dbu, IsWholeSize}
+use Rattle.lf_frame.specs.Loading.{at_place, is_heeded, frame_row, site_named, has_size, is_core, core_site, size_in_dbu, IsWholeSize}
 use Rattle.lf_frame.specs.Rows.{IsPitch}
 use Rattle.lf_frame.proofs.LengthLemmas.{small_length}
 
@@ -29,7 +36,7 @@ core_sized library (r ∷ rs) = by (is_core (site_named library r.site)) refl (c
     by true is rest = rw is (sized (site_named library r.site) is)
     by false is rest = rw is rest
 
-above : (x : ℤ) → int_lt (pos 0) x ≡ true → pos 0 <ℤ x
+pub above : (x : ℤ) → int_lt (pos 0) x ≡ true → pos 0 <ℤ x
 above x is = grind (arith, ints)
 
 -- a length above 0 is above 0 in database units
@@ -56,3 +63,31 @@ pitch_of_core units size some few range is whole =
 pub of_lent : (lent : Option (Bor Site)) {found : Option Site} → IfSome found (λ s. has_size s.size ≡ true) → option_copied lent ≡ found → IfSome lent (λ s. has_size s.now.size ≡ true)
 of_lent None {found} is same = tt
 of_lent (Some s) {found} is same = rw (← same) at is
+
+-- the site that is found bears the name
+site_bears : (sites : List Site) (name : List ℕ) (place : Option ℕ) (s : Site) → place ≡ position_of (site_names sites) name → at_place sites place ≡ Some s → s.name ≡ name
+site_bears sites name None s is found = absurd (none-some s found)
+site_bears sites name (Some k) s is found =
+    let within : k < length sites = slice_get_within sites k s found in
+    let there = position-Some (bytes_eq name) (site_names sites) k s.name (sym is) in
+    let at : get_or (site_names sites) k s.name ≡ s.name = get_or-map (λ (t : Site). t.name) sites k s s.name within ∙ ap (λ (t : Site). t.name) (read_at sites k s found) in
+    sym ((bytes_eq-Decides name (get_or (site_names sites) k s.name)).0 there.1 ∙ at)
+  where
+    read_at : (xs : List Site) (k : ℕ) (x : Site) → slice_get xs k ≡ Some x → get_or xs k x ≡ x
+    read_at xs k x e = sym (unwrap_or-slice_get xs k x) ∙ ap (λ o. unwrap_or o x) e
+
+-- the row of the core site is heeded, so there is a heeded row
+pub core_heeded : (library : Contents) (rows : List Row) (core : Site) → core_site library rows ≡ Some core → 0 < length (map frame_row (filter (is_heeded core) rows))
+core_heeded library [] core is = absurd (none-some core is)
+core_heeded library (r ∷ rs) core is = by (is_core (site_named library r.site)) refl is (core_heeded library rs core)
+  where
+    more : (t : Bool) → is_heeded core r ≡ t → 0 < length (map frame_row (filter (is_heeded core) rs)) → 0 < length (map frame_row (filter (is_heeded core) (r ∷ rs)))
+    more true e rest = rw e (omega arith)
+    more false e rest = rw e rest
+    by : (t : Bool) → is_core (site_named library r.site) ≡ t → core_site library (r ∷ rs) ≡ Some core → (core_site library rs ≡ Some core → 0 < length (map frame_row (filter (is_heeded core) rs))) →
+        0 < length (map frame_row (filter (is_heeded core) (r ∷ rs)))
+    by true e found rest =
+        let same : core.name ≡ r.site = site_bears library.sites r.site (position_of (site_names library.sites) r.site) core refl (rw e at found) in
+        let heeded : is_heeded core r ≡ true = (bytes_eq-Decides r.site core.name).1 (sym same) in
+        rw heeded (omega arith)
+    by false e found rest = more (is_heeded core r) refl (rest (rw e at found))

@@ -12,3 +12,6 @@ pub mod ClaimLemmas
 pub mod CoreLemmas
 pub mod Numbers
 pub mod SizeBounds
+pub mod Gathered
+pub mod Accepted
+pub mod FrameMade

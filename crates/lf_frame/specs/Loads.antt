@@ -1,22 +1,26 @@
 -- What loading gives: the frame, and the movable cells with their teams.
-use Rattle.std.specs.Prelude.{◌≡◌, ℕ, cond, true, ◌||◌, List, [], ◌++◌, length, map, filter, filter_map, flat_map, slice_get, Option, Some, None, option_map, MatchOption, IfSome, pos, ◌<ℤ◌}
+use Rattle.std.specs.Prelude.{◌≡◌, ℕ, cond, true, ◌||◌, List, [], ◌++◌, length, map, filter, filter_map, flat_map, slice_get, Option, Some, None, option_map, MatchOption, IfSome, pos, ◌<ℤ◌, All}
 use Rattle.std.specs.List.{AllZip, enumerate_from}
 use Rattle.std.specs.Option.{option_and_then}
 use Rattle.lf_units.specs.declared.area.Rect.{Rect}
 use Rattle.lf_names.specs.Names.{position_of}
 use Rattle.lf_lef.specs.declared.macros.Macro.{Macro}
-use Rattle.lf_lef.specs.Contents.{Contents, macro_names}
+use Rattle.lf_lef.specs.declared.sites.Site.{Site}
+use Rattle.lf_lef.specs.Contents.{Contents, macro_names, IsSite, IsMacro}
 use Rattle.lf_def.specs.declared.regions.Region.{Region}
 use Rattle.lf_def.specs.declared.groups.Group.{Group}
 use Rattle.lf_def.specs.declared.components.Component.{Component}
 use Rattle.lf_def.specs.declared.components.Location.{Location}
 use Rattle.lf_def.specs.declared.blockages.Blockage.{Blockage}
+use Rattle.lf_def.specs.Ranges.{IsRow, IsRegion, IsComponent, IsBlockage}
 use Rattle.lf_frame.specs.declared.place.Place.{Place}
 use Rattle.lf_frame.specs.declared.parts.Header.{Header}
 use Rattle.lf_frame.specs.declared.parts.Team.{Team}
 use Rattle.lf_frame.specs.declared.frame.Frame.{Frame}
+use Rattle.lf_frame.specs.declared.assembled.Parts.{Parts}
 use Rattle.lf_frame.specs.declared.loaded.Cell.{Cell}
 use Rattle.lf_frame.specs.declared.loaded.Loaded.{Loaded}
+use Rattle.lf_frame.specs.Bounds.{IsWithin}
 use Rattle.lf_frame.specs.Rows.{IsPitch}
 use Rattle.lf_frame.specs.Boxes.{turned, box_at}
 use Rattle.lf_frame.specs.Loading.{macro_named, size_in_dbu, is_heeded, frame_row, fences, is_fixed, is_movable, IsClaimed}
@@ -62,6 +66,26 @@ blocked b = cond (b.soft || b.partial) [] b.rects
 -- the obstacles: the boxes of FIXED components, and then the rectangles of blockages
 abbrev pub obstacles_in : Inputs → List Rect
 obstacles_in i = filter_map (fixed_box i.library (units_in i)) i.document.components ++ flat_map blocked i.document.blockages
+
+-- what texts keep of names, lengths and coordinates
+pub record AreInRange (i : Inputs) : Type 0 where
+  pub units : IsWithin (units_in i) 20000
+  pub sites : All IsSite i.library.sites
+  pub macros : All IsMacro i.library.macros
+  pub rows : All IsRow i.document.rows
+  pub regions : All IsRegion i.document.regions
+  pub components : All IsComponent i.document.components
+  pub blockages : All IsBlockage i.document.blockages
+
+-- the parts of the frame, where this is the core site
+pub record ArePartsOf (i : Inputs) (core : Site) (p : Parts) : Type 0 where
+  pub site : p.site ≡ core
+  pub rows : p.rows ≡ map frame_row (filter (is_heeded core) i.document.rows)
+  pub teams : p.teams ≡ map frame_team (fences i.document.regions)
+  pub obstacles : p.obstacles ≡ obstacles_in i
+  pub macros : p.macros ≡ i.library.macros
+  pub header : p.header ≡ header_in i
+  pub limits : p.limits ≡ i.limits
 
 -- the frame of what is loaded
 pub record IsFrameOf (i : Inputs) (f : Frame) : Type 0 where

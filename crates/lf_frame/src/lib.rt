@@ -12,6 +12,7 @@ mod findings;
 mod frame;
 mod laws;
 mod limits;
+mod load;
 mod loaded;
 mod measure;
 mod parts;

@@ -1,0 +1,177 @@
+-- The parts of an accepted design make a frame.
+use Rattle.std.proofs.Common.{◌≡◌, ◌≢◌, ℕ, ℤ, pos, negsuc, ◌+◌, ◌^◌, ◌*ℤ◌, ◌<◌, ◌≤◌, ◌<ℤ◌, ◌≤ℤ◌, ◌⊎◌, inl, inr, Bool, true, false, List, [], ◌∷◌, ◌++◌, length, map, get_or, Option, None, Some, refl, sym, ap, ◌∙◌, arith}
+use Rattle.std.specs.Prelude.{All, AllPairs, Any, IsSome, IfSome, filter, filter_map, flat_map, cond, ◌||◌}
+use Rattle.std.specs.Str.{bytes_eq}
+use Rattle.std.proofs.lemmas.Bool.{false≢true}
+use Rattle.std.proofs.lemmas.Int.{ints}
+use Rattle.std.proofs.lemmas.Slice.Eq.{bytes_eq-Decides}
+use Rattle.std.proofs.lemmas.List.Elements.{All-nil, All-append, All-weaker, All-map}
+use Rattle.lf_units.specs.declared.area.Point.{Point}
+use Rattle.lf_units.specs.declared.area.Rect.{Rect}
+use Rattle.lf_units.specs.Area.{SharesPoint}
+use Rattle.lf_orient.specs.declared.Rail.{Rail}
+use Rattle.lf_orient.specs.Orientation.{rail_below}
+use Rattle.lf_lex.specs.declared.fault.FaultNumber.TheVariants.{RowOrient, RowsOverlap, SecondRegion, TeamName, FencesOverlap, TooMany}
+use Rattle.lf_lef.specs.declared.sites.Site.{Site}
+use Rattle.lf_lef.specs.declared.macros.Macro.{Macro}
+use Rattle.lf_lef.specs.Contents.{Contents, IsSite, IsMacro}
+use Rattle.lf_lef.specs.Lengths.{IsInRange, HasRange}
+use Rattle.lf_def.specs.declared.rows.Row.{Row}
+use Rattle.lf_def.specs.declared.regions.Region.{Region}
+use Rattle.lf_def.specs.declared.components.Component.{Component}
+use Rattle.lf_def.specs.declared.components.Location.{Location}
+use Rattle.lf_def.specs.declared.components.Placement.{Placement}
+use Rattle.lf_def.specs.declared.blockages.Blockage.{Blockage}
+use Rattle.lf_def.specs.Ranges.{IsCoordinate, IsRect, IsRow, IsRegion, IsComponent, IsBlockage, IsLocation, IsPlacement}
+use Rattle.lf_frame.specs.declared.parts.Team.{Team}
+use Rattle.lf_frame.specs.declared.assembled.Parts.{Parts}
+use Rattle.lf_frame.specs.Bounds.{IsDefNumber, IsLefLength, IsLefSize, IsDefRange, IsDefRect, IsObstacleRange, IsObstacle}
+use Rattle.lf_frame.specs.Rows.{row_area, IsPitch, IsHeeded, RowsApart}
+use Rattle.lf_frame.specs.Fences.{ground_name, IsFence, AreApart, FencesNamed, FencesApart}
+use Rattle.lf_frame.specs.Boxes.{turned, box_at}
+use Rattle.lf_frame.specs.Premise.{MakeFrame}
+use Rattle.lf_frame.specs.Entries.{NoneBreaks}
+use Rattle.lf_frame.specs.Loading.{is_heeded, frame_row, is_fence, fences, is_fixed, macro_named, size_in_dbu, has_size, IsWholeSize}
+use Rattle.lf_frame.specs.Refusals.{IsTurned, MeetsEarlierRow, EndsTooFar, BearsEarlierFence, BearsGroundName, SharePoint, MeetsEarlierFence, IsRowTooMany, IsFenceTooMany, IsComponentTooMany}
+use Rattle.lf_frame.specs.Findings.{Inputs, units_in, core_in, Finding, NameOfFirst, OfCore, OfPitch, Finds, IsAccepted}
+use Rattle.lf_frame.specs.Loads.{frame_team, location, IsSizedIn, FixedIsSized, fixed_box, blocked, obstacles_in, AreInRange, ArePartsOf}
+use Rattle.lf_frame.proofs.Gathered.{none_of_name, all_from_none, pairs_from_none, all_kept, pairs_kept, all_filter_map, all_flat_map}
+use Rattle.lf_frame.proofs.SizeBounds.{IsSmall, small_pitch, turned_small}
+use Rattle.lf_frame.proofs.CoreLemmas.{core_sized, pitch_of_core, core_heeded}
+use Rattle.lf_frame.proofs.Accepted.{of_core, of_pitch, first_nothing, fixed_sized}
+
+lef_length : (v : ℤ) → IsInRange v → IsLefLength v
+lef_length v r = record { least = r.low; most = r.high }
+
+lef_size : (p : Point) → HasRange p → IsLefSize p
+lef_size p r = record { across = lef_length p.x r.x; up = lef_length p.y r.y }
+
+def_number : (v : ℤ) → IsCoordinate v → IsDefNumber v
+def_number v c = record { above = omega (arith, ints, c.low); most = c.high }
+
+upright : (found : Option Rail) → ((IsSome found → ⊥) → ⊥) → IsSome found
+upright None there = absurd (there (λ e. false≢true e))
+upright (Some rail) there = refl
+
+not_above : (x : ℤ) → (pos 2147483647 <ℤ x → ⊥) → x ≤ℤ pos 2147483647
+not_above x near =
+    let cases : (x ≤ℤ pos 2147483647) ⊎ (pos 2147483647 <ℤ x) = grind (arith, ints) in
+    elim cases [
+      | inl low ↦ low
+      | inr far ↦ absurd (near far)
+    ]
+
+heeded_row : (pitch : Point) (r : Row) → IsRow r → ((IsSome (rail_below r.orient) → ⊥) → ⊥) → (pos 2147483647 <ℤ (row_area pitch (frame_row r)).x2 → ⊥) → IsHeeded pitch (frame_row r)
+heeded_row pitch r range standing near = record {
+  x_in_def = def_number r.x range.x;
+  y_in_def = def_number r.y range.y;
+  has_site = range.sites_x.some;
+  ends = not_above (row_area pitch (frame_row r)).x2 near;
+  upright = upright (rail_below r.orient) standing;
+}
+
+rows_heeded : (core : Site) (pitch : Point) (rows : List Row) → All IsRow rows → NoneBreaks (IsTurned core) rows → NoneBreaks (EndsTooFar core pitch) rows →
+    All (λ r. IsHeeded pitch r) (map frame_row (filter (is_heeded core) rows))
+rows_heeded core pitch rows range standing near =
+    all_kept (λ r. IsHeeded pitch r) frame_row (is_heeded core) rows (λ k d within is. heeded_row pitch (get_or rows k d) (range k d within) (λ turned. standing k d within (is, turned)) (λ far. near k d within (is, far)))
+
+rows_apart : (core : Site) (pitch : Point) (rows : List Row) → NoneBreaks (MeetsEarlierRow core pitch) rows → RowsApart pitch (map frame_row (filter (is_heeded core) rows))
+rows_apart core pitch rows none =
+    pairs_kept (λ a b. SharesPoint (row_area pitch a) (row_area pitch b) → ⊥) frame_row (is_heeded core) rows
+    (pairs_from_none (is_heeded core) (λ e r. SharesPoint (row_area pitch (frame_row e)) (row_area pitch (frame_row r))) rows none)
+
+def_rect : (r : Rect) → IsRect r → IsDefRect r
+def_rect r c = record {
+  across = record { from = def_number r.x1 c.x1; to = def_number r.x2 c.x2; in_order = c.across };
+  up = record { from = def_number r.y1 c.y1; to = def_number r.y2 c.y2; in_order = c.up };
+}
+
+fences_whole : (regions : List Region) → All IsRegion regions → NoneBreaks BearsGroundName regions → All IsFence (map frame_team (fences regions))
+fences_whole regions range none =
+    all_kept IsFence frame_team is_fence regions (λ k d within is. record {
+      named = λ same. none k d within (is, same);
+      has_rect = (range k d within).has_rect;
+      rects_in_def = All-weaker IsRect IsDefRect def_rect (get_or regions k d).rects (range k d within).rects;
+    })
+
+fences_named : (regions : List Region) → NoneBreaks BearsEarlierFence regions → FencesNamed (map frame_team (fences regions))
+fences_named regions none = pairs_kept (λ a b. a.name ≢ b.name) frame_team is_fence regions (pairs_from_none is_fence (λ e r. e.name ≡ r.name) regions none)
+
+fences_apart : (regions : List Region) → NoneBreaks MeetsEarlierFence regions → FencesApart (map frame_team (fences regions))
+fences_apart regions none =
+    pairs_kept AreApart frame_team is_fence regions
+    (λ i j d below within a b. record { no_point = λ x y in_a in_b. pairs_from_none is_fence (λ e r. SharePoint e.rects r.rects) regions none i j d below within a b (record { x = x; y = y; in_first = in_a; in_second = in_b }) })
+
+fixed_at : (units : ℕ) (m : Macro) (at : Location) → IsLocation at → IsSizedIn units m → IsObstacle (box_at (turned (size_in_dbu units m.size) at.orient) at.x at.y)
+fixed_at units m at range sized =
+    let small : IsSmall (turned (size_in_dbu units m.size) at.orient) = turned_small (size_in_dbu units m.size) at.orient (small_pitch units m.size (size_in_dbu units m.size) sized.whole) in
+    let x = def_number at.x range.0 in
+    let y = def_number at.y range.1 in
+    record {
+      across = record { from = x; to = omega (arith, ints, small.x_small, x.most); in_order = omega (arith, ints, small.wide) };
+      up = record { from = y; to = omega (arith, ints, small.y_small, y.most); in_order = omega (arith, ints, small.high) };
+    }
+
+fixed_obstacle : (library : Contents) (units : ℕ) (c : Component) → IsComponent c → FixedIsSized library units c → IfSome (fixed_box library units c) IsObstacle
+fixed_obstacle library units c range sized = by (is_fixed c) refl
+  where
+    found : (at : Option Location) (mac : Option Macro) → IfSome at (λ p. IsLocation p) → IfSome mac (IsSizedIn units) →
+        IfSome (Rattle.std.specs.Option.option_and_then (λ p. Rattle.std.specs.Prelude.option_map (λ m. box_at (turned (size_in_dbu units m.size) p.orient) p.x p.y) mac) at) IsObstacle
+    found None mac at_range mac_sized = tt
+    found (Some p) None at_range mac_sized = tt
+    found (Some p) (Some m) at_range mac_sized = fixed_at units m p at_range mac_sized
+    placed : (p : Option Placement) → IfSome p (λ q. IsPlacement q) → IfSome (Rattle.std.specs.Option.option_and_then (λ (q : Placement). q.place) p) (λ at. IsLocation at)
+    placed None placement = tt
+    placed (Some q) placement = placement
+    by : (t : Bool) → is_fixed c ≡ t → IfSome (fixed_box library units c) IsObstacle
+    by false is = rw is tt
+    by true is = rw is (found (location c) (macro_named library c.mac) (placed c.placement range.placement) (sized is))
+
+rect_obstacle : (r : Rect) → IsRect r → IsObstacle r
+rect_obstacle r c = record {
+  across = record { from = def_number r.x1 c.x1; to = omega (arith, ints, c.x2.high); in_order = c.across };
+  up = record { from = def_number r.y1 c.y1; to = omega (arith, ints, c.y2.high); in_order = c.up };
+}
+
+blocked_obstacles : (b : Blockage) → IsBlockage b → All IsObstacle (blocked b)
+blocked_obstacles b range = by (b.soft || b.partial) refl
+  where
+    by : (t : Bool) → (b.soft || b.partial) ≡ t → All IsObstacle (blocked b)
+    by true is = rw is (All-nil IsObstacle)
+    by false is = rw is (All-weaker IsRect IsObstacle rect_obstacle b.rects range.rects)
+
+obstacles_in_range : (i : Inputs) → AreInRange i → IsAccepted i → All IsObstacle (obstacles_in i)
+obstacles_in_range i range a =
+    All-append IsObstacle (filter_map (fixed_box i.library (units_in i)) i.document.components) (flat_map blocked i.document.blockages)
+    (all_filter_map IsObstacle (fixed_box i.library (units_in i)) i.document.components (λ k d within. fixed_obstacle i.library (units_in i) (get_or i.document.components k d) (range.components k d within) (fixed_sized i range a k d within)))
+    (all_flat_map IsObstacle blocked i.document.blockages (λ k d within. blocked_obstacles (get_or i.document.blockages k d) (range.blockages k d within)))
+
+macros_in_lef : (macros : List Macro) → All IsMacro macros → All (λ m. IsLefSize m.size × IsLefSize m.origin) macros
+macros_in_lef macros range = All-weaker IsMacro (λ m. IsLefSize m.size × IsLefSize m.origin) (λ m is. (lef_size m.size is.size, lef_size m.origin is.origin)) macros range
+
+-- no row ends too far
+near_rows : (i : Inputs) (core : Site) → core_in i ≡ Some core → IsWholeSize (units_in i) core.size → IsAccepted i → NoneBreaks (EndsTooFar core (size_in_dbu (units_in i) core.size)) i.document.rows
+near_rows i core is whole a =
+    let behind_rows = (first_nothing (a TooMany)).1 in
+    let behind_fences = (first_nothing behind_rows).1 in
+    none_of_name (of_pitch i core (λ s pitch. NameOfFirst (λ r. r.name) (EndsTooFar s pitch) i.document.rows) is whole (first_nothing behind_fences).1)
+
+pub frame_made : (i : Inputs) (core : Site) (p : Parts) (pitch : Point) → AreInRange i → IsAccepted i → core_in i ≡ Some core → HasRange core.size → has_size core.size ≡ true →
+    IsWholeSize (units_in i) core.size → pitch ≡ size_in_dbu (units_in i) core.size → ArePartsOf i core p → MakeFrame p pitch
+frame_made i core p pitch range a is site sized whole pitch_is parts =
+    let at : Point = size_in_dbu (units_in i) core.size in
+    let turned = none_of_name (of_core i core (λ s. NameOfFirst (λ r. r.name) (IsTurned s) i.document.rows) is (a RowOrient)) in
+    let meeting = none_of_name (of_pitch i core (λ s pitch. NameOfFirst (λ r. r.name) (MeetsEarlierRow s pitch) i.document.rows) is whole (a RowsOverlap)) in
+    rw pitch_is (record {
+      units_in_range = rw parts.header range.units;
+      site_in_lef = rw parts.site (lef_size core.size site);
+      pitch_whole = rw (parts.header, parts.site) (pitch_of_core (units_in i) core.size range.units.least range.units.most site sized whole);
+      has_row = rw parts.rows (core_heeded i.library i.document.rows core is);
+      rows_heeded = rw parts.rows (rows_heeded core at i.document.rows range.rows turned (near_rows i core is whole a));
+      rows_apart = rw parts.rows (rows_apart core at i.document.rows meeting);
+      fences_whole = rw parts.teams (fences_whole i.document.regions range.regions (none_of_name (a TeamName)));
+      fences_named = rw parts.teams (fences_named i.document.regions (none_of_name (a SecondRegion)));
+      fences_apart = rw parts.teams (fences_apart i.document.regions (none_of_name (a FencesOverlap)));
+      obstacles_in_range = rw parts.obstacles (obstacles_in_range i range a);
+      macros_in_lef = rw parts.macros (macros_in_lef i.library.macros range.macros);
+    })
