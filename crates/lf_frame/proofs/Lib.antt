@@ -15,3 +15,4 @@ pub mod SizeBounds
 pub mod Gathered
 pub mod Accepted
 pub mod FrameMade
+pub mod CellsMade

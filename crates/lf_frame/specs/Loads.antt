@@ -1,5 +1,5 @@
 -- What loading gives: the frame, and the movable cells with their teams.
-use Rattle.std.specs.Prelude.{◌≡◌, ℕ, cond, true, ◌||◌, List, [], ◌++◌, length, map, filter, filter_map, flat_map, slice_get, Option, Some, None, option_map, MatchOption, IfSome, pos, ◌<ℤ◌, All}
+use Rattle.std.specs.Prelude.{◌≡◌, ℕ, cond, true, ◌||◌, List, [], ◌++◌, length, map, filter, filter_map, flat_map, Option, Some, None, option_map, IfSome, IsSome, pos, ◌<ℤ◌, All}
 use Rattle.std.specs.List.{AllZip, enumerate_from}
 use Rattle.std.specs.Option.{option_and_then}
 use Rattle.lf_units.specs.declared.area.Rect.{Rect}
@@ -8,7 +8,6 @@ use Rattle.lf_lef.specs.declared.macros.Macro.{Macro}
 use Rattle.lf_lef.specs.declared.sites.Site.{Site}
 use Rattle.lf_lef.specs.Contents.{Contents, macro_names, IsSite, IsMacro}
 use Rattle.lf_def.specs.declared.regions.Region.{Region}
-use Rattle.lf_def.specs.declared.groups.Group.{Group}
 use Rattle.lf_def.specs.declared.components.Component.{Component}
 use Rattle.lf_def.specs.declared.components.Location.{Location}
 use Rattle.lf_def.specs.declared.blockages.Blockage.{Blockage}
@@ -23,7 +22,8 @@ use Rattle.lf_frame.specs.declared.loaded.Loaded.{Loaded}
 use Rattle.lf_frame.specs.Bounds.{IsWithin}
 use Rattle.lf_frame.specs.Rows.{IsPitch}
 use Rattle.lf_frame.specs.Boxes.{turned, box_at}
-use Rattle.lf_frame.specs.Loading.{macro_named, size_in_dbu, is_heeded, frame_row, fences, is_fixed, is_movable, IsClaimed}
+use Rattle.lf_frame.specs.Loading.{macro_named, size_in_dbu, is_heeded, frame_row, fences, is_fixed, is_movable, IsTeamOf}
+use Rattle.lf_frame.specs.Refusals.{HasTwoFences}
 use Rattle.lf_frame.specs.Findings.{Inputs, units_in, core_in, IsAccepted}
 
 -- the head of the document, with its database units of a micron
@@ -97,16 +97,18 @@ pub record IsFrameOf (i : Inputs) (f : Frame) : Type 0 where
   pub header : f.header ≡ header_in i
   pub limits : f.limits ≡ i.limits
 
--- the team of a movable component: the fence that claims it, by its position among the fences, or the ground team, whose number is the number of fences, where no fence does
-abbrev pub IsTeamOf : List Region → List Group → List ℕ → ℕ → Type 0
-IsTeamOf regions groups name team =
-    MatchOption (slice_get (fences regions) team)
-    ((team ≡ length (fences regions)) × ((fence : List ℕ) → IsClaimed regions groups name fence → ⊥))
-    (λ fence. IsClaimed regions groups name fence.name)
+-- the movable ones of these components, the first of which has this position among all
+abbrev pub movables_from : ℕ → List Component → List (ℕ × Component)
+movables_from first components = filter (λ e. is_movable e.1) (enumerate_from first components)
 
 -- the movable components, each with its position among all components
 abbrev pub movables : List Component → List (ℕ × Component)
-movables components = filter (λ e. is_movable e.1) (enumerate_from 0 components)
+movables components = movables_from 0 components
+
+-- a LEF text has the macro of the component, and no two fences claim it
+pub record CanBeCell (i : Inputs) (c : Component) : Type 0 where
+  pub mac : IsSome (position_of (macro_names i.library.macros) c.mac)
+  pub once : HasTwoFences i.document.regions i.document.groups c.name → ⊥
 
 -- a place as the document has it
 abbrev pub as_location : Place → Location

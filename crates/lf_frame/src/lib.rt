@@ -2,6 +2,7 @@
 #![tactic(auto)]
 
 mod assembled;
+mod cells;
 mod checked;
 mod copies;
 

@@ -1,0 +1,11 @@
+use Rattle.std.proofs.Common.{refl, sym, ◌∙◌}
+use Rattle.lf_frame.proofs.cells.cell_of.Goals as goal
+
+pub returns : goal.returns
+returns c = record {
+  name = c.in_ok-from_slice.ensures ∙ c.as_bytes-name.ensures;
+  team = rw (c.as_slice.ensures, c.as_slice-2.ensures, c.as_bytes-name.ensures) at c.team_of.ensures;
+  mac = rw c.as_bytes.ensures at (sym c.find_macro.ensures ∙ c.unwrap.ensures);
+  place = c.place_of.ensures;
+  component = refl;
+}

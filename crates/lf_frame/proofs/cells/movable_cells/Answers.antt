@@ -1,0 +1,27 @@
+use Rattle.std.proofs.Common.{◌≡◌, ◌<◌, ◌≤◌, length, get_or, arith, ap, List, sym, ◌∙◌}
+use Rattle.lf_def.specs.declared.components.Component.{Component}
+use Rattle.lf_frame.specs.Findings.{Inputs, inputs}
+use Rattle.lf_frame.proofs.CellsMade.{cell_more, none_more, all_made}
+use Rattle.lf_frame.proofs.cells.movable_cells.Goals.{then-is_movable+in_ok-cell_of+in_ok-push, else-is_movable}
+use Rattle.lf_frame.proofs.cells.movable_cells.Goals as goal
+
+pub loop-number-preserved : goal.loop-number-preserved
+loop-number-preserved c =
+    let i : Inputs = inputs c.args.library.now c.args.document.now c.args.limits.now in
+    let same : c.as_slice-component-items.result.now ≡ c.args.document.now.components = c.as_slice-component-items.ensures in
+    let within : c.loop-number.number < length c.args.document.now.components = rw same at c.loop-number-test.true in
+    let is : c.component-item.result ≡ get_or c.args.document.now.components c.loop-number.number c.component-item.result = rw same at c.component-item.is in
+    elim c.if-is_movable.branch [
+      | then-is_movable+in_ok-cell_of+in_ok-push w ↦
+          let pushed = w.in_ok-push.ensures {u = tt} in
+          rw (w.cells-is, pushed.ok) (cell_more i c.args.document.now.components c.loop-number.number c.component-item.result c.loop-number.cells w.in_ok-cell_of.field-0 within is (sym c.is_movable.ensures ∙ w.if-is_movable.true) (w.in_ok-cell_of.ensures {u = tt}) c.loop-number.invariant)
+      | else-is_movable w ↦ rw w.cells-is (none_more i c.args.document.now.components c.loop-number.number c.component-item.result c.loop-number.cells within is (sym c.is_movable.ensures ∙ w.if-is_movable.false) c.loop-number.invariant)
+    ]
+
+pub returns : goal.returns
+returns c =
+    let i : Inputs = inputs c.args.library.now c.args.document.now c.args.limits.now in
+    let same : c.as_slice-component-items.result.now ≡ c.args.document.now.components = c.as_slice-component-items.ensures in
+    let count = ap (λ (xs : List Component). length xs) same in
+    let past : length c.args.document.now.components ≤ c.loop-number.number = omega (arith, count) in
+    all_made i c.args.document.now.components c.loop-number.number c.loop-number.cells past c.loop-number.invariant
