@@ -16,3 +16,4 @@ pub mod Gathered
 pub mod Accepted
 pub mod FrameMade
 pub mod CellsMade
+pub mod DesignMade

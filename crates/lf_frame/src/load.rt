@@ -1,20 +1,27 @@
 //! Loading: a design from the library of the LEF texts and the document of the DEF text.
 
 ghost use Rattle.std.specs.Prelude.{◌≡◌, ◌≤◌, ◌++◌, ◌⊎◌, IfOk, IfErr, All, filter_map, flat_map};
+ghost use Rattle.lf_lex.specs.declared.fault.ReadError.TheVariants.{Memory};
+ghost use Rattle.lf_lex.specs.Faults.{load_fault_of};
 ghost use Rattle.lf_frame.specs.Premise.{MakeFrame};
-ghost use Rattle.lf_frame.specs.Findings.{inputs, units_in, IsAccepted};
-ghost use Rattle.lf_frame.specs.Loads.{fixed_box, blocked, FixedIsSized, AreInRange, ArePartsOf, IsFrameOf};
+ghost use Rattle.lf_frame.specs.Design.{MakeDesign};
+ghost use Rattle.lf_frame.specs.Findings.{inputs, units_in, IsAccepted, IsFault};
+ghost use Rattle.lf_frame.specs.Loads.{fixed_box, blocked, FixedIsSized, AreInRange, ArePartsOf, IsFrameOf, IsLoadedFrom};
 
 use crate::assembled::Parts;
+use crate::cells::movable_cells;
 use crate::copies::{
     copy_header, copy_macros, copy_site, fence_teams, fixed_boxes, heeded_rows, push_blockages,
 };
 use crate::findings::units_of;
 use crate::frame::Frame;
 use crate::limits::Limits;
+use crate::loaded::{Cell, Loaded};
 use crate::pitch::{core_pitch, sized_core_site};
+use crate::refusal::first_refusal;
 use lf_def::DefDoc;
 use lf_lef::{Library, Site};
+use lf_lex::{LoadFault, ReadError};
 use lf_units::{Point, Rect, Sequence};
 use std::alloc::{AllocError, Global};
 
@@ -104,4 +111,64 @@ fn frame_of(
     let pitch = core_pitch(core, units_of(document)).unwrap();
     let parts = parts_of(alloc, library, document, limits, core)?;
     Ok(frame_from(parts, pitch))
+}
+
+/// The design of this frame and these cells.
+fn loaded_from(frame: Frame, cells: Sequence<Cell>) -> Loaded
+    requires { MakeDesign frame cells }
+    ensures frame { result.frame ≡ frame }
+    ensures cells { result.cells ≡ cells }
+{
+    Loaded { frame, cells }
+}
+
+/// The design of a library and a document in which no refusal finds anything.
+fn accepted_design(
+    alloc: Global,
+    library: &Library,
+    document: &DefDoc,
+    limits: &Limits,
+) -> Result<Loaded, AllocError>
+    requires { IsAccepted (inputs library.now document.now limits.now) }
+    ensures { IfOk result (λ loaded. IsLoadedFrom (inputs library.now document.now limits.now) loaded) }
+{
+    ranges_kept(library, document, limits);
+    let frame = frame_of(alloc, library, document, limits)?;
+    let cells = movable_cells(alloc, library, document, limits)?;
+    Ok(loaded_from(frame, cells))
+}
+
+/// Want of memory, as loading answers it.
+fn out_of_memory<'d>() -> LoadFault<'d>
+    ensures { result ≡ load_fault_of Memory }
+{
+    ReadError::Memory.into_load_fault()
+}
+
+/// Loads the design of a library of LEF texts and the document of a DEF text, within the limits.
+///
+/// A refusal names the least of its numbers that finds anything, from 7 on, and the first entry that it finds,
+/// in the order of the DEF text: the design for NoUnits and NoRows; a site for NoSite; a row for VerticalRow,
+/// BadStep, RowOrient and RowsOverlap; a macro for NoMacro and NoSize; the core site or a macro for NotWhole; a
+/// component for SecondName and TwoFences; a region for SecondRegion, NoRegion, TeamName and FencesOverlap; and
+/// the row, region or component that is one too many for TooMany. OutOfMemory, which names nothing, may stand in
+/// the place of any answer. The name is lent by the document or the library.
+pub fn load<'d>(
+    alloc: Global,
+    library: &'d Library,
+    document: &'d DefDoc,
+    limits: Limits,
+) -> Result<Loaded, LoadFault<'d>>
+    ensures ok { IfOk result (λ loaded. IsLoadedFrom (inputs library.now document.now limits) loaded) }
+    ensures err { IfErr result (λ fault. (fault ≡ load_fault_of Memory) ⊎ IsFault (inputs library.now document.now limits) fault) }
+{
+    match first_refusal(alloc, library, document, &limits) {
+        Ok(Some(fault)) => return Err(fault),
+        Ok(None) => {}
+        Err(_) => return Err(out_of_memory()),
+    }
+    match accepted_design(alloc, library, document, &limits) {
+        Ok(loaded) => Ok(loaded),
+        Err(_) => Err(out_of_memory()),
+    }
 }
