@@ -9,3 +9,4 @@ pub mod RectLemmas
 pub mod RowEdges
 pub mod NameLemmas
 pub mod ClaimLemmas
+pub mod Pieces

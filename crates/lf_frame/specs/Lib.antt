@@ -9,3 +9,4 @@ pub mod Design
 pub mod Entries
 pub mod Loading
 pub mod Refusals
+pub mod Sweep

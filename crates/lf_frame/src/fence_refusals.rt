@@ -1,17 +1,20 @@
 //! What loading refuses of regions and groups.
 
-ghost use Rattle.std.specs.Prelude.{[], ◌≡◌, ◌≢◌, ◌↔◌, ℕ, ◌<◌, ◌≤◌, true, None, List, All, Any, IsTrue, MatchOption, IfSome, length};
+ghost use Rattle.std.specs.Prelude.{[], ◌≡◌, ◌≢◌, ◌↔◌, ℕ, ◌<◌, ◌≤◌, ◌++◌, true, None, List, map, All, Any, IsTrue, IfOk, OnOk, MatchOption, IfSome, length};
 ghost use Rattle.lf_units.specs.Area.{SharesPoint};
 ghost use Rattle.lf_frame.specs.Entries.{FirstIs};
 ghost use Rattle.lf_frame.specs.Loading.{is_fence as is_fence_region};
+ghost use Rattle.lf_frame.specs.Sweep.{piece_of, fence_pieces as fence_pieces_of, HoldPieces};
 ghost use Rattle.lf_frame.specs.Refusals.{BearsEarlierFence, HasNoRegion, BearsGroundName, SharePoint, MeetsEarlierFence, IsFenceTooMany};
 ghost use Rattle.lf_frame.specs.Refusals.{HasTwoFences, IsClaimedTwice, HasOtherClaim};
 ghost use Rattle.lf_frame.specs.Loading.{NamedBy, IsClaimed, Claims};
 
 use crate::component_refusals::is_movable;
+use crate::sweep::{Piece, none_clash};
 use lf_def::{Component, Group, Region, RegionKind};
 use lf_names::Pattern;
 use lf_units::{Name, Rect};
+use std::alloc::{AllocError, Global};
 
 /// Whether the region's TYPE is FENCE.
 pub fn is_fence(region: &Region) -> bool
@@ -134,8 +137,8 @@ fn meets_one_of(region: &Region, earlier: &[Region]) -> bool
     false
 }
 
-/// The first fence that shares a point with an earlier fence.
-pub fn first_fence_overlap(regions: &[Region]) -> Option<usize>
+/// The first fence that shares a point with an earlier fence, by a look at each two fences.
+fn fence_overlap_by_pairs(regions: &[Region]) -> Option<usize>
     ensures { FirstIs MeetsEarlierFence regions.now result }
 {
     for (number, region) in regions.iter().enumerate() {
@@ -144,6 +147,62 @@ pub fn first_fence_overlap(regions: &[Region]) -> Option<usize>
         }
     }
     None
+}
+
+/// The rectangle as a piece of a sweep.
+fn rect_piece(number: usize, rect: &Rect) -> Piece
+    ensures { result ≡ piece_of number rect.now }
+{
+    Piece {
+        entry: number,
+        left: rect.x1,
+        right: i128::from(rect.x2),
+        bottom: rect.y1,
+        top: rect.y2,
+    }
+}
+
+/// The rectangles of an entry, behind the pieces of earlier ones.
+fn push_pieces(pieces: &mut Vec<Piece>, number: usize, rects: &[Rect]) -> Result<(), AllocError>
+    ensures { OnOk result (pieces.new.items ≡ pieces.old.items ++ map (λ rect. piece_of number rect) rects.now) }
+{
+    for rect in rects {
+        pieces.push(rect_piece(number, rect))?;
+    }
+    Ok(())
+}
+
+/// The rectangles of a region behind the pieces of earlier ones, where it is a fence.
+fn push_region(pieces: &mut Vec<Piece>, number: usize, region: &Region) -> Result<(), AllocError>
+    ensures { OnOk result (pieces.new.items ≡ pieces.old.items ++ fence_pieces_of number region.now) }
+{
+    if is_fence(region) {
+        return push_pieces(pieces, number, region.rects.as_slice());
+    }
+    Ok(())
+}
+
+/// The rectangles of all fences as pieces of a sweep.
+fn fence_pieces(alloc: Global, regions: &[Region]) -> Result<Vec<Piece>, AllocError>
+    ensures { IfOk result (λ pieces. HoldPieces fence_pieces_of regions.now pieces.items) }
+{
+    let mut pieces = Vec::new(alloc);
+    for (number, region) in regions.iter().enumerate() {
+        push_region(&mut pieces, number, region)?;
+    }
+    Ok(pieces)
+}
+
+/// The first fence that shares a point with an earlier fence. Takes the time of a sort where there is none and
+/// few rectangles lie at one height.
+pub fn first_fence_overlap(alloc: Global, regions: &[Region]) -> Result<Option<usize>, AllocError>
+    ensures { IfOk result (λ found. FirstIs MeetsEarlierFence regions.now found) }
+{
+    let mut pieces = fence_pieces(alloc, regions)?;
+    if none_clash(&mut pieces) {
+        return Ok(None);
+    }
+    Ok(fence_overlap_by_pairs(regions))
 }
 
 /// The first fence that stands behind so many fences as the limit allows.

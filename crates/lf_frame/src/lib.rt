@@ -14,6 +14,7 @@ mod measure;
 mod parts;
 mod place;
 mod row_refusals;
+mod sweep;
 
 pub use assembled::{Parts, frame_of, loaded_of};
 pub use component_refusals::{
