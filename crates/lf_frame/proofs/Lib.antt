@@ -10,3 +10,4 @@ pub mod RowEdges
 pub mod NameLemmas
 pub mod ClaimLemmas
 pub mod Pieces
+pub mod Named

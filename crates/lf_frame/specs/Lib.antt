@@ -10,3 +10,4 @@ pub mod Entries
 pub mod Loading
 pub mod Refusals
 pub mod Sweep
+pub mod Tables

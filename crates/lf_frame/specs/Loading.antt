@@ -1,6 +1,6 @@
 -- What loading takes from a LEF library and a DEF text: the core site, heeded rows, fences, components by
 -- their kind, and which fences claim a component (LEF SITE, MACRO; DEF ROW, REGIONS, GROUPS, COMPONENTS).
-use Rattle.std.specs.Prelude.{◌≡◌, ℕ, pos, int_lt, Bool, true, false, not, ◌&&◌, List, filter, Option, Some, None, slice_get, Any}
+use Rattle.std.specs.Prelude.{◌≡◌, ℕ, pos, int_lt, Bool, true, false, not, ◌&&◌, List, filter, map, Option, Some, None, slice_get, Any}
 use Rattle.std.specs.Option.{option_and_then}
 use Rattle.std.specs.List.{find}
 use Rattle.std.specs.Str.{bytes_eq}
@@ -81,6 +81,10 @@ is_fence r = is_fence_kind r.kind
 -- the fences, in the order of the text
 abbrev pub fences : List Region → List Region
 fences regions = filter is_fence regions
+
+-- the names of the fences, in the order of the text
+abbrev pub fence_names : List Region → List (List ℕ)
+fence_names regions = map (λ r. r.name) (fences regions)
 
 abbrev pub is_fixed_kind : PlacementKind → Bool
 is_fixed_kind Fixed = true
