@@ -11,3 +11,4 @@ pub mod NameLemmas
 pub mod ClaimLemmas
 pub mod Pieces
 pub mod Named
+pub mod MapLemmas

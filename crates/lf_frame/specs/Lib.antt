@@ -11,3 +11,4 @@ pub mod Loading
 pub mod Refusals
 pub mod Sweep
 pub mod Tables
+pub mod NameMaps

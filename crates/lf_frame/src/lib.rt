@@ -11,6 +11,7 @@ mod laws;
 mod limits;
 mod loaded;
 mod measure;
+mod name_map;
 mod parts;
 mod place;
 mod row_refusals;
