@@ -17,3 +17,6 @@ pub mod Accepted
 pub mod FrameMade
 pub mod CellsMade
 pub mod DesignMade
+pub mod Pieces
+pub mod Named
+pub mod MapLemmas

@@ -15,7 +15,7 @@ positive n (pos m) some wide =
     omega (arith, ints)
 positive n (negsuc m) some wide = absurd (omega (arith, ints))
 
-less : (a b : ℤ) → (a ≤ℤ b → ⊥) → b <ℤ a
+pub less : (a b : ℤ) → (a ≤ℤ b → ⊥) → b <ℤ a
 less a b never = elim order [ inl h ↦ absurd (never h) | inr h ↦ h ]
   where
     order : (a ≤ℤ b) ⊎ (b <ℤ a)

@@ -11,3 +11,6 @@ pub mod Loading
 pub mod Refusals
 pub mod Findings
 pub mod Loads
+pub mod Sweep
+pub mod Tables
+pub mod NameMaps

@@ -82,6 +82,10 @@ is_fence r = is_fence_kind r.kind
 abbrev pub fences : List Region → List Region
 fences regions = filter is_fence regions
 
+-- the names of the fences, in the order of the text
+abbrev pub fence_names : List Region → List (List ℕ)
+fence_names regions = map (λ r. r.name) (fences regions)
+
 abbrev pub is_fixed_kind : PlacementKind → Bool
 is_fixed_kind Fixed = true
 is_fixed_kind Cover = false
@@ -122,10 +126,6 @@ pub record Claims (regions : List Region) (group : Group) (name fence : List ℕ
 -- a group that is bound to the fence names the component
 abbrev pub IsClaimed : List Region → List Group → List ℕ → List ℕ → Type 0
 IsClaimed regions groups name fence = Any (λ g. Claims regions g name fence) groups
-
--- the fences' names
-abbrev pub fence_names : List Region → List (List ℕ)
-fence_names regions = map (λ r. r.name) (fences regions)
 
 -- no fence claims the name
 abbrev pub IsUnclaimed : List Region → List Group → List ℕ → Type 0

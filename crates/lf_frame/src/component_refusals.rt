@@ -163,7 +163,7 @@ pub fn first_not_whole(components: &[Component], library: &Library, units: u32) 
 }
 
 /// Adds the name, and answers whether it is new.
-fn is_added(names: &mut NameTable, name: &[u8]) -> Result<bool, AllocError>
+pub fn is_added(names: &mut NameTable, name: &[u8]) -> Result<bool, AllocError>
     ensures new { IfOk result (λ added. IsTrue added → Contains names.old name.now → ⊥) }
     ensures added { IfOk result (λ added. IsTrue added → names.new ≡ names.old ++ name.now ∷ []) }
     ensures present { IfOk result (λ added. IsFalse added → Contains names.old name.now) }

@@ -1,17 +1,21 @@
 //! What loading refuses of regions and groups.
 
-ghost use Rattle.std.specs.Prelude.{[], ◌≡◌, ◌≢◌, ◌↔◌, ℕ, ◌<◌, ◌≤◌, true, None, List, All, Any, IsTrue, MatchOption, IfSome, length};
+ghost use Rattle.std.specs.Prelude.{[], ◌∷◌, ◌≡◌, ◌≢◌, ◌↔◌, ℕ, ◌<◌, ◌≤◌, ◌++◌, true, None, List, map, All, Any, Contains, IsTrue, IsFalse, IfOk, OnOk, MatchOption, IfSome, length};
 ghost use Rattle.lf_units.specs.Area.{SharesPoint};
 ghost use Rattle.lf_frame.specs.Entries.{FirstIs};
-ghost use Rattle.lf_frame.specs.Loading.{is_fence as is_fence_region};
+ghost use Rattle.lf_frame.specs.Loading.{is_fence as is_fence_region, fence_names};
+ghost use Rattle.lf_frame.specs.Tables.{HoldSameNames, region_names as region_names_of, IsOutside};
+ghost use Rattle.lf_frame.specs.Sweep.{piece_of, fence_pieces as fence_pieces_of, HoldPieces};
 ghost use Rattle.lf_frame.specs.Refusals.{BearsEarlierFence, HasNoRegion, BearsGroundName, SharePoint, MeetsEarlierFence, IsFenceTooMany};
 ghost use Rattle.lf_frame.specs.Refusals.{HasTwoFences, IsClaimedTwice, HasOtherClaim};
 ghost use Rattle.lf_frame.specs.Loading.{NamedBy, IsClaimed, Claims};
 
-use crate::component_refusals::is_movable;
+use crate::component_refusals::{is_added, is_movable};
+use crate::sweep::{Piece, none_clash};
 use lf_def::{Component, Group, Region, RegionKind};
-use lf_names::Pattern;
+use lf_names::{NameTable, Pattern};
 use lf_units::{Name, Rect};
+use std::alloc::{AllocError, Global};
 
 /// Whether the region's TYPE is FENCE.
 pub fn is_fence(region: &Region) -> bool
@@ -36,16 +40,30 @@ pub fn is_fence_named(name: &Name, regions: &[Region]) -> bool
     false
 }
 
-/// The first fence that bears an earlier fence's name.
-pub fn first_second_fence(regions: &[Region]) -> Option<usize>
-    ensures { FirstIs BearsEarlierFence regions.now result }
+/// Whether the region is a fence whose name is in the table; the name of another fence is added.
+fn is_second_fence(names: &mut NameTable, region: &Region) -> Result<bool, AllocError>
+    ensures second { IfOk result (λ second. IsTrue second → (is_fence_region region.now ≡ true) × Contains names.old region.now.name) }
+    ensures first { IfOk result (λ second. IsFalse second → is_fence_region region.now ≡ true → Contains names.old region.now.name → ⊥) }
+    ensures names { IfOk result (λ second. IsFalse second → names.new ≡ names.old ++ fence_names (region.now ∷ [])) }
 {
+    if !is_fence(region) {
+        return Ok(false);
+    }
+    let new = is_added(names, region.name.as_bytes())?;
+    Ok(!new)
+}
+
+/// The first fence that bears an earlier fence's name.
+pub fn first_second_fence(alloc: Global, regions: &[Region]) -> Result<Option<usize>, AllocError>
+    ensures { IfOk result (λ found. FirstIs BearsEarlierFence regions.now found) }
+{
+    let mut names = NameTable::new(alloc);
     for (number, region) in regions.iter().enumerate() {
-        if is_fence(region) && is_fence_named(&region.name, &regions[..number]) {
-            return Some(number);
+        if is_second_fence(&mut names, region)? {
+            return Ok(Some(number));
         }
     }
-    None
+    Ok(None)
 }
 
 /// Whether the region is a fence named `-`.
@@ -67,33 +85,42 @@ pub fn first_ground_name(regions: &[Region]) -> Option<usize>
     None
 }
 
-/// Whether no region bears the name.
-fn is_no_region(name: &Name, regions: &[Region]) -> bool
-    ensures { IsTrue result ↔ All (λ r. r.name ≢ name.now) regions.now }
+/// The names of the regions.
+fn region_names(alloc: Global, regions: &[Region]) -> Result<NameTable, AllocError>
+    ensures { IfOk result (λ names. HoldSameNames names (region_names_of regions.now)) }
 {
-    regions.iter().all(|region| !region.name.is_same(name))
+    let mut names = NameTable::new(alloc);
+    for region in regions {
+        names.add(region.name.as_bytes())?;
+    }
+    Ok(names)
 }
 
-/// Whether the group has a region that no entry of REGIONS is.
-fn has_no_region(group: &Group, regions: &[Region]) -> bool
-    ensures { IsTrue result ↔ HasNoRegion regions.now [] group.now }
+/// Whether the group has a region that is not in the table.
+fn is_outside(group: &Group, names: &NameTable) -> bool
+    ensures { IsTrue result ↔ IsOutside names.now group.now }
 {
     match &group.region {
-        Some(name) => is_no_region(name, regions),
+        Some(name) => names.find(name.as_bytes()).is_none(),
         None => false,
     }
 }
 
 /// The first group whose region no entry of REGIONS is.
-pub fn first_without_region(groups: &[Group], regions: &[Region]) -> Option<usize>
-    ensures { FirstIs (HasNoRegion regions.now) groups.now result }
+pub fn first_without_region(
+    alloc: Global,
+    groups: &[Group],
+    regions: &[Region],
+) -> Result<Option<usize>, AllocError>
+    ensures { IfOk result (λ found. FirstIs (HasNoRegion regions.now) groups.now found) }
 {
+    let names = region_names(alloc, regions)?;
     for (number, group) in groups.iter().enumerate() {
-        if has_no_region(group, regions) {
-            return Some(number);
+        if is_outside(group, &names) {
+            return Ok(Some(number));
         }
     }
-    None
+    Ok(None)
 }
 
 /// Whether the rectangle shares a point with one of the list.
@@ -134,8 +161,8 @@ fn meets_one_of(region: &Region, earlier: &[Region]) -> bool
     false
 }
 
-/// The first fence that shares a point with an earlier fence.
-pub fn first_fence_overlap(regions: &[Region]) -> Option<usize>
+/// The first fence that shares a point with an earlier fence, by a look at each two fences.
+fn fence_overlap_by_pairs(regions: &[Region]) -> Option<usize>
     ensures { FirstIs MeetsEarlierFence regions.now result }
 {
     for (number, region) in regions.iter().enumerate() {
@@ -144,6 +171,62 @@ pub fn first_fence_overlap(regions: &[Region]) -> Option<usize>
         }
     }
     None
+}
+
+/// The rectangle as a piece of a sweep.
+fn rect_piece(number: usize, rect: &Rect) -> Piece
+    ensures { result ≡ piece_of number rect.now }
+{
+    Piece {
+        entry: number,
+        left: rect.x1,
+        right: i128::from(rect.x2),
+        bottom: rect.y1,
+        top: rect.y2,
+    }
+}
+
+/// The rectangles of an entry, behind the pieces of earlier ones.
+fn push_pieces(pieces: &mut Vec<Piece>, number: usize, rects: &[Rect]) -> Result<(), AllocError>
+    ensures { OnOk result (pieces.new.items ≡ pieces.old.items ++ map (λ rect. piece_of number rect) rects.now) }
+{
+    for rect in rects {
+        pieces.push(rect_piece(number, rect))?;
+    }
+    Ok(())
+}
+
+/// The rectangles of a region behind the pieces of earlier ones, where it is a fence.
+fn push_region(pieces: &mut Vec<Piece>, number: usize, region: &Region) -> Result<(), AllocError>
+    ensures { OnOk result (pieces.new.items ≡ pieces.old.items ++ fence_pieces_of number region.now) }
+{
+    if is_fence(region) {
+        return push_pieces(pieces, number, region.rects.as_slice());
+    }
+    Ok(())
+}
+
+/// The rectangles of all fences as pieces of a sweep.
+fn fence_pieces(alloc: Global, regions: &[Region]) -> Result<Vec<Piece>, AllocError>
+    ensures { IfOk result (λ pieces. HoldPieces fence_pieces_of regions.now pieces.items) }
+{
+    let mut pieces = Vec::new(alloc);
+    for (number, region) in regions.iter().enumerate() {
+        push_region(&mut pieces, number, region)?;
+    }
+    Ok(pieces)
+}
+
+/// The first fence that shares a point with an earlier fence. Takes the time of a sort where there is none and
+/// few rectangles lie at one height.
+pub fn first_fence_overlap(alloc: Global, regions: &[Region]) -> Result<Option<usize>, AllocError>
+    ensures { IfOk result (λ found. FirstIs MeetsEarlierFence regions.now found) }
+{
+    let mut pieces = fence_pieces(alloc, regions)?;
+    if none_clash(&mut pieces) {
+        return Ok(None);
+    }
+    Ok(fence_overlap_by_pairs(regions))
 }
 
 /// The first fence that stands behind so many fences as the limit allows.

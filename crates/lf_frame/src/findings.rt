@@ -133,17 +133,23 @@ pub fn row_orient<'d>(library: &Library, document: &'d DefDoc, limits: &Limits) 
 }
 
 /// The first heeded row that shares a point with an earlier one.
-pub fn rows_overlap<'d>(library: &Library, document: &'d DefDoc, limits: &Limits) -> Option<&'d [u8]>
-    ensures { Finds (inputs library.now document.now limits.now) RowsOverlap (option_copied result) }
+pub fn rows_overlap<'d>(
+    alloc: Global,
+    library: &Library,
+    document: &'d DefDoc,
+    limits: &Limits,
+) -> Result<Option<&'d [u8]>, AllocError>
+    ensures { IfOk result (λ name. Finds (inputs library.now document.now limits.now) RowsOverlap (option_copied name)) }
 {
     let rows = document.rows.as_slice();
     let Some(core) = sized_core_site(library, rows) else {
-        return None;
+        return Ok(None);
     };
     let Some(pitch) = core_pitch(core, units_of(document)) else {
-        return None;
+        return Ok(None);
     };
-    row_name(rows, first_row_overlap(rows, core, &pitch))
+    let first = first_row_overlap(alloc, rows, core, &pitch)?;
+    Ok(row_name(rows, first))
 }
 
 /// The macro of the component of that place.
@@ -276,22 +282,31 @@ fn region_of_group<'d>(groups: &'d [Group], place: Option<usize>) -> Option<&'d 
 }
 
 /// The first fence that bears an earlier fence's name.
-pub fn second_region<'d>(library: &Library, document: &'d DefDoc, limits: &Limits) -> Option<&'d [u8]>
-    ensures { Finds (inputs library.now document.now limits.now) SecondRegion (option_copied result) }
+pub fn second_region<'d>(
+    alloc: Global,
+    library: &Library,
+    document: &'d DefDoc,
+    limits: &Limits,
+) -> Result<Option<&'d [u8]>, AllocError>
+    ensures { IfOk result (λ name. Finds (inputs library.now document.now limits.now) SecondRegion (option_copied name)) }
 {
     let regions = document.regions.as_slice();
-    region_at(regions, first_second_fence(regions))
+    let first = first_second_fence(alloc, regions)?;
+    Ok(region_at(regions, first))
 }
 
 /// The region of the first group whose region no entry of REGIONS is.
-pub fn no_region<'d>(library: &Library, document: &'d DefDoc, limits: &Limits) -> Option<&'d [u8]>
-    ensures { Finds (inputs library.now document.now limits.now) NoRegion (option_copied result) }
+pub fn no_region<'d>(
+    alloc: Global,
+    library: &Library,
+    document: &'d DefDoc,
+    limits: &Limits,
+) -> Result<Option<&'d [u8]>, AllocError>
+    ensures { IfOk result (λ name. Finds (inputs library.now document.now limits.now) NoRegion (option_copied name)) }
 {
     let groups = document.groups.as_slice();
-    region_of_group(
-        groups,
-        first_without_region(groups, document.regions.as_slice()),
-    )
+    let first = first_without_region(alloc, groups, document.regions.as_slice())?;
+    Ok(region_of_group(groups, first))
 }
 
 /// The first fence named `-`.
@@ -303,11 +318,17 @@ pub fn team_name<'d>(library: &Library, document: &'d DefDoc, limits: &Limits) -
 }
 
 /// The first fence that shares a point with an earlier one.
-pub fn fences_overlap<'d>(library: &Library, document: &'d DefDoc, limits: &Limits) -> Option<&'d [u8]>
-    ensures { Finds (inputs library.now document.now limits.now) FencesOverlap (option_copied result) }
+pub fn fences_overlap<'d>(
+    alloc: Global,
+    library: &Library,
+    document: &'d DefDoc,
+    limits: &Limits,
+) -> Result<Option<&'d [u8]>, AllocError>
+    ensures { IfOk result (λ name. Finds (inputs library.now document.now limits.now) FencesOverlap (option_copied name)) }
 {
     let regions = document.regions.as_slice();
-    region_at(regions, first_fence_overlap(regions))
+    let first = first_fence_overlap(alloc, regions)?;
+    Ok(region_at(regions, first))
 }
 
 /// The first movable component that groups of two different fences name.

@@ -4,9 +4,8 @@
 mod assembled;
 mod cells;
 mod checked;
-mod copies;
-
 mod component_refusals;
+mod copies;
 mod design;
 mod fence_refusals;
 mod findings;
@@ -16,11 +15,13 @@ mod limits;
 mod load;
 mod loaded;
 mod measure;
+mod name_map;
 mod parts;
 mod pitch;
 mod place;
 mod refusal;
 mod row_refusals;
+mod sweep;
 
 pub use assembled::{Parts, frame_of, loaded_of};
 pub use component_refusals::{
@@ -38,6 +39,7 @@ pub use laws::{
 };
 pub use lf_lef::{Macro, Site};
 pub use limits::Limits;
+pub use load::load;
 pub use loaded::{Cell, Loaded};
 pub use parts::{Header, Row, Team};
 pub use place::Place;

@@ -1,6 +1,6 @@
 //! What loading refuses of rows.
 
-ghost use Rattle.std.specs.Prelude.{[], ◌≡◌, ◌≢◌, ◌↔◌, ℕ, ℤ, pos, ◌<◌, ◌≤◌, ◌<ℤ◌, ◌≤ℤ◌, ◌+ℤ◌, ◌*ℤ◌, true, None, All, Any, IsTrue, IfSome, MatchOption, length};
+ghost use Rattle.std.specs.Prelude.{[], ◌≡◌, ◌≢◌, ◌↔◌, ℕ, ℤ, pos, ◌<◌, ◌≤◌, ◌<ℤ◌, ◌≤ℤ◌, ◌+ℤ◌, ◌*ℤ◌, ◌++◌, true, None, All, Any, IsTrue, IfSome, IfOk, OnOk, MatchOption, length};
 ghost use Rattle.std.specs.Option.{option_copied};
 ghost use Rattle.lf_units.specs.Area.{SharesPoint};
 ghost use Rattle.lf_lef.specs.Lengths.{HasRange};
@@ -8,13 +8,16 @@ ghost use Rattle.lf_def.specs.Ranges.{IsRow};
 ghost use Rattle.lf_frame.specs.Rows.{row_area};
 ghost use Rattle.lf_frame.specs.Entries.{FirstIs};
 ghost use Rattle.lf_frame.specs.Loading.{site_named, is_core, core_row as core_row_of, core_site as core_site_of, is_heeded as is_heeded_row, frame_row};
+ghost use Rattle.lf_frame.specs.Sweep.{piece_of, row_pieces as row_pieces_of, HoldPieces};
 ghost use Rattle.lf_frame.specs.Refusals.{HasNoSite, IsVertical, HasBadStep, IsTurned, MeetsEarlierRow, IsRowTooMany, EndsTooFar};
 
 use crate::component_refusals::has_size;
+use crate::sweep::{Piece, none_clash};
 use lf_def::Row;
 use lf_lef::{Library, Site};
 use lf_orient::row_rail;
 use lf_units::Point;
+use std::alloc::{AllocError, Global};
 
 /// The site of that name.
 pub fn site_named<'l>(library: &'l Library, name: &[u8]) -> Option<&'l Site>
@@ -233,8 +236,8 @@ fn meets_one_of(row: &Row, earlier: &[Row], core: &Site, pitch: &Point) -> bool
     false
 }
 
-/// The first heeded row that shares a point with an earlier one.
-pub fn first_row_overlap(rows: &[Row], core: &Site, pitch: &Point) -> Option<usize>
+/// The first heeded row that shares a point with an earlier one, by a look at each two rows.
+fn row_overlap_by_pairs(rows: &[Row], core: &Site, pitch: &Point) -> Option<usize>
     requires wide { pos 0 <ℤ pitch.now.x }
     requires narrow { pitch.now.x ≤ℤ pos 20000000000 }
     requires high { pos 0 <ℤ pitch.now.y }
@@ -248,6 +251,83 @@ pub fn first_row_overlap(rows: &[Row], core: &Site, pitch: &Point) -> Option<usi
         }
     }
     None
+}
+
+/// The row as a piece of a sweep.
+fn row_piece(number: usize, row: &Row, pitch: &Point) -> Piece
+    requires wide { pos 0 <ℤ pitch.now.x }
+    requires narrow { pitch.now.x ≤ℤ pos 20000000000 }
+    requires high { pos 0 <ℤ pitch.now.y }
+    requires low { pitch.now.y ≤ℤ pos 20000000000 }
+    requires row { IsRow row.now }
+    ensures { result ≡ piece_of number (row_area pitch.now (frame_row row.now)) }
+{
+    Piece {
+        entry: number,
+        left: row.x,
+        right: right_edge(row, pitch),
+        bottom: row.y,
+        top: row.y + pitch.y,
+    }
+}
+
+/// The row behind the pieces of earlier ones, where it is heeded.
+fn push_row(
+    pieces: &mut Vec<Piece>,
+    number: usize,
+    row: &Row,
+    core: &Site,
+    pitch: &Point,
+) -> Result<(), AllocError>
+    requires wide { pos 0 <ℤ pitch.now.x }
+    requires narrow { pitch.now.x ≤ℤ pos 20000000000 }
+    requires high { pos 0 <ℤ pitch.now.y }
+    requires low { pitch.now.y ≤ℤ pos 20000000000 }
+    requires row { IsRow row.now }
+    ensures { OnOk result (pieces.new.items ≡ pieces.old.items ++ row_pieces_of core.now pitch.now number row.now) }
+{
+    if is_heeded(row, core) {
+        pieces.push(row_piece(number, row, pitch))?;
+    }
+    Ok(())
+}
+
+/// The heeded rows as pieces of a sweep.
+fn row_pieces(alloc: Global, rows: &[Row], core: &Site, pitch: &Point) -> Result<Vec<Piece>, AllocError>
+    requires wide { pos 0 <ℤ pitch.now.x }
+    requires narrow { pitch.now.x ≤ℤ pos 20000000000 }
+    requires high { pos 0 <ℤ pitch.now.y }
+    requires low { pitch.now.y ≤ℤ pos 20000000000 }
+    requires each { All IsRow rows.now }
+    ensures { IfOk result (λ pieces. HoldPieces (row_pieces_of core.now pitch.now) rows.now pieces.items) }
+{
+    let mut pieces = Vec::new(alloc);
+    for (number, row) in rows.iter().enumerate() {
+        push_row(&mut pieces, number, row, core, pitch)?;
+    }
+    Ok(pieces)
+}
+
+/// The first heeded row that shares a point with an earlier one. Takes the time of a sort where there is none
+/// and few rows lie at one height.
+pub fn first_row_overlap(
+    alloc: Global,
+    rows: &[Row],
+    core: &Site,
+    pitch: &Point,
+) -> Result<Option<usize>, AllocError>
+    requires wide { pos 0 <ℤ pitch.now.x }
+    requires narrow { pitch.now.x ≤ℤ pos 20000000000 }
+    requires high { pos 0 <ℤ pitch.now.y }
+    requires low { pitch.now.y ≤ℤ pos 20000000000 }
+    requires each { All IsRow rows.now }
+    ensures { IfOk result (λ found. FirstIs (MeetsEarlierRow core.now pitch.now) rows.now found) }
+{
+    let mut pieces = row_pieces(alloc, rows, core, pitch)?;
+    if none_clash(&mut pieces) {
+        return Ok(None);
+    }
+    Ok(row_overlap_by_pairs(rows, core, pitch))
 }
 
 /// Whether the row is heeded and ends past the largest coordinate.
