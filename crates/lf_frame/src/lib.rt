@@ -12,7 +12,7 @@ mod findings;
 mod frame;
 mod laws;
 mod limits;
-mod load;
+mod loading;
 mod loaded;
 mod measure;
 mod name_map;
@@ -39,7 +39,7 @@ pub use laws::{
 };
 pub use lf_lef::{Macro, Site};
 pub use limits::Limits;
-pub use load::load;
+pub use loading::load;
 pub use loaded::{Cell, Loaded};
 pub use parts::{Header, Row, Team};
 pub use place::Place;

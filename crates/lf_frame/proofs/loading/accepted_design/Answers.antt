@@ -1,6 +1,6 @@
 use Rattle.lf_frame.specs.Findings.{Inputs, inputs}
 use Rattle.lf_frame.proofs.DesignMade.{can_be_cells, design_made}
-use Rattle.lf_frame.proofs.load.accepted_design.Goals as goal
+use Rattle.lf_frame.proofs.loading.accepted_design.Goals as goal
 
 pub movable_cells-requires : goal.movable_cells-requires
 movable_cells-requires c = record { able = can_be_cells (inputs c.args.library.now c.args.document.now c.args.limits.now) c.requires }

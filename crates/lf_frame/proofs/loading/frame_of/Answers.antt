@@ -4,7 +4,7 @@ use Rattle.lf_frame.specs.Findings.{Inputs, inputs, units_in, core_in}
 use Rattle.lf_frame.specs.Loads.{IsSizedIn}
 use Rattle.lf_frame.proofs.Accepted.{core_there, lent_there, core_whole, pitch_there, fixed_sized}
 use Rattle.lf_frame.proofs.FrameMade.{frame_made}
-use Rattle.lf_frame.proofs.load.frame_of.Goals as goal
+use Rattle.lf_frame.proofs.loading.frame_of.Goals as goal
 
 pub unwrap-core-requires : goal.unwrap-core-requires
 unwrap-core-requires c =
