@@ -12,3 +12,6 @@ pub mod ClaimLemmas
 pub mod Pieces
 pub mod Named
 pub mod MapLemmas
+pub mod Tellings
+pub mod Indexes
+pub mod Claimants

@@ -12,3 +12,4 @@ pub mod Refusals
 pub mod Sweep
 pub mod Tables
 pub mod NameMaps
+pub mod Claims

@@ -1,6 +1,6 @@
 -- What loading takes from a LEF library and a DEF text: the core site, heeded rows, fences, components by
 -- their kind, and which fences claim a component (LEF SITE, MACRO; DEF ROW, REGIONS, GROUPS, COMPONENTS).
-use Rattle.std.specs.Prelude.{◌≡◌, ℕ, pos, int_lt, Bool, true, false, not, ◌&&◌, List, filter, map, Option, Some, None, slice_get, Any}
+use Rattle.std.specs.Prelude.{◌≡◌, ℕ, pos, int_lt, Bool, true, false, not, ◌&&◌, ◌⊎◌, List, length, filter, map, Option, Some, None, slice_get, Any}
 use Rattle.std.specs.Option.{option_and_then}
 use Rattle.std.specs.List.{find}
 use Rattle.std.specs.Str.{bytes_eq}
@@ -126,3 +126,18 @@ pub record Claims (regions : List Region) (group : Group) (name fence : List ℕ
 -- a group that is bound to the fence names the component
 abbrev pub IsClaimed : List Region → List Group → List ℕ → List ℕ → Type 0
 IsClaimed regions groups name fence = Any (λ g. Claims regions g name fence) groups
+
+-- no fence claims the name
+abbrev pub IsUnclaimed : List Region → List Group → List ℕ → Type 0
+IsUnclaimed regions groups name = (fence : List ℕ) → IsClaimed regions groups name fence → ⊥
+
+-- the fence of this number claims the name, and no other does; of fences of one name the first counts
+pub record IsClaimedBy (regions : List Region) (groups : List Group) (name : List ℕ) (team : ℕ) : Type 0 where
+  pub fence : List ℕ
+  pub place : position_of (fence_names regions) fence ≡ Some team
+  pub claimed : IsClaimed regions groups name fence
+  pub only : (other : List ℕ) → IsClaimed regions groups name other → other ≡ fence
+
+-- the team of a movable component: the one fence that claims it, or the ground, whose number is behind the fences
+abbrev pub IsTeamOf : List Region → List Group → List ℕ → ℕ → Type 0
+IsTeamOf regions groups name team = IsClaimedBy regions groups name team ⊎ (IsUnclaimed regions groups name × (team ≡ length (fences regions)))

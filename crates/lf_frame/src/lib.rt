@@ -3,6 +3,7 @@
 
 mod assembled;
 mod checked;
+mod claims;
 mod component_refusals;
 mod design;
 mod fence_refusals;
