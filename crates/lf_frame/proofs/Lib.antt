@@ -20,3 +20,6 @@ pub mod DesignMade
 pub mod Pieces
 pub mod Named
 pub mod MapLemmas
+pub mod Tellings
+pub mod Indexes
+pub mod Claimants

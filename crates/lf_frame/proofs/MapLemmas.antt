@@ -12,6 +12,9 @@ use Rattle.std.proofs.lemmas.Option.{slice_get_within, slice_get-get_or}
 use Rattle.std.proofs.lemmas.Slice.Eq.{bytes_eq-Decides}
 use Rattle.lf_names.specs.Names.{position_of}
 use Rattle.lf_names.proofs.Positions.{stands_there}
+use Rattle.lf_frame.specs.declared.name_map.NameMap.{NameMap}
+use Rattle.lf_frame.specs.NameMaps.{value_of, IsWhole, Puts}
+use Rattle.lf_frame.specs.Claims.{Numbers, NumbersOneMore}
 
 -- a position is a place in the list, and no position is its length
 data Place (p : List ℕ → Bool) (xs : List (List ℕ)) : Type 0 where
@@ -137,3 +140,33 @@ one_at_place names a b n at_a at_b =
     let first : slice_get names n ≡ Some a = stands_there names a n at_a in
     let second : slice_get names n ≡ Some b = stands_there names b n at_b in
     cc
+
+-- a name behind others moves none of them
+unmoved : (names : List (List ℕ)) (y q : List ℕ) → (q ≡ y → position_of names q ≡ None → ⊥) → position_of (names ++ y ∷ []) q ≡ position_of names q
+unmoved names y q known = by (position_of names q) refl
+  where
+    by : (at : Option ℕ) → position_of names q ≡ at → position_of (names ++ y ∷ []) q ≡ position_of names q
+    by None e = stays_out names y q (λ same. known same e) e ∙ sym e
+    by (Some n) e = stays names y q n e ∙ sym e
+
+-- a map of places, when a name joins the list
+pub numbers_put : (old new : NameMap ℕ) (number : ℕ) (name : List ℕ) → value_of old name ≡ None → Puts old new name number → NumbersOneMore old new number name
+numbers_put old new number name absent puts = record { whole = puts.whole; numbers = λ names many numbered q. by names many numbered q (bytes_eq q name) refl }
+  where
+    by : (names : List (List ℕ)) → number ≡ length names → Numbers names old → (q : List ℕ) (t : Bool) → bytes_eq q name ≡ t → value_of new q ≡ position_of (names ++ name ∷ []) q
+    by names many numbered q true e =
+        let same : q ≡ name = (bytes_eq-Decides q name).0 e in
+        let nowhere : position_of names name ≡ None = sym (numbered name) ∙ absent in
+        ap (value_of new) same ∙ puts.there ∙ ap Some many ∙ sym (goes_last names name nowhere) ∙ ap (position_of (names ++ name ∷ [])) (sym same)
+    by names many numbered q false e =
+        let apart : q ≢ name = λ same. false≢true (sym e ∙ (bytes_eq-Decides q name).1 same) in
+        puts.others q apart ∙ numbered q ∙ sym (unmoved names name q (λ same _. apart same))
+
+pub numbers_kept : (old : NameMap ℕ) (number n : ℕ) (name : List ℕ) → IsWhole old → value_of old name ≡ Some n → NumbersOneMore old old number name
+numbers_kept old number n name whole known = record {
+  whole = whole;
+  numbers = λ names many numbered q. numbered q ∙ sym (unmoved names name q (λ same none. not_both (sym (numbered q ∙ none) ∙ ap (value_of old) same ∙ known)));
+}
+  where
+    not_both : None ≡ Some n → ⊥
+    not_both e = cc

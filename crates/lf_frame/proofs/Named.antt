@@ -2,7 +2,7 @@
 use Rattle.std.proofs.Common.{◌≡◌, ℕ, zero, suc, ◌+◌, ◌<◌, ◌⊎◌, inl, inr, Bool, true, false, cond, List, [], ◌∷◌, ◌++◌, length, map, take, get_or, refl, sym, ◌∙◌, ap, subst, arith}
 use Rattle.std.specs.Prelude.{Any, All, Contains, filter, IsSomeAnd, Option, Some, None}
 use Rattle.std.proofs.lemmas.Bool.{false≢true}
-use Rattle.std.proofs.lemmas.List.{get_or-map, length-map, map-append}
+use Rattle.std.proofs.lemmas.List.{get_or-map, length-map, map-append, append-nil}
 use Rattle.std.proofs.lemmas.List.Elements.{filter-append, Contains-append_left, Contains-push, Contains-push_cases}
 use Rattle.std.proofs.lemmas.Grind.{common_steps}
 use Rattle.std.proofs.lemmas.Option.{slice_get_within, get_or_from_slice_get}
@@ -122,3 +122,14 @@ no_region_of regions names g same h = by g.region h
     by : (region : Option (List ℕ)) → IsSomeAnd region (λ name. Contains names name → ⊥) → IsSomeAnd region (λ name. All (λ r. r.name ≡ name → ⊥) regions)
     by None never = never
     by (Some name) never = λ k d within is. never (same.back name (name_of_any (λ r. r.name) regions name (any_here (λ r. r.name ≡ name) regions k d within is)))
+
+-- the names of the fences among one region more
+pub fence_next : (regions : List Region) (n : ℕ) (r : Region) → n < length regions → r ≡ get_or regions n r → is_fence r ≡ true → fence_names (take (n + 1) regions) ≡ fence_names (take n regions) ++ r.name ∷ []
+fence_next regions n r within is fence =
+    let one : fence_names (r ∷ []) ≡ r.name ∷ [] = ap (λ t. map (λ q. q.name) (cond t (r ∷ []) [])) fence in
+    sym (fence_names_more regions n r within is) ∙ ap (λ l. fence_names (take n regions) ++ l) one
+
+pub fence_same : (regions : List Region) (n : ℕ) (r : Region) → n < length regions → r ≡ get_or regions n r → is_fence r ≡ false → fence_names (take (n + 1) regions) ≡ fence_names (take n regions)
+fence_same regions n r within is none =
+    let nothing : fence_names (r ∷ []) ≡ [] = ap (λ t. map (λ q. q.name) (cond t (r ∷ []) [])) none in
+    sym (fence_names_more regions n r within is) ∙ ap (λ l. fence_names (take n regions) ++ l) nothing ∙ append-nil (fence_names (take n regions))

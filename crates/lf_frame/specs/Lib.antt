@@ -14,3 +14,4 @@ pub mod Loads
 pub mod Sweep
 pub mod Tables
 pub mod NameMaps
+pub mod Claims

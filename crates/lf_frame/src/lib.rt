@@ -4,6 +4,7 @@
 mod assembled;
 mod cells;
 mod checked;
+mod claims;
 mod component_refusals;
 mod copies;
 mod design;

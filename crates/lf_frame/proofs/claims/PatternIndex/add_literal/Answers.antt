@@ -1,0 +1,8 @@
+use Rattle.std.proofs.Common.{refl}
+use Rattle.lf_frame.proofs.Indexes.{extends_literal}
+use Rattle.lf_frame.proofs.claims.PatternIndex.add_literal.Goals as goal
+
+pub returns : goal.returns
+returns c =
+    extends_literal c.args.self.now (record { literals = c.put.new.self; starred = c.args.self.now.starred }) (record { pattern = c.args.pattern.now; fence = c.args.fence }) c.requires.literal
+    (rw (c.joined-claim.ensures, c.literal_claim.ensures) at c.in_ok-put.ensures) refl
