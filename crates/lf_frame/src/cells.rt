@@ -5,29 +5,22 @@ ghost use Rattle.std.specs.List.{AllZip};
 ghost use Rattle.lf_names.specs.Names.{position_of};
 ghost use Rattle.lf_lef.specs.Contents.{macro_names};
 ghost use Rattle.lf_def.specs.Ranges.{IsComponent, IsLocation};
-ghost use Rattle.lf_frame.specs.Loading.{is_movable as is_movable_component, IsTeamOf};
+ghost use Rattle.lf_frame.specs.Loading.{is_movable as is_movable_component};
 ghost use Rattle.lf_frame.specs.Refusals.{HasTwoFences};
+ghost use Rattle.lf_frame.specs.Claims.{IsTableOf};
 ghost use Rattle.lf_frame.specs.Findings.{inputs};
 ghost use Rattle.lf_frame.specs.Loads.{location as location_of, as_location, movables, CanBeCell, IsCellOf};
 
+use crate::claims::{ClaimTable, claim_table};
 use crate::component_refusals::is_movable;
 use crate::copies::location;
-use crate::fence_refusals::{first_claim, is_fence};
 use crate::limits::Limits;
 use crate::loaded::Cell;
 use crate::place::Place;
-use lf_def::{Component, DefDoc, Group, Location, Region};
+use lf_def::{Component, DefDoc, Location};
 use lf_lef::Library;
 use lf_units::{Name, Sequence};
 use std::alloc::{AllocError, Global};
-
-/// The team of a movable component.
-fn team_of(groups: &[Group], regions: &[Region], name: &[u8]) -> usize
-    requires { HasTwoFences regions.now groups.now name.now → ⊥ }
-    ensures { IsTeamOf regions.now groups.now name.now result }
-{
-    0
-}
 
 /// A place of the document.
 fn place_at(at: &Location) -> Place
@@ -54,9 +47,11 @@ fn cell_of(
     library: &Library,
     document: &DefDoc,
     limits: &Limits,
+    claims: &ClaimTable,
     number: usize,
     component: &Component,
 ) -> Result<Cell, AllocError>
+    requires claims { IsTableOf document.now.regions document.now.groups claims.now }
     requires range { IsComponent component.now }
     requires able { CanBeCell (inputs library.now document.now limits.now) component.now }
     ensures { IfOk result (λ cell. IsCellOf (inputs library.now document.now limits.now) (number, component.now) cell) }
@@ -64,7 +59,7 @@ fn cell_of(
     let name = component.name.as_bytes();
     Ok(Cell {
         name: Name::from_slice(alloc, name)?,
-        team: team_of(document.groups.as_slice(), document.regions.as_slice(), name),
+        team: claims.team_of(name),
         mac: library.find_macro(component.mac.as_bytes()).unwrap(),
         place: place_of(component),
         component: number,
@@ -81,11 +76,16 @@ pub fn movable_cells(
     requires able { All (λ c. is_movable_component c ≡ true → CanBeCell (inputs library.now document.now limits.now) c) document.now.components }
     ensures { IfOk result (λ cells. AllZip (IsCellOf (inputs library.now document.now limits.now)) (movables document.now.components) cells) }
 {
+    let claims = claim_table(
+        alloc,
+        document.groups.as_slice(),
+        document.regions.as_slice(),
+    )?;
     let mut cells = Sequence::new(alloc);
     for (number, component) in document.components.as_slice().iter().enumerate() {
         if is_movable(component) {
             cells.push(cell_of(
-                alloc, library, document, limits, number, component,
+                alloc, library, document, limits, &claims, number, component,
             )?)?;
         }
     }

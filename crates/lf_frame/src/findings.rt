@@ -9,12 +9,13 @@ ghost use Rattle.lf_frame.specs.Rows.{IsPitch};
 ghost use Rattle.lf_frame.specs.Findings.{inputs, units_in, core_in, region_name, Finds, OfCore, OfPitch, CoreHasPartUnits, NameOfFirst};
 ghost use Rattle.lf_frame.specs.Refusals.{IsRowTooMany, IsFenceTooMany, IsComponentTooMany, EndsTooFar, HasPartUnits};
 
+use crate::claims::{claim_table, first_claimed_twice};
 use crate::component_refusals::{
     first_component_too_many, first_not_whole, first_second_name, first_without_macro,
     first_without_size, is_whole_size,
 };
 use crate::fence_refusals::{
-    first_claimed_twice, first_fence_overlap, first_fence_too_many, first_ground_name,
+    first_fence_overlap, first_fence_too_many, first_ground_name,
     first_second_fence, first_without_region,
 };
 use crate::limits::Limits;
@@ -332,16 +333,22 @@ pub fn fences_overlap<'d>(
 }
 
 /// The first movable component that groups of two different fences name.
-pub fn two_fences<'d>(library: &Library, document: &'d DefDoc, limits: &Limits) -> Option<&'d [u8]>
-    ensures { Finds (inputs library.now document.now limits.now) TwoFences (option_copied result) }
+pub fn two_fences<'d>(
+    alloc: Global,
+    library: &Library,
+    document: &'d DefDoc,
+    limits: &Limits,
+) -> Result<Option<&'d [u8]>, AllocError>
+    ensures { IfOk result (λ name. Finds (inputs library.now document.now limits.now) TwoFences (option_copied name)) }
 {
     let components = document.components.as_slice();
-    let first = first_claimed_twice(
-        components,
+    let claims = claim_table(
+        alloc,
         document.groups.as_slice(),
         document.regions.as_slice(),
-    );
-    component_name(components, first)
+    )?;
+    let first = first_claimed_twice(components, &claims);
+    Ok(component_name(components, first))
 }
 
 /// The first heeded row beyond the limit.

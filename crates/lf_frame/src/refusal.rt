@@ -75,7 +75,7 @@ fn finding<'d>(
         FaultNumber::NoRegion => no_region(alloc, library, document, limits),
         FaultNumber::TeamName => Ok(team_name(library, document, limits)),
         FaultNumber::FencesOverlap => fences_overlap(alloc, library, document, limits),
-        FaultNumber::TwoFences => Ok(two_fences(library, document, limits)),
+        FaultNumber::TwoFences => two_fences(alloc, library, document, limits),
         FaultNumber::TooMany => Ok(too_many(library, document, limits)),
         FaultNumber::BadToken => Ok(None),
         FaultNumber::UnexpectedEnd => Ok(None),
