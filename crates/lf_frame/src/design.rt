@@ -1,25 +1,32 @@
-//! The tests by which a loaded design makes sure of what it keeps of its cells.
+//! The macros of a frame's cells.
 
-ghost use Rattle.std.specs.Prelude.{◌≡◌, ◌≢◌, ◌↔◌, ℕ, ℤ, pos, ◌<◌, ◌≤◌, ◌<ℤ◌, All, IsTrue, length};
-ghost use Rattle.lf_frame.specs.Bounds.{IsLefLength, IsPrinted, IsName};
+ghost use Rattle.std.specs.Prelude.{◌≡◌, ◌↔◌, ℤ, pos, ◌<◌, ◌≤◌, ◌<ℤ◌, IsTrue, length};
+ghost use Rattle.lf_frame.specs.Bounds.{IsLefLength, IsLefSize};
 ghost use Rattle.lf_units.specs.Length.{IsLength, in_dbu};
 ghost use Rattle.lf_frame.specs.Boxes.{IsSized, macro_of};
-ghost use Rattle.lf_frame.specs.Design.{IsCell, CellsNamed, ComponentsRise, MakeDesign};
 
-use crate::checked::is_lef_size;
 use crate::frame::Frame;
-use crate::loaded::Cell;
 use lf_lef::Macro;
-use lf_units::micros_to_dbu;
+use lf_units::{Point, micros_to_dbu};
 
-/// Whether the bytes may be a name.
-fn is_name(bytes: &[u8]) -> bool
-    ensures { IsTrue result ↔ IsName bytes.now }
+/// Whether a LEF text can hold the length.
+fn is_lef_length(micros: i64) -> bool
+    ensures { IsTrue result ↔ IsLefLength micros }
 {
-    if 1_024 < bytes.len() {
+    if micros < -1_000_000_000_000 {
         return false;
     }
-    bytes.iter().all(|byte| (33..=126).contains(byte))
+    micros <= 1_000_000_000_000
+}
+
+/// Whether a LEF text can hold both lengths.
+fn is_lef_size(size: &Point) -> bool
+    ensures { IsTrue result ↔ IsLefSize size.now }
+{
+    if !is_lef_length(size.x) {
+        return false;
+    }
+    is_lef_length(size.y)
 }
 
 /// Whether the length is whole in database units, and above 0.
@@ -54,80 +61,4 @@ pub fn is_sized(frame: &Frame, mac: &Macro) -> bool
         return false;
     }
     is_whole(mac.size.y, frame.header.units)
-}
-
-/// Whether the cell may be one of a design on the frame.
-fn is_cell(frame: &Frame, cell: &Cell) -> bool
-    ensures { IsTrue result ↔ IsCell frame.now cell.now }
-{
-    if frame.teams.len() < cell.team {
-        return false;
-    }
-    let Some(mac) = frame.macros.as_slice().get(cell.mac) else {
-        return false;
-    };
-    if !is_sized(frame, mac) {
-        return false;
-    }
-    is_name(cell.name.as_bytes())
-}
-
-fn are_cells(frame: &Frame, cells: &[Cell]) -> bool
-    ensures { IsTrue result ↔ All (IsCell frame.now) cells.now }
-{
-    cells.iter().all(|cell| is_cell(frame, cell))
-}
-
-/// Whether no cell of the list bears the name of this one.
-fn is_new_name(cell: &Cell, earlier: &[Cell]) -> bool
-    ensures { IsTrue result ↔ All (λ c. c.name ≢ cell.now.name) earlier.now }
-{
-    earlier.iter().all(|other| !other.name.is_same(&cell.name))
-}
-
-/// Whether no two cells bear one name.
-fn are_cells_named(cells: &[Cell]) -> bool
-    ensures { IsTrue result ↔ CellsNamed cells.now }
-{
-    for (number, cell) in cells.iter().enumerate() {
-        if !is_new_name(cell, &cells[..number]) {
-            return false;
-        }
-    }
-    true
-}
-
-/// Whether the components of all cells of the list stand before that of this one.
-fn is_later(cell: &Cell, earlier: &[Cell]) -> bool
-    ensures { IsTrue result ↔ All (λ c. c.component < cell.now.component) earlier.now }
-{
-    earlier.iter().all(|other| other.component < cell.component)
-}
-
-/// Whether the cells stand in the order of their components.
-fn do_components_rise(cells: &[Cell]) -> bool
-    ensures { IsTrue result ↔ ComponentsRise cells.now }
-{
-    for (number, cell) in cells.iter().enumerate() {
-        if !is_later(cell, &cells[..number]) {
-            return false;
-        }
-    }
-    true
-}
-
-/// Whether the cells make a design on the frame.
-pub fn make_design(frame: &Frame, cells: &[Cell]) -> bool
-    ensures { IsTrue result ↔ MakeDesign frame.now cells.now }
-{
-    if 4_000_000 < cells.len() {
-        return false;
-    }
-    if !are_cells(frame, cells) {
-        return false;
-    }
-    if !are_cells_named(cells) {
-        return false;
-    }
-    do_components_rise(cells)
 }

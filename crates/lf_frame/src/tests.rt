@@ -1,152 +1,255 @@
 use super::*;
-use lf_orient::{Orient, Rail, Symmetry};
-use lf_units::{Name, Point, Rect, Sequence};
-use std::alloc::Global;
+use lf_def::{W_DEF, read_def};
+use lf_lef::{Library, W_LEF, read_lef};
+use lf_lex::FaultNumber;
+use std::alloc::{AllocError, Global};
 use std::test::Fail;
 
-/// A row of 50 sites from x 0 on.
-fn row(alloc: Global, name: &[u8], y: i32, orient: Orient) -> Result<Row, Fail> {
-    Ok(Row {
-        name: Name::from_slice(alloc, name)?,
-        x: 0,
-        y,
-        orient,
-        sites: 50,
-    })
+/// The text with one of its lines, numbered from 1, exchanged for another.
+fn with_line(
+    alloc: Global,
+    text: &[u8],
+    number: usize,
+    line: &[u8],
+) -> Result<Vec<u8>, AllocError> {
+    let mut new = Vec::new(alloc);
+    for (i, old) in text.split(|byte| *byte == b'\n').enumerate() {
+        if i > 0 {
+            new.push(b'\n')?;
+        }
+        if number.checked_sub(1) == Some(i) {
+            new.extend_from_slice(line)?;
+        } else {
+            new.extend_from_slice(old)?;
+        }
+    }
+    Ok(new)
 }
 
-fn fence(alloc: Global, name: &[u8], rect: Rect) -> Result<Team, Fail> {
-    Ok(Team {
-        name: Name::from_slice(alloc, name)?,
-        rects: Sequence::from_vec(vec![in alloc; rect]?),
-    })
-}
-
-fn header(alloc: Global) -> Result<Header, Fail> {
-    Ok(Header {
-        version: Name::from_slice(alloc, b"5.8")?,
-        divider: Name::from_slice(alloc, b"\"/\"")?,
-        brackets: Name::from_slice(alloc, b"\"[]\"")?,
-        design: Name::from_slice(alloc, b"w")?,
-        units: 1000,
-    })
-}
-
-fn site(alloc: Global, width: i64) -> Result<Site, Fail> {
-    Ok(Site {
-        name: Name::from_slice(alloc, b"core")?,
-        core: true,
-        size: Point {
-            x: width,
-            y: 2_000_000,
-        },
-        symmetry: Symmetry { x: false, y: true },
-    })
-}
-
-/// A macro with a ground rail along its lower edge.
-fn macro_of(alloc: Global, name: &[u8], width: i64, height: i64) -> Result<Macro, Fail> {
-    Ok(Macro {
-        name: Name::from_slice(alloc, name)?,
-        size: Point {
-            x: width,
-            y: height,
-        },
-        origin: Point { x: 0, y: 0 },
-        symmetry: Symmetry { x: true, y: true },
-        rail: Rail::Ground,
-    })
-}
-
-fn rows(alloc: Global) -> Result<Sequence<Row>, Fail> {
-    Ok(Sequence::from_vec(vec![in alloc;
-        row(alloc, b"r0", 0, Orient::N)?,
-        row(alloc, b"r1", 2000, Orient::FS)?,
-        row(alloc, b"r2", 4000, Orient::N)?,
-        row(alloc, b"r3", 6000, Orient::FS)?,
-    ]?))
-}
-
-/// Two fences, the left edge of the second at `left`.
-fn fences(alloc: Global, left: i64) -> Result<Sequence<Team>, Fail> {
-    let first = Rect {
-        x1: 0,
-        y1: 0,
-        x2: 4000,
-        y2: 4000,
+/// Loads the two texts, and compares the refusal and the name that it gives, or none.
+fn loads(
+    rt: &HostRuntime,
+    lef: &[u8],
+    def: &[u8],
+    limits: Limits,
+    expected: Option<(FaultNumber, &[u8])>,
+) -> Result<(), Fail> {
+    let alloc = rt.alloc();
+    let mut library = Library::new(alloc);
+    assert!(rt; read_lef(&mut library, lef).is_ok());
+    let Ok(document) = read_def(alloc, def) else {
+        return Err(Fail::from("a DEF text"));
     };
-    let second = Rect {
-        x1: left,
-        y1: 0,
-        x2: 10_000,
-        y2: 8000,
+    let refused = match load(alloc, &library, &document, limits) {
+        Ok(_) => None,
+        Err(fault) => Some((fault.number, fault.name)),
     };
-    Ok(Sequence::from_vec(vec![in alloc; fence(alloc, b"A", first)?, fence(alloc, b"B", second)?]?))
+    assert!(rt; refused == expected.map(|(number, name)| (number, Some(name))));
+    Ok(())
 }
 
-/// Four rows, two fences, a blockage, an inverter and a cell of two rows.
-fn parts(alloc: Global, width: i64, left: i64) -> Result<Parts, Fail> {
-    let blockage = Rect {
-        x1: 4000,
-        y1: 0,
-        x2: 4400,
-        y2: 2000,
-    };
-    Ok(Parts {
-        site: site(alloc, width)?,
-        rows: rows(alloc)?,
-        teams: fences(alloc, left)?,
-        obstacles: Sequence::from_vec(vec![in alloc; blockage]?),
-        macros: Sequence::from_vec(vec![in alloc;
-            macro_of(alloc, b"INV", 400_000, 2_000_000)?,
-            macro_of(alloc, b"DBL", 600_000, 4_000_000)?,
-        ]?),
-        header: header(alloc)?,
-        limits: Limits::standard(),
-    })
+/// Loads the built-in texts with one line of the DEF text changed.
+fn def_change(
+    rt: &HostRuntime,
+    number: usize,
+    line: &[u8],
+    expected: Option<(FaultNumber, &[u8])>,
+) -> Result<(), Fail> {
+    let def = with_line(rt.alloc(), W_DEF, number, line)?;
+    loads(rt, W_LEF, &def, Limits::standard(), expected)
 }
 
-fn cell(alloc: Global, name: &[u8], team: usize, component: usize) -> Result<Cell, Fail> {
-    Ok(Cell {
-        name: Name::from_slice(alloc, name)?,
-        team,
-        mac: 0,
-        place: None,
-        component,
-    })
+/// Loads the built-in texts with one line of the LEF text changed.
+fn lef_change(
+    rt: &HostRuntime,
+    number: usize,
+    line: &[u8],
+    expected: Option<(FaultNumber, &[u8])>,
+) -> Result<(), Fail> {
+    let lef = with_line(rt.alloc(), W_LEF, number, line)?;
+    loads(rt, &lef, W_DEF, Limits::standard(), expected)
 }
 
 #[test]
-fn frames_of_parts(rt: HostRuntime) -> Result<(), Fail> {
-    let alloc = rt.alloc();
-    assert!(rt; frame_of(parts(alloc, 200_000, 6000)?).is_some());
-    assert!(rt;
-        frame_of(parts(alloc, 200_000, 4000)?).is_some(),
-        "fences that touch"
-    );
-    assert!(rt;
-        frame_of(parts(alloc, 200_000, 3999)?).is_none(),
-        "fences that overlap"
-    );
-    assert!(rt;
-        frame_of(parts(alloc, 190_500, 6000)?).is_none(),
-        "a site of 190.5 units"
-    );
+fn fences_that_touch_and_that_overlap(rt: HostRuntime) -> Result<(), Fail> {
+    def_change(
+        &rt,
+        12,
+        b"- B ( 4000 0 ) ( 10000 8000 ) + TYPE FENCE ;",
+        None,
+    )?;
+    def_change(
+        &rt,
+        12,
+        b"- B ( 3999 0 ) ( 10000 8000 ) + TYPE FENCE ;",
+        Some((FaultNumber::FencesOverlap, b"B")),
+    )?;
+    def_change(
+        &rt,
+        12,
+        b"- B ( 3999 0 ) ( 10000 8000 ) + TYPE GUIDE ;",
+        None,
+    )
+}
+
+#[test]
+fn sizes_that_are_not_whole(rt: HostRuntime) -> Result<(), Fail> {
+    lef_change(
+        &rt,
+        5,
+        b"  SIZE 0.1905 BY 2.0 ;",
+        Some((FaultNumber::NotWhole, b"core")),
+    )?;
+    lef_change(
+        &rt,
+        10,
+        b"  SIZE 0.4005 BY 2.0 ;",
+        Some((FaultNumber::NotWhole, b"INV")),
+    )?;
+    lef_change(
+        &rt,
+        30,
+        b"  SIZE 0 BY 4.0 ;",
+        Some((FaultNumber::NoSize, b"DBL")),
+    )
+}
+
+#[test]
+fn rows_that_are_refused(rt: HostRuntime) -> Result<(), Fail> {
+    for (line, number, name) in [
+        (
+            &b"ROW r1 core 0 2000 FS DO 50 BY 1 STEP 400 0 ;"[..],
+            FaultNumber::BadStep,
+            &b"r1"[..],
+        ),
+        (
+            &b"ROW r1 side 0 2000 FS DO 50 BY 1 STEP 200 0 ;"[..],
+            FaultNumber::NoSite,
+            &b"side"[..],
+        ),
+        (
+            &b"ROW r1 core 0 2000 FS DO 50 BY 2 STEP 200 0 ;"[..],
+            FaultNumber::VerticalRow,
+            &b"r1"[..],
+        ),
+        (
+            &b"ROW r1 core 0 2000 E DO 50 BY 1 STEP 200 0 ;"[..],
+            FaultNumber::RowOrient,
+            &b"r1"[..],
+        ),
+        (
+            &b"ROW r1 core 9800 1999 FS DO 2 BY 1 STEP 200 0 ;"[..],
+            FaultNumber::RowsOverlap,
+            &b"r1"[..],
+        ),
+        (
+            &b"ROW r1 core 2147480000 2000 FS DO 50 BY 1 STEP 200 0 ;"[..],
+            FaultNumber::TooMany,
+            &b"r1"[..],
+        ),
+    ] {
+        def_change(&rt, 7, line, Some((number, name)))?;
+    }
     Ok(())
 }
 
 #[test]
-fn designs_of_cells(rt: HostRuntime) -> Result<(), Fail> {
-    let alloc = rt.alloc();
-    for (first, second, team, made) in [
-        (&b"a1"[..], &b"g1"[..], 2, true),
-        (&b"a1"[..], &b"a1"[..], 2, false),
-        (&b"a1"[..], &b"g1"[..], 3, false),
-        (&b"a1"[..], &b"g 1"[..], 2, false),
+fn a_row_behind_another(rt: HostRuntime) -> Result<(), Fail> {
+    let lines = b"ROW r3 core 0 6000 FS DO 50 BY 1 STEP 200 0 ;\nROW r4 core 9800 0 N DO 1 BY 1 ;";
+    def_change(
+        &rt,
+        9,
+        lines,
+        Some((FaultNumber::RowsOverlap, b"r4")),
+    )
+}
+
+#[test]
+fn components_that_are_refused(rt: HostRuntime) -> Result<(), Fail> {
+    for (line, number, name) in [
+        (&b"- a2 BUF ;"[..], FaultNumber::NoMacro, &b"BUF"[..]),
+        (&b"- a1 INV ;"[..], FaultNumber::SecondName, &b"a1"[..]),
     ] {
-        let frame = frame_of(parts(alloc, 200_000, 6000)?).ok_or("no frame")?;
-        let cells = vec![in alloc; cell(alloc, first, 0, 0)?, cell(alloc, second, team, 1)?]?;
-        assert_eq!(rt; loaded_of(frame, Sequence::from_vec(cells)).is_some(), made);
+        def_change(&rt, 16, line, Some((number, name)))?;
+    }
+    def_change(&rt, 16, b"- a2 BUF + COVER ( 0 0 ) N ;", None)
+}
+
+#[test]
+fn regions_that_are_refused(rt: HostRuntime) -> Result<(), Fail> {
+    for (line, number, name) in [
+        (
+            &b"- A ( 6000 0 ) ( 10000 8000 ) + TYPE FENCE ;"[..],
+            FaultNumber::SecondRegion,
+            &b"A"[..],
+        ),
+        (
+            &b"- C ( 6000 0 ) ( 10000 8000 ) + TYPE FENCE ;"[..],
+            FaultNumber::NoRegion,
+            &b"B"[..],
+        ),
+    ] {
+        def_change(&rt, 12, line, Some((number, name)))?;
+    }
+    let lines = b"- B ( 6000 0 ) ( 10000 8000 ) + TYPE FENCE ;\n- - ( 0 9000 ) ( 1 9001 ) + TYPE FENCE ;";
+    def_change(&rt, 12, lines, Some((FaultNumber::TeamName, b"-")))
+}
+
+#[test]
+fn components_of_two_fences(rt: HostRuntime) -> Result<(), Fail> {
+    def_change(
+        &rt,
+        26,
+        b"- gb * + REGION B ;",
+        Some((FaultNumber::TwoFences, b"a1")),
+    )
+}
+
+#[test]
+fn designs_without_units_and_rows(rt: HostRuntime) -> Result<(), Fail> {
+    def_change(&rt, 5, b"", Some((FaultNumber::NoUnits, b"w")))?;
+    lef_change(&rt, 3, b"  CLASS PAD ;", Some((FaultNumber::NoRows, b"w")))
+}
+
+#[test]
+fn designs_past_the_limits(rt: HostRuntime) -> Result<(), Fail> {
+    for (rows, fences, components, name) in [
+        (3, 2, 5, &b"r3"[..]),
+        (4, 1, 5, &b"B"[..]),
+        (4, 2, 4, &b"g1"[..]),
+    ] {
+        let limits =
+            Limits::checked(rows, fences, components, 8, 64, 4_000_000_000).ok_or("limits")?;
+        loads(
+            &rt,
+            W_LEF,
+            W_DEF,
+            limits,
+            Some((FaultNumber::TooMany, name)),
+        )?;
+    }
+    let exactly = Limits::checked(4, 2, 5, 8, 64, 4_000_000_000).ok_or("limits")?;
+    loads(&rt, W_LEF, W_DEF, exactly, None)
+}
+
+#[test]
+fn the_built_in_design(rt: HostRuntime) -> Result<(), Fail> {
+    let alloc = rt.alloc();
+    let mut library = Library::new(alloc);
+    assert!(rt; read_lef(&mut library, W_LEF).is_ok());
+    let Ok(document) = read_def(alloc, W_DEF) else {
+        return Err(Fail::from("a DEF text"));
+    };
+    let Ok(design) = load(alloc, &library, &document, Limits::standard()) else {
+        return Err(Fail::from("the design"));
+    };
+    assert_eq!(rt; design.frame.rows.len(), 4);
+    assert_eq!(rt; design.frame.teams.len(), 2);
+    assert_eq!(rt; design.frame.obstacles.len(), 1);
+    assert_eq!(rt; design.frame.macros.len(), 2);
+    let cells = design.cells.as_slice();
+    for (number, team) in [(0, 0), (1, 0), (2, 0), (3, 1), (4, 2)] {
+        assert_eq!(rt; cells.get(number).map(|cell| cell.team), Some(team));
     }
     Ok(())
 }
