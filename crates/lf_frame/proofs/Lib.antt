@@ -8,7 +8,6 @@ pub mod Firsts
 pub mod RectLemmas
 pub mod RowEdges
 pub mod NameLemmas
-pub mod ClaimLemmas
 pub mod Pieces
 pub mod Named
 pub mod MapLemmas

@@ -19,14 +19,15 @@ mod row_refusals;
 mod sweep;
 
 pub use assembled::{Parts, frame_of, loaded_of};
+pub use claims::{Claim, ClaimTable, claim_table, first_claimed_twice};
 pub use component_refusals::{
     first_component_too_many, first_not_whole, first_second_name, first_without_macro,
     first_without_size, is_cover, is_fixed, is_movable, is_whole_size, macro_named,
 };
 pub use design::{is_sized, mac_at};
 pub use fence_refusals::{
-    first_claim, first_claimed_twice, first_fence_overlap, first_fence_too_many, first_ground_name,
-    first_second_fence, first_without_region, is_fence,
+    first_fence_overlap, first_fence_too_many, first_ground_name, first_second_fence,
+    first_without_region, is_fence,
 };
 pub use frame::Frame;
 pub use laws::{
@@ -42,5 +43,7 @@ pub use row_refusals::{
     first_vertical, first_without_site, is_heeded, site_named,
 };
 
+#[cfg(test)]
+mod claim_tests;
 #[cfg(test)]
 mod tests;
