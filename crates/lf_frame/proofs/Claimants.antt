@@ -1,6 +1,6 @@
 -- The fences that claim a name by their groups, and by the patterns that are bound to their numbers.
-use Rattle.std.proofs.Common.{◌≡◌, ◌≢◌, ℕ, ◌+◌, ◌<◌, ◌⊎◌, inl, inr, Bool, true, false, List, [], ◌∷◌, ◌++◌, length, map, take, get_or, Option, Some, None, refl, sym, ◌∙◌, ap}
-use Rattle.std.specs.Prelude.{Any, Contains}
+use Rattle.std.proofs.Common.{◌≡◌, ℕ, ◌+◌, ◌<◌, inl, inr, true, List, [], ◌∷◌, ◌++◌, length, take, get_or, Option, Some, None, refl, sym, ◌∙◌, ap}
+use Rattle.std.specs.Prelude.{Any}
 use Rattle.std.specs.Option.{option_and_then}
 use Rattle.std.proofs.lemmas.List.{append-nil}
 use Rattle.std.proofs.lemmas.List.Concat.{flat_map-append}
@@ -49,7 +49,7 @@ group_claimant regions g name n h = by g.region (option_and_then (position_of (f
     by (Some fence) (Some m) is place c =
         let at : position_of (fence_names regions) fence ≡ Some m = sym (ap (option_and_then (position_of (fence_names regions))) is) ∙ place in
         let named : Any (λ p. (m ≡ n) × Matches p name) g.patterns =
-            any_mapped (λ p. let b : Bound = record { pattern = p; fence = m } in b) (λ b. (b.fence ≡ n) × Matches b.pattern name) g.patterns c in
+        any_mapped (λ p. let b : Bound = record { pattern = p; fence = m } in b) (λ b. (b.fence ≡ n) × Matches b.pattern name) g.patterns c in
         record {
           fence = fence;
           place = at ∙ ap Some named.4.0;
@@ -74,8 +74,8 @@ group_claims regions g name fence n place claims =
     let is : group_bounds regions g ≡ bound_to (Some n) g.patterns = ap (λ o. bound_to o g.patterns) at in
     let named = claims.named in
     rw is (
-      any_map (λ p. let b : Bound = record { pattern = p; fence = n } in b) (λ b. (b.fence ≡ n) × Matches b.pattern name) g.patterns
-          (named.0, named.1, named.2, named.3, (refl, named.4))
+    any_map (λ p. let b : Bound = record { pattern = p; fence = n } in b) (λ b. (b.fence ≡ n) × Matches b.pattern name) g.patterns
+    (named.0, named.1, named.2, named.3, (refl, named.4))
     )
 
 claims_of : (regions : List Region) (groups : List Group) (name fence : List ℕ) (n : ℕ) → position_of (fence_names regions) fence ≡ Some n → IsClaimed regions groups name fence → ClaimsBy (all_bounds regions groups) name n

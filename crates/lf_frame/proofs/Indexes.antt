@@ -1,5 +1,5 @@
 -- An index of patterns, when patterns are added to it.
-use Rattle.std.proofs.Common.{◌≡◌, ◌≢◌, ℕ, ◌⊎◌, inl, inr, ◌↔◌, Bool, true, false, List, [], ◌∷◌, ◌++◌, Option, Some, None, refl, sym, ◌∙◌, ap, append_assoc}
+use Rattle.std.proofs.Common.{◌≡◌, ◌≢◌, ℕ, ◌⊎◌, inl, inr, ◌↔◌, Bool, true, false, List, [], ◌∷◌, ◌++◌, None, refl, sym, ◌∙◌, ap, append_assoc}
 use Rattle.std.specs.Prelude.{unwrap_or}
 use Rattle.std.specs.Str.{bytes_eq}
 use Rattle.std.proofs.lemmas.Bool.{false≢true}
@@ -7,7 +7,7 @@ use Rattle.std.proofs.lemmas.List.{append-nil}
 use Rattle.std.proofs.lemmas.Slice.Eq.{bytes_eq-Decides}
 use Rattle.lf_names.specs.Pattern.{Matches}
 use Rattle.lf_frame.specs.declared.claims.Claim.{Claim}
-use Rattle.lf_frame.specs.declared.claims.Claim.TheVariants.{Unclaimed, ByOne, ByTwo}
+use Rattle.lf_frame.specs.declared.claims.Claim.TheVariants.{Unclaimed}
 use Rattle.lf_frame.specs.declared.claims.Bound.{Bound}
 use Rattle.lf_frame.specs.declared.claims.PatternIndex.{PatternIndex}
 use Rattle.lf_frame.specs.NameMaps.{value_of, IsWhole, Puts}
@@ -33,7 +33,7 @@ extends_literal old new b own puts starred = record { whole = puts.whole; holds 
     table literals name told true e =
         let same : name ≡ b.pattern = (bytes_eq-Decides name b.pattern).0 e in
         let is : literal_claim new name ≡ joined (literal_claim old name) b.fence =
-            ap (λ v. unwrap_or v Unclaimed) (ap (value_of new.literals) same ∙ puts.there) ∙ ap (λ q. joined (literal_claim old q) b.fence) (sym same) in
+        ap (λ v. unwrap_or v Unclaimed) (ap (value_of new.literals) same ∙ puts.there) ∙ ap (λ q. joined (literal_claim old q) b.fence) (sym same) in
         rw is (tells_one_more literals b name (literal_claim old name) ((own name).1 same) told)
     table literals name told false e =
         let apart : name ≢ b.pattern = λ same. false≢true (sym e ∙ (bytes_eq-Decides name b.pattern).1 same) in
@@ -45,16 +45,16 @@ extends_literal old new b own puts starred = record { whole = puts.whole; holds 
       literals = h.literals ++ b ∷ [];
       forth = λ name n c. elim (claims_parts bounds b name n c) [
         | inl early ↦ elim (h.forth name n early) [
-            | inl one ↦ inl (claims_old h.literals b name n one)
-            | inr other ↦ inr (rw starred other)
-          ]
+          | inl one ↦ inl (claims_old h.literals b name n one)
+          | inr other ↦ inr (rw starred other)
+        ]
         | inr here ↦ inl (rw (← here.0) (claims_new h.literals b name here.1))
       ];
       back = λ name n c. elim c [
         | inl one ↦ elim (claims_parts h.literals b name n one) [
-            | inl early ↦ claims_old bounds b name n (h.back name n (inl early))
-            | inr here ↦ rw (← here.0) (claims_new bounds b name here.1)
-          ]
+          | inl early ↦ claims_old bounds b name n (h.back name n (inl early))
+          | inr here ↦ rw (← here.0) (claims_new bounds b name here.1)
+        ]
         | inr other ↦ claims_old bounds b name n (h.back name n (inr (rw starred at other)))
       ];
       table = λ name. table h.literals name (h.table name) (bytes_eq name b.pattern) refl;
@@ -69,17 +69,17 @@ extends_starred old new b whole literals starred = record { whole = rw literals 
       literals = h.literals;
       forth = λ name n c. elim (claims_parts bounds b name n c) [
         | inl early ↦ elim (h.forth name n early) [
-            | inl one ↦ inl one
-            | inr other ↦ inr (rw starred (claims_old old.starred.items b name n other))
-          ]
+          | inl one ↦ inl one
+          | inr other ↦ inr (rw starred (claims_old old.starred.items b name n other))
+        ]
         | inr here ↦ inr (rw (starred, ← here.0) (claims_new old.starred.items b name here.1))
       ];
       back = λ name n c. elim c [
         | inl one ↦ claims_old bounds b name n (h.back name n (inl one))
         | inr other ↦ elim (claims_parts old.starred.items b name n (rw starred at other)) [
-            | inl early ↦ claims_old bounds b name n (h.back name n (inr early))
-            | inr here ↦ rw (← here.0) (claims_new bounds b name here.1)
-          ]
+          | inl early ↦ claims_old bounds b name n (h.back name n (inr early))
+          | inr here ↦ rw (← here.0) (claims_new bounds b name here.1)
+        ]
       ];
       table = λ name. let is : literal_claim new name ≡ literal_claim old name = ap (λ m. unwrap_or (value_of m name) Unclaimed) literals in rw is (h.table name);
     }

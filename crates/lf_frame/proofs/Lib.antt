@@ -6,7 +6,6 @@ pub mod Firsts
 pub mod RectLemmas
 pub mod RowEdges
 pub mod NameLemmas
-pub mod ClaimLemmas
 pub mod CoreLemmas
 pub mod Numbers
 pub mod SizeBounds

@@ -1,5 +1,5 @@
 -- The place of a name in a list of names, and its value in a map, when one name is added.
-use Rattle.std.proofs.Common.{◌≡◌, ◌≢◌, ℕ, zero, suc, ◌+◌, ◌<◌, ◌≤◌, ◌⊎◌, inl, inr, Bool, true, false, cond, nat_lt, eqb, List, [], ◌∷◌, ◌++◌, length, get_or, set, Option, Some, None, slice_get, refl, sym, ◌∙◌, ap, add-zero, arith}
+use Rattle.std.proofs.Common.{◌≡◌, ◌≢◌, ℕ, zero, suc, ◌+◌, ◌<◌, ◌≤◌, Bool, true, false, cond, nat_lt, eqb, List, [], ◌∷◌, ◌++◌, length, set, Option, Some, None, slice_get, refl, sym, ◌∙◌, ap, add-zero, arith}
 use Rattle.std.specs.Prelude.{position}
 use Rattle.std.specs.List.{position_or_len}
 use Rattle.std.specs.Str.{bytes_eq}
@@ -8,7 +8,7 @@ use Rattle.std.proofs.lemmas.Bool.{false≢true, lt-ltb, ltb-true, ltb-false, le
 use Rattle.std.proofs.lemmas.List.{length_push}
 use Rattle.std.proofs.lemmas.List.Sums.{prefix_len-le-length}
 use Rattle.std.proofs.lemmas.List.Folds.{position_or_len_push}
-use Rattle.std.proofs.lemmas.Option.{slice_get_within, slice_get-get_or}
+use Rattle.std.proofs.lemmas.Option.{slice_get_within}
 use Rattle.std.proofs.lemmas.Slice.Eq.{bytes_eq-Decides}
 use Rattle.lf_names.specs.Names.{position_of}
 use Rattle.lf_names.proofs.Positions.{stands_there}
@@ -46,7 +46,7 @@ stays xs y q n e = by (place (bytes_eq q) xs)
         let at : position_or_len (bytes_eq q) xs ≡ n = cc in
         let test : eqb (position_or_len (bytes_eq q) xs) (length xs) ≡ false = ne_eqb _ _ (omega arith) in
         let push : position_or_len (bytes_eq q) (xs ++ y ∷ []) ≡ position_or_len (bytes_eq q) xs =
-            position_or_len_push (bytes_eq q) xs y ∙ ap (λ t. cond t (length xs + cond (bytes_eq q y) 0 1) (position_or_len (bytes_eq q) xs)) test in
+        position_or_len_push (bytes_eq q) xs y ∙ ap (λ t. cond t (length xs + cond (bytes_eq q y) 0 1) (position_or_len (bytes_eq q) xs)) test in
         position_at (bytes_eq q) (xs ++ y ∷ []) n (push ∙ at) (omega (arith, length_push xs y))
     by (missing is at) = cc
 

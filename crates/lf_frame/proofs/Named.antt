@@ -6,7 +6,6 @@ use Rattle.std.proofs.lemmas.List.{get_or-map, length-map, map-append, append-ni
 use Rattle.std.proofs.lemmas.List.Elements.{filter-append, Contains-append_left, Contains-push, Contains-push_cases}
 use Rattle.std.proofs.lemmas.Grind.{common_steps}
 use Rattle.std.proofs.lemmas.Option.{slice_get_within, get_or_from_slice_get}
-use Rattle.lf_names.specs.Names.{position_of}
 use Rattle.lf_names.specs.Adds.{Adds}
 use Rattle.lf_names.specs.declared.table.Added.{Added}
 use Rattle.lf_names.specs.declared.table.Added.TheVariants.{New, Present}
@@ -78,8 +77,8 @@ take_one_more xs n x within is = grind (arith, common_steps)
 pub fence_names_more : (regions : List Region) (n : ℕ) (r : Region) → n < length regions → r ≡ get_or regions n r → fence_names (take n regions) ++ fence_names (r ∷ []) ≡ fence_names (take (n + 1) regions)
 fence_names_more regions n r within is =
     sym (
-      ap fence_names (take_one_more regions n r within is) ∙ ap (map (λ q. q.name)) (filter-append is_fence (take n regions) (r ∷ []))
-      ∙ map-append (λ q. q.name) (filter is_fence (take n regions)) (filter is_fence (r ∷ []))
+    ap fence_names (take_one_more regions n r within is) ∙ ap (map (λ q. q.name)) (filter-append is_fence (take n regions) (r ∷ []))
+    ∙ map-append (λ q. q.name) (filter is_fence (take n regions)) (filter is_fence (r ∷ []))
     )
 
 -- a table with one name more

@@ -1,6 +1,6 @@
 -- Pieces that share a point, and a sweep over pieces in the order of their lower edges.
-use Rattle.std.proofs.Common.{◌≡◌, ◌≢◌, ◌↔◌, ℕ, ℤ, ◌+◌, ◌-◌, ◌<◌, ◌≤◌, ◌<ℤ◌, ◌≤ℤ◌, ◌⊎◌, inl, inr, Bool, true, false, List, [], ◌∷◌, ◌++◌, if◌then◌else◌, length, map, get_or, drop, sym, ◌∙◌, ap, arith}
-use Rattle.std.specs.Prelude.{All, AllPairs, Contains, IsPermutation}
+use Rattle.std.proofs.Common.{◌≡◌, ◌↔◌, ℕ, ℤ, ◌+◌, ◌-◌, ◌<◌, ◌≤◌, ◌<ℤ◌, ◌≤ℤ◌, ◌⊎◌, inl, inr, true, false, List, [], ◌∷◌, ◌++◌, if◌then◌else◌, length, map, get_or, drop, sym, ◌∙◌, ap, arith}
+use Rattle.std.specs.Prelude.{All, Contains, IsPermutation}
 use Rattle.std.specs.Ordering.{int_cmp, is_lt}
 use Rattle.std.specs.List.Sorted.{IsSortedByKey}
 use Rattle.std.proofs.lemmas.Int.{ints}
@@ -77,12 +77,12 @@ none_behind a pieces n e within rise above before k d inside clash =
     elim cases [
       | inl less ↦ before k d less clash
       | inr rest ↦ elim rest [
-          | inl same ↦ none_above a (get_or pieces n e) above (rw (same, at) at clash)
-          | inr later ↦
-              let low : (get_or pieces n d).bottom ≤ℤ (get_or pieces k d).bottom = rise n k d later inside in
-              let edge : (get_or pieces n d).bottom ≡ (get_or pieces n e).bottom = ap (λ p. p.bottom) at in
-              none_above a (get_or pieces k d) (omega (arith, ints)) clash
-        ]
+        | inl same ↦ none_above a (get_or pieces n e) above (rw (same, at) at clash)
+        | inr later ↦
+            let low : (get_or pieces n d).bottom ≤ℤ (get_or pieces k d).bottom = rise n k d later inside in
+            let edge : (get_or pieces n d).bottom ≡ (get_or pieces n e).bottom = ap (λ p. p.bottom) at in
+            none_above a (get_or pieces k d) (omega (arith, ints)) clash
+      ]
     ]
 
 pub rise_behind : (pieces : List Piece) (n : ℕ) → Rise pieces → Rise (drop n pieces)
@@ -120,9 +120,9 @@ none_of_pairs pieces none k d within j e inside clash =
     elim cases [
       | inl before ↦ none k j e within before inside (rw (← same) clash)
       | inr rest ↦ elim rest [
-          | inl after ↦ none j k e inside after within (clash_turned (get_or pieces k e) (get_or pieces j e) (rw (← same) clash))
-          | inr one ↦ clash.entries (ap (λ p. p.entry) same ∙ ap (λ m. (get_or pieces m e).entry) one)
-        ]
+        | inl after ↦ none j k e inside after within (clash_turned (get_or pieces k e) (get_or pieces j e) (rw (← same) clash))
+        | inr one ↦ clash.entries (ap (λ p. p.entry) same ∙ ap (λ m. (get_or pieces m e).entry) one)
+      ]
     ]
 
 pub none_of_all : (pieces : List Piece) (n : ℕ) (e : Piece) → n < length pieces → NoneClash pieces → ClashesWithNone (get_or pieces n e) (drop (n + 1) pieces)
@@ -187,7 +187,7 @@ rows_apart core pitch rows pieces held none k d within broken =
     let below : earlier.0 < k = omega (arith, earlier.2, length-take k rows) in
     let there : get_or rows earlier.0 earlier.1 ≡ earlier.1 = sym (get_or-take k rows earlier.0 earlier.1 below) ∙ earlier.3 in
     let first : Contains pieces (piece_of earlier.0 (row_area pitch (frame_row earlier.1))) =
-        held_row core pitch earlier.0 earlier.1 pieces earlier.4.0 (rw there at (held earlier.0 earlier.1 (omega arith))) in
+    held_row core pitch earlier.0 earlier.1 pieces earlier.4.0 (rw there at (held earlier.0 earlier.1 (omega arith))) in
     apart_of_none pieces earlier.0 k (row_area pitch (frame_row earlier.1)) (row_area pitch (frame_row (get_or rows k d))) none first
     (held_row core pitch k (get_or rows k d) pieces broken.0 (held k d within)) below earlier.4.1
 
@@ -208,7 +208,7 @@ fences_apart regions pieces held none k d within broken =
     let there : get_or regions earlier.0 earlier.1 ≡ earlier.1 = sym (get_or-take k regions earlier.0 earlier.1 below) ∙ earlier.3 in
     let meet = rects_of_point earlier.1.rects (get_or regions k d).rects earlier.4.1 in
     let first : Contains pieces (piece_of earlier.0 meet.1) =
-        held_rect earlier.0 earlier.1 meet.1 pieces earlier.4.0 (rw there at (held earlier.0 earlier.1 (omega arith))) meet.0 meet.2 meet.3 in
+    held_rect earlier.0 earlier.1 meet.1 pieces earlier.4.0 (rw there at (held earlier.0 earlier.1 (omega arith))) meet.0 meet.2 meet.3 in
     let second : Contains pieces (piece_of k meet.4.1) =
-        held_rect k (get_or regions k d) meet.4.1 pieces broken.0 (held k d within) meet.4.0 meet.4.2 meet.4.3 in
+    held_rect k (get_or regions k d) meet.4.1 pieces broken.0 (held k d within) meet.4.0 meet.4.2 meet.4.3 in
     apart_of_none pieces earlier.0 k meet.1 meet.4.1 none first second below meet.4.4

@@ -1,8 +1,8 @@
 -- What a claim tells of a set of fences, when the set grows.
-use Rattle.std.proofs.Common.{◌≡◌, ◌≢◌, ℕ, zero, suc, ◌+◌, ◌<◌, ◌≤◌, ◌⊎◌, inl, inr, Bool, true, false, eqb, if◌then◌else◌, List, [], ◌∷◌, ◌++◌, length, map, take, get_or, refl, sym, ◌∙◌, ap, subst, arith}
+use Rattle.std.proofs.Common.{◌≡◌, ℕ, ◌+◌, ◌<◌, ◌≤◌, ◌⊎◌, inl, inr, Bool, true, false, eqb, if◌then◌else◌, List, [], ◌∷◌, ◌++◌, length, map, take, get_or, refl, sym, ◌∙◌, arith}
 use Rattle.std.specs.Prelude.{Any}
 use Rattle.std.proofs.lemmas.Bool.{eqb-true, eqb-false}
-use Rattle.std.proofs.lemmas.List.{length-map, get_or-map, take_all}
+use Rattle.std.proofs.lemmas.List.{take_all}
 use Rattle.std.proofs.lemmas.Grind.{common_steps}
 use Rattle.lf_names.specs.Pattern.{Matches}
 use Rattle.lf_frame.specs.declared.claims.Claim.{Claim}

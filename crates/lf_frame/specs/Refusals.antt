@@ -83,12 +83,6 @@ pub record HasTwoFences (regions : List Region) (groups : List Group) (name : Li
   pub by_first : IsClaimed regions groups name first
   pub by_second : IsClaimed regions groups name second
 
--- a fence other than this one claims the name
-pub record HasOtherClaim (regions : List Region) (groups : List Group) (name fence : List ℕ) : Type 0 where
-  pub other : List ℕ
-  pub differs : other ≢ fence
-  pub by_other : IsClaimed regions groups name other
-
 -- TwoFences: groups of two different fences name a component that is neither FIXED nor COVER
 abbrev pub IsClaimedTwice : List Region → List Group → List Component → Component → Type 0
 IsClaimedTwice regions groups earlier c = (is_movable c ≡ true) × HasTwoFences regions groups c.name

@@ -125,7 +125,10 @@ impl PatternIndex {
     fn claim_of(&self, name: &[u8]) -> Claim
         ensures { (bounds : List Bound) → Holds self.now bounds → Tells (ClaimsBy bounds name.now) result }
     {
-        merged(self.literal_claim(name), claim_by_trial(&self.starred, name))
+        merged(
+            self.literal_claim(name),
+            claim_by_trial(&self.starred, name),
+        )
     }
 
     /// Adds a pattern without a star.
@@ -161,7 +164,12 @@ impl PatternIndex {
     }
 
     /// Adds patterns of one fence.
-    fn add_patterns(&mut self, alloc: Global, patterns: &[Name], fence: usize) -> Result<(), AllocError>
+    fn add_patterns(
+        &mut self,
+        alloc: Global,
+        patterns: &[Name],
+        fence: usize,
+    ) -> Result<(), AllocError>
         requires { IsWhole self.old.literals }
         ensures { OnOk result (Extends self.old self.new (bound_to (Some fence) patterns.now)) }
     {
@@ -172,7 +180,12 @@ impl PatternIndex {
     }
 
     /// Adds the patterns of a group that is bound to a fence.
-    fn add_group(&mut self, alloc: Global, group: &Group, numbers: &NameMap<usize>) -> Result<(), AllocError>
+    fn add_group(
+        &mut self,
+        alloc: Global,
+        group: &Group,
+        numbers: &NameMap<usize>,
+    ) -> Result<(), AllocError>
         requires { IsWhole self.old.literals }
         ensures { OnOk result (Extends self.old self.new (bound_to (option_and_then (value_of numbers.now) group.now.region) group.now.patterns)) }
     {
@@ -222,7 +235,11 @@ fn number_fences(alloc: Global, regions: &[Region]) -> Result<(NameMap<usize>, u
 }
 
 /// The index of the patterns of all groups.
-fn index_of(alloc: Global, groups: &[Group], numbers: &NameMap<usize>) -> Result<PatternIndex, AllocError>
+fn index_of(
+    alloc: Global,
+    groups: &[Group],
+    numbers: &NameMap<usize>,
+) -> Result<PatternIndex, AllocError>
     ensures { (regions : List Region) → Numbers (fence_names regions) numbers.now → IfOk result (λ index. Holds index (all_bounds regions groups.now)) }
 {
     let mut index = PatternIndex::new(alloc);
@@ -233,7 +250,11 @@ fn index_of(alloc: Global, groups: &[Group], numbers: &NameMap<usize>) -> Result
 }
 
 /// The table of all groups' claims.
-pub fn claim_table(alloc: Global, groups: &[Group], regions: &[Region]) -> Result<ClaimTable, AllocError>
+pub fn claim_table(
+    alloc: Global,
+    groups: &[Group],
+    regions: &[Region],
+) -> Result<ClaimTable, AllocError>
     ensures { IfOk result (λ table. IsTableOf regions.now groups.now table) }
 {
     let (numbers, ground) = number_fences(alloc, regions)?;

@@ -7,14 +7,12 @@ ghost use Rattle.lf_frame.specs.Loading.{is_fence as is_fence_region, fence_name
 ghost use Rattle.lf_frame.specs.Tables.{HoldSameNames, region_names as region_names_of, IsOutside};
 ghost use Rattle.lf_frame.specs.Sweep.{piece_of, fence_pieces as fence_pieces_of, HoldPieces};
 ghost use Rattle.lf_frame.specs.Refusals.{BearsEarlierFence, HasNoRegion, BearsGroundName, SharePoint, MeetsEarlierFence, IsFenceTooMany};
-ghost use Rattle.lf_frame.specs.Refusals.{HasTwoFences, IsClaimedTwice, HasOtherClaim};
-ghost use Rattle.lf_frame.specs.Loading.{NamedBy, IsClaimed, Claims};
 
-use crate::component_refusals::{is_added, is_movable};
+use crate::component_refusals::is_added;
 use crate::sweep::{Piece, none_clash};
-use lf_def::{Component, Group, Region, RegionKind};
-use lf_names::{NameTable, Pattern};
-use lf_units::{Name, Rect};
+use lf_def::{Group, Region, RegionKind};
+use lf_names::NameTable;
+use lf_units::Rect;
 use std::alloc::{AllocError, Global};
 
 /// Whether the region's TYPE is FENCE.
@@ -26,18 +24,6 @@ pub fn is_fence(region: &Region) -> bool
         Some(RegionKind::Guide) => false,
         None => false,
     }
-}
-
-/// Whether a fence of the list bears the name.
-pub fn is_fence_named(name: &Name, regions: &[Region]) -> bool
-    ensures { IsTrue result ↔ Any (λ e. (is_fence_region e ≡ true) × (e.name ≡ name.now)) regions.now }
-{
-    for region in regions {
-        if is_fence(region) && region.name.is_same(name) {
-            return true;
-        }
-    }
-    false
 }
 
 /// Whether the region is a fence whose name is in the table; the name of another fence is added.
@@ -240,95 +226,6 @@ pub fn first_fence_too_many(regions: &[Region], limit: usize) -> Option<usize>
                 return Some(number);
             }
             fences += 1;
-        }
-    }
-    None
-}
-
-/// Whether a pattern of the group stands for the name.
-fn is_named_by(group: &Group, name: &[u8]) -> bool
-    ensures { IsTrue result ↔ NamedBy group.now name.now }
-{
-    group
-        .patterns
-        .as_slice()
-        .iter()
-        .any(|pattern| Pattern::new(pattern.as_bytes()).matches(name))
-}
-
-/// The fence that the group is bound to, where it is one and the group names the component.
-fn claim_of<'d>(group: &'d Group, regions: &[Region], name: &[u8]) -> Option<&'d Name>
-    ensures { MatchOption result ((fence : List ℕ) → Claims regions.now group.now name.now fence → ⊥) (λ fence. Claims regions.now group.now name.now fence.now) }
-{
-    let Some(fence) = &group.region else {
-        return None;
-    };
-    if !is_fence_named(fence, regions) {
-        return None;
-    }
-    if !is_named_by(group, name) {
-        return None;
-    }
-    Some(fence)
-}
-
-/// The fence of the first group that is bound to a fence and names the component.
-pub fn first_claim<'d>(groups: &'d [Group], regions: &[Region], name: &[u8]) -> Option<&'d Name>
-    ensures { MatchOption result ((fence : List ℕ) → IsClaimed regions.now groups.now name.now fence → ⊥) (λ fence. IsClaimed regions.now groups.now name.now fence.now) }
-{
-    for group in groups {
-        if let Some(fence) = claim_of(group, regions, name) {
-            return Some(fence);
-        }
-    }
-    None
-}
-
-/// Whether a group that is bound to another fence names the component.
-fn has_other_claim(groups: &[Group], regions: &[Region], name: &[u8], fence: &Name) -> bool
-    ensures { IsTrue result ↔ HasOtherClaim regions.now groups.now name.now fence.now }
-{
-    for group in groups {
-        if let Some(other) = claim_of(group, regions, name) {
-            if !other.is_same(fence) {
-                return true;
-            }
-        }
-    }
-    false
-}
-
-/// Whether groups of two different fences name the component.
-fn has_two_fences(groups: &[Group], regions: &[Region], name: &[u8]) -> bool
-    ensures { IsTrue result ↔ HasTwoFences regions.now groups.now name.now }
-{
-    match first_claim(groups, regions, name) {
-        Some(fence) => has_other_claim(groups, regions, name, fence),
-        None => false,
-    }
-}
-
-/// Whether teams may move the component, and groups of two different fences name it.
-fn is_claimed_twice(component: &Component, groups: &[Group], regions: &[Region]) -> bool
-    ensures { IsTrue result ↔ IsClaimedTwice regions.now groups.now [] component.now }
-{
-    if !is_movable(component) {
-        return false;
-    }
-    has_two_fences(groups, regions, component.name.as_bytes())
-}
-
-/// The first movable component that groups of two different fences name.
-pub fn first_claimed_twice(
-    components: &[Component],
-    groups: &[Group],
-    regions: &[Region],
-) -> Option<usize>
-    ensures { FirstIs (IsClaimedTwice regions.now groups.now) components.now result }
-{
-    for (number, component) in components.iter().enumerate() {
-        if is_claimed_twice(component, groups, regions) {
-            return Some(number);
         }
     }
     None

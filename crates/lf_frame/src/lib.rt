@@ -36,4 +36,6 @@ pub use parts::{Header, Row, Team};
 pub use place::Place;
 
 #[cfg(test)]
+mod claim_tests;
+#[cfg(test)]
 mod tests;

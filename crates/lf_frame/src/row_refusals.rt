@@ -293,7 +293,12 @@ fn push_row(
 }
 
 /// The heeded rows as pieces of a sweep.
-fn row_pieces(alloc: Global, rows: &[Row], core: &Site, pitch: &Point) -> Result<Vec<Piece>, AllocError>
+fn row_pieces(
+    alloc: Global,
+    rows: &[Row],
+    core: &Site,
+    pitch: &Point,
+) -> Result<Vec<Piece>, AllocError>
     requires wide { pos 0 <ℤ pitch.now.x }
     requires narrow { pitch.now.x ≤ℤ pos 20000000000 }
     requires high { pos 0 <ℤ pitch.now.y }

@@ -1,4 +1,3 @@
-use Rattle.std.proofs.Common.{refl}
 use Rattle.lf_frame.specs.Refusals.{HasNoRegion}
 use Rattle.lf_frame.proofs.Firsts.{first_found, none_more}
 use Rattle.lf_frame.proofs.Named.{outside_of, no_region_of}

@@ -1,8 +1,8 @@
-use Rattle.std.proofs.Common.{◌≡◌, ◌+◌, [], ◌∷◌, ◌++◌, map, take, sym, ap, ◌∙◌}
+use Rattle.std.proofs.Common.{◌≡◌, ◌+◌, [], ◌∷◌, ◌++◌, take, sym, ap, ◌∙◌}
 use Rattle.std.specs.Prelude.{Some}
 use Rattle.std.proofs.lemmas.List.{map-append}
 use Rattle.lf_frame.specs.Claims.{bound_to}
-use Rattle.lf_frame.proofs.Tellings.{one_bound_more, all_bounds_seen}
+use Rattle.lf_frame.proofs.Tellings.{one_bound_more}
 use Rattle.lf_frame.proofs.Indexes.{extends_twice, extends_by_none}
 use Rattle.lf_frame.proofs.claims.PatternIndex.add_patterns.Goals as goal
 
@@ -14,9 +14,9 @@ loop-pattern-preserved c =
     let item = c.pattern-item.result in
     let more = one_bound_more c.args.patterns.now c.loop-pattern.pattern-index item c.loop-pattern-test.true c.pattern-item.is in
     let bounds : bound_to (Some c.args.fence) (take (c.loop-pattern.pattern-index + 1) c.args.patterns.now)
-        ≡ bound_to (Some c.args.fence) (take c.loop-pattern.pattern-index c.args.patterns.now) ++ record { pattern = item; fence = c.args.fence } ∷ [] =
-        ap (bound_to (Some c.args.fence)) (sym more) ∙ map-append (λ p. record { pattern = p; fence = c.args.fence }) (take c.loop-pattern.pattern-index c.args.patterns.now) (item ∷ []) in
+    ≡ bound_to (Some c.args.fence) (take c.loop-pattern.pattern-index c.args.patterns.now) ++ record { pattern = item; fence = c.args.fence } ∷ [] =
+    ap (bound_to (Some c.args.fence)) (sym more) ∙ map-append (λ p. record { pattern = p; fence = c.args.fence }) (take c.loop-pattern.pattern-index c.args.patterns.now) (item ∷ []) in
     rw bounds (
-      extends_twice c.args.self.now c.loop-pattern.self c.add.new.self (bound_to (Some c.args.fence) (take c.loop-pattern.pattern-index c.args.patterns.now))
-          (record { pattern = item; fence = c.args.fence } ∷ []) c.loop-pattern.invariant (rw c.as_bytes.ensures at c.in_ok-add.ensures)
+    extends_twice c.args.self.now c.loop-pattern.self c.add.new.self (bound_to (Some c.args.fence) (take c.loop-pattern.pattern-index c.args.patterns.now))
+    (record { pattern = item; fence = c.args.fence } ∷ []) c.loop-pattern.invariant (rw c.as_bytes.ensures at c.in_ok-add.ensures)
     )
