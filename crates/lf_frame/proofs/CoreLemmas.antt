@@ -84,6 +84,7 @@ core_heeded library (r ∷ rs) core is = by (is_core (site_named library r.site)
     more : (t : Bool) → is_heeded core r ≡ t → 0 < length (map frame_row (filter (is_heeded core) rs)) → 0 < length (map frame_row (filter (is_heeded core) (r ∷ rs)))
     more true e rest = rw e (omega arith)
     more false e rest = rw e rest
+
     by : (t : Bool) → is_core (site_named library r.site) ≡ t → core_site library (r ∷ rs) ≡ Some core → (core_site library rs ≡ Some core → 0 < length (map frame_row (filter (is_heeded core) rs))) →
         0 < length (map frame_row (filter (is_heeded core) (r ∷ rs)))
     by true e found rest =

@@ -53,6 +53,7 @@ pairs_right {A} {B} {R} P Q d xs ys zip each pairs i j e below within =
     same_length [] (y ∷ ys) zip = absurd zip
     same_length (x ∷ xs) [] zip = absurd zip
     same_length (x ∷ xs) (y ∷ ys) zip = ap suc (same_length xs ys zip.1)
+
     at : (xs : List A) (ys : List B) (k : ℕ) → AllZip R xs ys → k < length xs → R (get_or xs k d) (get_or ys k e)
     at [] [] k zip within = absurd (omega arith)
     at [] (y ∷ ys) k zip within = absurd zip
@@ -195,7 +196,7 @@ entries_known i range a =
     let ranged = All-filter test (λ e. IsComponent e.1) entries (all_numbered IsComponent 0 i.document.components range.components) in
     let movable = filter_passes test entries in
     let sized = All-filter test (λ e. is_cover e.1 ≡ false → IfSome (macro_named i.library e.1.mac) (IsSizedIn (units_in i))) entries
-        (all_numbered (λ c. is_cover c ≡ false → IfSome (macro_named i.library c.mac) (IsSizedIn (units_in i))) 0 i.document.components (macros_sized i range a)) in
+    (all_numbered (λ c. is_cover c ≡ false → IfSome (macro_named i.library c.mac) (IsSizedIn (units_in i))) 0 i.document.components (macros_sized i range a)) in
     λ k d within. (ranged k d within, (movable k d within, sized k d within))
 
 pub design_made : (i : Inputs) (f : Frame) (cells : List Cell) → AreInRange i → IsAccepted i → IsFrameOf i f → AllZip (IsCellOf i) (movables i.document.components) cells → MakeDesign f cells

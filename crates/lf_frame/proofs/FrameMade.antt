@@ -120,9 +120,11 @@ fixed_obstacle library units c range sized = by (is_fixed c) refl
     found None mac at_range mac_sized = tt
     found (Some p) None at_range mac_sized = tt
     found (Some p) (Some m) at_range mac_sized = fixed_at units m p at_range mac_sized
+
     placed : (p : Option Placement) → IfSome p (λ q. IsPlacement q) → IfSome (Rattle.std.specs.Option.option_and_then (λ (q : Placement). q.place) p) (λ at. IsLocation at)
     placed None placement = tt
     placed (Some q) placement = placement
+
     by : (t : Bool) → is_fixed c ≡ t → IfSome (fixed_box library units c) IsObstacle
     by false is = rw is tt
     by true is = rw is (found (location c) (macro_named library c.mac) (placed c.placement range.placement) (sized is))

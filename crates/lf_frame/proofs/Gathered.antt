@@ -57,6 +57,7 @@ pairs_kept {A} R f p (x ∷ xs) pairs = by (p x) refl (heads T x xs pairs) (pair
   where
     T : A → A → Type 0
     T a b = p a ≡ true → p b ≡ true → R (f a) (f b)
+
     by : (t : Bool) → p x ≡ t → All (T x) xs → AllPairs R (map f (filter p xs)) → AllPairs R (map f (filter p (x ∷ xs)))
     by true is first rest = rw is (AllPairs-cons R (f x) (map f (filter p xs)) (all_kept (R (f x)) f p xs (λ k d within. first k d within is)) rest)
     by false is first rest = rw is rest

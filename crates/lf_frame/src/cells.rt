@@ -84,9 +84,7 @@ pub fn movable_cells(
     let mut cells = Sequence::new(alloc);
     for (number, component) in document.components.as_slice().iter().enumerate() {
         if is_movable(component) {
-            cells.push(cell_of(
-                alloc, library, document, limits, &claims, number, component,
-            )?)?;
+            cells.push(cell_of(alloc, library, document, limits, &claims, number, component)?)?;
         }
     }
     Ok(cells)

@@ -1,65 +1,47 @@
 //! Tests of what fences claim.
 
-use super::*;
-use lf_def::{Component, Group, Region, RegionKind};
-use lf_units::{Name, Sequence};
+use crate::claims::{claim_table, first_claimed_twice};
+use lf_def::{DefDoc, read_def};
 use std::alloc::Global;
 use std::test::Fail;
 
-fn region(alloc: Global, name: &[u8], kind: RegionKind) -> Result<Region, Fail> {
-    Ok(Region {
-        name: Name::from_slice(alloc, name)?,
-        kind: Some(kind),
-        rects: Sequence::new(alloc),
-    })
-}
+/// A guide and a fence of one name, another fence and another guide; groups of each, with and without stars.
+const CLAIMS: &[u8] = b"DESIGN c ;
+REGIONS 4 ;
+- a ( 0 0 ) ( 1 1 ) + TYPE GUIDE ;
+- a ( 2 0 ) ( 3 1 ) + TYPE FENCE ;
+- b ( 4 0 ) ( 5 1 ) + TYPE FENCE ;
+- c ( 6 0 ) ( 7 1 ) + TYPE GUIDE ;
+END REGIONS
+GROUPS 5 ;
+- g u1 + REGION a ;
+- g x* + REGION b ;
+- g x\\* + REGION a ;
+- g v1 + REGION c ;
+- g u1 + REGION a ;
+END GROUPS
+COMPONENTS 2 ;
+- u1 m ;
+- x\\* m ;
+END COMPONENTS
+END DESIGN
+";
 
-fn group(alloc: Global, pattern: &[u8], region: &[u8]) -> Result<Group, Fail> {
-    Ok(Group {
-        name: Name::from_slice(alloc, b"g")?,
-        patterns: Sequence::from_vec(vec![in alloc; Name::from_slice(alloc, pattern)?]?),
-        region: Some(Name::from_slice(alloc, region)?),
-    })
-}
-
-fn component(alloc: Global, name: &[u8]) -> Result<Component, Fail> {
-    Ok(Component {
-        name: Name::from_slice(alloc, name)?,
-        mac: Name::from_slice(alloc, b"m")?,
-        placement: None,
-        semicolon: 0,
-    })
-}
-
-/// A guide and a fence of one name, and another fence.
-fn regions(alloc: Global) -> Result<Vec<Region>, Fail> {
-    Ok(vec![in alloc;
-        region(alloc, b"a", RegionKind::Guide)?,
-        region(alloc, b"a", RegionKind::Fence)?,
-        region(alloc, b"b", RegionKind::Fence)?,
-        region(alloc, b"c", RegionKind::Guide)?,
-    ]?)
-}
-
-fn groups(alloc: Global) -> Result<Vec<Group>, Fail> {
-    Ok(vec![in alloc;
-        group(alloc, b"u1", b"a")?,
-        group(alloc, b"x*", b"b")?,
-        group(alloc, b"x\\*", b"a")?,
-        group(alloc, b"v1", b"c")?,
-        group(alloc, b"u1", b"a")?,
-    ]?)
-}
-
-fn table(alloc: Global) -> Result<ClaimTable, Fail> {
-    let groups = groups(alloc)?;
-    let regions = regions(alloc)?;
-    Ok(claim_table(alloc, &groups, &regions)?)
+fn claims(alloc: Global) -> Result<DefDoc<'static>, Fail> {
+    match read_def(alloc, CLAIMS) {
+        Ok(document) => Ok(document),
+        Err(_) => Err(Fail::from("a DEF text")),
+    }
 }
 
 #[test]
 fn cells_are_of_the_fence_that_claims_them(rt: HostRuntime) -> Result<(), Fail> {
-    let table = table(rt.alloc())?;
+    let document = claims(rt.alloc())?;
+    let table = claim_table(
+        rt.alloc(),
+        document.groups.as_slice(),
+        document.regions.as_slice(),
+    )?;
     assert_eq!(rt; table.team_of(b"u1"), 0);
     assert_eq!(rt; table.team_of(b"x7"), 1);
     assert_eq!(rt; table.team_of(b"v1"), 2);
@@ -69,11 +51,12 @@ fn cells_are_of_the_fence_that_claims_them(rt: HostRuntime) -> Result<(), Fail> 
 
 #[test]
 fn two_fences_claim_one_component(rt: HostRuntime) -> Result<(), Fail> {
-    let table = table(rt.alloc())?;
-    let components = vec![in rt.alloc();
-        component(rt.alloc(), b"u1")?,
-        component(rt.alloc(), b"x\\*")?,
-    ]?;
-    assert!(rt; first_claimed_twice(&components, &table) == Some(1));
+    let document = claims(rt.alloc())?;
+    let table = claim_table(
+        rt.alloc(),
+        document.groups.as_slice(),
+        document.regions.as_slice(),
+    )?;
+    assert!(rt; first_claimed_twice(document.components.as_slice(), &table) == Some(1));
     Ok(())
 }

@@ -15,8 +15,8 @@ use crate::component_refusals::{
     first_without_size, is_whole_size,
 };
 use crate::fence_refusals::{
-    first_fence_overlap, first_fence_too_many, first_ground_name,
-    first_second_fence, first_without_region,
+    first_fence_overlap, first_fence_too_many, first_ground_name, first_second_fence,
+    first_without_region,
 };
 use crate::limits::Limits;
 use crate::pitch::{core_pitch, sized_core_site};
@@ -86,7 +86,11 @@ pub fn no_rows<'d>(library: &Library, document: &'d DefDoc, limits: &Limits) -> 
 }
 
 /// The first heeded row of several sites upwards.
-pub fn vertical_row<'d>(library: &Library, document: &'d DefDoc, limits: &Limits) -> Option<&'d [u8]>
+pub fn vertical_row<'d>(
+    library: &Library,
+    document: &'d DefDoc,
+    limits: &Limits,
+) -> Option<&'d [u8]>
     ensures { Finds (inputs library.now document.now limits.now) VerticalRow (option_copied result) }
 {
     let rows = document.rows.as_slice();
@@ -221,7 +225,11 @@ fn mac_not_whole<'d>(library: &Library, document: &'d DefDoc, limits: &Limits) -
 }
 
 /// The site or macro whose size is no whole number of database units: the core site, then those of components.
-pub fn not_whole<'d>(library: &'d Library, document: &'d DefDoc, limits: &Limits) -> Option<&'d [u8]>
+pub fn not_whole<'d>(
+    library: &'d Library,
+    document: &'d DefDoc,
+    limits: &Limits,
+) -> Option<&'d [u8]>
     ensures { Finds (inputs library.now document.now limits.now) NotWhole (option_copied result) }
 {
     if let Some(name) = core_not_whole(library, document, limits) {
@@ -240,10 +248,7 @@ pub fn second_name<'d>(
     ensures { IfOk result (λ name. Finds (inputs library.now document.now limits.now) SecondName (option_copied name)) }
 {
     let components = document.components.as_slice();
-    Ok(component_name(
-        components,
-        first_second_name(alloc, components)?,
-    ))
+    Ok(component_name(components, first_second_name(alloc, components)?))
 }
 
 /// The name of the region of that place.

@@ -12,8 +12,8 @@ mod findings;
 mod frame;
 mod laws;
 mod limits;
-mod loading;
 mod loaded;
+mod loading;
 mod measure;
 mod name_map;
 mod parts;
@@ -30,8 +30,8 @@ pub use laws::{
 };
 pub use lf_lef::{Macro, Site};
 pub use limits::Limits;
-pub use loading::load;
 pub use loaded::{Cell, Loaded};
+pub use loading::load;
 pub use parts::{Header, Row, Team};
 pub use place::Place;
 

@@ -26,17 +26,18 @@ fn with_line(
     Ok(new)
 }
 
-/// Loads the two texts, and compares the refusal and the name that it gives, or none.
-fn loads(
-    rt: &HostRuntime,
+/// Whether loading the two texts answers this refusal with this name, or none.
+fn answers(
+    alloc: Global,
     lef: &[u8],
     def: &[u8],
     limits: Limits,
     expected: Option<(FaultNumber, &[u8])>,
-) -> Result<(), Fail> {
-    let alloc = rt.alloc();
+) -> Result<bool, Fail> {
     let mut library = Library::new(alloc);
-    assert!(rt; read_lef(&mut library, lef).is_ok());
+    if read_lef(&mut library, lef).is_err() {
+        return Err(Fail::from("a LEF text"));
+    }
     let Ok(document) = read_def(alloc, def) else {
         return Err(Fail::from("a DEF text"));
     };
@@ -44,78 +45,94 @@ fn loads(
         Ok(_) => None,
         Err(fault) => Some((fault.number, fault.name)),
     };
-    assert!(rt; refused == expected.map(|(number, name)| (number, Some(name))));
-    Ok(())
+    Ok(refused == expected.map(|(number, name)| (number, Some(name))))
 }
 
-/// Loads the built-in texts with one line of the DEF text changed.
-fn def_change(
-    rt: &HostRuntime,
+/// Whether loading the built-in texts, with one line of the DEF text changed, answers this.
+fn answers_def(
+    alloc: Global,
     number: usize,
     line: &[u8],
     expected: Option<(FaultNumber, &[u8])>,
-) -> Result<(), Fail> {
-    let def = with_line(rt.alloc(), W_DEF, number, line)?;
-    loads(rt, W_LEF, &def, Limits::standard(), expected)
+) -> Result<bool, Fail> {
+    let def = with_line(alloc, W_DEF, number, line)?;
+    answers(alloc, W_LEF, &def, Limits::standard(), expected)
 }
 
-/// Loads the built-in texts with one line of the LEF text changed.
-fn lef_change(
-    rt: &HostRuntime,
+/// Whether loading the built-in texts, with one line of the LEF text changed, answers this.
+fn answers_lef(
+    alloc: Global,
     number: usize,
     line: &[u8],
     expected: Option<(FaultNumber, &[u8])>,
-) -> Result<(), Fail> {
-    let lef = with_line(rt.alloc(), W_LEF, number, line)?;
-    loads(rt, &lef, W_DEF, Limits::standard(), expected)
+) -> Result<bool, Fail> {
+    let lef = with_line(alloc, W_LEF, number, line)?;
+    answers(alloc, &lef, W_DEF, Limits::standard(), expected)
 }
 
 #[test]
 fn fences_that_touch_and_that_overlap(rt: HostRuntime) -> Result<(), Fail> {
-    def_change(
-        &rt,
-        12,
-        b"- B ( 4000 0 ) ( 10000 8000 ) + TYPE FENCE ;",
-        None,
-    )?;
-    def_change(
-        &rt,
-        12,
-        b"- B ( 3999 0 ) ( 10000 8000 ) + TYPE FENCE ;",
-        Some((FaultNumber::FencesOverlap, b"B")),
-    )?;
-    def_change(
-        &rt,
-        12,
-        b"- B ( 3999 0 ) ( 10000 8000 ) + TYPE GUIDE ;",
-        None,
-    )
+    let alloc = rt.alloc();
+    assert!(rt;
+        answers_def(
+            alloc,
+            12,
+            b"- B ( 4000 0 ) ( 10000 8000 ) + TYPE FENCE ;",
+            None,
+        )?
+    );
+    assert!(rt;
+        answers_def(
+            alloc,
+            12,
+            b"- B ( 3999 0 ) ( 10000 8000 ) + TYPE FENCE ;",
+            Some((FaultNumber::FencesOverlap, b"B")),
+        )?
+    );
+    assert!(rt;
+        answers_def(
+            alloc,
+            12,
+            b"- B ( 3999 0 ) ( 10000 8000 ) + TYPE GUIDE ;",
+            None,
+        )?
+    );
+    Ok(())
 }
 
 #[test]
 fn sizes_that_are_not_whole(rt: HostRuntime) -> Result<(), Fail> {
-    lef_change(
-        &rt,
-        5,
-        b"  SIZE 0.1905 BY 2.0 ;",
-        Some((FaultNumber::NotWhole, b"core")),
-    )?;
-    lef_change(
-        &rt,
-        10,
-        b"  SIZE 0.4005 BY 2.0 ;",
-        Some((FaultNumber::NotWhole, b"INV")),
-    )?;
-    lef_change(
-        &rt,
-        30,
-        b"  SIZE 0 BY 4.0 ;",
-        Some((FaultNumber::NoSize, b"DBL")),
-    )
+    let alloc = rt.alloc();
+    assert!(rt;
+        answers_lef(
+            alloc,
+            5,
+            b"  SIZE 0.1905 BY 2.0 ;",
+            Some((FaultNumber::NotWhole, b"core")),
+        )?
+    );
+    assert!(rt;
+        answers_lef(
+            alloc,
+            10,
+            b"  SIZE 0.4005 BY 2.0 ;",
+            Some((FaultNumber::NotWhole, b"INV")),
+        )?
+    );
+    assert!(rt;
+        answers_lef(
+            alloc,
+            30,
+            b"  SIZE 0 BY 4.0 ;",
+            Some((FaultNumber::NoSize, b"DBL")),
+        )?
+    );
+    Ok(())
 }
 
 #[test]
 fn rows_that_are_refused(rt: HostRuntime) -> Result<(), Fail> {
+    let alloc = rt.alloc();
     for (line, number, name) in [
         (
             &b"ROW r1 core 0 2000 FS DO 50 BY 1 STEP 400 0 ;"[..],
@@ -148,35 +165,35 @@ fn rows_that_are_refused(rt: HostRuntime) -> Result<(), Fail> {
             &b"r1"[..],
         ),
     ] {
-        def_change(&rt, 7, line, Some((number, name)))?;
+        assert!(rt; answers_def(alloc, 7, line, Some((number, name)))?);
     }
     Ok(())
 }
 
 #[test]
 fn a_row_behind_another(rt: HostRuntime) -> Result<(), Fail> {
+    let alloc = rt.alloc();
     let lines = b"ROW r3 core 0 6000 FS DO 50 BY 1 STEP 200 0 ;\nROW r4 core 9800 0 N DO 1 BY 1 ;";
-    def_change(
-        &rt,
-        9,
-        lines,
-        Some((FaultNumber::RowsOverlap, b"r4")),
-    )
+    assert!(rt; answers_def(alloc, 9, lines, Some((FaultNumber::RowsOverlap, b"r4")),)?);
+    Ok(())
 }
 
 #[test]
 fn components_that_are_refused(rt: HostRuntime) -> Result<(), Fail> {
+    let alloc = rt.alloc();
     for (line, number, name) in [
         (&b"- a2 BUF ;"[..], FaultNumber::NoMacro, &b"BUF"[..]),
         (&b"- a1 INV ;"[..], FaultNumber::SecondName, &b"a1"[..]),
     ] {
-        def_change(&rt, 16, line, Some((number, name)))?;
+        assert!(rt; answers_def(alloc, 16, line, Some((number, name)))?);
     }
-    def_change(&rt, 16, b"- a2 BUF + COVER ( 0 0 ) N ;", None)
+    assert!(rt; answers_def(alloc, 16, b"- a2 BUF + COVER ( 0 0 ) N ;", None)?);
+    Ok(())
 }
 
 #[test]
 fn regions_that_are_refused(rt: HostRuntime) -> Result<(), Fail> {
+    let alloc = rt.alloc();
     for (line, number, name) in [
         (
             &b"- A ( 6000 0 ) ( 10000 8000 ) + TYPE FENCE ;"[..],
@@ -189,47 +206,67 @@ fn regions_that_are_refused(rt: HostRuntime) -> Result<(), Fail> {
             &b"B"[..],
         ),
     ] {
-        def_change(&rt, 12, line, Some((number, name)))?;
+        assert!(rt; answers_def(alloc, 12, line, Some((number, name)))?);
     }
-    let lines = b"- B ( 6000 0 ) ( 10000 8000 ) + TYPE FENCE ;\n- - ( 0 9000 ) ( 1 9001 ) + TYPE FENCE ;";
-    def_change(&rt, 12, lines, Some((FaultNumber::TeamName, b"-")))
+    let lines =
+        b"- B ( 6000 0 ) ( 10000 8000 ) + TYPE FENCE ;\n- - ( 0 9000 ) ( 1 9001 ) + TYPE FENCE ;";
+    assert!(rt; answers_def(alloc, 12, lines, Some((FaultNumber::TeamName, b"-")))?);
+    Ok(())
 }
 
 #[test]
 fn components_of_two_fences(rt: HostRuntime) -> Result<(), Fail> {
-    def_change(
-        &rt,
-        26,
-        b"- gb * + REGION B ;",
-        Some((FaultNumber::TwoFences, b"a1")),
-    )
+    let alloc = rt.alloc();
+    assert!(rt;
+        answers_def(
+            alloc,
+            26,
+            b"- gb * + REGION B ;",
+            Some((FaultNumber::TwoFences, b"a1")),
+        )?
+    );
+    Ok(())
 }
 
 #[test]
 fn designs_without_units_and_rows(rt: HostRuntime) -> Result<(), Fail> {
-    def_change(&rt, 5, b"", Some((FaultNumber::NoUnits, b"w")))?;
-    lef_change(&rt, 3, b"  CLASS PAD ;", Some((FaultNumber::NoRows, b"w")))
+    let alloc = rt.alloc();
+    assert!(rt; answers_def(alloc, 5, b"", Some((FaultNumber::NoUnits, b"w")))?);
+    assert!(rt;
+        answers_lef(
+            alloc,
+            3,
+            b"  CLASS PAD ;",
+            Some((FaultNumber::NoRows, b"w"))
+        )?
+    );
+    Ok(())
 }
 
 #[test]
 fn designs_past_the_limits(rt: HostRuntime) -> Result<(), Fail> {
+    let alloc = rt.alloc();
     for (rows, fences, components, name) in [
         (3, 2, 5, &b"r3"[..]),
         (4, 1, 5, &b"B"[..]),
         (4, 2, 4, &b"g1"[..]),
     ] {
-        let limits =
-            Limits::checked(rows, fences, components, 8, 64, 4_000_000_000).ok_or("limits")?;
-        loads(
-            &rt,
-            W_LEF,
-            W_DEF,
-            limits,
-            Some((FaultNumber::TooMany, name)),
+        let limits = Limits::checked(rows, fences, components, 8, 64, 4_000_000_000).ok_or(
+            "limits",
         )?;
+        assert!(rt;
+            answers(
+                alloc,
+                W_LEF,
+                W_DEF,
+                limits,
+                Some((FaultNumber::TooMany, name)),
+            )?
+        );
     }
     let exactly = Limits::checked(4, 2, 5, 8, 64, 4_000_000_000).ok_or("limits")?;
-    loads(&rt, W_LEF, W_DEF, exactly, None)
+    assert!(rt; answers(alloc, W_LEF, W_DEF, exactly, None)?);
+    Ok(())
 }
 
 #[test]
