@@ -9,6 +9,7 @@ pub mod PrintedBehind
 pub mod PrintedBlockages
 pub mod PrintedEntries
 pub mod PrintedLists
+pub mod PrintedNumbers
 pub mod PrintedPassed
 pub mod PrintedPlaces
 pub mod PrintedSections

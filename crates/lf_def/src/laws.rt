@@ -2,6 +2,7 @@
 
 ghost use Rattle.std.specs.Prelude.{◌≡◌, ◌≢◌, List, [], ◌∷◌, ◌++◌, map, true, ℕ, ℤ, Some, All, codes};
 ghost use Rattle.std.specs.List.{list_all};
+ghost use Rattle.std.specs.Fmt.{signed_decimal};
 ghost use Rattle.lf_lex.specs.Laws.{TakesTokens, ReadsAlike};
 ghost use Rattle.lf_lex.specs.Splices.{joined, is_word_text, word_of};
 ghost use Rattle.lf_def.specs.Entries.{entry_or_end};
@@ -11,6 +12,7 @@ ghost use Rattle.lf_def.specs.Groups.{group, group_token, groups};
 ghost use Rattle.lf_def.specs.Components.{component, component_token, components};
 ghost use Rattle.lf_def.specs.Blockages.{blockage, blockage_token, blockage_or_end, blockages};
 ghost use Rattle.lf_def.specs.Document.{statement};
+ghost use Rattle.lf_def.specs.Ranges.{IsCoordinate};
 ghost use Rattle.lf_def.specs.declared.rows.Row.{Row};
 ghost use Rattle.lf_def.specs.declared.regions.Region.{Region};
 ghost use Rattle.lf_def.specs.declared.groups.Group.{Group};
@@ -109,4 +111,10 @@ pub fn printed_lists_read_back_in_texts()
 /// behind that: its first tokens are these words.
 pub fn printed_words_are_read()
     ensures { (words : List (List ℕ)) (rest : List ℕ) → list_all is_word_text words ≡ true → BeginsWith (joined words ++ 10 ∷ rest) (map word_of words) }
+{}
+
+/// Decimal numbers are a way of writing coordinates, and each of them is a word.
+pub fn decimal_numbers_are_read()
+    ensures numbers { WritesNumbers signed_decimal }
+    ensures words { (x : ℤ) → IsCoordinate x → is_word_text (signed_decimal x) ≡ true }
 {}
