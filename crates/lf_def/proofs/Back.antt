@@ -1,5 +1,5 @@
 -- Reading words back: from tokens with these bytes a reader gives this value, places apart, whatever stands behind.
-use Rattle.std.proofs.Common.{◌≡◌, ℕ, zero, suc, ◌<◌, Bool, true, false, cond, List, [], ◌∷◌, ◌++◌, map, length, Result, Ok, Err, refl, ap, ◌∙◌, arith}
+use Rattle.std.proofs.Common.{◌≡◌, ℕ, zero, suc, ◌<◌, Bool, true, false, cond, List, [], ◌∷◌, ◌++◌, map, length, Result, Ok, Err, refl, ap, sym, ◌∙◌, arith}
 use Rattle.std.proofs.lemmas.List.{map-append}
 use Rattle.lf_lex.specs.declared.tokens.TokenKind.TheVariants.{Word}
 use Rattle.lf_lex.specs.declared.fault.ReadFault.{ReadFault}
@@ -9,8 +9,12 @@ use Rattle.lf_lex.specs.Reading.{◌>>=◌, Reader, Taken, Turn, Statement, take
 use Rattle.lf_lex.proofs.Runs.{Again, TurnsAgain, same, turn_bare, left, with_both, length_both}
 use Rattle.lf_def.specs.Printed.{ReadsBack}
 
+abbrev pub BackAt : {A B : Type 0} → (A → B) → Reader A → List Plain → A → Type 0
+BackAt bare reader ps x = (p : List Lexeme) → map plain p ≡ ps → Again bare reader p x
+
+-- the same from words
 abbrev pub Back : {A B : Type 0} → (A → B) → Reader A → List (List ℕ) → A → Type 0
-Back bare reader ws x = (p : List Lexeme) → map plain p ≡ map word_of ws → Again bare reader p x
+Back bare reader ws x = BackAt bare reader (map word_of ws) x
 
 no_words : (p : List Lexeme) → map plain p ≡ [] → p ≡ []
 no_words [] e = refl
@@ -33,14 +37,14 @@ back_token w (t ∷ p) e =
     record { value = t; alike = h.0; takes = λ l. ap (λ (z : List Lexeme). token (with_tokens (t ∷ z) l)) (no_words p h.1) }
 
 -- tokens with the bytes of two runs of words are two runs
-record Halves (p : List Lexeme) (us vs : List Plain) : Type 0 where
+pub record Halves (p : List Lexeme) (us vs : List Plain) : Type 0 where
   pub front : List Lexeme
   pub back : List Lexeme
   pub whole : p ≡ front ++ back
   pub front_is : map plain front ≡ us
   pub back_is : map plain back ≡ vs
 
-halves : (p : List Lexeme) (us vs : List Plain) → map plain p ≡ us ++ vs → Halves p us vs
+pub halves : (p : List Lexeme) (us vs : List Plain) → map plain p ≡ us ++ vs → Halves p us vs
 halves p [] vs e = record { front = []; back = p; whole = refl; front_is = refl; back_is = e }
 halves [] (u ∷ us) vs e = absurd cc
 halves (t ∷ p) (u ∷ us) vs e =
@@ -52,13 +56,34 @@ takes_both : {A B : Type 0} (r : Reader A) (k : Taken A → Result (Taken B) Rea
     → r (with_tokens front (with_tokens back l)) ≡ taken x (with_tokens back l) → k (left x (with_tokens back l)) ≡ taken y l → (r (with_tokens p l) >>= k) ≡ taken y l
 takes_both r k p front back l x y e f g = rw (e, with_both front back l, f) g
 
-pub back_bind : {A B C D : Type 0} (bareA : A → C) (bareB : B → D) (r : Reader A) (k : Taken A → Result (Taken B) ReadFault) (ws vs : List (List ℕ)) (x : A) (y : B)
-    → Back bareA r ws x → ((x' : A) → bareA x' ≡ bareA x → Back bareB (λ l. k (left x' l)) vs y) → Back bareB (λ l. r l >>= k) (ws ++ vs) y
-back_bind bareA bareB r k ws vs x y f next p e =
-    let s = halves p (map word_of ws) (map word_of vs) (e ∙ map-append word_of ws vs) in
+pub at_bind : {A B C D : Type 0} (bareA : A → C) (bareB : B → D) (r : Reader A) (k : Taken A → Result (Taken B) ReadFault) (us vs : List Plain) (x : A) (y : B)
+    → BackAt bareA r us x → ((x' : A) → bareA x' ≡ bareA x → BackAt bareB (λ l. k (left x' l)) vs y) → BackAt bareB (λ l. r l >>= k) (us ++ vs) y
+at_bind bareA bareB r k us vs x y f next p e =
+    let s = halves p us vs e in
     let a = f s.front s.front_is in
     let b = next a.value a.alike s.back s.back_is in
     record { value = b.value; alike = b.alike; takes = λ l. takes_both r k p s.front s.back l a.value b.value s.whole (a.takes (with_tokens s.back l)) (b.takes l) }
+
+pub back_bind : {A B C D : Type 0} (bareA : A → C) (bareB : B → D) (r : Reader A) (k : Taken A → Result (Taken B) ReadFault) (ws vs : List (List ℕ)) (x : A) (y : B)
+    → Back bareA r ws x → ((x' : A) → bareA x' ≡ bareA x → Back bareB (λ l. k (left x' l)) vs y) → Back bareB (λ l. r l >>= k) (ws ++ vs) y
+back_bind bareA bareB r k ws vs x y f next p e = at_bind bareA bareB r k (map word_of ws) (map word_of vs) x y f next p (e ∙ map-append word_of ws vs)
+
+-- what is made of a value
+pub at_map : {A B C D : Type 0} (bareA : A → C) (bareB : B → D) (r : Reader A) (f : A → B) (ps : List Plain) (x : A) (y : B)
+    → BackAt bareA r ps x → ((x' : A) → bareA x' ≡ bareA x → bareB (f x') ≡ bareB y) → BackAt bareB (λ l. r l >>= λ z. taken (f z.value) z.rest) ps y
+at_map bareA bareB r f ps x y g alike p e = let a = g p e in record { value = f a.value; alike = alike a.value a.alike; takes = λ l. rw (a.takes l) refl }
+
+-- a reader that is the same one
+pub at_same : {A B : Type 0} (bare : A → B) (r r' : Reader A) (ps : List Plain) (x : A) → ((l : Lexed) → r l ≡ r' l) → BackAt bare r' ps x → BackAt bare r ps x
+at_same bare r r' ps x h f p e = let a = f p e in record { value = a.value; alike = a.alike; takes = λ l. h (with_tokens p l) ∙ a.takes l }
+
+pub at_first : {B D : Type 0} (bareB : B → D) (k : Taken Lexeme → Result (Taken B) ReadFault) (u : Plain) (vs : List Plain) (y : B)
+    → ((t : Lexeme) → plain t ≡ u → BackAt bareB (λ l. k (left t l)) vs y) → BackAt bareB (λ l. token l >>= k) (u ∷ vs) y
+at_first bareB k u vs y next [] e = absurd cc
+at_first bareB k u vs y next (t ∷ p) e =
+    let h = head_is (plain t) u (map plain p) vs e in
+    let b = next t h.0 p h.1 in
+    record { value = b.value; alike = b.alike; takes = λ l. b.takes l }
 
 -- a first token, and what is read behind it
 pub back_first : {B D : Type 0} (bareB : B → D) (k : Taken Lexeme → Result (Taken B) ReadFault) (w : List ℕ) (vs : List (List ℕ)) (y : B)
@@ -82,8 +107,11 @@ back_given {A = A} bare (Ok u) k v ws x e f = let h : v ≡ u = same_ok e in rw 
 
 -- Statement after statement.
 
+abbrev pub TurnsAt : {S D : Type 0} → (S → D) → Statement S → S → List Plain → S → Type 0
+TurnsAt bare statement s ps y = (p : List Lexeme) → map plain p ≡ ps → TurnsAgain bare statement s p y
+
 abbrev pub TurnsBack : {S D : Type 0} → (S → D) → Statement S → S → List (List ℕ) → S → Type 0
-TurnsBack bare statement s ws y = (p : List Lexeme) → map plain p ≡ map word_of ws → TurnsAgain bare statement s p y
+TurnsBack bare statement s ws y = TurnsAt bare statement s (map word_of ws) y
 
 last_takes : {S : Type 0} (statement : Statement S) (s : S) (p : List Lexeme) (v : Turn S) (n : ℕ) (l : Lexed) → length p < n
     → statement s (with_tokens p l) ≡ taken v l → v.more ≡ false → statements statement n s (with_tokens p l) ≡ taken v.state l
@@ -100,31 +128,41 @@ more_takes statement s y p front back v (suc n) l w positive lt e f next =
     let both = ap (λ (z : List Lexeme). length z) w ∙ length_both front back in
     rw (w, with_both front back l, e) (rw f (next n (omega (arith, both, lt, positive))))
 
-pub turns_last : {S D : Type 0} (bare : S → D) (statement : Statement S) (s y : S) (ws : List (List ℕ)) → Back (turn_bare bare) (statement s) ws (turn y false) → TurnsBack bare statement s ws y
-turns_last bare statement s y ws f p e =
+pub at_last : {S D : Type 0} (bare : S → D) (statement : Statement S) (s y : S) (ps : List Plain) → BackAt (turn_bare bare) (statement s) ps (turn y false) → TurnsAt bare statement s ps y
+at_last bare statement s y ps f p e =
     let a = f p e in
     record { value = a.value.state; alike = ap (λ (z : Turn _). z.state) a.alike; takes = λ n lt l. last_takes statement s p a.value n l lt (a.takes l) (ap (λ (z : Turn _). z.more) a.alike) }
 
-front_some : (front : List Lexeme) (w : List ℕ) (ws : List (List ℕ)) → map plain front ≡ map word_of (w ∷ ws) → 0 < length front
-front_some [] w ws e = absurd cc
-front_some (t ∷ front) w ws e = omega arith
+front_some : (front : List Lexeme) (us : List Plain) → map plain front ≡ us → 0 < length us → 0 < length front
+front_some [] us e h = rw (sym e) at h
+front_some (t ∷ front) us e h = omega arith
 
-pub turns_more : {S D : Type 0} (bare : S → D) (statement : Statement S) (s s1 y : S) (w : List ℕ) (ws vs : List (List ℕ)) → Back (turn_bare bare) (statement s) (w ∷ ws) (turn s1 true)
-    → ((s1' : S) → bare s1' ≡ bare s1 → TurnsBack bare statement s1' vs y) → TurnsBack bare statement s (w ∷ (ws ++ vs)) y
-turns_more bare statement s s1 y w ws vs f next p e =
-    let c = halves p (map word_of (w ∷ ws)) (map word_of vs) (e ∙ map-append word_of (w ∷ ws) vs) in
+pub at_more : {S D : Type 0} (bare : S → D) (statement : Statement S) (s s1 y : S) (us vs : List Plain) → 0 < length us → BackAt (turn_bare bare) (statement s) us (turn s1 true)
+    → ((s1' : S) → bare s1' ≡ bare s1 → TurnsAt bare statement s1' vs y) → TurnsAt bare statement s (us ++ vs) y
+at_more bare statement s s1 y us vs some f next p e =
+    let c = halves p us vs e in
     let a = f c.front c.front_is in
     let b = next a.value.state (ap (λ (z : Turn _). z.state) a.alike) c.back c.back_is in
     record {
       value = b.value;
       alike = b.alike;
-      takes = λ n lt l. more_takes statement s b.value p c.front c.back a.value n l c.whole (front_some c.front w ws c.front_is) lt (a.takes (with_tokens c.back l)) (ap (λ (z : Turn _). z.more) a.alike) (λ j h. b.takes j h l);
+      takes = λ n lt l. more_takes statement s b.value p c.front c.back a.value n l c.whole (front_some c.front us c.front_is some) lt (a.takes (with_tokens c.back l)) (ap (λ (z : Turn _). z.more) a.alike) (λ j h. b.takes j h l);
     }
 
-pub block_back : {S D : Type 0} (bare : S → D) (statement : Statement S) (s y : S) (ws : List (List ℕ)) → TurnsBack bare statement s ws y → Back bare (block statement s) ws y
-block_back bare statement s y ws f p e =
+pub at_block : {S D : Type 0} (bare : S → D) (statement : Statement S) (s y : S) (ps : List Plain) → TurnsAt bare statement s ps y → BackAt bare (block statement s) ps y
+at_block bare statement s y ps f p e =
     let t = f p e in
     record { value = t.value; alike = t.alike; takes = λ l. t.takes (suc (length (p ++ l.tokens))) (omega (arith, length_both p l.tokens)) l }
+
+pub turns_last : {S D : Type 0} (bare : S → D) (statement : Statement S) (s y : S) (ws : List (List ℕ)) → Back (turn_bare bare) (statement s) ws (turn y false) → TurnsBack bare statement s ws y
+turns_last bare statement s y ws f = at_last bare statement s y (map word_of ws) f
+
+pub turns_more : {S D : Type 0} (bare : S → D) (statement : Statement S) (s s1 y : S) (w : List ℕ) (ws vs : List (List ℕ)) → Back (turn_bare bare) (statement s) (w ∷ ws) (turn s1 true)
+    → ((s1' : S) → bare s1' ≡ bare s1 → TurnsBack bare statement s1' vs y) → TurnsBack bare statement s (w ∷ (ws ++ vs)) y
+turns_more bare statement s s1 y w ws vs f next p e = at_more bare statement s s1 y (map word_of (w ∷ ws)) (map word_of vs) (omega arith) f next p (e ∙ map-append word_of (w ∷ ws) vs)
+
+pub block_back : {S D : Type 0} (bare : S → D) (statement : Statement S) (s y : S) (ws : List (List ℕ)) → TurnsBack bare statement s ws y → Back bare (block statement s) ws y
+block_back bare statement s y ws f = at_block bare statement s y (map word_of ws) f
 
 -- where no places are left out it is the value itself
 pub reads_back : {A : Type 0} (reader : Reader A) (ws : List (List ℕ)) (x : A) → Back same reader ws x → ReadsBack reader ws x

@@ -5,11 +5,15 @@ pub mod Following
 pub mod Kept
 pub mod Local
 pub mod Places
+pub mod PrintedBehind
 pub mod PrintedBlockages
 pub mod PrintedEntries
 pub mod PrintedLists
+pub mod PrintedNumbers
+pub mod PrintedPassed
 pub mod PrintedPlaces
 pub mod PrintedSections
+pub mod PrintedTexts
 pub mod Ranges
 pub mod Rising
 pub mod Same

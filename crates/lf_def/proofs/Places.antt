@@ -172,7 +172,7 @@ component_follows =
 abbrev pub bare_list : List Component → List Component
 bare_list cs = map without_places cs
 
-components_grow : Grows without_places bare_list
+pub components_grow : Grows without_places bare_list
 components_grow xs xs' x x' e f =
     map-append without_places xs' (x' ∷ []) ∙ ap (λ (z : List Component). z ++ without_places x' ∷ []) e ∙ ap (λ (z : Component). map without_places xs ++ z ∷ []) f ∙ sym (map-append without_places xs (x ∷ []))
 

@@ -1,25 +1,26 @@
 -- Printed blockages read back.
-use Rattle.std.proofs.Common.{◌≡◌, ℕ, Bool, true, false, ◌||◌, List, [], ◌∷◌, ◌++◌, All, ℤ, Some, refl, ap, ◌∙◌}
+use Rattle.std.proofs.Common.{◌≡◌, ◌≢◌, ℕ, Bool, true, false, ◌||◌, List, [], ◌∷◌, ◌++◌, All, map, ℤ, Option, Some, refl, ap, ◌∙◌}
 use Rattle.std.specs.Prelude.{codes}
 use Rattle.std.specs.Str.{bytes_eq}
 use Rattle.std.proofs.lemmas.List.{append_assoc, append-nil}
-use Rattle.std.proofs.lemmas.List.Elements.{All-head, All-tail}
+use Rattle.std.proofs.lemmas.List.Elements.{All-head, All-tail, All-cons, All-nil}
 use Rattle.lf_units.specs.declared.area.Rect.{Rect}
 use Rattle.lf_lex.specs.Tokens.{Lexeme, Plain, plain}
 use Rattle.lf_lex.specs.Splices.{word_of}
-use Rattle.lf_lex.specs.Reading.{turn, is, block}
+use Rattle.lf_lex.specs.Reading.{turn, is, end_name, to_semicolon, block}
 use Rattle.lf_lex.proofs.Runs.{same}
 use Rattle.lf_def.specs.declared.entries.Due.{Due}
 use Rattle.lf_def.specs.declared.entries.Due.TheVariants.{Item, Keyword, Rest, Separator}
 use Rattle.lf_def.specs.declared.blockages.Blockage.{Blockage}
 use Rattle.lf_def.specs.declared.blockages.BlockageParts.{BlockageParts}
 use Rattle.lf_def.specs.Coordinates.{rect}
-use Rattle.lf_def.specs.Blockages.{with_rect, noted, blockage_part, blockage_from, blockage_token, no_blockage, blockage_of, blockage}
+use Rattle.lf_def.specs.Blockages.{with_rect, noted, blockage_part, blockage_from, blockage_token, no_blockage, blockage_of, blockage, with_blockage, blockage_or_end, blockages}
 use Rattle.lf_def.specs.Ranges.{IsRect}
-use Rattle.lf_def.specs.Printed.{WritesNumbers, rect_words, block_rects_words, soft_words, partial_words, blockage_words, IsPrintedBlockage}
-use Rattle.lf_def.proofs.Back.{Back, TurnsBack, back_pure, back_bind, back_first, back_yes, back_no, turns_last, block_back}
+use Rattle.lf_def.specs.Printed.{WritesNumbers, rect_words, block_rects_words, soft_words, partial_words, blockage_words, IsPrintedBlockage, entries_words, section_words}
+use Rattle.lf_def.proofs.Back.{Back, TurnsBack, back_pure, back_bind, back_first, back_yes, back_no, at_map, turns_last, block_back}
 use Rattle.lf_def.proofs.PrintedEntries.{is_at, rect_back, no_more}
 use Rattle.lf_def.proofs.PrintedLists.{then_turns}
+use Rattle.lf_def.proofs.PrintedSections.{to_semicolon_back, end_back}
 
 abbrev parts_at : Bool → Bool → List Rect → Due → BlockageParts
 parts_at soft partial rects due = record { soft = soft; partial = partial; rects = rects; due = due }
@@ -135,3 +136,34 @@ blockage_back print writes b h =
     (back_bind same same (block blockage_token no_blockage) _ (soft_words b.soft (partial_words b.partial (block_rects_words print b.rects))) [] (parts_at b.soft b.partial b.rects all.0) (Some b)
     (block_back same blockage_token no_blockage (parts_at b.soft b.partial b.rects all.0) (soft_words b.soft (partial_words b.partial (block_rects_words print b.rects))) all.1) (λ p ep.
     back_pure same (Some b) (Some (blockage_of p)) (ap (λ (z : BlockageParts). Some (blockage_of z)) ep))))))
+
+-- BLOCKAGES.
+
+last_blockage : (s : List Blockage) → Back same (blockage_or_end s) (codes "END" ∷ codes "BLOCKAGES" ∷ []) (turn s false)
+unfolding blockage_or_end
+last_blockage s =
+    back_first same _ (codes "END") (codes "BLOCKAGES" ∷ []) (turn s false) (λ t e. back_no same (is (codes "-") t) _ _ (codes "BLOCKAGES" ∷ []) (turn s false) (is_at (codes "-") (codes "END") t e)
+    (back_yes same (is (codes "END") t) _ _ (codes "BLOCKAGES" ∷ []) (turn s false) (is_at (codes "END") (codes "END") t e)
+    (at_map same same (end_name (codes "BLOCKAGES")) (λ (u : Unit {0}). turn s false) (map word_of (codes "BLOCKAGES" ∷ [])) tt (turn s false) (end_back (codes "BLOCKAGES") refl) (λ u eu. refl))))
+
+one_blockage : (print : ℤ → List ℕ) → WritesNumbers print → (s : List Blockage) (b : Blockage) → IsPrintedBlockage b → Back same (blockage_or_end s) (codes "-" ∷ blockage_words print b) (turn (s ++ b ∷ []) true)
+unfolding blockage_or_end
+one_blockage print writes s b h =
+    back_first same _ (codes "-") (blockage_words print b) (turn (s ++ b ∷ []) true) (λ t e. back_yes same (is (codes "-") t) _ _ (blockage_words print b) (turn (s ++ b ∷ []) true) (is_at (codes "-") (codes "-") t e)
+    (at_map same same blockage (λ (o : Option Blockage). turn (with_blockage s o) true) (map word_of (blockage_words print b)) (Some b) (turn (s ++ b ∷ []) true) (blockage_back print writes b h) (λ o eo. ap (λ (z : Option Blockage). turn (with_blockage s z) true) eo)))
+
+blockages_turns : (print : ℤ → List ℕ) → WritesNumbers print → (bs s : List Blockage) → All IsPrintedBlockage bs
+    → TurnsBack same blockage_or_end s (entries_words (blockage_words print) bs (codes "END" ∷ codes "BLOCKAGES" ∷ [])) (s ++ bs)
+blockages_turns print writes [] s h = rw (append-nil s) (turns_last same blockage_or_end s s (codes "END" ∷ codes "BLOCKAGES" ∷ []) (last_blockage s))
+blockages_turns print writes (b ∷ bs) s h =
+    let there : (s ++ b ∷ []) ++ bs ≡ s ++ b ∷ bs = append_assoc s (b ∷ []) bs in
+    then_turns blockage_or_end s (s ++ b ∷ []) (s ++ b ∷ bs) (codes "-") (blockage_words print b) (entries_words (blockage_words print) bs (codes "END" ∷ codes "BLOCKAGES" ∷ [])) (one_blockage print writes s b (All-head IsPrintedBlockage b bs h))
+    (rw there at (blockages_turns print writes bs (s ++ b ∷ []) (All-tail IsPrintedBlockage b bs h)))
+
+pub blockages_back : (print : ℤ → List ℕ) → WritesNumbers print → (count : List ℕ) → count ≢ codes ";" → (bs s : List Blockage) → All IsPrintedBlockage bs
+    → Back same (blockages s) (section_words (codes "BLOCKAGES") count (blockage_words print) bs) (s ++ bs)
+unfolding blockages
+blockages_back print writes count other bs s h =
+    back_bind same same to_semicolon _ (count ∷ codes ";" ∷ []) (entries_words (blockage_words print) bs (codes "END" ∷ codes "BLOCKAGES" ∷ [])) tt (s ++ bs)
+    (to_semicolon_back (count ∷ []) (All-cons (λ w. w ≢ codes ";") count [] other (All-nil (λ w. w ≢ codes ";")))) (λ u eu.
+    block_back same blockage_or_end s (s ++ bs) (entries_words (blockage_words print) bs (codes "END" ∷ codes "BLOCKAGES" ∷ [])) (blockages_turns print writes bs s h))

@@ -74,11 +74,11 @@ up_to_is most n line h = rw (count_test most n h.some h.few) refl
 count_coordinate : (n : ℕ) → n ≤ 2147483647 → IsCoordinate (pos n)
 count_coordinate n h = record { low = omega (arith, ints); high = omega (arith, ints) }
 
-pub count_back : (print : ℤ → List ℕ) → WritesNumbers print → (n : ℕ) → IsCount 2147483647 n → Back same (count 2147483647) (print (pos n) ∷ []) n
+pub count_back : (print : ℤ → List ℕ) → WritesNumbers print → (most : ℕ) → most ≤ 2147483647 → (n : ℕ) → IsCount most n → Back same (count most) (print (pos n) ∷ []) n
 unfolding count
-count_back print writes n h =
-    back_first same _ (print (pos n)) [] n (λ t e. back_given same (dbu_of t) _ (pos n) [] n (dbu_at print writes (pos n) (count_coordinate n h.few) t e)
-    (back_given same (up_to 2147483647 (pos n) t.line) _ n [] n (up_to_is 2147483647 n t.line h) (back_pure same n n refl)))
+count_back print writes most within n h =
+    back_first same _ (print (pos n)) [] n (λ t e. back_given same (dbu_of t) _ (pos n) [] n (dbu_at print writes (pos n) (count_coordinate n (omega (arith, h.few, within))) t e)
+    (back_given same (up_to most (pos n) t.line) _ n [] n (up_to_is most n t.line h) (back_pure same n n refl)))
 
 abbrev point_at : ℤ → ℤ → Point
 point_at x y = record { x = x; y = y }
@@ -150,9 +150,9 @@ sites_of r = record { x = r.sites_x; y = r.sites_y; step = r.step }
 sites_back : (print : ℤ → List ℕ) → WritesNumbers print → (r : Row) → IsRow r → Back same sites (print (pos r.sites_x) ∷ codes "BY" ∷ print (pos r.sites_y) ∷ step_words print r.step) (sites_of r)
 unfolding sites
 sites_back print writes r h =
-    back_bind same same (count 2147483647) _ (print (pos r.sites_x) ∷ []) (codes "BY" ∷ print (pos r.sites_y) ∷ step_words print r.step) r.sites_x (sites_of r) (count_back print writes r.sites_x h.sites_x) (λ x ex.
+    back_bind same same (count 2147483647) _ (print (pos r.sites_x) ∷ []) (codes "BY" ∷ print (pos r.sites_y) ∷ step_words print r.step) r.sites_x (sites_of r) (count_back print writes 2147483647 (omega arith) r.sites_x h.sites_x) (λ x ex.
     back_bind same same (keyword (codes "BY")) _ (codes "BY" ∷ []) (print (pos r.sites_y) ∷ step_words print r.step) tt (sites_of r) (keyword_back (codes "BY") refl) (λ b eb.
-    back_bind same same (count 2147483647) _ (print (pos r.sites_y) ∷ []) (step_words print r.step) r.sites_y (sites_of r) (count_back print writes r.sites_y h.sites_y) (λ y ey.
+    back_bind same same (count 2147483647) _ (print (pos r.sites_y) ∷ []) (step_words print r.step) r.sites_y (sites_of r) (count_back print writes 2147483647 (omega arith) r.sites_y h.sites_y) (λ y ey.
     step_back print writes r.step h.step _ (sites_of r) (λ t ws f. append_nil_back ws (back_bind same same (step t) _ ws [] r.step (sites_of r) f (λ s es. back_pure same (sites_of r) (record { x = x; y = y; step = s }) (sites_alike ex ey es)))))))
   where
     sites_alike : {x x' y y' : ℕ} {s s' : Option Point} → x' ≡ x → y' ≡ y → s' ≡ s → ◌≡◌ {A = Sites} (record { x = x'; y = y'; step = s' }) (record { x = x; y = y; step = s })

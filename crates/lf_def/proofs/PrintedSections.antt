@@ -25,7 +25,7 @@ passed_back (w ∷ ws) h =
 pub to_semicolon_back : (ws : List (List ℕ)) → All (λ w. w ≢ codes ";") ws → Back same to_semicolon (ws ++ codes ";" ∷ []) tt
 to_semicolon_back ws h = block_back same passed_token tt tt (ws ++ codes ";" ∷ []) (passed_back ws h)
 
-end_back : (due : List ℕ) → bytes_eq due due ≡ true → Back same (end_name due) (due ∷ []) tt
+pub end_back : (due : List ℕ) → bytes_eq due due ≡ true → Back same (end_name due) (due ∷ []) tt
 unfolding end_name
 end_back due own =
     back_first same _ due [] tt (λ t e. back_no same (not (kind_is_word t.kind)) _ _ [] tt (ap (λ (p : Plain). not (kind_is_word p.kind)) e)

@@ -168,6 +168,11 @@ abbrev pub ComponentReadsBack : List (List ℕ) → Component → Type 0
 ComponentReadsBack words c = (tokens : List Lexeme) → map plain tokens ≡ map word_of words → (behind : Lexed)
     → (read : Component) × (component (with_tokens tokens behind) ≡ taken read behind) × (without_places read ≡ without_places c)
 
+-- the same for components in a row
+abbrev pub ComponentsReadBack : Reader (List Component) → List (List ℕ) → List Component → Type 0
+ComponentsReadBack reader words cs = (tokens : List Lexeme) → map plain tokens ≡ map word_of words → (behind : Lexed)
+    → (read : List Component) × (reader (with_tokens tokens behind) ≡ taken read behind) × (map without_places read ≡ map without_places cs)
+
 -- each entry behind its minus
 abbrev pub entries_words : {A : Type 0} → (A → List (List ℕ)) → List A → List (List ℕ) → List (List ℕ)
 entries_words words [] rest = rest

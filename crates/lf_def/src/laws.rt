@@ -1,20 +1,25 @@
 //! What is true of the grammar of DEF, whatever is read.
 
-ghost use Rattle.std.specs.Prelude.{◌≢◌, List, ◌++◌, ℕ, ℤ, Some, All, codes};
+ghost use Rattle.std.specs.Prelude.{◌≡◌, ◌≢◌, List, [], ◌∷◌, ◌++◌, map, true, ℕ, ℤ, Some, All, codes};
+ghost use Rattle.std.specs.List.{list_all};
+ghost use Rattle.std.specs.Fmt.{signed_decimal};
 ghost use Rattle.lf_lex.specs.Laws.{TakesTokens, ReadsAlike};
+ghost use Rattle.lf_lex.specs.Splices.{joined, is_word_text, word_of};
 ghost use Rattle.lf_def.specs.Entries.{entry_or_end};
 ghost use Rattle.lf_def.specs.Rows.{row};
 ghost use Rattle.lf_def.specs.Regions.{region, region_token, regions};
 ghost use Rattle.lf_def.specs.Groups.{group, group_token, groups};
-ghost use Rattle.lf_def.specs.Components.{component, component_token};
-ghost use Rattle.lf_def.specs.Blockages.{blockage, blockage_token, blockage_or_end};
+ghost use Rattle.lf_def.specs.Components.{component, component_token, components};
+ghost use Rattle.lf_def.specs.Blockages.{blockage, blockage_token, blockage_or_end, blockages};
 ghost use Rattle.lf_def.specs.Document.{statement};
+ghost use Rattle.lf_def.specs.Ranges.{IsCoordinate};
 ghost use Rattle.lf_def.specs.declared.rows.Row.{Row};
 ghost use Rattle.lf_def.specs.declared.regions.Region.{Region};
 ghost use Rattle.lf_def.specs.declared.groups.Group.{Group};
 ghost use Rattle.lf_def.specs.declared.components.Component.{Component};
 ghost use Rattle.lf_def.specs.declared.blockages.Blockage.{Blockage};
-ghost use Rattle.lf_def.specs.Printed.{WritesNumbers, ReadsBack, row_words, IsPrintedRow, region_words, IsPrintedRegion, group_words, IsPrintedGroup, component_words, IsPrintedComponent, ComponentReadsBack, blockage_words, IsPrintedBlockage, section_words};
+ghost use Rattle.lf_def.specs.Printed.{WritesNumbers, ReadsBack, row_words, IsPrintedRow, region_words, IsPrintedRegion, group_words, IsPrintedGroup, component_words, IsPrintedComponent, ComponentReadsBack, blockage_words, IsPrintedBlockage, ComponentsReadBack, section_words};
+ghost use Rattle.lf_def.specs.PrintedTexts.{Part, one_row, regions_section, groups_section, blockages_section, BeginsWith, PartsReadBack, ReadsBackInTexts, ComponentsReadBackInTexts};
 ghost use Rattle.lf_def.specs.Laws.{ComponentReadsAlike, SaysTheSame, EndsBefore, ComponentsStand, ComponentsRise};
 
 /// Each statement, entry and token behind which more follow takes a token, so every block comes to its
@@ -75,9 +80,41 @@ pub fn components_rise()
     ensures { (text : List ℕ) → ComponentsRise text }
 {}
 
-/// A printed REGIONS or GROUPS section reads back as its list, behind the entries of earlier sections,
-/// whatever count it bears.
+/// A printed REGIONS, GROUPS, COMPONENTS or BLOCKAGES section reads back as its list, behind the entries
+/// of earlier sections, whatever count it bears; components but for where they stand.
 pub fn printed_sections_read_back()
     ensures regions { (print : ℤ → List ℕ) → WritesNumbers print → (count : List ℕ) → count ≢ codes ";" → (new known : List Region) → All IsPrintedRegion new → ReadsBack (regions known) (section_words (codes "REGIONS") count (region_words print) new) (known ++ new) }
     ensures groups { (count : List ℕ) → count ≢ codes ";" → (new known : List Group) → All IsPrintedGroup new → ReadsBack (groups known) (section_words (codes "GROUPS") count group_words new) (known ++ new) }
+    ensures components { (print : ℤ → List ℕ) → WritesNumbers print → (count : List ℕ) → count ≢ codes ";" → (new known : List Component) → All IsPrintedComponent new → ComponentsReadBack (components known) (section_words (codes "COMPONENTS") count (component_words print) new) (known ++ new) }
+    ensures blockages { (print : ℤ → List ℕ) → WritesNumbers print → (count : List ℕ) → count ≢ codes ";" → (new known : List Blockage) → All IsPrintedBlockage new → ReadsBack (blockages known) (section_words (codes "BLOCKAGES") count (blockage_words print) new) (known ++ new) }
+{}
+
+/// A printed text reads back: statements and sections in any order, DESIGN and any that are passed over
+/// among them, say what they say, and each list stands in the order of the text. White space, comments
+/// and what follows END DESIGN play no part.
+pub fn printed_texts_read_back()
+    ensures { (print : ℤ → List ℕ) → WritesNumbers print → (parts : List Part) → PartsReadBack print parts }
+{}
+
+/// Printed rows, or a printed REGIONS, GROUPS, COMPONENTS or BLOCKAGES section, are all that a text says,
+/// alone and behind any list of statements that are passed over; components but for where they stand.
+/// What follows END DESIGN plays no part.
+pub fn printed_lists_read_back_in_texts()
+    ensures rows { (print : ℤ → List ℕ) → WritesNumbers print → (new : List Row) → All IsPrintedRow new → ReadsBackInTexts print (map one_row new) (λ d. record d { rows = new }) }
+    ensures regions { (print : ℤ → List ℕ) → WritesNumbers print → (count : List ℕ) → count ≢ codes ";" → (new : List Region) → All IsPrintedRegion new → ReadsBackInTexts print (regions_section count new ∷ []) (λ d. record d { regions = new }) }
+    ensures groups { (print : ℤ → List ℕ) → WritesNumbers print → (count : List ℕ) → count ≢ codes ";" → (new : List Group) → All IsPrintedGroup new → ReadsBackInTexts print (groups_section count new ∷ []) (λ d. record d { groups = new }) }
+    ensures components { (print : ℤ → List ℕ) → WritesNumbers print → (count : List ℕ) → count ≢ codes ";" → (new : List Component) → All IsPrintedComponent new → ComponentsReadBackInTexts print count new }
+    ensures blockages { (print : ℤ → List ℕ) → WritesNumbers print → (count : List ℕ) → count ≢ codes ";" → (new : List Blockage) → All IsPrintedBlockage new → ReadsBackInTexts print (blockages_section count new ∷ []) (λ d. record d { blockages = new }) }
+{}
+
+/// A text may be printed with one space between its words and a line feed behind them, and with any bytes
+/// behind that: its first tokens are these words.
+pub fn printed_words_are_read()
+    ensures { (words : List (List ℕ)) (rest : List ℕ) → list_all is_word_text words ≡ true → BeginsWith (joined words ++ 10 ∷ rest) (map word_of words) }
+{}
+
+/// Decimal numbers are a way of writing coordinates, and each of them is a word.
+pub fn decimal_numbers_are_read()
+    ensures numbers { WritesNumbers signed_decimal }
+    ensures words { (x : ℤ) → IsCoordinate x → is_word_text (signed_decimal x) ≡ true }
 {}

@@ -23,9 +23,10 @@ pub use document::DefDoc;
 pub use groups::Group;
 pub use header::Header;
 pub use laws::{
-    clauses_stand_in_components, components_rise, nothing_behind_end_design_counts,
-    printed_entries_read_back, printed_sections_read_back, statements_read_alike,
-    statements_take_tokens, the_same_tokens_say_the_same,
+    clauses_stand_in_components, components_rise, decimal_numbers_are_read,
+    nothing_behind_end_design_counts, printed_entries_read_back, printed_lists_read_back_in_texts,
+    printed_sections_read_back, printed_texts_read_back, printed_words_are_read,
+    statements_read_alike, statements_take_tokens, the_same_tokens_say_the_same,
 };
 pub use regions::{Region, RegionKind};
 pub use rows::Row;

@@ -1,0 +1,168 @@
+-- Whole DEF texts as they are printed: statements and sections in any order, and END DESIGN.
+use Rattle.std.specs.Prelude.{◌≡◌, ◌≢◌, ℕ, List, [], ◌∷◌, ◌++◌, All, Contains, IsSome, map, ℤ, pos, Some, Ok, codes}
+use Rattle.lf_lex.specs.declared.tokens.TokenKind.TheVariants.{Quoted}
+use Rattle.lf_lex.specs.Tokens.{Plain, plain, tokens_of}
+use Rattle.lf_lex.specs.Reading.{first_stands}
+use Rattle.lf_lex.specs.Splices.{word_of}
+use Rattle.lf_def.specs.declared.rows.Row.{Row}
+use Rattle.lf_def.specs.declared.regions.Region.{Region}
+use Rattle.lf_def.specs.declared.groups.Group.{Group}
+use Rattle.lf_def.specs.declared.components.Component.{Component}
+use Rattle.lf_def.specs.declared.blockages.Blockage.{Blockage}
+use Rattle.lf_def.specs.declared.parts.DocParts.{DocParts}
+use Rattle.lf_def.specs.Header.{no_header, header_of}
+use Rattle.lf_def.specs.Document.{Document, document_of, no_parts}
+use Rattle.lf_def.specs.Laws.{without_places}
+use Rattle.lf_def.specs.Ranges.{IsCount}
+use Rattle.lf_def.specs.Printed.{IsWord, row_words, IsPrintedRow, region_words, IsPrintedRegion, group_words, IsPrintedGroup, component_words, IsPrintedComponent, blockage_words, IsPrintedBlockage, section_words}
+
+-- Statements that are passed over.
+
+-- the keywords of statements that are passed over to their semicolon
+abbrev pub statement_keywords : List (List ℕ)
+statement_keywords = codes "TRACKS" ∷ codes "GCELLGRID" ∷ codes "HISTORY" ∷ codes "TECHNOLOGY" ∷ codes "DIEAREA" ∷ codes "COMPONENTMASKSHIFT" ∷ codes "NAMESCASESENSITIVE" ∷ []
+
+-- the keywords of sections that are passed over to END and their keyword
+abbrev pub section_keywords : List (List ℕ)
+section_keywords =
+    codes "PROPERTYDEFINITIONS" ∷ codes "VIAS" ∷ codes "STYLES" ∷ codes "NONDEFAULTRULES" ∷ codes "PINS" ∷ codes "PINPROPERTIES" ∷ codes "SLOTS" ∷ codes "FILLS" ∷ codes "SPECIALNETS" ∷ codes "NETS" ∷ codes "SCANCHAINS" ∷ []
+
+-- a statement that says nothing of placement: its keyword, and the words and quoted texts up to its end
+pub data Passed : Type 0 where
+  -- keyword .. ;
+  to_its_semicolon : List ℕ → List Plain → Passed
+  -- keyword .. END keyword
+  to_its_end : List ℕ → List Plain → Passed
+  -- BEGINEXT .. ENDEXT
+  extension : List Plain → Passed
+
+abbrev pub passed_tokens : Passed → List Plain
+passed_tokens (to_its_semicolon keyword between) = word_of keyword ∷ (between ++ word_of (codes ";") ∷ [])
+passed_tokens (to_its_end keyword between) = word_of keyword ∷ (between ++ word_of (codes "END") ∷ word_of keyword ∷ [])
+passed_tokens (extension between) = word_of (codes "BEGINEXT") ∷ (between ++ word_of (codes "ENDEXT") ∷ [])
+
+abbrev pub text_of : Plain → List ℕ
+text_of t = t.text
+
+-- nowhere among these tokens do those words stand, one directly behind the other
+abbrev pub HaveNowhere : List (List ℕ) → List Plain → Type 0
+HaveNowhere words tokens = (before after : List (List ℕ)) → map text_of tokens ≢ before ++ (words ++ after)
+
+-- the keyword is one of those, and the statement does not end before its end
+abbrev pub IsPassed : Passed → Type 0
+IsPassed (to_its_semicolon keyword between) = Contains statement_keywords keyword × HaveNowhere (codes ";" ∷ []) between
+IsPassed (to_its_end keyword between) = Contains section_keywords keyword × HaveNowhere (codes "END" ∷ keyword ∷ []) between
+IsPassed (extension between) = HaveNowhere (codes "ENDEXT" ∷ []) between
+
+-- Parts of a text.
+
+-- a statement or a section of a text; each section bears a count, which plays no part
+pub data Part : Type 0 where
+  passed_over : Passed → Part
+  version_is : List ℕ → Part
+  divider_is : List ℕ → Part
+  brackets_are : List ℕ → Part
+  design_is : List ℕ → Part
+  units_are : ℕ → Part
+  one_row : Row → Part
+  regions_section : List ℕ → List Region → Part
+  groups_section : List ℕ → List Group → Part
+  components_section : List ℕ → List Component → Part
+  blockages_section : List ℕ → List Blockage → Part
+
+-- a quoted text, with its marks
+abbrev pub quoted_of : List ℕ → Plain
+quoted_of text = record { text = text; kind = Quoted }
+
+-- keyword "text" ;
+abbrev pub quoted_tokens : List ℕ → List ℕ → List Plain
+quoted_tokens keyword text = word_of keyword ∷ quoted_of text ∷ word_of (codes ";") ∷ []
+
+abbrev pub part_tokens : (ℤ → List ℕ) → Part → List Plain
+part_tokens print (passed_over p) = passed_tokens p
+part_tokens print (version_is v) = map word_of (codes "VERSION" ∷ v ∷ codes ";" ∷ [])
+part_tokens print (divider_is text) = quoted_tokens (codes "DIVIDERCHAR") text
+part_tokens print (brackets_are text) = quoted_tokens (codes "BUSBITCHARS") text
+part_tokens print (design_is n) = map word_of (codes "DESIGN" ∷ n ∷ codes ";" ∷ [])
+part_tokens print (units_are n) = map word_of (codes "UNITS" ∷ codes "DISTANCE" ∷ codes "MICRONS" ∷ print (pos n) ∷ codes ";" ∷ [])
+part_tokens print (one_row r) = map word_of (codes "ROW" ∷ row_words print r)
+part_tokens print (regions_section count rs) = map word_of (codes "REGIONS" ∷ section_words (codes "REGIONS") count (region_words print) rs)
+part_tokens print (groups_section count gs) = map word_of (codes "GROUPS" ∷ section_words (codes "GROUPS") count group_words gs)
+part_tokens print (components_section count cs) = map word_of (codes "COMPONENTS" ∷ section_words (codes "COMPONENTS") count (component_words print) cs)
+part_tokens print (blockages_section count bs) = map word_of (codes "BLOCKAGES" ∷ section_words (codes "BLOCKAGES") count (blockage_words print) bs)
+
+-- the parts one behind the other, and END DESIGN
+abbrev pub text_tokens : (ℤ → List ℕ) → List Part → List Plain
+text_tokens print [] = map word_of (codes "END" ∷ codes "DESIGN" ∷ [])
+text_tokens print (p ∷ ps) = part_tokens print p ++ text_tokens print ps
+
+-- a part that can be printed
+abbrev pub IsPrintedPart : Part → Type 0
+IsPrintedPart (passed_over p) = IsPassed p
+IsPrintedPart (version_is v) = v ≢ codes ";"
+IsPrintedPart (divider_is text) = Unit {0}
+IsPrintedPart (brackets_are text) = Unit {0}
+IsPrintedPart (design_is n) = IsWord n
+IsPrintedPart (units_are n) = IsCount 20000 n
+IsPrintedPart (one_row r) = IsPrintedRow r
+IsPrintedPart (regions_section count rs) = (count ≢ codes ";") × All IsPrintedRegion rs
+IsPrintedPart (groups_section count gs) = (count ≢ codes ";") × All IsPrintedGroup gs
+IsPrintedPart (components_section count cs) = (count ≢ codes ";") × All IsPrintedComponent cs
+IsPrintedPart (blockages_section count bs) = (count ≢ codes ";") × All IsPrintedBlockage bs
+
+-- what a part adds: of each statement of the header the first stands, and each list grows at its end
+abbrev pub with_part : DocParts → Part → DocParts
+with_part d (passed_over p) = d
+with_part d (version_is v) = record d { header = record d.header { version = first_stands d.header.version v } }
+with_part d (divider_is text) = record d { header = record d.header { divider = first_stands d.header.divider text } }
+with_part d (brackets_are text) = record d { header = record d.header { brackets = first_stands d.header.brackets text } }
+with_part d (design_is n) = record d { header = record d.header { design = first_stands d.header.design n } }
+with_part d (units_are n) = record d { header = record d.header { units = first_stands d.header.units n } }
+with_part d (one_row r) = record d { rows = d.rows ++ r ∷ [] }
+with_part d (regions_section count rs) = record d { regions = d.regions ++ rs }
+with_part d (groups_section count gs) = record d { groups = d.groups ++ gs }
+with_part d (components_section count cs) = record d { components = d.components ++ cs }
+with_part d (blockages_section count bs) = record d { blockages = d.blockages ++ bs }
+
+abbrev pub with_parts : DocParts → List Part → DocParts
+with_parts d [] = d
+with_parts d (p ∷ ps) = with_parts (with_part d p) ps
+
+-- the document of these parts
+abbrev pub document_with : DocParts → Document
+document_with d = record { header = header_of d.header; rows = d.rows; regions = d.regions; groups = d.groups; components = d.components; blockages = d.blockages }
+
+abbrev pub printed_document : List Part → Document
+printed_document parts = document_with (with_parts no_parts parts)
+
+-- Reading them back.
+
+-- the first tokens of the text are these, with any white space and comments between them and anything behind
+abbrev pub BeginsWith : List ℕ → List Plain → Type 0
+BeginsWith text tokens = (rest : List Plain) × (map plain (tokens_of text).tokens ≡ tokens ++ rest)
+
+-- the text says this, but for where its components stand
+abbrev pub SaysPlacesApart : List ℕ → Document → Type 0
+SaysPlacesApart text d = (read : List Component) × (document_of text ≡ Ok (record d { components = read })) × (map without_places read ≡ map without_places d.components)
+
+-- Any text that begins with these parts, DESIGN among them, and END DESIGN says what they say.
+abbrev pub PartsReadBack : (ℤ → List ℕ) → List Part → Type 0
+PartsReadBack print parts = All IsPrintedPart parts → IsSome (with_parts no_parts parts).header.design → (text : List ℕ) → BeginsWith text (text_tokens print parts) → SaysPlacesApart text (printed_document parts)
+
+-- a design of that name, and nothing else
+abbrev pub design_named : List ℕ → Document
+design_named n = record { header = header_of (record no_header { design = Some n }); rows = []; regions = []; groups = []; components = []; blockages = [] }
+
+-- DESIGN, with statements that are passed over before and behind it, and then these parts
+abbrev pub behind_passed : List Passed → List ℕ → List Passed → List Part → List Part
+behind_passed before n between parts = map passed_over before ++ design_is n ∷ (map passed_over between ++ parts)
+
+-- Behind any statements that are passed over, and with anything behind END DESIGN, these parts say this of the design.
+abbrev pub ReadsBackInTexts : (ℤ → List ℕ) → List Part → (Document → Document) → Type 0
+ReadsBackInTexts print parts said = (before between : List Passed) (n : List ℕ) → All IsPassed before → All IsPassed between → IsWord n
+    → (text : List ℕ) → BeginsWith text (text_tokens print (behind_passed before n between parts)) → document_of text ≡ Ok (said (design_named n))
+
+-- the same for components, but for where they stand
+abbrev pub ComponentsReadBackInTexts : (ℤ → List ℕ) → List ℕ → List Component → Type 0
+ComponentsReadBackInTexts print count cs = (before between : List Passed) (n : List ℕ) → All IsPassed before → All IsPassed between → IsWord n
+    → (text : List ℕ) → BeginsWith text (text_tokens print (behind_passed before n between (components_section count cs ∷ []))) → SaysPlacesApart text (record (design_named n) { components = cs })
