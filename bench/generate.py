@@ -2,7 +2,9 @@
 """Writes LEF and DEF texts of any size, the same for the same numbers and seed.
 
 usage: generate.py lef MACROS [SEED] > x.lef
-       generate.py def COMPONENTS [FENCES] [SEED] > x.def    (on the macros of a LEF text of 200 macros)
+       generate.py def COMPONENTS [FENCES] [ROWS] [SEED] > x.def    (on the macros of a LEF text of 200 macros)
+
+Fences are bands of rows over the left half, and groups name their cells one by one.
 """
 import random
 import sys
@@ -39,9 +41,9 @@ def lef(macros, seed):
     yield "END LIBRARY\n"
 
 
-def def_(components, fences, seed):
+def def_(components, fences, rows, seed):
     rng = random.Random(seed)
-    rows = max(8, int((components * 3) ** 0.5 / 2) // 2 * 2)
+    rows = rows or max(8, int((components * 3) ** 0.5 / 2) // 2 * 2)
     sites = max(200, components * 10 // rows)
     height, width = rows * 2000, sites * 200
     yield "VERSION 5.8 ;\nDIVIDERCHAR \"/\" ;\nBUSBITCHARS \"[]\" ;\nDESIGN bench ;\nUNITS DISTANCE MICRONS 1000 ;\n"
@@ -49,10 +51,9 @@ def def_(components, fences, seed):
     for row in range(rows):
         yield f"ROW r{row} core 0 {row * 2000} {'N' if row % 2 == 0 else 'FS'} DO {sites} BY 1 STEP 200 0 ;\n"
     yield f"REGIONS {fences} ;\n"
-    share = sites // (fences + 1)
+    band = max(1, rows // fences)
     for fence in range(fences):
-        x = fence * share * 200
-        yield f"- f{fence} ( {x} 0 ) ( {x + share * 200 - 200} {height} ) + TYPE FENCE ;\n"
+        yield f"- f{fence} ( 0 {fence * band * 2000} ) ( {sites // 2 * 200} {(fence + 1) * band * 2000} ) + TYPE FENCE ;\n"
     yield f"END REGIONS\nCOMPONENTS {components} ;\n"
     for number in range(components):
         name, mac = f"u{number}", f"M{rng.randint(0, 199)}"
@@ -73,7 +74,7 @@ def main():
     if kind == "lef":
         parts = lef(numbers[0], numbers[1] if len(numbers) > 1 else 1)
     else:
-        parts = def_(numbers[0], numbers[1] if len(numbers) > 1 else 8, numbers[2] if len(numbers) > 2 else 1)
+        parts = def_(*(numbers + [8, 0, 1][len(numbers) - 1:]))
     for part in parts:
         sys.stdout.write(part)
 

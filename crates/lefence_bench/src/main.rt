@@ -1,9 +1,10 @@
-//! Reads one LEF or DEF text: `lex FILE`, `lef FILE` or `def FILE`. What was read is counted on standard output, and the
-//! nanoseconds that it took, the file's own reading apart, go to standard error.
+//! Reads one LEF or DEF text: `lex FILE`, `lef FILE` or `def FILE`; or loads a design: `load LEF DEF`. What was read is
+//! counted on standard output, and the nanoseconds that it took, the files' own reading apart, go to standard error.
 #![tactic(auto)]
 
 use anyhow::{Result, bail};
 use lf_def::read_def;
+use lf_frame::{Limits, load};
 use lf_lef::{Library, read_lef};
 use lf_lex::{Lexer, LoadFault};
 use std::alloc::Global;
@@ -79,8 +80,38 @@ fn read<R: Files + AllocGlobal + Clock + Print + Eprint>(
             }
             eprintln!(rt; "{} ns", taken.as_nanos())?;
         }
-        _ => bail!("lex FILE, lef FILE or def FILE"),
+        _ => bail!("lex FILE, lef FILE, def FILE or load LEF DEF"),
     }
+    Ok(())
+}
+
+/// How many rows, fences and cells the design of the two texts has; the nanoseconds are those of loading alone.
+fn load_design<R: AllocGlobal + Clock + Print + Eprint>(
+    rt: &R,
+    lef: &[u8],
+    def: &[u8],
+) -> Result<()> {
+    let mut library = Library::new(rt.alloc());
+    if let Err(fault) = read_lef(&mut library, lef) {
+        bail!("{fault:?}");
+    }
+    let document = match read_def(rt.alloc(), def) {
+        Ok(document) => document,
+        Err(fault) => bail!("{fault:?}"),
+    };
+    let start = Instant::now(rt)?;
+    let loaded = load(rt.alloc(), &library, &document, Limits::standard());
+    let taken = start.elapsed(rt)?;
+    match loaded {
+        Ok(design) => println!(rt;
+            "rows {} fences {} cells {}",
+            design.frame.rows.len(),
+            design.frame.teams.len(),
+            design.cells.len()
+        )?,
+        Err(fault) => println!(rt; "{fault:?}")?,
+    }
+    eprintln!(rt; "{} ns", taken.as_nanos())?;
     Ok(())
 }
 
@@ -88,6 +119,11 @@ fn main(rt: HostRuntime) -> Result<()> {
     let words: Vec<String> = std::env::args(&rt)?.collect(rt.alloc())?;
     match words.as_slice() {
         [_, task, file] => read(&rt, task.as_str(), file.as_str()),
-        _ => bail!("lex FILE, lef FILE or def FILE"),
+        [_, task, lef, def] if task.as_str() == "load" => {
+            let lef = fs::read(&rt, lef.as_str())?;
+            let def = fs::read(&rt, def.as_str())?;
+            load_design(&rt, &lef, &def)
+        }
+        _ => bail!("lex FILE, lef FILE, def FILE or load LEF DEF"),
     }
 }
