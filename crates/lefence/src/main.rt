@@ -1,12 +1,18 @@
 //! The program `lefence`: it hands its words and the standard streams to `lf_app`.
 #![tactic(auto)]
 
+use lf_app::UsageFault;
 use std::alloc::{AllocError, Global};
 use std::io;
 use std::process::ExitCode;
 
-/// The exit status where the words name no task.
-const USAGE: u8 = 2;
+/// The exit status where the words name no task, or memory for them was refused.
+fn usage_status(fault: UsageFault) -> u8 {
+    match fault {
+        UsageFault::Usage => 2,
+        UsageFault::OutOfMemory => 1,
+    }
+}
 
 /// The words of the command line as texts.
 fn words_of(alloc: Global, words: &[String]) -> Result<Vec<&str>, AllocError> {
@@ -20,16 +26,16 @@ fn words_of(alloc: Global, words: &[String]) -> Result<Vec<&str>, AllocError> {
 fn main(rt: HostRuntime) -> io::Result<ExitCode> {
     let words: Vec<String> = std::env::args(&rt)?.collect(rt.alloc())?;
     let texts = words_of(rt.alloc(), words.as_slice())?;
-    match lf_app::command_of(texts.as_slice()) {
+    match lf_app::command_of(rt.alloc(), texts.as_slice()) {
         Ok(task) => {
             let mut reader = rt.reader();
             let mut writer = io::writer(&rt);
             let mut faults = rt.stderr();
-            Ok(ExitCode::from(lf_app::perform(&rt, task, &mut reader, &mut writer, &mut faults)))
+            Ok(ExitCode::from(lf_app::perform(&rt, &task, &mut reader, &mut writer, &mut faults)))
         }
         Err(fault) => {
             eprintln!(rt; "lefence: {fault}")?;
-            Ok(ExitCode::from(USAGE))
+            Ok(ExitCode::from(usage_status(fault)))
         }
     }
 }

@@ -1,15 +1,24 @@
 //! The words of the command line.
 
-ghost use Rattle.std.specs.Prelude.{◌≡◌, map};
-ghost use Rattle.lf_app.specs.Command.{task_of};
+ghost use Rattle.std.specs.Prelude.{◌≡◌, true, Some, map, option_and_then, IfOk};
+ghost use Rattle.lf_app.specs.Command.{as_job, is_option, job_of, paths_of, replay_of};
 
+use clap::error::ErrorKind;
+use clap::{Arg, ArgAction, ArgMatches, Command};
+use lf_units::Sequence;
+use std::alloc::{AllocError, Global};
 use thiserror::Error;
 
 /// What the program is to do.
-#[derive(Clone, Copy, Debug, PartialEq, Eq)]
-pub enum Task {
-    /// Answers the lines of standard input over the built-in design.
+#[derive(Drop)]
+pub enum Task<'a> {
+    /// Answers the lines of standard input over the design that the program holds.
     Demo,
+    /// Answers the lines of standard input over the design of a DEF text and of LEF texts, given by paths.
+    Replay {
+        def: &'a str,
+        lefs: Sequence<&'a str>,
+    },
 }
 
 /// Why the words name no task.
@@ -18,17 +27,142 @@ pub enum UsageFault {
     /// They are no command of the program.
     #[error("usage")]
     Usage,
+    /// A growth of memory was refused.
+    #[error("24 OutOfMemory")]
+    OutOfMemory,
 }
 
-/// The task that the words name; the first of them is the program's name, and that name alone is the demo.
-pub fn command_of(words: &[&str]) -> Result<Task, UsageFault>
-    ensures { result ≡ task_of (map (λ word. word.now) words.now) }
+/// The subcommand `replay`, with the path of one DEF text and those of the LEF texts.
+fn replay<'a>(alloc: Global) -> Result<Command<'a>, AllocError> {
+    let def = Arg::new(alloc, "def").required(true);
+    let lefs = Arg::new(alloc, "lef")
+        .required(true)
+        .num_args(1..)
+        .action(ArgAction::Append);
+    Command::new(alloc, "replay").arg(def)?.arg(lefs)
+}
+
+/// The command line that the program takes.
+fn command<'a>(alloc: Global) -> Result<Command<'a>, AllocError> {
+    Command::new(alloc, "lefence")
+        .subcommand(Command::new(alloc, "demo"))?
+        .subcommand(replay(alloc)?)
+}
+
+/// Whether the word begins with '-' and goes on.
+fn is_option(word: &str) -> bool
+    ensures { result ≡ is_option word.now }
+{
+    match word.as_bytes() {
+        [b'-', _, ..] => true,
+        _ => false,
+    }
+}
+
+/// Whether these are the paths that the words are.
+fn are_paths(words: &[&str], paths: &[&str]) -> bool
+    ensures { result ≡ true → paths_of (map (λ word. word.now) words.now) ≡ Some (map (λ path. path.now) paths.now) }
+{
+    let mut rest = words;
+    let mut left = paths;
+    while let Some((word, behind)) = rest.split_first() {
+        if *word == "--" {
+            return behind == left;
+        }
+        if is_option(word) {
+            return false;
+        }
+        let Some((path, others)) = left.split_first() else {
+            return false;
+        };
+        if *word != *path {
+            return false;
+        }
+        rest = behind;
+        left = others;
+    }
+    left.is_empty()
+}
+
+/// The paths of the arguments `def` and `lef`; without them, none.
+fn paths_in<'a>(alloc: Global, matches: &ArgMatches<'a>) -> Result<Vec<&'a str>, AllocError> {
+    let mut paths = Vec::new(alloc);
+    if let Some(def) = matches.get_str("def") {
+        paths.push(def)?;
+    }
+    if let Some(lefs) = matches.get_strs("lef") {
+        paths.extend_from_slice(lefs)?;
+    }
+    Ok(paths)
+}
+
+/// The replay of these words, as `clap` has read them: its answer is tested against the words.
+fn replay_of<'a>(
+    alloc: Global,
+    words: &[&str],
+    matches: &ArgMatches<'a>,
+) -> Result<Task<'a>, UsageFault>
+    ensures { IfOk result (λ task. option_and_then replay_of (paths_of (map (λ word. word.now) words.now)) ≡ Some (as_job task)) }
+{
+    let Ok(paths) = paths_in(alloc, matches) else {
+        return Err(UsageFault::OutOfMemory);
+    };
+    if !are_paths(words, paths.as_slice()) {
+        return Err(UsageFault::Usage);
+    }
+    let Some((def, lefs)) = paths.split_first() else {
+        return Err(UsageFault::Usage);
+    };
+    if lefs.is_empty() {
+        return Err(UsageFault::Usage);
+    }
+    match Vec::from_slice(alloc, lefs) {
+        Ok(lefs) => Ok(Task::Replay {
+            def: *def,
+            lefs: Sequence::from_vec(lefs),
+        }),
+        Err(_) => Err(UsageFault::OutOfMemory),
+    }
+}
+
+/// The task of these words, as `clap` has read them.
+fn task_of<'a>(
+    alloc: Global,
+    words: &[&str],
+    matches: &ArgMatches<'a>,
+) -> Result<Task<'a>, UsageFault>
+    ensures { IfOk result (λ task. job_of (map (λ word. word.now) words.now) ≡ Some (as_job task)) }
 {
     if words.len() <= 1 {
         return Ok(Task::Demo);
     }
-    if words.len() == 2 && words[1] == "demo" {
-        return Ok(Task::Demo);
+    if words.len() == 2 {
+        if words[1] == "demo" {
+            return Ok(Task::Demo);
+        }
+        return Err(UsageFault::Usage);
     }
-    Err(UsageFault::Usage)
+    if words[1] != "replay" {
+        return Err(UsageFault::Usage);
+    }
+    match matches.subcommand() {
+        Some((_, inner)) => replay_of(alloc, &words[2..], inner),
+        None => Err(UsageFault::Usage),
+    }
+}
+
+/// The task that the words name; the first of them is the program's name, and that name alone is the demo.
+///
+/// Words for help and for the version are usage faults as any others are. Behind `--` a path may begin with '-'.
+pub fn command_of<'a>(alloc: Global, words: &'a [&'a str]) -> Result<Task<'a>, UsageFault>
+    ensures { IfOk result (λ task. job_of (map (λ word. word.now) words.now) ≡ Some (as_job task)) }
+{
+    let Ok(command) = command(alloc) else {
+        return Err(UsageFault::OutOfMemory);
+    };
+    match command.try_get_matches_from(words) {
+        Ok(matches) => task_of(alloc, words, &matches),
+        Err(error) if error.kind() == ErrorKind::OutOfMemory => Err(UsageFault::OutOfMemory),
+        Err(_) => Err(UsageFault::Usage),
+    }
 }

@@ -9,6 +9,7 @@ mod fence_refusals;
 mod frame;
 mod laws;
 mod limits;
+mod loading;
 mod loaded;
 mod measure;
 mod parts;
@@ -31,6 +32,7 @@ pub use laws::{
 };
 pub use lf_lef::{Macro, Site};
 pub use limits::Limits;
+pub use loading::load;
 pub use loaded::{Cell, Loaded};
 pub use parts::{Header, Row, Team};
 pub use place::Place;
