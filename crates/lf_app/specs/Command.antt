@@ -1,5 +1,5 @@
 -- The jobs that the words of a command line name.
-use Rattle.std.specs.Prelude.{ℕ, Bool, true, false, List, [], ◌∷◌, map, Option, Some, None, option_map, option_and_then, bytes_eq, codes, if◌then◌else◌}
+use Rattle.std.specs.Prelude.{◌==◌, ℕ, Bool, true, false, List, [], ◌∷◌, map, Option, Some, None, option_map, option_and_then, bytes_eq, codes, if◌then◌else◌}
 use Rattle.lf_app.specs.declared.command.Task.{Task}
 use Rattle.lf_app.specs.declared.command.Task.TheVariants.{Demo, Replay}
 
@@ -10,7 +10,7 @@ pub data Job : Type 0 where
 
 -- a word that begins with '-' and goes on is an option
 abbrev pub is_option : List ℕ → Bool
-is_option (45 ∷ next ∷ rest) = true
+is_option (first ∷ next ∷ rest) = first == 45
 is_option _ = false
 
 -- the paths that words are: each word is one; there are no options, but behind the first '--' any word is a path

@@ -54,34 +54,37 @@ fn is_option(word: &str) -> bool
     ensures { result ≡ is_option word.now }
 {
     match word.as_bytes() {
-        [b'-', _, ..] => true,
+        [first, _, ..] => *first == b'-',
         _ => false,
     }
+}
+
+/// Whether the two lists hold the same texts.
+fn are_same(left: &[&str], right: &[&str]) -> bool
+    ensures { result ≡ true → map (λ text. text.now) left.now ≡ map (λ text. text.now) right.now }
+{
+    left == right
 }
 
 /// Whether these are the paths that the words are.
 fn are_paths(words: &[&str], paths: &[&str]) -> bool
     ensures { result ≡ true → paths_of (map (λ word. word.now) words.now) ≡ Some (map (λ path. path.now) paths.now) }
 {
-    let mut rest = words;
-    let mut left = paths;
-    while let Some((word, behind)) = rest.split_first() {
+    for (i, word) in words.iter().enumerate() {
         if *word == "--" {
-            return behind == left;
+            return are_same(&words[i + 1..], &paths[i..]);
         }
         if is_option(word) {
             return false;
         }
-        let Some((path, others)) = left.split_first() else {
+        let Some(path) = paths.get(i) else {
             return false;
         };
         if *word != *path {
             return false;
         }
-        rest = behind;
-        left = others;
     }
-    left.is_empty()
+    paths.len() == words.len()
 }
 
 /// The paths of the arguments `def` and `lef`; without them, none.
