@@ -42,5 +42,5 @@ goes_on words paths i d path lw lp at no_end no_option differ rest =
     let same : word.now ≡ path.now = (bytes_eq-Decides word.now path.now).0 (is_true _ differ) in
     let front : drop i words ≡ word ∷ drop (i + 1) words = drop-cons words i d lw ∙ ap (λ n. word ∷ drop n words) (suc-eq-add-one i) in
     let ahead : drop i paths ≡ path ∷ drop (i + 1) paths =
-        drop-cons paths i path lp ∙ ap₂ (λ p n. p ∷ drop n paths) (sym at) (suc-eq-add-one i) in
+    drop-cons paths i path lp ∙ ap₂ (λ p n. p ∷ drop n paths) (sym at) (suc-eq-add-one i) in
     rw (front, ahead) (one_more word path (drop (i + 1) words) (drop (i + 1) paths) no_end no_option same rest)

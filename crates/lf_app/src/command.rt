@@ -1,6 +1,10 @@
 //! The words of the command line.
 
-ghost use Rattle.std.specs.Prelude.{◌≡◌, true, Some, map, option_and_then, IfOk};
+ghost use Rattle.std.specs.Prelude.{◌≡◌, true, false, Some, map, option_and_then, IfOk};
+ghost use Rattle.clap.specs.Simple.{app_of};
+ghost use Rattle.clap.specs.Walk.{rule_of};
+ghost use Rattle.clap.specs.declared.builder.command.Command.TheViews.{out-Command};
+ghost use Rattle.lf_app.specs.CommandLine.{command_line, def_rule, lef_rule, replay_line};
 ghost use Rattle.lf_app.specs.Command.{as_job, is_option, job_of, paths_of, replay_of};
 
 use clap::error::ErrorKind;
@@ -32,18 +36,39 @@ pub enum UsageFault {
     OutOfMemory,
 }
 
-/// The subcommand `replay`, with the path of one DEF text and those of the LEF texts.
-fn replay<'a>(alloc: Global) -> Result<Command<'a>, AllocError> {
-    let def = Arg::new(alloc, "def").required(true);
-    let lefs = Arg::new(alloc, "lef")
+/// The path of the DEF text.
+fn def_path<'a>(alloc: Global) -> Arg<'a>
+    ensures rule { rule_of result ≡ def_rule }
+    ensures local { result.global ≡ false }
+{
+    Arg::new(alloc, "def").required(true)
+}
+
+/// The paths of the LEF texts, one at least.
+fn lef_paths<'a>(alloc: Global) -> Arg<'a>
+    ensures rule { rule_of result ≡ lef_rule }
+    ensures local { result.global ≡ false }
+{
+    Arg::new(alloc, "lef")
         .required(true)
         .num_args(1..)
-        .action(ArgAction::Append);
-    Command::new(alloc, "replay").arg(def)?.arg(lefs)
+        .action(ArgAction::Append)
+}
+
+/// The subcommand `replay`.
+fn replay<'a>(alloc: Global) -> Result<Command<'a>, AllocError>
+    ensures line { IfOk result (λ made. app_of made ≡ replay_line) }
+    ensures local { IfOk result (λ made. (out-Command made).has_globals ≡ false) }
+{
+    Command::new(alloc, "replay")
+        .arg(def_path(alloc))?
+        .arg(lef_paths(alloc))
 }
 
 /// The command line that the program takes.
-fn command<'a>(alloc: Global) -> Result<Command<'a>, AllocError> {
+fn command<'a>(alloc: Global) -> Result<Command<'a>, AllocError>
+    ensures { IfOk result (λ made. app_of made ≡ command_line) }
+{
     Command::new(alloc, "lefence")
         .subcommand(Command::new(alloc, "demo"))?
         .subcommand(replay(alloc)?)

@@ -4,9 +4,10 @@ use std::alloc::{Allocator, Global};
 use std::fs::{Metadata, OpenFile, OpenOptions};
 use std::io;
 use std::io::{Read, Seek, SeekFrom, Write};
-use std::rt::{Alloc, Files};
+use std::rt::Files;
 
 /// The files, each a path and its bytes; a file without bytes can be opened and not read, as a folder can.
+#[derive(Drop)]
 pub struct Shelf<'a> {
     pub alloc: Global,
     pub files: &'a [(&'a str, Option<&'a [u8]>)],

@@ -191,7 +191,8 @@ fn with_line(
 }
 
 /// What a replay of `w.def` and the LEF files does: its exit status, what it writes and what it tells of faults.
-struct Replayed {
+#[derive(Drop)]
+struct Run {
     status: u8,
     written: Vec<u8>,
     faults: Vec<u8>,
@@ -203,7 +204,7 @@ fn replayed(
     files: &[(&str, Option<&[u8]>)],
     lefs: &[&str],
     input: &str,
-) -> Result<Replayed, AllocError> {
+) -> Result<Run, AllocError> {
     let shelf = Shelf { alloc, files };
     let task = Task::Replay {
         def: "w.def",
@@ -213,7 +214,7 @@ fn replayed(
     let mut written = Vec::new(alloc);
     let mut faults = Vec::new(alloc);
     let status = perform(&shelf, &task, &mut reader, &mut written, &mut faults);
-    Ok(Replayed {
+    Ok(Run {
         status,
         written,
         faults,
@@ -239,7 +240,10 @@ fn a_design_of_files_is_replayed(rt: HostRuntime) -> Result<(), Fail> {
     let run = replayed(rt.alloc(), files.as_slice(), ["w.lef"].as_slice(), input)?;
     assert_eq!(rt; run.status, 0);
     assert_eq!(rt; run.faults.as_slice(), b"".as_slice());
-    assert_eq!(rt; run.written.as_slice(), b"ok 0 0\nok 1\nok 0 0 N\n".as_slice());
+    assert_eq!(rt;
+        run.written.as_slice(),
+        b"ok 0 0\nok 1\nok 0 0 N\n".as_slice()
+    );
     Ok(())
 }
 
@@ -295,7 +299,15 @@ fn a_file_that_cannot_be_read_is_a_fault(rt: HostRuntime) -> Result<(), Fail> {
     let fault = "lefence: File\n";
     assert!(rt; ends(rt.alloc(), files.as_slice(), ["w.lef"].as_slice(), 3, fault)?);
     assert!(rt; ends(rt.alloc(), files.as_slice(), ["x.lef"].as_slice(), 3, fault)?);
-    assert!(rt; ends(rt.alloc(), files.as_slice(), ["folder"].as_slice(), 3, fault)?);
+    assert!(rt;
+        ends(
+            rt.alloc(),
+            files.as_slice(),
+            ["folder"].as_slice(),
+            3,
+            fault
+        )?
+    );
     Ok(())
 }
 
@@ -306,8 +318,18 @@ fn is_usage(alloc: Global, words: &[&str]) -> bool {
 
 #[test]
 fn words_name_the_demo(rt: HostRuntime) {
-    assert!(rt; matches!(command_of(rt.alloc(), ["lefence"].as_slice()), Ok(Task::Demo)));
-    assert!(rt; matches!(command_of(rt.alloc(), ["lefence", "demo"].as_slice()), Ok(Task::Demo)));
+    assert!(rt;
+        matches!(
+            command_of(rt.alloc(), ["lefence"].as_slice()),
+            Ok(Task::Demo)
+        )
+    );
+    assert!(rt;
+        matches!(
+            command_of(rt.alloc(), ["lefence", "demo"].as_slice()),
+            Ok(Task::Demo)
+        )
+    );
 }
 
 #[test]

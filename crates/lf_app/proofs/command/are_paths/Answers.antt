@@ -1,4 +1,5 @@
 use Rattle.std.proofs.Common.{rules, arith, sym, ◌∙◌}
+use Rattle.lf_app.proofs.Arguments.{takes_demo}
 use Rattle.lf_app.proofs.Paths.{goes_on}
 use Rattle.lf_app.proofs.command.are_paths.Goals as goal
 
