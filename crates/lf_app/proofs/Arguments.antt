@@ -1,13 +1,14 @@
 -- What the reader of arguments makes of the words of a replay.
-use Rattle.std.proofs.Common.{◌≡◌, ℕ, suc, ◌+◌, ◌≤◌, arith, ◌==◌, Bool, true, false, not, ◌&&◌, List, [], ◌∷◌, ◌++◌, map, length, Option, Some, None, option_map, codes, if◌then◌else◌, nat_le, refl, sym, ap, ap₂, subst, ◌∙◌}
-use Rattle.std.specs.Prelude.{fold}
+use Rattle.std.proofs.Common.{◌≡◌, ◌⊎◌, inl, inr, is_some, unwrap_or, ℕ, suc, ◌+◌, ◌≤◌, arith, ◌==◌, Bool, true, false, not, ◌&&◌, List, [], ◌∷◌, ◌++◌, map, length, Option, Some, None, option_map, codes, if◌then◌else◌, nat_le, refl, sym, ap, ap₂, subst, ◌∙◌}
+use Rattle.std.specs.Prelude.{fold, ⊤}
 use Rattle.std.specs.List.{list_all}
 use Rattle.std.specs.Str.{bytes_eq}
-use Rattle.std.proofs.lemmas.Bool.{false≢true}
-use Rattle.std.proofs.lemmas.List.{append_assoc}
-use Rattle.clap.specs.Lexer.{long_of, short_of}
+use Rattle.std.proofs.lemmas.Bool.{false≢true, le-leb}
+use Rattle.std.proofs.lemmas.List.{append_assoc, append-nil}
+use Rattle.std.proofs.lemmas.Slice.Eq.{bytes_eq-Decides}
+use Rattle.clap.specs.Lexer.{long_of, short_of, usize_max}
 use Rattle.clap.specs.Walk.{Held, Names, Row, Rule, Text, Walk, finished, idle, nothing_held, positional, walk, walk_from, walked}
-use Rattle.clap.specs.Simple.{App, Shape, built, built_leaf, is_simple, names_of}
+use Rattle.clap.specs.Simple.{Shape, built, built_leaf, entered, names_of, subcommand_of}
 use Rattle.clap.specs.Takes.{default_passes, entered_passes, is_valid, level_passes, settle_passes, takes, turn_passes, walk_passes}
 use Rattle.clap.specs.Values.{reading_of}
 use Rattle.clap.specs.declared.builder.value_parser.ValueParser.TheVariants as parser
@@ -49,6 +50,42 @@ long_none (x ∷ []) e = by (x == 45) refl
     by false is = rw is refl
 long_none (x ∷ y ∷ rest) e = rw e refl
 
+short_none : (word : Text) → is_option word ≡ false → short_of word ≡ None
+short_none [] e = refl
+short_none (x ∷ []) e = by (x == 45) refl
+  where
+    by : (b : Bool) → (x == 45) ≡ b → short_of (x ∷ []) ≡ None
+    by true is = rw is refl
+    by false is = rw is refl
+short_none (x ∷ y ∷ rest) e = rw e refl
+
+is_path : (word : Text) → bytes_eq word (codes "--") ≡ false → is_option word ≡ false → IsPath word
+is_path word end no_option = record { end = end; long = long_none word no_option; short = short_none word no_option }
+
+-- the words are these paths
+abbrev Paths : List Text → List Text → Type 0
+Paths [] paths = paths ≡ []
+Paths (word ∷ words) paths = ((word ≡ codes "--") × (paths ≡ words)) ⊎ ((behind : List Text) × (paths ≡ word ∷ behind) × IsPath word × Paths words behind)
+
+split_by : (word : Text) (words paths : List Text) → ((behind : List Text) → paths_of words ≡ Some behind → Paths words behind) → paths_of (word ∷ words) ≡ Some paths
+    → (b : Bool) → bytes_eq word (codes "--") ≡ b → (o : Bool) → is_option word ≡ o → (r : Option (List Text)) → paths_of words ≡ r → Paths (word ∷ words) paths
+split_by word words paths deeper e true is o as_option r found =
+    let same : Some words ≡ Some paths = subst (λ (t : Bool). (if t then Some words else if is_option word then None else option_map (λ ps. word ∷ ps) (paths_of words)) ≡ Some paths) is e in
+    inl ((bytes_eq-Decides word (codes "--")).0 is, sym (ap (λ q. unwrap_or q words) same))
+split_by word words paths deeper e false is true as_option r found =
+    let same : None ≡ Some paths = sym (rw (is, as_option) refl) ∙ e in
+    absurd (false≢true (ap is_some same))
+split_by word words paths deeper e false is false as_option None found =
+    let same : None ≡ Some paths = sym (rw (is, as_option, found) refl) ∙ e in
+    absurd (false≢true (ap is_some same))
+split_by word words paths deeper e false is false as_option (Some behind) found =
+    let same : Some (word ∷ behind) ≡ Some paths = sym (rw (is, as_option, found) refl) ∙ e in
+    inr (behind, sym (ap (λ q. unwrap_or q (word ∷ behind)) same), is_path word is as_option, deeper behind found)
+
+split : (words paths : List Text) → paths_of words ≡ Some paths → Paths words paths
+split [] paths e = sym (ap (λ q. unwrap_or q []) e)
+split (word ∷ words) paths e = split_by word words paths (split words) e (bytes_eq word (codes "--")) refl (is_option word) refl (paths_of words) refl
+
 -- ---- the walk over the words of a replay
 
 abbrev start : Bool → Walk
@@ -74,6 +111,9 @@ lefs_read trailing def lefs = record {
   is_trailing = trailing;
   stopped = None;
 }
+
+abbrev lef_row : List Text → Row
+lef_row lefs = record { id = codes "lef"; values = lefs; count = None; source = Some CommandLine; reading = reading_of parser.String }
 
 -- the words lead from one state of the walk to another, and pass
 record Leads (from : Walk) (words : List Text) (to : Walk) : Type 0 where
@@ -117,9 +157,9 @@ unfolding clap_on_literals
 end_lefs def lefs = refl
 
 -- each of these turns passes
-turn_path : (w : Walk) (word : Text) → IsPath word → (w ≡ start false) → turn_passes shape [] w word ≡ true
+turn_path : (word : Text) → IsPath word → turn_passes shape [] (start false) word ≡ true
 unfolding clap_on_literals
-turn_path w word h is = rw (is, h.end, h.long, h.short) refl
+turn_path word h = rw (h.end, h.long, h.short) refl
 
 turn_path_def : (def word : Text) → IsPath word → turn_passes shape [] (def_read false def) word ≡ true
 unfolding clap_on_literals
@@ -165,3 +205,164 @@ leads from next word words to one turn rest = record {
 stays : (w : Walk) → Leads w [] w
 unfolding clap_on_literals
 stays w = record { walks = refl; passes = refl }
+
+-- ---- all the words of a replay
+
+trail_lefs : (words : List Text) (def : Text) (lefs : List Text) → Leads (lefs_read true def lefs) words (lefs_read true def (lefs ++ words))
+trail_lefs [] def lefs = subst (λ ls. Leads (lefs_read true def lefs) [] (lefs_read true def ls)) (sym (append-nil lefs)) (stays (lefs_read true def lefs))
+trail_lefs (word ∷ words) def lefs =
+    leads (lefs_read true def lefs) (lefs_read true def (lefs ++ word ∷ [])) word words _ (step_lefs def word lefs) (turn_lefs def word lefs)
+    (subst (λ ls. Leads (lefs_read true def (lefs ++ word ∷ [])) words (lefs_read true def ls)) (append_assoc lefs (word ∷ []) words) (trail_lefs words def (lefs ++ word ∷ [])))
+
+-- the words lead to the state in which these paths are read
+abbrev Ends : Text → List Text → Walk → List Text → Type 0
+Ends def lefs from words = (trailing : Bool) × Leads from words (lefs_read trailing def lefs)
+
+ends_lefs : (words : List Text) (def : Text) (lefs paths : List Text) → Paths words paths → Ends def (lefs ++ paths) (lefs_read false def lefs) words
+ends_lefs [] def lefs paths e = (
+  false,
+  subst (λ ps. Leads (lefs_read false def lefs) [] (lefs_read false def (lefs ++ ps))) (sym e)
+      (subst (λ ls. Leads (lefs_read false def lefs) [] (lefs_read false def ls)) (sym (append-nil lefs)) (stays (lefs_read false def lefs))),
+)
+ends_lefs (word ∷ words) def lefs paths (inl (is, e)) = (
+  true,
+  rw (is, e) (leads (lefs_read false def lefs) (lefs_read true def lefs) (codes "--") words _ (end_lefs def lefs) (turn_end_lefs def lefs) (trail_lefs words def lefs)),
+)
+ends_lefs (word ∷ words) def lefs paths (inr (behind, e, path, more)) =
+    let rest = ends_lefs words def (lefs ++ word ∷ []) behind more in (
+      rest.0,
+      rw e (leads (lefs_read false def lefs) (lefs_read false def (lefs ++ word ∷ [])) word words _ (path_lefs def word lefs path) (turn_path_lefs def word lefs path)
+          (subst (λ ls. Leads (lefs_read false def (lefs ++ word ∷ [])) words (lefs_read rest.0 def ls)) (append_assoc lefs (word ∷ []) behind) rest.1)),
+    )
+
+abbrev DefEnds : Text → List Text → Walk → List Text → Type 0
+DefEnds def [] from words = ⊤
+DefEnds def (lef ∷ lefs) from words = Ends def (lef ∷ lefs) from words
+
+trail_def : (words : List Text) (def : Text) → DefEnds def words (def_read true def) words
+trail_def [] def = tt
+trail_def (lef ∷ lefs) def = (true, leads (def_read true def) (lefs_read true def (lef ∷ [])) lef lefs _ (step_def def lef) (turn_def def lef) (trail_lefs lefs def (lef ∷ [])))
+
+one_def : (word : Text) (words paths : List Text) (def : Text) (from next : Walk) → walked shape.rules [] from word ≡ next → turn_passes shape [] from word ≡ true
+    → DefEnds def paths next words → DefEnds def paths from (word ∷ words)
+one_def word words [] def from next one turn h = tt
+one_def word words (lef ∷ lefs) def from next one turn h = (h.0, leads from next word words _ one turn h.1)
+
+ends_def : (words : List Text) (def : Text) (paths : List Text) → Paths words paths → DefEnds def paths (def_read false def) words
+ends_def [] def paths e = subst (λ ps. DefEnds def ps (def_read false def) []) (sym e) tt
+ends_def (word ∷ words) def paths (inl (is, e)) = rw (is, e) (one_def (codes "--") words words def (def_read false def) (def_read true def) (end_def def) (turn_end_def def) (trail_def words def))
+ends_def (word ∷ words) def paths (inr (behind, e, path, more)) =
+    let rest = ends_lefs words def (word ∷ []) behind more in
+    subst (λ ps. DefEnds def ps (def_read false def) (word ∷ words)) (sym e)
+    (rest.0, leads (def_read false def) (lefs_read false def (word ∷ [])) word words _ (path_def def word path) (turn_path_def def word path) rest.1)
+
+abbrev StartEnds : List Text → Walk → List Text → Type 0
+StartEnds [] from words = ⊤
+StartEnds (def ∷ paths) from words = DefEnds def paths from words
+
+trail_start : (words : List Text) → StartEnds words (start true) words
+trail_start [] = tt
+trail_start (def ∷ words) = one_def def words words def (start true) (def_read true def) (step_start def) (turn_start def) (trail_def words def)
+
+one_start : (word : Text) (words paths : List Text) (from next : Walk) → walked shape.rules [] from word ≡ next → turn_passes shape [] from word ≡ true
+    → StartEnds paths next words → StartEnds paths from (word ∷ words)
+one_start word words [] from next one turn h = tt
+one_start word words (def ∷ paths) from next one turn h = one_def word words paths def from next one turn h
+
+ends_start : (words paths : List Text) → Paths words paths → StartEnds paths (start false) words
+ends_start [] paths e = subst (λ ps. StartEnds ps (start false) []) (sym e) tt
+ends_start (word ∷ words) paths (inl (is, e)) = rw (is, e) (one_start (codes "--") words words (start false) (start true) end_start turn_end_start (trail_start words))
+ends_start (word ∷ words) paths (inr (behind, e, path, more)) = subst (λ ps. StartEnds ps (start false) (word ∷ words)) (sym e)
+    (one_def word words behind word (start false) (def_read false word) (path_start word path) (turn_path word path) (ends_def words word behind more))
+
+-- ---- the level of 'replay'
+
+-- what is left to pass once the words are read
+abbrev closes : Walk → Bool
+closes w = settle_passes shape.rules shape.args_override_self w.held && (list_all default_passes shape.rules && is_valid shape (finished shape.rules w.held) false)
+
+closes_lefs : (trailing : Bool) (def lef : Text) (lefs : List Text) → nat_le (length (lef ∷ lefs)) usize_max ≡ true → nat_le 1 (length (lef ∷ lefs)) ≡ true → list_all (λ value. true) lefs ≡ true
+    → closes (lefs_read trailing def (lef ∷ lefs)) ≡ true
+unfolding clap_on_literals
+closes_lefs trailing def lef lefs most least all = rw (most, least, all) refl
+
+every : (lefs : List Text) → list_all (λ value. true) lefs ≡ true
+every [] = refl
+every (lef ∷ lefs) = every lefs
+
+rows_lefs : (trailing : Bool) (def lef : Text) (lefs : List Text) → finished shape.rules (lefs_read trailing def (lef ∷ lefs)).held ≡ def_row def ∷ lef_row (lef ∷ lefs) ∷ []
+unfolding clap_on_literals
+rows_lefs trailing def lef lefs = refl
+
+level_passes_all : (words : List Text) (w : Walk) → Leads (start false) words w → closes w ≡ true → level_passes shape [] nothing_held words false ≡ true
+unfolding clap_on_literals
+level_passes_all words w h closed = rw (h.walks, h.passes, closed) refl
+
+-- ---- the level of the program
+
+abbrev top : Shape
+top = (built command_line).top
+
+abbrev names : Names
+names = names_of (built command_line)
+
+abbrev stopped_at : List Text → Walk
+stopped_at words = record (start false) { stopped = Some (codes "replay", words) }
+
+behind_replay : (words before : List Text) → fold (walked top.rules names) (stopped_at before) words ≡ stopped_at (before ++ words)
+unfolding clap_on_literals
+behind_replay [] before = ap stopped_at (sym (append-nil before))
+behind_replay (word ∷ words) before = behind_replay words (before ++ word ∷ []) ∙ ap stopped_at (append_assoc before (word ∷ []) words)
+
+passes_behind : (words before : List Text) → walk_passes top names (stopped_at before) words ≡ true
+unfolding clap_on_literals
+passes_behind [] before = refl
+passes_behind (word ∷ words) before = passes_behind words (before ++ word ∷ [])
+
+top_walk : (words : List Text) → walk top.rules names nothing_held (codes "replay" ∷ words) ≡ stopped_at words
+unfolding clap_on_literals
+top_walk words = behind_replay words []
+
+top_passes : (words : List Text) → walk_passes top names (start false) (codes "replay" ∷ words) ≡ true
+unfolding clap_on_literals
+top_passes words = passes_behind words []
+
+-- what is left to pass where the walk over the program's words has come to this
+abbrev top_closes : List Text → Walk → Bool
+top_closes words w = entered_passes (built command_line) w.stopped
+    && (walk_passes top names (start false) (codes "replay" ∷ words)
+    && (settle_passes top.rules top.args_override_self w.held && (list_all default_passes top.rules
+    && is_valid top (finished top.rules w.held) (is_some (entered (built command_line) w.stopped)))))
+
+takes_is : (name : Text) (words : List Text) → takes command_line (name ∷ codes "replay" ∷ words) ≡ top_closes words (walk top.rules names nothing_held (codes "replay" ∷ words))
+unfolding clap_on_literals
+takes_is name words = refl
+
+closes_at : (words : List Text) → level_passes shape [] nothing_held words false ≡ true → top_closes words (stopped_at words) ≡ true
+unfolding clap_on_literals
+closes_at words level = ap₂ (λ (a b : Bool). a && (b && true)) level (top_passes words)
+
+closed_lefs : (trailing : Bool) (def lef : Text) (lefs : List Text) → length (lef ∷ lefs) ≤ usize_max → closes (lefs_read trailing def (lef ∷ lefs)) ≡ true
+closed_lefs trailing def lef lefs few =
+    closes_lefs trailing def lef lefs (le-leb (length (lef ∷ lefs)) usize_max few) (le-leb 1 (length (lef ∷ lefs)) (omega arith)) (every lefs)
+
+-- a replay's words are taken
+pub takes_replay : (name def lef : Text) (words lefs : List Text) → paths_of words ≡ Some (def ∷ lef ∷ lefs) → length (lef ∷ lefs) ≤ usize_max
+    → takes command_line (name ∷ codes "replay" ∷ words) ≡ true
+takes_replay name def lef words lefs paths few =
+    let ends = ends_start words (def ∷ lef ∷ lefs) (split words (def ∷ lef ∷ lefs) paths) in
+    takes_is name words ∙ ap (top_closes words) (top_walk words)
+    ∙ closes_at words (level_passes_all words (lefs_read ends.0 def (lef ∷ lefs)) ends.1 (closed_lefs ends.0 def lef lefs few))
+
+entered_is : (words : List Text) → entered (built command_line) (Some (codes "replay", words)) ≡ Some (codes "replay", finished shape.rules (walk shape.rules [] nothing_held words).held)
+unfolding clap_on_literals
+entered_is words = refl
+
+-- and give the paths their rows
+pub replay_rows : (name def lef : Text) (words lefs : List Text) → paths_of words ≡ Some (def ∷ lef ∷ lefs)
+    → subcommand_of command_line (name ∷ codes "replay" ∷ words) ≡ Some (codes "replay", def_row def ∷ lef_row (lef ∷ lefs) ∷ [])
+replay_rows name def lef words lefs paths =
+    let ends = ends_start words (def ∷ lef ∷ lefs) (split words (def ∷ lef ∷ lefs) paths) in
+    ap (λ (w : Walk). entered (built command_line) w.stopped) (top_walk words) ∙ entered_is words
+    ∙ ap (λ (w : Walk). Some (codes "replay", finished shape.rules w.held)) ends.1.walks
+    ∙ ap (λ (rows : List Row). Some (codes "replay", rows)) (rows_lefs ends.0 def lef lefs)
