@@ -1,6 +1,6 @@
 -- What the reader of arguments makes of the words of a replay.
-use Rattle.std.proofs.Common.{◌≡◌, ◌⊎◌, inl, inr, is_some, unwrap_or, ℕ, suc, ◌+◌, ◌≤◌, arith, ◌==◌, Bool, true, false, not, ◌&&◌, List, [], ◌∷◌, ◌++◌, map, length, Option, Some, None, option_map, codes, if◌then◌else◌, nat_le, refl, sym, ap, ap₂, subst, ◌∙◌}
-use Rattle.std.specs.Prelude.{fold, ⊤}
+use Rattle.std.proofs.Common.{◌≡◌, ◌⊎◌, inl, inr, is_some, unwrap_or, ℕ, suc, ◌+◌, ◌<◌, ◌≤◌, drop, arith, ◌==◌, Bool, true, false, not, ◌&&◌, List, [], ◌∷◌, ◌++◌, map, length, Option, Some, None, option_map, codes, if◌then◌else◌, nat_le, refl, sym, ap, ap₂, subst, ◌∙◌}
+use Rattle.std.specs.Prelude.{fold, option_to_list, ⊤}
 use Rattle.std.specs.List.{list_all}
 use Rattle.std.specs.Str.{bytes_eq}
 use Rattle.std.proofs.lemmas.Bool.{false≢true, le-leb}
@@ -10,12 +10,13 @@ use Rattle.clap.specs.Lexer.{long_of, short_of, usize_max}
 use Rattle.clap.specs.Walk.{Held, Names, Row, Rule, Text, Walk, finished, idle, nothing_held, positional, walk, walk_from, walked}
 use Rattle.clap.specs.Simple.{Shape, built, built_leaf, entered, names_of, subcommand_of}
 use Rattle.clap.specs.Takes.{default_passes, entered_passes, is_valid, level_passes, settle_passes, takes, turn_passes, walk_passes}
-use Rattle.clap.specs.Values.{reading_of}
-use Rattle.clap.specs.declared.builder.value_parser.ValueParser.TheVariants as parser
-use Rattle.clap.specs.declared.parser.matches.ValueSource.TheVariants.{CommandLine}
+use Rattle.clap.specs.Walk.{all_of, first_of, rows_of}
+use Rattle.clap.specs.Matches.{first_value, matched_of, raw_values}
+use Rattle.clap.specs.declared.parser.matches.Found.{Found}
+use Rattle.clap.proofs.WalkLemmas.{first_value-rows, raw_values-rows}
 use Rattle.clap.proofs.OnLiterals.{clap_on_literals}
-use Rattle.lf_app.specs.CommandLine.{command_line, replay_line}
-use Rattle.lf_app.specs.Command.{is_option, paths_of}
+use Rattle.lf_app.specs.CommandLine.{command_line, def_row, found_paths, lef_row, replay_line}
+use Rattle.lf_app.specs.Command.{Job, is_option, job_of, paths_of}
 
 -- ---- the demo
 
@@ -100,9 +101,6 @@ def_read trailing def = record {
   stopped = None;
 }
 
-abbrev def_row : Text → Row
-def_row def = record { id = codes "def"; values = def ∷ []; count = None; source = Some CommandLine; reading = reading_of parser.String }
-
 abbrev lefs_read : Bool → Text → List Text → Walk
 lefs_read trailing def lefs = record {
   held = record { rows = def_row def ∷ []; pending = Some (codes "lef", lefs); skip = 0 };
@@ -111,9 +109,6 @@ lefs_read trailing def lefs = record {
   is_trailing = trailing;
   stopped = None;
 }
-
-abbrev lef_row : List Text → Row
-lef_row lefs = record { id = codes "lef"; values = lefs; count = None; source = Some CommandLine; reading = reading_of parser.String }
 
 -- the words lead from one state of the walk to another, and pass
 record Leads (from : Walk) (words : List Text) (to : Walk) : Type 0 where
@@ -366,3 +361,61 @@ replay_rows name def lef words lefs paths =
     ap (λ (w : Walk). entered (built command_line) w.stopped) (top_walk words) ∙ entered_is words
     ∙ ap (λ (w : Walk). Some (codes "replay", finished shape.rules w.held)) ends.1.walks
     ∙ ap (λ (rows : List Row). Some (codes "replay", rows)) (rows_lefs ends.0 def lef lefs)
+
+-- these rows hold the paths
+pub rows_paths : (found : Found) (def : Text) (lefs : List Text) → rows_of found ≡ def_row def ∷ lef_row lefs ∷ [] → found_paths found ≡ def ∷ lefs
+rows_paths found def lefs rows =
+    ap₂ (λ (a : Option Text) (b : Option (List Text)). option_to_list a ++ unwrap_or b []) (first_value-rows found (codes "def") ∙ ap (λ (r : List Row). first_of (codes "def") r) rows)
+    (raw_values-rows found (codes "lef") ∙ ap (λ (r : List Row). all_of (codes "lef") r) rows)
+
+-- ---- all command lines
+
+few_paths : (words paths : List Text) → Paths words paths → length paths ≤ length words
+few_paths [] paths e = omega (arith, ap (λ (l : List Text). length l) e)
+few_paths (word ∷ words) paths (inl (is, e)) = omega (arith, ap (λ (l : List Text). length l) e)
+few_paths (word ∷ words) paths (inr (behind, e, path, more)) = omega (arith, ap (λ (l : List Text). length l) e, few_paths words behind more)
+
+-- a replay with these paths
+pub record IsReplay (words : List Text) : Type 0 where
+  pub def : Text
+  pub lef : Text
+  pub lefs : List Text
+  pub paths : paths_of (drop 2 words) ≡ Some (def ∷ lef ∷ lefs)
+  pub rows : subcommand_of command_line words ≡ Some (codes "replay", def_row def ∷ lef_row (lef ∷ lefs) ∷ [])
+  pub takes : length words ≤ usize_max → takes command_line words ≡ true
+
+is_replay : (name word next : Text) (rest : List Text) (job : Job) → job_of (name ∷ word ∷ next ∷ rest) ≡ Some job → (b : Bool) → bytes_eq word (codes "replay") ≡ b
+    → (r : Option (List Text)) → paths_of (next ∷ rest) ≡ r → IsReplay (name ∷ word ∷ next ∷ rest)
+is_replay name word next rest job e false is r found = let same : None ≡ Some job = sym (rw is refl) ∙ e in absurd (false≢true (ap is_some same))
+is_replay name word next rest job e true is None found = let same : None ≡ Some job = sym (rw (is, found) refl) ∙ e in absurd (false≢true (ap is_some same))
+is_replay name word next rest job e true is (Some []) found = let same : None ≡ Some job = sym (rw (is, found) refl) ∙ e in absurd (false≢true (ap is_some same))
+is_replay name word next rest job e true is (Some (def ∷ [])) found = let same : None ≡ Some job = sym (rw (is, found) refl) ∙ e in absurd (false≢true (ap is_some same))
+is_replay name word next rest job e true is (Some (def ∷ lef ∷ lefs)) found =
+    let named : word ≡ codes "replay" = (bytes_eq-Decides word (codes "replay")).0 is in
+    let few = few_paths (next ∷ rest) (def ∷ lef ∷ lefs) (split (next ∷ rest) (def ∷ lef ∷ lefs) found) in record {
+      def = def;
+      lef = lef;
+      lefs = lefs;
+      paths = found;
+      rows = ap (λ (w : Text). subcommand_of command_line (name ∷ w ∷ next ∷ rest)) named ∙ replay_rows name def lef (next ∷ rest) lefs found;
+      takes = λ all. ap (λ (w : Text). takes command_line (name ∷ w ∷ next ∷ rest)) named ∙ takes_replay name def lef (next ∷ rest) lefs found (omega (arith, all, few));
+    }
+
+-- of three words or more, a job is a replay
+pub job_is_replay : (words : List Text) (job : Job) → 2 < length words → job_of words ≡ Some job → IsReplay words
+job_is_replay [] job more e = absurd (omega (arith, more))
+job_is_replay (name ∷ []) job more e = absurd (omega (arith, more))
+job_is_replay (name ∷ word ∷ []) job more e = absurd (omega (arith, more))
+job_is_replay (name ∷ word ∷ next ∷ rest) job more e = is_replay name word next rest job e (bytes_eq word (codes "replay")) refl (paths_of (next ∷ rest)) refl
+
+takes_word : (name word : Text) (job : Job) → job_of (name ∷ word ∷ []) ≡ Some job → (b : Bool) → bytes_eq word (codes "demo") ≡ b → takes command_line (name ∷ word ∷ []) ≡ true
+takes_word name word job e false is = let same : None ≡ Some job = sym (rw is refl) ∙ e in absurd (false≢true (ap is_some same))
+takes_word name word job e true is = ap (λ (w : Text). takes command_line (name ∷ w ∷ [])) ((bytes_eq-Decides word (codes "demo")).0 is) ∙ takes_demo name
+
+-- the words of a job are taken
+pub takes_job : (words : List Text) (job : Job) → job_of words ≡ Some job → length words ≤ usize_max → takes command_line words ≡ true
+takes_job [] job e few = takes_nothing
+takes_job (name ∷ []) job e few = takes_name name
+takes_job (name ∷ word ∷ []) job e few = takes_word name word job e (bytes_eq word (codes "demo")) refl
+takes_job (name ∷ word ∷ next ∷ rest) job e few =
+    (is_replay name word next rest job e (bytes_eq word (codes "replay")) refl (paths_of (next ∷ rest)) refl).takes few

@@ -1,11 +1,13 @@
 //! The words of the command line.
 
-ghost use Rattle.std.specs.Prelude.{◌≡◌, true, false, Some, map, option_and_then, IfOk};
-ghost use Rattle.clap.specs.Simple.{app_of};
+ghost use Rattle.std.specs.Prelude.{◌≡◌, ℕ, List, ◌∷◌, false, Some, None, map, IfErr, option_and_then, IfOk, IsTrue, ◌↔◌};
+ghost use Rattle.clap.specs.Matches.{found_of};
+ghost use Rattle.clap.specs.Simple.{HasMatchesOf, app_of};
 ghost use Rattle.clap.specs.Walk.{rule_of};
 ghost use Rattle.clap.specs.declared.builder.command.Command.TheViews.{out-Command};
-ghost use Rattle.lf_app.specs.CommandLine.{command_line, def_rule, lef_rule, replay_line};
-ghost use Rattle.lf_app.specs.Command.{as_job, is_option, job_of, paths_of, replay_of};
+ghost use Rattle.lf_app.specs.declared.command.UsageFault.TheVariants.{Usage, OutOfMemory};
+ghost use Rattle.lf_app.specs.CommandLine.{command_line, def_rule, found_paths, lef_rule, replay_line};
+ghost use Rattle.lf_app.specs.Command.{Job, as_job, is_option, job_of, paths_of, replay_of};
 
 use clap::error::ErrorKind;
 use clap::{Arg, ArgAction, ArgMatches, Command};
@@ -86,14 +88,14 @@ fn is_option(word: &str) -> bool
 
 /// Whether the two lists hold the same texts.
 fn are_same(left: &[&str], right: &[&str]) -> bool
-    ensures { result ≡ true → map (λ text. text.now) left.now ≡ map (λ text. text.now) right.now }
+    ensures { IsTrue result ↔ (map (λ text. text.now) left.now ≡ map (λ text. text.now) right.now) }
 {
     left == right
 }
 
 /// Whether these are the paths that the words are.
 fn are_paths(words: &[&str], paths: &[&str]) -> bool
-    ensures { result ≡ true → paths_of (map (λ word. word.now) words.now) ≡ Some (map (λ path. path.now) paths.now) }
+    ensures { IsTrue result ↔ (paths_of (map (λ word. word.now) words.now) ≡ Some (map (λ path. path.now) paths.now)) }
 {
     for (i, word) in words.iter().enumerate() {
         if *word == "--" {
@@ -112,8 +114,10 @@ fn are_paths(words: &[&str], paths: &[&str]) -> bool
     paths.len() == words.len()
 }
 
-/// The paths of the arguments `def` and `lef`; without them, none.
-fn paths_in<'a>(alloc: Global, matches: &ArgMatches<'a>) -> Result<Vec<&'a str>, AllocError> {
+/// The paths that were found.
+fn paths_in<'a>(alloc: Global, matches: &ArgMatches<'a>) -> Result<Vec<&'a str>, AllocError>
+    ensures { IfOk result (λ paths. map (λ path. path.now) paths.items ≡ found_paths (found_of matches.now)) }
+{
     let mut paths = Vec::new(alloc);
     if let Some(def) = matches.get_str("def") {
         paths.push(def)?;
@@ -130,7 +134,9 @@ fn replay_of<'a>(
     words: &[&str],
     matches: &ArgMatches<'a>,
 ) -> Result<Task<'a>, UsageFault>
-    ensures { IfOk result (λ task. option_and_then replay_of (paths_of (map (λ word. word.now) words.now)) ≡ Some (as_job task)) }
+    ensures ok { IfOk result (λ task. option_and_then replay_of (paths_of (map (λ word. word.now) words.now)) ≡ Some (as_job task)) }
+    ensures err { (def lef : List ℕ) (lefs : List (List ℕ)) → paths_of (map (λ word. word.now) words.now) ≡ Some (def ∷ lef ∷ lefs)
+        → found_paths (found_of matches.now) ≡ def ∷ lef ∷ lefs → IfErr result (λ fault. fault ≡ OutOfMemory) }
 {
     let Ok(paths) = paths_in(alloc, matches) else {
         return Err(UsageFault::OutOfMemory);
@@ -159,7 +165,9 @@ fn task_of<'a>(
     words: &[&str],
     matches: &ArgMatches<'a>,
 ) -> Result<Task<'a>, UsageFault>
-    ensures { IfOk result (λ task. job_of (map (λ word. word.now) words.now) ≡ Some (as_job task)) }
+    ensures ok { IfOk result (λ task. job_of (map (λ word. word.now) words.now) ≡ Some (as_job task)) }
+    ensures err { (job : Job) → job_of (map (λ word. word.now) words.now) ≡ Some job
+        → HasMatchesOf command_line (map (λ word. word.now) words.now) matches.now → IfErr result (λ fault. fault ≡ OutOfMemory) }
 {
     if words.len() <= 1 {
         return Ok(Task::Demo);
@@ -183,7 +191,8 @@ fn task_of<'a>(
 ///
 /// Words for help and for the version are usage faults as any others are. Behind `--` a path may begin with '-'.
 pub fn command_of<'a>(alloc: Global, words: &'a [&'a str]) -> Result<Task<'a>, UsageFault>
-    ensures { IfOk result (λ task. job_of (map (λ word. word.now) words.now) ≡ Some (as_job task)) }
+    ensures ok { IfOk result (λ task. job_of (map (λ word. word.now) words.now) ≡ Some (as_job task)) }
+    ensures err { IfErr result (λ fault. fault ≡ Usage → job_of (map (λ word. word.now) words.now) ≡ None) }
 {
     let Ok(command) = command(alloc) else {
         return Err(UsageFault::OutOfMemory);
