@@ -1,18 +1,20 @@
 -- What the reader of arguments makes of the words of a replay.
-use Rattle.std.proofs.Common.{◌≡◌, ◌⊎◌, inl, inr, is_some, unwrap_or, ℕ, suc, ◌+◌, ◌<◌, ◌≤◌, drop, arith, ◌==◌, Bool, true, false, not, ◌&&◌, List, [], ◌∷◌, ◌++◌, map, length, Option, Some, None, option_map, codes, if◌then◌else◌, nat_le, refl, sym, ap, ap₂, subst, ◌∙◌}
+use Rattle.std.proofs.Common.{◌≡◌, ◌⊎◌, inl, inr, is_some, unwrap_or, ℕ, suc, ◌+◌, ◌<◌, ◌≤◌, ◌-◌, take, drop, slice_index_or, arith, ◌==◌, Bool, true, false, not, ◌&&◌, List, [], ◌∷◌, ◌++◌, map, length, Option, Some, None, option_map, codes, if◌then◌else◌, nat_le, refl, sym, ap, ap₂, subst, ◌∙◌}
 use Rattle.std.specs.Prelude.{fold, option_to_list, ⊤}
 use Rattle.std.specs.List.{list_all}
 use Rattle.std.specs.Str.{bytes_eq}
 use Rattle.std.proofs.lemmas.Bool.{false≢true, le-leb}
-use Rattle.std.proofs.lemmas.List.{append_assoc, append-nil}
+use Rattle.std.proofs.lemmas.List.{append_assoc, append-nil, length-drop, length-map, take_all}
 use Rattle.std.proofs.lemmas.Slice.Eq.{bytes_eq-Decides}
 use Rattle.clap.specs.Lexer.{long_of, short_of, usize_max}
 use Rattle.clap.specs.Walk.{Held, Names, Row, Rule, Text, Walk, finished, idle, nothing_held, positional, walk, walk_from, walked}
-use Rattle.clap.specs.Simple.{Shape, built, built_leaf, entered, names_of, subcommand_of}
+use Rattle.clap.specs.Simple.{HasMatchesOf, Shape, subcommand_rows_of, is_simple, built, built_leaf, entered, names_of, subcommand_of}
 use Rattle.clap.specs.Takes.{default_passes, entered_passes, is_valid, level_passes, settle_passes, takes, turn_passes, walk_passes}
 use Rattle.clap.specs.Walk.{all_of, first_of, rows_of}
-use Rattle.clap.specs.Matches.{first_value, matched_of, raw_values}
+use Rattle.clap.specs.Matches.{first_value, found_of, matched_of, raw_values}
+use Rattle.clap.specs.declared.parser.matches.ArgMatches.{ArgMatches}
 use Rattle.clap.specs.declared.parser.matches.Found.{Found}
+use Rattle.std.specs.Borrow.{Bor}
 use Rattle.clap.proofs.WalkLemmas.{first_value-rows, raw_values-rows}
 use Rattle.clap.proofs.OnLiterals.{clap_on_literals}
 use Rattle.lf_app.specs.CommandLine.{command_line, def_row, found_paths, lef_row, replay_line}
@@ -419,3 +421,62 @@ takes_job (name ∷ []) job e few = takes_name name
 takes_job (name ∷ word ∷ []) job e few = takes_word name word job e (bytes_eq word (codes "demo")) refl
 takes_job (name ∷ word ∷ next ∷ rest) job e few =
     (is_replay name word next rest job e (bytes_eq word (codes "replay")) refl (paths_of (next ∷ rest)) refl).takes few
+
+-- ---- what the program's words come to
+
+abbrev pub Word : Type 0
+Word = Bor (List ℕ)
+
+abbrev pub texts : List Word → List Text
+texts = map (λ word. word.now)
+
+pub texts_behind : (words : List Word) → drop 2 (texts words) ≡ texts (drop 2 words)
+texts_behind [] = refl
+texts_behind (name ∷ []) = refl
+texts_behind (name ∷ word ∷ rest) = refl
+
+-- the paths of the words from the third on
+pub paths_behind : (words : List Word) → paths_of (texts (take (length words - 2) (drop 2 words))) ≡ paths_of (drop 2 (texts words))
+paths_behind words =
+    let all : take (length words - 2) (drop 2 words) ≡ drop 2 words = take_all (length words - 2) (drop 2 words) (omega (arith, length-drop 2 words)) in
+    ap (λ (ws : List Word). paths_of (texts ws)) all ∙ ap (λ ws. paths_of ws) (sym (texts_behind words))
+
+-- of three words or more, whose second is not 'replay', there is no job
+pub no_job : (words : List Word) (d : Word) (job : Job) → 2 < length words → not (bytes_eq (slice_index_or words 1 d).now (codes "replay")) ≡ true → job_of (texts words) ≡ Some job → ⊥
+no_job [] d job more differ e = omega (arith, more)
+no_job (name ∷ []) d job more differ e = omega (arith, more)
+no_job (name ∷ word ∷ []) d job more differ e = omega (arith, more)
+no_job (name ∷ word ∷ next ∷ rest) d job more differ e = by (bytes_eq word.now (codes "replay")) refl
+  where
+    by : (b : Bool) → bytes_eq word.now (codes "replay") ≡ b → ⊥
+    by true is = false≢true (sym (ap not is) ∙ differ)
+    by false is = let same : None ≡ Some job = sym (rw is refl) ∙ e in false≢true (ap is_some same)
+
+pub replays : (words : List Word) (job : Job) → 2 < length words → job_of (texts words) ≡ Some job → IsReplay (texts words)
+replays words job more e =
+    let many : length (texts words) ≡ length words = simp length-map in
+    job_is_replay (texts words) job (omega (arith, more, many)) e
+
+is_built : is_simple command_line ≡ true
+unfolding clap_on_literals
+is_built = refl
+
+met_rows : (matches : ArgMatches) (words : List Text) (r : IsReplay words) → HasMatchesOf command_line words matches → option_map (λ p. p.1) (subcommand_rows_of matches) ≡ Some (def_row r.def ∷ lef_row (r.lef ∷ r.lefs) ∷ [])
+met_rows matches words r has = ap (option_map (λ p. p.1)) ((has is_built).1 ∙ r.rows)
+
+-- the subcommand's matches hold the paths
+pub inner_paths : (matches inner : ArgMatches) (words : List Text) (r : IsReplay words) → HasMatchesOf command_line words matches
+    → Some (rows_of (found_of inner)) ≡ option_map (λ p. p.1) (subcommand_rows_of matches) → found_paths (found_of inner) ≡ r.def ∷ r.lef ∷ r.lefs
+inner_paths matches inner words r has rows =
+    rows_paths (found_of inner) r.def (r.lef ∷ r.lefs) (ap (λ (o : Option (List Row)). unwrap_or o []) (rows ∙ met_rows matches words r has))
+
+-- and there is one
+pub no_inner : (matches : ArgMatches) (words : List Text) (r : IsReplay words) → HasMatchesOf command_line words matches → None ≡ option_map (λ p. p.1) (subcommand_rows_of matches) → ⊥
+no_inner matches words r has rows = false≢true (ap is_some (rows ∙ met_rows matches words r has))
+
+-- words that are taken in no parse have no job
+pub no_job_taken : (words : List Word) (r : Option Job) → job_of (texts words) ≡ r → length words ≤ usize_max → (takes command_line (texts words) ≡ true → ⊥) → job_of (texts words) ≡ None
+no_job_taken words None is few refused = is
+no_job_taken words (Some job) is few refused =
+    let many : length (texts words) ≡ length words = simp length-map in
+    absurd (refused (takes_job (texts words) job is (omega (arith, few, many))))

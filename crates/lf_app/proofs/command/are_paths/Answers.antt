@@ -1,5 +1,4 @@
 use Rattle.std.proofs.Common.{arith, sym, ◌∙◌}
-use Rattle.lf_app.proofs.Arguments.{takes_job}
 use Rattle.std.proofs.lemmas.Bool.{false≢true}
 use Rattle.lf_app.proofs.Paths.{at_end, differs, goes_back, goes_on}
 use Rattle.lf_app.proofs.command.are_paths.Goals as goal
