@@ -1,5 +1,7 @@
 //! A runtime for tests, whose files stand in memory.
 
+ghost use Rattle.std.specs.Prelude.{IsErr};
+
 use std::alloc::{Allocator, Global};
 use std::fs::{Metadata, OpenFile, OpenOptions};
 use std::io;
@@ -20,7 +22,9 @@ pub struct Opened<'a> {
 }
 
 /// What every call but reading answers.
-fn refused<T>() -> io::Result<T> {
+fn refused<T>() -> io::Result<T>
+    ensures { IsErr result }
+{
     Err(io::Error::from(io::ErrorKind::Unsupported))
 }
 
