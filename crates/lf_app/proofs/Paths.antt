@@ -1,5 +1,5 @@
 -- Words and the paths that they are, word by word.
-use Rattle.std.proofs.Common.{◌≡◌, ℕ, suc, Option, None, is_some, unwrap_or, ◌+◌, ◌-◌, ◌<◌, ◌≤◌, nat_eq, arith, Bool, true, false, not, ◌&&◌, List, [], ◌∷◌, map, length, drop, slice_index_or, Some, option_map, codes, refl, sym, ap, ap₂, ◌∙◌}
+use Rattle.std.proofs.Common.{◌≡◌, ℕ, Option, None, is_some, unwrap_or, ◌+◌, ◌<◌, ◌≤◌, nat_eq, arith, Bool, true, false, not, List, [], ◌∷◌, map, length, drop, slice_index_or, Some, codes, refl, sym, ap, ap₂, ◌∙◌}
 use Rattle.std.specs.Borrow.{Bor}
 use Rattle.std.specs.Str.{bytes_eq}
 use Rattle.std.specs.Cmp.{first_so, second_so}

@@ -1,5 +1,5 @@
 -- The jobs that the words of a command line name.
-use Rattle.std.specs.Prelude.{◌==◌, ℕ, Bool, true, false, List, [], ◌∷◌, map, Option, Some, None, option_map, option_and_then, bytes_eq, codes, if◌then◌else◌}
+use Rattle.std.specs.Prelude.{◌==◌, ℕ, Bool, false, List, [], ◌∷◌, map, Option, Some, None, option_map, option_and_then, bytes_eq, codes, if◌then◌else◌}
 use Rattle.lf_app.specs.declared.command.Task.{Task}
 use Rattle.lf_app.specs.declared.command.Task.TheVariants.{Demo, Replay}
 

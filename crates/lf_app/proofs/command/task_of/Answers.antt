@@ -1,5 +1,4 @@
-use Rattle.std.proofs.Common.{◌≡◌, ◌∷◌, ◌<◌, ◌∙◌, arith, length, map, drop, Some, sym, ap, rules}
-use Rattle.lf_app.specs.Command.{paths_of}
+use Rattle.std.proofs.Common.{◌<◌, ◌∙◌, length, sym, rules}
 use Rattle.lf_app.proofs.Arguments.{inner_paths, no_inner, no_job, replays, paths_behind}
 use Rattle.lf_app.proofs.command.task_of.Goals as goal
 
