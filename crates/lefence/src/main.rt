@@ -23,18 +23,24 @@ fn words_of(alloc: Global, words: &[String]) -> Result<Vec<&str>, AllocError> {
     Ok(texts)
 }
 
+/// Does the task that the words name, and gives the exit status.
+fn run(rt: &HostRuntime, words: &[String]) -> Result<u8, UsageFault> {
+    let Ok(texts) = words_of(rt.alloc(), words) else {
+        return Err(UsageFault::OutOfMemory);
+    };
+    let task = lf_app::command_of(rt.alloc(), texts.as_slice())?;
+    let mut reader = rt.reader();
+    let mut writer = io::writer(rt);
+    let mut faults = rt.stderr();
+    Ok(lf_app::perform(rt, &task, &mut reader, &mut writer, &mut faults))
+}
+
 fn main(rt: HostRuntime) -> io::Result<ExitCode> {
     let words: Vec<String> = std::env::args(&rt)?.collect(rt.alloc())?;
-    let texts = words_of(rt.alloc(), words.as_slice())?;
-    match lf_app::command_of(rt.alloc(), texts.as_slice()) {
-        Ok(task) => {
-            let mut reader = rt.reader();
-            let mut writer = io::writer(&rt);
-            let mut faults = rt.stderr();
-            Ok(ExitCode::from(lf_app::perform(&rt, &task, &mut reader, &mut writer, &mut faults)))
-        }
+    match run(&rt, words.as_slice()) {
+        Ok(status) => Ok(ExitCode::from(status)),
         Err(fault) => {
-            eprintln!(rt; "lefence: {fault}")?;
+            let _ = eprintln!(rt; "lefence: {fault}");
             Ok(ExitCode::from(usage_status(fault)))
         }
     }
