@@ -1,13 +1,44 @@
--- The tasks that the words of a command line name.
-use Rattle.std.specs.Prelude.{ℕ, List, [], ◌∷◌, Result, Ok, Err, bytes_eq, codes, if◌then◌else◌}
+-- The jobs that the words of a command line name.
+use Rattle.std.specs.Prelude.{◌==◌, ℕ, Bool, false, List, [], ◌∷◌, map, Option, Some, None, option_map, option_and_then, bytes_eq, codes, if◌then◌else◌}
 use Rattle.lf_app.specs.declared.command.Task.{Task}
-use Rattle.lf_app.specs.declared.command.Task.TheVariants.{Demo}
-use Rattle.lf_app.specs.declared.command.UsageFault.{UsageFault}
-use Rattle.lf_app.specs.declared.command.UsageFault.TheVariants.{Usage}
+use Rattle.lf_app.specs.declared.command.Task.TheVariants.{Demo, Replay}
 
--- the program's name alone, or followed by 'demo', is the demo; every other list of words is a usage fault
-abbrev pub task_of : List (List ℕ) → Result Task UsageFault
-task_of [] = Ok Demo
-task_of (name ∷ []) = Ok Demo
-task_of (name ∷ word ∷ []) = if bytes_eq word (codes "demo") then Ok Demo else Err Usage
-task_of (name ∷ word ∷ next ∷ rest) = Err Usage
+-- what a command line asks for, with the paths as they are written: of the DEF text and of the LEF texts in order
+pub data Job : Type 0 where
+  demo : Job
+  replay : List ℕ → List (List ℕ) → Job
+
+-- a word that begins with '-' and goes on is an option
+abbrev pub is_option : List ℕ → Bool
+is_option (first ∷ next ∷ rest) = first == 45
+is_option _ = false
+
+-- the paths that words are: each word is one; there are no options, but behind the first '--' any word is a path
+abbrev pub paths_of : List (List ℕ) → Option (List (List ℕ))
+paths_of [] = Some []
+paths_of (word ∷ rest) =
+    if bytes_eq word (codes "--") then Some rest
+    else if is_option word then None
+    else option_map (λ paths. word ∷ paths) (paths_of rest)
+
+-- a replay has the path of a DEF text and then one path at least of a LEF text
+abbrev pub replay_of : List (List ℕ) → Option Job
+replay_of (def ∷ lef ∷ lefs) = Some (replay def (lef ∷ lefs))
+replay_of _ = None
+
+-- the job that a word names, with the words behind it
+abbrev pub job_named : List ℕ → List (List ℕ) → Option Job
+job_named word [] = if bytes_eq word (codes "demo") then Some demo else None
+job_named word (next ∷ rest) =
+    if bytes_eq word (codes "replay") then option_and_then replay_of (paths_of (next ∷ rest)) else None
+
+-- the job of a command line: its first word is the program's name, and that name alone is the demo
+abbrev pub job_of : List (List ℕ) → Option Job
+job_of [] = Some demo
+job_of (name ∷ []) = Some demo
+job_of (name ∷ word ∷ rest) = job_named word rest
+
+-- a task as the job that it does
+abbrev pub as_job : Task → Job
+as_job Demo = demo
+as_job (Replay def lefs) = replay def.now (map (λ lef. lef.now) lefs)

@@ -1,2 +1,4 @@
 pub mod Command
+pub mod CommandLine
+pub mod Faults
 pub mod Lines

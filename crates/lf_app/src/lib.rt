@@ -1,15 +1,17 @@
-//! The program: its commands, the built-in design, and the loop that answers lines.
+//! The program: its commands, what it tells of faults, and the loop that answers lines.
 #![tactic(auto)]
 
-mod builtin;
 mod command;
+mod faults;
 mod lines;
 mod tasks;
 
-pub use builtin::design_w;
 pub use command::{Task, UsageFault, command_of};
+pub use faults::{Fault, status_of, write_fault};
 pub use lines::{Ending, answer_lines};
 pub use tasks::perform;
 
+#[cfg(test)]
+mod shelf;
 #[cfg(test)]
 mod tests;

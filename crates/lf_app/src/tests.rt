@@ -1,6 +1,11 @@
-use crate::{Ending, Task, UsageFault, answer_lines, command_of, design_w, perform};
+use crate::shelf::Shelf;
+use crate::{Ending, Task, UsageFault, answer_lines, command_of, perform};
+use lf_def::{W_DEF, read_def};
 use lf_floor::Floor;
-use lf_frame::Limits;
+use lf_frame::{Limits, load};
+use lf_lef::{Library, W_LEF, read_lef};
+use lf_units::Sequence;
+use std::alloc::{AllocError, Global};
 use std::io;
 use std::io::{Read, Write};
 use std::test::Fail;
@@ -10,7 +15,7 @@ fn answers(rt: &HostRuntime, input: &str, output: &str) -> Result<bool, Fail> {
     let mut reader = input.as_bytes();
     let mut written = Vec::new(rt.alloc());
     let mut faults = Vec::new(rt.alloc());
-    let status = perform(rt, Task::Demo, &mut reader, &mut written, &mut faults);
+    let status = perform(rt, &Task::Demo, &mut reader, &mut written, &mut faults);
     Ok(status == 0 && faults.is_empty() && written.as_slice() == output.as_bytes())
 }
 
@@ -91,7 +96,7 @@ fn a_line_that_is_no_request_is_refused(rt: HostRuntime) -> Result<(), Fail> {
     let mut reader = input.as_slice();
     let mut written = Vec::new(rt.alloc());
     let mut faults = Vec::new(rt.alloc());
-    let status = perform(&rt, Task::Demo, &mut reader, &mut written, &mut faults);
+    let status = perform(&rt, &Task::Demo, &mut reader, &mut written, &mut faults);
     assert_eq!(rt; status, 0);
     let expected = "ok 0 0\nno 1 BadRequest\nno 1 BadRequest\nno 1 BadRequest\nno 1 BadRequest\n\
         no 1 BadRequest\nok 1 0\nno 1 BadRequest\nok 2 0\n";
@@ -99,11 +104,25 @@ fn a_line_that_is_no_request_is_refused(rt: HostRuntime) -> Result<(), Fail> {
     Ok(())
 }
 
+/// The floor of the design of the sample texts on these limits.
+fn sample_floor(alloc: Global, limits: Limits) -> Option<Floor> {
+    let mut library = Library::new(alloc);
+    if read_lef(&mut library, W_LEF).is_err() {
+        return None;
+    }
+    let Ok(document) = read_def(alloc, W_DEF) else {
+        return None;
+    };
+    match load(alloc, &library, &document, limits) {
+        Ok(loaded) => Floor::start(alloc, loaded).ok(),
+        Err(_) => None,
+    }
+}
+
 #[test]
 fn revisions_are_spent(rt: HostRuntime) -> Result<(), Fail> {
     let limits = Limits::checked(65_535, 1_024, 4_000_000, 8, 64, 1).ok_or("limits")?;
-    let design = design_w(rt.alloc(), limits)?.ok_or("the design is none")?;
-    let mut floor = Floor::start(rt.alloc(), design)?;
+    let mut floor = sample_floor(rt.alloc(), limits).ok_or("the design is refused")?;
     let mut reader = b"open A\nplace A 0 a1 0 0 N\nplace A 0 zz 0 0 N\n".as_slice();
     let mut written = Vec::new(rt.alloc());
     let ending = answer_lines(rt.alloc(), &mut floor, &mut reader, &mut written);
@@ -139,24 +158,225 @@ impl Write for Failing {
 fn a_device_that_fails_ends_the_demo(rt: HostRuntime) -> Result<(), Fail> {
     let mut written = Vec::new(rt.alloc());
     let mut faults = Vec::new(rt.alloc());
-    let status = perform(&rt, Task::Demo, &mut Failing, &mut written, &mut faults);
+    let status = perform(&rt, &Task::Demo, &mut Failing, &mut written, &mut faults);
     assert_eq!(rt; status, 3);
     assert_eq!(rt; faults.as_slice(), b"lefence: ReadFault\n".as_slice());
     let mut faults = Vec::new(rt.alloc());
     let mut reader = b"open A\n".as_slice();
-    let status = perform(&rt, Task::Demo, &mut reader, &mut Failing, &mut faults);
+    let status = perform(&rt, &Task::Demo, &mut reader, &mut Failing, &mut faults);
     assert_eq!(rt; status, 3);
     assert_eq!(rt; faults.as_slice(), b"lefence: WriteFault\n".as_slice());
     Ok(())
 }
 
+/// The text with one of its lines, numbered from 1, exchanged for another.
+fn with_line(
+    alloc: Global,
+    text: &[u8],
+    number: usize,
+    line: &[u8],
+) -> Result<Vec<u8>, AllocError> {
+    let mut new = Vec::new(alloc);
+    for (i, old) in text.split(|byte| *byte == b'\n').enumerate() {
+        if i > 0 {
+            new.push(b'\n')?;
+        }
+        if number.checked_sub(1) == Some(i) {
+            new.extend_from_slice(line)?;
+        } else {
+            new.extend_from_slice(old)?;
+        }
+    }
+    Ok(new)
+}
+
+/// What a replay of `w.def` and the LEF files does: its exit status, what it writes and what it tells of faults.
+#[derive(Drop)]
+struct Run {
+    status: u8,
+    written: Vec<u8>,
+    faults: Vec<u8>,
+}
+
+/// Replays `w.def` over the LEF files of these paths, of the files on the shelf.
+fn replayed(
+    alloc: Global,
+    files: &[(&str, Option<&[u8]>)],
+    lefs: &[&str],
+    input: &str,
+) -> Result<Run, AllocError> {
+    let shelf = Shelf { alloc, files };
+    let task = Task::Replay {
+        def: "w.def",
+        lefs: Sequence::from_vec(Vec::from_slice(alloc, lefs)?),
+    };
+    let mut reader = input.as_bytes();
+    let mut written = Vec::new(alloc);
+    let mut faults = Vec::new(alloc);
+    let status = perform(&shelf, &task, &mut reader, &mut written, &mut faults);
+    Ok(Run {
+        status,
+        written,
+        faults,
+    })
+}
+
+/// Whether a replay over these files ends with this status and this line of a fault, and writes nothing.
+fn ends(
+    alloc: Global,
+    files: &[(&str, Option<&[u8]>)],
+    lefs: &[&str],
+    status: u8,
+    fault: &str,
+) -> Result<bool, AllocError> {
+    let run = replayed(alloc, files, lefs, "open A\n")?;
+    Ok(run.status == status && run.written.is_empty() && run.faults.as_slice() == fault.as_bytes())
+}
+
+#[test]
+fn a_design_of_files_is_replayed(rt: HostRuntime) -> Result<(), Fail> {
+    let files = [("w.lef", Some(W_LEF)), ("w.def", Some(W_DEF))];
+    let input = "open A\nplace A 0 a1 0 0 N\nwhere A 0 a1\n";
+    let run = replayed(rt.alloc(), files.as_slice(), ["w.lef"].as_slice(), input)?;
+    assert_eq!(rt; run.status, 0);
+    assert_eq!(rt; run.faults.as_slice(), b"".as_slice());
+    assert_eq!(rt;
+        run.written.as_slice(),
+        b"ok 0 0\nok 1\nok 0 0 N\n".as_slice()
+    );
+    Ok(())
+}
+
+#[test]
+fn a_cell_of_another_team_is_no_obstacle(rt: HostRuntime) -> Result<(), Fail> {
+    let def = with_line(rt.alloc(), W_DEF, 18, b"- b1 INV + PLACED ( 0 0 ) N ;")?;
+    let files = [("w.lef", Some(W_LEF)), ("w.def", Some(def.as_slice()))];
+    let input = "open A\nplace A 0 a1 0 0 N\n";
+    let run = replayed(rt.alloc(), files.as_slice(), ["w.lef"].as_slice(), input)?;
+    assert_eq!(rt; run.status, 0);
+    assert_eq!(rt; run.written.as_slice(), b"ok 0 0\nok 1\n".as_slice());
+    Ok(())
+}
+
+#[test]
+fn fences_that_overlap_are_refused(rt: HostRuntime) -> Result<(), Fail> {
+    let fence = b"- B ( 3999 0 ) ( 10000 8000 ) + TYPE FENCE ;";
+    let def = with_line(rt.alloc(), W_DEF, 12, fence)?;
+    let files = [("w.lef", Some(W_LEF)), ("w.def", Some(def.as_slice()))];
+    let fault = "lefence: 21 FencesOverlap B\n";
+    assert!(rt; ends(rt.alloc(), files.as_slice(), ["w.lef"].as_slice(), 1, fault)?);
+    Ok(())
+}
+
+#[test]
+fn a_text_that_is_none_is_refused_with_its_line(rt: HostRuntime) -> Result<(), Fail> {
+    let def = with_line(rt.alloc(), W_DEF, 20, b"END REGIONS")?;
+    let files = [("w.lef", Some(W_LEF)), ("w.def", Some(def.as_slice()))];
+    let fault = "lefence: 5 WrongEnd line 20\n";
+    assert!(rt; ends(rt.alloc(), files.as_slice(), ["w.lef"].as_slice(), 1, fault)?);
+    Ok(())
+}
+
+#[test]
+fn lef_files_are_read_in_order_up_to_the_first_fault(rt: HostRuntime) -> Result<(), Fail> {
+    let files = [
+        ("w.lef", Some(W_LEF)),
+        ("bad.lef", Some(b"SITE ;\n".as_slice())),
+        ("cut.lef", Some(b"SITE core\n".as_slice())),
+    ];
+    let both = ["w.lef", "bad.lef", "cut.lef"];
+    let fault = "lefence: 3 Unexpected line 1\n";
+    assert!(rt; ends(rt.alloc(), files.as_slice(), both.as_slice(), 1, fault)?);
+    let both = ["w.lef", "cut.lef", "bad.lef"];
+    let fault = "lefence: 2 UnexpectedEnd line 2\n";
+    assert!(rt; ends(rt.alloc(), files.as_slice(), both.as_slice(), 1, fault)?);
+    Ok(())
+}
+
+#[test]
+fn a_file_that_cannot_be_read_is_a_fault(rt: HostRuntime) -> Result<(), Fail> {
+    let files = [("w.lef", Some(W_LEF)), ("folder", None)];
+    let fault = "lefence: File\n";
+    assert!(rt; ends(rt.alloc(), files.as_slice(), ["w.lef"].as_slice(), 3, fault)?);
+    assert!(rt; ends(rt.alloc(), files.as_slice(), ["x.lef"].as_slice(), 3, fault)?);
+    assert!(rt;
+        ends(
+            rt.alloc(),
+            files.as_slice(),
+            ["folder"].as_slice(),
+            3,
+            fault
+        )?
+    );
+    Ok(())
+}
+
+/// Whether the words are refused.
+fn is_usage(alloc: Global, words: &[&str]) -> bool {
+    matches!(command_of(alloc, words), Err(UsageFault::Usage))
+}
+
 #[test]
 fn words_name_the_demo(rt: HostRuntime) {
-    assert_eq!(rt; command_of(&["lefence"]), Ok(Task::Demo));
-    assert_eq!(rt; command_of(&["lefence", "demo"]), Ok(Task::Demo));
-    assert_eq!(rt; command_of(&["lefence", "verify"]), Err(UsageFault::Usage));
-    assert_eq!(rt;
-        command_of(&["lefence", "demo", "more"]),
-        Err(UsageFault::Usage)
+    assert!(rt;
+        matches!(
+            command_of(rt.alloc(), ["lefence"].as_slice()),
+            Ok(Task::Demo)
+        )
     );
+    assert!(rt;
+        matches!(
+            command_of(rt.alloc(), ["lefence", "demo"].as_slice()),
+            Ok(Task::Demo)
+        )
+    );
+}
+
+#[test]
+fn words_name_a_replay(rt: HostRuntime) -> Result<(), Fail> {
+    for words in [
+        ["lefence", "replay", "w.def", "w.lef", "x.lef"].as_slice(),
+        ["lefence", "replay", "--", "w.def", "w.lef", "x.lef"].as_slice(),
+        ["lefence", "replay", "w.def", "--", "w.lef", "x.lef"].as_slice(),
+    ] {
+        let Ok(Task::Replay { def, lefs }) = command_of(rt.alloc(), words) else {
+            return Err(Fail::from("no replay"));
+        };
+        assert!(rt; def == "w.def");
+        assert!(rt; lefs.as_slice() == ["w.lef", "x.lef"].as_slice());
+    }
+    Ok(())
+}
+
+#[test]
+fn paths_may_begin_with_a_hyphen_behind_two(rt: HostRuntime) -> Result<(), Fail> {
+    let words = ["lefence", "replay", "--", "-w.def", "--"];
+    let Ok(Task::Replay { def, lefs }) = command_of(rt.alloc(), words.as_slice()) else {
+        return Err(Fail::from("no replay"));
+    };
+    assert!(rt; def == "-w.def");
+    assert!(rt; lefs.as_slice() == ["--"].as_slice());
+    Ok(())
+}
+
+#[test]
+fn other_words_are_refused(rt: HostRuntime) {
+    for words in [
+        ["lefence", "verify"].as_slice(),
+        ["lefence", "demo", "more"].as_slice(),
+        ["lefence", "help"].as_slice(),
+        ["lefence", "--help"].as_slice(),
+        ["lefence", "-V"].as_slice(),
+        ["lefence", "--version"].as_slice(),
+        ["lefence", "check", "w.def", "w.lef"].as_slice(),
+        ["lefence", "serve", "w.def", "w.lef"].as_slice(),
+        ["lefence", "replay"].as_slice(),
+        ["lefence", "replay", "w.def"].as_slice(),
+        ["lefence", "replay", "--", "w.def"].as_slice(),
+        ["lefence", "replay", "-h", "w.def", "w.lef"].as_slice(),
+        ["lefence", "replay", "w.def", "w.lef", "--export"].as_slice(),
+        ["lefence", "replay", "w.def", "w.lef", "-x"].as_slice(),
+    ] {
+        assert!(rt; is_usage(rt.alloc(), words));
+    }
 }

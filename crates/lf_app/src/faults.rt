@@ -1,0 +1,153 @@
+//! What is told of a task that was not done, and its exit status.
+
+ghost use Rattle.std.specs.Prelude.{◌≡◌, OnOk, option_map, codes};
+ghost use Rattle.std.specs.Io.KnownBytes.{Appends};
+ghost use Rattle.lf_app.specs.Faults.{ending_fault, fault_line, fault_text, line_words, name_words, numbered, refusal_text, status_of};
+
+use crate::lines::Ending;
+use itoa::Buffer;
+use lf_lex::{FaultNumber, LoadFault};
+use std::io;
+use std::io::Write;
+
+/// Why a task was not done.
+#[derive(Clone, Copy, Debug, PartialEq, Eq)]
+pub enum Fault<'a> {
+    /// A text or the design was refused, or memory was before the first line.
+    Refused(LoadFault<'a>),
+    /// A file could not be read.
+    File,
+    /// Standard input could not be read.
+    ReadFault,
+    /// A reply could not be written.
+    WriteFault,
+    /// There was no memory for the lines.
+    OutOfMemory,
+}
+
+/// The number and the name of a refusal of reading or loading.
+fn numbered(number: FaultNumber) -> &'static [u8]
+    ensures { result.now ≡ numbered number }
+{
+    match number {
+        FaultNumber::BadToken => b"1 BadToken",
+        FaultNumber::UnexpectedEnd => b"2 UnexpectedEnd",
+        FaultNumber::Unexpected => b"3 Unexpected",
+        FaultNumber::BadNumber => b"4 BadNumber",
+        FaultNumber::WrongEnd => b"5 WrongEnd",
+        FaultNumber::UnknownStatement => b"6 UnknownStatement",
+        FaultNumber::NoUnits => b"7 NoUnits",
+        FaultNumber::NoSite => b"8 NoSite",
+        FaultNumber::NoRows => b"9 NoRows",
+        FaultNumber::VerticalRow => b"10 VerticalRow",
+        FaultNumber::BadStep => b"11 BadStep",
+        FaultNumber::RowOrient => b"12 RowOrient",
+        FaultNumber::RowsOverlap => b"13 RowsOverlap",
+        FaultNumber::NoMacro => b"14 NoMacro",
+        FaultNumber::NoSize => b"15 NoSize",
+        FaultNumber::NotWhole => b"16 NotWhole",
+        FaultNumber::SecondName => b"17 SecondName",
+        FaultNumber::SecondRegion => b"18 SecondRegion",
+        FaultNumber::NoRegion => b"19 NoRegion",
+        FaultNumber::TeamName => b"20 TeamName",
+        FaultNumber::FencesOverlap => b"21 FencesOverlap",
+        FaultNumber::TwoFences => b"22 TwoFences",
+        FaultNumber::TooMany => b"23 TooMany",
+        FaultNumber::OutOfMemory => b"24 OutOfMemory",
+    }
+}
+
+/// Writes the line that a refusal speaks of.
+fn put_line<W: Write>(writer: &mut W, line: Option<usize>) -> io::Result<()>
+    ensures { OnOk result (Appends (W.contents writer.old) (W.contents writer.new) (line_words line)) }
+{
+    let Some(line) = line else {
+        return Ok(());
+    };
+    writer.write_all(b" line ")?;
+    writer.write_all(Buffer::new().format(line).as_bytes())
+}
+
+/// Writes the name that a refusal speaks of.
+fn put_name<W: Write>(writer: &mut W, name: Option<&[u8]>) -> io::Result<()>
+    ensures { OnOk result (Appends (W.contents writer.old) (W.contents writer.new)
+        (name_words (option_map (λ bytes. bytes.now) name.entry))) }
+{
+    let Some(name) = name else {
+        return Ok(());
+    };
+    writer.write_all(b" ")?;
+    writer.write_all(name)
+}
+
+/// Writes the text of a refusal.
+fn put_refusal<W: Write>(writer: &mut W, fault: &LoadFault<'_>) -> io::Result<()>
+    ensures { OnOk result (Appends (W.contents writer.old) (W.contents writer.new) (refusal_text fault.now)) }
+{
+    writer.write_all(numbered(fault.number))?;
+    put_line(writer, fault.line)?;
+    put_name(writer, fault.name)
+}
+
+/// Writes the text of a fault.
+fn put_fault<W: Write>(writer: &mut W, fault: &Fault<'_>) -> io::Result<()>
+    ensures { OnOk result (Appends (W.contents writer.old) (W.contents writer.new) (fault_text fault.now)) }
+{
+    match fault {
+        Fault::Refused(refusal) => put_refusal(writer, refusal),
+        Fault::File => writer.write_all(b"File"),
+        Fault::ReadFault => writer.write_all(b"ReadFault"),
+        Fault::WriteFault => writer.write_all(b"WriteFault"),
+        Fault::OutOfMemory => writer.write_all(b"OutOfMemory"),
+    }
+}
+
+/// Writes the line of a fault, which takes no memory.
+pub fn write_fault<W: Write>(writer: &mut W, fault: &Fault<'_>) -> io::Result<()>
+    ensures { OnOk result (Appends (W.contents writer.old) (W.contents writer.new) (fault_line fault.now)) }
+{
+    writer.write_all(b"lefence: ")?;
+    put_fault(writer, fault)?;
+    writer.write_all(b"\n")
+}
+
+/// The exit status of a fault: 1 where a text, the design or memory for them was refused, else 3.
+pub fn status_of(fault: &Fault<'_>) -> u8
+    ensures { result ≡ status_of fault.now }
+{
+    match fault {
+        Fault::Refused(_) => 1,
+        _ => 3,
+    }
+}
+
+/// The fault of want of memory before the first line.
+pub(crate) fn memory_fault<'a>() -> Fault<'a>
+    ensures { fault_text result ≡ codes "24 OutOfMemory" }
+{
+    Fault::Refused(LoadFault {
+        number: FaultNumber::OutOfMemory,
+        line: None,
+        name: None,
+    })
+}
+
+/// The fault of a file that could not be read.
+pub(crate) fn file_fault<'a>(error: &io::Error) -> Fault<'a> {
+    if error.kind() == io::ErrorKind::OutOfMemory {
+        return memory_fault();
+    }
+    Fault::File
+}
+
+/// The fault of lines that did not end with the input; none where they did.
+pub(crate) fn ending_fault<'a>(ending: Ending) -> Option<Fault<'a>>
+    ensures { result ≡ ending_fault ending }
+{
+    match ending {
+        Ending::Done => None,
+        Ending::ReadFault => Some(Fault::ReadFault),
+        Ending::WriteFault => Some(Fault::WriteFault),
+        Ending::OutOfMemory => Some(Fault::OutOfMemory),
+    }
+}
