@@ -95,3 +95,46 @@ fn first_cell_that_is_met(rt: HostRuntime) -> Result<(), Fail> {
     );
     Ok(())
 }
+
+/// The lines that a report tells, as (cell, other, rule).
+fn told(report: &Report, lines: &[(&[u8], Option<&[u8]>, u32)]) -> bool {
+    let violations = report.violations.as_slice();
+    if violations.len() != lines.len() {
+        return false;
+    }
+    for (violation, (cell, other, rule)) in violations.iter().zip(lines) {
+        let met = match (&violation.other, other) {
+            (Some(name), Some(other)) => name.is(other),
+            (None, None) => true,
+            _ => false,
+        };
+        if !met || !violation.cell.is(cell) || violation.rule.number() != *rule {
+            return false;
+        }
+    }
+    true
+}
+
+#[test]
+fn a_design_without_places(rt: HostRuntime) -> Result<(), Fail> {
+    let design = design(rt.alloc())?;
+    let places = [None, None, None, None, None];
+    assert!(rt; design.cells.len() == 5);
+    let report = check_all(rt.alloc(), &design, &places)?;
+    assert_eq!(rt; (report.cells, report.unplaced), (5, 5));
+    assert!(rt; told(&report, &[]));
+    Ok(())
+}
+
+#[test]
+fn overlap_between_teams(rt: HostRuntime) -> Result<(), Fail> {
+    let design = design(rt.alloc())?;
+    let at = Some(Place::new(0, 0, Orient::N));
+    let places = [at, None, None, at, None];
+    assert!(rt; design.cells.len() == 5);
+    let report = check_all(rt.alloc(), &design, &places)?;
+    assert_eq!(rt; (report.cells, report.unplaced), (5, 3));
+    let lines: [(&[u8], Option<&[u8]>, u32); 2] = [(b"a1", Some(b"b1"), 8), (b"b1", None, 6)];
+    assert!(rt; told(&report, &lines));
+    Ok(())
+}
