@@ -11,7 +11,7 @@ ghost use Rattle.lf_frame.specs.Claims.{IsTableOf};
 ghost use Rattle.lf_frame.specs.Findings.{inputs};
 ghost use Rattle.lf_frame.specs.Loads.{location as location_of, as_location, movables, CanBeCell, IsCellOf};
 
-use crate::claims::{ClaimTable, claim_table};
+use crate::claims::ClaimTable;
 use crate::component_refusals::is_movable;
 use crate::copies::location;
 use crate::limits::Limits;
@@ -69,18 +69,15 @@ fn cell_of(
 /// The cells of the movable components, in the order of the text.
 pub fn movable_cells(
     alloc: Global,
+    claims: &ClaimTable,
     library: &Library,
     document: &DefDoc,
     limits: &Limits,
 ) -> Result<Sequence<Cell>, AllocError>
+    requires claims { IsTableOf document.now.regions document.now.groups claims.now }
     requires able { All (λ c. is_movable_component c ≡ true → CanBeCell (inputs library.now document.now limits.now) c) document.now.components }
     ensures { IfOk result (λ cells. AllZip (IsCellOf (inputs library.now document.now limits.now)) (movables document.now.components) cells) }
 {
-    let claims = claim_table(
-        alloc,
-        document.groups.as_slice(),
-        document.regions.as_slice(),
-    )?;
     let mut cells = Sequence::new(alloc);
     for (number, component) in document.components.as_slice().iter().enumerate() {
         if is_movable(component) {

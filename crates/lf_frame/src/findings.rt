@@ -6,10 +6,11 @@ ghost use Rattle.lf_lex.specs.declared.fault.FaultNumber.TheVariants.{NoUnits, N
 ghost use Rattle.lf_lef.specs.Lengths.{HasRange};
 ghost use Rattle.lf_frame.specs.Loading.{at_place, size_in_dbu, IsWholeSize, has_size};
 ghost use Rattle.lf_frame.specs.Rows.{IsPitch};
+ghost use Rattle.lf_frame.specs.Claims.{IsTableOf};
 ghost use Rattle.lf_frame.specs.Findings.{inputs, units_in, core_in, region_name, Finds, OfCore, OfPitch, CoreHasPartUnits, NameOfFirst};
 ghost use Rattle.lf_frame.specs.Refusals.{IsRowTooMany, IsFenceTooMany, IsComponentTooMany, EndsTooFar, HasPartUnits};
 
-use crate::claims::{claim_table, first_claimed_twice};
+use crate::claims::{ClaimTable, first_claimed_twice};
 use crate::component_refusals::{
     first_component_too_many, first_not_whole, first_second_name, first_without_macro,
     first_without_size, is_whole_size,
@@ -339,21 +340,17 @@ pub fn fences_overlap<'d>(
 
 /// The first movable component that groups of two different fences name.
 pub fn two_fences<'d>(
-    alloc: Global,
+    claims: &ClaimTable,
     library: &Library,
     document: &'d DefDoc,
     limits: &Limits,
-) -> Result<Option<&'d [u8]>, AllocError>
-    ensures { IfOk result (λ name. Finds (inputs library.now document.now limits.now) TwoFences (option_copied name)) }
+) -> Option<&'d [u8]>
+    requires { IsTableOf document.now.regions document.now.groups claims.now }
+    ensures { Finds (inputs library.now document.now limits.now) TwoFences (option_copied result) }
 {
     let components = document.components.as_slice();
-    let claims = claim_table(
-        alloc,
-        document.groups.as_slice(),
-        document.regions.as_slice(),
-    )?;
-    let first = first_claimed_twice(components, &claims);
-    Ok(component_name(components, first))
+    let first = first_claimed_twice(components, claims);
+    component_name(components, first)
 }
 
 /// The first heeded row beyond the limit.

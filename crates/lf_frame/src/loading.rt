@@ -5,11 +5,13 @@ ghost use Rattle.lf_lex.specs.declared.fault.ReadError.TheVariants.{Memory};
 ghost use Rattle.lf_lex.specs.Faults.{load_fault_of};
 ghost use Rattle.lf_frame.specs.Premise.{MakeFrame};
 ghost use Rattle.lf_frame.specs.Design.{MakeDesign};
+ghost use Rattle.lf_frame.specs.Claims.{IsTableOf};
 ghost use Rattle.lf_frame.specs.Findings.{inputs, units_in, IsAccepted, IsFault};
 ghost use Rattle.lf_frame.specs.Loads.{fixed_box, blocked, FixedIsSized, AreInRange, ArePartsOf, IsFrameOf, IsLoadedFrom};
 
 use crate::assembled::Parts;
 use crate::cells::movable_cells;
+use crate::claims::{ClaimTable, claim_table};
 use crate::copies::{
     copy_header, copy_macros, copy_site, fence_teams, fixed_boxes, heeded_rows, push_blockages,
 };
@@ -125,17 +127,30 @@ fn loaded_from(frame: Frame, cells: Sequence<Cell>) -> Loaded
 /// The design of a library and a document in which no refusal finds anything.
 fn accepted_design(
     alloc: Global,
+    claims: &ClaimTable,
     library: &Library,
     document: &DefDoc,
     limits: &Limits,
 ) -> Result<Loaded, AllocError>
-    requires { IsAccepted (inputs library.now document.now limits.now) }
+    requires claims { IsTableOf document.now.regions document.now.groups claims.now }
+    requires accepted { IsAccepted (inputs library.now document.now limits.now) }
     ensures { IfOk result (λ loaded. IsLoadedFrom (inputs library.now document.now limits.now) loaded) }
 {
     ranges_kept(library, document, limits);
     let frame = frame_of(alloc, library, document, limits)?;
-    let cells = movable_cells(alloc, library, document, limits)?;
+    let cells = movable_cells(alloc, claims, library, document, limits)?;
     Ok(loaded_from(frame, cells))
+}
+
+/// Which fences claim a component, for all groups of the document.
+fn claims_of(alloc: Global, document: &DefDoc) -> Result<ClaimTable, AllocError>
+    ensures { IfOk result (λ claims. IsTableOf document.now.regions document.now.groups claims) }
+{
+    claim_table(
+        alloc,
+        document.groups.as_slice(),
+        document.regions.as_slice(),
+    )
 }
 
 /// Want of memory, as loading answers it.
@@ -162,12 +177,15 @@ pub fn load<'d>(
     ensures ok { IfOk result (λ loaded. IsLoadedFrom (inputs library.now document.now limits) loaded) }
     ensures err { IfErr result (λ fault. (fault ≡ load_fault_of Memory) ⊎ IsFault (inputs library.now document.now limits) fault) }
 {
-    match first_refusal(alloc, library, document, &limits) {
+    let Ok(claims) = claims_of(alloc, document) else {
+        return Err(out_of_memory());
+    };
+    match first_refusal(alloc, &claims, library, document, &limits) {
         Ok(Some(fault)) => return Err(fault),
         Ok(None) => {}
         Err(_) => return Err(out_of_memory()),
     }
-    match accepted_design(alloc, library, document, &limits) {
+    match accepted_design(alloc, &claims, library, document, &limits) {
         Ok(loaded) => Ok(loaded),
         Err(_) => Err(out_of_memory()),
     }

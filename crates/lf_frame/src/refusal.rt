@@ -3,8 +3,10 @@
 ghost use Rattle.std.specs.Prelude.{◌≡◌, ◌≤◌, ◌<◌, Some, None, IfOk, MatchOption};
 ghost use Rattle.std.specs.Option.{option_copied};
 ghost use Rattle.lf_lex.specs.declared.fault.FaultNumber.{FaultNumber};
+ghost use Rattle.lf_frame.specs.Claims.{IsTableOf};
 ghost use Rattle.lf_frame.specs.Findings.{inputs, Finds, number_of, IsAccepted, IsFault};
 
+use crate::claims::ClaimTable;
 use crate::findings::{
     bad_step, fences_overlap, no_macro, no_region, no_rows, no_site, no_size, no_units, not_whole,
     row_orient, rows_overlap, second_name, second_region, team_name, too_many, two_fences,
@@ -52,11 +54,13 @@ fn numbered(number: u8) -> FaultNumber
 /// What the refusal finds: the name of the first entry that it names, or nothing.
 fn finding<'d>(
     alloc: Global,
+    claims: &ClaimTable,
     library: &'d Library,
     document: &'d DefDoc,
     limits: &Limits,
     number: FaultNumber,
 ) -> Result<Option<&'d [u8]>, AllocError>
+    requires { IsTableOf document.now.regions document.now.groups claims.now }
     ensures { IfOk result (λ name. Finds (inputs library.now document.now limits.now) number (option_copied name)) }
 {
     match number {
@@ -75,7 +79,7 @@ fn finding<'d>(
         FaultNumber::NoRegion => no_region(alloc, library, document, limits),
         FaultNumber::TeamName => Ok(team_name(library, document, limits)),
         FaultNumber::FencesOverlap => fences_overlap(alloc, library, document, limits),
-        FaultNumber::TwoFences => two_fences(alloc, library, document, limits),
+        FaultNumber::TwoFences => Ok(two_fences(claims, library, document, limits)),
         FaultNumber::TooMany => Ok(too_many(library, document, limits)),
         FaultNumber::BadToken => Ok(None),
         FaultNumber::UnexpectedEnd => Ok(None),
@@ -90,15 +94,17 @@ fn finding<'d>(
 /// The refusal of the least number that finds an entry, with the name that it finds.
 pub fn first_refusal<'d>(
     alloc: Global,
+    claims: &ClaimTable,
     library: &'d Library,
     document: &'d DefDoc,
     limits: &Limits,
 ) -> Result<Option<LoadFault<'d>>, AllocError>
+    requires { IsTableOf document.now.regions document.now.groups claims.now }
     ensures { IfOk result (λ found. MatchOption found (IsAccepted (inputs library.now document.now limits.now)) (λ fault. IsFault (inputs library.now document.now limits.now) fault)) }
 {
     for number in FIRST..END {
         let refusal = numbered(number);
-        if let Some(name) = finding(alloc, library, document, limits, refusal)? {
+        if let Some(name) = finding(alloc, claims, library, document, limits, refusal)? {
             return Ok(Some(LoadFault {
                 number: refusal,
                 line: None,

@@ -39,7 +39,7 @@ team_pairs R team (m ∷ cells) rest within beyond pairs =
     (team_pairs R team cells rest (λ i j a b less here there. within (suc i) (suc j) a b (omega arith) here there) (λ i a there. beyond (suc i) a there) pairs)
 
 -- a team-legal cell keeps rules 1 to 7 alone
-keeps : (f : Frame) (team : ℕ) (cells : List Member) (own : ℕ) (m : Member) (p : Spot) → IsLegalAt (lifted_from f team cells own m.mac) p → KeepsRules f (standing_in team m) p
+pub keeps : (f : Frame) (team : ℕ) (cells : List Member) (own : ℕ) (m : Member) (p : Spot) → IsLegalAt (lifted_from f team cells own m.mac) p → KeepsRules f (standing_in team m) p
 keeps f team cells own m p legal Height few = legal Height
 keeps f team cells own m p legal RowRule few = legal RowRule
 keeps f team cells own m p legal Stand few = legal Stand

@@ -14,3 +14,5 @@ pub mod BesideLemmas
 pub mod TidyLemmas
 pub mod DesignLemmas
 pub mod KeptLemmas
+pub mod ReportLemmas
+pub mod CleanLemmas

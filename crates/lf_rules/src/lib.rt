@@ -5,16 +5,19 @@ mod area;
 mod cover;
 mod first;
 mod laws;
+mod report;
 mod rows;
 mod rule;
 mod size;
 
 pub use first::first_broken;
 pub use laws::{
-    choice_is_one, key_is_total, keys_differ, legal_in_range, legal_is_upright, legalizer_is_there,
-    teams_make_legal, tidied_is_legal, tidied_keeps_cells, verdict_is_one, verdict_is_there,
+    choice_is_one, clean_is_legal, key_is_total, keys_differ, legal_in_range, legal_is_upright,
+    legalizer_is_there, teams_make_legal, tidied_is_legal, tidied_keeps_cells, verdict_is_one,
+    verdict_is_there,
 };
 pub use lf_frame::Place;
+pub use report::{Listed, Report, Violation, check_all, report_on};
 pub use rule::{Broken, Placed, Rule};
 pub use size::box_of;
 

@@ -1,0 +1,274 @@
+//! Reports: how many cells there are, how many of them are unplaced, and which break a rule where they stand.
+
+ghost use Rattle.std.specs.Prelude.{◌≡◌, ◌↔◌, ◌<◌, ◌≤◌, ◌++◌, [], All, IfOk, OnOk, is_none, count_by, length, map, option_and_then};
+ghost use Rattle.std.specs.List.{cons_option};
+ghost use Rattle.lf_frame.specs.Boxes.{IsSized, macro_of};
+ghost use Rattle.lf_rules.specs.Legalizer.{Legalizer};
+ghost use Rattle.lf_rules.specs.FullyLegal.{IsFullyLegal, standing_at};
+ghost use Rattle.lf_rules.specs.Reports.{IsClean, IsListed, IsTold, broken_among, listed_at, member_of, name_among, named, report_of, standing_of, violation_at, violation_of, violations_in};
+ghost use Rattle.lf_rules.specs.Team.{boxes_beside, with_box};
+
+use crate::first::first_broken;
+use crate::laws::{legalizer_is_there, verdict_is_one};
+use crate::rule::{Broken, Placed, Rule};
+use crate::size::box_of;
+use lf_frame::{Cell, Frame, Loaded, Macro, Place, cell_is_sized};
+use lf_units::{Name, Sequence};
+use std::alloc::{AllocError, Global};
+
+/// A movable cell of which a report tells. Its name is of the type `N`: a slice in the program, a list of bytes
+/// in a contract.
+#[derive(Drop)]
+pub struct Listed<N> {
+    pub name: N,
+    /// The number of its team.
+    pub team: usize,
+    /// The position of its macro in the frame.
+    pub mac: usize,
+    /// Where it stands; none where it is unplaced.
+    pub place: Option<Place>,
+}
+
+/// A placed cell that breaks a rule.
+#[derive(Drop)]
+pub struct Violation {
+    /// The name of the cell.
+    pub cell: Name,
+    /// The first rule that it breaks.
+    pub rule: Rule,
+    /// For Overlap the name of the first other cell in loading order that it meets; none for another rule.
+    pub other: Option<Name>,
+}
+
+/// What a check of cells found.
+#[derive(Drop)]
+pub struct Report {
+    /// How many cells there are.
+    pub cells: usize,
+    /// How many of them are unplaced.
+    pub unplaced: usize,
+    /// The placed cells that break a rule, in loading order.
+    pub violations: Sequence<Violation>,
+}
+
+/// The macro of a cell.
+fn macro_in<'a>(frame: &'a Frame, cell: &Listed<&[u8]>) -> &'a Macro
+    requires { IsListed frame.now (named cell.now) }
+    ensures mac { result.now ≡ macro_of frame.now cell.now.mac }
+    ensures sized { IsSized frame.now result.now }
+{
+    &frame.macros.as_slice()[cell.mac]
+}
+
+/// Puts the box of the cell behind the others, where it is placed; `own` is the cell's number.
+fn push_box(
+    others: &mut Vec<Placed>,
+    frame: &Frame,
+    cell: &Listed<&[u8]>,
+    own: u32,
+) -> Result<(), AllocError>
+    requires { IsListed frame.now (named cell.now) }
+    ensures { OnOk result (others.new.items ≡ others.old.items ++ with_box frame.now own cell.now.mac (member_of (named cell.now)).place []) }
+{
+    if let Some(place) = cell.place {
+        others.push(Placed {
+            own,
+            rect: box_of(frame, macro_in(frame, cell), &place),
+        })?;
+    }
+    Ok(())
+}
+
+/// The boxes of the placed cells but the one of that number, in their order.
+fn boxes_but(
+    alloc: Global,
+    frame: &Frame,
+    cells: &[Listed<&[u8]>],
+    own: usize,
+) -> Result<Vec<Placed>, AllocError>
+    requires listed { All (λ c. IsListed frame.now (named c)) cells.now }
+    requires few { length cells.now ≤ 4000000 }
+    ensures { IfOk result (λ others. others.items ≡ boxes_beside frame.now (map member_of (map named cells.now)) own) }
+{
+    let mut others = Vec::new(alloc);
+    for (number, cell) in cells.iter().enumerate() {
+        if number != own {
+            push_box(&mut others, frame, cell, number as u32)?;
+        }
+    }
+    Ok(others)
+}
+
+/// The first rule that the cell of that number breaks where it stands, beside the other placed cells.
+fn broken_in(
+    alloc: Global,
+    frame: &Frame,
+    cells: &[Listed<&[u8]>],
+    own: usize,
+    cell: &Listed<&[u8]>,
+) -> Result<Option<Broken>, AllocError>
+    requires listed { All (λ c. IsListed frame.now (named c)) cells.now }
+    requires few { length cells.now ≤ 4000000 }
+    requires this { IsListed frame.now (named cell.now) }
+    ensures { IfOk result (λ broken. (l : Legalizer) → broken ≡ broken_among l frame.now (map named cells.now) own (named cell.now)) }
+{
+    verdict_is_one();
+    let Some(place) = cell.place else {
+        return Ok(None);
+    };
+    let others = boxes_but(alloc, frame, cells, own)?;
+    let mac = macro_in(frame, cell);
+    Ok(first_broken(frame, cell.team, mac, &place, &others))
+}
+
+/// A copy of the name of the cell of that number.
+fn name_in(alloc: Global, cells: &[Listed<&[u8]>], own: u32) -> Result<Option<Name>, AllocError>
+    ensures { IfOk result (λ name. name ≡ name_among (map named cells.now) own) }
+{
+    match cells.get(own as usize) {
+        Some(cell) => Ok(Some(Name::from_slice(alloc, cell.name)?)),
+        None => Ok(None),
+    }
+}
+
+/// A copy of the name of the other cell, where there is another.
+fn other_name(
+    alloc: Global,
+    cells: &[Listed<&[u8]>],
+    other: Option<u32>,
+) -> Result<Option<Name>, AllocError>
+    ensures { IfOk result (λ name. name ≡ option_and_then (name_among (map named cells.now)) other) }
+{
+    match other {
+        Some(own) => name_in(alloc, cells, own),
+        None => Ok(None),
+    }
+}
+
+/// The violation of a cell that breaks this rule first.
+fn violation_of(
+    alloc: Global,
+    cells: &[Listed<&[u8]>],
+    cell: &Listed<&[u8]>,
+    broken: Broken,
+) -> Result<Violation, AllocError>
+    ensures { IfOk result (λ violation. violation ≡ violation_of (map named cells.now) (named cell.now) broken) }
+{
+    let other = other_name(alloc, cells, broken.other)?;
+    Ok(Violation {
+        cell: Name::from_slice(alloc, cell.name)?,
+        rule: broken.rule,
+        other,
+    })
+}
+
+/// Puts the violation of the cell of that number behind the others, where it breaks a rule.
+fn push_violation(
+    alloc: Global,
+    frame: &Frame,
+    cells: &[Listed<&[u8]>],
+    own: usize,
+    violations: &mut Vec<Violation>,
+) -> Result<(), AllocError>
+    requires listed { All (λ c. IsListed frame.now (named c)) cells.now }
+    requires few { length cells.now ≤ 4000000 }
+    requires within { own < length cells.now }
+    ensures { (l : Legalizer) → OnOk result (violations.new.items ≡ violations.old.items ++ cons_option (violation_at l frame.now (map named cells.now) own) []) }
+{
+    let cell = &cells[own];
+    match broken_in(alloc, frame, cells, own, cell)? {
+        Some(broken) => {
+            violations.push(violation_of(alloc, cells, cell, broken)?)?;
+            Ok(())
+        }
+        None => Ok(()),
+    }
+}
+
+/// The violations of the listed cells, in their order.
+fn violations_in(
+    alloc: Global,
+    frame: &Frame,
+    cells: &[Listed<&[u8]>],
+) -> Result<Vec<Violation>, AllocError>
+    requires listed { All (λ c. IsListed frame.now (named c)) cells.now }
+    requires few { length cells.now ≤ 4000000 }
+    ensures { (l : Legalizer) → IfOk result (λ violations. violations.items ≡ violations_in l frame.now (map named cells.now)) }
+{
+    let mut violations = Vec::new(alloc);
+    for own in 0..cells.len() {
+        push_violation(alloc, frame, cells, own, &mut violations)?;
+    }
+    Ok(violations)
+}
+
+/// How many of the cells are unplaced.
+fn unplaced_in(cells: &[Listed<&[u8]>]) -> usize
+    ensures { result ≡ count_by (λ c. is_none c.place) (map named cells.now) }
+{
+    cells.iter().filter(|cell| cell.place.is_none()).count()
+}
+
+/// The report of these cells, in which overlap is between any two of them.
+///
+/// The report of a team is that of its own cells, and the report of a design that of the cells of all teams.
+/// `Err` where memory is refused.
+pub fn report_on(
+    alloc: Global,
+    frame: &Frame,
+    cells: &[Listed<&[u8]>],
+) -> Result<Report, AllocError>
+    requires listed { All (λ c. IsListed frame.now (named c)) cells.now }
+    requires few { length cells.now ≤ 4000000 }
+    ensures report { (l : Legalizer) → IfOk result (λ report. report ≡ report_of l frame.now (map named cells.now)) }
+    ensures legal { IfOk result (λ report. IsClean report ↔ IsFullyLegal frame.now (map standing_of (map named cells.now))) }
+    ensures told { IfOk result (λ report. All IsTold report.violations) }
+{
+    legalizer_is_there();
+    let violations = violations_in(alloc, frame, cells)?;
+    Ok(Report {
+        cells: cells.len(),
+        unplaced: unplaced_in(cells),
+        violations: Sequence::from_vec(violations),
+    })
+}
+
+/// The cells of a design at these places.
+fn listed_cells<'a>(
+    alloc: Global,
+    cells: &'a [Cell],
+    places: &[Option<Place>],
+) -> Result<Vec<Listed<&'a [u8]>>, AllocError>
+    requires { length places.now ≡ length cells.now }
+    ensures { IfOk result (λ listed. map named listed.items ≡ listed_at cells.now places.now) }
+{
+    let mut listed = Vec::new(alloc);
+    for (own, cell) in cells.iter().enumerate() {
+        listed.push(Listed {
+            name: cell.name.as_bytes(),
+            team: cell.team,
+            mac: cell.mac,
+            place: places[own],
+        })?;
+    }
+    Ok(listed)
+}
+
+/// The report of a design whose movable cells stand at these places, one for each cell in loading order; overlap
+/// is between cells of any teams.
+///
+/// `Err` where memory is refused.
+pub fn check_all(
+    alloc: Global,
+    loaded: &Loaded,
+    places: &[Option<Place>],
+) -> Result<Report, AllocError>
+    requires { length places.now ≡ length loaded.now.cells }
+    ensures report { (l : Legalizer) → IfOk result (λ report. report ≡ report_of l loaded.now.frame (listed_at loaded.now.cells places.now)) }
+    ensures legal { IfOk result (λ report. IsClean report ↔ IsFullyLegal loaded.now.frame (standing_at loaded.now.cells places.now)) }
+    ensures told { IfOk result (λ report. All IsTold report.violations) }
+{
+    cell_is_sized();
+    let cells = listed_cells(alloc, loaded.cells.as_slice(), places)?;
+    report_on(alloc, &loaded.frame, &cells)
+}
