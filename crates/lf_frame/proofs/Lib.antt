@@ -20,3 +20,5 @@ pub mod MapLemmas
 pub mod Tellings
 pub mod Indexes
 pub mod Claimants
+pub mod AlikeEntries
+pub mod AlikeDesigns

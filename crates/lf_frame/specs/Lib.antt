@@ -15,3 +15,4 @@ pub mod Sweep
 pub mod Tables
 pub mod NameMaps
 pub mod Claims
+pub mod Alike

@@ -1,5 +1,6 @@
-//! Laws on the definitions of boxes, ground and rows.
+//! Laws on the definitions of boxes, ground, rows and loading.
 
+ghost use Rattle.lf_frame.specs.Alike.{AcceptedAlike, FindAlike, LoadedAlike, RefusedAlike};
 ghost use Rattle.lf_frame.specs.Boxes.{TurnsBack};
 ghost use Rattle.lf_frame.specs.Design.{CellIsSized};
 ghost use Rattle.lf_frame.specs.Ground.{PointHasOneTeam, TeamsStayApart};
@@ -28,4 +29,13 @@ pub fn standing_is_one()
 /// The macro of a cell's number is whole in database units.
 pub fn cell_is_sized()
     ensures { CellIsSized }
+{}
+
+/// Where components and their placement clauses stand in the DEF text plays no part in loading: texts that
+/// differ in these positions alone are refused alike, and a design of one is a design of the other.
+pub fn positions_play_no_part()
+    ensures findings { FindAlike }
+    ensures accepted { AcceptedAlike }
+    ensures refused { RefusedAlike }
+    ensures loaded { LoadedAlike }
 {}

@@ -26,7 +26,8 @@ mod sweep;
 pub use design::{is_sized, mac_at};
 pub use frame::Frame;
 pub use laws::{
-    cell_is_sized, point_has_one_team, size_turns_back, standing_is_one, teams_stay_apart,
+    cell_is_sized, point_has_one_team, positions_play_no_part, size_turns_back, standing_is_one,
+    teams_stay_apart,
 };
 pub use lf_lef::{Macro, Site};
 pub use limits::Limits;

@@ -1,0 +1,192 @@
+-- Loading answers the same for inputs that differ in where components stand in the text alone.
+use Rattle.std.proofs.Common.{◌≡◌, ℕ, ◌+◌, inl, inr, Bool, true, false, List, [], ◌∷◌, ◌++◌, map, Option, None, Some, refl, sym, ◌∙◌, ap, subst}
+use Rattle.std.specs.Prelude.{filter_map, flat_map, MatchOption}
+use Rattle.std.specs.List.{AllZip}
+use Rattle.lf_units.specs.declared.area.Point.{Point}
+use Rattle.lf_units.specs.declared.area.Rect.{Rect}
+use Rattle.lf_lex.specs.declared.fault.FaultNumber.{FaultNumber}
+use Rattle.lf_lex.specs.declared.fault.FaultNumber.TheVariants.{BadToken, UnexpectedEnd, Unexpected, BadNumber, WrongEnd, UnknownStatement, NoUnits, NoSite, NoRows, VerticalRow, BadStep, RowOrient, RowsOverlap, NoMacro, NoSize, NotWhole, SecondName, SecondRegion, NoRegion, TeamName, FencesOverlap, TwoFences, TooMany, OutOfMemory}
+use Rattle.lf_lef.specs.declared.sites.Site.{Site}
+use Rattle.lf_lef.specs.Contents.{Contents, macro_names}
+use Rattle.lf_names.specs.Names.{position_of}
+use Rattle.lf_def.specs.declared.components.Component.{Component}
+use Rattle.lf_def.specs.declared.components.Placement.{Placement}
+use Rattle.lf_def.specs.Laws.{without_places}
+use Rattle.lf_frame.specs.declared.frame.Frame.{Frame}
+use Rattle.lf_frame.specs.declared.loaded.Cell.{Cell}
+use Rattle.lf_frame.specs.declared.loaded.Loaded.{Loaded}
+use Rattle.lf_frame.specs.Loading.{size_in_dbu, is_movable, IsTeamOf}
+use Rattle.lf_frame.specs.Refusals.{HasBadStep, MeetsEarlierRow, HasNoMacro, HasNoSize, HasPartUnits, BearsEarlierName, IsClaimedTwice, IsComponentTooMany, EndsTooFar}
+use Rattle.lf_frame.specs.Findings.{Inputs, units_in, core_in, Finding, NameOfFirst, InTurn, OfCore, WhereWhole, OfPitch, CoreHasPartUnits, Finds}
+use Rattle.lf_frame.specs.Loads.{fixed_box, blocked, obstacles_in, movables_from, IsFrameOf, IsCellOf, IsLoadedFrom}
+use Rattle.lf_frame.specs.Alike.{AreAlike, FindAlike, AcceptedAlike, RefusedAlike, LoadedAlike}
+use Rattle.lf_frame.proofs.AlikeEntries.{Same, SameAll, name_same, mac_same, movable_same, location_same, name_alike, no_macro_respects, no_size_respects, part_units_respects, earlier_name_respects, claimed_twice_respects, too_many_respects}
+
+-- the inputs with these components
+abbrev with_components : Inputs → List Component → Inputs
+with_components i cs = record i { document = record i.document { components = cs } }
+
+-- inputs that are alike differ in their components alone
+but_components : (i j : Inputs) → AreAlike i j → i ≡ with_components j i.document.components
+but_components i j alike = λ d. record {
+  library = alike.library d;
+  document = record {
+    header = (alike.document d).header;
+    rows = (alike.document d).rows;
+    regions = (alike.document d).regions;
+    groups = (alike.document d).groups;
+    components = i.document.components;
+    blockages = (alike.document d).blockages;
+  };
+  limits = alike.limits d;
+}
+
+components_alike : (i j : Inputs) → AreAlike i j → SameAll i.document.components j.document.components
+components_alike i j alike = ap (λ d. d.components) alike.document
+
+-- what the one finding is, the other is too
+abbrev Carries : Finding → Finding → Type 0
+Carries one other = (found : Option (List ℕ)) → one found → other found
+
+turn_carries : (first first' second second' : Finding) → Carries first first' → Carries second second' → Carries (InTurn first second) (InTurn first' second')
+turn_carries first first' second second' one two found (inl h) = inl (one None h.0, two found h.1)
+turn_carries first first' second second' one two found (inr h) = inr (h.0, one found h.1)
+
+pitch_same : (i : Inputs) (xs ys : List Component) (finds : Site → Point → Finding) → Carries (OfPitch (with_components i xs) finds) (OfPitch (with_components i ys) finds)
+pitch_same i xs ys finds found = by (core_in i)
+  where
+    of : List Component → Site → Type 0
+    of cs core = WhereWhole (with_components i cs) core (finds core (size_in_dbu (units_in i) core.size)) found
+
+    by : (core : Option Site) → MatchOption core (found ≡ None) (of xs) → MatchOption core (found ≡ None) (of ys)
+    by None h = h
+    by (Some core) h = record { whole = h.whole; part = h.part }
+
+core_units_same : (i : Inputs) (xs ys : List Component) → Carries (OfCore (with_components i xs) (CoreHasPartUnits (with_components i xs))) (OfCore (with_components i ys) (CoreHasPartUnits (with_components i ys)))
+core_units_same i xs ys found = by (core_in i)
+  where
+    by : (core : Option Site) → MatchOption core (found ≡ None) (λ s. CoreHasPartUnits (with_components i xs) s found) → MatchOption core (found ≡ None) (λ s. CoreHasPartUnits (with_components i ys) s found)
+    by None h = h
+    by (Some core) h = record { whole = h.whole; part = h.part }
+
+-- what a refusal finds does not turn on where components stand in the text
+finds_same : (i : Inputs) (xs ys : List Component) → SameAll xs ys → (n : FaultNumber) → Carries (Finds (with_components i xs) n) (Finds (with_components i ys) n)
+finds_same i xs ys same NoUnits = λ found h. h
+finds_same i xs ys same NoSite = λ found h. h
+finds_same i xs ys same NoRows = λ found h. h
+finds_same i xs ys same VerticalRow = λ found h. h
+finds_same i xs ys same BadStep = pitch_same i xs ys (λ core pitch. NameOfFirst (λ r. r.name) (HasBadStep core pitch) i.document.rows)
+finds_same i xs ys same RowOrient = λ found h. h
+finds_same i xs ys same RowsOverlap = pitch_same i xs ys (λ core pitch. NameOfFirst (λ r. r.name) (MeetsEarlierRow core pitch) i.document.rows)
+finds_same i xs ys same NoMacro = name_alike (λ c. c.mac) (λ c. refl) (HasNoMacro i.library) (no_macro_respects i.library) xs ys same
+finds_same i xs ys same NoSize = name_alike (λ c. c.mac) (λ c. refl) (HasNoSize i.library) (no_size_respects i.library) xs ys same
+finds_same i xs ys same NotWhole =
+    turn_carries _ _ _ _ (core_units_same i xs ys) (name_alike (λ c. c.mac) (λ c. refl) (HasPartUnits i.library (units_in i)) (part_units_respects i.library (units_in i)) xs ys same)
+finds_same i xs ys same SecondName = name_alike (λ c. c.name) (λ c. refl) BearsEarlierName earlier_name_respects xs ys same
+finds_same i xs ys same SecondRegion = λ found h. h
+finds_same i xs ys same NoRegion = λ found h. h
+finds_same i xs ys same TeamName = λ found h. h
+finds_same i xs ys same FencesOverlap = λ found h. h
+finds_same i xs ys same TwoFences =
+    name_alike (λ c. c.name) (λ c. refl) (IsClaimedTwice i.document.regions i.document.groups) (claimed_twice_respects i.document.regions i.document.groups) xs ys same
+finds_same i xs ys same TooMany =
+    turn_carries _ _ _ _ (λ found h. h) (
+    turn_carries _ _ _ _ (λ found h. h) (
+    turn_carries _ _ _ _ (name_alike (λ c. c.name) (λ c. refl) (IsComponentTooMany i.limits.components) (too_many_respects i.limits.components) xs ys same) (
+    pitch_same i xs ys (λ core pitch. NameOfFirst (λ r. r.name) (EndsTooFar core pitch) i.document.rows)
+    )))
+finds_same i xs ys same BadToken = λ found h. h
+finds_same i xs ys same UnexpectedEnd = λ found h. h
+finds_same i xs ys same Unexpected = λ found h. h
+finds_same i xs ys same BadNumber = λ found h. h
+finds_same i xs ys same WrongEnd = λ found h. h
+finds_same i xs ys same UnknownStatement = λ found h. h
+finds_same i xs ys same OutOfMemory = λ found h. h
+
+pub find_alike : FindAlike
+find_alike i j alike n found h =
+    finds_same j i.document.components j.document.components (components_alike i j alike) n found (subst (λ k. Finds k n found) (but_components i j alike) h)
+
+pub accepted_alike : AcceptedAlike
+accepted_alike i j alike h n = find_alike i j alike n None (h n)
+
+pub refused_alike : RefusedAlike
+refused_alike i j alike fault h = record {
+  name = h.name;
+  named = h.named;
+  no_line = h.no_line;
+  refused = record {
+    finds = find_alike i j alike fault.number (Some h.name) h.refused.finds;
+    least = λ n less. find_alike i j alike n None (h.refused.least n less);
+  };
+}
+
+-- A frame and cells.
+
+box_without : (library : Contents) (units : ℕ) (c : Component) → fixed_box library units (without_places c) ≡ fixed_box library units c
+box_without library units c = by c.placement
+  where
+    by : (p : Option Placement) → fixed_box library units (without_places (record c { placement = p })) ≡ fixed_box library units (record c { placement = p })
+    by None = refl
+    by (Some p) = refl
+
+boxes_without : (library : Contents) (units : ℕ) (cs : List Component) → filter_map (fixed_box library units) (map without_places cs) ≡ filter_map (fixed_box library units) cs
+boxes_without library units [] = refl
+boxes_without library units (c ∷ cs) = rw (box_without library units c, boxes_without library units cs)
+
+obstacles_same : (i : Inputs) (xs ys : List Component) → SameAll xs ys → obstacles_in (with_components i xs) ≡ obstacles_in (with_components i ys)
+obstacles_same i xs ys same =
+    let box : Component → Option Rect = fixed_box i.library (units_in i) in
+    let boxes : filter_map box xs ≡ filter_map box ys = sym (boxes_without i.library (units_in i) xs) ∙ ap (filter_map box) same ∙ boxes_without i.library (units_in i) ys in
+    ap (λ l. l ++ flat_map blocked i.document.blockages) boxes
+
+frame_same : (i : Inputs) (xs ys : List Component) → SameAll xs ys → (f : Frame) → IsFrameOf (with_components i xs) f → IsFrameOf (with_components i ys) f
+frame_same i xs ys same f is = record {
+  site = is.site;
+  rows = is.rows;
+  teams = is.teams;
+  obstacles = is.obstacles ∙ obstacles_same i xs ys same;
+  macros = is.macros;
+  header = is.header;
+  limits = is.limits;
+}
+
+cell_same : (i : Inputs) (xs ys : List Component) (k : ℕ) (a b : Component) (c : Cell) → Same a b → IsCellOf (with_components i xs) (k, a) c → IsCellOf (with_components i ys) (k, b) c
+cell_same i xs ys k a b c same is = record {
+  name = is.name ∙ name_same a b same;
+  team = subst (λ name. IsTeamOf i.document.regions i.document.groups name c.team) (name_same a b same) is.team;
+  mac = subst (λ name. position_of (macro_names i.library.macros) name ≡ Some c.mac) (mac_same a b same) is.mac;
+  place = is.place ∙ location_same a b same;
+  component = is.component;
+}
+
+-- cells that fit the movable ones of some components fit those of the same components
+cells_same : (P Q : ℕ × Component → Cell → Type 0) → ((k : ℕ) (a b : Component) (c : Cell) → Same a b → P (k, a) c → Q (k, b) c) →
+    (k : ℕ) (xs ys : List Component) → SameAll xs ys → (cells : List Cell) → AllZip P (movables_from k xs) cells → AllZip Q (movables_from k ys) cells
+cells_same P Q made k [] [] same cells zip = by cells zip
+  where
+    by : (cells : List Cell) → AllZip P [] cells → AllZip Q [] cells
+    by [] none = none
+    by (c ∷ cs) none = none
+cells_same P Q made k [] (b ∷ ys) same cells zip = absurd (cc)
+cells_same P Q made k (a ∷ xs) [] same cells zip = absurd (cc)
+cells_same P Q made k (a ∷ xs) (b ∷ ys) same cells zip =
+    let one : Same a b = cc in
+    let others : SameAll xs ys = cc in
+    by (is_movable a) refl (sym (movable_same a b one)) one cells zip (cells_same P Q made (k + 1) xs ys others)
+  where
+    by : (t : Bool) → is_movable a ≡ t → is_movable b ≡ is_movable a → Same a b → (cells : List Cell) → AllZip P (movables_from k (a ∷ xs)) cells →
+        ((rest : List Cell) → AllZip P (movables_from (k + 1) xs) rest → AllZip Q (movables_from (k + 1) ys) rest) → AllZip Q (movables_from k (b ∷ ys)) cells
+    by true is alike one [] zip rest = absurd (rw is at zip)
+    by true is alike one (c ∷ cs) zip rest = let pair = rw is at zip in rw (alike, is) (made k a b c one pair.0, rest cs pair.1)
+    by false is alike one cells zip rest = rw (alike, is) (rest cells (rw is at zip))
+
+loaded_same : (i : Inputs) (xs ys : List Component) → SameAll xs ys → (l : Loaded) → IsLoadedFrom (with_components i xs) l → IsLoadedFrom (with_components i ys) l
+loaded_same i xs ys same l h = record {
+  accepted = λ n. finds_same i xs ys same n None (h.accepted n);
+  frame = frame_same i xs ys same l.frame h.frame;
+  cells = cells_same (IsCellOf (with_components i xs)) (IsCellOf (with_components i ys)) (cell_same i xs ys) 0 xs ys same l.cells h.cells;
+}
+
+pub loaded_alike : LoadedAlike
+loaded_alike i j alike l h = loaded_same j i.document.components j.document.components (components_alike i j alike) l (subst (λ k. IsLoadedFrom k l) (but_components i j alike) h)

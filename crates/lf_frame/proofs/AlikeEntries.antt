@@ -1,0 +1,138 @@
+-- Lists of components that differ in where these stand in the text alone: the same entry is the first to break a rule.
+use Rattle.std.proofs.Common.{◌≡◌, ℕ, ◌<◌, Bool, false, List, [], ◌∷◌, length, map, take, get_or, Option, None, Some, refl, sym, ◌∙◌, ap, subst, arith}
+use Rattle.std.specs.Prelude.{slice_get, option_map, IsSomeAnd}
+use Rattle.std.specs.Option.{option_and_then}
+use Rattle.std.proofs.lemmas.List.{take-map, get_or-map, length-map}
+use Rattle.std.proofs.lemmas.Option.{slice_get-map}
+use Rattle.lf_def.specs.declared.regions.Region.{Region}
+use Rattle.lf_def.specs.declared.groups.Group.{Group}
+use Rattle.lf_def.specs.declared.components.Component.{Component}
+use Rattle.lf_def.specs.declared.components.Placement.{Placement}
+use Rattle.lf_def.specs.declared.components.PlacementKind.{PlacementKind}
+use Rattle.lf_def.specs.Laws.{placement_without_places, without_places}
+use Rattle.lf_lef.specs.Contents.{Contents}
+use Rattle.lf_frame.specs.Entries.{FirstIs}
+use Rattle.lf_frame.specs.Loading.{at_place, macro_named, has_size, IsWholeSize, is_fixed_kind, is_cover_kind, says, is_fixed, is_cover, is_movable}
+use Rattle.lf_frame.specs.Refusals.{HasNoMacro, HasNoSize, HasPartUnits, BearsEarlierName, HasTwoFences, IsClaimedTwice, IsComponentTooMany}
+use Rattle.lf_frame.specs.Findings.{NameOfFirst}
+use Rattle.lf_frame.specs.Loads.{location}
+use Rattle.lf_frame.proofs.Named.{name_of_any, any_of_name}
+
+-- they are the same component, but for where it stands
+abbrev pub Same : Component → Component → Type 0
+Same a b = without_places a ≡ without_places b
+
+-- they are the same components, but for where these stand
+abbrev pub SameAll : List Component → List Component → Type 0
+SameAll xs ys = map without_places xs ≡ map without_places ys
+
+-- What is said of a component, its positions apart, is said of every one that is the same.
+
+says_without : (is_kind : PlacementKind → Bool) (p : Option Placement) → says is_kind (option_map placement_without_places p) ≡ says is_kind p
+says_without is_kind None = refl
+says_without is_kind (Some p) = refl
+
+place_without : (p : Option Placement) → option_and_then (λ q. q.place) (option_map placement_without_places p) ≡ option_and_then (λ q. q.place) p
+place_without None = refl
+place_without (Some p) = refl
+
+pub name_same : (a b : Component) → Same a b → a.name ≡ b.name
+name_same a b same = ap (λ c. c.name) same
+
+pub mac_same : (a b : Component) → Same a b → a.mac ≡ b.mac
+mac_same a b same = ap (λ c. c.mac) same
+
+pub fixed_same : (a b : Component) → Same a b → is_fixed a ≡ is_fixed b
+fixed_same a b same = sym (says_without is_fixed_kind a.placement) ∙ ap is_fixed same ∙ says_without is_fixed_kind b.placement
+
+pub cover_same : (a b : Component) → Same a b → is_cover a ≡ is_cover b
+cover_same a b same = sym (says_without is_cover_kind a.placement) ∙ ap is_cover same ∙ says_without is_cover_kind b.placement
+
+pub movable_same : (a b : Component) → Same a b → is_movable a ≡ is_movable b
+movable_same a b same = rw (fixed_same a b same, cover_same a b same)
+
+pub location_same : (a b : Component) → Same a b → location a ≡ location b
+location_same a b same = sym (place_without a.placement) ∙ ap location same ∙ place_without b.placement
+
+-- Of lists that are the same, the same stands at each place.
+
+pub length_same : (xs ys : List Component) → SameAll xs ys → length xs ≡ length ys
+length_same xs ys same = sym (length-map xs without_places) ∙ ap length same ∙ length-map ys without_places
+
+take_same : (xs ys : List Component) (k : ℕ) → SameAll xs ys → SameAll (take k xs) (take k ys)
+take_same xs ys k same = sym (take-map without_places k xs) ∙ ap (take k) same ∙ take-map without_places k ys
+
+entry_same : (xs ys : List Component) (k : ℕ) (d : Component) → SameAll xs ys → k < length ys → Same (get_or xs k d) (get_or ys k d)
+entry_same xs ys k d same within =
+    let there : k < length xs = omega (arith, length_same xs ys same) in
+    sym (get_or-map without_places xs k d d there) ∙ ap (λ l. get_or l k d) same ∙ get_or-map without_places ys k d d within
+
+-- the names that components bear, in which their positions play no part
+names_same : (name_of : Component → List ℕ) → ((c : Component) → name_of (without_places c) ≡ name_of c) → (xs ys : List Component) → SameAll xs ys → map name_of xs ≡ map name_of ys
+names_same name_of without xs ys same = of_map xs ∙ ap (map name_of) same ∙ sym (of_map ys)
+  where
+    of_map : (cs : List Component) → map name_of cs ≡ map name_of (map without_places cs)
+    of_map [] = refl
+    of_map (c ∷ cs) = rw (without c, of_map cs)
+
+-- positions play no part in whether an entry breaks the rule
+abbrev pub Respects : (List Component → Component → Type 0) → Type 0
+Respects breaks = (xs ys : List Component) (a b : Component) → SameAll xs ys → Same a b → breaks xs a → breaks ys b
+
+broken_same : (breaks : List Component → Component → Type 0) → Respects breaks → (xs ys : List Component) → SameAll xs ys → (k : ℕ) (d : Component) → k < length ys →
+    breaks (take k xs) (get_or xs k d) → breaks (take k ys) (get_or ys k d)
+broken_same breaks respects xs ys same k d within = respects (take k xs) (take k ys) (get_or xs k d) (get_or ys k d) (take_same xs ys k same) (entry_same xs ys k d same within)
+
+-- the same entry is the first to break the rule
+first_alike : (breaks : List Component → Component → Type 0) → Respects breaks → (xs ys : List Component) → SameAll xs ys → (place : Option ℕ) → FirstIs breaks xs place → FirstIs breaks ys place
+first_alike breaks respects xs ys same None none = λ k d within broken.
+    let there : k < length xs = omega (arith, length_same xs ys same) in
+    none k d there (broken_same breaks respects ys xs (sym same) k d there broken)
+first_alike breaks respects xs ys same (Some n) first =
+    let long : length xs ≡ length ys = length_same xs ys same in
+    record {
+      within = rw (← long) first.within;
+      breaking = λ d. broken_same breaks respects xs ys same n d (rw (← long) first.within) (first.breaking d);
+      none_before = λ k d before broken.
+          let there : k < length xs = omega arith in
+          first.none_before k d before (broken_same breaks respects ys xs (sym same) k d there broken);
+    }
+
+named_alike : (name_of : Component → List ℕ) → ((c : Component) → name_of (without_places c) ≡ name_of c) → (xs ys : List Component) → SameAll xs ys → (place : Option ℕ) →
+    option_map name_of (at_place xs place) ≡ option_map name_of (at_place ys place)
+named_alike name_of without xs ys same None = refl
+named_alike name_of without xs ys same (Some n) =
+    sym (slice_get-map name_of xs n) ∙ ap (λ l. slice_get l n) (names_same name_of without xs ys same) ∙ slice_get-map name_of ys n
+
+-- the first component that breaks a rule bears the same name
+pub name_alike : (name_of : Component → List ℕ) → ((c : Component) → name_of (without_places c) ≡ name_of c) → (breaks : List Component → Component → Type 0) → Respects breaks →
+    (xs ys : List Component) → SameAll xs ys → (found : Option (List ℕ)) → NameOfFirst name_of breaks xs found → NameOfFirst name_of breaks ys found
+name_alike name_of without breaks respects xs ys same found n = record {
+  place = n.place;
+  first = first_alike breaks respects xs ys same n.place n.first;
+  name = n.name ∙ named_alike name_of without xs ys same n.place;
+}
+
+-- Positions play no part in any rule for components.
+
+pub no_macro_respects : (library : Contents) → Respects (HasNoMacro library)
+no_macro_respects library xs ys a b all same h = (sym (cover_same a b same) ∙ h.0, subst (λ m. macro_named library m ≡ None) (mac_same a b same) h.1)
+
+pub no_size_respects : (library : Contents) → Respects (HasNoSize library)
+no_size_respects library xs ys a b all same h =
+    (sym (cover_same a b same) ∙ h.0, subst (λ name. IsSomeAnd (macro_named library name) (λ m. has_size m.size ≡ false)) (mac_same a b same) h.1)
+
+pub part_units_respects : (library : Contents) (units : ℕ) → Respects (HasPartUnits library units)
+part_units_respects library units xs ys a b all same h =
+    (sym (cover_same a b same) ∙ h.0, subst (λ name. IsSomeAnd (macro_named library name) (λ m. IsWholeSize units m.size → ⊥)) (mac_same a b same) h.1)
+
+pub earlier_name_respects : Respects BearsEarlierName
+earlier_name_respects xs ys a b all same h =
+    let names : map (λ c. c.name) xs ≡ map (λ c. c.name) ys = names_same (λ c. c.name) (λ c. refl) xs ys all in
+    any_of_name (λ c. c.name) ys b.name (rw (names, name_same a b same) at (name_of_any (λ c. c.name) xs a.name h))
+
+pub claimed_twice_respects : (regions : List Region) (groups : List Group) → Respects (IsClaimedTwice regions groups)
+claimed_twice_respects regions groups xs ys a b all same h = (sym (movable_same a b same) ∙ h.0, subst (HasTwoFences regions groups) (name_same a b same) h.1)
+
+pub too_many_respects : (limit : ℕ) → Respects (IsComponentTooMany limit)
+too_many_respects limit xs ys a b all same h = omega (arith, length_same xs ys all)
