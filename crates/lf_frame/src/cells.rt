@@ -67,7 +67,7 @@ fn cell_of(
 }
 
 /// The cells of the movable components, in the order of the text.
-pub fn movable_cells(
+pub(crate) fn movable_cells(
     alloc: Global,
     claims: &ClaimTable,
     library: &Library,

@@ -250,7 +250,7 @@ fn index_of(
 }
 
 /// The table of all groups' claims.
-pub fn claim_table(
+pub(crate) fn claim_table(
     alloc: Global,
     groups: &[Group],
     regions: &[Region],
@@ -264,7 +264,7 @@ pub fn claim_table(
 
 impl ClaimTable {
     /// Which fences claim the name.
-    pub fn claim_of(&self, name: &[u8]) -> Claim
+    pub(crate) fn claim_of(&self, name: &[u8]) -> Claim
         ensures { (regions : List Region) (groups : List Group) → IsTableOf regions groups self.now → IsClaimOf regions groups name.now result }
     {
         self.patterns.claim_of(name)
@@ -272,7 +272,7 @@ impl ClaimTable {
 
     /// The team of a component that no two fences claim: the place of its fence among the fences, or their number
     /// where no fence claims it.
-    pub fn team_of(&self, name: &[u8]) -> usize
+    pub(crate) fn team_of(&self, name: &[u8]) -> usize
         ensures { (regions : List Region) (groups : List Group) → IsTableOf regions groups self.now → (HasTwoFences regions groups name.now → ⊥) → IsTeamOf regions groups name.now result }
     {
         match self.claim_of(name) {
@@ -298,7 +298,7 @@ impl ClaimTable {
 }
 
 /// The first movable component that groups of two different fences name.
-pub fn first_claimed_twice(components: &[Component], table: &ClaimTable) -> Option<usize>
+pub(crate) fn first_claimed_twice(components: &[Component], table: &ClaimTable) -> Option<usize>
     ensures { (regions : List Region) (groups : List Group) → IsTableOf regions groups table.now → FirstIs (IsClaimedTwice regions groups) components.now result }
 {
     for (number, component) in components.iter().enumerate() {

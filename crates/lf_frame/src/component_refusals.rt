@@ -15,7 +15,7 @@ use lf_units::{Point, micros_to_dbu};
 use std::alloc::{AllocError, Global};
 
 /// Whether the component is FIXED.
-pub fn is_fixed(component: &Component) -> bool
+pub(crate) fn is_fixed(component: &Component) -> bool
     ensures { result ≡ is_fixed_component component.now }
 {
     match &component.placement {
@@ -30,7 +30,7 @@ pub fn is_fixed(component: &Component) -> bool
 }
 
 /// Whether the component is COVER.
-pub fn is_cover(component: &Component) -> bool
+pub(crate) fn is_cover(component: &Component) -> bool
     ensures { result ≡ is_cover_component component.now }
 {
     match &component.placement {
@@ -45,14 +45,14 @@ pub fn is_cover(component: &Component) -> bool
 }
 
 /// Whether teams may move the component: it is neither FIXED nor COVER.
-pub fn is_movable(component: &Component) -> bool
+pub(crate) fn is_movable(component: &Component) -> bool
     ensures { result ≡ is_movable_component component.now }
 {
     !is_fixed(component) && !is_cover(component)
 }
 
 /// The macro of that name.
-pub fn macro_named<'l>(library: &'l Library, name: &[u8]) -> Option<&'l Macro>
+pub(crate) fn macro_named<'l>(library: &'l Library, name: &[u8]) -> Option<&'l Macro>
     ensures macro_is { option_copied result ≡ named_macro library.now name.now }
     ensures range { IfSome result (λ m. HasRange m.now.size) }
 {
@@ -60,7 +60,7 @@ pub fn macro_named<'l>(library: &'l Library, name: &[u8]) -> Option<&'l Macro>
 }
 
 /// Whether both lengths are above 0.
-pub fn has_size(size: &Point) -> bool
+pub(crate) fn has_size(size: &Point) -> bool
     ensures { result ≡ is_size size.now }
 {
     0 < size.x && 0 < size.y
@@ -77,7 +77,7 @@ fn is_whole(micros: i64, units: u32) -> bool
 }
 
 /// Whether both lengths are whole in database units.
-pub fn is_whole_size(size: &Point, units: u32) -> bool
+pub(crate) fn is_whole_size(size: &Point, units: u32) -> bool
     requires least { 1 ≤ units }
     requires most { units ≤ 20000 }
     requires range { HasRange size.now }
@@ -99,7 +99,7 @@ fn has_no_macro(component: &Component, library: &Library) -> bool
 }
 
 /// The first component other than COVER whose macro no LEF text has.
-pub fn first_without_macro(components: &[Component], library: &Library) -> Option<usize>
+pub(crate) fn first_without_macro(components: &[Component], library: &Library) -> Option<usize>
     ensures { FirstIs (HasNoMacro library.now) components.now result }
 {
     for (number, component) in components.iter().enumerate() {
@@ -123,7 +123,7 @@ fn has_no_size(component: &Component, library: &Library) -> bool
 }
 
 /// The first component other than COVER whose macro has no SIZE with both lengths above 0.
-pub fn first_without_size(components: &[Component], library: &Library) -> Option<usize>
+pub(crate) fn first_without_size(components: &[Component], library: &Library) -> Option<usize>
     ensures { FirstIs (HasNoSize library.now) components.now result }
 {
     for (number, component) in components.iter().enumerate() {
@@ -149,7 +149,7 @@ fn has_part_units(component: &Component, library: &Library, units: u32) -> bool
 }
 
 /// The first component other than COVER whose macro's size is not whole in database units.
-pub fn first_not_whole(components: &[Component], library: &Library, units: u32) -> Option<usize>
+pub(crate) fn first_not_whole(components: &[Component], library: &Library, units: u32) -> Option<usize>
     requires least { 1 ≤ units }
     requires most { units ≤ 20000 }
     ensures { FirstIs (HasPartUnits library.now units) components.now result }
@@ -163,7 +163,7 @@ pub fn first_not_whole(components: &[Component], library: &Library, units: u32) 
 }
 
 /// Adds the name, and answers whether it is new.
-pub fn is_added(names: &mut NameTable, name: &[u8]) -> Result<bool, AllocError>
+pub(crate) fn is_added(names: &mut NameTable, name: &[u8]) -> Result<bool, AllocError>
     ensures new { IfOk result (λ added. IsTrue added → Contains names.old name.now → ⊥) }
     ensures added { IfOk result (λ added. IsTrue added → names.new ≡ names.old ++ name.now ∷ []) }
     ensures present { IfOk result (λ added. IsFalse added → Contains names.old name.now) }
@@ -175,7 +175,7 @@ pub fn is_added(names: &mut NameTable, name: &[u8]) -> Result<bool, AllocError>
 }
 
 /// The first component that bears an earlier one's name.
-pub fn first_second_name(
+pub(crate) fn first_second_name(
     alloc: Global,
     components: &[Component],
 ) -> Result<Option<usize>, AllocError>
@@ -191,7 +191,7 @@ pub fn first_second_name(
 }
 
 /// The first component that stands behind so many components as the limit allows.
-pub fn first_component_too_many(components: &[Component], limit: usize) -> Option<usize>
+pub(crate) fn first_component_too_many(components: &[Component], limit: usize) -> Option<usize>
     ensures { FirstIs (IsComponentTooMany limit) components.now result }
 {
     if limit < components.len() {

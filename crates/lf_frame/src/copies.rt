@@ -25,7 +25,7 @@ fn copy_name(alloc: Global, name: &Name) -> Result<Name, AllocError>
 }
 
 /// A copy of the core site.
-pub fn copy_site(alloc: Global, site: &Site) -> Result<Site, AllocError>
+pub(crate) fn copy_site(alloc: Global, site: &Site) -> Result<Site, AllocError>
     ensures { IfOk result (λ copy. copy ≡ site.now) }
 {
     Ok(Site {
@@ -49,7 +49,7 @@ fn copy_macro(alloc: Global, mac: &Macro) -> Result<Macro, AllocError>
 }
 
 /// Copies of all macros.
-pub fn copy_macros(alloc: Global, macros: &[Macro]) -> Result<Sequence<Macro>, AllocError>
+pub(crate) fn copy_macros(alloc: Global, macros: &[Macro]) -> Result<Sequence<Macro>, AllocError>
     ensures { IfOk result (λ copies. copies ≡ macros.now) }
 {
     let mut copies = Sequence::new(alloc);
@@ -60,7 +60,7 @@ pub fn copy_macros(alloc: Global, macros: &[Macro]) -> Result<Sequence<Macro>, A
 }
 
 /// The head of the document with its database units of a micron.
-pub fn copy_header(alloc: Global, header: &DefHeader, units: u32) -> Result<Header, AllocError>
+pub(crate) fn copy_header(alloc: Global, header: &DefHeader, units: u32) -> Result<Header, AllocError>
     ensures { IfOk result (λ copy. copy ≡ record { version = header.now.version; divider = header.now.divider; brackets = header.now.brackets; design = header.now.design; units = units }) }
 {
     Ok(Header {
@@ -95,7 +95,7 @@ fn frame_row(alloc: Global, row: &DefRow) -> Result<Row, AllocError>
 }
 
 /// The heeded rows, in the order of the text.
-pub fn heeded_rows(alloc: Global, rows: &[DefRow], core: &Site) -> Result<Sequence<Row>, AllocError>
+pub(crate) fn heeded_rows(alloc: Global, rows: &[DefRow], core: &Site) -> Result<Sequence<Row>, AllocError>
     requires { All IsRow rows.now }
     ensures { IfOk result (λ heeded. heeded ≡ map frame_row_of (filter (is_heeded_row core.now) rows.now)) }
 {
@@ -126,7 +126,7 @@ fn frame_team(alloc: Global, region: &Region) -> Result<Team, AllocError>
 }
 
 /// The fences, in the order of the text.
-pub fn fence_teams(alloc: Global, regions: &[Region]) -> Result<Sequence<Team>, AllocError>
+pub(crate) fn fence_teams(alloc: Global, regions: &[Region]) -> Result<Sequence<Team>, AllocError>
     ensures { IfOk result (λ teams. teams ≡ map frame_team_of (fences regions.now)) }
 {
     let mut teams = Sequence::new(alloc);
@@ -139,7 +139,7 @@ pub fn fence_teams(alloc: Global, regions: &[Region]) -> Result<Sequence<Team>, 
 }
 
 /// Where the component stands.
-pub fn location(component: &Component) -> Option<Location>
+pub(crate) fn location(component: &Component) -> Option<Location>
     ensures is { result ≡ location_of component.now }
 {
     match component.placement {
@@ -198,7 +198,7 @@ fn fixed_box(library: &Library, component: &Component, units: u32) -> Option<Rec
 }
 
 /// The boxes of the FIXED components, in the order of the text.
-pub fn fixed_boxes(
+pub(crate) fn fixed_boxes(
     alloc: Global,
     library: &Library,
     components: &[Component],
@@ -238,7 +238,7 @@ fn push_blockage(blockage: &Blockage, obstacles: &mut Sequence<Rect>) -> Result<
 }
 
 /// Puts the rectangles of all placement blockages that are neither SOFT nor PARTIAL behind the others.
-pub fn push_blockages(
+pub(crate) fn push_blockages(
     blockages: &[Blockage],
     obstacles: &mut Sequence<Rect>,
 ) -> Result<(), AllocError>

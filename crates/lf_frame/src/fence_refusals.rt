@@ -16,7 +16,7 @@ use lf_units::Rect;
 use std::alloc::{AllocError, Global};
 
 /// Whether the region's TYPE is FENCE.
-pub fn is_fence(region: &Region) -> bool
+pub(crate) fn is_fence(region: &Region) -> bool
     ensures { result ≡ is_fence_region region.now }
 {
     match region.kind {
@@ -40,7 +40,7 @@ fn is_second_fence(names: &mut NameTable, region: &Region) -> Result<bool, Alloc
 }
 
 /// The first fence that bears an earlier fence's name.
-pub fn first_second_fence(alloc: Global, regions: &[Region]) -> Result<Option<usize>, AllocError>
+pub(crate) fn first_second_fence(alloc: Global, regions: &[Region]) -> Result<Option<usize>, AllocError>
     ensures { IfOk result (λ found. FirstIs BearsEarlierFence regions.now found) }
 {
     let mut names = NameTable::new(alloc);
@@ -60,7 +60,7 @@ fn bears_ground_name(region: &Region) -> bool
 }
 
 /// The first fence named `-`.
-pub fn first_ground_name(regions: &[Region]) -> Option<usize>
+pub(crate) fn first_ground_name(regions: &[Region]) -> Option<usize>
     ensures { FirstIs BearsGroundName regions.now result }
 {
     for (number, region) in regions.iter().enumerate() {
@@ -93,7 +93,7 @@ fn is_outside(group: &Group, names: &NameTable) -> bool
 }
 
 /// The first group whose region no entry of REGIONS is.
-pub fn first_without_region(
+pub(crate) fn first_without_region(
     alloc: Global,
     groups: &[Group],
     regions: &[Region],
@@ -205,7 +205,7 @@ fn fence_pieces(alloc: Global, regions: &[Region]) -> Result<Vec<Piece>, AllocEr
 
 /// The first fence that shares a point with an earlier fence. Takes the time of a sort where there is none and
 /// few rectangles lie at one height.
-pub fn first_fence_overlap(alloc: Global, regions: &[Region]) -> Result<Option<usize>, AllocError>
+pub(crate) fn first_fence_overlap(alloc: Global, regions: &[Region]) -> Result<Option<usize>, AllocError>
     ensures { IfOk result (λ found. FirstIs MeetsEarlierFence regions.now found) }
 {
     let mut pieces = fence_pieces(alloc, regions)?;
@@ -216,7 +216,7 @@ pub fn first_fence_overlap(alloc: Global, regions: &[Region]) -> Result<Option<u
 }
 
 /// The first fence that stands behind so many fences as the limit allows.
-pub fn first_fence_too_many(regions: &[Region], limit: usize) -> Option<usize>
+pub(crate) fn first_fence_too_many(regions: &[Region], limit: usize) -> Option<usize>
     ensures { FirstIs (IsFenceTooMany limit) regions.now result }
 {
     let mut fences = 0;

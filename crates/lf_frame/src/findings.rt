@@ -57,7 +57,7 @@ fn row_site<'d>(rows: &'d [Row], place: Option<usize>) -> Option<&'d [u8]>
 }
 
 /// The design's name, where the document has no UNITS.
-pub fn no_units<'d>(library: &Library, document: &'d DefDoc, limits: &Limits) -> Option<&'d [u8]>
+pub(crate) fn no_units<'d>(library: &Library, document: &'d DefDoc, limits: &Limits) -> Option<&'d [u8]>
     ensures { Finds (inputs library.now document.now limits.now) NoUnits (option_copied result) }
 {
     if document.header.units.is_some() {
@@ -68,7 +68,7 @@ pub fn no_units<'d>(library: &Library, document: &'d DefDoc, limits: &Limits) ->
 }
 
 /// The site of the first row whose site no LEF text has.
-pub fn no_site<'d>(library: &Library, document: &'d DefDoc, limits: &Limits) -> Option<&'d [u8]>
+pub(crate) fn no_site<'d>(library: &Library, document: &'d DefDoc, limits: &Limits) -> Option<&'d [u8]>
     ensures { Finds (inputs library.now document.now limits.now) NoSite (option_copied result) }
 {
     let rows = document.rows.as_slice();
@@ -76,7 +76,7 @@ pub fn no_site<'d>(library: &Library, document: &'d DefDoc, limits: &Limits) -> 
 }
 
 /// The design's name, where there is no core site.
-pub fn no_rows<'d>(library: &Library, document: &'d DefDoc, limits: &Limits) -> Option<&'d [u8]>
+pub(crate) fn no_rows<'d>(library: &Library, document: &'d DefDoc, limits: &Limits) -> Option<&'d [u8]>
     ensures { Finds (inputs library.now document.now limits.now) NoRows (option_copied result) }
 {
     if core_site(library, document.rows.as_slice()).is_some() {
@@ -87,7 +87,7 @@ pub fn no_rows<'d>(library: &Library, document: &'d DefDoc, limits: &Limits) -> 
 }
 
 /// The first heeded row of several sites upwards.
-pub fn vertical_row<'d>(
+pub(crate) fn vertical_row<'d>(
     library: &Library,
     document: &'d DefDoc,
     limits: &Limits,
@@ -102,7 +102,7 @@ pub fn vertical_row<'d>(
 }
 
 /// The database units of a micron, or 1 where the document has no UNITS and is refused.
-pub fn units_of(document: &DefDoc) -> u32
+pub(crate) fn units_of(document: &DefDoc) -> u32
     ensures units { result ≡ unwrap_or document.now.header.units 1 }
     ensures least { 1 ≤ result }
     ensures most { result ≤ 20000 }
@@ -114,7 +114,7 @@ pub fn units_of(document: &DefDoc) -> u32
 }
 
 /// The first heeded row of several sites whose step is another length than the site's width.
-pub fn bad_step<'d>(library: &Library, document: &'d DefDoc, limits: &Limits) -> Option<&'d [u8]>
+pub(crate) fn bad_step<'d>(library: &Library, document: &'d DefDoc, limits: &Limits) -> Option<&'d [u8]>
     ensures { Finds (inputs library.now document.now limits.now) BadStep (option_copied result) }
 {
     let rows = document.rows.as_slice();
@@ -128,7 +128,7 @@ pub fn bad_step<'d>(library: &Library, document: &'d DefDoc, limits: &Limits) ->
 }
 
 /// The first heeded row that is neither N, S, FN nor FS.
-pub fn row_orient<'d>(library: &Library, document: &'d DefDoc, limits: &Limits) -> Option<&'d [u8]>
+pub(crate) fn row_orient<'d>(library: &Library, document: &'d DefDoc, limits: &Limits) -> Option<&'d [u8]>
     ensures { Finds (inputs library.now document.now limits.now) RowOrient (option_copied result) }
 {
     let rows = document.rows.as_slice();
@@ -139,7 +139,7 @@ pub fn row_orient<'d>(library: &Library, document: &'d DefDoc, limits: &Limits) 
 }
 
 /// The first heeded row that shares a point with an earlier one.
-pub fn rows_overlap<'d>(
+pub(crate) fn rows_overlap<'d>(
     alloc: Global,
     library: &Library,
     document: &'d DefDoc,
@@ -185,7 +185,7 @@ fn component_name<'d>(components: &'d [Component], place: Option<usize>) -> Opti
 }
 
 /// The macro of the first component whose macro no LEF text has.
-pub fn no_macro<'d>(library: &Library, document: &'d DefDoc, limits: &Limits) -> Option<&'d [u8]>
+pub(crate) fn no_macro<'d>(library: &Library, document: &'d DefDoc, limits: &Limits) -> Option<&'d [u8]>
     ensures { Finds (inputs library.now document.now limits.now) NoMacro (option_copied result) }
 {
     let components = document.components.as_slice();
@@ -193,7 +193,7 @@ pub fn no_macro<'d>(library: &Library, document: &'d DefDoc, limits: &Limits) ->
 }
 
 /// The macro of the first component whose macro has no size.
-pub fn no_size<'d>(library: &Library, document: &'d DefDoc, limits: &Limits) -> Option<&'d [u8]>
+pub(crate) fn no_size<'d>(library: &Library, document: &'d DefDoc, limits: &Limits) -> Option<&'d [u8]>
     ensures { Finds (inputs library.now document.now limits.now) NoSize (option_copied result) }
 {
     let components = document.components.as_slice();
@@ -226,7 +226,7 @@ fn mac_not_whole<'d>(library: &Library, document: &'d DefDoc, limits: &Limits) -
 }
 
 /// The site or macro whose size is no whole number of database units: the core site, then those of components.
-pub fn not_whole<'d>(
+pub(crate) fn not_whole<'d>(
     library: &'d Library,
     document: &'d DefDoc,
     limits: &Limits,
@@ -240,7 +240,7 @@ pub fn not_whole<'d>(
 }
 
 /// The first component that bears an earlier one's name.
-pub fn second_name<'d>(
+pub(crate) fn second_name<'d>(
     alloc: Global,
     library: &Library,
     document: &'d DefDoc,
@@ -289,7 +289,7 @@ fn region_of_group<'d>(groups: &'d [Group], place: Option<usize>) -> Option<&'d 
 }
 
 /// The first fence that bears an earlier fence's name.
-pub fn second_region<'d>(
+pub(crate) fn second_region<'d>(
     alloc: Global,
     library: &Library,
     document: &'d DefDoc,
@@ -303,7 +303,7 @@ pub fn second_region<'d>(
 }
 
 /// The region of the first group whose region no entry of REGIONS is.
-pub fn no_region<'d>(
+pub(crate) fn no_region<'d>(
     alloc: Global,
     library: &Library,
     document: &'d DefDoc,
@@ -317,7 +317,7 @@ pub fn no_region<'d>(
 }
 
 /// The first fence named `-`.
-pub fn team_name<'d>(library: &Library, document: &'d DefDoc, limits: &Limits) -> Option<&'d [u8]>
+pub(crate) fn team_name<'d>(library: &Library, document: &'d DefDoc, limits: &Limits) -> Option<&'d [u8]>
     ensures { Finds (inputs library.now document.now limits.now) TeamName (option_copied result) }
 {
     let regions = document.regions.as_slice();
@@ -325,7 +325,7 @@ pub fn team_name<'d>(library: &Library, document: &'d DefDoc, limits: &Limits) -
 }
 
 /// The first fence that shares a point with an earlier one.
-pub fn fences_overlap<'d>(
+pub(crate) fn fences_overlap<'d>(
     alloc: Global,
     library: &Library,
     document: &'d DefDoc,
@@ -339,7 +339,7 @@ pub fn fences_overlap<'d>(
 }
 
 /// The first movable component that groups of two different fences name.
-pub fn two_fences<'d>(
+pub(crate) fn two_fences<'d>(
     claims: &ClaimTable,
     library: &Library,
     document: &'d DefDoc,
@@ -401,7 +401,7 @@ fn row_too_far<'d>(library: &Library, document: &'d DefDoc, limits: &Limits) -> 
 }
 
 /// The first entry beyond a limit: of heeded rows, fences and components, and then a row that ends too far.
-pub fn too_many<'d>(library: &Library, document: &'d DefDoc, limits: &Limits) -> Option<&'d [u8]>
+pub(crate) fn too_many<'d>(library: &Library, document: &'d DefDoc, limits: &Limits) -> Option<&'d [u8]>
     ensures { Finds (inputs library.now document.now limits.now) TooMany (option_copied result) }
 {
     if let Some(name) = rows_too_many(library, document, limits) {

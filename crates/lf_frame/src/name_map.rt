@@ -16,7 +16,7 @@ pub struct NameMap<V: Copy> {
 
 impl<V: Copy> NameMap<V> {
     /// The map of no name.
-    pub fn new(alloc: Global) -> Self
+    pub(crate) fn new(alloc: Global) -> Self
         ensures whole { IsWhole result }
         ensures nothing { (name : List ℕ) → value_of result name ≡ None }
     {
@@ -27,7 +27,7 @@ impl<V: Copy> NameMap<V> {
     }
 
     /// The name's value.
-    pub fn get(&self, name: &[u8]) -> Option<V>
+    pub(crate) fn get(&self, name: &[u8]) -> Option<V>
         ensures { result ≡ value_of self.now name.now }
     {
         match self.names.find(name) {
@@ -37,7 +37,7 @@ impl<V: Copy> NameMap<V> {
     }
 
     /// Gives the name this value in place of any other. After an `Err` the map is to be dropped.
-    pub fn put(&mut self, name: &[u8], value: V) -> Result<(), AllocError>
+    pub(crate) fn put(&mut self, name: &[u8], value: V) -> Result<(), AllocError>
         requires { IsWhole self.old }
         ensures { OnOk result (Puts self.old self.new name.now value) }
     {

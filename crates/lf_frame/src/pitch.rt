@@ -14,7 +14,7 @@ use lf_lef::{Library, Site};
 use lf_units::Point;
 
 /// The core site, with its range and size.
-pub fn sized_core_site<'l>(library: &'l Library, rows: &[Row]) -> Option<&'l Site>
+pub(crate) fn sized_core_site<'l>(library: &'l Library, rows: &[Row]) -> Option<&'l Site>
     ensures core { option_copied result ≡ core_site_of library.now rows.now }
     ensures range { IfSome result (λ s. HasRange s.now.size) }
     ensures sized { IfSome result (λ s. has_size s.now.size ≡ true) }
@@ -36,7 +36,7 @@ fn length_in_dbu(length: i64, units: u32) -> i64
 }
 
 /// A size in database units.
-pub fn size_in_units(size: &Point, units: u32) -> Point
+pub(crate) fn size_in_units(size: &Point, units: u32) -> Point
     requires most { units ≤ 20000 }
     requires range { HasRange size.now }
     requires wide { pos 0 <ℤ size.now.x }
@@ -49,7 +49,7 @@ pub fn size_in_units(size: &Point, units: u32) -> Point
 }
 
 /// The size of a core site in database units, where it is whole.
-pub fn core_pitch(core: &Site, units: u32) -> Option<Point>
+pub(crate) fn core_pitch(core: &Site, units: u32) -> Option<Point>
     requires least { 1 ≤ units }
     requires most { units ≤ 20000 }
     requires range { HasRange core.now.size }

@@ -92,7 +92,7 @@ fn finding<'d>(
 }
 
 /// The refusal of the least number that finds an entry, with the name that it finds.
-pub fn first_refusal<'d>(
+pub(crate) fn first_refusal<'d>(
     alloc: Global,
     claims: &ClaimTable,
     library: &'d Library,

@@ -20,7 +20,7 @@ use lf_units::Point;
 use std::alloc::{AllocError, Global};
 
 /// The site of that name.
-pub fn site_named<'l>(library: &'l Library, name: &[u8]) -> Option<&'l Site>
+pub(crate) fn site_named<'l>(library: &'l Library, name: &[u8]) -> Option<&'l Site>
     ensures site { option_copied result ≡ site_named library.now name.now }
     ensures range { IfSome result (λ s. HasRange s.now.size) }
 {
@@ -45,7 +45,7 @@ fn core_row<'d>(rows: &'d [Row], library: &Library) -> Option<&'d Row>
 }
 
 /// The core site: that of the first row whose site has CLASS CORE and a SIZE with both lengths above 0.
-pub fn core_site<'l>(library: &'l Library, rows: &[Row]) -> Option<&'l Site>
+pub(crate) fn core_site<'l>(library: &'l Library, rows: &[Row]) -> Option<&'l Site>
     ensures core { option_copied result ≡ core_site_of library.now rows.now }
     ensures range { IfSome result (λ s. HasRange s.now.size) }
 {
@@ -63,7 +63,7 @@ fn has_no_site(row: &Row, library: &Library) -> bool
 }
 
 /// The first row whose site no LEF text has.
-pub fn first_without_site(rows: &[Row], library: &Library) -> Option<usize>
+pub(crate) fn first_without_site(rows: &[Row], library: &Library) -> Option<usize>
     ensures { FirstIs (HasNoSite library.now) rows.now result }
 {
     for (number, row) in rows.iter().enumerate() {
@@ -75,7 +75,7 @@ pub fn first_without_site(rows: &[Row], library: &Library) -> Option<usize>
 }
 
 /// Whether the row is one of core sites.
-pub fn is_heeded(row: &Row, core: &Site) -> bool
+pub(crate) fn is_heeded(row: &Row, core: &Site) -> bool
     ensures { result ≡ is_heeded_row core.now row.now }
 {
     row.site.is(core.name.as_bytes())
@@ -89,7 +89,7 @@ fn is_vertical(row: &Row, core: &Site) -> bool
 }
 
 /// The first heeded row with another number of sites upwards than 1.
-pub fn first_vertical(rows: &[Row], core: &Site) -> Option<usize>
+pub(crate) fn first_vertical(rows: &[Row], core: &Site) -> Option<usize>
     ensures { FirstIs (IsVertical core.now) rows.now result }
 {
     for (number, row) in rows.iter().enumerate() {
@@ -111,7 +111,7 @@ fn has_bad_step(row: &Row, core: &Site, pitch: &Point) -> bool
 }
 
 /// The first heeded row of several sites that steps by another length than the site's width.
-pub fn first_bad_step(rows: &[Row], core: &Site, pitch: &Point) -> Option<usize>
+pub(crate) fn first_bad_step(rows: &[Row], core: &Site, pitch: &Point) -> Option<usize>
     ensures { FirstIs (HasBadStep core.now pitch.now) rows.now result }
 {
     for (number, row) in rows.iter().enumerate() {
@@ -130,7 +130,7 @@ fn is_turned(row: &Row, core: &Site) -> bool
 }
 
 /// The first heeded row that is neither N, S, FN nor FS.
-pub fn first_turned(rows: &[Row], core: &Site) -> Option<usize>
+pub(crate) fn first_turned(rows: &[Row], core: &Site) -> Option<usize>
     ensures { FirstIs (IsTurned core.now) rows.now result }
 {
     for (number, row) in rows.iter().enumerate() {
@@ -142,7 +142,7 @@ pub fn first_turned(rows: &[Row], core: &Site) -> Option<usize>
 }
 
 /// The first heeded row that stands behind so many heeded rows as the limit allows.
-pub fn first_row_too_many(rows: &[Row], core: &Site, limit: usize) -> Option<usize>
+pub(crate) fn first_row_too_many(rows: &[Row], core: &Site, limit: usize) -> Option<usize>
     ensures { FirstIs (IsRowTooMany core.now limit) rows.now result }
 {
     let mut heeded = 0;
@@ -315,7 +315,7 @@ fn row_pieces(
 
 /// The first heeded row that shares a point with an earlier one. Takes the time of a sort where there is none
 /// and few rows lie at one height.
-pub fn first_row_overlap(
+pub(crate) fn first_row_overlap(
     alloc: Global,
     rows: &[Row],
     core: &Site,
@@ -346,7 +346,7 @@ fn ends_too_far(row: &Row, core: &Site, pitch: &Point) -> bool
 }
 
 /// The first heeded row that ends past the largest coordinate.
-pub fn first_too_far(rows: &[Row], core: &Site, pitch: &Point) -> Option<usize>
+pub(crate) fn first_too_far(rows: &[Row], core: &Site, pitch: &Point) -> Option<usize>
     requires wide { pos 0 <ℤ pitch.now.x }
     requires narrow { pitch.now.x ≤ℤ pos 20000000000 }
     requires each { All IsRow rows.now }

@@ -102,7 +102,7 @@ fn sort_upwards(pieces: &mut [Piece])
 
 /// Whether no two pieces of different entries share a point. Takes the time of a sort, and of a test for each
 /// two pieces that lie at one height.
-pub fn none_clash(pieces: &mut [Piece]) -> bool
+pub(crate) fn none_clash(pieces: &mut [Piece]) -> bool
     ensures { IsTrue result ↔ NoneClash pieces.old }
 {
     sort_upwards(pieces);
