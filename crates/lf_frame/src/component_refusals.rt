@@ -149,7 +149,11 @@ fn has_part_units(component: &Component, library: &Library, units: u32) -> bool
 }
 
 /// The first component other than COVER whose macro's size is not whole in database units.
-pub(crate) fn first_not_whole(components: &[Component], library: &Library, units: u32) -> Option<usize>
+pub(crate) fn first_not_whole(
+    components: &[Component],
+    library: &Library,
+    units: u32,
+) -> Option<usize>
     requires least { 1 ≤ units }
     requires most { units ≤ 20000 }
     ensures { FirstIs (HasPartUnits library.now units) components.now result }

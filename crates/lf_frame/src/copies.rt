@@ -60,7 +60,11 @@ pub(crate) fn copy_macros(alloc: Global, macros: &[Macro]) -> Result<Sequence<Ma
 }
 
 /// The head of the document with its database units of a micron.
-pub(crate) fn copy_header(alloc: Global, header: &DefHeader, units: u32) -> Result<Header, AllocError>
+pub(crate) fn copy_header(
+    alloc: Global,
+    header: &DefHeader,
+    units: u32,
+) -> Result<Header, AllocError>
     ensures { IfOk result (λ copy. copy ≡ record { version = header.now.version; divider = header.now.divider; brackets = header.now.brackets; design = header.now.design; units = units }) }
 {
     Ok(Header {
@@ -95,7 +99,11 @@ fn frame_row(alloc: Global, row: &DefRow) -> Result<Row, AllocError>
 }
 
 /// The heeded rows, in the order of the text.
-pub(crate) fn heeded_rows(alloc: Global, rows: &[DefRow], core: &Site) -> Result<Sequence<Row>, AllocError>
+pub(crate) fn heeded_rows(
+    alloc: Global,
+    rows: &[DefRow],
+    core: &Site,
+) -> Result<Sequence<Row>, AllocError>
     requires { All IsRow rows.now }
     ensures { IfOk result (λ heeded. heeded ≡ map frame_row_of (filter (is_heeded_row core.now) rows.now)) }
 {

@@ -40,7 +40,10 @@ fn is_second_fence(names: &mut NameTable, region: &Region) -> Result<bool, Alloc
 }
 
 /// The first fence that bears an earlier fence's name.
-pub(crate) fn first_second_fence(alloc: Global, regions: &[Region]) -> Result<Option<usize>, AllocError>
+pub(crate) fn first_second_fence(
+    alloc: Global,
+    regions: &[Region],
+) -> Result<Option<usize>, AllocError>
     ensures { IfOk result (λ found. FirstIs BearsEarlierFence regions.now found) }
 {
     let mut names = NameTable::new(alloc);
@@ -205,7 +208,10 @@ fn fence_pieces(alloc: Global, regions: &[Region]) -> Result<Vec<Piece>, AllocEr
 
 /// The first fence that shares a point with an earlier fence. Takes the time of a sort where there is none and
 /// few rectangles lie at one height.
-pub(crate) fn first_fence_overlap(alloc: Global, regions: &[Region]) -> Result<Option<usize>, AllocError>
+pub(crate) fn first_fence_overlap(
+    alloc: Global,
+    regions: &[Region],
+) -> Result<Option<usize>, AllocError>
     ensures { IfOk result (λ found. FirstIs MeetsEarlierFence regions.now found) }
 {
     let mut pieces = fence_pieces(alloc, regions)?;

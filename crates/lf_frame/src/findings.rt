@@ -57,7 +57,11 @@ fn row_site<'d>(rows: &'d [Row], place: Option<usize>) -> Option<&'d [u8]>
 }
 
 /// The design's name, where the document has no UNITS.
-pub(crate) fn no_units<'d>(library: &Library, document: &'d DefDoc, limits: &Limits) -> Option<&'d [u8]>
+pub(crate) fn no_units<'d>(
+    library: &Library,
+    document: &'d DefDoc,
+    limits: &Limits,
+) -> Option<&'d [u8]>
     ensures { Finds (inputs library.now document.now limits.now) NoUnits (option_copied result) }
 {
     if document.header.units.is_some() {
@@ -68,7 +72,11 @@ pub(crate) fn no_units<'d>(library: &Library, document: &'d DefDoc, limits: &Lim
 }
 
 /// The site of the first row whose site no LEF text has.
-pub(crate) fn no_site<'d>(library: &Library, document: &'d DefDoc, limits: &Limits) -> Option<&'d [u8]>
+pub(crate) fn no_site<'d>(
+    library: &Library,
+    document: &'d DefDoc,
+    limits: &Limits,
+) -> Option<&'d [u8]>
     ensures { Finds (inputs library.now document.now limits.now) NoSite (option_copied result) }
 {
     let rows = document.rows.as_slice();
@@ -76,7 +84,11 @@ pub(crate) fn no_site<'d>(library: &Library, document: &'d DefDoc, limits: &Limi
 }
 
 /// The design's name, where there is no core site.
-pub(crate) fn no_rows<'d>(library: &Library, document: &'d DefDoc, limits: &Limits) -> Option<&'d [u8]>
+pub(crate) fn no_rows<'d>(
+    library: &Library,
+    document: &'d DefDoc,
+    limits: &Limits,
+) -> Option<&'d [u8]>
     ensures { Finds (inputs library.now document.now limits.now) NoRows (option_copied result) }
 {
     if core_site(library, document.rows.as_slice()).is_some() {
@@ -114,7 +126,11 @@ pub(crate) fn units_of(document: &DefDoc) -> u32
 }
 
 /// The first heeded row of several sites whose step is another length than the site's width.
-pub(crate) fn bad_step<'d>(library: &Library, document: &'d DefDoc, limits: &Limits) -> Option<&'d [u8]>
+pub(crate) fn bad_step<'d>(
+    library: &Library,
+    document: &'d DefDoc,
+    limits: &Limits,
+) -> Option<&'d [u8]>
     ensures { Finds (inputs library.now document.now limits.now) BadStep (option_copied result) }
 {
     let rows = document.rows.as_slice();
@@ -128,7 +144,11 @@ pub(crate) fn bad_step<'d>(library: &Library, document: &'d DefDoc, limits: &Lim
 }
 
 /// The first heeded row that is neither N, S, FN nor FS.
-pub(crate) fn row_orient<'d>(library: &Library, document: &'d DefDoc, limits: &Limits) -> Option<&'d [u8]>
+pub(crate) fn row_orient<'d>(
+    library: &Library,
+    document: &'d DefDoc,
+    limits: &Limits,
+) -> Option<&'d [u8]>
     ensures { Finds (inputs library.now document.now limits.now) RowOrient (option_copied result) }
 {
     let rows = document.rows.as_slice();
@@ -185,7 +205,11 @@ fn component_name<'d>(components: &'d [Component], place: Option<usize>) -> Opti
 }
 
 /// The macro of the first component whose macro no LEF text has.
-pub(crate) fn no_macro<'d>(library: &Library, document: &'d DefDoc, limits: &Limits) -> Option<&'d [u8]>
+pub(crate) fn no_macro<'d>(
+    library: &Library,
+    document: &'d DefDoc,
+    limits: &Limits,
+) -> Option<&'d [u8]>
     ensures { Finds (inputs library.now document.now limits.now) NoMacro (option_copied result) }
 {
     let components = document.components.as_slice();
@@ -193,7 +217,11 @@ pub(crate) fn no_macro<'d>(library: &Library, document: &'d DefDoc, limits: &Lim
 }
 
 /// The macro of the first component whose macro has no size.
-pub(crate) fn no_size<'d>(library: &Library, document: &'d DefDoc, limits: &Limits) -> Option<&'d [u8]>
+pub(crate) fn no_size<'d>(
+    library: &Library,
+    document: &'d DefDoc,
+    limits: &Limits,
+) -> Option<&'d [u8]>
     ensures { Finds (inputs library.now document.now limits.now) NoSize (option_copied result) }
 {
     let components = document.components.as_slice();
@@ -317,7 +345,11 @@ pub(crate) fn no_region<'d>(
 }
 
 /// The first fence named `-`.
-pub(crate) fn team_name<'d>(library: &Library, document: &'d DefDoc, limits: &Limits) -> Option<&'d [u8]>
+pub(crate) fn team_name<'d>(
+    library: &Library,
+    document: &'d DefDoc,
+    limits: &Limits,
+) -> Option<&'d [u8]>
     ensures { Finds (inputs library.now document.now limits.now) TeamName (option_copied result) }
 {
     let regions = document.regions.as_slice();
@@ -401,7 +433,11 @@ fn row_too_far<'d>(library: &Library, document: &'d DefDoc, limits: &Limits) -> 
 }
 
 /// The first entry beyond a limit: of heeded rows, fences and components, and then a row that ends too far.
-pub(crate) fn too_many<'d>(library: &Library, document: &'d DefDoc, limits: &Limits) -> Option<&'d [u8]>
+pub(crate) fn too_many<'d>(
+    library: &Library,
+    document: &'d DefDoc,
+    limits: &Limits,
+) -> Option<&'d [u8]>
     ensures { Finds (inputs library.now document.now limits.now) TooMany (option_copied result) }
 {
     if let Some(name) = rows_too_many(library, document, limits) {
