@@ -1,210 +1,144 @@
 use super::*;
-use crate::proto::{
-    Action, Change, Command, Order, Refusal, Reply, Request, RequestList, parse_line,
-};
-use lf_frame::{
-    Cell as LoadedCell, Frame, Header, Limits, Macro, Parts, Place, Row, Site, Team, frame_of,
-    loaded_of,
-};
-use lf_orient::{Orient, Rail, Symmetry};
-use lf_rules::Rule;
-use lf_units::{Name, Point, Rect, Sequence};
+use crate::proto::{Action, Change, Command, Order, Request, RequestList, parse_line, reply_text};
+use lf_def::{W_DEF, read_def};
+use lf_frame::{Limits, Loaded, Place, load};
+use lf_lef::{Library, W_LEF, read_lef};
+use lf_orient::Orient;
 use std::alloc::{AllocError, Global};
 use std::test::Fail;
 
-const UNFLIPPED: Symmetry = Symmetry { x: false, y: false };
-
-/// A name that no command reads.
-fn unread(alloc: Global) -> Name {
-    Name::from_vec(Vec::new(alloc))
-}
-
-/// A site of 200 by 2000 database units.
-fn site(alloc: Global) -> Site {
-    let size = Point {
-        x: 200_000,
-        y: 2_000_000,
-    };
-    Site {
-        name: unread(alloc),
-        core: true,
-        size,
-        symmetry: UNFLIPPED,
-    }
-}
-
-/// One row of thirty sites.
-fn rows(alloc: Global) -> Result<Sequence<Row>, AllocError> {
-    let row = Row {
-        name: unread(alloc),
-        x: 0,
-        y: 0,
-        orient: Orient::N,
-        sites: 30,
-    };
-    Ok(Sequence::from_vec(vec![in alloc; row]?))
-}
-
-/// A fence over the row from x1 to x2.
-fn fence(alloc: Global, name: &[u8], x1: i64, x2: i64) -> Result<Team, AllocError> {
-    let name = Name::from_slice(alloc, name)?;
-    let rects = Sequence::from_vec(vec![in alloc;
-        Rect {
-            x1,
-            y1: 0,
-            x2,
-            y2: 2000
-        },
-    ]?);
-    Ok(Team { name, rects })
-}
-
-/// A over the first ten sites, and B over the next ten.
-fn fences(alloc: Global) -> Result<Sequence<Team>, AllocError> {
-    let first = fence(alloc, b"A", 0, 2000)?;
-    let second = fence(alloc, b"B", 2000, 4000)?;
-    Ok(Sequence::from_vec(vec![in alloc; first, second]?))
-}
-
-/// A macro that is two sites wide.
-fn macros(alloc: Global) -> Result<Sequence<Macro>, AllocError> {
-    let inverter = Macro {
-        name: unread(alloc),
-        size: Point {
-            x: 400_000,
-            y: 2_000_000,
-        },
-        origin: Point { x: 0, y: 0 },
-        symmetry: UNFLIPPED,
-        rail: Rail::Ground,
-    };
-    Ok(Sequence::from_vec(vec![in alloc; inverter]?))
-}
-
-fn header(alloc: Global) -> Header {
-    Header {
-        version: unread(alloc),
-        divider: unread(alloc),
-        brackets: unread(alloc),
-        design: unread(alloc),
-        units: 1000,
-    }
-}
-
-/// The row with its two fences; each team may have one session and make two changes.
-fn frame(alloc: Global) -> Result<Option<Frame>, AllocError> {
-    let Some(limits) = Limits::checked(1, 2, 3, 1, 1, 2) else {
-        return Ok(None);
-    };
-    let rows = rows(alloc)?;
-    let teams = fences(alloc)?;
-    let macros = macros(alloc)?;
-    Ok(frame_of(Parts {
-        site: site(alloc),
-        rows,
-        teams,
-        obstacles: Sequence::new(alloc),
-        macros,
-        header: header(alloc),
-        limits,
-    }))
-}
-
-/// A cell of the only macro, standing at x where it is placed.
-fn cell(
+/// The text with one of its lines, numbered from 1, exchanged for another.
+fn with_line(
     alloc: Global,
-    name: &[u8],
-    team: usize,
-    x: Option<u16>,
-    component: usize,
-) -> Result<LoadedCell, AllocError> {
-    let name = Name::from_slice(alloc, name)?;
-    let place = match x {
-        Some(x) => Some(Place::new(i32::from(x), 0, Orient::N)),
-        None => None,
-    };
-    Ok(LoadedCell {
-        name,
-        team,
-        mac: 0,
-        place,
-        component,
-    })
-}
-
-/// The cells a1 of A and b1 of B at the left ends of their fences, and a2 of A unplaced.
-fn cells(alloc: Global) -> Result<Sequence<LoadedCell>, AllocError> {
-    let table: [(&[u8], usize, Option<u16>); 3] = [
-        (b"a1", 0, Some(0)),
-        (b"b1", 1, Some(2000)),
-        (b"a2", 0, None),
-    ];
-    let mut cells = Sequence::new(alloc);
-    for (component, (name, team, x)) in table.into_iter().enumerate() {
-        cells.push(cell(alloc, name, team, x, component)?)?;
+    text: &[u8],
+    number: usize,
+    line: &[u8],
+) -> Result<Vec<u8>, AllocError> {
+    let mut new = Vec::new(alloc);
+    for (i, old) in text.split(|byte| *byte == b'\n').enumerate() {
+        if i > 0 {
+            new.push(b'\n')?;
+        }
+        if number.checked_sub(1) == Some(i) {
+            new.extend_from_slice(line)?;
+        } else {
+            new.extend_from_slice(old)?;
+        }
     }
-    Ok(cells)
+    Ok(new)
 }
 
-/// The floor of the three cells.
-fn floor(alloc: Global) -> Result<Option<Floor>, AllocError> {
-    let cells = cells(alloc)?;
-    let Some(frame) = frame(alloc)? else {
-        return Ok(None);
+/// The design of the built-in LEF text and this DEF text.
+fn design(alloc: Global, def: &[u8], limits: Limits) -> Result<Loaded, Fail> {
+    let mut library = Library::new(alloc);
+    if read_lef(&mut library, W_LEF).is_err() {
+        return Err(Fail::from("a LEF text"));
+    }
+    let Ok(document) = read_def(alloc, def) else {
+        return Err(Fail::from("a DEF text"));
     };
-    match loaded_of(frame, cells) {
-        Some(loaded) => Ok(Some(Floor::start(alloc, loaded)?)),
-        None => Ok(None),
+    match load(alloc, &library, &document, limits) {
+        Ok(design) => Ok(design),
+        Err(_) => Err(Fail::from("a design")),
     }
 }
 
-/// The reply to a line.
-fn told(floor: &mut Floor, line: &[u8]) -> Option<Reply> {
-    let request = parse_line(line).ok()?;
-    Some(floor.step(&request))
+/// The built-in design with a1 and b1 at the lower left corners of their fences; each team may have one session
+/// and make two changes.
+fn floor(alloc: Global) -> Result<Floor, Fail> {
+    let limits = Limits::checked(4, 2, 5, 1, 1, 2).ok_or("limits")?;
+    let def = with_line(alloc, W_DEF, 15, b"- a1 INV + PLACED ( 0 0 ) N ;")?;
+    let def = with_line(alloc, &def, 18, b"- b1 INV + PLACED ( 6000 0 ) N ;")?;
+    let design = design(alloc, &def, limits)?;
+    Ok(Floor::start(alloc, design)?)
 }
 
-/// The reply that the cell a2 may not stand there.
-fn illegal(rule: Rule, other: Option<u32>) -> Reply {
-    Reply::Refused(Refusal::Illegal {
-        rule,
-        cell: 1,
-        other,
-    })
+/// Whether a line is answered by this text, in which cells are named `cell` and `other`.
+fn tells(
+    alloc: Global,
+    floor: &mut Floor,
+    line: &[u8],
+    expected: &[u8],
+) -> Result<bool, AllocError> {
+    let Ok(request) = parse_line(line) else {
+        return Ok(false);
+    };
+    let mut text = Vec::new(alloc);
+    reply_text(&floor.step(&request), b"cell", b"other", &mut text)?;
+    Ok(text.as_slice() == expected)
 }
 
 #[test]
 fn answers_a_team(rt: HostRuntime) -> Result<(), Fail> {
-    let mut floor = floor(rt.alloc())?.ok_or("a design")?;
-    let opened = Reply::Opened {
-        session: 0,
-        revision: 0,
-    };
-    let lines: [(&[u8], Reply); 14] = [
-        (b"open C", Reply::Refused(Refusal::NoTeam)),
-        (b"where A 0 a1", Reply::Refused(Refusal::NoSession)),
-        (b"open A", opened),
-        (b"open A", Reply::Refused(Refusal::SessionsFull)),
-        (b"where A 1 a1", Reply::Refused(Refusal::NoSession)),
-        (b"where A 0 a1", Reply::At(Place::new(0, 0, Orient::N))),
-        (b"where A 0 b1", Reply::Refused(Refusal::NoCell)),
-        (b"where A 0 nobody", Reply::Refused(Refusal::NoCell)),
+    let mut floor = floor(rt.alloc())?;
+    let lines: [(&[u8], &[u8]); 14] = [
+        (b"open C", b"no 2 NoTeam\n"),
+        (b"where A 0 a1", b"no 3 NoSession\n"),
+        (b"open A", b"ok 0 0\n"),
+        (b"open A", b"no 10 SessionsFull\n"),
+        (b"where A 1 a1", b"no 3 NoSession\n"),
+        (b"where A 0 a1", b"ok 0 0 N\n"),
+        (b"where A 0 b1", b"no 5 NoCell\n"),
+        (b"where A 0 nobody", b"no 5 NoCell\n"),
+        (b"where A 0 a2", b"no 6 Unplaced cell\n"),
+        (b"place A 0 a2 4000 0 N", b"no 7 Illegal 6 cell\n"),
+        (b"place A 0 a2 200 0 N", b"no 7 Illegal 8 cell other\n"),
+        (b"place A 0 a2 400 0 N", b"ok 1\n"),
+        (b"place A 0 a2 600 0 N", b"ok 2\n"),
+        (b"place A 0 nobody 0 0 N", b"no 11 RevisionsSpent\n"),
+    ];
+    for (number, (line, expected)) in lines.into_iter().enumerate() {
+        assert!(rt; tells(rt.alloc(), &mut floor, line, expected)?, "line {number}");
+    }
+    Ok(())
+}
+
+/// The floor of the built-in design with some of its lines changed.
+fn changed_floor(alloc: Global, changes: &[(usize, &[u8])]) -> Result<Floor, Fail> {
+    let mut def = Vec::from_slice(alloc, W_DEF)?;
+    for (number, line) in changes {
+        def = with_line(alloc, &def, *number, line)?;
+    }
+    let design = design(alloc, &def, Limits::standard())?;
+    Ok(Floor::start(alloc, design)?)
+}
+
+#[test]
+fn reports_each_team_alone(rt: HostRuntime) -> Result<(), Fail> {
+    let mut floor = changed_floor(
+        rt.alloc(),
+        &[(18, b"- b1 INV + PLACED ( 0 0 ) N ;")],
+    )?;
+    let lines: [(&[u8], &[u8]); 6] = [
+        (b"open A", b"ok 0 0\n"),
+        (b"check A 1", b"no 3 NoSession\n"),
+        (b"place A 0 a1 0 0 N", b"ok 1\n"),
+        (b"check A 0", b"ok {\"cells\":3,\"unplaced\":2,\"violations\":[]}\n"),
+        (b"open B", b"ok 0 0\n"),
         (
-            b"where A 0 a2",
-            Reply::Refused(Refusal::Unplaced { cell: 1 }),
-        ),
-        (b"place A 0 a2 2000 0 N", illegal(Rule::Fence, None)),
-        (b"place A 0 a2 200 0 N", illegal(Rule::Overlap, Some(0))),
-        (b"place A 0 a2 400 0 N", Reply::Revision(1)),
-        (b"place A 0 a2 600 0 N", Reply::Revision(2)),
-        (
-            b"place A 0 nobody 0 0 N",
-            Reply::Refused(Refusal::RevisionsSpent),
+            b"check B 0",
+            b"ok {\"cells\":1,\"unplaced\":0,\"violations\":[{\"cell\":\"b1\",\"rule\":6}]}\n",
         ),
     ];
-    for (number, (line, reply)) in lines.into_iter().enumerate() {
-        assert_eq!(rt; told(&mut floor, line), Some(reply), "line {number}");
+    for (line, expected) in lines {
+        assert!(rt; tells(rt.alloc(), &mut floor, line, expected)?);
     }
+    Ok(())
+}
+
+#[test]
+fn reports_overlap(rt: HostRuntime) -> Result<(), Fail> {
+    let mut floor = changed_floor(
+        rt.alloc(),
+        &[
+            (11, b"- A ( 0 0 ) ( 600 2000 ) + TYPE FENCE ;"),
+            (15, b"- a1 INV + PLACED ( 0 0 ) N ;"),
+            (16, b"- a2 INV + PLACED ( 0 0 ) N ;"),
+        ],
+    )?;
+    assert!(rt; tells(rt.alloc(), &mut floor, b"open A", b"ok 0 0\n")?);
+    let expected = b"ok {\"cells\":3,\"unplaced\":1,\"violations\":[{\"cell\":\"a1\",\"other\":\"a2\",\"rule\":8},{\"cell\":\"a2\",\"other\":\"a1\",\"rule\":8}]}\n";
+    assert!(rt; tells(rt.alloc(), &mut floor, b"check A 0", expected)?);
     Ok(())
 }
 
@@ -232,19 +166,18 @@ fn requests(alloc: Global) -> Result<RequestList, AllocError> {
 
 #[test]
 fn runs_requests(rt: HostRuntime) -> Result<(), Fail> {
-    let mut floor = floor(rt.alloc())?.ok_or("a design")?;
+    let mut floor = floor(rt.alloc())?;
     let replies = floor.run(&requests(rt.alloc())?)?;
-    let unplaced = Reply::Refused(Refusal::Unplaced { cell: 0 });
-    let opened = Reply::Opened {
-        session: 0,
-        revision: 0,
-    };
-    assert!(rt;
-        replies.as_slice() == [opened, Reply::Revision(1), unplaced, Reply::Done].as_slice()
-    );
+    let expected: [&[u8]; 4] = [b"ok 0 0\n", b"ok 1\n", b"no 6 Unplaced b1\n", b"ok\n"];
+    assert_eq!(rt; replies.len(), 4);
+    for (reply, line) in replies.iter().zip(&expected) {
+        let mut text = Vec::new(rt.alloc());
+        reply_text(reply, b"b1", b"", &mut text)?;
+        assert!(rt; text.as_slice() == *line);
+    }
     assert_eq!(rt; floor.place_of(b"A", 0), Some(Place::new(0, 0, Orient::N)));
     assert_eq!(rt; floor.place_of(b"B", 0), None);
     assert!(rt; floor.name_of(b"A", 1) == Some(b"a2".as_slice()));
-    assert!(rt; floor.name_of(b"-", 0).is_none());
+    assert!(rt; floor.name_of(b"-", 1).is_none());
     Ok(())
 }
