@@ -12,7 +12,7 @@ use Rattle.lf_proto.specs.declared.request.Command.{Command}
 use Rattle.lf_proto.specs.declared.request.Command.TheVariants.{Bye, To}
 use Rattle.lf_proto.specs.declared.request.Order.{Order}
 use Rattle.lf_proto.specs.declared.request.Order.TheVariants.{Open, Within}
-use Rattle.lf_proto.specs.declared.request.Action.TheVariants.{Where, Change as Changing}
+use Rattle.lf_proto.specs.declared.request.Action.TheVariants.{Check, Where, Change as Changing}
 use Rattle.lf_proto.specs.declared.reply.Reply.{Reply}
 use Rattle.lf_proto.specs.declared.reply.Reply.TheVariants.{Done, Refused}
 use Rattle.lf_proto.specs.declared.reply.Refusal.TheVariants.{NoTeam}
@@ -85,6 +85,7 @@ looked_free l f number session cell s (Some seen) = located_free cell s
 
 order_free : (l : Legalizer) (f : Frame) (number : ℕ) (name : List ℕ) (order : Order (List ℕ) Place) (s : TeamState) → TakesNone (To name order) → may_be_short (ruled l f number order s).reply ≡ false
 order_free l f number name Open s none = opened_free s
+order_free l f number name (Within session Check) s none = absurd none
 order_free l f number name (Within session (Where cell)) s none = looked_free l f number session cell s (seen_at s.slots session)
 order_free l f number name (Within session (Changing c)) s none = absurd none
 

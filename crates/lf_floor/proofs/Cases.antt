@@ -6,21 +6,22 @@ use Rattle.lf_rules.specs.declared.rule.Broken.{Broken}
 use Rattle.lf_proto.specs.declared.request.Order.{Order}
 use Rattle.lf_proto.specs.declared.request.Order.TheVariants.{Open, Within}
 use Rattle.lf_proto.specs.declared.request.Action.{Action}
-use Rattle.lf_proto.specs.declared.request.Action.TheVariants.{Where, Change as Changing}
+use Rattle.lf_proto.specs.declared.request.Action.TheVariants.{Check, Where, Change as Changing}
 use Rattle.lf_proto.specs.declared.request.Change.{Change}
 use Rattle.lf_proto.specs.declared.request.Change.TheVariants.{Place as PlaceAt, Unplace}
-use Rattle.lf_proto.specs.declared.reply.Reply.TheVariants.{At, Refused}
+use Rattle.lf_proto.specs.declared.reply.Reply.TheVariants.{At, Report, Refused}
 use Rattle.lf_proto.specs.declared.reply.Refusal.{Refusal}
 use Rattle.lf_proto.specs.declared.reply.Refusal.TheVariants.{RevisionsSpent, NoCell, NoSession, Illegal, Unplaced, SessionsFull}
 use Rattle.lf_floor.specs.States.{TeamState}
 use Rattle.lf_floor.specs.Teams.{Setting, cell_named, broken_at}
-use Rattle.lf_floor.specs.Outcomes.{Outcome, is_short, refused, opened, opened_at, located, located_own, located_at, working_at, moved, changed, with_entry, placed, placed_own, placed_unless, unplaced, unplaced_own, unplaced_from, after_change, if_left, after_action, if_open, outcome_of, seen_at}
+use Rattle.lf_floor.specs.Outcomes.{Outcome, is_short, refused, opened, opened_at, checked, located, located_own, located_at, working_at, moved, changed, with_entry, placed, placed_own, placed_unless, unplaced, unplaced_own, unplaced_from, after_change, if_left, after_action, if_open, outcome_of, seen_at}
 
 -- what holds of each outcome that a command can come to, in a team of that setting and state
 pub record Leaves (t : Setting) (s : TeamState) (P : Outcome → Type 0) : Type 1 where
   pub refusal : (r : Refusal) → is_short (Refused r) ≡ false → P (refused r s)
   pub opens : (session : ℕ) → position is_none s.slots ≡ Some session → P (opened_at (Some session) s)
   pub tells : (place : Place) → P (record { reply = At place; team = s })
+  pub checks : (text : List ℕ) → P (record { reply = Report text; team = s })
   pub places : (session own : ℕ) (place : Place) → broken_at t s.cells own place ≡ None → P (changed session (moved s.cells own (Some place)) (with_entry t.frame.limits s) s)
   pub unplaces : (session own : ℕ) → P (changed session (moved s.cells own None) (with_entry t.frame.limits s) s)
 
@@ -31,6 +32,10 @@ module _ (t : Setting) (s : TeamState) (P : Outcome → Type 0) (leaves : Leaves
     go : (o : Option ℕ) → position is_none s.slots ≡ o → P (opened_at o s)
     go None e = leaves.refusal SessionsFull refl
     go (Some session) e = leaves.opens session e
+
+  checked_by : P (checked t s)
+  unfolding checked
+  checked_by = leaves.checks _
 
   located_by : (name : List ℕ) → P (located name s)
   unfolding located
@@ -76,6 +81,7 @@ module _ (t : Setting) (s : TeamState) (P : Outcome → Type 0) (leaves : Leaves
     spent false = leaves.refusal RevisionsSpent refl
 
   action_by : (session : ℕ) (a : Action (List ℕ) Place) → P (after_action t session a s)
+  action_by session Check = checked_by
   action_by session (Where cell) = located_by cell
   action_by session (Changing c) = left_by session c
 

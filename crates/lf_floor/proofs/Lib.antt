@@ -14,3 +14,4 @@ pub mod Standing
 pub mod Tidying
 pub mod VerbLegal
 pub mod VerbRows
+pub mod Listing

@@ -12,6 +12,7 @@ use Rattle.lf_frame.specs.declared.parts.Team.{Team}
 use Rattle.lf_frame.specs.Boxes.{macro_of, no_macro}
 use Rattle.lf_frame.specs.Design.{IsCell}
 use Rattle.lf_frame.specs.Fences.{ground_name}
+use Rattle.lf_frame.specs.Bounds.{IsName}
 use Rattle.lf_floor.specs.declared.cell.Cell.{Cell}
 use Rattle.lf_floor.specs.States.{TeamState}
 use Rattle.lf_floor.specs.Teams.{team_names, team_number, state_at, state_of, IsSizedCell, IsTeamOf}
@@ -76,6 +77,7 @@ opened_team design number =
     let few : length own ≤ length design.cells = length-filter-le (λ (c : LoadedCell). eqb c.team number) design.cells in
     record {
       sized = All-map (λ (c : Cell). IsSizedCell design.frame c) opening_cell own (All-filter (λ (c : LoadedCell). eqb c.team number) (λ (c : LoadedCell). IsSizedCell design.frame (opening_cell c)) design.cells known);
+      printed = All-map (λ (c : Cell). IsName c.name) opening_cell own (All-filter (λ (c : LoadedCell). eqb c.team number) (λ (c : LoadedCell). IsName c.name) design.cells (λ i d within. (design.cells_known i d within).name_printed));
       few_cells = rw (length-map own opening_cell) (omega (arith, few, design.few_cells));
       few_slots = rw (length-replicate {A = Option ℕ} design.frame.limits.sessions None) design.frame.limits.allowed.sessions_within.most;
     }

@@ -5,7 +5,7 @@ use Rattle.lf_frame.specs.declared.place.Place.{Place}
 use Rattle.lf_rules.specs.Tidy.{Tidied, Stuck, tidied}
 use Rattle.lf_proto.specs.declared.request.Order.{Order}
 use Rattle.lf_proto.specs.declared.request.Order.TheVariants.{Open as Opens, Within as Asks}
-use Rattle.lf_proto.specs.declared.request.Action.TheVariants.{Where as AsksWhere, Change as Changes}
+use Rattle.lf_proto.specs.declared.request.Action.TheVariants.{Check as AsksCheck, Where as AsksWhere, Change as Changes}
 use Rattle.lf_proto.specs.declared.request.Change.{Change}
 use Rattle.lf_proto.specs.declared.request.Change.TheVariants.{Place as Places, Unplace as Unplaces}
 use Rattle.lf_proto.specs.declared.reply.Refusal.{Refusal}
@@ -14,7 +14,7 @@ use Rattle.lf_floor.specs.declared.cell.Cell.{Cell}
 use Rattle.lf_floor.specs.States.{TeamState}
 use Rattle.lf_floor.specs.Teams.{Setting, member_of}
 use Rattle.lf_floor.specs.Outcomes.{Outcome, refused, with_entry, places_of, seen_at, after_change, if_left, if_open, outcome_of}
-use Rattle.lf_floor.specs.Verbs.{TeamVerb, Open, Within, Close, Sync, Where, Find, Changing, ChangeVerb, Tidy, Undo, Commit, Revert, restored, recorded, places_in, reverted, undone, undone_by, tidied_by, tidied_team, back_to_committed, as_committed, outcome_of_change, unless_spent, outcome_by_slot, outcome_of_verb}
+use Rattle.lf_floor.specs.Verbs.{TeamVerb, Open, Within, Close, Sync, Check, Where, Find, Changing, ChangeVerb, Tidy, Undo, Commit, Revert, restored, recorded, places_in, reverted, undone, undone_by, tidied_by, tidied_team, back_to_committed, as_committed, outcome_of_change, unless_spent, outcome_by_slot, outcome_of_verb}
 use Rattle.lf_floor.specs.VerbLaws.{MayChange, Leads, HasSeen, verb_of, verb_of_change, is_accepted, is_recorded, is_commit, outcome_of_asking}
 use Rattle.lf_floor.proofs.VerbCases.{verb_by, asking}
 use Rattle.lf_floor.proofs.VerbKept.{moved_part, restored_part, exchanged_part, back_part, same_length, false_true}
@@ -69,6 +69,7 @@ refused_records : (t : Setting) (s : TeamState) (verb : TeamVerb) (r : Refusal) 
 refused_records t s Open r = tt
 refused_records t s (Within session Close) r = tt
 refused_records t s (Within session Sync) r = tt
+refused_records t s (Within session Check) r = tt
 refused_records t s (Within session (Where name)) r = tt
 refused_records t s (Within session (Find name target)) r = tt
 refused_records t s (Within session (Changing change)) r = λ recorded denied. absurd (false_true denied)
@@ -82,6 +83,7 @@ change_recorded t verb s = verb_by t s (λ v o. Records t s v o) record {
   opens = λ session e. tt;
   closes = λ session. tt;
   syncs = λ session. tt;
+  checks = λ session text. tt;
   tells = λ session name place. tt;
   finds = λ session name target place. tt;
   places = λ session own name place may named e is accepted. records t session s _ (moved_part (λ c. c.mac) (λ c p. refl) s.cells own (Some place));
@@ -125,6 +127,7 @@ commit_copies t verb s = verb_by t s (λ v o. Commits s v o) record {
   opens = λ session e is. absurd (false_true is);
   closes = λ session is. absurd (false_true is);
   syncs = λ session is. absurd (false_true is);
+  checks = λ session text is. absurd (false_true is);
   tells = λ session name place is. absurd (false_true is);
   finds = λ session name target place is. absurd (false_true is);
   places = λ session own name place may named e is. absurd (false_true is);
@@ -171,7 +174,12 @@ look_slot : (t : Setting) (session : ℕ) (cell : List ℕ) (s : TeamState) (o :
 look_slot t session cell s None = refl
 look_slot t session cell s (Some n) = refl
 
+check_slot : (t : Setting) (session : ℕ) (s : TeamState) (o : Option ℕ) → if_open o t session AsksCheck s ≡ outcome_by_slot o t session Check s
+check_slot t session s None = refl
+check_slot t session s (Some n) = refl
+
 pub order_as_verb : (t : Setting) (order : Order (List ℕ) Place) (s : TeamState) → HasSeen order s → outcome_of t order s ≡ outcome_of_verb t (verb_of order) s
 order_as_verb t Opens s has_seen = refl
+order_as_verb t (Asks session AsksCheck) s has_seen = check_slot t session s (seen_at s.slots session)
 order_as_verb t (Asks session (AsksWhere cell)) s has_seen = look_slot t session cell s (seen_at s.slots session)
 order_as_verb t (Asks session (Changes c)) s has_seen = same_slot t session c s (seen_at s.slots session) has_seen

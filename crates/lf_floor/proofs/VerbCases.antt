@@ -7,13 +7,13 @@ use Rattle.lf_frame.specs.declared.place.Place.{Place}
 use Rattle.lf_rules.specs.declared.rule.Broken.{Broken}
 use Rattle.lf_rules.specs.Team.{Member}
 use Rattle.lf_rules.specs.Tidy.{Tidied, Going, Stuck, tidied}
-use Rattle.lf_proto.specs.declared.reply.Reply.TheVariants.{Done, Revision, At, Legalized, Tidied as TidyDone, Refused}
+use Rattle.lf_proto.specs.declared.reply.Reply.TheVariants.{Done, Revision, At, Legalized, Tidied as TidyDone, Report, Refused}
 use Rattle.lf_proto.specs.declared.reply.Refusal.{Refusal}
 use Rattle.lf_proto.specs.declared.reply.Refusal.TheVariants.{NoSession, Stale, NoCell, Unplaced, Illegal, NoPlace, NothingToUndo, RevisionsSpent, SessionsFull}
 use Rattle.lf_floor.specs.States.{TeamState}
 use Rattle.lf_floor.specs.Teams.{Setting, cell_named, member_of, broken_at}
-use Rattle.lf_floor.specs.Outcomes.{Outcome, is_short, refused, changed, with_slot, seen_at, moved, working_at, opened, opened_at, located, located_own, located_at, placed, placed_own, placed_unless, unplaced, unplaced_own, unplaced_from}
-use Rattle.lf_floor.specs.Verbs.{TeamVerb, Open, Within, SessionVerb, Close, Sync, Where, Find, Changing, ChangeVerb, PlaceAt, Legalize, Tidy, Unplace, Swap, Undo, Commit, Revert, closed, synced, best_at, found, found_own, found_at, recorded, telling, legalized, legalized_own, legalized_at, restored, places_in, tidied_by, tidied_team, broken_where, exchanged, swapped_unless, swapped_from, swapped_own, swapped, back_to_committed, reverted, undone_by, undone, first_unplaced, BrokenCell, broken_cells, as_committed, committed_unless, committed, outcome_of_change, unless_spent, unless_stale, outcome_within, outcome_by_slot, outcome_of_verb}
+use Rattle.lf_floor.specs.Outcomes.{Outcome, is_short, refused, changed, with_slot, seen_at, moved, working_at, opened, opened_at, checked, located, located_own, located_at, placed, placed_own, placed_unless, unplaced, unplaced_own, unplaced_from}
+use Rattle.lf_floor.specs.Verbs.{TeamVerb, Open, Within, SessionVerb, Close, Sync, Check, Where, Find, Changing, ChangeVerb, PlaceAt, Legalize, Tidy, Unplace, Swap, Undo, Commit, Revert, closed, synced, best_at, found, found_own, found_at, recorded, telling, legalized, legalized_own, legalized_at, restored, places_in, tidied_by, tidied_team, broken_where, exchanged, swapped_unless, swapped_from, swapped_own, swapped, back_to_committed, reverted, undone_by, undone, first_unplaced, BrokenCell, broken_cells, as_committed, committed_unless, committed, outcome_of_change, unless_spent, unless_stale, outcome_within, outcome_by_slot, outcome_of_verb}
 use Rattle.lf_floor.specs.VerbLaws.{MayChange}
 
 -- the session asks this change
@@ -26,6 +26,7 @@ pub record VerbLeaves (t : Setting) (s : TeamState) (P : TeamVerb → Outcome �
   pub opens : (session : ℕ) → position is_none s.slots ≡ Some session → P Open (opened_at (Some session) s)
   pub closes : (session : ℕ) → P (Within session Close) (record { reply = Done; team = with_slot session None s })
   pub syncs : (session : ℕ) → P (Within session Sync) (record { reply = Revision s.revision; team = with_slot session (Some s.revision) s })
+  pub checks : (session : ℕ) (text : List ℕ) → P (Within session Check) (record { reply = Report text; team = s })
   pub tells : (session : ℕ) (name : List ℕ) (place : Place) → P (Within session (Where name)) (record { reply = At place; team = s })
   pub finds : (session : ℕ) (name : List ℕ) (target : Point) (place : Place) → P (Within session (Find name target)) (record { reply = At place; team = s })
   pub places : (session own : ℕ) (name : List ℕ) (place : Place) → MayChange t session s → cell_named name s.cells ≡ Some own → broken_at t s.cells own place ≡ None
@@ -53,6 +54,10 @@ module _ (t : Setting) (s : TeamState) (P : TeamVerb → Outcome → Type 0) (le
     go : (o : Option ℕ) → position is_none s.slots ≡ o → P Open (opened_at o s)
     go None e = leaves.refusal Open SessionsFull refl
     go (Some session) e = leaves.opens session e
+
+  checked_by : (session : ℕ) → P (Within session Check) (checked t s)
+  unfolding checked
+  checked_by session = leaves.checks session _
 
   located_by : (session : ℕ) (name : List ℕ) → P (Within session (Where name)) (located name s)
   unfolding located
@@ -183,6 +188,7 @@ module _ (t : Setting) (s : TeamState) (P : TeamVerb → Outcome → Type 0) (le
   unfolding closed synced
   session_by session seen Close is = leaves.closes session
   session_by session seen Sync is = leaves.syncs session
+  session_by session seen Check is = checked_by session
   session_by session seen (Where name) is = located_by session name
   session_by session seen (Find name target) is = found_by session name target
   session_by session seen (Changing change) is = stale_by session seen change is

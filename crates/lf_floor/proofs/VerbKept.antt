@@ -11,7 +11,7 @@ use Rattle.lf_floor.specs.declared.cell.Cell.{Cell}
 use Rattle.lf_floor.specs.States.{TeamState}
 use Rattle.lf_floor.specs.Teams.{Setting, IsSizedCell, IsTeamOf}
 use Rattle.lf_floor.specs.Outcomes.{Outcome, is_short, refused, changed, moved, working_at, seen_at}
-use Rattle.lf_floor.specs.Verbs.{TeamVerb, Open, Within, Close, Sync, Where, Find, Changing, restored, exchanged, back_to_committed, as_committed, places_in, outcome_of_verb}
+use Rattle.lf_floor.specs.Verbs.{TeamVerb, Open, Within, Close, Sync, Check, Where, Find, Changing, restored, exchanged, back_to_committed, as_committed, places_in, outcome_of_verb}
 use Rattle.lf_floor.specs.VerbLaws.{MayChange, CountsOne, KeepsCells, is_accepted, is_granted, is_change, is_commit, committed_places, told_revision}
 use Rattle.lf_floor.proofs.VerbCases.{verb_by}
 
@@ -24,6 +24,7 @@ never_short t verb s = verb_by t s (λ v o. is_short o.reply ≡ false) record {
   opens = λ session e. refl;
   closes = λ session. refl;
   syncs = λ session. refl;
+  checks = λ session text. refl;
   tells = λ session name place. refl;
   finds = λ session name target place. refl;
   places = λ session own name place may named e. refl;
@@ -51,6 +52,7 @@ refusal_leaves t verb s = verb_by t s (λ v o. LeavesIfRefused s o) record {
   opens = λ session e. granted s _ refl;
   closes = λ session. granted s _ refl;
   syncs = λ session. granted s _ refl;
+  checks = λ session text. granted s _ refl;
   tells = λ session name place. granted s _ refl;
   finds = λ session name target place. granted s _ refl;
   places = λ session own name place may named e. granted s _ refl;
@@ -89,6 +91,7 @@ refused_counts : (t : Setting) (s : TeamState) (verb : TeamVerb) (r : Refusal) �
 refused_counts t s Open r = tt
 refused_counts t s (Within session Close) r = tt
 refused_counts t s (Within session Sync) r = tt
+refused_counts t s (Within session Check) r = tt
 refused_counts t s (Within session (Where name)) r = tt
 refused_counts t s (Within session (Find name target)) r = tt
 refused_counts t s (Within session (Changing change)) r = λ denied. absurd (false_true denied)
@@ -111,6 +114,7 @@ change_counted t verb s = verb_by t s (λ v o. Counts t s v o) record {
   opens = λ session e. tt;
   closes = λ session. tt;
   syncs = λ session. tt;
+  checks = λ session text. tt;
   tells = λ session name place. tt;
   finds = λ session name target place. tt;
   places = λ session own name place may named e accepted. counts t session s _ _ _ may refl;
@@ -136,6 +140,7 @@ look_kept t verb s = verb_by t s (λ v o. LooksOnly s v o) record {
   opens = λ session e denied. same_cells s _;
   closes = λ session denied. same_cells s _;
   syncs = λ session denied. same_cells s _;
+  checks = λ session text denied. same_cells s s.slots;
   tells = λ session name place denied. same_cells s s.slots;
   finds = λ session name target place denied. same_cells s s.slots;
   places = λ session own name place may named e denied. absurd (false_true (sym denied));
@@ -177,6 +182,10 @@ pub committed_macs : (cells : List Cell) → map (λ c. c.mac) (map as_committed
 committed_macs [] = refl
 committed_macs (c ∷ cs) = ap (λ xs. c.mac ∷ xs) (committed_macs cs)
 
+committed_names : (cells : List Cell) → map (λ c. c.name) (map as_committed cells) ≡ map (λ c. c.name) cells
+committed_names [] = refl
+committed_names (c ∷ cs) = ap (λ xs. c.name ∷ xs) (committed_names cs)
+
 -- ---- a team of the frame
 
 pub mac_at : (old new : List Cell) → map (λ c. c.mac) new ≡ map (λ c. c.mac) old → (i : ℕ) (d : Cell) → (get_or new i d).mac ≡ (get_or old i d).mac
@@ -197,14 +206,24 @@ sized_as f c d same h = record {
   sized = rw same h.sized;
 }
 
--- the macros of the cells say whether a team is one of the frame
+name_at : (old new : List Cell) → map (λ c. c.name) new ≡ map (λ c. c.name) old → (i : ℕ) (d : Cell) → (get_or new i d).name ≡ (get_or old i d).name
+name_at [] [] same i d = refl
+name_at [] (c ∷ cs) same i d = absurd cc
+name_at (b ∷ bs) [] same i d = absurd cc
+name_at (b ∷ bs) (c ∷ cs) same zero d = cc
+name_at (b ∷ bs) (c ∷ cs) same (suc i) d =
+    let rest : map (λ c. c.name) cs ≡ map (λ c. c.name) bs = cc in
+    name_at bs cs rest i d
+
+-- the macros and the names of the cells say whether a team is one of the frame
 like_team : (f : Frame) (s : TeamState) (cells : List Cell) (revision : ℕ) (entries : List (List (Option Place))) (slots : List (Option ℕ))
-    → map (λ c. c.mac) cells ≡ map (λ c. c.mac) s.cells → length slots ≡ length s.slots → IsTeamOf f s
+    → map (λ c. c.mac) cells ≡ map (λ c. c.mac) s.cells → map (λ c. c.name) cells ≡ map (λ c. c.name) s.cells → length slots ≡ length s.slots → IsTeamOf f s
     → IsTeamOf f (record { cells = cells; revision = revision; entries = entries; slots = slots })
-like_team f s cells revision entries slots macs slot h =
+like_team f s cells revision entries slots macs names slot h =
     let long = same_length s.cells cells macs in
     record {
       sized = λ i d within. sized_as f (get_or s.cells i d) (get_or cells i d) (mac_at s.cells cells macs i d) (h.sized i d (rw long at within));
+      printed = λ i d within. rw (name_at s.cells cells names i d) (h.printed i d (rw long at within));
       few_cells = rw long h.few_cells;
       few_slots = rw slot h.few_slots;
     }
@@ -212,19 +231,20 @@ like_team f s cells revision entries slots macs slot h =
 pub verb_keeps : (t : Setting) (verb : TeamVerb) (s : TeamState) → IsTeamOf t.frame s → IsTeamOf t.frame (outcome_of_verb t verb s).team
 verb_keeps t verb s h = verb_by t s (λ v o. IsTeamOf t.frame o.team) record {
   refusal = λ v r plain. h;
-  opens = λ session e. like_team t.frame s _ _ _ _ refl (length-set s.slots session (Some s.revision)) h;
-  closes = λ session. like_team t.frame s _ _ _ _ refl (length-set s.slots session None) h;
-  syncs = λ session. like_team t.frame s _ _ _ _ refl (length-set s.slots session (Some s.revision)) h;
+  opens = λ session e. like_team t.frame s _ _ _ _ refl refl (length-set s.slots session (Some s.revision)) h;
+  closes = λ session. like_team t.frame s _ _ _ _ refl refl (length-set s.slots session None) h;
+  syncs = λ session. like_team t.frame s _ _ _ _ refl refl (length-set s.slots session (Some s.revision)) h;
+  checks = λ session text. h;
   tells = λ session name place. h;
   finds = λ session name target place. h;
-  places = λ session own name place may named e. like_team t.frame s _ _ _ _ (moved_part (λ c. c.mac) (λ c p. refl) s.cells own (Some place)) (length-set s.slots session (Some (s.revision + 1))) h;
-  legalizes = λ session own name target place may named e. like_team t.frame s _ _ _ _ (moved_part (λ c. c.mac) (λ c p. refl) s.cells own (Some place)) (length-set s.slots session (Some (s.revision + 1))) h;
-  tidies = λ session count members may e. like_team t.frame s _ _ _ _ (restored_part (λ c. c.mac) (λ c p. refl) (places_in members) s.cells) (length-set s.slots session (Some (s.revision + 1))) h;
-  unplaces = λ session own name may named. like_team t.frame s _ _ _ _ (moved_part (λ c. c.mac) (λ c p. refl) s.cells own None) (length-set s.slots session (Some (s.revision + 1))) h;
-  swaps = λ session first second name other p q may named named' at at' e e'. like_team t.frame s _ _ _ _ (exchanged_part (λ c. c.mac) (λ c p. refl) s.cells first second) (length-set s.slots session (Some (s.revision + 1))) h;
-  undoes = λ session old entries may e. like_team t.frame s _ _ _ _ (restored_part (λ c. c.mac) (λ c p. refl) old s.cells) (length-set s.slots session (Some (s.revision + 1))) h;
-  commits = λ session may u b. like_team t.frame s _ _ _ _ (committed_macs s.cells) (length-set s.slots session (Some (s.revision + 1))) h;
-  reverts = λ session may. like_team t.frame s _ _ _ _ (back_part (λ c. c.mac) (λ c p. refl) s.cells) (length-set s.slots session (Some (s.revision + 1))) h;
+  places = λ session own name place may named e. like_team t.frame s _ _ _ _ (moved_part (λ c. c.mac) (λ c p. refl) s.cells own (Some place)) (moved_part (λ c. c.name) (λ c p. refl) s.cells own (Some place)) (length-set s.slots session (Some (s.revision + 1))) h;
+  legalizes = λ session own name target place may named e. like_team t.frame s _ _ _ _ (moved_part (λ c. c.mac) (λ c p. refl) s.cells own (Some place)) (moved_part (λ c. c.name) (λ c p. refl) s.cells own (Some place)) (length-set s.slots session (Some (s.revision + 1))) h;
+  tidies = λ session count members may e. like_team t.frame s _ _ _ _ (restored_part (λ c. c.mac) (λ c p. refl) (places_in members) s.cells) (restored_part (λ c. c.name) (λ c p. refl) (places_in members) s.cells) (length-set s.slots session (Some (s.revision + 1))) h;
+  unplaces = λ session own name may named. like_team t.frame s _ _ _ _ (moved_part (λ c. c.mac) (λ c p. refl) s.cells own None) (moved_part (λ c. c.name) (λ c p. refl) s.cells own None) (length-set s.slots session (Some (s.revision + 1))) h;
+  swaps = λ session first second name other p q may named named' at at' e e'. like_team t.frame s _ _ _ _ (exchanged_part (λ c. c.mac) (λ c p. refl) s.cells first second) (exchanged_part (λ c. c.name) (λ c p. refl) s.cells first second) (length-set s.slots session (Some (s.revision + 1))) h;
+  undoes = λ session old entries may e. like_team t.frame s _ _ _ _ (restored_part (λ c. c.mac) (λ c p. refl) old s.cells) (restored_part (λ c. c.name) (λ c p. refl) old s.cells) (length-set s.slots session (Some (s.revision + 1))) h;
+  commits = λ session may u b. like_team t.frame s _ _ _ _ (committed_macs s.cells) (committed_names s.cells) (length-set s.slots session (Some (s.revision + 1))) h;
+  reverts = λ session may. like_team t.frame s _ _ _ _ (back_part (λ c. c.mac) (λ c p. refl) s.cells) (back_part (λ c. c.name) (λ c p. refl) s.cells) (length-set s.slots session (Some (s.revision + 1))) h;
 } verb
 
 -- ---- committed places
@@ -239,6 +259,7 @@ committed_stay t verb s = verb_by t s (λ v o. StayCommitted s v o) record {
   opens = λ session e other. refl;
   closes = λ session other. refl;
   syncs = λ session other. refl;
+  checks = λ session text other. refl;
   tells = λ session name place other. refl;
   finds = λ session name target place other. refl;
   places = λ session own name place may named e other. moved_part (λ c. c.committed) (λ c p. refl) s.cells own (Some place);

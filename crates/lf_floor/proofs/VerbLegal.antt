@@ -11,7 +11,7 @@ use Rattle.lf_floor.specs.declared.cell.Cell.{Cell}
 use Rattle.lf_floor.specs.States.{TeamState}
 use Rattle.lf_floor.specs.Teams.{Setting, IsSizedCell, IsTeamOf, cell_named, member_of, broken_at}
 use Rattle.lf_floor.specs.Outcomes.{Outcome, refused, moved, working_at}
-use Rattle.lf_floor.specs.Verbs.{TeamVerb, Open, Within, Close, Sync, Where, Find, Changing, ChangeVerb, PlaceAt, Legalize, Tidy, Swap, Commit, best_at, broken_where, exchanged, outcome_of_verb}
+use Rattle.lf_floor.specs.Verbs.{TeamVerb, Open, Within, Close, Sync, Check, Where, Find, Changing, ChangeVerb, PlaceAt, Legalize, Tidy, Swap, Commit, best_at, broken_where, exchanged, outcome_of_verb}
 use Rattle.lf_floor.specs.VerbLaws.{HasLegal, AreLegal, is_accepted}
 use Rattle.lf_floor.proofs.VerbCases.{verb_by}
 use Rattle.lf_floor.proofs.VerbKept.{moved_part, exchanged_part, mac_at, same_length, sized_as, false_true}
@@ -35,6 +35,7 @@ refused_legal : (t : Setting) (s : TeamState) (verb : TeamVerb) (r : Refusal) 鈫
 refused_legal t s Open r = tt
 refused_legal t s (Within session Close) r = tt
 refused_legal t s (Within session Sync) r = tt
+refused_legal t s (Within session Check) r = tt
 refused_legal t s (Within session (Where name)) r = tt
 refused_legal t s (Within session (Find name target)) r = tt
 refused_legal t s (Within session (Changing change)) r = 位 denied. absurd (false_true denied)
@@ -116,6 +117,7 @@ module _ (t : Setting) (s : TeamState) (known : IsTeamOf t.frame s) (in_range : 
     opens = 位 session e. tt;
     closes = 位 session. tt;
     syncs = 位 session. tt;
+    checks = 位 session text. tt;
     tells = 位 session name place. tt;
     finds = 位 session name target place. tt;
     places = 位 session own name place may named e accepted. placed_legal own name place named e _ refl;

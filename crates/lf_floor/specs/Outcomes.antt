@@ -7,19 +7,21 @@ use Rattle.std.specs.Prelude.{◌≡◌, ℕ, zero, suc, ◌+◌, List, [], ◌�
 use Rattle.lf_frame.specs.declared.place.Place.{Place}
 use Rattle.lf_frame.specs.declared.limits.Limits.{Limits}
 use Rattle.lf_rules.specs.declared.rule.Broken.{Broken}
+use Rattle.lf_rules.specs.Reports.{report_of}
+use Rattle.lf_proto.specs.ReportText.{report_text}
 use Rattle.lf_proto.specs.declared.request.Order.{Order}
 use Rattle.lf_proto.specs.declared.request.Order.TheVariants.{Open, Within}
 use Rattle.lf_proto.specs.declared.request.Action.{Action}
-use Rattle.lf_proto.specs.declared.request.Action.TheVariants.{Where, Change as Changing}
+use Rattle.lf_proto.specs.declared.request.Action.TheVariants.{Check, Where, Change as Changing}
 use Rattle.lf_proto.specs.declared.request.Change.{Change}
 use Rattle.lf_proto.specs.declared.request.Change.TheVariants.{Place as PlaceAt, Unplace}
 use Rattle.lf_proto.specs.declared.reply.Reply.{Reply}
-use Rattle.lf_proto.specs.declared.reply.Reply.TheVariants.{Opened, Revision, At, Refused}
+use Rattle.lf_proto.specs.declared.reply.Reply.TheVariants.{Opened, Revision, At, Report, Refused}
 use Rattle.lf_proto.specs.declared.reply.Refusal.{Refusal}
 use Rattle.lf_proto.specs.declared.reply.Refusal.TheVariants.{NoSession, NoCell, Unplaced, Illegal, SessionsFull, RevisionsSpent, OutOfMemory}
 use Rattle.lf_floor.specs.declared.cell.Cell.{Cell}
 use Rattle.lf_floor.specs.States.{TeamState}
-use Rattle.lf_floor.specs.Teams.{Setting, cell_named, broken_at}
+use Rattle.lf_floor.specs.Teams.{Setting, cell_named, listed_of, broken_at}
 
 -- the reply to an order, and the team afterwards
 pub record Outcome : Type 0 where
@@ -38,10 +40,11 @@ abbrev pub is_short : Reply → Bool
 is_short (Refused OutOfMemory) = true
 is_short _ = false
 
--- the replies that OutOfMemory may stand in for: those to an accepted change, which keeps an undo entry, and a broken rule,
--- for which the boxes of the other cells are collected
+-- the replies that OutOfMemory may stand in for: those to an accepted change, which keeps an undo entry, a broken rule, for
+-- which the boxes of the other cells are collected, and a report
 abbrev pub may_be_short : Reply → Bool
 may_be_short (Revision revision) = true
+may_be_short (Report text) = true
 may_be_short (Refused (Illegal rule cell other)) = true
 may_be_short _ = false
 
@@ -109,6 +112,10 @@ located_own (Some own) s = located_at (working_at s.cells own) own s
 unfoldable pub located : List ℕ → TeamState → Outcome
 located name s = located_own (cell_named name s.cells) s
 
+-- check: the report of the team's cells at their working places
+unfoldable pub checked : Setting → TeamState → Outcome
+checked t s = record { reply = Report (report_text (report_of t.legalizer t.frame (map (listed_of t.number) s.cells))); team = s }
+
 -- ---- changes
 
 -- an accepted change: these are the cells and the undo entries, the revision is one more, and the session has seen it
@@ -164,6 +171,7 @@ if_left t session change s = if nat_lt s.revision t.frame.limits.revisions then 
 
 -- what an open session's question or change comes to
 abbrev pub after_action : Setting → ℕ → Action (List ℕ) Place → TeamState → Outcome
+after_action t session Check s = checked t s
 after_action t session (Where cell) s = located cell s
 after_action t session (Changing change) s = if_left t session change s
 

@@ -3,12 +3,14 @@ use Rattle.std.specs.Prelude.{ℕ, ◌<◌, ◌≤◌, List, [], ◌∷◌, ◌+
 use Rattle.lf_frame.specs.declared.frame.Frame.{Frame}
 use Rattle.lf_frame.specs.declared.place.Place.{Place}
 use Rattle.lf_rules.specs.declared.rule.Broken.{Broken}
+use Rattle.lf_frame.specs.Bounds.{IsName}
 use Rattle.lf_frame.specs.Boxes.{IsSized, macro_of}
 use Rattle.lf_frame.specs.Fences.{ground_name}
 use Rattle.lf_rules.specs.Legality.{Trial, trial_of}
 use Rattle.lf_rules.specs.Legalizer.{Legalizer}
 use Rattle.lf_rules.specs.Choice.{spot_of}
 use Rattle.lf_rules.specs.declared.rule.Placed.{Placed}
+use Rattle.lf_rules.specs.declared.report.Listed.{Listed}
 use Rattle.lf_rules.specs.Team.{Member, with_box, boxes_beside}
 use Rattle.lf_floor.specs.declared.cell.Cell.{Cell}
 use Rattle.lf_floor.specs.States.{FloorState, TeamState}
@@ -38,6 +40,10 @@ cell_named name cells = position (λ c. bytes_eq c.name name) cells
 abbrev pub member_of : Cell → Member
 member_of c = record { mac = c.mac; place = option_map spot_of c.working }
 
+-- the cell as the report of its team lists it
+abbrev pub listed_of : ℕ → Cell → Listed (List ℕ)
+listed_of number c = record { name = c.name; team = number; mac = c.mac; place = c.working }
+
 -- the box of a cell of that position, where it is placed
 abbrev pub box_if_placed : Frame → Cell → ℕ → List Placed
 box_if_placed f c own = with_box f own c.mac (option_map spot_of c.working) []
@@ -47,10 +53,11 @@ pub record IsSizedCell (f : Frame) (c : Cell) : Type 0 where
   pub known : c.mac < length f.macros
   pub sized : IsSized f (macro_of f c.mac)
 
--- a team of the frame: the macros of its cells are the frame's, of whole size, and cells and slots are no more than a design
--- may have
+-- a team of the frame: the macros of its cells are the frame's, of whole size, their names are names of a text, and cells and
+-- slots are no more than a design may have
 pub record IsTeamOf (f : Frame) (s : TeamState) : Type 0 where
   pub sized : All (λ c. IsSizedCell f c) s.cells
+  pub printed : All (λ c. IsName c.name) s.cells
   pub few_cells : length s.cells ≤ 4000000
   pub few_slots : length s.slots ≤ 64
 

@@ -8,7 +8,7 @@ use Rattle.lf_rules.specs.Tidy.{Stuck, tidied}
 use Rattle.lf_proto.specs.declared.request.Order.{Order}
 use Rattle.lf_proto.specs.declared.request.Order.TheVariants.{Open as Opens, Within as Asks}
 use Rattle.lf_proto.specs.declared.request.Action.{Action}
-use Rattle.lf_proto.specs.declared.request.Action.TheVariants.{Where as AsksWhere, Change as Changes}
+use Rattle.lf_proto.specs.declared.request.Action.TheVariants.{Check as AsksCheck, Where as AsksWhere, Change as Changes}
 use Rattle.lf_proto.specs.declared.request.Change.{Change}
 use Rattle.lf_proto.specs.declared.request.Change.TheVariants.{Place as Places, Unplace as Unplaces}
 use Rattle.lf_proto.specs.declared.reply.Reply.{Reply}
@@ -19,7 +19,7 @@ use Rattle.lf_floor.specs.declared.cell.Cell.{Cell}
 use Rattle.lf_floor.specs.States.{TeamState}
 use Rattle.lf_floor.specs.Teams.{Setting, IsTeamOf, cell_named, member_of}
 use Rattle.lf_floor.specs.Outcomes.{Outcome, is_short, refused, places_of, seen_at, outcome_of}
-use Rattle.lf_floor.specs.Verbs.{TeamVerb, Open, Within, SessionVerb, Where, Changing, ChangeVerb, PlaceAt, Legalize, Tidy, Unplace, Swap, Undo, Commit, Revert, lifted_cell, best_at, outcome_of_verb}
+use Rattle.lf_floor.specs.Verbs.{TeamVerb, Open, Within, SessionVerb, Check, Where, Changing, ChangeVerb, PlaceAt, Legalize, Tidy, Unplace, Swap, Undo, Commit, Revert, lifted_cell, best_at, outcome_of_verb}
 
 -- what a change comes to that a session asks
 abbrev pub outcome_of_asking : Setting → ℕ → ChangeVerb → TeamState → Outcome
@@ -207,6 +207,7 @@ verb_of_change (Unplaces cell) = Unplace cell
 
 -- the verb of what a session asks
 abbrev pub verb_of_action : Action (List ℕ) Place → SessionVerb
+verb_of_action AsksCheck = Check
 verb_of_action (AsksWhere cell) = Where cell
 verb_of_action (Changes change) = Changing (verb_of_change change)
 

@@ -21,7 +21,7 @@ use Rattle.lf_proto.specs.declared.reply.Refusal.TheVariants.{NoSession, Stale, 
 use Rattle.lf_floor.specs.declared.cell.Cell.{Cell}
 use Rattle.lf_floor.specs.States.{TeamState}
 use Rattle.lf_floor.specs.Teams.{Setting, cell_named, member_of, broken_at}
-use Rattle.lf_floor.specs.Outcomes.{Outcome, refused, changed, with_entry, with_slot, seen_at, moved, working_at, opened, located, placed, unplaced}
+use Rattle.lf_floor.specs.Outcomes.{Outcome, refused, changed, with_entry, with_slot, seen_at, moved, working_at, opened, checked, located, placed, unplaced}
 
 -- ---- what is asked
 
@@ -40,6 +40,7 @@ pub data ChangeVerb : Type 0 where
 pub data SessionVerb : Type 0 where
   Close : SessionVerb
   Sync : SessionVerb
+  Check : SessionVerb
   Where : List ℕ → SessionVerb
   Find : List ℕ → Point → SessionVerb
   Changing : ChangeVerb → SessionVerb
@@ -246,6 +247,7 @@ unless_stale seen t session change s = if seen == s.revision then unless_spent t
 abbrev pub outcome_within : ℕ → Setting → ℕ → SessionVerb → TeamState → Outcome
 outcome_within seen t session Close s = closed session s
 outcome_within seen t session Sync s = synced session s
+outcome_within seen t session Check s = checked t s
 outcome_within seen t session (Where name) s = located name s
 outcome_within seen t session (Find name target) s = found t name target s
 outcome_within seen t session (Changing change) s = unless_stale seen t session change s

@@ -1,15 +1,19 @@
 //! A team's own cells.
 
 ghost use Rattle.std.specs.Prelude.{◌≡◌, ◌<◌, ◌≤◌, ◌++◌, All, length, IfOk, IfSome, OnOk, map};
+ghost use Rattle.lf_frame.specs.Bounds.{IsName};
 ghost use Rattle.lf_frame.specs.Boxes.{IsSized, macro_of};
 ghost use Rattle.lf_rules.specs.Legalizer.{Legalizer};
+ghost use Rattle.lf_rules.specs.Reports.{named, report_of};
 ghost use Rattle.lf_rules.specs.Team.{boxes_beside};
-ghost use Rattle.lf_floor.specs.Teams.{cell_named, member_of, IsSizedCell, box_if_placed, broken_at};
+ghost use Rattle.lf_proto.specs.ReportText.{report_text};
+ghost use Rattle.lf_floor.specs.Teams.{cell_named, listed_of, member_of, IsSizedCell, box_if_placed, broken_at};
 ghost use Rattle.lf_floor.specs.Steps.{setting};
 ghost use Rattle.lf_floor.specs.Outcomes.{moved, places_of, working_at};
 
 use lf_frame::{Frame, Macro, Place};
-use lf_rules::{Broken, Placed, box_of, first_broken, verdict_is_one};
+use lf_proto::{Text, report_json};
+use lf_rules::{Broken, Listed, Placed, box_of, first_broken, report_on, verdict_is_one};
 use lf_units::Name;
 use std::alloc::{AllocError, Global};
 
@@ -102,6 +106,45 @@ pub fn broken_at(
     verdict_is_one();
     let others = others_of(alloc, frame, cells, own)?;
     Ok(first_broken(frame, team, macro_of(frame, &cells[own]), place, &others))
+}
+
+/// The cells of the team of that number, as its report lists them.
+fn listed_cells<'a>(
+    alloc: Global,
+    number: usize,
+    cells: &'a [Cell],
+) -> Result<Vec<Listed<&'a [u8]>>, AllocError>
+    ensures { IfOk result (λ listed. map named listed.items ≡ map (listed_of number) cells.now) }
+{
+    let mut listed = Vec::new(alloc);
+    for cell in cells {
+        listed.push(Listed {
+            name: cell.name.as_bytes(),
+            team: number,
+            mac: cell.mac,
+            place: cell.working,
+        })?;
+    }
+    Ok(listed)
+}
+
+/// The text of the report of the team's cells at their working places.
+///
+/// `Err` where memory is refused.
+pub fn report_text(
+    alloc: Global,
+    frame: &Frame,
+    number: usize,
+    cells: &[Cell],
+) -> Result<Text, AllocError>
+    requires sized { All (IsSizedCell frame.now) cells.now }
+    requires printed { All (λ c. IsName c.name) cells.now }
+    requires few { length cells.now ≤ 4000000 }
+    ensures { IfOk result (λ text. (l : Legalizer) → text ≡ report_text (report_of l frame.now (map (listed_of number) cells.now))) }
+{
+    let listed = listed_cells(alloc, number, cells)?;
+    let report = report_on(alloc, frame, &listed)?;
+    report_json(alloc, &report)
 }
 
 /// The working place of the cell of that position; none where it is unplaced, or there is no such

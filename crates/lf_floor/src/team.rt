@@ -7,9 +7,9 @@ ghost use Rattle.lf_proto.specs.declared.request.Order.TheVariants.{Within};
 ghost use Rattle.lf_proto.specs.Commands.{change_of, action_of, order_of};
 ghost use Rattle.lf_floor.specs.Teams.{IsTeamOf};
 ghost use Rattle.lf_floor.specs.Steps.{setting};
-ghost use Rattle.lf_floor.specs.Outcomes.{Reaches, RunsOut, outcome_of, after_change, if_left, changed, with_entry, seen_at, opened, located, placed, unplaced, unplaced_own};
+ghost use Rattle.lf_floor.specs.Outcomes.{Reaches, RunsOut, outcome_of, after_change, if_left, changed, with_entry, seen_at, opened, checked, located, placed, unplaced, unplaced_own};
 
-use crate::cell::{Cell, broken_at, cell_named, places, put, working};
+use crate::cell::{Cell, broken_at, cell_named, places, put, report_text, working};
 use lf_frame::{Frame, Place};
 use lf_proto::{Action, Change, Order, Refusal, Reply};
 use std::alloc::{AllocError, Global};
@@ -136,6 +136,17 @@ impl Team {
             Some(place) => Reply::At(place),
             None => Reply::Refused(Refusal::Unplaced { cell: own as u32 }),
         }
+    }
+
+    /// Tells the report of the team's cells at their working places.
+    #[tactic(auto, unfolding(crate::specs::Outcomes::checked))]
+    fn check(&self, alloc: Global, frame: &Frame, number: usize) -> Result<Reply, AllocError>
+        requires { IsTeamOf frame.now self.now }
+        ensures ok { (l : Legalizer) → IfOk result (λ reply. Reaches (checked (setting l frame.now number) self.now) reply self.now) }
+        ensures err { (l : Legalizer) → OnErr result (RunsOut (checked (setting l frame.now number) self.now) self.now self.now) }
+    {
+        let text = report_text(alloc, frame, number, &self.cells)?;
+        Ok(Reply::Report(text))
     }
 
     /// Puts the present working places in front of the undo entries.
@@ -293,6 +304,7 @@ impl Team {
             return Ok(Reply::Refused(Refusal::NoSession));
         };
         match action {
+            Action::Check => self.check(alloc, frame, number),
             Action::Where { cell } => Ok(self.locate(cell)),
             Action::Change(change) => self.change(alloc, frame, number, session, change),
         }

@@ -1,12 +1,9 @@
 use super::*;
-use crate::proto::{
-    Action, Change, Command, Order, Refusal, Reply, Request, RequestList, parse_line,
-};
+use crate::proto::{Action, Change, Command, Order, Request, RequestList, parse_line, reply_text};
 use lf_def::{W_DEF, read_def};
 use lf_frame::{Limits, Loaded, Place, load};
 use lf_lef::{Library, W_LEF, read_lef};
 use lf_orient::Orient;
-use lf_rules::Rule;
 use std::alloc::{AllocError, Global};
 use std::test::Fail;
 
@@ -56,53 +53,92 @@ fn floor(alloc: Global) -> Result<Floor, Fail> {
     Ok(Floor::start(alloc, design)?)
 }
 
-/// The reply to a line.
-fn told(floor: &mut Floor, line: &[u8]) -> Option<Reply> {
-    let request = parse_line(line).ok()?;
-    Some(floor.step(&request))
-}
-
-/// The reply that the cell a2 may not stand there.
-fn illegal(rule: Rule, other: Option<u32>) -> Reply {
-    Reply::Refused(Refusal::Illegal {
-        rule,
-        cell: 1,
-        other,
-    })
+/// Whether a line is answered by this text, in which cells are named `cell` and `other`.
+fn tells(
+    alloc: Global,
+    floor: &mut Floor,
+    line: &[u8],
+    expected: &[u8],
+) -> Result<bool, AllocError> {
+    let Ok(request) = parse_line(line) else {
+        return Ok(false);
+    };
+    let mut text = Vec::new(alloc);
+    reply_text(&floor.step(&request), b"cell", b"other", &mut text)?;
+    Ok(text.as_slice() == expected)
 }
 
 #[test]
 fn answers_a_team(rt: HostRuntime) -> Result<(), Fail> {
     let mut floor = floor(rt.alloc())?;
-    let opened = Reply::Opened {
-        session: 0,
-        revision: 0,
-    };
-    let lines: [(&[u8], Reply); 14] = [
-        (b"open C", Reply::Refused(Refusal::NoTeam)),
-        (b"where A 0 a1", Reply::Refused(Refusal::NoSession)),
-        (b"open A", opened),
-        (b"open A", Reply::Refused(Refusal::SessionsFull)),
-        (b"where A 1 a1", Reply::Refused(Refusal::NoSession)),
-        (b"where A 0 a1", Reply::At(Place::new(0, 0, Orient::N))),
-        (b"where A 0 b1", Reply::Refused(Refusal::NoCell)),
-        (b"where A 0 nobody", Reply::Refused(Refusal::NoCell)),
+    let lines: [(&[u8], &[u8]); 14] = [
+        (b"open C", b"no 2 NoTeam\n"),
+        (b"where A 0 a1", b"no 3 NoSession\n"),
+        (b"open A", b"ok 0 0\n"),
+        (b"open A", b"no 10 SessionsFull\n"),
+        (b"where A 1 a1", b"no 3 NoSession\n"),
+        (b"where A 0 a1", b"ok 0 0 N\n"),
+        (b"where A 0 b1", b"no 5 NoCell\n"),
+        (b"where A 0 nobody", b"no 5 NoCell\n"),
+        (b"where A 0 a2", b"no 6 Unplaced cell\n"),
+        (b"place A 0 a2 4000 0 N", b"no 7 Illegal 6 cell\n"),
+        (b"place A 0 a2 200 0 N", b"no 7 Illegal 8 cell other\n"),
+        (b"place A 0 a2 400 0 N", b"ok 1\n"),
+        (b"place A 0 a2 600 0 N", b"ok 2\n"),
+        (b"place A 0 nobody 0 0 N", b"no 11 RevisionsSpent\n"),
+    ];
+    for (number, (line, expected)) in lines.into_iter().enumerate() {
+        assert!(rt; tells(rt.alloc(), &mut floor, line, expected)?, "line {number}");
+    }
+    Ok(())
+}
+
+/// The floor of the built-in design with some of its lines changed.
+fn changed_floor(alloc: Global, changes: &[(usize, &[u8])]) -> Result<Floor, Fail> {
+    let mut def = Vec::from_slice(alloc, W_DEF)?;
+    for (number, line) in changes {
+        def = with_line(alloc, &def, *number, line)?;
+    }
+    let design = design(alloc, &def, Limits::standard())?;
+    Ok(Floor::start(alloc, design)?)
+}
+
+#[test]
+fn reports_each_team_alone(rt: HostRuntime) -> Result<(), Fail> {
+    let mut floor = changed_floor(
+        rt.alloc(),
+        &[(18, b"- b1 INV + PLACED ( 0 0 ) N ;")],
+    )?;
+    let lines: [(&[u8], &[u8]); 6] = [
+        (b"open A", b"ok 0 0\n"),
+        (b"check A 1", b"no 3 NoSession\n"),
+        (b"place A 0 a1 0 0 N", b"ok 1\n"),
+        (b"check A 0", b"ok {\"cells\":3,\"unplaced\":2,\"violations\":[]}\n"),
+        (b"open B", b"ok 0 0\n"),
         (
-            b"where A 0 a2",
-            Reply::Refused(Refusal::Unplaced { cell: 1 }),
-        ),
-        (b"place A 0 a2 4000 0 N", illegal(Rule::Fence, None)),
-        (b"place A 0 a2 200 0 N", illegal(Rule::Overlap, Some(0))),
-        (b"place A 0 a2 400 0 N", Reply::Revision(1)),
-        (b"place A 0 a2 600 0 N", Reply::Revision(2)),
-        (
-            b"place A 0 nobody 0 0 N",
-            Reply::Refused(Refusal::RevisionsSpent),
+            b"check B 0",
+            b"ok {\"cells\":1,\"unplaced\":0,\"violations\":[{\"cell\":\"b1\",\"rule\":6}]}\n",
         ),
     ];
-    for (number, (line, reply)) in lines.into_iter().enumerate() {
-        assert_eq!(rt; told(&mut floor, line), Some(reply), "line {number}");
+    for (line, expected) in lines {
+        assert!(rt; tells(rt.alloc(), &mut floor, line, expected)?);
     }
+    Ok(())
+}
+
+#[test]
+fn reports_overlap(rt: HostRuntime) -> Result<(), Fail> {
+    let mut floor = changed_floor(
+        rt.alloc(),
+        &[
+            (11, b"- A ( 0 0 ) ( 600 2000 ) + TYPE FENCE ;"),
+            (15, b"- a1 INV + PLACED ( 0 0 ) N ;"),
+            (16, b"- a2 INV + PLACED ( 0 0 ) N ;"),
+        ],
+    )?;
+    assert!(rt; tells(rt.alloc(), &mut floor, b"open A", b"ok 0 0\n")?);
+    let expected = b"ok {\"cells\":3,\"unplaced\":1,\"violations\":[{\"cell\":\"a1\",\"other\":\"a2\",\"rule\":8},{\"cell\":\"a2\",\"other\":\"a1\",\"rule\":8}]}\n";
+    assert!(rt; tells(rt.alloc(), &mut floor, b"check A 0", expected)?);
     Ok(())
 }
 
@@ -132,14 +168,13 @@ fn requests(alloc: Global) -> Result<RequestList, AllocError> {
 fn runs_requests(rt: HostRuntime) -> Result<(), Fail> {
     let mut floor = floor(rt.alloc())?;
     let replies = floor.run(&requests(rt.alloc())?)?;
-    let unplaced = Reply::Refused(Refusal::Unplaced { cell: 0 });
-    let opened = Reply::Opened {
-        session: 0,
-        revision: 0,
-    };
-    assert!(rt;
-        replies.as_slice() == [opened, Reply::Revision(1), unplaced, Reply::Done].as_slice()
-    );
+    let expected: [&[u8]; 4] = [b"ok 0 0\n", b"ok 1\n", b"no 6 Unplaced b1\n", b"ok\n"];
+    assert_eq!(rt; replies.len(), 4);
+    for (reply, line) in replies.iter().zip(&expected) {
+        let mut text = Vec::new(rt.alloc());
+        reply_text(reply, b"b1", b"", &mut text)?;
+        assert!(rt; text.as_slice() == *line);
+    }
     assert_eq!(rt; floor.place_of(b"A", 0), Some(Place::new(0, 0, Orient::N)));
     assert_eq!(rt; floor.place_of(b"B", 0), None);
     assert!(rt; floor.name_of(b"A", 1) == Some(b"a2".as_slice()));

@@ -5,3 +5,4 @@ pub mod Fronts
 pub mod Cuttings
 pub mod Blanks
 pub mod Printing
+pub mod NoFloat

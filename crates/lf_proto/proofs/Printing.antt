@@ -23,7 +23,7 @@ use Rattle.lf_proto.specs.Requests.{command_in, orient_named, place_written}
 use Rattle.lf_proto.specs.declared.request.Command.{Command}
 use Rattle.lf_proto.specs.declared.request.Command.TheVariants.{Bye, To}
 use Rattle.lf_proto.specs.declared.request.Order.TheVariants.{Open, Within}
-use Rattle.lf_proto.specs.declared.request.Action.TheVariants.{Where, Change as Changing}
+use Rattle.lf_proto.specs.declared.request.Action.TheVariants.{Check, Where, Change as Changing}
 use Rattle.lf_proto.specs.declared.request.Change.TheVariants.{Place as Placing, Unplace}
 
 -- the digits of a number that has at most ten
@@ -91,6 +91,8 @@ place_written-printed p range =
 command_in-printed : (command : Command (List ℕ) Place) → IsPlain command → command_in (printed_fields command) ≡ Some command
 command_in-printed Bye plain = absurd plain
 command_in-printed (To team Open) plain = refl
+command_in-printed (To team (Within session Check)) (team_is, small) =
+    ap (λ o. o >>= (λ n. Some (To team (Within n Check)))) (session_number-decimal session small)
 command_in-printed (To team (Within session (Where cell))) (team_is, small, cell_is) =
     ap (λ o. o >>= (λ n. Some (To team (Within n (Where cell))))) (session_number-decimal session small)
 command_in-printed (To team (Within session (Changing (Placing cell place)))) (team_is, small, cell_is, range) =
@@ -169,6 +171,8 @@ orient_name FE = record { some = omega arith; visible = refl }
 printed_names : (command : Command (List ℕ) Place) → IsPlain command → AllNames (printed_fields command)
 printed_names Bye plain = absurd plain
 printed_names (To team Open) plain = (record { some = omega arith; visible = refl }, (plain, tt))
+printed_names (To team (Within session Check)) (team_is, small) =
+    (record { some = omega arith; visible = refl }, (team_is, (decimal_name session (omega arith), tt)))
 printed_names (To team (Within session (Where cell))) (team_is, small, cell_is) =
     (record { some = omega arith; visible = refl }, (team_is, (decimal_name session (omega arith), (cell_is, tt))))
 printed_names (To team (Within session (Changing (Placing cell place)))) (team_is, small, cell_is, range) = (

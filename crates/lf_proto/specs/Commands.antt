@@ -7,7 +7,7 @@ use Rattle.lf_proto.specs.declared.request.Command.TheVariants.{Bye, To}
 use Rattle.lf_proto.specs.declared.request.Order.{Order}
 use Rattle.lf_proto.specs.declared.request.Order.TheVariants.{Open, Within}
 use Rattle.lf_proto.specs.declared.request.Action.{Action}
-use Rattle.lf_proto.specs.declared.request.Action.TheVariants.{Where, Change as Changing}
+use Rattle.lf_proto.specs.declared.request.Action.TheVariants.{Check, Where, Change as Changing}
 use Rattle.lf_proto.specs.declared.request.Change.{Change}
 use Rattle.lf_proto.specs.declared.request.Change.TheVariants.{Place as Placing, Unplace}
 
@@ -18,6 +18,7 @@ change_of (Unplace cell) = Unplace cell.now
 
 -- what a session asks, its cell named by a list of bytes
 abbrev pub action_of : Action (Bor (List ℕ)) Place → Action (List ℕ) Place
+action_of Check = Check
 action_of (Where cell) = Where cell.now
 action_of (Changing change) = Changing (change_of change)
 

@@ -8,3 +8,4 @@ pub mod ReplyText
 pub mod Requests
 pub mod Stream
 pub mod Words
+pub mod ReportText

@@ -9,13 +9,14 @@ use Rattle.lf_proto.specs.ReplyText.{orient_text}
 use Rattle.lf_proto.specs.declared.request.Command.{Command}
 use Rattle.lf_proto.specs.declared.request.Command.TheVariants.{Bye, To}
 use Rattle.lf_proto.specs.declared.request.Order.TheVariants.{Open, Within}
-use Rattle.lf_proto.specs.declared.request.Action.TheVariants.{Where, Change as Changing}
+use Rattle.lf_proto.specs.declared.request.Action.TheVariants.{Check, Where, Change as Changing}
 use Rattle.lf_proto.specs.declared.request.Change.TheVariants.{Place as Placing, Unplace}
 
--- the fields of a request that a line can ask: open TEAM, where TEAM N CELL, or place TEAM N CELL X Y O
+-- the fields of a request that a line can ask: open TEAM, check TEAM N, where TEAM N CELL, or place TEAM N CELL X Y O
 abbrev pub printed_fields : Command (List ℕ) Place → List (List ℕ)
 printed_fields Bye = []
 printed_fields (To team Open) = codes "open" ∷ team ∷ []
+printed_fields (To team (Within session Check)) = codes "check" ∷ team ∷ decimal session ∷ []
 printed_fields (To team (Within session (Where cell))) = codes "where" ∷ team ∷ decimal session ∷ cell ∷ []
 printed_fields (To team (Within session (Changing (Placing cell place)))) =
     codes "place" ∷ team ∷ decimal session ∷ cell ∷ signed_decimal place.x ∷ signed_decimal place.y ∷ orient_text place.orient ∷ []
@@ -39,10 +40,11 @@ pub record IsInRange (place : Place) : Type 0 where
   pub x_in_range : place.x <ℤ pos (2 ^ 31)
   pub y_in_range : place.y <ℤ pos (2 ^ 31)
 
--- a request that a line can ask: open, where or place, its names of visible bytes and its numbers of 32 bits
+-- a request that a line can ask: open, check, where or place, its names of visible bytes and its numbers of 32 bits
 abbrev pub IsPlain : Command (List ℕ) Place → Type 0
 IsPlain Bye = ⊥
 IsPlain (To team Open) = IsName team
+IsPlain (To team (Within session Check)) = IsName team × (session < 2 ^ 32)
 IsPlain (To team (Within session (Where cell))) = IsName team × (session < 2 ^ 32) × IsName cell
 IsPlain (To team (Within session (Changing (Placing cell place)))) = IsName team × (session < 2 ^ 32) × IsName cell × IsInRange place
 IsPlain (To team (Within session (Changing (Unplace cell)))) = ⊥

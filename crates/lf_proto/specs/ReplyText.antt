@@ -8,7 +8,7 @@ use Rattle.lf_frame.specs.declared.place.Place.{Place}
 use Rattle.lf_rules.specs.declared.rule.Rule.{Rule}
 use Rattle.lf_rules.specs.Legality.{number_of}
 use Rattle.lf_proto.specs.declared.reply.Reply.{Reply}
-use Rattle.lf_proto.specs.declared.reply.Reply.TheVariants.{Done, Opened, Revision, At, Legalized, Tidied, Refused}
+use Rattle.lf_proto.specs.declared.reply.Reply.TheVariants.{Done, Opened, Revision, At, Legalized, Tidied, Report, Refused}
 use Rattle.lf_proto.specs.declared.reply.Refusal.{Refusal}
 use Rattle.lf_proto.specs.declared.reply.Refusal.TheVariants.{BadRequest, NoTeam, NoSession, Stale, NoCell, Unplaced, Illegal, NoPlace, NothingToUndo, SessionsFull, RevisionsSpent, OutOfMemory}
 
@@ -63,6 +63,7 @@ reply_words (Revision revision) cell_name other_name = codes "ok" ∷ decimal re
 reply_words (At place) cell_name other_name = codes "ok" ∷ place_words place
 reply_words (Legalized revision place) cell_name other_name = codes "ok" ∷ decimal revision ∷ place_words place
 reply_words (Tidied revision moved) cell_name other_name = codes "ok" ∷ decimal revision ∷ decimal moved ∷ []
+reply_words (Report text) cell_name other_name = codes "ok" ∷ text ∷ []
 reply_words (Refused refusal) cell_name other_name = codes "no" ∷ refusal_words refusal cell_name other_name
 
 -- the text of a reply

@@ -10,11 +10,11 @@ use Rattle.lf_frame.specs.declared.place.Place.{Place}
 use Rattle.lf_proto.specs.Lines.{fields, is_line_byte}
 use Rattle.lf_proto.specs.Numbers.{◌>>=◌, session_number, coordinate}
 use Rattle.lf_proto.specs.declared.line.Verb.{Verb}
-use Rattle.lf_proto.specs.declared.line.Verb.TheVariants.{Open as Opens, Where as Asks, Place as Places}
+use Rattle.lf_proto.specs.declared.line.Verb.TheVariants.{Open as Opens, Check as Checks, Where as Asks, Place as Places}
 use Rattle.lf_proto.specs.declared.request.Command.{Command}
 use Rattle.lf_proto.specs.declared.request.Command.TheVariants.{To}
 use Rattle.lf_proto.specs.declared.request.Order.TheVariants.{Open, Within}
-use Rattle.lf_proto.specs.declared.request.Action.TheVariants.{Where, Change as Changing}
+use Rattle.lf_proto.specs.declared.request.Action.TheVariants.{Check, Where, Change as Changing}
 use Rattle.lf_proto.specs.declared.request.Change.TheVariants.{Place as Placing}
 
 -- an orientation by its name (LEF/DEF 5.8, DEF COMPONENTS)
@@ -59,6 +59,13 @@ abbrev pub open_of : List (List ℕ) → Option (Command (List ℕ) Place)
 open_of (team ∷ []) = Some (To team Open)
 open_of _ = None
 
+-- check TEAM N
+abbrev pub check_of : List (List ℕ) → Option (Command (List ℕ) Place)
+check_of (team ∷ number ∷ []) = do
+  session ← session_number number
+  Some (To team (Within session Check))
+check_of _ = None
+
 -- where TEAM N CELL
 abbrev pub where_of : List (List ℕ) → Option (Command (List ℕ) Place)
 where_of (team ∷ number ∷ cell ∷ []) = do
@@ -78,13 +85,15 @@ place_of _ = None
 abbrev pub verb_named : List ℕ → Option Verb
 verb_named text =
     cond (bytes_eq text (codes "open")) (Some Opens)
+    (cond (bytes_eq text (codes "check")) (Some Checks)
     (cond (bytes_eq text (codes "where")) (Some Asks)
     (cond (bytes_eq text (codes "place")) (Some Places)
-    None))
+    None)))
 
 -- what a verb asks, by the fields behind it
 abbrev pub asked_by : Verb → List (List ℕ) → Option (Command (List ℕ) Place)
 asked_by Opens = open_of
+asked_by Checks = check_of
 asked_by Asks = where_of
 asked_by Places = place_of
 

@@ -5,13 +5,15 @@ mod framer;
 mod line;
 mod number;
 mod reply;
+mod report;
 mod request;
 mod request_list;
 mod text;
 
 pub use framer::{Fed, Got, LineFramer};
 pub use line::{BadRequest, parse_line};
-pub use reply::{Refusal, Reply};
+pub use reply::{Refusal, Reply, Text};
+pub use report::report_json;
 pub use request::{Action, Change, Command, Order, Request};
 pub use request_list::RequestList;
 pub use text::reply_text;

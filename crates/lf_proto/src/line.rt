@@ -4,7 +4,7 @@ ghost use Rattle.std.specs.Prelude.{◌≡◌, MatchResult, None, Some, true, op
 ghost use Rattle.std.specs.List.{list_all};
 ghost use Rattle.lf_proto.specs.Commands.{command_of};
 ghost use Rattle.lf_proto.specs.Lines.{fields, is_line_byte};
-ghost use Rattle.lf_proto.specs.Requests.{command_in, command_on, open_of, orient_named, place_of, place_written, verb_named, where_of};
+ghost use Rattle.lf_proto.specs.Requests.{check_of, command_in, command_on, open_of, orient_named, place_of, place_written, verb_named, where_of};
 ghost use Rattle.lf_proto.specs.Printed.{PassesBlanksAround, PassesBlanksBetween, ReadsBack};
 
 use crate::number::{coordinate_of, session_of};
@@ -21,6 +21,7 @@ pub struct BadRequest;
 #[derive(Clone, Copy)]
 enum Verb {
     Open,
+    Check,
     Where,
     Place,
 }
@@ -31,6 +32,7 @@ fn verb_of(word: &[u8]) -> Option<Verb>
 {
     match word {
         b"open" => Some(Verb::Open),
+        b"check" => Some(Verb::Check),
         b"where" => Some(Verb::Where),
         b"place" => Some(Verb::Place),
         _ => None,
@@ -75,6 +77,25 @@ fn open_request<'a>(mut arguments: Fields<'a>) -> Option<Request<'a>>
     Some(Command::To {
         team,
         order: Order::Open,
+    })
+}
+
+/// The request of `check TEAM N`, without the verb.
+fn check_request<'a>(mut arguments: Fields<'a>) -> Option<Request<'a>>
+    ensures { option_map command_of result ≡ check_of arguments.entry }
+{
+    let team = arguments.next()?;
+    let session = arguments.next()?;
+    if arguments.next().is_some() {
+        return None;
+    }
+    let session = session_of(session)?;
+    Some(Command::To {
+        team,
+        order: Order::Within {
+            session,
+            action: Action::Check,
+        },
     })
 }
 
@@ -128,6 +149,7 @@ fn request_in<'a>(mut fields: Fields<'a>) -> Option<Request<'a>>
 {
     match verb_of(fields.next()?)? {
         Verb::Open => open_request(fields),
+        Verb::Check => check_request(fields),
         Verb::Where => where_request(fields),
         Verb::Place => place_request(fields),
     }

@@ -1,10 +1,43 @@
 //! What a session is told.
 
+ghost use Rattle.std.specs.Prelude.{◌≡◌, string_bytes};
+
 use lf_frame::Place;
 use lf_rules::Rule;
+use std::marker::Model;
+
+/// A text that a reply carries. Contracts see its bytes.
+#[derive(Drop)]
+pub struct Text {
+    text: String,
+}
+
+impl Model for Text {
+    ghost use Rattle.std.specs.Prelude.{List, ℕ, string_bytes};
+
+    ghost Value = { List ℕ };
+
+    ghost view = { λ t. string_bytes t.text };
+}
+
+impl Text {
+    /// The text of a string, without a copy.
+    pub fn from_string(text: String) -> Self
+        ensures { result ≡ string_bytes text }
+    {
+        Text { text }
+    }
+
+    /// The bytes, lent.
+    pub fn as_bytes(&self) -> &[u8]
+        ensures { result.now ≡ self.now }
+    {
+        self.text.as_bytes()
+    }
+}
 
 /// The reply to one command. A cell is named by its position among its team's cells, in loading order.
-#[derive(Clone, Copy, Debug, PartialEq, Eq)]
+#[derive(Drop)]
 pub enum Reply {
     /// It is done, and there is nothing to tell.
     Done,
@@ -18,6 +51,8 @@ pub enum Reply {
     Legalized { revision: u32, place: Place },
     /// The team's revision after a tidy, and how many cells went to their best place.
     Tidied { revision: u32, moved: u32 },
+    /// The report of the team's cells, as JSON.
+    Report(Text),
     /// Nothing was done.
     Refused(Refusal),
 }

@@ -29,6 +29,8 @@ pub enum Order<N, P = Place> {
 /// What one session of a team asks.
 #[derive(Drop)]
 pub enum Action<N, P = Place> {
+    /// The report of the team's cells.
+    Check,
     /// The working place of a cell.
     Where { cell: N },
     /// A change of the team's working places.
@@ -73,6 +75,7 @@ impl Action<&[u8]> {
         ensures { IfOk result (λ action. action ≡ action_of self.now) }
     {
         Ok(match self {
+            Action::Check => Action::Check,
             Action::Where { cell } => Action::Where {
                 cell: Name::from_slice(alloc, cell)?,
             },
@@ -137,6 +140,7 @@ impl Action<Name> {
         ensures { action_of result ≡ self.now }
     {
         match self {
+            Action::Check => Action::Check,
             Action::Where { cell } => Action::Where {
                 cell: cell.as_bytes(),
             },

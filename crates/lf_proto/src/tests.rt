@@ -1,7 +1,8 @@
 use super::*;
 use lf_frame::Place;
 use lf_orient::Orient;
-use lf_rules::Rule;
+use lf_rules::{Report, Rule, Violation};
+use lf_units::{Name, Sequence};
 use std::alloc::{AllocError, Global};
 use std::test::Fail;
 
@@ -69,7 +70,7 @@ fn reads_orientations(rt: HostRuntime) {
 
 #[test]
 fn refuses_lines(rt: HostRuntime) {
-    let lines: [&[u8]; 14] = [
+    let lines: [&[u8]; 16] = [
         b"",
         b" \t ",
         b"where A 0",
@@ -84,6 +85,8 @@ fn refuses_lines(rt: HostRuntime) {
         b"place A 0 a1 0 0 n",
         b"where A 4294967296 a1",
         b"where A -0 a1",
+        b"check A",
+        b"check A 0 a1",
     ];
     for line in lines {
         assert!(rt; parse_line(line).is_err());
@@ -243,4 +246,42 @@ fn bounds_lines(rt: HostRuntime) -> Result<(), Fail> {
     assert!(rt; framer.feed(b" ").got == Got::More);
     assert!(rt; framer.finish() == Got::TooLong);
     Ok(())
+}
+
+#[test]
+fn writes_reports(rt: HostRuntime) -> Result<(), Fail> {
+    let alloc = rt.alloc();
+    let violations = vec![in alloc;
+        Violation {
+            cell: Name::from_slice(alloc, b"a1")?,
+            rule: Rule::Overlap,
+            other: Some(Name::from_slice(alloc, b"a\"2\\")?),
+        },
+        Violation {
+            cell: Name::from_slice(alloc, b"b1")?,
+            rule: Rule::Fence,
+            other: None,
+        },
+    ]?;
+    let report = Report {
+        cells: 3,
+        unplaced: 1,
+        violations: Sequence::from_vec(violations),
+    };
+    let text = report_json(alloc, &report)?;
+    let expected = b"{\"cells\":3,\"unplaced\":1,\"violations\":[{\"cell\":\"a1\",\"other\":\"a\\\"2\\\\\",\"rule\":8},{\"cell\":\"b1\",\"rule\":6}]}";
+    assert!(rt; text.as_bytes() == expected.as_slice());
+    Ok(())
+}
+
+#[test]
+fn asks_for_a_report(rt: HostRuntime) {
+    let asked = match parse_line(b"check A 7") {
+        Ok(Command::To { order, .. }) => match order {
+            Order::Within { session, action } => session == 7 && matches!(action, Action::Check),
+            Order::Open => false,
+        },
+        _ => false,
+    };
+    assert!(rt; asked);
 }

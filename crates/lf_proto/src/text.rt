@@ -243,6 +243,7 @@ fn put_reply(
             b"ok",
             &[Word::Number(*revision), Word::Number(*moved)],
         ),
+        Reply::Report(text) => put_line(out, b"ok", &[Word::Text(text.as_bytes())]),
         Reply::Refused(refusal) => put_refusal(refusal, cell_name, other_name, out),
     }
 }

@@ -1,0 +1,29 @@
+-- A report as JSON.
+use Rattle.std.specs.Prelude.{ℕ, List, map, Option, Some, None, codes}
+use Rattle.serde_json.specs.Data.{Data, number, unsigned, string, array, object, member, no_members}
+use Rattle.serde_json.specs.View.{items_of}
+use Rattle.serde_json.specs.Written.{compact_text}
+use Rattle.lf_rules.specs.declared.rule.Rule.{Rule}
+use Rattle.lf_rules.specs.declared.report.Violation.{Violation}
+use Rattle.lf_rules.specs.declared.report.Report.{Report}
+use Rattle.lf_rules.specs.Legality.{number_of}
+
+-- the cell, the other cell where there is one, and the number of the rule
+abbrev pub violation_by : List ℕ → Option (List ℕ) → Rule → Data
+violation_by cell None rule = object (member (codes "cell") (string cell) (member (codes "rule") (number (unsigned (number_of rule))) no_members))
+violation_by cell (Some other) rule =
+    object (member (codes "cell") (string cell) (member (codes "other") (string other) (member (codes "rule") (number (unsigned (number_of rule))) no_members)))
+
+-- a violation
+abbrev pub violation_data : Violation → Data
+violation_data v = violation_by v.cell v.other v.rule
+
+-- a report: how many cells there are, how many are unplaced, and the violations
+abbrev pub report_data : Report → Data
+report_data r =
+    object (member (codes "cells") (number (unsigned r.cells)) (member (codes "unplaced") (number (unsigned r.unplaced))
+    (member (codes "violations") (array (items_of (map violation_data r.violations))) no_members)))
+
+-- the text of a report: JSON without spaces
+unfoldable pub report_text : Report → List ℕ
+report_text r = compact_text (report_data r)
