@@ -1,24 +1,24 @@
 -- What holds of a design in which no refusal finds anything.
-use Rattle.std.proofs.Common.{◌≡◌, ◌≢◌, ℕ, zero, suc, ℤ, pos, ◌+◌, ◌*◌, ◌*ℤ◌, ◌<◌, ◌≤◌, ◌<ℤ◌, ◌≤ℤ◌, ◌⊎◌, inl, inr, Bool, true, false, List, [], ◌∷◌, length, get_or, Option, None, Some, Bor, refl, sym, ◌∙◌, arith}
-use Rattle.std.specs.Prelude.{All, IsSome, IsSomeAnd, IfSome, MatchOption, cond, is_some, int_lt, ◌&&◌, slice_get}
+use Rattle.std.proofs.Common.{◌≡◌, ℕ, zero, suc, ℤ, pos, ◌*ℤ◌, ◌≤◌, ◌<ℤ◌, ◌⊎◌, inl, inr, Bool, true, false, List, [], ◌∷◌, get_or, Option, None, Some, Bor, refl, arith}
+use Rattle.std.specs.Prelude.{All, IsSome, IsSomeAnd, IfSome, MatchOption, cond, is_some, int_lt, slice_get}
 use Rattle.std.specs.Option.{option_copied}
 use Rattle.std.proofs.lemmas.Bool.{and_parts, false≢true}
 use Rattle.std.proofs.lemmas.Int.{ints}
 use Rattle.std.proofs.lemmas.Option.{none-some}
 use Rattle.std.proofs.lemmas.List.Elements.{All-head, All-tail}
 use Rattle.lf_units.specs.declared.area.Point.{Point}
-use Rattle.lf_units.specs.Length.{IsLength, in_dbu}
-use Rattle.lf_lex.specs.declared.fault.FaultNumber.TheVariants.{NoUnits, NoSite, NoRows, VerticalRow, BadStep, RowOrient, RowsOverlap, NoMacro, NoSize, NotWhole, SecondName, SecondRegion, NoRegion, TeamName, FencesOverlap, TwoFences, TooMany}
+use Rattle.lf_units.specs.Length.{in_dbu}
+use Rattle.lf_lex.specs.declared.fault.FaultNumber.TheVariants.{NoRows, NoSize, NotWhole}
 use Rattle.lf_names.specs.Names.{position_of}
 use Rattle.lf_lef.specs.declared.sites.Site.{Site}
 use Rattle.lf_lef.specs.declared.macros.Macro.{Macro}
-use Rattle.lf_lef.specs.Contents.{IsSite, IsMacro, macro_names}
+use Rattle.lf_lef.specs.Contents.{IsMacro, macro_names}
 use Rattle.lf_def.specs.declared.components.Component.{Component}
 use Rattle.lf_def.specs.declared.components.Placement.{Placement}
 use Rattle.lf_def.specs.declared.components.PlacementKind.TheVariants.{Fixed, Cover, Placed, Unplaced}
 use Rattle.lf_frame.specs.Loading.{macro_named, has_size, IsWholeSize, size_in_dbu, is_fixed, is_cover, is_movable, at_place}
-use Rattle.lf_frame.specs.Refusals.{HasNoMacro, HasNoSize, HasPartUnits}
-use Rattle.lf_frame.specs.Findings.{Inputs, units_in, core_in, Finding, OfCore, WhereWhole, OfPitch, CoreHasPartUnits, Finds, IsAccepted}
+use Rattle.lf_frame.specs.Refusals.{HasNoSize, HasPartUnits}
+use Rattle.lf_frame.specs.Findings.{Inputs, units_in, core_in, Finding, OfCore, WhereWhole, OfPitch, CoreHasPartUnits, IsAccepted}
 use Rattle.lf_frame.specs.Loads.{IsSizedIn, FixedIsSized, AreInRange}
 use Rattle.lf_frame.proofs.CoreLemmas.{pitch_of_core, above}
 use Rattle.lf_frame.proofs.Gathered.{none_of_name}

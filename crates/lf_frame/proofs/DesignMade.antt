@@ -1,24 +1,23 @@
 -- The cells of an accepted design make a design on its frame.
-use Rattle.std.proofs.Common.{◌≡◌, ◌≢◌, ℕ, zero, suc, ◌+◌, ◌<◌, ◌≤◌, ◌⊎◌, inl, inr, Bool, true, false, List, [], ◌∷◌, length, map, take, get_or, Option, None, Some, refl, sym, ap, ◌∙◌, arith}
+use Rattle.std.proofs.Common.{◌≡◌, ◌≢◌, ℕ, zero, suc, ◌+◌, ◌<◌, ◌≤◌, ◌⊎◌, inl, inr, Bool, true, false, List, [], ◌∷◌, length, get_or, Option, None, Some, refl, sym, ap, ◌∙◌, arith}
 use Rattle.std.specs.Prelude.{All, AllPairs, Any, IsSome, IfSome, filter, not, ◌&&◌, nat_le, slice_get}
 use Rattle.std.specs.List.{AllZip, enumerate_from}
 use Rattle.std.specs.Option.{ForSome}
 use Rattle.std.proofs.lemmas.Bool.{false≢true, and_parts, leb-true}
 use Rattle.std.proofs.lemmas.Grind.{common_steps}
 use Rattle.std.proofs.lemmas.List.{get_or_default}
-use Rattle.std.proofs.lemmas.List.Elements.{All-nil, All-cons, All-head, All-tail, All-filter, filter_passes, length_all_zip, AllZip-get_or}
+use Rattle.std.proofs.lemmas.List.Elements.{All-nil, All-cons, All-head, All-tail, All-filter, filter_passes}
 use Rattle.std.proofs.lemmas.List.Kept.{AllPairs-filter}
 use Rattle.std.proofs.lemmas.List.FromFn.{length-enumerate_from, get_or-enumerate_from}
 use Rattle.std.proofs.lemmas.List.Sums.{AllPass-from_list_all}
-use Rattle.std.proofs.lemmas.Option.{none-some, slice_get_within, unwrap_or-slice_get}
+use Rattle.std.proofs.lemmas.Option.{slice_get_within, unwrap_or-slice_get}
 use Rattle.std.proofs.lemmas.List.Quantifiers.{position-Some}
 use Rattle.lf_lex.specs.Tokens.{is_word_byte}
 use Rattle.lf_lex.specs.Reading.{IsName as IsReadName}
 use Rattle.lf_lex.specs.declared.fault.FaultNumber.TheVariants.{NoMacro, SecondName, TwoFences, TooMany}
 use Rattle.lf_names.specs.Names.{position_of}
 use Rattle.lf_lef.specs.declared.macros.Macro.{Macro}
-use Rattle.lf_lef.specs.Contents.{Contents, macro_names}
-use Rattle.lf_def.specs.declared.regions.Region.{Region}
+use Rattle.lf_lef.specs.Contents.{macro_names}
 use Rattle.lf_def.specs.declared.components.Component.{Component}
 use Rattle.lf_def.specs.Ranges.{IsComponent}
 use Rattle.lf_frame.specs.declared.frame.Frame.{Frame}
@@ -26,12 +25,12 @@ use Rattle.lf_frame.specs.declared.loaded.Cell.{Cell}
 use Rattle.lf_frame.specs.Bounds.{IsPrinted, IsName}
 use Rattle.lf_frame.specs.Boxes.{IsSized}
 use Rattle.lf_frame.specs.Ground.{IsTeam}
-use Rattle.lf_frame.specs.Design.{IsCell, CellsNamed, ComponentsRise, MakeDesign}
+use Rattle.lf_frame.specs.Design.{IsCell, MakeDesign}
 use Rattle.lf_frame.specs.Entries.{NoneBreaks}
 use Rattle.lf_frame.specs.Loading.{macro_named, is_cover, is_fixed, is_movable, fences, fence_names, IsTeamOf}
 use Rattle.lf_frame.specs.Refusals.{HasNoMacro, BearsEarlierName, IsComponentTooMany, IsClaimedTwice}
-use Rattle.lf_frame.specs.Findings.{Inputs, units_in, Finds, IsAccepted}
-use Rattle.lf_frame.specs.Loads.{frame_team, IsSizedIn, AreInRange, IsFrameOf, movables, CanBeCell, IsCellOf}
+use Rattle.lf_frame.specs.Findings.{Inputs, units_in, IsAccepted}
+use Rattle.lf_frame.specs.Loads.{IsSizedIn, AreInRange, IsFrameOf, movables, CanBeCell, IsCellOf}
 use Rattle.lf_frame.proofs.Gathered.{none_of_name}
 use Rattle.lf_frame.proofs.Accepted.{first_nothing, macros_sized}
 

@@ -1,11 +1,10 @@
 -- The parts of an accepted design make a frame.
-use Rattle.std.proofs.Common.{◌≡◌, ◌≢◌, ℕ, ℤ, pos, negsuc, ◌+◌, ◌^◌, ◌*ℤ◌, ◌<◌, ◌≤◌, ◌<ℤ◌, ◌≤ℤ◌, ◌⊎◌, inl, inr, Bool, true, false, List, [], ◌∷◌, ◌++◌, length, map, get_or, Option, None, Some, refl, sym, ap, ◌∙◌, arith}
+use Rattle.std.proofs.Common.{◌≡◌, ◌≢◌, ℕ, ℤ, pos, ◌<ℤ◌, ◌≤ℤ◌, ◌⊎◌, inl, inr, Bool, true, false, List, map, get_or, Option, None, Some, refl, arith}
 use Rattle.std.specs.Prelude.{All, AllPairs, Any, IsSome, IfSome, filter, filter_map, flat_map, cond, ◌||◌}
 use Rattle.std.specs.Str.{bytes_eq}
 use Rattle.std.proofs.lemmas.Bool.{false≢true}
 use Rattle.std.proofs.lemmas.Int.{ints}
-use Rattle.std.proofs.lemmas.Slice.Eq.{bytes_eq-Decides}
-use Rattle.std.proofs.lemmas.List.Elements.{All-nil, All-append, All-weaker, All-map}
+use Rattle.std.proofs.lemmas.List.Elements.{All-nil, All-append, All-weaker}
 use Rattle.lf_units.specs.declared.area.Point.{Point}
 use Rattle.lf_units.specs.declared.area.Rect.{Rect}
 use Rattle.lf_units.specs.Area.{SharesPoint}
@@ -14,7 +13,7 @@ use Rattle.lf_orient.specs.Orientation.{rail_below}
 use Rattle.lf_lex.specs.declared.fault.FaultNumber.TheVariants.{RowOrient, RowsOverlap, SecondRegion, TeamName, FencesOverlap, TooMany}
 use Rattle.lf_lef.specs.declared.sites.Site.{Site}
 use Rattle.lf_lef.specs.declared.macros.Macro.{Macro}
-use Rattle.lf_lef.specs.Contents.{Contents, IsSite, IsMacro}
+use Rattle.lf_lef.specs.Contents.{Contents, IsMacro}
 use Rattle.lf_lef.specs.Lengths.{IsInRange, HasRange}
 use Rattle.lf_def.specs.declared.rows.Row.{Row}
 use Rattle.lf_def.specs.declared.regions.Region.{Region}
@@ -23,21 +22,20 @@ use Rattle.lf_def.specs.declared.components.Location.{Location}
 use Rattle.lf_def.specs.declared.components.Placement.{Placement}
 use Rattle.lf_def.specs.declared.blockages.Blockage.{Blockage}
 use Rattle.lf_def.specs.Ranges.{IsCoordinate, IsRect, IsRow, IsRegion, IsComponent, IsBlockage, IsLocation, IsPlacement}
-use Rattle.lf_frame.specs.declared.parts.Team.{Team}
 use Rattle.lf_frame.specs.declared.assembled.Parts.{Parts}
-use Rattle.lf_frame.specs.Bounds.{IsDefNumber, IsLefLength, IsLefSize, IsDefRange, IsDefRect, IsObstacleRange, IsObstacle}
-use Rattle.lf_frame.specs.Rows.{row_area, IsPitch, IsHeeded, RowsApart}
-use Rattle.lf_frame.specs.Fences.{ground_name, IsFence, AreApart, FencesNamed, FencesApart}
+use Rattle.lf_frame.specs.Bounds.{IsDefNumber, IsLefLength, IsLefSize, IsDefRect, IsObstacle}
+use Rattle.lf_frame.specs.Rows.{row_area, IsHeeded, RowsApart}
+use Rattle.lf_frame.specs.Fences.{IsFence, AreApart, FencesNamed, FencesApart}
 use Rattle.lf_frame.specs.Boxes.{turned, box_at}
 use Rattle.lf_frame.specs.Premise.{MakeFrame}
 use Rattle.lf_frame.specs.Entries.{NoneBreaks}
 use Rattle.lf_frame.specs.Loading.{is_heeded, frame_row, is_fence, fences, is_fixed, macro_named, size_in_dbu, has_size, IsWholeSize}
-use Rattle.lf_frame.specs.Refusals.{IsTurned, MeetsEarlierRow, EndsTooFar, BearsEarlierFence, BearsGroundName, SharePoint, MeetsEarlierFence, IsRowTooMany, IsFenceTooMany, IsComponentTooMany}
-use Rattle.lf_frame.specs.Findings.{Inputs, units_in, core_in, Finding, NameOfFirst, OfCore, OfPitch, Finds, IsAccepted}
+use Rattle.lf_frame.specs.Refusals.{IsTurned, MeetsEarlierRow, EndsTooFar, BearsEarlierFence, BearsGroundName, SharePoint, MeetsEarlierFence}
+use Rattle.lf_frame.specs.Findings.{Inputs, units_in, core_in, NameOfFirst, IsAccepted}
 use Rattle.lf_frame.specs.Loads.{frame_team, location, IsSizedIn, FixedIsSized, fixed_box, blocked, obstacles_in, AreInRange, ArePartsOf}
-use Rattle.lf_frame.proofs.Gathered.{none_of_name, all_from_none, pairs_from_none, all_kept, pairs_kept, all_filter_map, all_flat_map}
+use Rattle.lf_frame.proofs.Gathered.{none_of_name, pairs_from_none, all_kept, pairs_kept, all_filter_map, all_flat_map}
 use Rattle.lf_frame.proofs.SizeBounds.{IsSmall, small_pitch, turned_small}
-use Rattle.lf_frame.proofs.CoreLemmas.{core_sized, pitch_of_core, core_heeded}
+use Rattle.lf_frame.proofs.CoreLemmas.{pitch_of_core, core_heeded}
 use Rattle.lf_frame.proofs.Accepted.{of_core, of_pitch, first_nothing, fixed_sized}
 
 lef_length : (v : ℤ) → IsInRange v → IsLefLength v

@@ -1,13 +1,12 @@
 -- What holds of entries holds of what is gathered from them.
-use Rattle.std.proofs.Common.{◌≡◌, ℕ, zero, suc, ◌+◌, ◌<◌, ◌≤◌, Bool, true, false, List, [], ◌∷◌, ◌++◌, length, map, take, get_or, Option, None, Some, refl, sym, ◌∙◌, arith}
+use Rattle.std.proofs.Common.{◌≡◌, ℕ, zero, suc, ◌<◌, Bool, true, false, List, [], ◌∷◌, length, map, take, get_or, Option, None, Some, refl, arith}
 use Rattle.std.specs.Prelude.{filter, filter_map, flat_map, slice_get, option_map, All, Any, AllPairs, IfSome}
 use Rattle.std.proofs.lemmas.Grind.{common_steps}
-use Rattle.std.proofs.lemmas.Bool.{false≢true}
 use Rattle.std.proofs.lemmas.List.{get_or_default}
 use Rattle.std.proofs.lemmas.Option.{none-some}
-use Rattle.std.proofs.lemmas.List.Elements.{All-nil, All-cons, All-head, All-tail, All-append, All-map}
+use Rattle.std.proofs.lemmas.List.Elements.{All-nil, All-cons, All-head, All-tail, All-append}
 use Rattle.std.proofs.lemmas.List.Kept.{AllPairs-cons}
-use Rattle.lf_frame.specs.Entries.{FirstIs, IsFirst, NoneBreaks}
+use Rattle.lf_frame.specs.Entries.{FirstIs, NoneBreaks}
 use Rattle.lf_frame.specs.Loading.{at_place}
 use Rattle.lf_frame.specs.Findings.{NameOfFirst}
 

@@ -1,5 +1,5 @@
 -- What loading gives: the frame, and the movable cells with their teams.
-use Rattle.std.specs.Prelude.{◌≡◌, ℕ, cond, true, ◌||◌, List, [], ◌++◌, length, map, filter, filter_map, flat_map, Option, Some, None, option_map, IfSome, IsSome, pos, ◌<ℤ◌, All}
+use Rattle.std.specs.Prelude.{◌≡◌, ℕ, cond, true, ◌||◌, List, [], ◌++◌, map, filter, filter_map, flat_map, Option, Some, None, option_map, IfSome, IsSome, pos, ◌<ℤ◌, All}
 use Rattle.std.specs.List.{AllZip, enumerate_from}
 use Rattle.std.specs.Option.{option_and_then}
 use Rattle.lf_units.specs.declared.area.Rect.{Rect}

@@ -1,4 +1,4 @@
-use Rattle.lf_frame.specs.Findings.{Inputs, inputs}
+use Rattle.lf_frame.specs.Findings.{inputs}
 use Rattle.lf_frame.proofs.DesignMade.{can_be_cells, design_made}
 use Rattle.lf_frame.proofs.loading.accepted_design.Goals as goal
 
