@@ -1,5 +1,5 @@
 -- The floor with which a design begins, team by team.
-use Rattle.std.proofs.Common.{◌≡◌, ℕ, zero, suc, ◌+◌, ◌-◌, ◌<◌, ◌≤◌, List, [], ◌∷◌, ◌++◌, append_assoc, length, map, filter, get_or, eqb, Bool, true, false, cond, Option, Some, None, refl, ap, sym, ◌∙◌, add-zero, zero-add, arith}
+use Rattle.std.proofs.Common.{◌≡◌, ℕ, zero, suc, ◌+◌, ◌<◌, ◌≤◌, List, [], ◌∷◌, length, map, filter, get_or, eqb, Bool, true, false, cond, Option, Some, None, refl, ap, sym, ◌∙◌, add-zero, zero-add, arith}
 use Rattle.std.specs.Prelude.{slice_get, unwrap_or, bytes_eq, replicate, All}
 use Rattle.std.proofs.lemmas.List.{length-append, length-map, length-replicate}
 use Rattle.std.proofs.lemmas.List.Elements.{All-cons, All-filter, All-map}
@@ -86,28 +86,17 @@ opened_teams : (design : Loaded) (number more : ℕ) → All (λ s. IsTeamOf des
 opened_teams design number zero = λ i d within. absurd (omega arith)
 opened_teams design number (suc more) = All-cons (λ (s : TeamState). IsTeamOf design.frame s) (opening_team design number) (opening_teams design (number + 1) more) (opened_team design number) (opened_teams design (number + 1) more)
 
--- the next team and those behind it
-pub next_team : (design : Loaded) (number count : ℕ) → number < count → opening_teams design number (count - number) ≡ opening_team design number ∷ opening_teams design (number + 1) (count - (number + 1))
-next_team design number count within =
-    let more : count - number ≡ suc (count - (number + 1)) = omega arith in
-    ap (λ (n : ℕ). opening_teams design number n) more
-
--- one more team behind the others
-pub more_teams : (design : Loaded) (number count : ℕ) (before after all : List TeamState) → number < count → after ≡ before ++ opening_team design number ∷ []
-    → before ++ opening_teams design number (count - number) ≡ all → after ++ opening_teams design (number + 1) (count - (number + 1)) ≡ all
-more_teams design number count before after all within is so_far = rw (is, append_assoc) (rw (next_team design number count within) at so_far)
-
--- the last team behind the others
-pub last_team : (design : Loaded) (number last : ℕ) (before after all : List TeamState) → number ≡ last → after ≡ before ++ opening_team design last ∷ []
-    → before ++ opening_teams design number (last + 1 - number) ≡ all → after ≡ all
-last_team design number last before after all at is so_far =
-    let one : last + 1 - number ≡ 1 = omega (arith, at) in
-    let there : before ++ opening_teams design number 1 ≡ all = ap (λ (n : ℕ). before ++ opening_teams design number n) (sym one) ∙ so_far in
-    is ∙ ap (λ (n : ℕ). before ++ opening_team design n ∷ []) (sym at) ∙ there
-
-count_teams : (design : Loaded) (number more : ℕ) → length (opening_teams design number more) ≡ more
+pub count_teams : (design : Loaded) (number more : ℕ) → length (opening_teams design number more) ≡ more
 count_teams design number zero = refl
 count_teams design number (suc more) = ap suc (count_teams design (number + 1) more)
 
 pub opening_whole : (design : Loaded) → (length (opening design).teams ≡ length design.frame.teams + 1) × All (λ s. IsTeamOf design.frame s) (opening design).teams
 opening_whole design = (count_teams design 0 (length design.frame.teams + 1), opened_teams design 0 (length design.frame.teams + 1))
+
+-- the team of each number
+pub opened_at : (design : Loaded) (from more : ℕ) (i : ℕ) (d : TeamState) → i < more → get_or (opening_teams design from more) i d ≡ opening_team design (from + i)
+opened_at design from zero i d l = absurd (omega arith)
+opened_at design from (suc more) zero d l = ap (λ (n : ℕ). opening_team design n) (sym (add-zero from))
+opened_at design from (suc more) (suc i) d l =
+    let shift : from + 1 + i ≡ from + suc i = omega arith in
+    opened_at design (from + 1) more i d (omega arith) ∙ ap (λ (n : ℕ). opening_team design n) shift

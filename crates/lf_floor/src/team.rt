@@ -1,10 +1,11 @@
 //! One team: its cells, its revision, its undo entries and its sessions, and what each order does
 //! to them.
 
-ghost use Rattle.std.specs.Prelude.{Some, ◌≡◌, ◌<◌, ◌≤◌, ◌+◌, ◌∷◌, [], IfOk, IfSome, OnOk, OnErr, length, position, is_none, replicate, slice_set, take};
+ghost use Rattle.std.specs.Prelude.{Some, ◌≡◌, ◌<◌, ◌≤◌, ◌+◌, ◌∷◌, ◌++◌, [], IfOk, IfSome, OnOk, OnErr, length, position, is_none, replicate, slice_set, take};
 ghost use Rattle.lf_rules.specs.Legalizer.{Legalizer};
 ghost use Rattle.lf_proto.specs.declared.request.Order.TheVariants.{Within};
 ghost use Rattle.lf_proto.specs.Commands.{change_of, action_of, order_of};
+ghost use Rattle.lf_floor.specs.Designs.{with_cells};
 ghost use Rattle.lf_floor.specs.Teams.{IsTeamOf};
 ghost use Rattle.lf_floor.specs.Steps.{setting};
 ghost use Rattle.lf_floor.specs.Outcomes.{Reaches, RunsOut, outcome_of, after_change, if_left, changed, with_entry, seen_at, opened, checked, located, placed, unplaced, unplaced_own};
@@ -95,6 +96,14 @@ impl Team {
             entries: Vec::new(alloc),
             slots: vec![in alloc; None; sessions]?,
         })
+    }
+
+    /// Puts a cell behind the others.
+    pub fn push_cell(&mut self, cell: Cell) -> Result<(), AllocError>
+        ensures { OnOk result (self.new ≡ with_cells self.old (cell ∷ [])) }
+    {
+        self.cells.push(cell)?;
+        Ok(())
     }
 
     /// The cells, in loading order.
