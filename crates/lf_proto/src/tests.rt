@@ -269,7 +269,8 @@ fn writes_reports(rt: HostRuntime) -> Result<(), Fail> {
         violations: Sequence::from_vec(violations),
     };
     let text = report_json(alloc, &report)?;
-    let expected = b"{\"cells\":3,\"unplaced\":1,\"violations\":[{\"cell\":\"a1\",\"other\":\"a\\\"2\\\\\",\"rule\":8},{\"cell\":\"b1\",\"rule\":6}]}";
+    let expected =
+        b"{\"cells\":3,\"unplaced\":1,\"violations\":[{\"cell\":\"a1\",\"other\":\"a\\\"2\\\\\",\"rule\":8},{\"cell\":\"b1\",\"rule\":6}]}";
     assert!(rt; text.as_bytes() == expected.as_slice());
     Ok(())
 }

@@ -1,6 +1,6 @@
 -- A report is clean exactly where its cells make a fully legal design, and the names that it tells are those of cells.
-use Rattle.std.proofs.Common.{◌≡◌, ◌⊎◌, ℕ, zero, suc, ◌+◌, ◌<◌, List, [], ◌∷◌, length, map, Option, Some, None, Bool, true, false, cond, inl, inr, refl, sym, ◌∙◌, ap, subst, arith, slice_get, get_or}
-use Rattle.std.specs.Prelude.{All, AllPairs, IsSome, MatchOption, is_none, count_by, filter, filter_map, option_map, option_and_then, ◌↔◌}
+use Rattle.std.proofs.Common.{◌≡◌, ◌⊎◌, ℕ, zero, suc, ◌+◌, ◌<◌, List, [], ◌∷◌, length, map, Option, Some, None, inl, inr, refl, sym, ◌∙◌, ap, subst, arith, slice_get, get_or}
+use Rattle.std.specs.Prelude.{All, AllPairs, IsSome, is_none, count_by, filter, filter_map, option_map, option_and_then, ◌↔◌}
 use Rattle.std.specs.List.{range_with_len, cons_option}
 use Rattle.std.specs.Option.{ForSome}
 use Rattle.std.specs.Borrow.{Bor}
@@ -8,7 +8,6 @@ use Rattle.std.proofs.lemmas.Option.{slice_get_within, get_or_from_slice_get, sl
 use Rattle.std.proofs.lemmas.List.Elements.{All-nil, All-cons, All-head, All-tail}
 use Rattle.std.proofs.lemmas.List.Sums.{length-filter}
 use Rattle.std.proofs.lemmas.List.Kept.{AllPairs-cons}
-use Rattle.lf_units.specs.declared.area.Rect.{Rect}
 use Rattle.lf_units.specs.Area.{SharesPoint}
 use Rattle.lf_frame.specs.declared.frame.Frame.{Frame}
 use Rattle.lf_frame.specs.declared.loaded.Cell.{Cell}
@@ -22,8 +21,8 @@ use Rattle.lf_rules.specs.declared.report.Violation.{Violation}
 use Rattle.lf_rules.specs.declared.report.Report.{Report}
 use Rattle.lf_rules.specs.Legality.{Trial, IsTeamLegal}
 use Rattle.lf_rules.specs.Legalizer.{Legalizer, IsVerdict}
-use Rattle.lf_rules.specs.Choice.{Spot, spot_of, Lifted, trial_at, IsLegalAt}
-use Rattle.lf_rules.specs.Team.{Member, box_in, boxes_beside, lifted_from}
+use Rattle.lf_rules.specs.Choice.{Spot, spot_of, Lifted, IsLegalAt}
+use Rattle.lf_rules.specs.Team.{Member, box_in, lifted_from}
 use Rattle.lf_rules.specs.FullyLegal.{Standing, standing_at, KeepsRules, StandApart, IsFullyLegal}
 use Rattle.lf_rules.specs.Reports.{named, member_of, standing_of, name_among, IsTold, listed_at, trial_among, broken_among, violation_of, violation_by, violation_at, violations_in, report_of, IsListed, IsClean}
 use Rattle.lf_rules.proofs.BesideLemmas.{beside_hold}

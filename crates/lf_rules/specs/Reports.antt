@@ -1,5 +1,5 @@
 -- What a check tells: how many cells there are, how many of them are unplaced, and which break a rule where they stand.
-use Rattle.std.specs.Prelude.{◌≡◌, ◌↔◌, ℕ, ◌<◌, List, [], ◌∷◌, Option, None, Some, All, is_none, count_by, map, filter_map, length, slice_get, option_map, option_and_then}
+use Rattle.std.specs.Prelude.{◌≡◌, ◌↔◌, ℕ, ◌<◌, List, [], ◌∷◌, Option, None, All, is_none, count_by, map, filter_map, length, slice_get, option_map, option_and_then}
 use Rattle.std.specs.List.{range_with_len}
 use Rattle.std.specs.Option.{ForSome}
 use Rattle.std.specs.Borrow.{Bor}

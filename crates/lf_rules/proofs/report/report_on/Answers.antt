@@ -1,4 +1,4 @@
-use Rattle.std.proofs.Common.{◌≡◌, ◌∙◌, ℕ, List, sym, subst, arith, length, map}
+use Rattle.std.proofs.Common.{◌≡◌, ◌∙◌, List, sym, subst, length, map}
 use Rattle.std.specs.Prelude.{All, ◌↔◌}
 use Rattle.std.proofs.Math.ListN.{length-map}
 use Rattle.lf_rules.specs.declared.report.Report.{Report}
