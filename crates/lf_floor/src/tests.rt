@@ -88,7 +88,10 @@ fn answers_a_team(rt: HostRuntime) -> Result<(), Fail> {
         (b"place A 0 nobody 0 0 N", b"no 11 RevisionsSpent\n"),
     ];
     for (number, (line, expected)) in lines.into_iter().enumerate() {
-        assert!(rt; tells(rt.alloc(), &mut floor, line, expected)?, "line {number}");
+        assert!(rt;
+            tells(rt.alloc(), &mut floor, line, expected)?,
+            "line {number}"
+        );
     }
     Ok(())
 }
@@ -105,15 +108,15 @@ fn changed_floor(alloc: Global, changes: &[(usize, &[u8])]) -> Result<Floor, Fai
 
 #[test]
 fn reports_each_team_alone(rt: HostRuntime) -> Result<(), Fail> {
-    let mut floor = changed_floor(
-        rt.alloc(),
-        &[(18, b"- b1 INV + PLACED ( 0 0 ) N ;")],
-    )?;
+    let mut floor = changed_floor(rt.alloc(), &[(18, b"- b1 INV + PLACED ( 0 0 ) N ;")])?;
     let lines: [(&[u8], &[u8]); 6] = [
         (b"open A", b"ok 0 0\n"),
         (b"check A 1", b"no 3 NoSession\n"),
         (b"place A 0 a1 0 0 N", b"ok 1\n"),
-        (b"check A 0", b"ok {\"cells\":3,\"unplaced\":2,\"violations\":[]}\n"),
+        (
+            b"check A 0",
+            b"ok {\"cells\":3,\"unplaced\":2,\"violations\":[]}\n",
+        ),
         (b"open B", b"ok 0 0\n"),
         (
             b"check B 0",
@@ -137,7 +140,8 @@ fn reports_overlap(rt: HostRuntime) -> Result<(), Fail> {
         ],
     )?;
     assert!(rt; tells(rt.alloc(), &mut floor, b"open A", b"ok 0 0\n")?);
-    let expected = b"ok {\"cells\":3,\"unplaced\":1,\"violations\":[{\"cell\":\"a1\",\"other\":\"a2\",\"rule\":8},{\"cell\":\"a2\",\"other\":\"a1\",\"rule\":8}]}\n";
+    let expected =
+        b"ok {\"cells\":3,\"unplaced\":1,\"violations\":[{\"cell\":\"a1\",\"other\":\"a2\",\"rule\":8},{\"cell\":\"a2\",\"other\":\"a1\",\"rule\":8}]}\n";
     assert!(rt; tells(rt.alloc(), &mut floor, b"check A 0", expected)?);
     Ok(())
 }

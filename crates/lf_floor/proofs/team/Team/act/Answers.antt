@@ -1,4 +1,4 @@
-use Rattle.std.proofs.Common.{◌≡◌, ◌∙◌, Some, ap}
+use Rattle.std.proofs.Common.{◌≡◌, Some, ap}
 use Rattle.lf_proto.specs.Commands.{action_of}
 use Rattle.lf_floor.specs.Steps.{setting}
 use Rattle.lf_floor.specs.Outcomes.{seen_at}
