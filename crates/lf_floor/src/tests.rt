@@ -53,96 +53,79 @@ fn floor(alloc: Global) -> Result<Floor, Fail> {
     Ok(Floor::start(alloc, design)?)
 }
 
-/// Whether a line is answered by this text, in which cells are named `cell` and `other`.
-fn tells(
-    alloc: Global,
-    floor: &mut Floor,
-    line: &[u8],
-    expected: &[u8],
-) -> Result<bool, AllocError> {
-    let Ok(request) = parse_line(line) else {
-        return Ok(false);
-    };
+/// The replies to the lines, in which cells are named `cell` and `other`.
+fn told(alloc: Global, floor: &mut Floor, lines: &[u8]) -> Result<Vec<u8>, Fail> {
     let mut text = Vec::new(alloc);
-    reply_text(&floor.step(&request), b"cell", b"other", &mut text)?;
-    Ok(text.as_slice() == expected)
+    for line in lines.split(|byte| *byte == b'\n') {
+        let Ok(request) = parse_line(line) else {
+            return Err(Fail::from("a request"));
+        };
+        reply_text(&floor.step(&request), b"cell", b"other", &mut text)?;
+    }
+    Ok(text)
+}
+
+/// Whether the lines are answered by these replies on the floor of `floor`.
+fn tells(alloc: Global, lines: &[u8], replies: &[u8]) -> Result<bool, Fail> {
+    let mut floor = floor(alloc)?;
+    Ok(told(alloc, &mut floor, lines)?.as_slice() == replies)
 }
 
 #[test]
-fn answers_a_team(rt: HostRuntime) -> Result<(), Fail> {
-    let mut floor = floor(rt.alloc())?;
-    let lines: [(&[u8], &[u8]); 14] = [
-        (b"open C", b"no 2 NoTeam\n"),
-        (b"where A 0 a1", b"no 3 NoSession\n"),
-        (b"open A", b"ok 0 0\n"),
-        (b"open A", b"no 10 SessionsFull\n"),
-        (b"where A 1 a1", b"no 3 NoSession\n"),
-        (b"where A 0 a1", b"ok 0 0 N\n"),
-        (b"where A 0 b1", b"no 5 NoCell\n"),
-        (b"where A 0 nobody", b"no 5 NoCell\n"),
-        (b"where A 0 a2", b"no 6 Unplaced cell\n"),
-        (b"place A 0 a2 4000 0 N", b"no 7 Illegal 6 cell\n"),
-        (b"place A 0 a2 200 0 N", b"no 7 Illegal 8 cell other\n"),
-        (b"place A 0 a2 400 0 N", b"ok 1\n"),
-        (b"place A 0 a2 600 0 N", b"ok 2\n"),
-        (b"place A 0 nobody 0 0 N", b"no 11 RevisionsSpent\n"),
-    ];
-    for (number, (line, expected)) in lines.into_iter().enumerate() {
-        assert!(rt;
-            tells(rt.alloc(), &mut floor, line, expected)?,
-            "line {number}"
-        );
-    }
+fn sessions_and_names_are_tested_first(rt: HostRuntime) -> Result<(), Fail> {
+    let lines = b"open C\nwhere A 0 a1\nopen A\nopen A\nwhere A 1 a1\nwhere A 0 a1\nwhere A 0 b1\n\
+        where A 0 nobody\nwhere A 0 a2";
+    let replies =
+        b"no 2 NoTeam\nno 3 NoSession\nok 0 0\nno 10 SessionsFull\nno 3 NoSession\nok 0 0 N\n\
+        no 5 NoCell\nno 5 NoCell\nno 6 Unplaced cell\n";
+    assert!(rt; tells(rt.alloc(), lines, replies)?);
     Ok(())
 }
 
-/// The floor of the built-in design with some of its lines changed.
-fn changed_floor(alloc: Global, changes: &[(usize, &[u8])]) -> Result<Floor, Fail> {
-    let mut def = Vec::from_slice(alloc, W_DEF)?;
-    for (number, line) in changes {
-        def = with_line(alloc, &def, *number, line)?;
-    }
-    let design = design(alloc, &def, Limits::standard())?;
+#[test]
+fn places_are_tested_and_counted(rt: HostRuntime) -> Result<(), Fail> {
+    let lines = b"open A\nplace A 0 a2 4000 0 N\nplace A 0 a2 200 0 N\nplace A 0 a2 400 0 N\n\
+        place A 0 a2 600 0 N\nplace A 0 nobody 0 0 N";
+    let replies =
+        b"ok 0 0\nno 7 Illegal 6 cell\nno 7 Illegal 8 cell other\nok 1\nok 2\nno 11 RevisionsSpent\n";
+    assert!(rt; tells(rt.alloc(), lines, replies)?);
+    Ok(())
+}
+
+/// The floor of the built-in LEF text and this DEF text.
+fn floor_of(alloc: Global, def: &[u8]) -> Result<Floor, Fail> {
+    let design = design(alloc, def, Limits::standard())?;
     Ok(Floor::start(alloc, design)?)
+}
+
+/// The built-in DEF text with a small fence A, and a1 and a2 in one place.
+fn overlapping(alloc: Global) -> Result<Vec<u8>, AllocError> {
+    let def = with_line(alloc, W_DEF, 11, b"- A ( 0 0 ) ( 600 2000 ) + TYPE FENCE ;")?;
+    let def = with_line(alloc, &def, 15, b"- a1 INV + PLACED ( 0 0 ) N ;")?;
+    with_line(alloc, &def, 16, b"- a2 INV + PLACED ( 0 0 ) N ;")
 }
 
 #[test]
 fn reports_each_team_alone(rt: HostRuntime) -> Result<(), Fail> {
-    let mut floor = changed_floor(rt.alloc(), &[(18, b"- b1 INV + PLACED ( 0 0 ) N ;")])?;
-    let lines: [(&[u8], &[u8]); 6] = [
-        (b"open A", b"ok 0 0\n"),
-        (b"check A 1", b"no 3 NoSession\n"),
-        (b"place A 0 a1 0 0 N", b"ok 1\n"),
-        (
-            b"check A 0",
-            b"ok {\"cells\":3,\"unplaced\":2,\"violations\":[]}\n",
-        ),
-        (b"open B", b"ok 0 0\n"),
-        (
-            b"check B 0",
-            b"ok {\"cells\":1,\"unplaced\":0,\"violations\":[{\"cell\":\"b1\",\"rule\":6}]}\n",
-        ),
-    ];
-    for (line, expected) in lines {
-        assert!(rt; tells(rt.alloc(), &mut floor, line, expected)?);
-    }
+    let def = with_line(rt.alloc(), W_DEF, 18, b"- b1 INV + PLACED ( 0 0 ) N ;")?;
+    let mut floor = floor_of(rt.alloc(), &def)?;
+    let lines = b"open A\ncheck A 1\nplace A 0 a1 0 0 N\ncheck A 0\nopen B\ncheck B 0";
+    let replies =
+        b"ok 0 0\nno 3 NoSession\nok 1\nok {\"cells\":3,\"unplaced\":2,\"violations\":[]}\nok 0 0\n\
+        ok {\"cells\":1,\"unplaced\":0,\"violations\":[{\"cell\":\"b1\",\"rule\":6}]}\n";
+    assert!(rt; told(rt.alloc(), &mut floor, lines)?.as_slice() == replies.as_slice());
     Ok(())
 }
 
 #[test]
 fn reports_overlap(rt: HostRuntime) -> Result<(), Fail> {
-    let mut floor = changed_floor(
-        rt.alloc(),
-        &[
-            (11, b"- A ( 0 0 ) ( 600 2000 ) + TYPE FENCE ;"),
-            (15, b"- a1 INV + PLACED ( 0 0 ) N ;"),
-            (16, b"- a2 INV + PLACED ( 0 0 ) N ;"),
-        ],
-    )?;
-    assert!(rt; tells(rt.alloc(), &mut floor, b"open A", b"ok 0 0\n")?);
-    let expected =
-        b"ok {\"cells\":3,\"unplaced\":1,\"violations\":[{\"cell\":\"a1\",\"other\":\"a2\",\"rule\":8},{\"cell\":\"a2\",\"other\":\"a1\",\"rule\":8}]}\n";
-    assert!(rt; tells(rt.alloc(), &mut floor, b"check A 0", expected)?);
+    let mut floor = floor_of(rt.alloc(), &overlapping(rt.alloc())?)?;
+    let replies =
+        b"ok 0 0\nok {\"cells\":3,\"unplaced\":1,\"violations\":[{\"cell\":\"a1\",\"other\":\"a2\",\"rule\":8},\
+        {\"cell\":\"a2\",\"other\":\"a1\",\"rule\":8}]}\n";
+    assert!(rt;
+        told(rt.alloc(), &mut floor, b"open A\ncheck A 0")?.as_slice() == replies.as_slice()
+    );
     Ok(())
 }
 
