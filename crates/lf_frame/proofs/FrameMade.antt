@@ -1,5 +1,5 @@
 -- The parts of an accepted design make a frame.
-use Rattle.std.proofs.Common.{◌≡◌, ◌≢◌, ℕ, ℤ, pos, ◌<ℤ◌, ◌≤ℤ◌, ◌⊎◌, inl, inr, Bool, true, false, List, map, get_or, Option, None, Some, refl, arith}
+use Rattle.std.proofs.Common.{◌≡◌, ◌≢◌, ℕ, ℤ, pos, ◌<ℤ◌, ◌≤ℤ◌, ◌⊎◌, inl, inr, ◌≤◌, length, Bool, true, false, List, map, get_or, Option, None, Some, refl, arith}
 use Rattle.std.specs.Prelude.{All, AllPairs, Any, IsSome, IfSome, filter, filter_map, flat_map, cond, ◌||◌}
 use Rattle.std.specs.Str.{bytes_eq}
 use Rattle.std.proofs.lemmas.Bool.{false≢true}
@@ -30,10 +30,10 @@ use Rattle.lf_frame.specs.Boxes.{turned, box_at}
 use Rattle.lf_frame.specs.Premise.{MakeFrame}
 use Rattle.lf_frame.specs.Entries.{NoneBreaks}
 use Rattle.lf_frame.specs.Loading.{is_heeded, frame_row, is_fence, fences, is_fixed, macro_named, size_in_dbu, has_size, IsWholeSize}
-use Rattle.lf_frame.specs.Refusals.{IsTurned, MeetsEarlierRow, EndsTooFar, BearsEarlierFence, BearsGroundName, SharePoint, MeetsEarlierFence}
+use Rattle.lf_frame.specs.Refusals.{IsTurned, MeetsEarlierRow, EndsTooFar, BearsEarlierFence, BearsGroundName, SharePoint, MeetsEarlierFence, IsRowTooMany, IsFenceTooMany}
 use Rattle.lf_frame.specs.Findings.{Inputs, units_in, core_in, NameOfFirst, IsAccepted}
 use Rattle.lf_frame.specs.Loads.{frame_team, location, IsSizedIn, FixedIsSized, fixed_box, blocked, obstacles_in, AreInRange, ArePartsOf}
-use Rattle.lf_frame.proofs.Gathered.{none_of_name, pairs_from_none, all_kept, pairs_kept, all_filter_map, all_flat_map}
+use Rattle.lf_frame.proofs.Gathered.{none_of_name, pairs_from_none, all_kept, pairs_kept, few_kept, all_filter_map, all_flat_map}
 use Rattle.lf_frame.proofs.SizeBounds.{IsSmall, small_pitch, turned_small}
 use Rattle.lf_frame.proofs.CoreLemmas.{pitch_of_core, core_heeded}
 use Rattle.lf_frame.proofs.Accepted.{of_core, of_pitch, first_nothing, fixed_sized}
@@ -156,6 +156,18 @@ near_rows i core is whole a =
     let behind_fences = (first_nothing behind_rows).1 in
     none_of_name (of_pitch i core (λ s pitch. NameOfFirst (λ r. r.name) (EndsTooFar s pitch) i.document.rows) is whole (first_nothing behind_fences).1)
 
+-- no more rows are heeded than the limit
+few_rows : (i : Inputs) (core : Site) → core_in i ≡ Some core → IsAccepted i → length (map frame_row (filter (is_heeded core) i.document.rows)) ≤ i.limits.rows
+few_rows i core is a =
+    few_kept frame_row (is_heeded core) i.limits.rows i.document.rows
+    (none_of_name (of_core i core (λ s. NameOfFirst (λ r. r.name) (IsRowTooMany s i.limits.rows) i.document.rows) is (first_nothing (a TooMany)).0))
+
+-- nor are there more fences than their limit
+few_fences : (i : Inputs) → IsAccepted i → length (map frame_team (fences i.document.regions)) ≤ i.limits.fences
+few_fences i a =
+    let behind_rows = (first_nothing (a TooMany)).1 in
+    few_kept frame_team is_fence i.limits.fences i.document.regions (none_of_name {breaks = IsFenceTooMany i.limits.fences} (first_nothing behind_rows).0)
+
 pub frame_made : (i : Inputs) (core : Site) (p : Parts) (pitch : Point) → AreInRange i → IsAccepted i → core_in i ≡ Some core → HasRange core.size → has_size core.size ≡ true →
     IsWholeSize (units_in i) core.size → pitch ≡ size_in_dbu (units_in i) core.size → ArePartsOf i core p → MakeFrame p pitch
 frame_made i core p pitch range a is site sized whole pitch_is parts =
@@ -167,8 +179,10 @@ frame_made i core p pitch range a is site sized whole pitch_is parts =
       site_in_lef = rw parts.site (lef_size core.size site);
       pitch_whole = rw (parts.header, parts.site) (pitch_of_core (units_in i) core.size range.units.least range.units.most site sized whole);
       has_row = rw parts.rows (core_heeded i.library i.document.rows core is);
+      few_rows = rw (parts.rows, parts.limits) (few_rows i core is a);
       rows_heeded = rw parts.rows (rows_heeded core at i.document.rows range.rows turned (near_rows i core is whole a));
       rows_apart = rw parts.rows (rows_apart core at i.document.rows meeting);
+      few_fences = rw (parts.teams, parts.limits) (few_fences i a);
       fences_whole = rw parts.teams (fences_whole i.document.regions range.regions (none_of_name (a TeamName)));
       fences_named = rw parts.teams (fences_named i.document.regions (none_of_name (a SecondRegion)));
       fences_apart = rw parts.teams (fences_apart i.document.regions (none_of_name (a FencesOverlap)));

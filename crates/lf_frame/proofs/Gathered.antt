@@ -1,8 +1,10 @@
 -- What holds of entries holds of what is gathered from them.
-use Rattle.std.proofs.Common.{◌≡◌, ℕ, zero, suc, ◌<◌, Bool, true, false, List, [], ◌∷◌, length, map, take, get_or, Option, None, Some, refl, arith}
+use Rattle.std.proofs.Common.{◌≡◌, ◌⊎◌, inl, inr, ℕ, zero, suc, ◌+◌, ◌<◌, ◌≤◌, cond, subst, Bool, true, false, List, [], ◌∷◌, length, map, take, get_or, Option, None, Some, refl, arith}
 use Rattle.std.specs.Prelude.{filter, filter_map, flat_map, slice_get, option_map, All, Any, AllPairs, IfSome}
 use Rattle.std.proofs.lemmas.Grind.{common_steps}
-use Rattle.std.proofs.lemmas.List.{get_or_default}
+use Rattle.std.proofs.Math.Seq.{take-length}
+use Rattle.std.proofs.lemmas.List.{get_or_default, length-map}
+use Rattle.std.proofs.lemmas.List.Filters.{length-filter_more}
 use Rattle.std.proofs.lemmas.Option.{none-some}
 use Rattle.std.proofs.lemmas.List.Elements.{All-nil, All-cons, All-head, All-tail, All-append}
 use Rattle.std.proofs.lemmas.List.Kept.{AllPairs-cons}
@@ -72,3 +74,41 @@ all_filter_map {A} {B} P h (x ∷ xs) all = by (h x) refl (All-head (λ x. IfSom
 pub all_flat_map : {A B : Type 0} (P : B → Type 0) (h : A → List B) (xs : List A) → All (λ x. All P (h x)) xs → All P (flat_map h xs)
 all_flat_map P h [] all = All-nil P
 all_flat_map P h (x ∷ xs) all = All-append P (h x) (flat_map h xs) (All-head (λ x. All P (h x)) x xs all) (all_flat_map P h xs (All-tail (λ x. All P (h x)) x xs all))
+
+below_limit : (limit m : ℕ) → (limit ≤ m → ⊥) → m < limit
+below_limit limit m room =
+    let cases : (limit ≤ m) ⊎ (m < limit) = grind arith in
+    elim cases [
+      | inl full ↦ absurd (room full)
+      | inr less ↦ less
+    ]
+
+one_more : {A : Type 0} (p : A → Bool) (limit n : ℕ) (d : A) (xs : List A) → NoneBreaks (λ earlier x. (p x ≡ true) × (limit ≤ length (filter p earlier))) xs → n < length xs →
+    length (filter p (take n xs)) ≤ limit → length (filter p (take (n + 1) xs)) ≤ limit
+one_more p limit n d xs none within so_far = by (p (get_or xs n d)) refl (length-filter_more p xs n d within)
+  where
+    by : (t : Bool) → p (get_or xs n d) ≡ t → length (filter p (take (n + 1) xs)) ≡ length (filter p (take n xs)) + cond {A = ℕ} (p (get_or xs n d)) 1 0 → length (filter p (take (n + 1) xs)) ≤ limit
+    by true is more =
+        let less : length (filter p (take n xs)) < limit = below_limit limit (length (filter p (take n xs))) (λ full. none n d within (is, full)) in
+        let one : cond {A = ℕ} (p (get_or xs n d)) 1 0 ≡ 1 = rw is refl in
+        omega (arith, more, one, less)
+    by false is more =
+        let nothing : cond {A = ℕ} (p (get_or xs n d)) 1 0 ≡ 0 = rw is refl in
+        omega (arith, more, nothing, so_far)
+
+few_passed : {A : Type 0} (p : A → Bool) (limit : ℕ) (d : A) (xs : List A) → NoneBreaks (λ earlier x. (p x ≡ true) × (limit ≤ length (filter p earlier))) xs → (n : ℕ) → n ≤ length xs →
+    length (filter p (take n xs)) ≤ limit
+few_passed p limit d xs none zero within = omega arith
+few_passed p limit d xs none (suc n) within =
+    let next : n + 1 ≡ suc n = omega arith in
+    subst (λ (m : ℕ). length (filter p (take m xs)) ≤ limit) next (one_more p limit n d xs none (omega arith) (few_passed p limit d xs none n (omega arith)))
+
+-- where no entry that passes the test has so many of those before it, no more than so many pass
+pub few_kept : {A B : Type 0} (f : A → B) (p : A → Bool) (limit : ℕ) (xs : List A) → NoneBreaks (λ earlier x. (p x ≡ true) × (limit ≤ length (filter p earlier))) xs → length (map f (filter p xs)) ≤ limit
+few_kept f p limit [] none = omega arith
+few_kept {A} f p limit (x ∷ xs) none =
+    let all : take (length (x ∷ xs)) (x ∷ xs) ≡ x ∷ xs = take-length (x ∷ xs) in
+    let most : length (filter p (take (length (x ∷ xs)) (x ∷ xs))) ≤ limit = few_passed p limit x (x ∷ xs) none (length (x ∷ xs)) (omega arith) in
+    let long = length-map (filter p (x ∷ xs)) f in
+    let few : length (filter p (x ∷ xs)) ≤ limit = subst (λ (ys : List A). length (filter p ys) ≤ limit) all most in
+    omega (arith, long, few)

@@ -1,6 +1,6 @@
 //! The frame, with what loading has made sure of.
 
-ghost use Rattle.std.specs.Prelude.{◌≡◌, ℕ, ◌<◌, All, length};
+ghost use Rattle.std.specs.Prelude.{◌≡◌, ℕ, ◌<◌, ◌≤◌, All, length};
 ghost use Rattle.lf_frame.specs.Bounds.{IsWithin, IsLefSize, IsObstacle};
 ghost use Rattle.lf_frame.specs.Rows.{IsPitch, IsHeeded, RowsApart};
 ghost use Rattle.lf_frame.specs.Fences.{IsFence, FencesNamed, FencesApart};
@@ -35,8 +35,10 @@ pub struct Frame {
     pub ghost site_in_lef: { IsLefSize site.size },
     pub ghost pitch_whole: { IsPitch header.units site.size pitch },
     pub ghost has_row: { 0 < length rows },
+    pub ghost few_rows: { length rows ≤ limits.rows },
     pub ghost rows_heeded: { All (λ r. IsHeeded pitch r) rows },
     pub ghost rows_apart: { RowsApart pitch rows },
+    pub ghost few_fences: { length teams ≤ limits.fences },
     pub ghost fences_whole: { All IsFence teams },
     pub ghost fences_named: { FencesNamed teams },
     pub ghost fences_apart: { FencesApart teams },
