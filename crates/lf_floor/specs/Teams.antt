@@ -9,7 +9,7 @@ use Rattle.lf_frame.specs.Fences.{ground_name}
 use Rattle.lf_rules.specs.Legality.{Trial, trial_of}
 use Rattle.lf_rules.specs.Legalizer.{Legalizer}
 use Rattle.lf_rules.specs.Choice.{spot_of}
-use Rattle.lf_rules.specs.declared.rule.Placed.{Placed}
+use Rattle.lf_rtree.specs.declared.placed.Placed.{Placed}
 use Rattle.lf_rules.specs.declared.report.Listed.{Listed}
 use Rattle.lf_rules.specs.Team.{Member, with_box, boxes_beside}
 use Rattle.lf_floor.specs.declared.cell.Cell.{Cell}

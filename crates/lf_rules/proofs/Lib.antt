@@ -11,6 +11,9 @@ pub mod SiteLemmas
 pub mod Choosing
 pub mod Legalizers
 pub mod BesideLemmas
+pub mod NearLemmas
+pub mod AreaLemmas
+pub mod MetLemmas
 pub mod TidyLemmas
 pub mod DesignLemmas
 pub mod KeptLemmas

@@ -9,7 +9,7 @@ use Rattle.lf_units.specs.Area.{SharesPoint}
 use Rattle.lf_frame.specs.declared.frame.Frame.{Frame}
 use Rattle.lf_frame.specs.Boxes.{IsSized, macro_of}
 use Rattle.lf_rules.specs.declared.rule.Rule.TheVariants.{Height, Row as RowRule, Stand, Orient as OrientRule, Rail as RailRule, Fence, Obstacle, Overlap}
-use Rattle.lf_rules.specs.declared.rule.Placed.{Placed}
+use Rattle.lf_rtree.specs.declared.placed.Placed.{Placed}
 use Rattle.lf_rules.specs.declared.rule.Broken.{Broken}
 use Rattle.lf_rules.specs.Legality.{IsApart}
 use Rattle.lf_rules.specs.Choice.{Spot, Lifted, trial_at, IsLegalAt, IsChoice, anchor}

@@ -11,7 +11,7 @@ use Rattle.lf_orient.specs.declared.Symmetry.{Symmetry}
 use Rattle.lf_orient.specs.Orientation.{is_allowed, EqualUnder, rail_below, flipped_over_x, flipped_over_y}
 use Rattle.lf_frame.specs.declared.parts.Row.{Row}
 use Rattle.lf_rules.specs.declared.rule.Rule.TheVariants.{Height, Row as RowRule, Stand, Orient as OrientRule, Rail as RailRule, Fence, Obstacle, Overlap}
-use Rattle.lf_rules.specs.declared.rule.Placed.{Placed}
+use Rattle.lf_rtree.specs.declared.placed.Placed.{Placed}
 use Rattle.lf_rules.specs.declared.rule.Broken.{Broken}
 use Rattle.lf_rules.specs.Legality.{IsFirstMet, Trial, IsFirstBroken, Holds, box_of}
 use Rattle.lf_frame.specs.Boxes.{IsSized, size_of, turned}

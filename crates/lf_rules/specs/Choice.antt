@@ -13,7 +13,7 @@ use Rattle.lf_frame.specs.declared.parts.Row.{Row}
 use Rattle.lf_frame.specs.declared.place.Place.{Place}
 use Rattle.lf_frame.specs.Bounds.{IsDefNumber}
 use Rattle.lf_frame.specs.Boxes.{IsSized}
-use Rattle.lf_rules.specs.declared.rule.Placed.{Placed}
+use Rattle.lf_rtree.specs.declared.placed.Placed.{Placed}
 use Rattle.lf_rules.specs.Legality.{Trial, IsTeamLegal}
 
 -- a place over all whole numbers

@@ -13,7 +13,7 @@ use Rattle.lf_frame.specs.Ground.{StaysInGround, IsClear}
 use Rattle.lf_frame.specs.Standing.{IsSitesHigh, IsBottomRow, HasHeight, HasBottomRow, IsCarried}
 use Rattle.lf_rules.specs.declared.rule.Rule.{Rule}
 use Rattle.lf_rules.specs.declared.rule.Rule.TheVariants.{Height, Row as RowRule, Stand, Orient as OrientRule, Rail as RailRule, Fence, Obstacle, Overlap}
-use Rattle.lf_rules.specs.declared.rule.Placed.{Placed}
+use Rattle.lf_rtree.specs.declared.placed.Placed.{Placed}
 use Rattle.lf_rules.specs.declared.rule.Broken.{Broken}
 
 -- a cell of a team, by its macro, tried at a place beside the team's other placed cells

@@ -3,7 +3,7 @@ use Rattle.std.specs.Prelude.{◌≡◌, ◌==◌, ℕ, ◌+◌, List, [], ◌�
 use Rattle.lf_units.specs.declared.area.Rect.{Rect}
 use Rattle.lf_frame.specs.declared.frame.Frame.{Frame}
 use Rattle.lf_frame.specs.Boxes.{size_of, turned, box_at, macro_of}
-use Rattle.lf_rules.specs.declared.rule.Placed.{Placed}
+use Rattle.lf_rtree.specs.declared.placed.Placed.{Placed}
 use Rattle.lf_rules.specs.Choice.{Spot, Lifted, IsLegalAt}
 
 -- a cell of a team: the number of its macro, and its place where it has one

@@ -4,8 +4,8 @@ ghost use Rattle.std.specs.Prelude.{◌≡◌, ◌↔◌, ℕ, ℤ, All, IsTrue,
 ghost use Rattle.lf_units.specs.Area.{SharesPoint, Covers, CoveredBy};
 ghost use Rattle.lf_rules.specs.Legality.{IsFirstMet};
 
-use crate::rule::Placed;
 use lf_frame::Team;
+use lf_rtree::Placed;
 use lf_units::Rect;
 
 /// Whether the box shares no point with any of the rectangles.

@@ -10,10 +10,11 @@ ghost use Rattle.lf_rules.specs.Legalizer.{IsVerdict};
 use crate::area::{first_met, is_clear_of, is_in_open_ground};
 use crate::cover::is_covered;
 use crate::rows::{bottom_row, height_in_sites, is_standing};
-use crate::rule::{Broken, Placed, Rule};
+use crate::rule::{Broken, Rule};
 use crate::size::solid_box;
 use lf_frame::{Frame, Macro, Place, Row};
 use lf_orient::{Orient, equal_under, is_candidate, row_rail};
+use lf_rtree::Placed;
 use lf_units::Rect;
 
 /// Whether every point of the box is ground of the team.
@@ -34,7 +35,7 @@ fn is_in_ground(frame: &Frame, team: usize, rect: &Rect) -> bool
 }
 
 /// Whether a cell of the macro may stand so on this bottom row.
-fn is_oriented(frame: &Frame, mac: &Macro, orient: Orient, height: u32, bottom: &Row) -> bool
+pub(crate) fn is_oriented(frame: &Frame, mac: &Macro, orient: Orient, height: u32, bottom: &Row) -> bool
     ensures { IsTrue result ↔ (IsTrue (is_allowed mac.now.symmetry orient) × (height % 2 ≡ 1 → EqualUnder frame.now.site.symmetry orient bottom.now.orient)) }
 {
     if !is_candidate(mac.symmetry, orient) {
@@ -44,7 +45,7 @@ fn is_oriented(frame: &Frame, mac: &Macro, orient: Orient, height: u32, bottom: 
 }
 
 /// Whether a cell of even height has the bottom row's rail along its lower edge.
-fn is_on_rail(mac: &Macro, height: u32, bottom: &Row) -> bool
+pub(crate) fn is_on_rail(mac: &Macro, height: u32, bottom: &Row) -> bool
     ensures { IsTrue result ↔ (height % 2 ≡ 0 → rail_below bottom.now.orient ≡ Some mac.now.rail) }
 {
     height % 2 == 1 || row_rail(bottom.orient) == Some(mac.rail)

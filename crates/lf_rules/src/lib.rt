@@ -4,10 +4,13 @@
 mod area;
 mod cover;
 mod first;
+mod frame_index;
 mod laws;
+mod near;
 mod report;
 mod rows;
 mod rule;
+mod search;
 mod size;
 
 pub use first::first_broken;
@@ -17,8 +20,9 @@ pub use laws::{
     verdict_is_there,
 };
 pub use lf_frame::Place;
-pub use report::{Listed, Report, Violation, check_all, report_on};
-pub use rule::{Broken, Placed, Rule};
+pub use report::{Listed, Report, Violation, check_all, report_by_all_pairs, report_on};
+pub use lf_rtree::Placed;
+pub use rule::{Broken, Rule};
 pub use size::box_of;
 
 #[cfg(test)]

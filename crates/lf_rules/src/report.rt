@@ -3,16 +3,20 @@
 ghost use Rattle.std.specs.Prelude.{◌≡◌, ◌↔◌, ◌<◌, ◌≤◌, ◌++◌, [], All, IfOk, OnOk, is_none, count_by, length, map, option_and_then};
 ghost use Rattle.std.specs.List.{cons_option};
 ghost use Rattle.lf_frame.specs.Boxes.{IsSized, macro_of};
-ghost use Rattle.lf_rules.specs.Legalizer.{Legalizer};
+ghost use Rattle.lf_rules.specs.Legalizer.{IsVerdict, Legalizer};
 ghost use Rattle.lf_rules.specs.FullyLegal.{IsFullyLegal, standing_at};
-ghost use Rattle.lf_rules.specs.Reports.{IsClean, IsListed, IsTold, broken_among, listed_at, member_of, name_among, named, report_of, standing_of, violation_at, violation_of, violations_in};
-ghost use Rattle.lf_rules.specs.Team.{boxes_beside, with_box};
+ghost use Rattle.lf_rules.specs.Reports.{IsClean, IsListed, IsTold, broken_among, listed_at, member_of, name_among, named, report_of, standing_of, trial_among, violation_at, violation_of, violations_in};
+ghost use Rattle.lf_rules.specs.Nearby.{IsSearchOf};
+ghost use Rattle.lf_rules.specs.Team.{boxes_beside, boxes_from, with_box};
 
 use crate::first::first_broken;
+use crate::frame_index::index_of;
 use crate::laws::{legalizer_is_there, verdict_is_one};
-use crate::rule::{Broken, Placed, Rule};
+use crate::rule::{Broken, Rule};
+use crate::search::{Search, broken_beside};
 use crate::size::box_of;
 use lf_frame::{Cell, Frame, Loaded, Macro, Place, cell_is_sized};
+use lf_rtree::{Placed, RTree};
 use lf_units::{Name, Sequence};
 use std::alloc::{AllocError, Global};
 
@@ -99,10 +103,40 @@ fn boxes_but(
     Ok(others)
 }
 
+/// The first rule that the cell of that number breaks at the place, beside the other placed cells.
+fn broken_at(
+    alloc: Global,
+    frame: &Frame,
+    search: &Search,
+    cells: &[Listed<&[u8]>],
+    own: usize,
+    cell: &Listed<&[u8]>,
+    place: &Place,
+) -> Result<Option<Broken>, AllocError>
+    requires listed { All (λ c. IsListed frame.now (named c)) cells.now }
+    requires few { length cells.now ≤ 4000000 }
+    requires this { IsListed frame.now (named cell.now) }
+    requires within { own < length cells.now }
+    requires search { IsSearchOf frame.now (map member_of (map named cells.now)) search.now }
+    ensures { IfOk result (λ broken. IsVerdict (trial_among frame.now (map named cells.now) own (named cell.now) place.now) broken) }
+{
+    let mac = macro_in(frame, cell);
+    match search {
+        Search::Plain => {
+            let others = boxes_but(alloc, frame, cells, own)?;
+            Ok(first_broken(frame, cell.team, mac, place, &others))
+        }
+        Search::Indexed(index, boxes) => broken_beside(
+            alloc, frame, index, boxes, cell.team, mac, place, own as u32,
+        ),
+    }
+}
+
 /// The first rule that the cell of that number breaks where it stands, beside the other placed cells.
 fn broken_in(
     alloc: Global,
     frame: &Frame,
+    search: &Search,
     cells: &[Listed<&[u8]>],
     own: usize,
     cell: &Listed<&[u8]>,
@@ -110,15 +144,15 @@ fn broken_in(
     requires listed { All (λ c. IsListed frame.now (named c)) cells.now }
     requires few { length cells.now ≤ 4000000 }
     requires this { IsListed frame.now (named cell.now) }
+    requires within { own < length cells.now }
+    requires search { IsSearchOf frame.now (map member_of (map named cells.now)) search.now }
     ensures { IfOk result (λ broken. (l : Legalizer) → broken ≡ broken_among l frame.now (map named cells.now) own (named cell.now)) }
 {
     verdict_is_one();
     let Some(place) = cell.place else {
         return Ok(None);
     };
-    let others = boxes_but(alloc, frame, cells, own)?;
-    let mac = macro_in(frame, cell);
-    Ok(first_broken(frame, cell.team, mac, &place, &others))
+    broken_at(alloc, frame, search, cells, own, cell, &place)
 }
 
 /// A copy of the name of the cell of that number.
@@ -166,6 +200,7 @@ fn violation_of(
 fn push_violation(
     alloc: Global,
     frame: &Frame,
+    search: &Search,
     cells: &[Listed<&[u8]>],
     own: usize,
     violations: &mut Vec<Violation>,
@@ -173,10 +208,11 @@ fn push_violation(
     requires listed { All (λ c. IsListed frame.now (named c)) cells.now }
     requires few { length cells.now ≤ 4000000 }
     requires within { own < length cells.now }
+    requires search { IsSearchOf frame.now (map member_of (map named cells.now)) search.now }
     ensures { (l : Legalizer) → OnOk result (violations.new.items ≡ violations.old.items ++ cons_option (violation_at l frame.now (map named cells.now) own) []) }
 {
     let cell = &cells[own];
-    match broken_in(alloc, frame, cells, own, cell)? {
+    match broken_in(alloc, frame, search, cells, own, cell)? {
         Some(broken) => {
             violations.push(violation_of(alloc, cells, cell, broken)?)?;
             Ok(())
@@ -189,15 +225,17 @@ fn push_violation(
 fn violations_in(
     alloc: Global,
     frame: &Frame,
+    search: &Search,
     cells: &[Listed<&[u8]>],
 ) -> Result<Vec<Violation>, AllocError>
     requires listed { All (λ c. IsListed frame.now (named c)) cells.now }
     requires few { length cells.now ≤ 4000000 }
+    requires search { IsSearchOf frame.now (map member_of (map named cells.now)) search.now }
     ensures { (l : Legalizer) → IfOk result (λ violations. violations.items ≡ violations_in l frame.now (map named cells.now)) }
 {
     let mut violations = Vec::new(alloc);
     for own in 0..cells.len() {
-        push_violation(alloc, frame, cells, own, &mut violations)?;
+        push_violation(alloc, frame, search, cells, own, &mut violations)?;
     }
     Ok(violations)
 }
@@ -209,10 +247,67 @@ fn unplaced_in(cells: &[Listed<&[u8]>]) -> usize
     cells.iter().filter(|cell| cell.place.is_none()).count()
 }
 
+/// The report of these cells, by this search.
+fn report_by(
+    alloc: Global,
+    frame: &Frame,
+    search: &Search,
+    cells: &[Listed<&[u8]>],
+) -> Result<Report, AllocError>
+    requires listed { All (λ c. IsListed frame.now (named c)) cells.now }
+    requires few { length cells.now ≤ 4000000 }
+    requires search { IsSearchOf frame.now (map member_of (map named cells.now)) search.now }
+    ensures report { (l : Legalizer) → IfOk result (λ report. report ≡ report_of l frame.now (map named cells.now)) }
+    ensures legal { IfOk result (λ report. IsClean report ↔ IsFullyLegal frame.now (map standing_of (map named cells.now))) }
+    ensures told { IfOk result (λ report. All IsTold report.violations) }
+{
+    legalizer_is_there();
+    let violations = violations_in(alloc, frame, search, cells)?;
+    Ok(Report {
+        cells: cells.len(),
+        unplaced: unplaced_in(cells),
+        violations: Sequence::from_vec(violations),
+    })
+}
+
+/// The boxes of the placed cells, by the cells' numbers.
+fn boxes_in(
+    alloc: Global,
+    frame: &Frame,
+    cells: &[Listed<&[u8]>],
+) -> Result<Vec<Placed>, AllocError>
+    requires listed { All (λ c. IsListed frame.now (named c)) cells.now }
+    requires few { length cells.now ≤ 4000000 }
+    ensures { IfOk result (λ boxes. boxes.items ≡ boxes_from frame.now 0 (map member_of (map named cells.now))) }
+{
+    let mut boxes = Vec::new(alloc);
+    for (number, cell) in cells.iter().enumerate() {
+        push_box(&mut boxes, frame, cell, number as u32)?;
+    }
+    Ok(boxes)
+}
+
+/// The search that finds what lies near a cell without a look at all of the frame and of the cells.
+fn indexed(
+    alloc: Global,
+    frame: &Frame,
+    cells: &[Listed<&[u8]>],
+) -> Result<Search, AllocError>
+    requires listed { All (λ c. IsListed frame.now (named c)) cells.now }
+    requires few { length cells.now ≤ 4000000 }
+    ensures { IfOk result (λ search. IsSearchOf frame.now (map member_of (map named cells.now)) search) }
+{
+    let boxes = boxes_in(alloc, frame, cells)?;
+    Ok(Search::Indexed(
+        index_of(alloc, frame)?,
+        RTree::build(alloc, &boxes)?,
+    ))
+}
+
 /// The report of these cells, in which overlap is between any two of them.
 ///
-/// The report of a team is that of its own cells, and the report of a design that of the cells of all teams.
-/// `Err` where memory is refused.
+/// The report of a team is that of its own cells, and the report of a design that of the cells of all teams. A
+/// cell is compared only with what lies near it. `Err` where memory is refused.
 pub fn report_on(
     alloc: Global,
     frame: &Frame,
@@ -224,13 +319,24 @@ pub fn report_on(
     ensures legal { IfOk result (λ report. IsClean report ↔ IsFullyLegal frame.now (map standing_of (map named cells.now))) }
     ensures told { IfOk result (λ report. All IsTold report.violations) }
 {
-    legalizer_is_there();
-    let violations = violations_in(alloc, frame, cells)?;
-    Ok(Report {
-        cells: cells.len(),
-        unplaced: unplaced_in(cells),
-        violations: Sequence::from_vec(violations),
-    })
+    let search = indexed(alloc, frame, cells)?;
+    report_by(alloc, frame, &search, cells)
+}
+
+/// The same report as `report_on`, by a comparison of each two cells, and of each cell with each row, fence and
+/// obstacle. `Err` where memory is refused.
+pub fn report_by_all_pairs(
+    alloc: Global,
+    frame: &Frame,
+    cells: &[Listed<&[u8]>],
+) -> Result<Report, AllocError>
+    requires listed { All (λ c. IsListed frame.now (named c)) cells.now }
+    requires few { length cells.now ≤ 4000000 }
+    ensures report { (l : Legalizer) → IfOk result (λ report. report ≡ report_of l frame.now (map named cells.now)) }
+    ensures legal { IfOk result (λ report. IsClean report ↔ IsFullyLegal frame.now (map standing_of (map named cells.now))) }
+    ensures told { IfOk result (λ report. All IsTold report.violations) }
+{
+    report_by(alloc, frame, &Search::Plain, cells)
 }
 
 /// The cells of a design at these places.

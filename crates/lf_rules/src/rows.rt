@@ -37,7 +37,7 @@ pub fn height_in_sites(frame: &Frame, rect: &Rect) -> Option<u32>
 }
 
 /// Whether the box's left edge is a whole number of core sites right of the row's.
-fn is_on_grid(pitch: &Point, rect: &Rect, row: &Row) -> bool
+pub fn is_on_grid(pitch: &Point, rect: &Rect, row: &Row) -> bool
     requires wide { pos 0 <ℤ pitch.now.x }
     requires solid { IsSolid rect.now }
     requires left { row.now.x ≤ℤ rect.now.x1 }
@@ -48,7 +48,7 @@ fn is_on_grid(pitch: &Point, rect: &Rect, row: &Row) -> bool
 }
 
 /// Whether the row lies so many site heights above the box's lower edge, under all of its width.
-fn is_row_of_box(frame: &Frame, rect: &Rect, sites: u32, row: &Row) -> bool
+pub fn is_row_of_box(frame: &Frame, rect: &Rect, sites: u32, row: &Row) -> bool
     requires solid { IsSolid rect.now }
     requires few { sites ≤ 8 }
     requires heeded { IsHeeded frame.now.pitch row.now }
@@ -80,7 +80,7 @@ pub fn bottom_row<'a>(frame: &'a Frame, rect: &Rect) -> Option<&'a Row>
 }
 
 /// The rail of a row of this orientation, changed so many times.
-fn changed_rail(orient: Orient, times: u32) -> Option<Rail>
+pub fn changed_rail(orient: Orient, times: u32) -> Option<Rail>
     ensures { result ≡ option_map (changed times) (rail_below orient) }
 {
     let mut rail = row_rail(orient);

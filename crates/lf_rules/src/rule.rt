@@ -2,8 +2,6 @@
 
 ghost use Rattle.std.specs.Prelude.{◌≡◌};
 
-use lf_units::Rect;
-
 /// The eight rules of a legal place, in the order in which they are tested.
 #[derive(Clone, Copy, Debug, PartialEq, Eq)]
 pub enum Rule {
@@ -43,14 +41,6 @@ impl Rule {
             Rule::Overlap => 8,
         }
     }
-}
-
-/// Another placed cell of the team: its number in the team's loading order, and its box in database
-/// units.
-#[derive(Clone, Copy, Debug, PartialEq, Eq)]
-pub struct Placed {
-    pub own: u32,
-    pub rect: Rect,
 }
 
 /// The first broken rule.

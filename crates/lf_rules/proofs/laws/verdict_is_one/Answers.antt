@@ -7,7 +7,7 @@ use Rattle.lf_rules.specs.declared.rule.Rule.TheVariants.{Height, Row as RowRule
 use Rattle.lf_rules.specs.declared.rule.Broken.{Broken}
 use Rattle.lf_units.specs.Area.{SharesPoint}
 use Rattle.std.proofs.lemmas.Grind.{common_steps}
-use Rattle.lf_rules.specs.declared.rule.Placed.{Placed}
+use Rattle.lf_rtree.specs.declared.placed.Placed.{Placed}
 use Rattle.lf_rules.specs.Legality.{IsFirstMet, Trial, IsFirstBroken, number_of, box_of}
 use Rattle.lf_rules.specs.Legalizer.{IsVerdict}
 use Rattle.lf_rules.proofs.laws.verdict_is_one.Goals as goal

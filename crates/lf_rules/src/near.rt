@@ -1,0 +1,209 @@
+//! The rules on rows, ground and obstacles, by what lies near the box.
+
+ghost use Rattle.std.specs.Prelude.{◌≡◌, ◌↔◌, ◌<◌, ◌≤◌, ◌<ℤ◌, ◌++◌, ℕ, List, [], IfOk, OnOk, IsTrue, MatchOption, filter, map};
+ghost use Rattle.lf_rtree.specs.Near.{AreNear};
+ghost use Rattle.lf_frame.specs.declared.parts.Row.{Row};
+ghost use Rattle.lf_frame.specs.Boxes.{IsSized};
+ghost use Rattle.lf_frame.specs.Ground.{StaysInGround, IsClear};
+ghost use Rattle.lf_frame.specs.Standing.{IsBottomRow, IsSitesHigh, Carries};
+ghost use Rattle.lf_rules.specs.Solid.{IsSolid};
+ghost use Rattle.lf_rules.specs.Legality.{box_of, trial_of};
+ghost use Rattle.lf_rules.specs.Nearby.{AreRowsNear, IsAreaVerdict, IsIndexOf, IsRowVerdict, rects_of};
+
+use crate::cover::is_covered;
+use crate::first::{is_on_rail, is_oriented};
+use crate::frame_index::FrameIndex;
+use crate::rows::{changed_rail, height_in_sites, is_on_grid, is_row_of_box};
+use crate::rule::Rule;
+use lf_frame::{Frame, Macro, Place, Row};
+use lf_orient::row_rail;
+use lf_rtree::{Placed, RTree};
+use lf_units::Rect;
+use std::alloc::{AllocError, Global};
+
+/// The boxes of the tree that share a point with this one.
+fn near(alloc: Global, tree: &RTree, rect: &Rect) -> Result<Vec<Placed>, AllocError>
+    ensures { IfOk result (λ found. AreNear tree.now rect.now found.items) }
+{
+    let mut found = Vec::new(alloc);
+    tree.find_near(rect, &mut found)?;
+    Ok(found)
+}
+
+/// The rows that share a point with the box, by their numbers.
+fn rows_near(
+    alloc: Global,
+    frame: &Frame,
+    index: &FrameIndex,
+    rect: &Rect,
+) -> Result<Vec<Placed>, AllocError>
+    requires { IsIndexOf frame.now index.now }
+    ensures { IfOk result (λ found. AreRowsNear frame.now rect.now found.items) }
+{
+    near(alloc, &index.rows, rect)
+}
+
+/// The bottom row of the box, among the rows near it.
+fn bottom_row_near<'a>(frame: &'a Frame, rect: &Rect, near: &[Placed]) -> Option<&'a Row>
+    requires solid { IsSolid rect.now }
+    requires near { AreRowsNear frame.now rect.now near.now }
+    ensures { MatchOption result ((r : Row) → IsBottomRow frame.now rect.now r → ⊥) (λ r. IsBottomRow frame.now rect.now r.now) }
+{
+    for placed in near {
+        let row = &frame.rows.as_slice()[placed.own as usize];
+        if is_row_of_box(frame, rect, 0, row) && is_on_grid(&frame.pitch, rect, row) {
+            return Some(row);
+        }
+    }
+    None
+}
+
+/// Whether one of the rows near the box carries it so many site heights above its bottom row.
+fn is_carried_near(
+    frame: &Frame,
+    rect: &Rect,
+    near: &[Placed],
+    bottom: &Row,
+    height: u32,
+    sites: u32,
+) -> bool
+    requires solid { IsSolid rect.now }
+    requires high { IsSitesHigh frame.now rect.now height }
+    requires within { sites < height }
+    requires near { AreRowsNear frame.now rect.now near.now }
+    ensures { IsTrue result ↔ ((s : Row) × Carries frame.now rect.now bottom.now sites s) }
+{
+    let rail = changed_rail(bottom.orient, sites);
+    for placed in near {
+        let row = &frame.rows.as_slice()[placed.own as usize];
+        if is_row_of_box(frame, rect, sites, row) && row_rail(row.orient) == rail {
+            return true;
+        }
+    }
+    false
+}
+
+/// Whether rows near the box carry it over all of its height.
+fn is_standing_near(
+    frame: &Frame,
+    rect: &Rect,
+    near: &[Placed],
+    bottom: &Row,
+    height: u32,
+) -> bool
+    requires solid { IsSolid rect.now }
+    requires high { IsSitesHigh frame.now rect.now height }
+    requires near { AreRowsNear frame.now rect.now near.now }
+    ensures { IsTrue result ↔ ((j : ℕ) → j < height → (s : Row) × Carries frame.now rect.now bottom.now j s) }
+{
+    for sites in 0..height {
+        if !is_carried_near(frame, rect, near, bottom, height, sites) {
+            return false;
+        }
+    }
+    true
+}
+
+/// The first of the rules on rows that the macro's box breaks at the place; none where it keeps them all.
+pub(crate) fn broken_by_rows(
+    alloc: Global,
+    frame: &Frame,
+    index: &FrameIndex,
+    mac: &Macro,
+    place: &Place,
+    rect: &Rect,
+) -> Result<Option<Rule>, AllocError>
+    requires sized { IsSized frame.now mac.now }
+    requires index { IsIndexOf frame.now index.now }
+    requires of_place { rect.now ≡ box_of (trial_of frame.now 0 mac.now place.now []) }
+    requires solid { IsSolid rect.now }
+    ensures { (team : ℕ) (others : List Placed) → IfOk result (λ verdict. IsRowVerdict (trial_of frame.now team mac.now place.now others) verdict) }
+{
+    let Some(height) = height_in_sites(frame, rect) else {
+        return Ok(Some(Rule::Height));
+    };
+    let near = rows_near(alloc, frame, index, rect)?;
+    let Some(bottom) = bottom_row_near(frame, rect, &near) else {
+        return Ok(Some(Rule::Row));
+    };
+    if !is_standing_near(frame, rect, &near, bottom, height) {
+        return Ok(Some(Rule::Stand));
+    }
+    if !is_oriented(frame, mac, place.orient, height, bottom) {
+        return Ok(Some(Rule::Orient));
+    }
+    if !is_on_rail(mac, height, bottom) {
+        return Ok(Some(Rule::Rail));
+    }
+    Ok(None)
+}
+
+/// The rectangles of the boxes that bear the number.
+fn rects_of(alloc: Global, boxes: &[Placed], own: u32) -> Result<Vec<Rect>, AllocError>
+    ensures { IfOk result (λ rects. rects.items ≡ rects_of boxes.now own) }
+{
+    let mut rects = Vec::new(alloc);
+    for placed in boxes {
+        if placed.own == own {
+            rects.push(placed.rect)?;
+        }
+    }
+    Ok(rects)
+}
+
+/// Whether every point of the box is ground of the team.
+fn stays_in_ground(
+    alloc: Global,
+    frame: &Frame,
+    index: &FrameIndex,
+    team: usize,
+    rect: &Rect,
+) -> Result<bool, AllocError>
+    requires index { IsIndexOf frame.now index.now }
+    requires wide { rect.now.x1 <ℤ rect.now.x2 }
+    requires high { rect.now.y1 <ℤ rect.now.y2 }
+    ensures { IfOk result (λ stays. IsTrue stays ↔ StaysInGround frame.now team rect.now) }
+{
+    let near = near(alloc, &index.fences, rect)?;
+    if team < frame.teams.len() {
+        let rects = rects_of(alloc, &near, team as u32)?;
+        return Ok(is_covered(rect, &rects));
+    }
+    Ok(team == frame.teams.len() && near.is_empty())
+}
+
+/// Whether the box meets no obstacle.
+fn is_clear(
+    alloc: Global,
+    frame: &Frame,
+    index: &FrameIndex,
+    rect: &Rect,
+) -> Result<bool, AllocError>
+    requires { IsIndexOf frame.now index.now }
+    ensures { IfOk result (λ clear. IsTrue clear ↔ IsClear frame.now rect.now) }
+{
+    Ok(near(alloc, &index.obstacles, rect)?.is_empty())
+}
+
+/// The first of the rules on ground and obstacles that the box of a cell of the team breaks; none where it keeps
+/// both.
+pub(crate) fn broken_by_areas(
+    alloc: Global,
+    frame: &Frame,
+    index: &FrameIndex,
+    team: usize,
+    rect: &Rect,
+) -> Result<Option<Rule>, AllocError>
+    requires index { IsIndexOf frame.now index.now }
+    requires wide { rect.now.x1 <ℤ rect.now.x2 }
+    requires high { rect.now.y1 <ℤ rect.now.y2 }
+    ensures { IfOk result (λ verdict. IsAreaVerdict frame.now team rect.now verdict) }
+{
+    if !stays_in_ground(alloc, frame, index, team, rect)? {
+        return Ok(Some(Rule::Fence));
+    }
+    if !is_clear(alloc, frame, index, rect)? {
+        return Ok(Some(Rule::Obstacle));
+    }
+    Ok(None)
+}
