@@ -1,7 +1,7 @@
 -- The least number of a list of boxes from those of its parts.
 use Rattle.std.proofs.Common.{◌≡◌, ◌≢◌, inl, inr, ℕ, List, [], ◌∷◌, ◌++◌, Option, Some, None, refl, sym, ap, subst, ◌∙◌, ◌+◌, ◌-◌, ◌<◌, length, get_or, take, drop, arith}
 use Rattle.std.specs.Prelude.{All, IfSome, IsSomeAnd, MatchOption}
-use Rattle.std.proofs.lemmas.List.Elements.{All-append, All-weaker, All-nil, Contains-append_left, Contains-append_right}
+use Rattle.std.proofs.lemmas.List.Elements.{All-append, All-weaker, Contains-append_left, Contains-append_right}
 use Rattle.std.proofs.lemmas.List.{map-append, take_more}
 use Rattle.lf_units.specs.Area.{SharesPoint}
 use Rattle.lf_units.specs.declared.area.Rect.{Rect}
@@ -93,14 +93,6 @@ least_of_halves nodes n d rect but a b c e within first second third =
     subst Whole parts
     (least_along (boxes_of (take n nodes)) (node.placed ∷ behind) rect but a b e first
     (least_along (node.placed ∷ []) behind rect but b c e second rest))
-
--- over no boxes the number so far is the least
-pub least_of_none : (rect : Rect) (but : ℕ) (a : Option ℕ) → IsLeastOf [] rect but a a
-least_of_none rect but a = record {
-  from = inl refl;
-  no_greater = up_to_itself a;
-  least_met = All-nil (λ p. p.own ≢ but → SharesPoint rect p.rect → IsUpTo a p.own);
-}
 
 -- boxes within a bound within which no number is less change nothing
 pub least_kept : (bound : Bound) (boxes : List Placed) (rect : Rect) (but : ℕ) (a : Option ℕ) → All (IsBound bound) boxes →

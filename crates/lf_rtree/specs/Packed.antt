@@ -3,7 +3,7 @@ use Rattle.std.specs.Prelude.{◌≡◌, ◌≢◌, ◌⊎◌, ℕ, ◌+◌, ◌
 use Rattle.std.specs.List.{HoldsAt}
 use Rattle.lf_units.specs.Area.{SharesPoint}
 use Rattle.lf_units.specs.declared.area.Rect.{Rect}
-use Rattle.lf_rtree.specs.Near.{IsMet}
+use Rattle.lf_rtree.specs.Near.{AreNear, IsMet}
 use Rattle.lf_rtree.specs.declared.placed.Placed.{Placed}
 use Rattle.lf_rtree.specs.declared.bound.Bound.{Bound}
 use Rattle.lf_rtree.specs.declared.bound.Node.{Node}
@@ -48,3 +48,9 @@ pub record IsLeastOf (boxes : List Placed) (rect : Rect) (but : ℕ) (so_far lea
 -- no box within the bound has a number below the one so far and shares a point with the rectangle
 abbrev pub HoldsNoLess : Bound → Rect → Option ℕ → Type 0
 HoldsNoLess bound rect so_far = (p : Placed) → IsBound bound p → SharesPoint rect p.rect → IsUpTo so_far p.own
+
+-- found boxes stand behind the old ones: those of the list that share a point with the rectangle
+pub record AddsNear (boxes : List Placed) (rect : Rect) (old new : List Placed) : Type 0 where
+  pub found : List Placed
+  pub is : new ≡ old ++ found
+  pub near : AreNear boxes rect found

@@ -5,6 +5,7 @@
 mod bound;
 mod grown;
 mod least;
+mod near;
 mod placed;
 mod tree;
 

@@ -1,11 +1,12 @@
 //! A packed tree of boxes.
 
-ghost use Rattle.std.specs.Prelude.{IfOk, MatchOption, IsPermutation};
-ghost use Rattle.lf_rtree.specs.Near.{IsLeastMet, IsNoneMet};
+ghost use Rattle.std.specs.Prelude.{IfOk, OnOk, MatchOption, IsPermutation};
+ghost use Rattle.lf_rtree.specs.Near.{AreNear, IsLeastMet, IsNoneMet};
 
 use crate::bound::Node;
 use crate::grown::grow;
 use crate::least::least_among;
+use crate::near::push_near_of_run;
 use crate::placed::Placed;
 use lf_units::Rect;
 use std::alloc::{AllocError, Global};
@@ -45,6 +46,15 @@ impl RTree {
         let mut nodes = Vec::with_capacity(alloc, boxes.len())?;
         grow(sorted.as_slice(), depth, &mut nodes)?;
         Ok(RTree { nodes, depth })
+    }
+
+    /// Puts the boxes that share a point with this rectangle into `found`, in place of what it
+    /// holds. Where memory runs out, `found` holds some of them.
+    pub fn find_near(&self, rect: &Rect, found: &mut Vec<Placed>) -> Result<(), AllocError>
+        ensures { OnOk result (AreNear self.now rect.now found.new.items) }
+    {
+        found.clear();
+        push_near_of_run(self.nodes.as_slice(), self.depth, rect, found)
     }
 
     /// The least number, other than `but`, of a box that shares a point with this rectangle; none
