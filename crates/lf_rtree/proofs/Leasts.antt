@@ -1,0 +1,115 @@
+-- The least number of a list of boxes from those of its parts.
+use Rattle.std.proofs.Common.{◌≡◌, ◌≢◌, inl, inr, ℕ, List, [], ◌∷◌, ◌++◌, Option, Some, None, refl, sym, ap, subst, ◌∙◌, ◌+◌, ◌-◌, ◌<◌, length, get_or, take, drop, arith}
+use Rattle.std.specs.Prelude.{All, IfSome, IsSomeAnd, MatchOption}
+use Rattle.std.proofs.lemmas.List.Elements.{All-append, All-weaker, Contains-append_left, Contains-append_right}
+use Rattle.std.proofs.lemmas.List.{map-append, take_more}
+use Rattle.lf_units.specs.Area.{SharesPoint}
+use Rattle.lf_units.specs.declared.area.Rect.{Rect}
+use Rattle.lf_rtree.specs.Near.{IsMet, IsLeastMet, IsNoneMet}
+use Rattle.lf_rtree.specs.Packed.{IsBound, IsUpTo, IsLeastOf, HoldsNoLess, boxes_of}
+use Rattle.lf_rtree.specs.declared.placed.Placed.{Placed}
+use Rattle.lf_rtree.specs.declared.bound.Bound.{Bound}
+use Rattle.lf_rtree.specs.declared.bound.Node.{Node}
+use Rattle.lf_rtree.proofs.Lists.{parted, rest_from}
+
+up_to_less : (a b : Option ℕ) (n : ℕ) → IsUpTo a n → IfSome a (IsUpTo b) → IsUpTo b n
+up_to_less None b n low less = absurd low
+up_to_less (Some x) None n low less = absurd less
+up_to_less (Some x) (Some y) n low less = omega arith
+
+up_to_itself : (a : Option ℕ) → IfSome a (IsUpTo a)
+up_to_itself None = tt
+up_to_itself (Some x) = omega arith
+
+no_greater_along : (a b c : Option ℕ) → IfSome a (IsUpTo b) → IfSome b (IsUpTo c) → IfSome a (IsUpTo c)
+no_greater_along None b c first second = tt
+no_greater_along (Some x) b c first second = up_to_less b c x first second
+
+met_before : (xs ys : List Placed) (rect : Rect) (but : ℕ) (a : Option ℕ) → IsSomeAnd a (IsMet xs rect but) → IsSomeAnd a (IsMet (xs ++ ys) rect but)
+met_before xs ys rect but None m = absurd m
+met_before xs ys rect but (Some own) m = record {
+  placed = m.placed;
+  among = Contains-append_left xs ys m.placed m.among;
+  number = m.number;
+  other = m.other;
+  shares = m.shares;
+}
+
+met_behind : (xs ys : List Placed) (rect : Rect) (but : ℕ) (a : Option ℕ) → IsSomeAnd a (IsMet ys rect but) → IsSomeAnd a (IsMet (xs ++ ys) rect but)
+met_behind xs ys rect but None m = absurd m
+met_behind xs ys rect but (Some own) m = record {
+  placed = m.placed;
+  among = Contains-append_right xs ys m.placed m.among;
+  number = m.number;
+  other = m.other;
+  shares = m.shares;
+}
+
+-- the least of one list, taken on through another, is the least of both
+pub least_along : (xs ys : List Placed) (rect : Rect) (but : ℕ) (a b c : Option ℕ) →
+    IsLeastOf xs rect but a b → IsLeastOf ys rect but b c → IsLeastOf (xs ++ ys) rect but a c
+least_along xs ys rect but a b c first second = record {
+  from = elim second.from [
+    | inr m ↦ inr (met_behind xs ys rect but c m)
+    | inl kept ↦ elim first.from [
+      | inl kept_first ↦ inl (kept ∙ kept_first)
+      | inr m ↦
+          let P : Option ℕ → Type 0 = λ o. IsSomeAnd o (IsMet (xs ++ ys) rect but) in
+          inr (subst P (sym kept) (met_before xs ys rect but b m))
+    ]
+  ];
+  no_greater = no_greater_along a b c first.no_greater second.no_greater;
+  least_met =
+      let Low : Option ℕ → Placed → Type 0 = λ o p. p.own ≢ but → SharesPoint rect p.rect → IsUpTo o p.own in
+      All-append (Low c) xs ys
+      (All-weaker (Low b) (Low c) (λ p low other shares. up_to_less b c p.own (low other shares) second.no_greater) xs first.least_met)
+      second.least_met;
+}
+
+-- one node more
+pub least_one_more : (nodes : List Node) (n : ℕ) (d : Node) (rect : Rect) (but : ℕ) (a b c : Option ℕ) → n < length nodes →
+    IsLeastOf (boxes_of (take n nodes)) rect but a b → IsLeastOf ((get_or nodes n d).placed ∷ []) rect but b c →
+    IsLeastOf (boxes_of (take (n + 1) nodes)) rect but a c
+least_one_more nodes n d rect but a b c within first second =
+    let P : List Placed → Type 0 = λ xs. IsLeastOf xs rect but a c in
+    let node : Node = get_or nodes n d in
+    let parts : boxes_of (take (n + 1) nodes) ≡ boxes_of (take n nodes) ++ (node.placed ∷ []) =
+    ap (λ (xs : List Node). boxes_of xs) (take_more nodes n d within) ∙ map-append (λ (m : Node). m.placed) (take n nodes) (node ∷ []) in
+    subst P (sym parts) (least_along (boxes_of (take n nodes)) (node.placed ∷ []) rect but a b c first second)
+
+-- the nodes before a place, the one there and those behind it
+pub least_of_halves : (nodes : List Node) (n : ℕ) (d : Node) (rect : Rect) (but : ℕ) (a b c e : Option ℕ) → n < length nodes →
+    IsLeastOf (boxes_of (take n nodes)) rect but a b → IsLeastOf ((get_or nodes n d).placed ∷ []) rect but b c →
+    IsLeastOf (boxes_of (take (length nodes - (n + 1)) (drop (n + 1) nodes))) rect but c e → IsLeastOf (boxes_of nodes) rect but a e
+least_of_halves nodes n d rect but a b c e within first second third =
+    let Whole : List Placed → Type 0 = λ xs. IsLeastOf xs rect but a e in
+    let Rest : List Node → Type 0 = λ xs. IsLeastOf (boxes_of xs) rect but c e in
+    let node : Node = get_or nodes n d in
+    let behind : List Placed = boxes_of (drop (n + 1) nodes) in
+    let parts : boxes_of (take n nodes) ++ (node.placed ∷ behind) ≡ boxes_of nodes =
+    sym (map-append (λ (m : Node). m.placed) (take n nodes) (node ∷ drop (n + 1) nodes))
+    ∙ ap (λ (xs : List Node). boxes_of xs) (parted nodes n d within) in
+    let rest : IsLeastOf behind rect but c e = subst Rest (rest_from nodes (n + 1)) third in
+    subst Whole parts
+    (least_along (boxes_of (take n nodes)) (node.placed ∷ behind) rect but a b e first
+    (least_along (node.placed ∷ []) behind rect but b c e second rest))
+
+-- boxes within a bound within which no number is less change nothing
+pub least_kept : (bound : Bound) (boxes : List Placed) (rect : Rect) (but : ℕ) (a : Option ℕ) → All (IsBound bound) boxes →
+    HoldsNoLess bound rect a → IsLeastOf boxes rect but a a
+least_kept bound boxes rect but a within low = record {
+  from = inl refl;
+  no_greater = up_to_itself a;
+  least_met =
+      All-weaker (IsBound bound) (λ p. p.own ≢ but → SharesPoint rect p.rect → IsUpTo a p.own)
+      (λ p held other shares. low p held shares) boxes within;
+}
+
+-- the least of a whole list, with no number before it
+pub least_of_all : (boxes : List Placed) (rect : Rect) (but : ℕ) (least : Option ℕ) → IsLeastOf boxes rect but None least →
+    MatchOption least (IsNoneMet boxes rect but) (IsLeastMet boxes rect but)
+least_of_all boxes rect but None of = of.least_met
+least_of_all boxes rect but (Some own) of = record {
+  met = elim of.from [ inl none ↦ cc | inr m ↦ m ];
+  least = of.least_met;
+}

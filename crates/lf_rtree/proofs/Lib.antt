@@ -1,0 +1,5 @@
+pub mod Lists
+pub mod Bounds
+pub mod Leasts
+pub mod Nears
+pub mod Trees

@@ -1,0 +1,21 @@
+use Rattle.std.proofs.Common.{arith}
+use Rattle.std.proofs.lemmas.Int.{ints}
+use Rattle.lf_rtree.proofs.bound.Bound.with.Goals as goal
+
+pub returns-clause-one_more : goal.returns-clause-one_more
+returns-clause-one_more c = record {
+  left = omega (arith, ints);
+  bottom = omega (arith, ints);
+  right = omega (arith, ints);
+  top = omega (arith, ints);
+  least = omega arith;
+}
+
+pub returns-clause-the_same : goal.returns-clause-the_same
+returns-clause-the_same c = λ other within. record {
+  left = omega (arith, ints);
+  bottom = omega (arith, ints);
+  right = omega (arith, ints);
+  top = omega (arith, ints);
+  least = omega arith;
+}

@@ -1,0 +1,4 @@
+use Rattle.lf_rtree.proofs.least.+least_among.Given as goal
+
+abbrev pub decreases-least_among : goal.decreases-least_among
+decreases-least_among l = l.depth

@@ -1,0 +1,27 @@
+-- The boxes of a list that share a point with a rectangle.
+use Rattle.std.specs.Prelude.{◌≡◌, ◌≢◌, ℕ, ◌≤◌, List, All, Contains}
+use Rattle.lf_units.specs.Area.{SharesPoint}
+use Rattle.lf_units.specs.declared.area.Rect.{Rect}
+use Rattle.lf_rtree.specs.declared.placed.Placed.{Placed}
+
+-- the found boxes are those of the list that share a point with the rectangle: each of them, and no other
+pub record AreNear (boxes : List Placed) (rect : Rect) (found : List Placed) : Type 0 where
+  pub each : All (λ p. SharesPoint rect p.rect → Contains found p) boxes
+  pub only : All (λ p. Contains boxes p × SharesPoint rect p.rect) found
+
+-- a box of the list has this number, another than `but`, and shares a point with the rectangle
+pub record IsMet (boxes : List Placed) (rect : Rect) (but own : ℕ) : Type 0 where
+  pub placed : Placed
+  pub among : Contains boxes placed
+  pub number : placed.own ≡ own
+  pub other : own ≢ but
+  pub shares : SharesPoint rect placed.rect
+
+-- the least number, other than `but`, of a box of the list that shares a point with the rectangle
+pub record IsLeastMet (boxes : List Placed) (rect : Rect) (but own : ℕ) : Type 0 where
+  pub met : IsMet boxes rect but own
+  pub least : All (λ p. p.own ≢ but → SharesPoint rect p.rect → own ≤ p.own) boxes
+
+-- no box of the list has a number other than `but` and shares a point with the rectangle
+abbrev pub IsNoneMet : List Placed → Rect → ℕ → Type 0
+IsNoneMet boxes rect but = All (λ p. p.own ≢ but → SharesPoint rect p.rect → ⊥) boxes

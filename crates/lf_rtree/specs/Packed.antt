@@ -1,0 +1,56 @@
+-- How a list of nodes is a tree: what its middle nodes bound, and what the steps of a look through it give.
+use Rattle.std.specs.Prelude.{◌≡◌, ◌≢◌, ◌⊎◌, ℕ, ◌+◌, ◌/◌, ◌≤◌, ◌≤ℤ◌, suc, zero, Option, IfSome, IsSomeAnd, List, ◌++◌, map, length, take, drop, All}
+use Rattle.std.specs.List.{HoldsAt}
+use Rattle.lf_units.specs.Area.{SharesPoint}
+use Rattle.lf_units.specs.declared.area.Rect.{Rect}
+use Rattle.lf_rtree.specs.Near.{AreNear, IsMet}
+use Rattle.lf_rtree.specs.declared.placed.Placed.{Placed}
+use Rattle.lf_rtree.specs.declared.bound.Bound.{Bound}
+use Rattle.lf_rtree.specs.declared.bound.Node.{Node}
+
+-- the bound's rectangle holds the box, by its edges, and its number is no greater than the box's
+pub record IsBound (bound : Bound) (p : Placed) : Type 0 where
+  pub left : bound.rect.x1 ≤ℤ p.rect.x1
+  pub bottom : bound.rect.y1 ≤ℤ p.rect.y1
+  pub right : p.rect.x2 ≤ℤ bound.rect.x2
+  pub top : p.rect.y2 ≤ℤ bound.rect.y2
+  pub least : bound.least ≤ p.own
+
+-- the boxes of nodes, in their order
+abbrev pub boxes_of : List Node → List Placed
+boxes_of nodes = map (λ n. n.placed) nodes
+
+-- a run of a depth: at depth 0 any nodes; else its middle node bounds the run, and what stands on either side of it is a run of one depth less
+abbrev pub IsTree : ℕ → List Node → Type 0
+IsTree zero nodes = Unit {0}
+IsTree (suc depth) nodes =
+    HoldsAt (λ middle. All (IsBound middle.bound) (boxes_of nodes)) nodes (length nodes / 2)
+    × IsTree depth (take (length nodes / 2) nodes)
+    × IsTree depth (drop (length nodes / 2 + 1) nodes)
+
+-- new nodes stand behind the old ones: a run of this depth, of these boxes
+pub record AddsTree (depth : ℕ) (boxes : List Placed) (old new : List Node) : Type 0 where
+  pub run : List Node
+  pub is : new ≡ old ++ run
+  pub tree : IsTree depth run
+  pub boxes_are : boxes_of run ≡ boxes
+
+-- there is a least number so far, and it is no greater than this one
+abbrev pub IsUpTo : Option ℕ → ℕ → Type 0
+IsUpTo least own = IsSomeAnd least (λ n. n ≤ own)
+
+-- the least of the number so far and of the numbers, other than `but`, of the boxes that share a point with the rectangle
+pub record IsLeastOf (boxes : List Placed) (rect : Rect) (but : ℕ) (so_far least : Option ℕ) : Type 0 where
+  pub from : (least ≡ so_far) ⊎ IsSomeAnd least (IsMet boxes rect but)
+  pub no_greater : IfSome so_far (IsUpTo least)
+  pub least_met : All (λ p. p.own ≢ but → SharesPoint rect p.rect → IsUpTo least p.own) boxes
+
+-- no box within the bound has a number below the one so far and shares a point with the rectangle
+abbrev pub HoldsNoLess : Bound → Rect → Option ℕ → Type 0
+HoldsNoLess bound rect so_far = (p : Placed) → IsBound bound p → SharesPoint rect p.rect → IsUpTo so_far p.own
+
+-- found boxes stand behind the old ones: those of the list that share a point with the rectangle
+pub record AddsNear (boxes : List Placed) (rect : Rect) (old new : List Placed) : Type 0 where
+  pub found : List Placed
+  pub is : new ≡ old ++ found
+  pub near : AreNear boxes rect found

@@ -1,0 +1,80 @@
+//! The least number of a box that is met.
+
+ghost use Rattle.std.specs.Prelude.{[], ◌∷◌};
+ghost use Rattle.std.specs.Bool.{OnFalse};
+ghost use Rattle.lf_rtree.specs.Packed.{IsTree, IsLeastOf, HoldsNoLess, boxes_of};
+
+use crate::bound::{Bound, Node};
+use crate::placed::Placed;
+use lf_units::Rect;
+
+/// The number of the box where it is the lesser one, is not `but`, and the box shares a point with
+/// the rectangle; else the number so far.
+fn lesser(placed: &Placed, rect: &Rect, but: u32, so_far: Option<u32>) -> Option<u32>
+    ensures { IsLeastOf (placed.now ∷ []) rect.now but so_far result }
+{
+    if placed.own == but {
+        return so_far;
+    }
+    if let Some(least) = so_far
+        && least <= placed.own
+    {
+        return so_far;
+    }
+    if rect.overlaps(&placed.rect) {
+        Some(placed.own)
+    } else {
+        so_far
+    }
+}
+
+/// The same over each of the nodes, one after another.
+fn least_in(nodes: &[Node], rect: &Rect, but: u32, so_far: Option<u32>) -> Option<u32>
+    ensures { IsLeastOf (boxes_of nodes.now) rect.now but so_far result }
+{
+    let mut least = so_far;
+    for node in nodes {
+        least = lesser(&node.placed, rect, but, least);
+    }
+    least
+}
+
+/// Whether a box within the bound may have a number below the one so far and share a point with the
+/// rectangle.
+fn may_be_less(bound: &Bound, rect: &Rect, so_far: Option<u32>) -> bool
+    ensures { OnFalse result (HoldsNoLess bound.now rect.now so_far) }
+{
+    if let Some(least) = so_far
+        && least <= bound.least
+    {
+        return false;
+    }
+    rect.overlaps(&bound.rect)
+}
+
+/// The same over a run of a tree: no look is taken into a part where no number can be less.
+pub fn least_among(
+    nodes: &[Node],
+    depth: u32,
+    rect: &Rect,
+    but: u32,
+    so_far: Option<u32>,
+) -> Option<u32>
+    requires { IsTree depth nodes.now }
+    ensures { IsLeastOf (boxes_of nodes.now) rect.now but so_far result }
+{
+    if depth == 0 {
+        return least_in(nodes, rect, but, so_far);
+    }
+    if nodes.is_empty() {
+        return so_far;
+    }
+    let half = nodes.len() / 2;
+    let middle = &nodes[half];
+    if !may_be_less(&middle.bound, rect, so_far) {
+        return so_far;
+    }
+    let before = least_among(&nodes[..half], depth - 1, rect, but, so_far);
+    let with_middle = lesser(&middle.placed, rect, but, before);
+    least_among(&nodes[half + 1..], depth - 1, rect, but, with_middle)
+}

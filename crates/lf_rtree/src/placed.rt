@@ -1,0 +1,10 @@
+//! A box and the number of what it belongs to.
+
+use lf_units::Rect;
+
+/// A rectangle, in database units, with the number of what it is the box of.
+#[derive(Clone, Copy, Debug, PartialEq, Eq)]
+pub struct Placed {
+    pub own: u32,
+    pub rect: Rect,
+}

@@ -1,0 +1,67 @@
+//! A packed tree of boxes.
+
+ghost use Rattle.std.specs.Prelude.{IfOk, OnOk, MatchOption, IsPermutation};
+ghost use Rattle.lf_rtree.specs.Near.{AreNear, IsLeastMet, IsNoneMet};
+
+use crate::bound::Node;
+use crate::grown::grow;
+use crate::least::least_among;
+use crate::near::push_near_of_run;
+use crate::placed::Placed;
+use lf_units::Rect;
+use std::alloc::{AllocError, Global};
+use std::marker::Model;
+
+/// About how many boxes stand in a part of a tree that is not divided further.
+const BUCKET: usize = 8;
+
+/// Boxes in a packed tree. A contract sees the list of the boxes, in an order of the tree's own.
+#[derive(Drop)]
+pub struct RTree {
+    nodes: Vec<Node>,
+    depth: u32,
+}
+
+impl Model for RTree {
+    ghost use Rattle.std.specs.Prelude.{List};
+    ghost use Rattle.lf_rtree.specs.declared.placed.Placed.{Placed};
+    ghost use Rattle.lf_rtree.specs.Packed.{IsTree, boxes_of};
+
+    ghost Value = { List Placed };
+
+    ghost view = { λ t. boxes_of t.nodes.items };
+
+    ghost invariant = { λ t. IsTree t.depth t.nodes.items };
+}
+
+impl RTree {
+    /// A tree of these boxes. Numbers may stand more than once, and rectangles without points are
+    /// never found.
+    pub fn build(alloc: Global, boxes: &[Placed]) -> Result<Self, AllocError>
+        ensures { IfOk result (λ tree. IsPermutation boxes.now tree) }
+    {
+        let mut sorted = Vec::from_slice(alloc, boxes)?;
+        sorted.sort_unstable_by_key(|p| (p.rect.y1, p.rect.x1, p.own));
+        let depth = usize::BITS - (boxes.len() / BUCKET).leading_zeros();
+        let mut nodes = Vec::with_capacity(alloc, boxes.len())?;
+        grow(sorted.as_slice(), depth, &mut nodes)?;
+        Ok(RTree { nodes, depth })
+    }
+
+    /// Puts the boxes that share a point with this rectangle into `found`, in place of what it
+    /// holds. Where memory runs out, `found` holds some of them.
+    pub fn find_near(&self, rect: &Rect, found: &mut Vec<Placed>) -> Result<(), AllocError>
+        ensures { OnOk result (AreNear self.now rect.now found.new.items) }
+    {
+        found.clear();
+        push_near_of_run(self.nodes.as_slice(), self.depth, rect, found)
+    }
+
+    /// The least number, other than `but`, of a box that shares a point with this rectangle; none
+    /// where there is no such box. It takes no memory.
+    pub fn least_met(&self, rect: &Rect, but: u32) -> Option<u32>
+        ensures { MatchOption result (IsNoneMet self.now rect.now but) (IsLeastMet self.now rect.now but) }
+    {
+        least_among(self.nodes.as_slice(), self.depth, rect, but, None)
+    }
+}
