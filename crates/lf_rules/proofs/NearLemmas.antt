@@ -3,6 +3,7 @@ use Rattle.std.proofs.Common.{◌≡◌, ◌⊎◌, inl, inr, ℕ, zero, suc, �
 use Rattle.std.specs.Prelude.{All, Any, Contains, IsPermutation}
 use Rattle.std.proofs.Math.Nat.{mul-lt-mul_of_pos_right}
 use Rattle.std.proofs.lemmas.Int.{ints}
+use Rattle.std.proofs.lemmas.List.{get_or_default}
 use Rattle.std.proofs.lemmas.Option.{slice_get_read, slice_get_within, get_or_from_slice_get}
 use Rattle.std.proofs.lemmas.List.Sorted.{Contains-permutation, IsPermutation-sym}
 use Rattle.std.proofs.lemmas.List.Elements.{All-nil, All-cons, All-contains, Contains-append_right}
@@ -48,11 +49,15 @@ pub rows_are_near : (f : Frame) (i : FrameIndex) (box : Rect) (found : List Plac
 rows_are_near f i box found index near = record {
   known = λ k d within.
       let among : Contains i.rows (get_or found k d) = (near.only k d within).0 in
-      All-contains (λ p. p.own < length f.rows) (row_boxes f.pitch 0 f.rows) (get_or found k d) (rows_known f.pitch 0 f.rows)
+      let from : 0 + length f.rows ≡ length f.rows = omega arith in
+      let below : All (λ p. p.own < length f.rows) (row_boxes f.pitch 0 f.rows) = subst (λ (m : ℕ). All (λ p. p.own < m) (row_boxes f.pitch 0 f.rows)) from (rows_known f.pitch 0 f.rows) in
+      All-contains (λ p. p.own < length f.rows) (row_boxes f.pitch 0 f.rows) (get_or found k d) below
       (Contains-permutation i.rows (row_boxes f.pitch 0 f.rows) (get_or found k d) (IsPermutation-sym (row_boxes f.pitch 0 f.rows) i.rows index.rows) among);
   each = λ k d within shares.
       let p : Placed = numbered k (row_area f.pitch (get_or f.rows k d)) in
-      let among : Contains i.rows p = Contains-permutation (row_boxes f.pitch 0 f.rows) i.rows p index.rows (row_there f.pitch 0 f.rows k d within) in
+      let from : 0 + k ≡ k = omega arith in
+      let listed : Contains (row_boxes f.pitch 0 f.rows) p = subst (λ (m : ℕ). Contains (row_boxes f.pitch 0 f.rows) (numbered m (row_area f.pitch (get_or f.rows k d)))) from (row_there f.pitch 0 f.rows k d within) in
+      let among : Contains i.rows p = Contains-permutation (row_boxes f.pitch 0 f.rows) i.rows p index.rows listed in
       let there : Contains found p = All-contains (λ q. SharesPoint box q.rect → Contains found q) i.rows p near.each among shares in
       (there.0, p, there.1, there.2, refl);
 }
@@ -103,14 +108,14 @@ carrier_shares f box bottom j k r solid up tall less is =
 abbrev pub NoneYet : (Row → Type 0) → Frame → List Placed → ℕ → Type 0
 NoneYet P f near n = (j : ℕ) (d : Placed) (r : Row) → j < n → slice_get f.rows (get_or near j d).own ≡ Some r → P r → ⊥
 
-pub none_more : (P : Row → Type 0) (f : Frame) (near : List Placed) (n : ℕ) (p : Placed) (r : Row) → NoneYet P f near n → ((d : Placed) → get_or near n d ≡ p) → slice_get f.rows p.own ≡ Some r → (P r → ⊥) →
+pub none_more : (P : Row → Type 0) (f : Frame) (near : List Placed) (n : ℕ) (e : Placed) (r : Row) → NoneYet P f near n → n < length near → slice_get f.rows (get_or near n e).own ≡ Some r → (P r → ⊥) →
     NoneYet P f near (n + 1)
-none_more P f near n p r yet here there not_so j d s below at holds =
+none_more P f near n e r yet within there not_so j d s below at holds =
     let cases : (j < n) ⊎ (j ≡ n) = grind arith in
     elim cases [
       | inl less ↦ yet j d s less at holds
       | inr is ↦
-          let same : get_or near j d ≡ p = subst (λ (m : ℕ). get_or near m d ≡ p) (sym is) (here d) in
+          let same : get_or near j d ≡ get_or near n e = subst (λ (m : ℕ). get_or near m d ≡ get_or near n e) (sym is) (get_or_default near n d e within) in
           let both : Some s ≡ Some r = sym at ∙ ap (λ (q : Placed). slice_get f.rows q.own) same ∙ there in
           let one : s ≡ r = cc in
           not_so (subst P one holds)

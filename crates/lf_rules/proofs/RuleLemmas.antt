@@ -1,5 +1,5 @@
 -- The rules of a trial, from what is known at one height and one bottom row.
-use Rattle.std.proofs.Common.{◌≡◌, ℕ, ℤ, ◌<◌, ◌%◌, ◌<ℤ◌, length, get_or, Some, None, refl, sym, subst, arith, IsTrue}
+use Rattle.std.proofs.Common.{◌≡◌, ℕ, ℤ, ◌<◌, ◌≤◌, ◌%◌, ◌<ℤ◌, length, get_or, Some, None, refl, sym, subst, arith, IsTrue}
 use Rattle.std.specs.Prelude.{All}
 use Rattle.std.proofs.lemmas.Option.{slice_get_within, get_or_from_slice_get}
 use Rattle.lf_units.specs.declared.area.Rect.{Rect}
@@ -94,6 +94,26 @@ pub record OnRows (t : Trial) : Type 0 where
   pub stand : Holds t Stand
   pub orient : Holds t OrientRule
   pub rail : Holds t RailRule
+
+-- the rules up to the fifth, said of each of them and of all
+pub rows_hold : (t : Trial) → OnRows t → (r : Rule) → number_of r ≤ 5 → Holds t r
+rows_hold t f Height l = f.height
+rows_hold t f RowRule l = f.row
+rows_hold t f Stand l = f.stand
+rows_hold t f OrientRule l = f.orient
+rows_hold t f RailRule l = f.rail
+rows_hold t f Fence l = absurd (omega arith)
+rows_hold t f Obstacle l = absurd (omega arith)
+rows_hold t f Overlap l = absurd (omega arith)
+
+pub rows_held : (t : Trial) → ((r : Rule) → number_of r ≤ 5 → Holds t r) → OnRows t
+rows_held t each = record {
+  height = each Height (omega arith);
+  row = each RowRule (omega arith);
+  stand = each Stand (omega arith);
+  orient = each OrientRule (omega arith);
+  rail = each RailRule (omega arith);
+}
 
 pub on_rows : (t : Trial) (box : Rect) (k : ℕ) (r : Row) → Found t box k r → StandsAt t box k r → OrientedAt t k r → RailAt t k r → OnRows t
 on_rows t box k r found s o p =

@@ -1,6 +1,7 @@
 //! The rules on rows, ground and obstacles, by what lies near the box.
 
-ghost use Rattle.std.specs.Prelude.{◌≡◌, ◌↔◌, ◌<◌, ◌≤◌, ◌<ℤ◌, ◌++◌, ℕ, List, [], IfOk, OnOk, IsTrue, MatchOption, filter, map};
+ghost use Rattle.std.specs.Prelude.{◌≡◌, ◌↔◌, ◌<◌, ◌<ℤ◌, ℕ, List, [], IfOk, IsTrue, MatchOption, Contains, Some, length, slice_get};
+ghost use Rattle.lf_frame.specs.Rows.{IsHeeded};
 ghost use Rattle.lf_rtree.specs.Near.{AreNear};
 ghost use Rattle.lf_frame.specs.declared.parts.Row.{Row};
 ghost use Rattle.lf_frame.specs.Boxes.{IsSized};
@@ -13,10 +14,9 @@ ghost use Rattle.lf_rules.specs.Nearby.{AreRowsNear, IsAreaVerdict, IsIndexOf, I
 use crate::cover::is_covered;
 use crate::first::{is_on_rail, is_oriented};
 use crate::frame_index::FrameIndex;
-use crate::rows::{changed_rail, height_in_sites, is_on_grid, is_row_of_box};
+use crate::rows::{carries, height_in_sites, is_bottom_row};
 use crate::rule::Rule;
 use lf_frame::{Frame, Macro, Place, Row};
-use lf_orient::row_rail;
 use lf_rtree::{Placed, RTree};
 use lf_units::Rect;
 use std::alloc::{AllocError, Global};
@@ -30,6 +30,13 @@ fn near(alloc: Global, tree: &RTree, rect: &Rect) -> Result<Vec<Placed>, AllocEr
     Ok(found)
 }
 
+/// Whether there is no box.
+fn are_none(boxes: &[Placed]) -> bool
+    ensures { IsTrue result ↔ (boxes.now ≡ []) }
+{
+    boxes.is_empty()
+}
+
 /// The rows that share a point with the box, by their numbers.
 fn rows_near(
     alloc: Global,
@@ -40,7 +47,18 @@ fn rows_near(
     requires { IsIndexOf frame.now index.now }
     ensures { IfOk result (λ found. AreRowsNear frame.now rect.now found.items) }
 {
-    near(alloc, &index.rows, rect)
+    let found = near(alloc, &index.rows, rect)?;
+    Ok(found)
+}
+
+/// The row that bears the number.
+fn row_of<'a>(frame: &'a Frame, placed: &Placed) -> &'a Row
+    requires { placed.now.own < length frame.now.rows }
+    ensures row { slice_get frame.now.rows placed.now.own ≡ Some result.now }
+    ensures heeded { IsHeeded frame.now.pitch result.now }
+    ensures known { Contains frame.now.rows result.now }
+{
+    &frame.rows.as_slice()[placed.own as usize]
 }
 
 /// The bottom row of the box, among the rows near it.
@@ -50,8 +68,8 @@ fn bottom_row_near<'a>(frame: &'a Frame, rect: &Rect, near: &[Placed]) -> Option
     ensures { MatchOption result ((r : Row) → IsBottomRow frame.now rect.now r → ⊥) (λ r. IsBottomRow frame.now rect.now r.now) }
 {
     for placed in near {
-        let row = &frame.rows.as_slice()[placed.own as usize];
-        if is_row_of_box(frame, rect, 0, row) && is_on_grid(&frame.pitch, rect, row) {
+        let row = row_of(frame, placed);
+        if is_bottom_row(frame, rect, row) {
             return Some(row);
         }
     }
@@ -73,10 +91,9 @@ fn is_carried_near(
     requires near { AreRowsNear frame.now rect.now near.now }
     ensures { IsTrue result ↔ ((s : Row) × Carries frame.now rect.now bottom.now sites s) }
 {
-    let rail = changed_rail(bottom.orient, sites);
     for placed in near {
-        let row = &frame.rows.as_slice()[placed.own as usize];
-        if is_row_of_box(frame, rect, sites, row) && row_rail(row.orient) == rail {
+        let row = row_of(frame, placed);
+        if carries(frame, rect, bottom, sites, row) {
             return true;
         }
     }
@@ -165,11 +182,18 @@ fn stays_in_ground(
     ensures { IfOk result (λ stays. IsTrue stays ↔ StaysInGround frame.now team rect.now) }
 {
     let near = near(alloc, &index.fences, rect)?;
-    if team < frame.teams.len() {
-        let rects = rects_of(alloc, &near, team as u32)?;
-        return Ok(is_covered(rect, &rects));
+    match frame.teams.as_slice().get(team) {
+        Some(_) => {
+            let rects = rects_of(alloc, &near, team as u32)?;
+            Ok(is_covered(rect, &rects))
+        }
+        None => {
+            if team != frame.teams.len() {
+                return Ok(false);
+            }
+            Ok(are_none(&near))
+        }
     }
-    Ok(team == frame.teams.len() && near.is_empty())
 }
 
 /// Whether the box meets no obstacle.
@@ -182,7 +206,8 @@ fn is_clear(
     requires { IsIndexOf frame.now index.now }
     ensures { IfOk result (λ clear. IsTrue clear ↔ IsClear frame.now rect.now) }
 {
-    Ok(near(alloc, &index.obstacles, rect)?.is_empty())
+    let near = near(alloc, &index.obstacles, rect)?;
+    Ok(are_none(&near))
 }
 
 /// The first of the rules on ground and obstacles that the box of a cell of the team breaks; none where it keeps

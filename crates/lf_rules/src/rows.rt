@@ -37,7 +37,7 @@ pub fn height_in_sites(frame: &Frame, rect: &Rect) -> Option<u32>
 }
 
 /// Whether the box's left edge is a whole number of core sites right of the row's.
-pub fn is_on_grid(pitch: &Point, rect: &Rect, row: &Row) -> bool
+fn is_on_grid(pitch: &Point, rect: &Rect, row: &Row) -> bool
     requires wide { pos 0 <ℤ pitch.now.x }
     requires solid { IsSolid rect.now }
     requires left { row.now.x ≤ℤ rect.now.x1 }
@@ -48,7 +48,7 @@ pub fn is_on_grid(pitch: &Point, rect: &Rect, row: &Row) -> bool
 }
 
 /// Whether the row lies so many site heights above the box's lower edge, under all of its width.
-pub fn is_row_of_box(frame: &Frame, rect: &Rect, sites: u32, row: &Row) -> bool
+fn is_row_of_box(frame: &Frame, rect: &Rect, sites: u32, row: &Row) -> bool
     requires solid { IsSolid rect.now }
     requires few { sites ≤ 8 }
     requires heeded { IsHeeded frame.now.pitch row.now }
@@ -66,13 +66,26 @@ pub fn is_row_of_box(frame: &Frame, rect: &Rect, sites: u32, row: &Row) -> bool
     true
 }
 
-/// The row at the box's lower edge, under all of its width, whose grid holds the box's left edge.
+/// Whether the row lies at the box's lower edge, under all of its width, and its grid holds the box's left edge.
+pub fn is_bottom_row(frame: &Frame, rect: &Rect, row: &Row) -> bool
+    requires solid { IsSolid rect.now }
+    requires known { Contains frame.now.rows row.now }
+    requires heeded { IsHeeded frame.now.pitch row.now }
+    ensures { IsTrue result ↔ IsBottomRow frame.now rect.now row.now }
+{
+    if !is_row_of_box(frame, rect, 0, row) {
+        return false;
+    }
+    is_on_grid(&frame.pitch, rect, row)
+}
+
+/// The bottom row of the box.
 pub fn bottom_row<'a>(frame: &'a Frame, rect: &Rect) -> Option<&'a Row>
     requires { IsSolid rect.now }
     ensures { MatchOption result ((r : Row) → IsBottomRow frame.now rect.now r → ⊥) (λ r. IsBottomRow frame.now rect.now r.now) }
 {
     for row in frame.rows.as_slice() {
-        if is_row_of_box(frame, rect, 0, row) && is_on_grid(&frame.pitch, rect, row) {
+        if is_bottom_row(frame, rect, row) {
             return Some(row);
         }
     }
@@ -80,7 +93,7 @@ pub fn bottom_row<'a>(frame: &'a Frame, rect: &Rect) -> Option<&'a Row>
 }
 
 /// The rail of a row of this orientation, changed so many times.
-pub fn changed_rail(orient: Orient, times: u32) -> Option<Rail>
+fn changed_rail(orient: Orient, times: u32) -> Option<Rail>
     ensures { result ≡ option_map (changed times) (rail_below orient) }
 {
     let mut rail = row_rail(orient);
@@ -90,15 +103,28 @@ pub fn changed_rail(orient: Orient, times: u32) -> Option<Rail>
     rail
 }
 
+/// Whether the row carries the box so many site heights above its bottom row.
+pub fn carries(frame: &Frame, rect: &Rect, bottom: &Row, sites: u32, row: &Row) -> bool
+    requires solid { IsSolid rect.now }
+    requires few { sites ≤ 8 }
+    requires known { Contains frame.now.rows row.now }
+    requires heeded { IsHeeded frame.now.pitch row.now }
+    ensures { IsTrue result ↔ Carries frame.now rect.now bottom.now sites row.now }
+{
+    if !is_row_of_box(frame, rect, sites, row) {
+        return false;
+    }
+    row_rail(row.orient) == changed_rail(bottom.orient, sites)
+}
+
 /// Whether a heeded row carries the box so many site heights above its bottom row.
 fn is_carried(frame: &Frame, rect: &Rect, bottom: &Row, sites: u32) -> bool
     requires solid { IsSolid rect.now }
     requires few { sites ≤ 8 }
     ensures { IsTrue result ↔ ((s : Row) × Carries frame.now rect.now bottom.now sites s) }
 {
-    let rail = changed_rail(bottom.orient, sites);
     for row in frame.rows.as_slice() {
-        if is_row_of_box(frame, rect, sites, row) && row_rail(row.orient) == rail {
+        if carries(frame, rect, bottom, sites, row) {
             return true;
         }
     }
