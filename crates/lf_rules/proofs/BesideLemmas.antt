@@ -10,7 +10,7 @@ use Rattle.lf_rules.specs.Choice.{Spot}
 use Rattle.lf_rules.specs.Team.{Member, box_in, with_box, boxes_from, boxes_beside}
 
 -- what holds of each element that passes the test holds of the filtered list
-filtered_hold : {X : Type 0} (P : X → Type 0) (test : X → Bool) (xs : List X) → All (λ x. test x ≡ true → P x) xs → All P (filter test xs)
+pub filtered_hold : {X : Type 0} (P : X → Type 0) (test : X → Bool) (xs : List X) → All (λ x. test x ≡ true → P x) xs → All P (filter test xs)
 filtered_hold P test [] h = All-nil P
 filtered_hold P test (x ∷ xs) h = by (test x) refl (filtered_hold P test xs (All-tail (λ y. test y ≡ true → P y) x xs h))
   where

@@ -134,7 +134,7 @@ pub(crate) fn broken_by_rows(
     requires index { IsIndexOf frame.now index.now }
     requires of_place { rect.now ≡ box_of (trial_of frame.now 0 mac.now place.now []) }
     requires solid { IsSolid rect.now }
-    ensures { (team : ℕ) (others : List Placed) → IfOk result (λ verdict. IsRowVerdict (trial_of frame.now team mac.now place.now others) verdict) }
+    ensures { IfOk result (λ verdict. (team : ℕ) (others : List Placed) → IsRowVerdict (trial_of frame.now team mac.now place.now others) verdict) }
 {
     let Some(height) = height_in_sites(frame, rect) else {
         return Ok(Some(Rule::Height));

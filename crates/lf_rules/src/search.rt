@@ -1,6 +1,8 @@
 //! The first broken rule of a cell among many.
 
-ghost use Rattle.std.specs.Prelude.{◌≡◌, ◌<◌, ◌≤◌, ℕ, List, IfOk, IsPermutation, length};
+ghost use Rattle.std.specs.Prelude.{◌≡◌, List, Some, IfOk, IsPermutation};
+ghost use Rattle.std.specs.Option.{option_map};
+ghost use Rattle.lf_rules.specs.declared.rule.Rule.TheVariants.{Overlap};
 ghost use Rattle.lf_frame.specs.Boxes.{IsSized};
 ghost use Rattle.lf_rules.specs.Legality.{trial_of};
 ghost use Rattle.lf_rules.specs.Legalizer.{IsVerdict};
@@ -26,7 +28,9 @@ pub enum Search {
 }
 
 /// Overlap with the first of the other cells that is met; none where none is.
-fn overlap(met: Option<u32>) -> Option<Broken> {
+fn overlap(met: Option<u32>) -> Option<Broken>
+    ensures { result ≡ option_map (λ own. record { rule = Overlap; other = Some own }) met }
+{
     match met {
         Some(own) => Some(Broken {
             rule: Rule::Overlap,
