@@ -152,7 +152,8 @@ fn broken_in(
     let Some(place) = cell.place else {
         return Ok(None);
     };
-    broken_at(alloc, frame, search, cells, own, cell, &place)
+    let broken = broken_at(alloc, frame, search, cells, own, cell, &place)?;
+    Ok(broken)
 }
 
 /// A copy of the name of the cell of that number.

@@ -10,6 +10,5 @@ returns c = λ l.
     let f = c.args.frame.now in
     let cells = map named c.args.cells.now in
     let cell = named c.args.cell.now in
-    broken_is l f cells c.args.own cell c.macro_in-mac.result.now c.in-Some.place c.deref.result.now c.first_broken.result
-    c.verdict_is_one.ensures c.macro_in-mac.ensures.mac (c.deref.ensures.value ∙ c.in_ok-others.ensures) c.macro_in-mac.ensures.sized c.first_broken.ensures
+    broken_is l f cells c.args.own cell c.in-Some.place c.in_ok-broken.broken c.verdict_is_one.ensures c.requires.this c.in_ok-broken.ensures
     ∙ ap (λ (o : Option Place). option_and_then (λ p. l.first_broken (trial_among f cells c.args.own cell p)) o) (sym c.in-Some.is)

@@ -6,7 +6,7 @@ use Rattle.lf_rules.specs.declared.report.Violation.{Violation}
 use Rattle.lf_rules.specs.FullyLegal.{IsFullyLegal}
 use Rattle.lf_rules.specs.Reports.{named, standing_of, IsClean, IsTold}
 use Rattle.lf_rules.proofs.CleanLemmas.{all_named, all_told, clean_is_legal, report_is}
-use Rattle.lf_rules.proofs.report.report_on.Goals as goal
+use Rattle.lf_rules.proofs.report.report_by.Goals as goal
 
 pub returns-clause-legal : goal.returns-clause-legal
 returns-clause-legal c =
