@@ -8,7 +8,7 @@ use Rattle.std.proofs.lemmas.List.Sorted.{All-permutation, Contains-permutation,
 use Rattle.lf_units.specs.declared.area.Rect.{Rect}
 use Rattle.lf_units.specs.Area.{SharesPoint}
 use Rattle.lf_rtree.specs.declared.placed.Placed.{Placed}
-use Rattle.lf_rtree.specs.Near.{IsLeastMet, IsMet, IsNoneMet}
+use Rattle.lf_rtree.specs.Near.{IsLeastMet, IsNoneMet}
 use Rattle.lf_frame.specs.declared.frame.Frame.{Frame}
 use Rattle.lf_rules.specs.Choice.{Spot}
 use Rattle.lf_frame.specs.Ground.{StaysInGround, IsClear}

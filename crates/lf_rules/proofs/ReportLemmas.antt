@@ -6,7 +6,7 @@ use Rattle.std.specs.Borrow.{Bor}
 use Rattle.lf_frame.specs.declared.frame.Frame.{Frame}
 use Rattle.lf_lef.specs.declared.macros.Macro.{Macro}
 use Rattle.lf_frame.specs.declared.place.Place.{Place}
-use Rattle.lf_frame.specs.Boxes.{IsSized, macro_of}
+use Rattle.lf_frame.specs.Boxes.{macro_of}
 use Rattle.lf_rules.specs.declared.rule.Broken.{Broken}
 use Rattle.lf_rtree.specs.declared.placed.Placed.{Placed}
 use Rattle.lf_rules.specs.declared.report.Listed.{Listed}

@@ -1,5 +1,5 @@
 -- What lies near a box: the rows, fences and obstacles of a frame and the placed cells, by where they lie.
-use Rattle.std.specs.Prelude.{◌≡◌, ◌==◌, filter, ℕ, ◌+◌, ◌<◌, ◌≤◌, ◌⊎◌, List, [], ◌∷◌, ◌++◌, map, length, slice_index_or, All, Any, IsPermutation, Option, Some, None, MatchOption}
+use Rattle.std.specs.Prelude.{◌≡◌, ◌==◌, filter, ℕ, ◌+◌, ◌<◌, ◌≤◌, ◌⊎◌, List, [], ◌∷◌, ◌++◌, map, length, slice_index_or, All, Any, IsPermutation, Option, None, MatchOption}
 use Rattle.lf_units.specs.declared.area.Point.{Point}
 use Rattle.lf_units.specs.declared.area.Rect.{Rect}
 use Rattle.lf_units.specs.Area.{SharesPoint}

@@ -1,5 +1,5 @@
-use Rattle.std.proofs.Common.{◌≡◌, refl, ◌∙◌}
-use Rattle.lf_rules.specs.Legality.{trial_of, box_of, Trial}
+use Rattle.std.proofs.Common.{refl}
+use Rattle.lf_rules.specs.Legality.{trial_of}
 use Rattle.lf_rules.specs.Team.{boxes_beside}
 use Rattle.lf_rules.proofs.MetLemmas.{rows_broken, areas_broken, met_verdict}
 use Rattle.lf_rules.proofs.search.broken_beside.Goals as goal
