@@ -1,8 +1,9 @@
 -- The least number of a list of boxes from those of its parts.
 use Rattle.std.proofs.Common.{◌≡◌, ◌≢◌, inl, inr, ℕ, List, [], ◌∷◌, ◌++◌, Option, Some, None, refl, sym, ap, subst, ◌∙◌, ◌+◌, ◌-◌, ◌<◌, length, get_or, take, drop, arith}
-use Rattle.std.specs.Prelude.{All, IfSome, IsSomeAnd, MatchOption}
+use Rattle.std.specs.Prelude.{All, IfSome, IsSomeAnd, MatchOption, IsPermutation}
 use Rattle.std.proofs.lemmas.List.Elements.{All-append, All-weaker, Contains-append_left, Contains-append_right}
 use Rattle.std.proofs.lemmas.List.{map-append, take_more}
+use Rattle.std.proofs.lemmas.List.Sorted.{All-permutation, Contains-permutation, IsPermutation-append_comm, IsPermutation-sym, IsPermutation-middle}
 use Rattle.lf_units.specs.Area.{SharesPoint}
 use Rattle.lf_units.specs.declared.area.Rect.{Rect}
 use Rattle.lf_rtree.specs.Near.{IsMet, IsLeastMet, IsNoneMet}
@@ -45,6 +46,16 @@ met_behind xs ys rect but (Some own) m = record {
   shares = m.shares;
 }
 
+met_permuted : (xs ys : List Placed) (rect : Rect) (but : ℕ) (a : Option ℕ) → IsPermutation xs ys → IsSomeAnd a (IsMet xs rect but) → IsSomeAnd a (IsMet ys rect but)
+met_permuted xs ys rect but None moved m = absurd m
+met_permuted xs ys rect but (Some own) moved m = record {
+  placed = m.placed;
+  among = Contains-permutation xs ys m.placed moved m.among;
+  number = m.number;
+  other = m.other;
+  shares = m.shares;
+}
+
 -- the least of one list, taken on through another, is the least of both
 pub least_along : (xs ys : List Placed) (rect : Rect) (but : ℕ) (a b c : Option ℕ) →
     IsLeastOf xs rect but a b → IsLeastOf ys rect but b c → IsLeastOf (xs ++ ys) rect but a c
@@ -77,22 +88,39 @@ least_one_more nodes n d rect but a b c within first second =
     ap (λ (xs : List Node). boxes_of xs) (take_more nodes n d within) ∙ map-append (λ (m : Node). m.placed) (take n nodes) (node ∷ []) in
     subst P (sym parts) (least_along (boxes_of (take n nodes)) (node.placed ∷ []) rect but a b c first second)
 
--- the nodes before a place, the one there and those behind it
-pub least_of_halves : (nodes : List Node) (n : ℕ) (d : Node) (rect : Rect) (but : ℕ) (a b c e : Option ℕ) → n < length nodes →
-    IsLeastOf (boxes_of (take n nodes)) rect but a b → IsLeastOf ((get_or nodes n d).placed ∷ []) rect but b c →
-    IsLeastOf (boxes_of (take (length nodes - (n + 1)) (drop (n + 1) nodes))) rect but c e → IsLeastOf (boxes_of nodes) rect but a e
-least_of_halves nodes n d rect but a b c e within first second third =
-    let Whole : List Placed → Type 0 = λ xs. IsLeastOf xs rect but a e in
-    let Rest : List Node → Type 0 = λ xs. IsLeastOf (boxes_of xs) rect but c e in
+-- the order of the boxes does not matter
+pub least_permuted : (xs ys : List Placed) (rect : Rect) (but : ℕ) (a b : Option ℕ) → IsPermutation xs ys → IsLeastOf xs rect but a b → IsLeastOf ys rect but a b
+least_permuted xs ys rect but a b moved of = record {
+  from = elim of.from [ inl kept ↦ inl kept | inr m ↦ inr (met_permuted xs ys rect but b moved m) ];
+  no_greater = of.no_greater;
+  least_met = All-permutation (λ p. p.own ≢ but → SharesPoint rect p.rect → IsUpTo b p.own) xs ys moved of.least_met;
+}
+
+-- the second list first
+pub least_turned : (xs ys : List Placed) (rect : Rect) (but : ℕ) (a b c : Option ℕ) → IsLeastOf ys rect but a b → IsLeastOf xs rect but b c →
+    IsLeastOf (xs ++ ys) rect but a c
+least_turned xs ys rect but a b c first second =
+    least_permuted (ys ++ xs) (xs ++ ys) rect but a c (IsPermutation-append_comm ys xs) (least_along ys xs rect but a b c first second)
+
+-- the node at a place, and then those before it and those behind it
+pub least_of_halves : (nodes : List Node) (n : ℕ) (d : Node) (rect : Rect) (but : ℕ) (a b c : Option ℕ) → n < length nodes →
+    IsLeastOf ((get_or nodes n d).placed ∷ []) rect but a b →
+    IsLeastOf (boxes_of (take n nodes) ++ boxes_of (take (length nodes - (n + 1)) (drop (n + 1) nodes))) rect but b c →
+    IsLeastOf (boxes_of nodes) rect but a c
+least_of_halves nodes n d rect but a b c within first second =
+    let Whole : List Placed → Type 0 = λ xs. IsLeastOf xs rect but a c in
+    let Rest : List Node → Type 0 = λ xs. IsLeastOf (boxes_of (take n nodes) ++ boxes_of xs) rect but b c in
     let node : Node = get_or nodes n d in
+    let before : List Placed = boxes_of (take n nodes) in
     let behind : List Placed = boxes_of (drop (n + 1) nodes) in
-    let parts : boxes_of (take n nodes) ++ (node.placed ∷ behind) ≡ boxes_of nodes =
+    let parts : before ++ (node.placed ∷ behind) ≡ boxes_of nodes =
     sym (map-append (λ (m : Node). m.placed) (take n nodes) (node ∷ drop (n + 1) nodes))
     ∙ ap (λ (xs : List Node). boxes_of xs) (parted nodes n d within) in
-    let rest : IsLeastOf behind rect but c e = subst Rest (rest_from nodes (n + 1)) third in
+    let rest : IsLeastOf (before ++ behind) rect but b c = subst Rest (rest_from nodes (n + 1)) second in
     subst Whole parts
-    (least_along (boxes_of (take n nodes)) (node.placed ∷ behind) rect but a b e first
-    (least_along (node.placed ∷ []) behind rect but b c e second rest))
+    (least_permuted (node.placed ∷ (before ++ behind)) (before ++ (node.placed ∷ behind)) rect but a c
+    (IsPermutation-sym (before ++ (node.placed ∷ behind)) (node.placed ∷ (before ++ behind)) (IsPermutation-middle before node.placed behind))
+    (least_along (node.placed ∷ []) (before ++ behind) rect but a b c first rest))
 
 -- boxes within a bound within which no number is less change nothing
 pub least_kept : (bound : Bound) (boxes : List Placed) (rect : Rect) (but : ℕ) (a : Option ℕ) → All (IsBound bound) boxes →

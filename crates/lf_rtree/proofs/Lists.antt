@@ -1,5 +1,8 @@
--- A list parted at one of its elements.
-use Rattle.std.proofs.Common.{◌≡◌, ℕ, ◌+◌, ◌<◌, List, ◌∷◌, ◌++◌, length, get_or, take, drop, sym, ap, ◌∙◌, ◌-◌, add-one, drop-cons, arith, length-drop}
+-- A list parted at one of its elements, and one whose parts are put in order.
+use Rattle.std.proofs.Common.{◌≡◌, ℕ, ◌+◌, ◌<◌, List, ◌∷◌, ◌++◌, length, get_or, take, drop, sym, ap, subst, ◌∙◌, ◌-◌, add-one, drop-cons, arith, length-drop}
+use borrow.Rule.Slice.PartMut.{mid_of, put_mid}
+use Rattle.std.specs.Prelude.{IsPermutation}
+use Rattle.std.proofs.lemmas.List.Sorted.{IsPermutation-trans, IsPermutation-append_left, IsPermutation-put_mid}
 use Rattle.std.proofs.lemmas.List.{take_all, take-append-drop}
 
 -- what stands before a place, the element there and what stands behind it are the list
@@ -11,3 +14,12 @@ parted xs n d within =
 -- what stands behind a place, as a slice of the list is
 pub rest_from : {X : Type 0} (xs : List X) (n : ℕ) → take (length xs - n) (drop n xs) ≡ drop n xs
 rest_from xs n = take_all (length xs - n) (drop n xs) (omega (arith, length-drop n xs))
+
+-- elements that are moved in the front, and then in a part of what that gives, are moved in the whole
+pub permuted_in_parts : {X : Type 0} (xs front part : List X) (n from size : ℕ) → IsPermutation (take n xs) front →
+    IsPermutation (mid_of from size (front ++ drop n xs)) part → IsPermutation xs (put_mid from size (front ++ drop n xs) part)
+permuted_in_parts {X} xs front part n from size first second =
+    let P = λ (zs : List X). IsPermutation zs (front ++ drop n xs) in
+    IsPermutation-trans xs (front ++ drop n xs) (put_mid from size (front ++ drop n xs) part)
+    (subst P (take-append-drop n xs) (IsPermutation-append_left (drop n xs) (take n xs) front first))
+    (IsPermutation-put_mid from size (front ++ drop n xs) part second)

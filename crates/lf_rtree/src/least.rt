@@ -52,7 +52,15 @@ fn may_be_less(bound: &Bound, rect: &Rect, so_far: Option<u32>) -> bool
     rect.overlaps(&bound.rect)
 }
 
-/// The same over a run of a tree: no look is taken into a part where no number can be less.
+/// A guess at the least number of a run, that of its middle node's bound.
+fn likely_least(nodes: &[Node]) -> u32 {
+    nodes
+        .get(nodes.len() / 2)
+        .map_or(u32::MAX, |middle| middle.bound.least)
+}
+
+/// The same over a run of a tree: no look is taken into a part where no number can be less, and the
+/// half that is likely to have the lesser one comes first.
 pub fn least_among(
     nodes: &[Node],
     depth: u32,
@@ -74,7 +82,13 @@ pub fn least_among(
     if !may_be_less(&middle.bound, rect, so_far) {
         return so_far;
     }
-    let before = least_among(&nodes[..half], depth - 1, rect, but, so_far);
-    let with_middle = lesser(&middle.placed, rect, but, before);
-    least_among(&nodes[half + 1..], depth - 1, rect, but, with_middle)
+    let with_middle = lesser(&middle.placed, rect, but, so_far);
+    let before = &nodes[..half];
+    let behind = &nodes[half + 1..];
+    if likely_least(behind) < likely_least(before) {
+        let with_behind = least_among(behind, depth - 1, rect, but, with_middle);
+        return least_among(before, depth - 1, rect, but, with_behind);
+    }
+    let with_before = least_among(before, depth - 1, rect, but, with_middle);
+    least_among(behind, depth - 1, rect, but, with_before)
 }

@@ -7,6 +7,7 @@ mod grown;
 mod least;
 mod near;
 mod placed;
+mod sorted;
 mod tree;
 
 pub use placed::Placed;

@@ -8,6 +8,7 @@ use crate::grown::grow;
 use crate::least::least_among;
 use crate::near::push_near_of_run;
 use crate::placed::Placed;
+use crate::sorted::sort_for_depth;
 use lf_units::Rect;
 use std::alloc::{AllocError, Global};
 use std::marker::Model;
@@ -41,8 +42,8 @@ impl RTree {
         ensures { IfOk result (λ tree. IsPermutation boxes.now tree) }
     {
         let mut sorted = Vec::from_slice(alloc, boxes)?;
-        sorted.sort_unstable_by_key(|p| (p.rect.y1, p.rect.x1, p.own));
         let depth = usize::BITS - (boxes.len() / BUCKET).leading_zeros();
+        sort_for_depth(sorted.as_mut_slice(), depth);
         let mut nodes = Vec::with_capacity(alloc, boxes.len())?;
         grow(sorted.as_slice(), depth, &mut nodes)?;
         Ok(RTree { nodes, depth })

@@ -1,0 +1,31 @@
+//! The order in which boxes stand in a tree.
+
+ghost use Rattle.std.specs.Prelude.{IsPermutation};
+
+use crate::placed::Placed;
+
+/// Puts the boxes into the order for a tree of this depth: into bands from the bottom upwards, each
+/// a run of half of the depth, and in a band from left to right. So the boxes of a short run lie
+/// close together both ways.
+pub fn sort_for_depth(boxes: &mut [Placed], depth: u32)
+    ensures { IsPermutation boxes.old boxes.new }
+{
+    boxes.sort_unstable_by_key(|placed| (placed.rect.y1, placed.rect.x1, placed.own));
+    sort_bands(boxes, depth / 2);
+}
+
+/// Sorts each run that lies so deep, from left to right.
+fn sort_bands(boxes: &mut [Placed], depth: u32)
+    ensures { IsPermutation boxes.old boxes.new }
+{
+    if depth == 0 {
+        boxes.sort_unstable_by_key(|placed| (placed.rect.x1, placed.own));
+        return;
+    }
+    if boxes.is_empty() {
+        return;
+    }
+    let half = boxes.len() / 2;
+    sort_bands(&mut boxes[..half], depth - 1);
+    sort_bands(&mut boxes[half + 1..], depth - 1);
+}
