@@ -54,16 +54,16 @@ none_there boxes box (q ∷ found) near is p there shares = absurd cc
 pub clear_near : (f : Frame) (i : FrameIndex) (box : Rect) (found : List Placed) → IsIndexOf f i → AreNear i.obstacles box found → (found ≡ []) ↔ IsClear f box
 clear_near f i box found index near = (
   λ is k d within shares.
-    let r : Rect = get_or f.obstacles k d in
-    let there : Contains (obstacle_boxes f.obstacles) (numbered 0 r) = map_there (numbered 0) f.obstacles r (Contains-get_or f.obstacles k d within) in
-    none_there i.obstacles box found near is (numbered 0 r) (Contains-permutation (obstacle_boxes f.obstacles) i.obstacles (numbered 0 r) index.obstacles there) shares,
+      let r : Rect = get_or f.obstacles k d in
+      let there : Contains (obstacle_boxes f.obstacles) (numbered 0 r) = map_there (numbered 0) f.obstacles r (Contains-get_or f.obstacles k d within) in
+      none_there i.obstacles box found near is (numbered 0 r) (Contains-permutation (obstacle_boxes f.obstacles) i.obstacles (numbered 0 r) index.obstacles there) shares,
   λ clear. nothing_near i.obstacles box found near (λ k d within shares.
-    let p : Placed = get_or i.obstacles k d in
-    let there : Contains (obstacle_boxes f.obstacles) p =
-    Contains-permutation i.obstacles (obstacle_boxes f.obstacles) p (IsPermutation-sym (obstacle_boxes f.obstacles) i.obstacles index.obstacles) (Contains-get_or i.obstacles k d within) in
-    let from = of_map (numbered 0) f.obstacles p there in
-    let same : from.0 ≡ p.rect = ap (λ (q : Placed). q.rect) from.2 in
-    All-contains (λ r. SharesPoint box r → ⊥) f.obstacles from.0 clear from.1 (subst (SharesPoint box) (sym same) shares)),
+      let p : Placed = get_or i.obstacles k d in
+      let there : Contains (obstacle_boxes f.obstacles) p =
+      Contains-permutation i.obstacles (obstacle_boxes f.obstacles) p (IsPermutation-sym (obstacle_boxes f.obstacles) i.obstacles index.obstacles) (Contains-get_or i.obstacles k d within) in
+      let from = of_map (numbered 0) f.obstacles p there in
+      let same : from.0 ≡ p.rect = ap (λ (q : Placed). q.rect) from.2 in
+      All-contains (λ r. SharesPoint box r → ⊥) f.obstacles from.0 clear from.1 (subst (SharesPoint box) (sym same) shares)),
 )
 
 -- ---- fences
@@ -171,18 +171,18 @@ stays_near f i box near t team stays index found is test = (
 clear_of_fences : (f : Frame) (i : FrameIndex) (box : Rect) (near : List Placed) → IsIndexOf f i → AreNear i.fences box near → (near ≡ []) ↔ open_ground.IsClear box f.teams
 clear_of_fences f i box near index found = (
   λ is k d within j e inside shares.
-    let team : Team = get_or f.teams k d in
-    let r : Rect = get_or team.rects j e in
-    let at : slice_get f.teams k ≡ Some team = slice_get_read f.teams (length f.teams) k team refl within (get_or_default f.teams k d team within) in
-    let there : Contains i.fences (numbered k r) =
-    Contains-permutation (fence_boxes 0 f.teams) i.fences (numbered k r) index.fences (fence_listed f.teams k team r at (Contains-get_or team.rects j e inside)) in
-    none_there i.fences box near found is (numbered k r) there shares,
+      let team : Team = get_or f.teams k d in
+      let r : Rect = get_or team.rects j e in
+      let at : slice_get f.teams k ≡ Some team = slice_get_read f.teams (length f.teams) k team refl within (get_or_default f.teams k d team within) in
+      let there : Contains i.fences (numbered k r) =
+      Contains-permutation (fence_boxes 0 f.teams) i.fences (numbered k r) index.fences (fence_listed f.teams k team r at (Contains-get_or team.rects j e inside)) in
+      none_there i.fences box near found is (numbered k r) there shares,
   λ clear. nothing_near i.fences box near found (λ k d within shares.
-    let p : Placed = get_or i.fences k d in
-    let of = of_fence 0 f.teams p (Contains-permutation i.fences (fence_boxes 0 f.teams) p (IsPermutation-sym (fence_boxes 0 f.teams) i.fences index.fences) (Contains-get_or i.fences k d within)) in
-    let inside : of.place < length f.teams = slice_get_within f.teams of.place of.team of.is in
-    let rects_clear : All (λ r. SharesPoint box r → ⊥) of.team.rects = subst (λ (u : Team). All (λ r. SharesPoint box r → ⊥) u.rects) (Rattle.std.proofs.lemmas.Option.get_or_from_slice_get f.teams of.place of.team of.team of.is) (clear of.place of.team inside) in
-    All-contains (λ r. SharesPoint box r → ⊥) of.team.rects p.rect rects_clear of.there shares),
+      let p : Placed = get_or i.fences k d in
+      let of = of_fence 0 f.teams p (Contains-permutation i.fences (fence_boxes 0 f.teams) p (IsPermutation-sym (fence_boxes 0 f.teams) i.fences index.fences) (Contains-get_or i.fences k d within)) in
+      let inside : of.place < length f.teams = slice_get_within f.teams of.place of.team of.is in
+      let rects_clear : All (λ r. SharesPoint box r → ⊥) of.team.rects = subst (λ (u : Team). All (λ r. SharesPoint box r → ⊥) u.rects) (Rattle.std.proofs.lemmas.Option.get_or_from_slice_get f.teams of.place of.team of.team of.is) (clear of.place of.team inside) in
+      All-contains (λ r. SharesPoint box r → ⊥) of.team.rects p.rect rects_clear of.there shares),
 )
 
 pub open_near : (f : Frame) (i : FrameIndex) (box : Rect) (near : List Placed) (t : ℕ) → IsIndexOf f i → AreNear i.fences box near → slice_get f.teams t ≡ None → t ≡ length f.teams →

@@ -35,7 +35,13 @@ fn is_in_ground(frame: &Frame, team: usize, rect: &Rect) -> bool
 }
 
 /// Whether a cell of the macro may stand so on this bottom row.
-pub(crate) fn is_oriented(frame: &Frame, mac: &Macro, orient: Orient, height: u32, bottom: &Row) -> bool
+pub(crate) fn is_oriented(
+    frame: &Frame,
+    mac: &Macro,
+    orient: Orient,
+    height: u32,
+    bottom: &Row,
+) -> bool
     ensures { IsTrue result ↔ (IsTrue (is_allowed mac.now.symmetry orient) × (height % 2 ≡ 1 → EqualUnder frame.now.site.symmetry orient bottom.now.orient)) }
 {
     if !is_candidate(mac.symmetry, orient) {

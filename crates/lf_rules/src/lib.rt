@@ -20,8 +20,8 @@ pub use laws::{
     verdict_is_there,
 };
 pub use lf_frame::Place;
-pub use report::{Listed, Report, Violation, check_all, report_by_all_pairs, report_on};
 pub use lf_rtree::Placed;
+pub use report::{Listed, Report, Violation, check_all, check_all_pairs, report_on};
 pub use rule::{Broken, Rule};
 pub use size::box_of;
 

@@ -101,13 +101,7 @@ fn is_carried_near(
 }
 
 /// Whether rows near the box carry it over all of its height.
-fn is_standing_near(
-    frame: &Frame,
-    rect: &Rect,
-    near: &[Placed],
-    bottom: &Row,
-    height: u32,
-) -> bool
+fn is_standing_near(frame: &Frame, rect: &Rect, near: &[Placed], bottom: &Row, height: u32) -> bool
     requires solid { IsSolid rect.now }
     requires high { IsSitesHigh frame.now rect.now height }
     requires near { AreRowsNear frame.now rect.now near.now }

@@ -289,20 +289,44 @@ fn boxes_in(
 }
 
 /// The search that finds what lies near a cell without a look at all of the frame and of the cells.
-fn indexed(
-    alloc: Global,
-    frame: &Frame,
-    cells: &[Listed<&[u8]>],
-) -> Result<Search, AllocError>
+fn indexed(alloc: Global, frame: &Frame, cells: &[Listed<&[u8]>]) -> Result<Search, AllocError>
     requires listed { All (λ c. IsListed frame.now (named c)) cells.now }
     requires few { length cells.now ≤ 4000000 }
     ensures { IfOk result (λ search. IsSearchOf frame.now (map member_of (map named cells.now)) search) }
 {
     let boxes = boxes_in(alloc, frame, cells)?;
-    Ok(Search::Indexed(
-        index_of(alloc, frame)?,
-        RTree::build(alloc, &boxes)?,
-    ))
+    Ok(Search::Indexed(index_of(alloc, frame)?, RTree::build(alloc, &boxes)?))
+}
+
+/// What the rules are tested against for each cell.
+#[derive(Clone, Copy)]
+enum Against {
+    /// All rows, fences and obstacles, and all other cells.
+    All,
+    /// What lies near the cell.
+    Near,
+}
+
+/// The report of these cells, in which overlap is between any two of them.
+fn report_against(
+    alloc: Global,
+    frame: &Frame,
+    cells: &[Listed<&[u8]>],
+    against: Against,
+) -> Result<Report, AllocError>
+    requires listed { All (λ c. IsListed frame.now (named c)) cells.now }
+    requires few { length cells.now ≤ 4000000 }
+    ensures report { (l : Legalizer) → IfOk result (λ report. report ≡ report_of l frame.now (map named cells.now)) }
+    ensures legal { IfOk result (λ report. IsClean report ↔ IsFullyLegal frame.now (map standing_of (map named cells.now))) }
+    ensures told { IfOk result (λ report. All IsTold report.violations) }
+{
+    match against {
+        Against::All => report_by(alloc, frame, &Search::Plain, cells),
+        Against::Near => {
+            let search = indexed(alloc, frame, cells)?;
+            report_by(alloc, frame, &search, cells)
+        }
+    }
 }
 
 /// The report of these cells, in which overlap is between any two of them.
@@ -320,24 +344,7 @@ pub fn report_on(
     ensures legal { IfOk result (λ report. IsClean report ↔ IsFullyLegal frame.now (map standing_of (map named cells.now))) }
     ensures told { IfOk result (λ report. All IsTold report.violations) }
 {
-    let search = indexed(alloc, frame, cells)?;
-    report_by(alloc, frame, &search, cells)
-}
-
-/// The same report as `report_on`, by a comparison of each two cells, and of each cell with each row, fence and
-/// obstacle. `Err` where memory is refused.
-pub fn report_by_all_pairs(
-    alloc: Global,
-    frame: &Frame,
-    cells: &[Listed<&[u8]>],
-) -> Result<Report, AllocError>
-    requires listed { All (λ c. IsListed frame.now (named c)) cells.now }
-    requires few { length cells.now ≤ 4000000 }
-    ensures report { (l : Legalizer) → IfOk result (λ report. report ≡ report_of l frame.now (map named cells.now)) }
-    ensures legal { IfOk result (λ report. IsClean report ↔ IsFullyLegal frame.now (map standing_of (map named cells.now))) }
-    ensures told { IfOk result (λ report. All IsTold report.violations) }
-{
-    report_by(alloc, frame, &Search::Plain, cells)
+    report_against(alloc, frame, cells, Against::Near)
 }
 
 /// The cells of a design at these places.
@@ -361,10 +368,27 @@ fn listed_cells<'a>(
     Ok(listed)
 }
 
+/// The report of a design whose movable cells stand at these places.
+fn check_against(
+    alloc: Global,
+    loaded: &Loaded,
+    places: &[Option<Place>],
+    against: Against,
+) -> Result<Report, AllocError>
+    requires { length places.now ≡ length loaded.now.cells }
+    ensures report { (l : Legalizer) → IfOk result (λ report. report ≡ report_of l loaded.now.frame (listed_at loaded.now.cells places.now)) }
+    ensures legal { IfOk result (λ report. IsClean report ↔ IsFullyLegal loaded.now.frame (standing_at loaded.now.cells places.now)) }
+    ensures told { IfOk result (λ report. All IsTold report.violations) }
+{
+    cell_is_sized();
+    let cells = listed_cells(alloc, loaded.cells.as_slice(), places)?;
+    report_against(alloc, &loaded.frame, &cells, against)
+}
+
 /// The report of a design whose movable cells stand at these places, one for each cell in loading order; overlap
 /// is between cells of any teams.
 ///
-/// `Err` where memory is refused.
+/// A cell is compared only with what lies near it. `Err` where memory is refused.
 pub fn check_all(
     alloc: Global,
     loaded: &Loaded,
@@ -375,7 +399,20 @@ pub fn check_all(
     ensures legal { IfOk result (λ report. IsClean report ↔ IsFullyLegal loaded.now.frame (standing_at loaded.now.cells places.now)) }
     ensures told { IfOk result (λ report. All IsTold report.violations) }
 {
-    cell_is_sized();
-    let cells = listed_cells(alloc, loaded.cells.as_slice(), places)?;
-    report_on(alloc, &loaded.frame, &cells)
+    check_against(alloc, loaded, places, Against::Near)
+}
+
+/// The report of `check_all` by the plain search: each two cells are compared, and each cell with every row, fence
+/// and obstacle. `Err` where memory is refused.
+pub fn check_all_pairs(
+    alloc: Global,
+    loaded: &Loaded,
+    places: &[Option<Place>],
+) -> Result<Report, AllocError>
+    requires { length places.now ≡ length loaded.now.cells }
+    ensures report { (l : Legalizer) → IfOk result (λ report. report ≡ report_of l loaded.now.frame (listed_at loaded.now.cells places.now)) }
+    ensures legal { IfOk result (λ report. IsClean report ↔ IsFullyLegal loaded.now.frame (standing_at loaded.now.cells places.now)) }
+    ensures told { IfOk result (λ report. All IsTold report.violations) }
+{
+    check_against(alloc, loaded, places, Against::All)
 }

@@ -3,6 +3,7 @@ use lf_def::{W_DEF, read_def};
 use lf_frame::{Frame, Limits, Loaded, Macro, is_sized, load};
 use lf_lef::{Library, W_LEF, read_lef};
 use lf_orient::Orient;
+use lf_units::Name;
 use std::alloc::Global;
 use std::process::Abort;
 use std::test::Fail;
@@ -136,5 +137,50 @@ fn overlap_between_teams(rt: HostRuntime) -> Result<(), Fail> {
     assert_eq!(rt; (report.cells, report.unplaced), (5, 3));
     let lines: [(&[u8], Option<&[u8]>, u32); 2] = [(b"a1", Some(b"b1"), 8), (b"b1", None, 6)];
     assert!(rt; told(&report, &lines));
+    Ok(())
+}
+
+/// Whether two names of a violation are the same.
+fn is_same_name(left: &Option<Name>, right: &Option<Name>) -> bool {
+    match (left, right) {
+        (Some(left), Some(right)) => left.is_same(right),
+        (None, None) => true,
+        _ => false,
+    }
+}
+
+/// Whether two reports tell the same.
+fn tell_the_same(left: &Report, right: &Report) -> bool {
+    if left.violations.len() != right.violations.len() || left.unplaced != right.unplaced {
+        return false;
+    }
+    left.violations
+        .as_slice()
+        .iter()
+        .zip(right.violations.as_slice())
+        .all(|(one, two)| {
+            one.cell.is_same(&two.cell)
+                && one.rule.number() == two.rule.number()
+                && is_same_name(&one.other, &two.other)
+        })
+}
+
+#[test]
+fn both_searches_tell_the_same(rt: HostRuntime) -> Result<(), Fail> {
+    let design = design(rt.alloc())?;
+    assert!(rt; design.cells.len() == 5);
+    for step in 0..30i32 {
+        let along = step * 200;
+        let places = [
+            Some(Place::new(along, 0, Orient::N)),
+            Some(Place::new(4_200 - along, 2_000 * (step % 4), Orient::FS)),
+            Some(Place::new(along, 2_000, Orient::FS)),
+            Some(Place::new(along + 200, 0, Orient::N)),
+            Some(Place::new(3_000 + along, 0, Orient::S)),
+        ];
+        let near = check_all(rt.alloc(), &design, &places)?;
+        let plain = check_all_pairs(rt.alloc(), &design, &places)?;
+        assert!(rt; tell_the_same(&near, &plain));
+    }
     Ok(())
 }

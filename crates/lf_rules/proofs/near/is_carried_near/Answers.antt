@@ -13,6 +13,6 @@ returns c =
     let all : c.loop-placed.placed-index ≡ length c.args.near.now = omega arith in (
       λ t. absurd cc,
       λ carried. absurd (none_at_all (Carries c.args.frame.now c.args.rect.now c.args.bottom.now c.args.sites) c.args.frame.now c.args.rect.now c.args.near.now c.requires.near
-        (subst (NoneYet (Carries c.args.frame.now c.args.rect.now c.args.bottom.now c.args.sites) c.args.frame.now c.args.near.now) all c.loop-placed.invariant)
-        (λ r is. carrier_shares c.args.frame.now c.args.rect.now c.args.bottom.now c.args.sites c.args.height r c.requires.solid c.args.frame.now.pitch_whole.high c.requires.high c.requires.within is) carried.0 carried.1),
+          (subst (NoneYet (Carries c.args.frame.now c.args.rect.now c.args.bottom.now c.args.sites) c.args.frame.now c.args.near.now) all c.loop-placed.invariant)
+          (λ r is. carrier_shares c.args.frame.now c.args.rect.now c.args.bottom.now c.args.sites c.args.height r c.requires.solid c.args.frame.now.pitch_whole.high c.requires.high c.requires.within is) carried.0 carried.1),
     )
