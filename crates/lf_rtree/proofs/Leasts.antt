@@ -13,19 +13,23 @@ use Rattle.lf_rtree.specs.declared.bound.Bound.{Bound}
 use Rattle.lf_rtree.specs.declared.bound.Node.{Node}
 use Rattle.lf_rtree.proofs.Lists.{parted, rest_from}
 
+-- what is up to a number is up to a lesser one too
 up_to_less : (a b : Option ℕ) (n : ℕ) → IsUpTo a n → IfSome a (IsUpTo b) → IsUpTo b n
 up_to_less None b n low less = absurd low
 up_to_less (Some x) None n low less = absurd less
 up_to_less (Some x) (Some y) n low less = omega arith
 
+-- a number is no greater than itself
 up_to_itself : (a : Option ℕ) → IfSome a (IsUpTo a)
 up_to_itself None = tt
 up_to_itself (Some x) = omega arith
 
+-- no greater than what is no greater
 no_greater_along : (a b c : Option ℕ) → IfSome a (IsUpTo b) → IfSome b (IsUpTo c) → IfSome a (IsUpTo c)
 no_greater_along None b c first second = tt
 no_greater_along (Some x) b c first second = up_to_less b c x first second
 
+-- what is met of the first list, of the second and of a list in another order is met of both and of the other
 met_before : (xs ys : List Placed) (rect : Rect) (but : ℕ) (a : Option ℕ) → IsSomeAnd a (IsMet xs rect but) → IsSomeAnd a (IsMet (xs ++ ys) rect but)
 met_before xs ys rect but None m = absurd m
 met_before xs ys rect but (Some own) m = record {

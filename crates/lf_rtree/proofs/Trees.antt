@@ -71,6 +71,7 @@ grown_run depth boxes d bound old first with_one new deep within bounded before 
       boxes_are = all_boxes;
     }
 
+-- no nodes are a run of any depth
 empty_tree : (depth : ℕ) → IsTree depth []
 empty_tree zero = tt
 empty_tree (suc depth) = (λ d. All-nil (IsBound d.bound), empty_tree depth, empty_tree depth)

@@ -52,7 +52,8 @@ fn may_be_less(bound: &Bound, rect: &Rect, so_far: Option<u32>) -> bool
     rect.overlaps(&bound.rect)
 }
 
-/// A guess at the least number of a run, that of its middle node's bound.
+/// A guess at the least number of a run, that of its middle node's bound: it is right where the run
+/// is divided further, and no result rests on it.
 fn likely_least(nodes: &[Node]) -> u32 {
     nodes
         .get(nodes.len() / 2)
