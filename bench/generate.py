@@ -3,8 +3,11 @@
 
 usage: generate.py lef MACROS [SEED] > x.lef
        generate.py def COMPONENTS [FENCES] [ROWS] [SEED] > x.def    (on the macros of a LEF text of 200 macros)
+       generate.py placed COMPONENTS [FENCES] [BLOCKAGES] [SEED] > x.def    (on those of a LEF text of 200 macros and seed 1)
 
-Fences are bands of rows over the left half, and groups name their cells one by one.
+`def` throws its cells anywhere; its fences are bands of rows over the left half. `placed` is a fully legal design: fences
+are the left halves of tiles, every cell stands on its rows within its fence, or outside all, beside blockages of two
+sites. Groups name their cells one by one.
 """
 import random
 import sys
@@ -17,9 +20,16 @@ def pin(name, use, width, low, high):
             f"      RECT 0 {low} {width} {high} ;\n    END\n  END {name}\n")
 
 
+def sites_of(rng):
+    return rng.randint(2, 12)
+
+
+def rows_of(number):
+    return 2 if number % 10 == 9 else 1
+
+
 def macro(number, rng):
-    sites = rng.randint(2, 12)
-    rows = 2 if number % 10 == 9 else 1
+    sites, rows = sites_of(rng), rows_of(number)
     width = f"{sites * 0.2:.1f}"
     text = [f"MACRO M{number}\n  CLASS CORE ;\n  ORIGIN 0 0 ;\n  SIZE {width} BY {rows * 2.0:.1f} ;\n",
             "  SYMMETRY X Y ;\n  SITE core ;\n", pin("VSS", "GROUND", width, -0.1, 0.1)]
@@ -69,10 +79,97 @@ def def_(components, fences, rows, seed):
     yield "END GROUPS\nEND DESIGN\n"
 
 
+def sizes(macros, seed):
+    """The macros' sizes in sites and rows, as the LEF text of that seed has them."""
+    rng, found = random.Random(seed), []
+    for number in range(macros):
+        sites = sites_of(rng)
+        found.append((sites, rows_of(number)))
+        rng.randint(0, sites - 1), rng.randint(0, sites - 1)    # the pins
+    return found
+
+
+def tiles(fences, rows, sites):
+    """Columns of tiles, and the even number of rows of a tile: one tile for each fence at least."""
+    down = max(1, min(rows // 2, int(fences ** 0.5)))
+    return -(-fences // down), rows // down // 2 * 2
+
+
+FILLED = 0.7    # how much of the ground the cells take; the rest is gaps between them
+
+
+def standing(wanted, fences, blockages, macros, rows, sites, rng):
+    """Cells (macro, x in sites, row, fence) side by side in pairs of rows, and blockages (x, row); None where there is no room."""
+    across, high = tiles(fences, rows, sites)
+    wide = sites // across
+    cells, blocked = [], []
+    for row in range(0, rows - 1, 2):
+        for column in range(across):
+            fence = row // high * across + column
+            begin, middle, end = column * wide, column * wide + wide // 2, (column + 1) * wide
+            inside = [(begin, middle, fence), (middle, end, None)] if fence < fences else [(begin, end, None)]
+            for left, right, team in inside:
+                free = [left, left]
+                while len(cells) < wanted:
+                    if len(blocked) * wanted < blockages * (len(cells) + 1):
+                        up = rng.randrange(2)
+                        if free[up] + 2 <= right:
+                            blocked.append((free[up], row + up))
+                            free[up] += 2
+                    mac = rng.randrange(len(macros))
+                    long, tall = macros[mac]
+                    up = 0 if tall == 2 else free.index(min(free))
+                    x = max(free) if tall == 2 else free[up]
+                    if x + long > right:
+                        break
+                    if rng.random() < FILLED:
+                        cells.append((mac, x, row + up, team))
+                    free = [x + long] * 2 if tall == 2 else [x + long if k == up else free[k] for k in range(2)]
+    return (cells, blocked) if len(cells) == wanted else None
+
+
+def placed(components, fences, blockages, seed):
+    macros, area, found = sizes(200, 1), components * 10 + blockages * 2, None
+    while not found:
+        area = area * 21 // 20
+        rows = max(8, int((area / 10) ** 0.5) // 2 * 2)
+        sites = max(area // rows, 40 * tiles(fences, rows, 0)[0])
+        rng = random.Random(seed)
+        found = standing(components, fences, blockages, macros, rows, sites, rng)
+    cells, blocked = found
+    rng.shuffle(cells)
+    across, high = tiles(fences, rows, sites)
+    wide = sites // across
+    yield "VERSION 5.8 ;\nDIVIDERCHAR \"/\" ;\nBUSBITCHARS \"[]\" ;\nDESIGN bench ;\nUNITS DISTANCE MICRONS 1000 ;\n"
+    yield f"DIEAREA ( 0 0 ) ( {sites * 200} {rows * 2000} ) ;\n"
+    for row in range(rows):
+        yield f"ROW r{row} core 0 {row * 2000} {'N' if row % 2 == 0 else 'FS'} DO {sites} BY 1 STEP 200 0 ;\n"
+    yield f"REGIONS {fences} ;\n"
+    for fence in range(fences):
+        x, y = fence % across * wide * 200, fence // across * high * 2000
+        yield f"- f{fence} ( {x} {y} ) ( {x + wide // 2 * 200} {y + high * 2000} ) + TYPE FENCE ;\n"
+    yield f"END REGIONS\nCOMPONENTS {components} ;\n"
+    members = [[] for _ in range(fences)]
+    for number, (mac, x, row, team) in enumerate(cells):
+        orient = rng.choice(("N", "FN") if row % 2 == 0 else ("FS", "S"))
+        yield f"- u{number} M{mac} + SOURCE NETLIST + PLACED ( {x * 200} {row * 2000} ) {orient} ;\n"
+        if team is not None:
+            members[team].append(f"u{number}")
+    yield f"END COMPONENTS\nBLOCKAGES {len(blocked)} ;\n"
+    for x, row in blocked:
+        yield f"- PLACEMENT RECT ( {x * 200} {row * 2000} ) ( {(x + 2) * 200} {(row + 1) * 2000} ) ;\n"
+    yield f"END BLOCKAGES\nGROUPS {fences} ;\n"
+    for fence in range(fences):
+        yield f"- g{fence} {' '.join(members[fence])} + REGION f{fence} ;\n"
+    yield "END GROUPS\nEND DESIGN\n"
+
+
 def main():
     kind, numbers = sys.argv[1], [int(word) for word in sys.argv[2:]]
     if kind == "lef":
         parts = lef(numbers[0], numbers[1] if len(numbers) > 1 else 1)
+    elif kind == "placed":
+        parts = placed(*(numbers + [10, 0, 1][len(numbers) - 1:]))
     else:
         parts = def_(*(numbers + [8, 0, 1][len(numbers) - 1:]))
     for part in parts:

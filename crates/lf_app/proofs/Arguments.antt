@@ -1,5 +1,5 @@
--- What the reader of arguments makes of the words of a replay.
-use Rattle.std.proofs.Common.{◌≡◌, ◌⊎◌, inl, inr, is_some, unwrap_or, ℕ, ◌<◌, ◌≤◌, ◌-◌, take, drop, slice_index_or, arith, ◌==◌, Bool, true, false, not, ◌&&◌, List, [], ◌∷◌, ◌++◌, map, length, Option, Some, None, option_map, codes, if◌then◌else◌, nat_le, refl, sym, ap, ap₂, subst, ◌∙◌}
+-- What the reader of arguments makes of the words of the subcommands that take the paths of a design.
+use Rattle.std.proofs.Common.{◌≡◌, ◌⊎◌, inl, inr, is_some, unwrap_or, ℕ, ◌<◌, ◌≤◌, ◌-◌, take, drop, slice_index_or, arith, ◌==◌, Bool, true, false, ◌&&◌, List, [], ◌∷◌, ◌++◌, map, length, Option, Some, None, option_map, codes, if◌then◌else◌, nat_le, refl, sym, ap, ap₂, subst, ◌∙◌}
 use Rattle.std.specs.Prelude.{fold, option_to_list, ⊤}
 use Rattle.std.specs.List.{list_all}
 use Rattle.std.specs.Str.{bytes_eq}
@@ -17,8 +17,10 @@ use Rattle.clap.specs.declared.parser.matches.Found.{Found}
 use Rattle.std.specs.Borrow.{Bor}
 use Rattle.clap.proofs.WalkLemmas.{first_value-rows, raw_values-rows}
 use Rattle.clap.proofs.OnLiterals.{clap_on_literals}
-use Rattle.lf_app.specs.CommandLine.{command_line, def_row, found_paths, lef_row, replay_line}
-use Rattle.lf_app.specs.Command.{Job, is_option, job_of, paths_of}
+use Rattle.lf_app.specs.CommandLine.{command_line, def_row, design_line, found_paths, lef_row}
+use Rattle.lf_app.specs.Command.{Job, is_option, job_of, paths_of, subcommand_named, word_of}
+use Rattle.lf_app.specs.declared.command.Subcommand.{Subcommand}
+use Rattle.lf_app.specs.declared.command.Subcommand.TheVariants.{Replay, Check}
 
 -- ---- the demo
 
@@ -36,8 +38,13 @@ takes_demo name = refl
 
 -- ---- a word that is a path
 
+-- a subcommand over a design as it is built, whatever its name
+abbrev leaf : Text → Shape
+leaf sub = built_leaf (design_line sub).top
+
+-- one of them: the walk over its words does not see its name
 abbrev shape : Shape
-shape = built_leaf replay_line.top
+shape = leaf []
 
 record IsPath (word : Text) : Type 0 where
   end : bytes_eq word (codes "--") ≡ false
@@ -89,7 +96,7 @@ split : (words paths : List Text) → paths_of words ≡ Some paths → Paths wo
 split [] paths e = sym (ap (λ q. unwrap_or q []) e)
 split (word ∷ words) paths e = split_by word words paths (split words) e (bytes_eq word (codes "--")) refl (is_option word) refl (paths_of words) refl
 
--- ---- the walk over the words of a replay
+-- ---- the walk over the words
 
 abbrev start : Bool → Walk
 start trailing = record { held = nothing_held; waiting = idle; position = 1; is_trailing = trailing; stopped = None }
@@ -203,7 +210,7 @@ stays : (w : Walk) → Leads w [] w
 unfolding clap_on_literals
 stays w = record { walks = refl; passes = refl }
 
--- ---- all the words of a replay
+-- ---- all the words
 
 trail_lefs : (words : List Text) (def : Text) (lefs : List Text) → Leads (lefs_read true def lefs) words (lefs_read true def (lefs ++ words))
 trail_lefs [] def lefs = subst (λ ls. Leads (lefs_read true def lefs) [] (lefs_read true def ls)) (sym (append-nil lefs)) (stays (lefs_read true def lefs))
@@ -272,7 +279,7 @@ ends_start (word ∷ words) paths (inl (is, e)) = rw (is, e) (one_start (codes "
 ends_start (word ∷ words) paths (inr (behind, e, path, more)) = subst (λ ps. StartEnds ps (start false) (word ∷ words)) (sym e)
     (one_def word words behind word (start false) (def_read false word) (path_start word path) (turn_path word path) (ends_def words word behind more))
 
--- ---- the level of 'replay'
+-- ---- the level of a subcommand
 
 -- what is left to pass once the words are read
 abbrev closes : Walk → Bool
@@ -291,9 +298,14 @@ rows_lefs : (trailing : Bool) (def lef : Text) (lefs : List Text) → finished s
 unfolding clap_on_literals
 rows_lefs trailing def lef lefs = refl
 
-level_passes_all : (words : List Text) (w : Walk) → Leads (start false) words w → closes w ≡ true → level_passes shape [] nothing_held words false ≡ true
+same_passes : (sub : Text) (words : List Text) (w : Walk) → walk_passes (leaf sub) [] w words ≡ walk_passes shape [] w words
 unfolding clap_on_literals
-level_passes_all words w h closed = rw (h.walks, h.passes, closed) refl
+same_passes sub [] w = refl
+same_passes sub (word ∷ words) w = ap (λ (b : Bool). turn_passes shape [] w word && b) (same_passes sub words (walked shape.rules [] w word))
+
+level_passes_all : (sub : Text) (words : List Text) (w : Walk) → Leads (start false) words w → closes w ≡ true → level_passes (leaf sub) [] nothing_held words false ≡ true
+unfolding clap_on_literals
+level_passes_all sub words w h closed = rw (same_passes, h.walks, h.passes, closed) refl
 
 -- ---- the level of the program
 
@@ -303,66 +315,74 @@ top = (built command_line).top
 abbrev names : Names
 names = names_of (built command_line)
 
-abbrev stopped_at : List Text → Walk
-stopped_at words = record (start false) { stopped = Some (codes "replay", words) }
+-- the walk has stopped at a subcommand of this name, with these words behind it
+abbrev stopped_at : Text → List Text → Walk
+stopped_at sub words = record (start false) { stopped = Some (sub, words) }
 
-behind_replay : (words before : List Text) → fold (walked top.rules names) (stopped_at before) words ≡ stopped_at (before ++ words)
+walk_behind : (sub : Text) (words before : List Text) → fold (walked top.rules names) (stopped_at sub before) words ≡ stopped_at sub (before ++ words)
 unfolding clap_on_literals
-behind_replay [] before = ap stopped_at (sym (append-nil before))
-behind_replay (word ∷ words) before = behind_replay words (before ++ word ∷ []) ∙ ap stopped_at (append_assoc before (word ∷ []) words)
+walk_behind sub [] before = ap (stopped_at sub) (sym (append-nil before))
+walk_behind sub (word ∷ words) before = walk_behind sub words (before ++ word ∷ []) ∙ ap (stopped_at sub) (append_assoc before (word ∷ []) words)
 
-passes_behind : (words before : List Text) → walk_passes top names (stopped_at before) words ≡ true
+passes_behind : (sub : Text) (words before : List Text) → walk_passes top names (stopped_at sub before) words ≡ true
 unfolding clap_on_literals
-passes_behind [] before = refl
-passes_behind (word ∷ words) before = passes_behind words (before ++ word ∷ [])
+passes_behind sub [] before = refl
+passes_behind sub (word ∷ words) before = passes_behind sub words (before ++ word ∷ [])
 
-top_walk : (words : List Text) → walk top.rules names nothing_held (codes "replay" ∷ words) ≡ stopped_at words
+-- a subcommand's word is one of the program's, and what is behind it is left to the subcommand
+top_walk : (chosen : Subcommand) (words : List Text) → walk top.rules names nothing_held (word_of chosen ∷ words) ≡ stopped_at (word_of chosen) words
 unfolding clap_on_literals
-top_walk words = behind_replay words []
+top_walk Replay words = walk_behind (word_of Replay) words []
+top_walk Check words = walk_behind (word_of Check) words []
 
-top_passes : (words : List Text) → walk_passes top names (start false) (codes "replay" ∷ words) ≡ true
+top_passes : (chosen : Subcommand) (words : List Text) → walk_passes top names (start false) (word_of chosen ∷ words) ≡ true
 unfolding clap_on_literals
-top_passes words = passes_behind words []
+top_passes Replay words = passes_behind (word_of Replay) words []
+top_passes Check words = passes_behind (word_of Check) words []
 
 -- what is left to pass where the walk over the program's words has come to this
-abbrev top_closes : List Text → Walk → Bool
-top_closes words w = entered_passes (built command_line) w.stopped
-    && (walk_passes top names (start false) (codes "replay" ∷ words)
+abbrev top_closes : Text → List Text → Walk → Bool
+top_closes sub words w = entered_passes (built command_line) w.stopped
+    && (walk_passes top names (start false) (sub ∷ words)
     && (settle_passes top.rules top.args_override_self w.held && (list_all default_passes top.rules
     && is_valid top (finished top.rules w.held) (is_some (entered (built command_line) w.stopped)))))
 
-takes_is : (name : Text) (words : List Text) → takes command_line (name ∷ codes "replay" ∷ words) ≡ top_closes words (walk top.rules names nothing_held (codes "replay" ∷ words))
+takes_is : (name sub : Text) (words : List Text) → takes command_line (name ∷ sub ∷ words) ≡ top_closes sub words (walk top.rules names nothing_held (sub ∷ words))
 unfolding clap_on_literals
-takes_is name words = refl
+takes_is name sub words = refl
 
-closes_at : (words : List Text) → level_passes shape [] nothing_held words false ≡ true → top_closes words (stopped_at words) ≡ true
+closes_at : (chosen : Subcommand) (words : List Text) → level_passes (leaf (word_of chosen)) [] nothing_held words false ≡ true
+    → top_closes (word_of chosen) words (stopped_at (word_of chosen) words) ≡ true
 unfolding clap_on_literals
-closes_at words level = ap₂ (λ (a b : Bool). a && (b && true)) level (top_passes words)
+closes_at Replay words level = ap₂ (λ (a b : Bool). a && (b && true)) level (top_passes Replay words)
+closes_at Check words level = ap₂ (λ (a b : Bool). a && (b && true)) level (top_passes Check words)
 
 closed_lefs : (trailing : Bool) (def lef : Text) (lefs : List Text) → length (lef ∷ lefs) ≤ usize_max → closes (lefs_read trailing def (lef ∷ lefs)) ≡ true
 closed_lefs trailing def lef lefs few =
     closes_lefs trailing def lef lefs (le-leb (length (lef ∷ lefs)) usize_max few) (le-leb 1 (length (lef ∷ lefs)) (omega arith)) (every lefs)
 
--- a replay's words are taken
-pub takes_replay : (name def lef : Text) (words lefs : List Text) → paths_of words ≡ Some (def ∷ lef ∷ lefs) → length (lef ∷ lefs) ≤ usize_max
-    → takes command_line (name ∷ codes "replay" ∷ words) ≡ true
-takes_replay name def lef words lefs paths few =
+-- the words of a subcommand with these paths are taken
+takes_over : (chosen : Subcommand) (name def lef : Text) (words lefs : List Text) → paths_of words ≡ Some (def ∷ lef ∷ lefs) → length (lef ∷ lefs) ≤ usize_max
+    → takes command_line (name ∷ word_of chosen ∷ words) ≡ true
+takes_over chosen name def lef words lefs paths few =
     let ends = ends_start words (def ∷ lef ∷ lefs) (split words (def ∷ lef ∷ lefs) paths) in
-    takes_is name words ∙ ap (top_closes words) (top_walk words)
-    ∙ closes_at words (level_passes_all words (lefs_read ends.0 def (lef ∷ lefs)) ends.1 (closed_lefs ends.0 def lef lefs few))
+    takes_is name (word_of chosen) words ∙ ap (top_closes (word_of chosen) words) (top_walk chosen words)
+    ∙ closes_at chosen words (level_passes_all (word_of chosen) words (lefs_read ends.0 def (lef ∷ lefs)) ends.1 (closed_lefs ends.0 def lef lefs few))
 
-entered_is : (words : List Text) → entered (built command_line) (Some (codes "replay", words)) ≡ Some (codes "replay", finished shape.rules (walk shape.rules [] nothing_held words).held)
+entered_is : (chosen : Subcommand) (words : List Text)
+    → entered (built command_line) (Some (word_of chosen, words)) ≡ Some (word_of chosen, finished shape.rules (walk shape.rules [] nothing_held words).held)
 unfolding clap_on_literals
-entered_is words = refl
+entered_is Replay words = refl
+entered_is Check words = refl
 
 -- and give the paths their rows
-pub replay_rows : (name def lef : Text) (words lefs : List Text) → paths_of words ≡ Some (def ∷ lef ∷ lefs)
-    → subcommand_of command_line (name ∷ codes "replay" ∷ words) ≡ Some (codes "replay", def_row def ∷ lef_row (lef ∷ lefs) ∷ [])
-replay_rows name def lef words lefs paths =
+rows_over : (chosen : Subcommand) (name def lef : Text) (words lefs : List Text) → paths_of words ≡ Some (def ∷ lef ∷ lefs)
+    → subcommand_of command_line (name ∷ word_of chosen ∷ words) ≡ Some (word_of chosen, def_row def ∷ lef_row (lef ∷ lefs) ∷ [])
+rows_over chosen name def lef words lefs paths =
     let ends = ends_start words (def ∷ lef ∷ lefs) (split words (def ∷ lef ∷ lefs) paths) in
-    ap (λ (w : Walk). entered (built command_line) w.stopped) (top_walk words) ∙ entered_is words
-    ∙ ap (λ (w : Walk). Some (codes "replay", finished shape.rules w.held)) ends.1.walks
-    ∙ ap (λ (rows : List Row). Some (codes "replay", rows)) (rows_lefs ends.0 def lef lefs)
+    ap (λ (w : Walk). entered (built command_line) w.stopped) (top_walk chosen words) ∙ entered_is chosen words
+    ∙ ap (λ (w : Walk). Some (word_of chosen, finished shape.rules w.held)) ends.1.walks
+    ∙ ap (λ (rows : List Row). Some (word_of chosen, rows)) (rows_lefs ends.0 def lef lefs)
 
 -- these rows hold the paths
 pub rows_paths : (found : Found) (def : Text) (lefs : List Text) → rows_of found ≡ def_row def ∷ lef_row lefs ∷ [] → found_paths found ≡ def ∷ lefs
@@ -377,38 +397,53 @@ few_paths [] paths e = omega (arith, ap (λ (l : List Text). length l) e)
 few_paths (word ∷ words) paths (inl (is, e)) = omega (arith, ap (λ (l : List Text). length l) e)
 few_paths (word ∷ words) paths (inr (behind, e, path, more)) = omega (arith, ap (λ (l : List Text). length l) e, few_paths words behind more)
 
--- a replay with these paths
-pub record IsReplay (words : List Text) : Type 0 where
+-- the word of a subcommand is its own
+word_named : (word : Text) (chosen : Subcommand) → subcommand_named word ≡ Some chosen → word ≡ word_of chosen
+word_named word chosen e = by (bytes_eq word (codes "replay")) refl (bytes_eq word (codes "check")) refl
+  where
+    by : (r : Bool) → bytes_eq word (codes "replay") ≡ r → (k : Bool) → bytes_eq word (codes "check") ≡ k → word ≡ word_of chosen
+    by true is k also =
+        let same : Some Replay ≡ Some chosen = sym (rw is refl) ∙ e in
+        (bytes_eq-Decides word (codes "replay")).0 is ∙ ap (λ o. word_of (unwrap_or o Replay)) same
+    by false is true also =
+        let same : Some Check ≡ Some chosen = sym (rw (is, also) refl) ∙ e in
+        (bytes_eq-Decides word (codes "check")).0 also ∙ ap (λ o. word_of (unwrap_or o Check)) same
+    by false is false also = let same : None ≡ Some chosen = sym (rw (is, also) refl) ∙ e in absurd (false≢true (ap is_some same))
+
+-- the words of a subcommand with these paths
+pub record IsOverDesign (words : List Text) : Type 0 where
+  pub chosen : Subcommand
   pub def : Text
   pub lef : Text
   pub lefs : List Text
   pub paths : paths_of (drop 2 words) ≡ Some (def ∷ lef ∷ lefs)
-  pub rows : subcommand_of command_line words ≡ Some (codes "replay", def_row def ∷ lef_row (lef ∷ lefs) ∷ [])
+  pub rows : subcommand_of command_line words ≡ Some (word_of chosen, def_row def ∷ lef_row (lef ∷ lefs) ∷ [])
   pub takes : length words ≤ usize_max → takes command_line words ≡ true
 
-is_replay : (name word next : Text) (rest : List Text) (job : Job) → job_of (name ∷ word ∷ next ∷ rest) ≡ Some job → (b : Bool) → bytes_eq word (codes "replay") ≡ b
-    → (r : Option (List Text)) → paths_of (next ∷ rest) ≡ r → IsReplay (name ∷ word ∷ next ∷ rest)
-is_replay name word next rest job e false is r found = let same : None ≡ Some job = sym (rw is refl) ∙ e in absurd (false≢true (ap is_some same))
-is_replay name word next rest job e true is None found = let same : None ≡ Some job = sym (rw (is, found) refl) ∙ e in absurd (false≢true (ap is_some same))
-is_replay name word next rest job e true is (Some []) found = let same : None ≡ Some job = sym (rw (is, found) refl) ∙ e in absurd (false≢true (ap is_some same))
-is_replay name word next rest job e true is (Some (def ∷ [])) found = let same : None ≡ Some job = sym (rw (is, found) refl) ∙ e in absurd (false≢true (ap is_some same))
-is_replay name word next rest job e true is (Some (def ∷ lef ∷ lefs)) found =
-    let named : word ≡ codes "replay" = (bytes_eq-Decides word (codes "replay")).0 is in
+is_over : (name word next : Text) (rest : List Text) (job : Job) → job_of (name ∷ word ∷ next ∷ rest) ≡ Some job
+    → (s : Option Subcommand) → subcommand_named word ≡ s → (r : Option (List Text)) → paths_of (next ∷ rest) ≡ r → IsOverDesign (name ∷ word ∷ next ∷ rest)
+is_over name word next rest job e None is r found = let same : None ≡ Some job = sym (rw is refl) ∙ e in absurd (false≢true (ap is_some same))
+is_over name word next rest job e (Some chosen) is None found = let same : None ≡ Some job = sym (rw (is, found) refl) ∙ e in absurd (false≢true (ap is_some same))
+is_over name word next rest job e (Some chosen) is (Some []) found = let same : None ≡ Some job = sym (rw (is, found) refl) ∙ e in absurd (false≢true (ap is_some same))
+is_over name word next rest job e (Some chosen) is (Some (def ∷ [])) found = let same : None ≡ Some job = sym (rw (is, found) refl) ∙ e in absurd (false≢true (ap is_some same))
+is_over name word next rest job e (Some chosen) is (Some (def ∷ lef ∷ lefs)) found =
+    let named : word ≡ word_of chosen = word_named word chosen is in
     let few = few_paths (next ∷ rest) (def ∷ lef ∷ lefs) (split (next ∷ rest) (def ∷ lef ∷ lefs) found) in record {
+      chosen = chosen;
       def = def;
       lef = lef;
       lefs = lefs;
       paths = found;
-      rows = ap (λ (w : Text). subcommand_of command_line (name ∷ w ∷ next ∷ rest)) named ∙ replay_rows name def lef (next ∷ rest) lefs found;
-      takes = λ all. ap (λ (w : Text). takes command_line (name ∷ w ∷ next ∷ rest)) named ∙ takes_replay name def lef (next ∷ rest) lefs found (omega (arith, all, few));
+      rows = ap (λ (w : Text). subcommand_of command_line (name ∷ w ∷ next ∷ rest)) named ∙ rows_over chosen name def lef (next ∷ rest) lefs found;
+      takes = λ all. ap (λ (w : Text). takes command_line (name ∷ w ∷ next ∷ rest)) named ∙ takes_over chosen name def lef (next ∷ rest) lefs found (omega (arith, all, few));
     }
 
--- of three words or more, a job is a replay
-pub job_is_replay : (words : List Text) (job : Job) → 2 < length words → job_of words ≡ Some job → IsReplay words
-job_is_replay [] job more e = absurd (omega (arith, more))
-job_is_replay (name ∷ []) job more e = absurd (omega (arith, more))
-job_is_replay (name ∷ word ∷ []) job more e = absurd (omega (arith, more))
-job_is_replay (name ∷ word ∷ next ∷ rest) job more e = is_replay name word next rest job e (bytes_eq word (codes "replay")) refl (paths_of (next ∷ rest)) refl
+-- of three words or more, a job is that of a subcommand over a design
+job_is_over : (words : List Text) (job : Job) → 2 < length words → job_of words ≡ Some job → IsOverDesign words
+job_is_over [] job more e = absurd (omega (arith, more))
+job_is_over (name ∷ []) job more e = absurd (omega (arith, more))
+job_is_over (name ∷ word ∷ []) job more e = absurd (omega (arith, more))
+job_is_over (name ∷ word ∷ next ∷ rest) job more e = is_over name word next rest job e (subcommand_named word) refl (paths_of (next ∷ rest)) refl
 
 takes_word : (name word : Text) (job : Job) → job_of (name ∷ word ∷ []) ≡ Some job → (b : Bool) → bytes_eq word (codes "demo") ≡ b → takes command_line (name ∷ word ∷ []) ≡ true
 takes_word name word job e false is = let same : None ≡ Some job = sym (rw is refl) ∙ e in absurd (false≢true (ap is_some same))
@@ -420,7 +455,7 @@ takes_job [] job e few = takes_nothing
 takes_job (name ∷ []) job e few = takes_name name
 takes_job (name ∷ word ∷ []) job e few = takes_word name word job e (bytes_eq word (codes "demo")) refl
 takes_job (name ∷ word ∷ next ∷ rest) job e few =
-    (is_replay name word next rest job e (bytes_eq word (codes "replay")) refl (paths_of (next ∷ rest)) refl).takes few
+    (is_over name word next rest job e (subcommand_named word) refl (paths_of (next ∷ rest)) refl).takes few
 
 -- ---- what the program's words come to
 
@@ -441,37 +476,33 @@ paths_behind words =
     let all : take (length words - 2) (drop 2 words) ≡ drop 2 words = take_all (length words - 2) (drop 2 words) (omega (arith, length-drop 2 words)) in
     ap (λ (ws : List Word). paths_of (texts ws)) all ∙ ap (λ ws. paths_of ws) (sym (texts_behind words))
 
--- of three words or more, whose second is not 'replay', there is no job
-pub no_job : (words : List Word) (d : Word) (job : Job) → 2 < length words → not (bytes_eq (slice_index_or words 1 d).now (codes "replay")) ≡ true → job_of (texts words) ≡ Some job → ⊥
-no_job [] d job more differ e = omega (arith, more)
-no_job (name ∷ []) d job more differ e = omega (arith, more)
-no_job (name ∷ word ∷ []) d job more differ e = omega (arith, more)
-no_job (name ∷ word ∷ next ∷ rest) d job more differ e = by (bytes_eq word.now (codes "replay")) refl
-  where
-    by : (b : Bool) → bytes_eq word.now (codes "replay") ≡ b → ⊥
-    by true is = false≢true (sym (ap not is) ∙ differ)
-    by false is = let same : None ≡ Some job = sym (rw is refl) ∙ e in false≢true (ap is_some same)
+-- of three words or more, whose second names no subcommand, there is no job
+pub no_job : (words : List Word) (d : Word) (job : Job) → 2 < length words → subcommand_named (slice_index_or words 1 d).now ≡ None → job_of (texts words) ≡ Some job → ⊥
+no_job [] d job more none e = omega (arith, more)
+no_job (name ∷ []) d job more none e = omega (arith, more)
+no_job (name ∷ word ∷ []) d job more none e = omega (arith, more)
+no_job (name ∷ word ∷ next ∷ rest) d job more none e = let same : None ≡ Some job = sym (rw none refl) ∙ e in false≢true (ap is_some same)
 
-pub replays : (words : List Word) (job : Job) → 2 < length words → job_of (texts words) ≡ Some job → IsReplay (texts words)
-replays words job more e =
+pub designs : (words : List Word) (job : Job) → 2 < length words → job_of (texts words) ≡ Some job → IsOverDesign (texts words)
+designs words job more e =
     let many : length (texts words) ≡ length words = simp length-map in
-    job_is_replay (texts words) job (omega (arith, more, many)) e
+    job_is_over (texts words) job (omega (arith, more, many)) e
 
 is_built : is_simple command_line ≡ true
 unfolding clap_on_literals
 is_built = refl
 
-met_rows : (matches : ArgMatches) (words : List Text) (r : IsReplay words) → HasMatchesOf command_line words matches → option_map (λ p. p.1) (subcommand_rows_of matches) ≡ Some (def_row r.def ∷ lef_row (r.lef ∷ r.lefs) ∷ [])
+met_rows : (matches : ArgMatches) (words : List Text) (r : IsOverDesign words) → HasMatchesOf command_line words matches → option_map (λ p. p.1) (subcommand_rows_of matches) ≡ Some (def_row r.def ∷ lef_row (r.lef ∷ r.lefs) ∷ [])
 met_rows matches words r has = ap (option_map (λ p. p.1)) ((has is_built).1 ∙ r.rows)
 
 -- the subcommand's matches hold the paths
-pub inner_paths : (matches inner : ArgMatches) (words : List Text) (r : IsReplay words) → HasMatchesOf command_line words matches
+pub inner_paths : (matches inner : ArgMatches) (words : List Text) (r : IsOverDesign words) → HasMatchesOf command_line words matches
     → Some (rows_of (found_of inner)) ≡ option_map (λ p. p.1) (subcommand_rows_of matches) → found_paths (found_of inner) ≡ r.def ∷ r.lef ∷ r.lefs
 inner_paths matches inner words r has rows =
     rows_paths (found_of inner) r.def (r.lef ∷ r.lefs) (ap (λ (o : Option (List Row)). unwrap_or o []) (rows ∙ met_rows matches words r has))
 
 -- and there is one
-pub no_inner : (matches : ArgMatches) (words : List Text) (r : IsReplay words) → HasMatchesOf command_line words matches → None ≡ option_map (λ p. p.1) (subcommand_rows_of matches) → ⊥
+pub no_inner : (matches : ArgMatches) (words : List Text) (r : IsOverDesign words) → HasMatchesOf command_line words matches → None ≡ option_map (λ p. p.1) (subcommand_rows_of matches) → ⊥
 no_inner matches words r has rows = false≢true (ap is_some (rows ∙ met_rows matches words r has))
 
 -- words that are taken in no parse have no job

@@ -22,13 +22,15 @@ lef_rule = record (new_rule (codes "lef")) {
   action = Some Append;
 }
 
--- the subcommand 'replay'
-abbrev pub replay_line : App
-replay_line = with_rule (with_rule (new_app (codes "replay")) def_rule) lef_rule
+-- a subcommand of that name, whose words are the paths of a design
+abbrev pub design_line : List ℕ → App
+design_line name = with_rule (with_rule (new_app name) def_rule) lef_rule
 
 -- the program with its subcommands
 abbrev pub command_line : App
-command_line = with_subcommand (with_subcommand (new_app (codes "lefence")) (new_app (codes "demo")).top) replay_line.top
+command_line =
+    with_subcommand (with_subcommand (with_subcommand (new_app (codes "lefence")) (new_app (codes "demo")).top)
+    (design_line (codes "replay")).top) (design_line (codes "check")).top
 
 -- what was found of the DEF text's path
 abbrev pub def_row : List ℕ → Row

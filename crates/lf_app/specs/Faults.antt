@@ -6,7 +6,7 @@ use Rattle.lf_lex.specs.declared.fault.LoadFault.{LoadFault}
 use Rattle.lf_app.specs.declared.lines.Ending.{Ending}
 use Rattle.lf_app.specs.declared.lines.Ending.TheVariants as ending
 use Rattle.lf_app.specs.declared.faults.Fault.{Fault}
-use Rattle.lf_app.specs.declared.faults.Fault.TheVariants.{Refused, File, ReadFault, WriteFault, OutOfMemory}
+use Rattle.lf_app.specs.declared.faults.Fault.TheVariants.{Refused, File, ReadFault, WriteFault, OutOfMemory, Output}
 
 -- the number and the name of a refusal of reading or loading
 abbrev pub numbered : FaultNumber → List ℕ
@@ -56,6 +56,7 @@ fault_text File = codes "File"
 fault_text ReadFault = codes "ReadFault"
 fault_text WriteFault = codes "WriteFault"
 fault_text OutOfMemory = codes "OutOfMemory"
+fault_text Output = codes "Output"
 
 -- the line of a fault on standard error
 abbrev pub fault_line : Fault → List ℕ
@@ -76,3 +77,11 @@ ending_fault ending.OutOfMemory = Some OutOfMemory
 -- the exit statuses of tasks that were not done
 abbrev pub IsFailure : ℕ → Type 0
 IsFailure status = (status ≡ 1) ⊎ (status ≡ 3)
+
+-- the exit statuses of tasks that were done: 4 is that of a check of a design that is not fully legal
+abbrev pub IsDone : ℕ → Type 0
+IsDone status = (status ≡ 0) ⊎ (status ≡ 4)
+
+-- a report was not written: its text found no memory, or the writer failed
+abbrev pub IsReportFault : Fault → Type 0
+IsReportFault fault = (fault_text fault ≡ codes "24 OutOfMemory") ⊎ (fault ≡ Output)

@@ -1,3 +1,4 @@
+pub mod Checks
 pub mod Command
 pub mod CommandLine
 pub mod Faults

@@ -1,12 +1,12 @@
 -- The text that answers a line.
-use Rattle.std.specs.Prelude.{◌≡◌, ℕ, List, [], ◌++◌, Option, Some, None, option_and_then, unwrap_or, MatchOption}
+use Rattle.std.specs.Prelude.{◌≡◌, ◌⊎◌, ℕ, Bool, true, false, List, [], ◌++◌, Option, Some, None, option_and_then, unwrap_or, MatchOption}
 use Rattle.lf_frame.specs.declared.place.Place.{Place}
 use Rattle.lf_rules.specs.Legalizer.{Legalizer}
 use Rattle.lf_proto.specs.declared.request.Command.{Command}
 use Rattle.lf_proto.specs.declared.request.Command.TheVariants.{Bye, To}
 use Rattle.lf_proto.specs.declared.reply.Reply.{Reply}
-use Rattle.lf_proto.specs.declared.reply.Reply.TheVariants.{Refused}
-use Rattle.lf_proto.specs.declared.reply.Refusal.TheVariants.{BadRequest, Unplaced, NoPlace, Illegal}
+use Rattle.lf_proto.specs.declared.reply.Reply.TheVariants.{Report, Refused}
+use Rattle.lf_proto.specs.declared.reply.Refusal.TheVariants.{BadRequest, Unplaced, NoPlace, Illegal, OutOfMemory}
 use Rattle.lf_proto.specs.ReplyText.{reply_text}
 use Rattle.lf_proto.specs.Requests.{command_on}
 use Rattle.lf_floor.specs.States.{FloorState}
@@ -35,12 +35,28 @@ abbrev pub team_of : Command (List ℕ) Place → List ℕ
 team_of Bye = []
 team_of (To team order) = team
 
+-- the reply is a report
+abbrev pub is_report : Reply → Bool
+is_report (Report text) = true
+is_report _ = false
+
+-- what is told of a reply: the reply, or OutOfMemory in the place of a report
+abbrev pub StandsIn : Reply → Reply → Type 0
+StandsIn reply told = (told ≡ reply) ⊎ ((is_report reply ≡ true) × (told ≡ Refused OutOfMemory))
+
+-- the text of what is told of the reply is put behind the others
+pub record Tells (floor : FloorState) (team : List ℕ) (reply : Reply) (before after : List ℕ) : Type 0 where
+  pub told : Reply
+  pub stands_in : StandsIn reply told
+  pub text : after ≡ before ++ text_of floor team told
+
 -- a line that is no request is answered by that refusal, and nothing is changed
 pub record RefusesLine (old : FloorState) (before after : List ℕ) (new : FloorState) : Type 0 where
   pub text : after ≡ before ++ reply_text (Refused BadRequest) [] []
   pub kept : new ≡ old
 
--- a request is one step of the floor, and its reply's text is put behind the others
+-- a request is one step of the floor, and its reply's text is put behind the others; a step of which OutOfMemory is told
+-- leaves the floor as it was
 pub record StepsOn (l : Legalizer) (old : FloorState) (command : Command (List ℕ) Place) (before after : List ℕ) (new : FloorState) : Type 0 where
   pub reply : Reply
   pub step : Step l old command reply new

@@ -6,8 +6,8 @@ ghost use Rattle.clap.specs.Simple.{HasMatchesOf, app_of};
 ghost use Rattle.clap.specs.Walk.{rule_of};
 ghost use Rattle.clap.specs.declared.builder.command.Command.TheViews.{out-Command};
 ghost use Rattle.lf_app.specs.declared.command.UsageFault.TheVariants.{Usage, OutOfMemory};
-ghost use Rattle.lf_app.specs.CommandLine.{command_line, def_rule, found_paths, lef_rule, replay_line};
-ghost use Rattle.lf_app.specs.Command.{Job, as_job, is_option, job_of, paths_of, replay_of};
+ghost use Rattle.lf_app.specs.CommandLine.{command_line, def_rule, design_line, found_paths, lef_rule};
+ghost use Rattle.lf_app.specs.Command.{Job, as_job, is_option, job_of, job_on, job_over, paths_of, subcommand_named};
 
 use clap::error::ErrorKind;
 use clap::{Arg, ArgAction, ArgMatches, Command};
@@ -25,6 +25,18 @@ pub enum Task<'a> {
         def: &'a str,
         lefs: Sequence<&'a str>,
     },
+    /// Reports on the design of a DEF text and of LEF texts, given by paths.
+    Check {
+        def: &'a str,
+        lefs: Sequence<&'a str>,
+    },
+}
+
+/// A subcommand whose words are the paths of a design.
+#[derive(Clone, Copy)]
+enum Subcommand {
+    Replay,
+    Check,
 }
 
 /// Why the words name no task.
@@ -57,12 +69,12 @@ fn lef_paths<'a>(alloc: Global) -> Arg<'a>
         .action(ArgAction::Append)
 }
 
-/// The subcommand `replay`.
-fn replay<'a>(alloc: Global) -> Result<Command<'a>, AllocError>
-    ensures line { IfOk result (λ made. app_of made ≡ replay_line) }
+/// A subcommand of that name, whose words are the paths of a design.
+fn over_design<'a>(alloc: Global, name: &'a str) -> Result<Command<'a>, AllocError>
+    ensures line { IfOk result (λ made. app_of made ≡ design_line name.now) }
     ensures local { IfOk result (λ made. (out-Command made).has_globals ≡ false) }
 {
-    Command::new(alloc, "replay")
+    Command::new(alloc, name)
         .arg(def_path(alloc))?
         .arg(lef_paths(alloc))
 }
@@ -73,7 +85,19 @@ fn command<'a>(alloc: Global) -> Result<Command<'a>, AllocError>
 {
     Command::new(alloc, "lefence")
         .subcommand(Command::new(alloc, "demo"))?
-        .subcommand(replay(alloc)?)
+        .subcommand(over_design(alloc, "replay")?)?
+        .subcommand(over_design(alloc, "check")?)
+}
+
+/// The subcommand of that word.
+fn subcommand_named(word: &str) -> Option<Subcommand>
+    ensures { result ≡ subcommand_named word.now }
+{
+    match word {
+        "replay" => Some(Subcommand::Replay),
+        "check" => Some(Subcommand::Check),
+        _ => None,
+    }
 }
 
 /// Whether the word begins with '-' and goes on.
@@ -128,13 +152,24 @@ fn paths_in<'a>(alloc: Global, matches: &ArgMatches<'a>) -> Result<Vec<&'a str>,
     Ok(paths)
 }
 
-/// The replay of these words, as `clap` has read them: its answer is tested against the words.
-fn replay_of<'a>(
+/// The task of a subcommand on these paths.
+fn task_on<'a>(subcommand: Subcommand, def: &'a str, lefs: Sequence<&'a str>) -> Task<'a>
+    ensures { as_job result ≡ job_on subcommand def.now (map (λ lef. lef.now) lefs.entry) }
+{
+    match subcommand {
+        Subcommand::Replay => Task::Replay { def, lefs },
+        Subcommand::Check => Task::Check { def, lefs },
+    }
+}
+
+/// The task of a subcommand with these words, as `clap` has read them: its answer is tested against the words.
+fn task_over<'a>(
     alloc: Global,
+    subcommand: Subcommand,
     words: &[&str],
     matches: &ArgMatches<'a>,
 ) -> Result<Task<'a>, UsageFault>
-    ensures ok { IfOk result (λ task. option_and_then replay_of (paths_of (map (λ word. word.now) words.now)) ≡ Some (as_job task)) }
+    ensures ok { IfOk result (λ task. option_and_then (job_over subcommand) (paths_of (map (λ word. word.now) words.now)) ≡ Some (as_job task)) }
     ensures err { (def lef : List ℕ) (lefs : List (List ℕ)) → paths_of (map (λ word. word.now) words.now) ≡ Some (def ∷ lef ∷ lefs)
         → found_paths (found_of matches.now) ≡ def ∷ lef ∷ lefs → IfErr result (λ fault. fault ≡ OutOfMemory) }
 {
@@ -151,10 +186,7 @@ fn replay_of<'a>(
         return Err(UsageFault::Usage);
     }
     match Vec::from_slice(alloc, lefs) {
-        Ok(lefs) => Ok(Task::Replay {
-            def: *def,
-            lefs: Sequence::from_vec(lefs),
-        }),
+        Ok(lefs) => Ok(task_on(subcommand, *def, Sequence::from_vec(lefs))),
         Err(_) => Err(UsageFault::OutOfMemory),
     }
 }
@@ -178,11 +210,11 @@ fn task_of<'a>(
         }
         return Err(UsageFault::Usage);
     }
-    if words[1] != "replay" {
+    let Some(subcommand) = subcommand_named(words[1]) else {
         return Err(UsageFault::Usage);
-    }
+    };
     match matches.subcommand() {
-        Some((_, inner)) => replay_of(alloc, &words[2..], inner),
+        Some((_, inner)) => task_over(alloc, subcommand, &words[2..], inner),
         None => Err(UsageFault::Usage),
     }
 }

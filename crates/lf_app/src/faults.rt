@@ -23,6 +23,8 @@ pub enum Fault<'a> {
     WriteFault,
     /// There was no memory for the lines.
     OutOfMemory,
+    /// A report could not be written.
+    Output,
 }
 
 /// The number and the name of a refusal of reading or loading.
@@ -99,6 +101,7 @@ fn put_fault<W: Write>(writer: &mut W, fault: &Fault<'_>) -> io::Result<()>
         Fault::ReadFault => writer.write_all(b"ReadFault"),
         Fault::WriteFault => writer.write_all(b"WriteFault"),
         Fault::OutOfMemory => writer.write_all(b"OutOfMemory"),
+        Fault::Output => writer.write_all(b"Output"),
     }
 }
 

@@ -4,6 +4,7 @@
 mod command;
 mod faults;
 mod lines;
+mod reports;
 mod tasks;
 
 pub use command::{Task, UsageFault, command_of};

@@ -1,9 +1,9 @@
 //! The loop that answers lines: one reply to each line, in order.
 
-ghost use Rattle.std.specs.Prelude.{◌≡◌, ◌++◌, OnOk, option_map};
+ghost use Rattle.std.specs.Prelude.{◌≡◌, ◌++◌, OnErr, OnOk, option_map};
 ghost use Rattle.lf_rules.specs.Legalizer.{Legalizer};
 ghost use Rattle.lf_proto.specs.Commands.{command_of};
-ghost use Rattle.lf_app.specs.Lines.{cells_in, name_in, text_of, team_of, AnswersLine};
+ghost use Rattle.lf_app.specs.Lines.{AnswersLine, Tells, cells_in, is_report, name_in, team_of, text_of};
 
 use lf_floor::Floor;
 use lf_proto::{Command, Got, LineFramer, Refusal, Reply, Request, parse_line, reply_text};
@@ -55,7 +55,8 @@ fn put_reply(
     reply: &Reply,
     text: &mut Vec<u8>,
 ) -> Result<(), AllocError>
-    ensures { OnOk result (text.new.items ≡ text.old.items ++ text_of floor.now team.now reply.now) }
+    ensures ok { OnOk result (text.new.items ≡ text.old.items ++ text_of floor.now team.now reply.now) }
+    ensures err { OnErr result (text.new.items ≡ text.old.items) }
 {
     let (cell, other) = cells_in(reply);
     reply_text(
@@ -64,6 +65,26 @@ fn put_reply(
         name_in(floor, team, other),
         text,
     )
+}
+
+/// Whether the reply is a report.
+fn is_report(reply: &Reply) -> bool
+    ensures { result ≡ is_report reply.now }
+{
+    matches!(reply, Reply::Report(_))
+}
+
+/// Puts the text of a reply behind the others; a report that finds no memory is answered by that refusal, for which
+/// the buffer has room.
+fn put_told(floor: &Floor, team: &[u8], reply: &Reply, text: &mut Vec<u8>) -> Result<(), AllocError>
+    ensures { OnOk result (Tells floor.now team.now reply.now text.old.items text.new.items) }
+{
+    match put_reply(floor, team, reply, text) {
+        Err(_) if is_report(reply) => {
+            put_reply(floor, team, &Reply::Refused(Refusal::OutOfMemory), text)
+        }
+        put => put,
+    }
 }
 
 /// The team that a request is to; `bye` is to none.
@@ -86,7 +107,7 @@ fn answer_line(floor: &mut Floor, line: Option<&[u8]>, text: &mut Vec<u8>) -> Re
     match parse_line(bytes) {
         Ok(request) => {
             let reply = floor.step(&request);
-            put_reply(floor, team_of(&request), &reply, text)
+            put_told(floor, team_of(&request), &reply, text)
         }
         Err(_) => put_reply(floor, b"", &Reply::Refused(Refusal::BadRequest), text),
     }

@@ -1,14 +1,19 @@
 //! What the program does for a task.
 
 ghost use Rattle.std.specs.Prelude.{◌≡◌, ◌⊎◌, OnOk, IfErr};
-ghost use Rattle.lf_app.specs.Faults.{status_of, IsFailure};
+ghost use Rattle.std.specs.Io.KnownBytes.{Appends};
+ghost use Rattle.lf_rules.specs.Legalizer.{Legalizer};
+ghost use Rattle.lf_app.specs.Checks.{IsLegalDesign, report_line};
+ghost use Rattle.lf_app.specs.Command.{IsCheck};
+ghost use Rattle.lf_app.specs.Faults.{IsDone, IsFailure, status_of};
 
 use crate::command::Task;
 use crate::faults::{Fault, ending_fault, file_fault, memory_fault, status_of, write_fault};
 use crate::lines::answer_lines;
+use crate::reports::report_design;
 use lf_def::{W_DEF, read_def};
 use lf_floor::Floor;
-use lf_frame::{Limits, load};
+use lf_frame::{Limits, Loaded, load};
 use lf_lef::{Library, W_LEF, read_lef};
 use std::alloc::Global;
 use std::fs;
@@ -17,6 +22,9 @@ use std::rt::Files;
 
 /// The exit status of a task that was done.
 const DONE: u8 = 0;
+
+/// The exit status of a check that was done, of a design that is not fully legal.
+const ILLEGAL: u8 = 4;
 
 /// Tells a fault and gives its exit status; that it cannot be written is no further fault.
 fn tell<F: Write>(faults: &mut F, fault: &Fault<'_>) -> u8
@@ -37,13 +45,13 @@ fn add_lef<F: Write>(library: &mut Library, text: &[u8], faults: &mut F) -> Resu
     }
 }
 
-/// The floor of the design of a DEF text over the library.
-fn open_floor<F: Write>(
+/// The design of a DEF text over the library.
+fn load_def<F: Write>(
     alloc: Global,
     library: &Library,
     text: &[u8],
     faults: &mut F,
-) -> Result<Floor, u8>
+) -> Result<Loaded, u8>
     ensures ok { OnOk result (faults.new ≡ faults.old) }
     ensures err { IfErr result IsFailure }
 {
@@ -51,24 +59,20 @@ fn open_floor<F: Write>(
         Ok(document) => document,
         Err(fault) => return Err(tell(faults, &Fault::Refused(fault))),
     };
-    let loaded = match load(alloc, library, &document, Limits::standard()) {
-        Ok(loaded) => loaded,
-        Err(fault) => return Err(tell(faults, &Fault::Refused(fault))),
-    };
-    match Floor::start(alloc, loaded) {
-        Ok(floor) => Ok(floor),
-        Err(_) => Err(tell(faults, &memory_fault())),
+    match load(alloc, library, &document, Limits::standard()) {
+        Ok(loaded) => Ok(loaded),
+        Err(fault) => Err(tell(faults, &Fault::Refused(fault))),
     }
 }
 
-/// The floor of the design that the program holds.
-fn demo_floor<F: Write>(alloc: Global, faults: &mut F) -> Result<Floor, u8>
+/// The design that the program holds.
+fn demo_design<F: Write>(alloc: Global, faults: &mut F) -> Result<Loaded, u8>
     ensures ok { OnOk result (faults.new ≡ faults.old) }
     ensures err { IfErr result IsFailure }
 {
     let mut library = Library::new(alloc);
     add_lef(&mut library, W_LEF, faults)?;
-    open_floor(alloc, &library, W_DEF, faults)
+    load_def(alloc, &library, W_DEF, faults)
 }
 
 /// The bytes of a file.
@@ -103,46 +107,26 @@ fn read_lefs<T: Files + AllocGlobal, F: Write>(
     Ok(())
 }
 
-/// The floor of the design of a DEF text and of LEF texts, given by paths.
-fn replay_floor<T: Files + AllocGlobal, F: Write>(
+/// The design of a DEF text and of LEF texts, given by paths.
+fn read_design<T: Files + AllocGlobal, F: Write>(
     rt: &T,
     def: &str,
     lefs: &[&str],
     faults: &mut F,
-) -> Result<Floor, u8>
+) -> Result<Loaded, u8>
     ensures ok { OnOk result (faults.new ≡ faults.old) }
     ensures err { IfErr result IsFailure }
 {
     let mut library = Library::new(rt.alloc());
     read_lefs(rt, &mut library, lefs, faults)?;
     let text = read_file(rt, def, faults)?;
-    open_floor(rt.alloc(), &library, &text, faults)
+    load_def(rt.alloc(), &library, &text, faults)
 }
 
-/// The floor of the task's design.
-fn task_floor<T: Files + AllocGlobal, F: Write>(
-    rt: &T,
-    task: &Task<'_>,
-    faults: &mut F,
-) -> Result<Floor, u8>
-    ensures ok { OnOk result (faults.new ≡ faults.old) }
-    ensures err { IfErr result IsFailure }
-{
-    match task {
-        Task::Demo => demo_floor(rt.alloc(), faults),
-        Task::Replay { def, lefs } => replay_floor(rt, def, lefs.as_slice(), faults),
-    }
-}
-
-/// Does the task and gives the exit status: 0 where it is done, 1 where a text or the design was refused, or
-/// memory was before the first line, 3 where a file, the reader or the writer failed, or memory for the lines was
-/// refused. A fault is written to `faults` as a line of its own.
-///
-/// The LEF files are read in the order of the words, then the DEF file, then the design is loaded, up to the first
-/// fault; only then is the first line read.
-pub fn perform<T: Files + AllocGlobal, R: Read, W: Write, F: Write>(
-    rt: &T,
-    task: &Task<'_>,
+/// Answers the lines of the reader over the design, and gives the exit status.
+fn answer_over<R: Read, W: Write, F: Write>(
+    alloc: Global,
+    loaded: Loaded,
     reader: &mut R,
     writer: &mut W,
     faults: &mut F,
@@ -150,12 +134,70 @@ pub fn perform<T: Files + AllocGlobal, R: Read, W: Write, F: Write>(
     ensures status { (result ≡ 0) ⊎ IsFailure result }
     ensures done { result ≡ 0 → faults.new ≡ faults.old }
 {
-    let mut floor = match task_floor(rt, task, faults) {
-        Ok(floor) => floor,
-        Err(status) => return status,
+    let Ok(mut floor) = Floor::start(alloc, loaded) else {
+        return tell(faults, &memory_fault());
     };
-    match ending_fault(answer_lines(rt.alloc(), &mut floor, reader, writer)) {
+    match ending_fault(answer_lines(alloc, &mut floor, reader, writer)) {
         Some(fault) => tell(faults, &fault),
         None => DONE,
+    }
+}
+
+/// Writes the report of the design, and gives the exit status.
+fn check_design<W: Write, F: Write>(
+    alloc: Global,
+    loaded: &Loaded,
+    writer: &mut W,
+    faults: &mut F,
+) -> u8
+    ensures status { IsDone result ⊎ IsFailure result }
+    ensures done { IsDone result → faults.new ≡ faults.old }
+    ensures text { (l : Legalizer) → IsDone result → Appends (W.contents writer.old) (W.contents writer.new) (report_line l loaded.now) }
+    ensures legal { result ≡ 0 → IsLegalDesign loaded.now }
+    ensures illegal { result ≡ 4 → ¬ IsLegalDesign loaded.now }
+{
+    match report_design(alloc, loaded, writer) {
+        Ok(true) => DONE,
+        Ok(false) => ILLEGAL,
+        Err(fault) => tell(faults, &fault),
+    }
+}
+
+/// Does the task and gives the exit status: 0 where it is done, 1 where a text or the design was refused, or memory
+/// was before the first line or for the report, 3 where a file, the reader or the writer failed, or memory for the
+/// lines was refused; 4 where a check is done and the design is not fully legal. A fault is written to `faults` as
+/// a line of its own.
+///
+/// The LEF files are read in the order of the words, then the DEF file, then the design is loaded, up to the first
+/// fault; only then is the first line read, or the report made. A check reads no line.
+pub fn perform<T: Files + AllocGlobal, R: Read, W: Write, F: Write>(
+    rt: &T,
+    task: &Task<'_>,
+    reader: &mut R,
+    writer: &mut W,
+    faults: &mut F,
+) -> u8
+    ensures status { IsDone result ⊎ IsFailure result }
+    ensures done { IsDone result → faults.new ≡ faults.old }
+    ensures checked { result ≡ 4 → IsCheck task.now }
+    ensures unread { IsCheck task.now → reader.new ≡ reader.old }
+{
+    let alloc = rt.alloc();
+    let design = match task {
+        Task::Demo => demo_design(alloc, faults),
+        Task::Replay { def, lefs } | Task::Check { def, lefs } => read_design(
+            rt,
+            def,
+            lefs.as_slice(),
+            faults,
+        ),
+    };
+    let loaded = match design {
+        Ok(loaded) => loaded,
+        Err(status) => return status,
+    };
+    match task {
+        Task::Check { .. } => check_design(alloc, &loaded, writer, faults),
+        _ => answer_over(alloc, loaded, reader, writer, faults),
     }
 }

@@ -190,12 +190,26 @@ fn with_line(
     Ok(new)
 }
 
-/// What a replay of `w.def` and the LEF files does: its exit status, what it writes and what it tells of faults.
+/// What a task does: its exit status, what it writes and what it tells of faults.
 #[derive(Drop)]
 struct Run {
     status: u8,
     written: Vec<u8>,
     faults: Vec<u8>,
+}
+
+/// Does the task over the files on the shelf.
+fn done(alloc: Global, files: &[(&str, Option<&[u8]>)], task: &Task<'_>, input: &str) -> Run {
+    let shelf = Shelf { alloc, files };
+    let mut reader = input.as_bytes();
+    let mut written = Vec::new(alloc);
+    let mut faults = Vec::new(alloc);
+    let status = perform(&shelf, task, &mut reader, &mut written, &mut faults);
+    Run {
+        status,
+        written,
+        faults,
+    }
 }
 
 /// Replays `w.def` over the LEF files of these paths, of the files on the shelf.
@@ -205,20 +219,33 @@ fn replayed(
     lefs: &[&str],
     input: &str,
 ) -> Result<Run, AllocError> {
-    let shelf = Shelf { alloc, files };
     let task = Task::Replay {
         def: "w.def",
         lefs: Sequence::from_vec(Vec::from_slice(alloc, lefs)?),
     };
-    let mut reader = input.as_bytes();
-    let mut written = Vec::new(alloc);
-    let mut faults = Vec::new(alloc);
-    let status = perform(&shelf, &task, &mut reader, &mut written, &mut faults);
-    Ok(Run {
-        status,
-        written,
-        faults,
+    Ok(done(alloc, files, &task, input))
+}
+
+/// The check of `w.def` over `w.lef`.
+fn check_of_w<'a>(alloc: Global) -> Result<Task<'a>, AllocError> {
+    let mut lefs = Vec::new(alloc);
+    lefs.push("w.lef")?;
+    Ok(Task::Check {
+        def: "w.def",
+        lefs: Sequence::from_vec(lefs),
     })
+}
+
+/// Checks this DEF text over the sample LEF text.
+fn checked(alloc: Global, def: &[u8]) -> Result<Run, AllocError> {
+    let files = [("w.lef", Some(W_LEF)), ("w.def", Some(def))];
+    Ok(done(alloc, files.as_slice(), &check_of_w(alloc)?, "open A\n"))
+}
+
+/// Whether the check of this DEF text ends with this status and writes this report.
+fn reports(alloc: Global, def: &[u8], status: u8, report: &str) -> Result<bool, AllocError> {
+    let run = checked(alloc, def)?;
+    Ok(run.status == status && run.faults.is_empty() && run.written.as_slice() == report.as_bytes())
 }
 
 /// Whether a replay over these files ends with this status and this line of a fault, and writes nothing.
@@ -311,6 +338,79 @@ fn a_file_that_cannot_be_read_is_a_fault(rt: HostRuntime) -> Result<(), Fail> {
     Ok(())
 }
 
+/// The sample DEF text with a legal place for each cell but the second, whose entry is this.
+fn placed(alloc: Global, second: &[u8]) -> Result<Vec<u8>, AllocError> {
+    let text = with_line(alloc, W_DEF, 15, b"- a1 INV + PLACED ( 0 0 ) N ;")?;
+    let text = with_line(alloc, &text, 16, second)?;
+    let text = with_line(alloc, &text, 17, b"- a3 DBL + PLACED ( 800 0 ) N ;")?;
+    let text = with_line(alloc, &text, 18, b"- b1 INV + PLACED ( 6000 0 ) N ;")?;
+    with_line(alloc, &text, 19, b"- g1 INV + PLACED ( 4400 0 ) N ;")
+}
+
+#[test]
+fn a_design_is_checked(rt: HostRuntime) -> Result<(), Fail> {
+    let report = "{\"cells\":5,\"unplaced\":5,\"violations\":[]}\n";
+    assert!(rt; reports(rt.alloc(), W_DEF, 4, report)?);
+    let def = placed(rt.alloc(), b"- a2 INV + PLACED ( 400 0 ) N ;")?;
+    let report = "{\"cells\":5,\"unplaced\":0,\"violations\":[]}\n";
+    assert!(rt; reports(rt.alloc(), &def, 0, report)?);
+    let def = placed(rt.alloc(), b"- a2 INV + PLACED ( 200 0 ) N ;")?;
+    let report = "{\"cells\":5,\"unplaced\":0,\"violations\":\
+        [{\"cell\":\"a1\",\"other\":\"a2\",\"rule\":8},{\"cell\":\"a2\",\"other\":\"a1\",\"rule\":8}]}\n";
+    assert!(rt; reports(rt.alloc(), &def, 4, report)?);
+    Ok(())
+}
+
+#[test]
+fn a_check_that_cannot_be_made_is_a_fault(rt: HostRuntime) -> Result<(), Fail> {
+    let fence = b"- B ( 3999 0 ) ( 10000 8000 ) + TYPE FENCE ;";
+    let def = with_line(rt.alloc(), W_DEF, 12, fence)?;
+    let run = checked(rt.alloc(), &def)?;
+    assert_eq!(rt; (run.status, run.written.is_empty()), (1, true));
+    assert_eq!(rt;
+        run.faults.as_slice(),
+        b"lefence: 21 FencesOverlap B\n".as_slice()
+    );
+    let files = [("w.lef", Some(W_LEF))];
+    let run = done(rt.alloc(), files.as_slice(), &check_of_w(rt.alloc())?, "");
+    assert_eq!(rt; (run.status, run.written.is_empty()), (3, true));
+    assert_eq!(rt; run.faults.as_slice(), b"lefence: File\n".as_slice());
+    Ok(())
+}
+
+/// A device that takes every byte and cannot be flushed.
+#[derive(Drop)]
+struct Unflushed;
+
+impl Write for Unflushed {
+    fn write(&mut self, bytes: &[u8]) -> io::Result<usize> {
+        Ok(bytes.len())
+    }
+
+    fn flush(&mut self) -> io::Result<()> {
+        Err(io::Error::from(io::ErrorKind::Other))
+    }
+}
+
+#[test]
+fn a_report_that_cannot_be_written_is_a_fault(rt: HostRuntime) -> Result<(), Fail> {
+    let files = [("w.lef", Some(W_LEF)), ("w.def", Some(W_DEF))];
+    let shelf = Shelf {
+        alloc: rt.alloc(),
+        files: files.as_slice(),
+    };
+    let task = check_of_w(rt.alloc())?;
+    let mut faults = Vec::new(rt.alloc());
+    let status = perform(&shelf, &task, &mut Failing, &mut Failing, &mut faults);
+    assert_eq!(rt; status, 3);
+    assert_eq!(rt; faults.as_slice(), b"lefence: Output\n".as_slice());
+    let mut faults = Vec::new(rt.alloc());
+    let status = perform(&shelf, &task, &mut Failing, &mut Unflushed, &mut faults);
+    assert_eq!(rt; status, 3);
+    assert_eq!(rt; faults.as_slice(), b"lefence: Output\n".as_slice());
+    Ok(())
+}
+
 /// Whether the words are refused.
 fn is_usage(alloc: Global, words: &[&str]) -> bool {
     matches!(command_of(alloc, words), Err(UsageFault::Usage))
@@ -349,6 +449,17 @@ fn words_name_a_replay(rt: HostRuntime) -> Result<(), Fail> {
 }
 
 #[test]
+fn words_name_a_check(rt: HostRuntime) -> Result<(), Fail> {
+    let words = ["lefence", "check", "x.def", "x.lef"];
+    let Ok(Task::Check { def, lefs }) = command_of(rt.alloc(), words.as_slice()) else {
+        return Err(Fail::from("no check"));
+    };
+    assert!(rt; def == "x.def");
+    assert!(rt; lefs.as_slice() == ["x.lef"].as_slice());
+    Ok(())
+}
+
+#[test]
 fn paths_may_begin_with_a_hyphen_behind_two(rt: HostRuntime) -> Result<(), Fail> {
     let words = ["lefence", "replay", "--", "-w.def", "--"];
     let Ok(Task::Replay { def, lefs }) = command_of(rt.alloc(), words.as_slice()) else {
@@ -368,7 +479,9 @@ fn other_words_are_refused(rt: HostRuntime) {
         ["lefence", "--help"].as_slice(),
         ["lefence", "-V"].as_slice(),
         ["lefence", "--version"].as_slice(),
-        ["lefence", "check", "w.def", "w.lef"].as_slice(),
+        ["lefence", "check"].as_slice(),
+        ["lefence", "check", "x.def"].as_slice(),
+        ["lefence", "check", "x.def", "x.lef", "--export"].as_slice(),
         ["lefence", "serve", "w.def", "w.lef"].as_slice(),
         ["lefence", "replay"].as_slice(),
         ["lefence", "replay", "w.def"].as_slice(),

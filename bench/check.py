@@ -1,0 +1,55 @@
+#!/usr/bin/env python3
+"""Checks fully legal designs of growing size by the proved program, and prints seconds, peak memory and how they grow.
+
+usage: bench/check.py [COUNT...]    (10000 100000 1000000 components; from the top; the program crates/lefence is proved and
+                                     built first: rt run there)
+
+`check` is all that `lefence check` does: reading both texts, loading, and the report; `replay` is `lefence replay` without
+a line, which is the same without the report and with the start of the floor. Every cell is placed within its fence, so
+that the report of a design has no violation.
+"""
+import os
+import subprocess
+import sys
+import tempfile
+import time
+
+from load import LEFENCE, write
+
+DESIGNS = ((10, 0), (500, 10_000))
+
+
+def run(task, lef, def_):
+    """Seconds of the subcommand, its peak memory in bytes, and what it wrote."""
+    start = time.perf_counter()
+    child = subprocess.Popen([LEFENCE, task, def_, lef], stdin=subprocess.DEVNULL, stdout=subprocess.PIPE)
+    out = child.stdout.read()
+    _, status, usage = os.wait4(child.pid, 0)
+    if status != 0:
+        sys.exit(f"{task}: status {os.waitstatus_to_exitcode(status)}: {out[:200].decode()}")
+    return time.perf_counter() - start, usage.ru_maxrss * 1024, out.decode()
+
+
+def main():
+    counts = [int(word) for word in sys.argv[1:]] or [10_000, 100_000, 1_000_000]
+    if not os.access(LEFENCE, os.X_OK):
+        sys.exit("build it first: (cd crates/lefence && rt run)")
+    print(f"{'fences':>7} {'obstacles':>10} {'components':>11} {'check s':>9} {'times':>6} {'peak MB':>8} {'times':>6} {'replay s':>9} {'times':>6}")
+    with tempfile.TemporaryDirectory() as folder:
+        lef, def_ = os.path.join(folder, "x.lef"), os.path.join(folder, "x.def")
+        write(lef, "lef", 200)
+        for fences, obstacles in DESIGNS:
+            before = None
+            for count in counts:
+                write(def_, "placed", count, fences, obstacles)
+                seconds, peak, told = run("check", lef, def_)
+                if told != f'{{"cells":{count},"unplaced":0,"violations":[]}}\n':
+                    sys.exit(f"check: {told[:200]}")
+                now = seconds, peak, run("replay", lef, def_)[0]
+                grown = [f"{new / old:.1f}" for new, old in zip(now, before)] if before else ["", "", ""]
+                print(f"{fences:>7} {obstacles:>10} {count:>11} {seconds:9.3f} {grown[0]:>6} {peak / 1e6:8.1f} {grown[1]:>6} {now[2]:9.3f} {grown[2]:>6}", flush=True)
+                before = now
+
+
+if __name__ == "__main__":
+    main()

@@ -1,0 +1,101 @@
+-- A report changes nothing, so that OutOfMemory may be told in its place.
+use Rattle.std.proofs.Common.{◌≡◌, ◌∙◌, ℕ, List, ◌++◌, Option, Some, None, Bool, true, false, refl, sym, ap, subst, inl, inr}
+use Rattle.std.specs.Prelude.{MatchBool, MatchOption, OnOk, Result, option_and_then, slice_get, slice_set}
+use Rattle.std.proofs.lemmas.Bool.{false≢true}
+use Rattle.std.proofs.lemmas.List.{set-get_or}
+use Rattle.std.proofs.lemmas.Option.{get_or_from_slice_get}
+use Rattle.std.proofs.lemmas.Result.{on_ok_weaker}
+use Rattle.lf_frame.specs.declared.place.Place.{Place}
+use Rattle.lf_rules.specs.Legalizer.{Legalizer}
+use Rattle.lf_proto.specs.declared.reply.Reply.{Reply}
+use Rattle.lf_proto.specs.declared.reply.Reply.TheVariants.{Report, Refused}
+use Rattle.lf_proto.specs.declared.reply.Refusal.TheVariants.{OutOfMemory}
+use Rattle.lf_proto.specs.declared.request.Command.{Command}
+use Rattle.lf_proto.specs.declared.request.Command.TheVariants.{Bye, To}
+use Rattle.lf_proto.specs.declared.request.Order.{Order}
+use Rattle.lf_proto.specs.Requests.{command_on}
+use Rattle.lf_floor.specs.States.{FloorState, TeamState}
+use Rattle.lf_floor.specs.Steps.{Answers, Gives, RunsShort, Step, answer_at, answer_by, answer_of, setting}
+use Rattle.lf_floor.specs.Teams.{Setting, team_number}
+use Rattle.lf_floor.specs.Outcomes.{is_short, may_be_short, outcome_of}
+use Rattle.lf_floor.proofs.Answering.{some_short}
+use Rattle.lf_floor.proofs.Cases.{outcome_by}
+use Rattle.lf_app.specs.Lines.{AnswersLine, RefusesLine, StandsIn, StepsOn, Tells, is_report, team_of, text_of}
+
+-- an outcome that is a report leaves the team as it was
+team_kept : (t : Setting) (order : Order (List ℕ) Place) (s : TeamState) → is_report (outcome_of t order s).reply ≡ true → (outcome_of t order s).team ≡ s
+team_kept t order s = outcome_by t s (λ o. is_report o.reply ≡ true → o.team ≡ s) (record {
+  refusal = λ r plain e. absurd (false≢true e);
+  opens = λ session free e. absurd (false≢true e);
+  tells = λ place e. absurd (false≢true e);
+  checks = λ text e. refl;
+  places = λ session own place legal e. absurd (false≢true e);
+  unplaces = λ session own e. absurd (false≢true e);
+}) order
+
+-- so does an answer that is a report the floor
+by_kept : (l : Legalizer) (floor : FloorState) (number : ℕ) (order : Order (List ℕ) Place) (o : Option TeamState) → slice_get floor.teams number ≡ o
+    → is_report (answer_by o l floor number order).reply ≡ true → (answer_by o l floor number order).floor ≡ floor
+by_kept l floor number order None there e = refl
+by_kept l floor number order (Some s) there e =
+    let after = (outcome_of (setting l floor.frame number) order s).team in
+    let same : after ≡ s = team_kept (setting l floor.frame number) order s e in
+    let read : slice_set floor.teams number s ≡ floor.teams = ap (slice_set floor.teams number) (sym (get_or_from_slice_get floor.teams number s s there)) ∙ set-get_or floor.teams number s in
+    ap (λ (teams : List TeamState). record floor { teams = teams }) (ap (slice_set floor.teams number) same ∙ read)
+
+may_report : (reply : Reply) → is_report reply ≡ true → may_be_short reply ≡ true
+may_report (Report text) e = refl
+may_report _ e = absurd (false≢true e)
+
+plain_report : (reply : Reply) → is_report reply ≡ true → is_short reply ≡ false
+plain_report (Report text) e = refl
+plain_report _ e = absurd (false≢true e)
+
+at_short : (l : Legalizer) (old new : FloorState) (name : List ℕ) (order : Order (List ℕ) Place) (reply : Reply) → is_report reply ≡ true → (o : Option ℕ) → team_number old.frame name ≡ o
+    → Gives (answer_at o l old order) reply new → RunsShort l old (To name order) new
+at_short l old new name order reply is None named gives = absurd (false≢true (sym (ap is_report gives.reply_is) ∙ is))
+at_short l old new name order reply is (Some number) named gives =
+    let told : is_report (answer_at (Some number) l old order).reply ≡ true = sym (ap is_report gives.reply_is) ∙ is in
+    some_short l old new name order number (sym named) (record {
+      kept = gives.floor_is ∙ by_kept l old number order (slice_get old.teams number) refl told;
+      may = may_report _ told;
+    })
+
+-- where a step tells a report, one that runs short of memory may stand in its place
+report_short : (l : Legalizer) (old new : FloorState) (command : Command (List ℕ) Place) (reply : Reply) → is_report reply ≡ true → Answers l old command reply new → RunsShort l old command new
+unfolding answer_of
+report_short l old new Bye reply is gives = absurd (false≢true (sym (ap is_report gives.reply_is) ∙ is))
+report_short l old new (To name order) reply is gives = at_short l old new name order reply is (team_number old.frame name) refl gives
+
+-- a step that tells its reply, or OutOfMemory in the place of a report, answers the request
+steps_on : (l : Legalizer) (old new : FloorState) (command : Command (List ℕ) Place) (reply : Reply) (before after : List ℕ) → Step l old command reply new
+    → Tells new (team_of command) reply before after → StepsOn l old command before after new
+steps_on l old new command reply before after step tells = by tells.stands_in
+  where
+    by : StandsIn reply tells.told → StepsOn l old command before after new
+    by (inl same) = record { reply = tells.told; step = subst (λ (r : Reply). Step l old command r new) (sym same) step; text = tells.text }
+    by (inr (report, short)) =
+        let answers : Answers l old command reply new = subst (λ (b : Bool). MatchBool b (RunsShort l old command new) (Answers l old command reply new)) (plain_report reply report) step in
+        record {
+          reply = tells.told;
+          step = subst (λ (r : Reply). Step l old command r new) (sym short) (report_short l old new command reply report answers);
+          text = tells.text;
+        }
+
+-- OutOfMemory is told in the place of a report
+pub tells_short : {E : Type 0} (put : Result (Unit {0}) E) (floor : FloorState) (team : List ℕ) (reply : Reply) (before between after : List ℕ) → is_report reply ≡ true → between ≡ before
+    → OnOk put (after ≡ between ++ text_of floor team (Refused OutOfMemory)) → OnOk put (Tells floor team reply before after)
+tells_short put floor team reply before between after report kept =
+    on_ok_weaker put (λ text. record {
+      told = Refused OutOfMemory;
+      stands_in = inr (report, refl);
+      text = text ∙ ap (λ (bs : List ℕ). bs ++ text_of floor team (Refused OutOfMemory)) kept;
+    })
+
+-- a line that is the request is answered by that step
+pub answers_line : {E : Type 0} (put : Result (Unit {0}) E) (l : Legalizer) (old new : FloorState) (line : Option (List ℕ)) (command : Command (List ℕ) Place) (reply : Reply) (team before after : List ℕ)
+    → option_and_then command_on line ≡ Some command → team ≡ team_of command → Step l old command reply new
+    → OnOk put (Tells new team reply before after) → OnOk put (AnswersLine l old line before after new)
+answers_line put l old new line command reply team before after is own step =
+    on_ok_weaker put (λ told. subst (λ (o : Option (Command (List ℕ) Place)). MatchOption o (RefusesLine old before after new) (λ c. StepsOn l old c before after new)) (sym is)
+    (steps_on l old new command reply before after step (subst (λ (t : List ℕ). Tells new t reply before after) own told)))

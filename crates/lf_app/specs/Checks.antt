@@ -1,0 +1,26 @@
+-- What a check of a design tells.
+use Rattle.std.specs.Prelude.{ℕ, List, [], ◌∷◌, ◌++◌, Option, map}
+use Rattle.lf_frame.specs.declared.loaded.Cell.{Cell}
+use Rattle.lf_frame.specs.declared.loaded.Loaded.{Loaded}
+use Rattle.lf_frame.specs.declared.place.Place.{Place}
+use Rattle.lf_rules.specs.declared.report.Report.{Report}
+use Rattle.lf_rules.specs.FullyLegal.{IsFullyLegal, standing_at}
+use Rattle.lf_rules.specs.Legalizer.{Legalizer}
+use Rattle.lf_rules.specs.Reports.{listed_at, report_of}
+use Rattle.lf_proto.specs.ReportText.{report_text}
+
+-- where the cells stand in the DEF text, in loading order; None where one is unplaced there
+abbrev pub def_places : List Cell → List (Option Place)
+def_places cells = map (λ cell. cell.place) cells
+
+-- the report of the cells of all teams, each at its place in the DEF text
+abbrev pub design_report : Legalizer → Loaded → Report
+design_report l loaded = report_of l loaded.frame (listed_at loaded.cells (def_places loaded.cells))
+
+-- what a check writes: the text of that report, and a line feed
+abbrev pub report_line : Legalizer → Loaded → List ℕ
+report_line l loaded = report_text (design_report l loaded) ++ 10 ∷ []
+
+-- the design is fully legal as its DEF text has it
+abbrev pub IsLegalDesign : Loaded → Type 0
+IsLegalDesign loaded = IsFullyLegal loaded.frame (standing_at loaded.cells (def_places loaded.cells))

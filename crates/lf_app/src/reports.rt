@@ -1,0 +1,96 @@
+//! The report of a loaded design.
+
+ghost use Rattle.std.specs.Prelude.{◌≡◌, ◌++◌, [], ◌∷◌, ◌↔◌, All, IfErr, IfOk, IsTrue, OnOk};
+ghost use Rattle.std.specs.Io.KnownBytes.{Appends};
+ghost use Rattle.lf_rules.specs.Legalizer.{Legalizer};
+ghost use Rattle.lf_rules.specs.Reports.{IsClean, IsTold};
+ghost use Rattle.lf_proto.specs.ReportText.{report_text};
+ghost use Rattle.lf_app.specs.Checks.{IsLegalDesign, def_places, design_report, report_line};
+ghost use Rattle.lf_app.specs.Faults.{IsReportFault};
+
+use crate::faults::{Fault, memory_fault};
+use lf_frame::{Cell, Loaded, Place};
+use lf_proto::{Text, report_json};
+use lf_rules::{Report, check_all};
+use std::alloc::{AllocError, Global};
+use std::io::Write;
+
+/// Where the cells stand in the DEF text, in loading order.
+fn def_places(alloc: Global, cells: &[Cell]) -> Result<Vec<Option<Place>>, AllocError>
+    ensures { IfOk result (λ places. places.items ≡ def_places cells.now) }
+{
+    cells.iter().map(|cell| cell.place).collect(alloc)
+}
+
+/// The report of the design, each cell at its place in the DEF text.
+fn design_report(alloc: Global, loaded: &Loaded) -> Result<Report, AllocError>
+    ensures report { (l : Legalizer) → IfOk result (λ report. report ≡ design_report l loaded.now) }
+    ensures legal { IfOk result (λ report. IsClean report ↔ IsLegalDesign loaded.now) }
+    ensures told { IfOk result (λ report. All IsTold report.violations) }
+{
+    let places = def_places(alloc, loaded.cells.as_slice())?;
+    check_all(alloc, loaded, &places)
+}
+
+/// Whether no cell is unplaced and none breaks a rule.
+fn is_clean(report: &Report) -> bool
+    ensures { IsTrue result ↔ IsClean report.now }
+{
+    report.unplaced == 0 && report.violations.is_empty()
+}
+
+/// The text and a line feed.
+fn as_line(alloc: Global, text: &Text) -> Result<Vec<u8>, AllocError>
+    ensures { IfOk result (λ line. line.items ≡ text.now ++ 10 ∷ []) }
+{
+    let mut line = Vec::with_capacity(alloc, text.as_bytes().len() + 1)?;
+    line.extend_from_slice(text.as_bytes())?;
+    line.push(b'\n')?;
+    Ok(line)
+}
+
+/// The text of the report and a line feed.
+fn report_line(alloc: Global, report: &Report) -> Result<Vec<u8>, AllocError>
+    requires { All IsTold report.now.violations }
+    ensures { IfOk result (λ line. line.items ≡ report_text report.now ++ 10 ∷ []) }
+{
+    let text = report_json(alloc, report)?;
+    as_line(alloc, &text)
+}
+
+/// Writes the line in one piece and flushes.
+fn put_line<'f, W: Write>(writer: &mut W, line: &[u8]) -> Result<(), Fault<'f>>
+    ensures ok { OnOk result (Appends (W.contents writer.old) (W.contents writer.new) line.now) }
+    ensures err { IfErr result IsReportFault }
+{
+    if writer.write_all(line).is_err() {
+        return Err(Fault::Output);
+    }
+    if writer.flush().is_err() {
+        return Err(Fault::Output);
+    }
+    Ok(())
+}
+
+/// Writes the report of the design, each cell at its place in the DEF text, and a line feed: whether the design is
+/// fully legal.
+///
+/// `Err` where memory is refused or the writer fails; of the text a front may be written then.
+pub(crate) fn report_design<'f, W: Write>(
+    alloc: Global,
+    loaded: &Loaded,
+    writer: &mut W,
+) -> Result<bool, Fault<'f>>
+    ensures text { (l : Legalizer) → OnOk result (Appends (W.contents writer.old) (W.contents writer.new) (report_line l loaded.now)) }
+    ensures legal { IfOk result (λ legal. IsTrue legal ↔ IsLegalDesign loaded.now) }
+    ensures err { IfErr result IsReportFault }
+{
+    let Ok(report) = design_report(alloc, loaded) else {
+        return Err(memory_fault());
+    };
+    let Ok(line) = report_line(alloc, &report) else {
+        return Err(memory_fault());
+    };
+    put_line(writer, &line)?;
+    Ok(is_clean(&report))
+}
