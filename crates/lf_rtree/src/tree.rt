@@ -1,6 +1,6 @@
 //! A packed tree of boxes.
 
-ghost use Rattle.std.specs.Prelude.{IfOk, OnOk, MatchOption, IsPermutation};
+ghost use Rattle.std.specs.Prelude.{◌≡◌, IfOk, OnOk, MatchOption, IsPermutation};
 ghost use Rattle.lf_rtree.specs.Near.{AreNear, IsLeastMet, IsNoneMet};
 
 use crate::bound::Node;
@@ -36,16 +36,16 @@ impl Model for RTree {
 }
 
 impl RTree {
-    /// A tree of these boxes. Numbers may stand more than once, and rectangles without points are
-    /// never found.
-    pub fn build(alloc: Global, boxes: &[Placed]) -> Result<Self, AllocError>
-        ensures { IfOk result (λ tree. IsPermutation boxes.now tree) }
+    /// A tree of these boxes, which are put into the tree's order. Numbers may stand more than once,
+    /// and rectangles without points are never found.
+    pub fn build(alloc: Global, boxes: &mut [Placed]) -> Result<Self, AllocError>
+        ensures same { IsPermutation boxes.old boxes.new }
+        ensures tree { IfOk result (λ tree. tree ≡ boxes.new) }
     {
-        let mut sorted = Vec::from_slice(alloc, boxes)?;
         let depth = usize::BITS - (boxes.len() / BUCKET).leading_zeros();
-        sort_for_depth(sorted.as_mut_slice(), depth);
+        sort_for_depth(boxes, depth);
         let mut nodes = Vec::with_capacity(alloc, boxes.len())?;
-        grow(sorted.as_slice(), depth, &mut nodes)?;
+        grow(boxes, depth, &mut nodes)?;
         Ok(RTree { nodes, depth })
     }
 

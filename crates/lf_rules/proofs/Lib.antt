@@ -14,6 +14,7 @@ pub mod BesideLemmas
 pub mod NearLemmas
 pub mod AreaLemmas
 pub mod MetLemmas
+pub mod VerdictLists
 pub mod TidyLemmas
 pub mod DesignLemmas
 pub mod KeptLemmas

@@ -1,5 +1,5 @@
 -- What a check tells: how many cells there are, how many of them are unplaced, and which break a rule where they stand.
-use Rattle.std.specs.Prelude.{◌≡◌, ◌↔◌, ℕ, ◌<◌, List, [], ◌∷◌, Option, None, All, is_none, count_by, map, filter_map, length, slice_get, option_map, option_and_then}
+use Rattle.std.specs.Prelude.{◌≡◌, ◌↔◌, ℕ, ◌<◌, List, [], ◌∷◌, Option, None, All, is_none, count_by, map, filter_map, length, slice_get, slice_index_or, ◌⊎◌, Some, option_map, option_and_then}
 use Rattle.std.specs.List.{range_with_len}
 use Rattle.std.specs.Option.{ForSome}
 use Rattle.std.specs.Borrow.{Bor}
@@ -37,6 +37,26 @@ trial_among f cells own c p = trial_of f c.team (macro_of f c.mac) p (boxes_besi
 -- the first rule that the cell breaks where it stands; an unplaced cell breaks none
 abbrev pub broken_among : Legalizer → Frame → List (Listed (List ℕ)) → ℕ → Listed (List ℕ) → Option Broken
 broken_among l f cells own c = option_and_then (λ p. l.first_broken (trial_among f cells own c p)) c.place
+
+-- the verdict of that number: the first rule that is broken, or none
+abbrev pub verdict_at : List (Option Broken) → ℕ → Option Broken
+verdict_at verdicts own = slice_index_or verdicts own None
+
+-- each cell's verdict is the first rule that it breaks where it stands
+pub record AreVerdicts (l : Legalizer) (f : Frame) (cells : List (Listed (List ℕ))) (verdicts : List (Option Broken)) : Type 0 where
+  pub count : length verdicts ≡ length cells
+  pub each : (own : ℕ) (c : Listed (List ℕ)) → slice_get cells own ≡ Some c → verdict_at verdicts own ≡ broken_among l f cells own c
+
+-- some cells have their verdict, and the others none yet
+pub record AreSomeVerdicts (l : Legalizer) (f : Frame) (cells : List (Listed (List ℕ))) (verdicts : List (Option Broken)) : Type 0 where
+  pub count : length verdicts ≡ length cells
+  pub each : (own : ℕ) (c : Listed (List ℕ)) → slice_get cells own ≡ Some c → (verdict_at verdicts own ≡ None) ⊎ (verdict_at verdicts own ≡ broken_among l f cells own c)
+
+-- the cell of this number has its verdict now, and so has each cell that had it
+pub record PutsVerdict (l : Legalizer) (f : Frame) (cells : List (Listed (List ℕ))) (own : ℕ) (old new : List (Option Broken)) : Type 0 where
+  pub some : AreSomeVerdicts l f cells new
+  pub put : (c : Listed (List ℕ)) → slice_get cells own ≡ Some c → verdict_at new own ≡ broken_among l f cells own c
+  pub kept : (other : ℕ) (c : Listed (List ℕ)) → slice_get cells other ≡ Some c → verdict_at old other ≡ broken_among l f cells other c → verdict_at new other ≡ broken_among l f cells other c
 
 -- the name of the cell of that number
 abbrev pub name_among : List (Listed (List ℕ)) → ℕ → Option (List ℕ)

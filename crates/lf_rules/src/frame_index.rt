@@ -68,12 +68,12 @@ fn boxes_of_obstacles(alloc: Global, obstacles: &[Rect]) -> Result<Vec<Placed>, 
 pub fn index_of(alloc: Global, frame: &Frame) -> Result<FrameIndex, AllocError>
     ensures { IfOk result (λ index. IsIndexOf frame.now index) }
 {
-    let rows = boxes_of_rows(alloc, frame)?;
-    let fences = boxes_of_fences(alloc, frame.teams.as_slice())?;
-    let obstacles = boxes_of_obstacles(alloc, frame.obstacles.as_slice())?;
+    let mut rows = boxes_of_rows(alloc, frame)?;
+    let mut fences = boxes_of_fences(alloc, frame.teams.as_slice())?;
+    let mut obstacles = boxes_of_obstacles(alloc, frame.obstacles.as_slice())?;
     Ok(FrameIndex {
-        rows: RTree::build(alloc, &rows)?,
-        fences: RTree::build(alloc, &fences)?,
-        obstacles: RTree::build(alloc, &obstacles)?,
+        rows: RTree::build(alloc, rows.as_mut_slice())?,
+        fences: RTree::build(alloc, fences.as_mut_slice())?,
+        obstacles: RTree::build(alloc, obstacles.as_mut_slice())?,
     })
 }

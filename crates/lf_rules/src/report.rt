@@ -1,13 +1,13 @@
 //! Reports: how many cells there are, how many of them are unplaced, and which break a rule where they stand.
 
-ghost use Rattle.std.specs.Prelude.{◌≡◌, ◌↔◌, ◌<◌, ◌≤◌, ◌++◌, [], All, IfOk, OnOk, is_none, count_by, length, map, option_and_then};
+ghost use Rattle.std.specs.Prelude.{◌≡◌, ◌↔◌, ◌<◌, ◌≤◌, ◌++◌, [], All, IfOk, OnOk, None, ℕ, List, IsPermutation, is_none, count_by, length, map, option_and_then};
 ghost use Rattle.std.specs.List.{cons_option};
 ghost use Rattle.lf_frame.specs.Boxes.{IsSized, macro_of};
 ghost use Rattle.lf_rules.specs.Legalizer.{IsVerdict, Legalizer};
 ghost use Rattle.lf_rules.specs.FullyLegal.{IsFullyLegal, standing_at};
-ghost use Rattle.lf_rules.specs.Reports.{IsClean, IsListed, IsTold, broken_among, listed_at, member_of, name_among, named, report_of, standing_of, trial_among, violation_at, violation_of, violations_in};
+ghost use Rattle.lf_rules.specs.Reports.{IsClean, IsListed, IsTold, broken_among, listed_at, member_of, name_among, named, report_of, standing_of, trial_among, AreSomeVerdicts, AreVerdicts, PutsVerdict, verdict_at, violation_at, violation_of, violations_in};
 ghost use Rattle.lf_rules.specs.Nearby.{IsSearchOf};
-ghost use Rattle.lf_rules.specs.Team.{boxes_beside, boxes_from, with_box};
+ghost use Rattle.lf_rules.specs.Team.{Member, boxes_beside, boxes_from, with_box};
 
 use crate::first::first_broken;
 use crate::frame_index::index_of;
@@ -197,23 +197,77 @@ fn violation_of(
     })
 }
 
-/// Puts the violation of the cell of that number behind the others, where it breaks a rule.
-fn push_violation(
+/// No verdict yet for each of so many cells.
+fn no_verdicts(alloc: Global, count: usize) -> Result<Vec<Option<Broken>>, AllocError>
+    ensures count { IfOk result (λ verdicts. length verdicts.items ≡ count) }
+    ensures none { IfOk result (λ verdicts. (own : ℕ) → verdict_at verdicts.items own ≡ None) }
+{
+    let mut verdicts = Vec::with_capacity(alloc, count)?;
+    for _ in 0..count {
+        verdicts.push(None)?;
+    }
+    Ok(verdicts)
+}
+
+/// Sets the verdict of the cell of that number.
+fn put_verdict(
     alloc: Global,
     frame: &Frame,
     search: &Search,
     cells: &[Listed<&[u8]>],
     own: usize,
-    violations: &mut Vec<Violation>,
+    verdicts: &mut Vec<Option<Broken>>,
 ) -> Result<(), AllocError>
     requires listed { All (λ c. IsListed frame.now (named c)) cells.now }
     requires few { length cells.now ≤ 4000000 }
     requires within { own < length cells.now }
     requires search { IsSearchOf frame.now (map member_of (map named cells.now)) search.now }
-    ensures { (l : Legalizer) → OnOk result (violations.new.items ≡ violations.old.items ++ cons_option (violation_at l frame.now (map named cells.now) own) []) }
+    requires count { length verdicts.old.items ≡ length cells.now }
+    ensures count { OnOk result (length verdicts.new.items ≡ length cells.now) }
+    ensures put { (l : Legalizer) → OnOk result (AreSomeVerdicts l frame.now (map named cells.now) verdicts.old.items → PutsVerdict l frame.now (map named cells.now) own verdicts.old.items verdicts.new.items) }
 {
     let cell = &cells[own];
-    match broken_in(alloc, frame, search, cells, own, cell)? {
+    verdicts[own] = broken_in(alloc, frame, search, cells, own, cell)?;
+    Ok(())
+}
+
+/// The verdict of each cell, found in the order of these boxes of the placed cells: cells that lie side by side
+/// are looked at one after another.
+fn verdicts_in(
+    alloc: Global,
+    frame: &Frame,
+    search: &Search,
+    cells: &[Listed<&[u8]>],
+    boxes: &[Placed],
+) -> Result<Vec<Option<Broken>>, AllocError>
+    requires listed { All (λ c. IsListed frame.now (named c)) cells.now }
+    requires few { length cells.now ≤ 4000000 }
+    requires search { IsSearchOf frame.now (map member_of (map named cells.now)) search.now }
+    requires boxes { IsPermutation (boxes_from frame.now 0 (map member_of (map named cells.now))) boxes.now }
+    ensures count { IfOk result (λ verdicts. length verdicts.items ≡ length cells.now) }
+    ensures each { (l : Legalizer) → IfOk result (λ verdicts. AreVerdicts l frame.now (map named cells.now) verdicts.items) }
+{
+    let mut verdicts = no_verdicts(alloc, cells.len())?;
+    for placed in boxes {
+        put_verdict(alloc, frame, search, cells, placed.own as usize, &mut verdicts)?;
+    }
+    Ok(verdicts)
+}
+
+/// Puts the violation of the cell of that number behind the others, where it breaks a rule.
+fn push_violation(
+    alloc: Global,
+    cells: &[Listed<&[u8]>],
+    verdicts: &[Option<Broken>],
+    own: usize,
+    violations: &mut Vec<Violation>,
+) -> Result<(), AllocError>
+    requires within { own < length cells.now }
+    requires count { length verdicts.now ≡ length cells.now }
+    ensures { (l : Legalizer) (f : Frame) → AreVerdicts l f (map named cells.now) verdicts.now → OnOk result (violations.new.items ≡ violations.old.items ++ cons_option (violation_at l f (map named cells.now) own) []) }
+{
+    let cell = &cells[own];
+    match verdicts[own] {
         Some(broken) => {
             violations.push(violation_of(alloc, cells, cell, broken)?)?;
             Ok(())
@@ -225,18 +279,15 @@ fn push_violation(
 /// The violations of the listed cells, in their order.
 fn violations_in(
     alloc: Global,
-    frame: &Frame,
-    search: &Search,
     cells: &[Listed<&[u8]>],
+    verdicts: &[Option<Broken>],
 ) -> Result<Vec<Violation>, AllocError>
-    requires listed { All (λ c. IsListed frame.now (named c)) cells.now }
-    requires few { length cells.now ≤ 4000000 }
-    requires search { IsSearchOf frame.now (map member_of (map named cells.now)) search.now }
-    ensures { (l : Legalizer) → IfOk result (λ violations. violations.items ≡ violations_in l frame.now (map named cells.now)) }
+    requires { length verdicts.now ≡ length cells.now }
+    ensures { (l : Legalizer) (f : Frame) → AreVerdicts l f (map named cells.now) verdicts.now → IfOk result (λ violations. violations.items ≡ violations_in l f (map named cells.now)) }
 {
     let mut violations = Vec::new(alloc);
     for own in 0..cells.len() {
-        push_violation(alloc, frame, search, cells, own, &mut violations)?;
+        push_violation(alloc, cells, verdicts, own, &mut violations)?;
     }
     Ok(violations)
 }
@@ -248,22 +299,25 @@ fn unplaced_in(cells: &[Listed<&[u8]>]) -> usize
     cells.iter().filter(|cell| cell.place.is_none()).count()
 }
 
-/// The report of these cells, by this search.
+/// The report of these cells, by this search and in the order of these boxes.
 fn report_by(
     alloc: Global,
     frame: &Frame,
     search: &Search,
     cells: &[Listed<&[u8]>],
+    boxes: &[Placed],
 ) -> Result<Report, AllocError>
     requires listed { All (λ c. IsListed frame.now (named c)) cells.now }
     requires few { length cells.now ≤ 4000000 }
     requires search { IsSearchOf frame.now (map member_of (map named cells.now)) search.now }
+    requires boxes { IsPermutation (boxes_from frame.now 0 (map member_of (map named cells.now))) boxes.now }
     ensures report { (l : Legalizer) → IfOk result (λ report. report ≡ report_of l frame.now (map named cells.now)) }
     ensures legal { IfOk result (λ report. IsClean report ↔ IsFullyLegal frame.now (map standing_of (map named cells.now))) }
     ensures told { IfOk result (λ report. All IsTold report.violations) }
 {
     legalizer_is_there();
-    let violations = violations_in(alloc, frame, search, cells)?;
+    let verdicts = verdicts_in(alloc, frame, search, cells, boxes)?;
+    let violations = violations_in(alloc, cells, &verdicts)?;
     Ok(Report {
         cells: cells.len(),
         unplaced: unplaced_in(cells),
@@ -288,14 +342,14 @@ fn boxes_in(
     Ok(boxes)
 }
 
-/// The search that finds what lies near a cell without a look at all of the frame and of the cells.
-fn indexed(alloc: Global, frame: &Frame, cells: &[Listed<&[u8]>]) -> Result<Search, AllocError>
-    requires listed { All (λ c. IsListed frame.now (named c)) cells.now }
-    requires few { length cells.now ≤ 4000000 }
-    ensures { IfOk result (λ search. IsSearchOf frame.now (map member_of (map named cells.now)) search) }
+/// The search that finds what lies near a cell without a look at all of the frame and of the cells, whose boxes are
+/// put into the order in which they lie.
+fn indexed(alloc: Global, frame: &Frame, boxes: &mut [Placed]) -> Result<Search, AllocError>
+    ensures same { IsPermutation boxes.old boxes.new }
+    ensures search { (cells : List Member) → IsPermutation (boxes_from frame.now 0 cells) boxes.old → IfOk result (λ search. IsSearchOf frame.now cells search) }
 {
-    let boxes = boxes_in(alloc, frame, cells)?;
-    Ok(Search::Indexed(index_of(alloc, frame)?, RTree::build(alloc, &boxes)?))
+    let boxes = RTree::build(alloc, boxes)?;
+    Ok(Search::Indexed(index_of(alloc, frame)?, boxes))
 }
 
 /// What the rules are tested against for each cell.
@@ -320,11 +374,12 @@ fn report_against(
     ensures legal { IfOk result (λ report. IsClean report ↔ IsFullyLegal frame.now (map standing_of (map named cells.now))) }
     ensures told { IfOk result (λ report. All IsTold report.violations) }
 {
+    let mut boxes = boxes_in(alloc, frame, cells)?;
     match against {
-        Against::All => report_by(alloc, frame, &Search::Plain, cells),
+        Against::All => report_by(alloc, frame, &Search::Plain, cells, &boxes),
         Against::Near => {
-            let search = indexed(alloc, frame, cells)?;
-            report_by(alloc, frame, &search, cells)
+            let search = indexed(alloc, frame, boxes.as_mut_slice())?;
+            report_by(alloc, frame, &search, cells, &boxes)
         }
     }
 }

@@ -1,0 +1,9 @@
+use Rattle.std.proofs.Common.{◌≡◌, length, map}
+use Rattle.lf_rules.specs.Legalizer.{Legalizer}
+use Rattle.lf_rules.specs.Reports.{named}
+use Rattle.lf_rules.proofs.VerdictLists.{HaveVerdicts}
+use Rattle.lf_rules.proofs.report.verdicts_in.Given as goal
+
+-- the cells of the boxes so far have their verdict
+abbrev pub invariant-loop-placed : goal.invariant-loop-placed
+invariant-loop-placed l = (length l.verdicts.items ≡ length l.cells) × ((lz : Legalizer) → HaveVerdicts lz l.frame (map named l.cells) l.boxes l.placed-index l.verdicts.items)
