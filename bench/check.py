@@ -6,7 +6,7 @@ usage: bench/check.py [COUNT...]    (10000 100000 1000000 components; from the t
 
 `check` is all that `lefence check` does: reading both texts, loading, and the report; `replay` is `lefence replay` without
 a line, which is the same without the report and with the start of the floor. Every cell is placed within its fence, so
-that the report of a design has no violation.
+that the report of a design has no violation. The peak is never below that of this Python, about 15 MB.
 """
 import os
 import subprocess

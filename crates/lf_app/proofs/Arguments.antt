@@ -399,15 +399,15 @@ few_paths (word ∷ words) paths (inr (behind, e, path, more)) = omega (arith, a
 
 -- the word of a subcommand is its own
 word_named : (word : Text) (chosen : Subcommand) → subcommand_named word ≡ Some chosen → word ≡ word_of chosen
-word_named word chosen e = by (bytes_eq word (codes "replay")) refl (bytes_eq word (codes "check")) refl
+word_named word chosen e = by (bytes_eq word (word_of Replay)) refl (bytes_eq word (word_of Check)) refl
   where
-    by : (r : Bool) → bytes_eq word (codes "replay") ≡ r → (k : Bool) → bytes_eq word (codes "check") ≡ k → word ≡ word_of chosen
+    by : (r : Bool) → bytes_eq word (word_of Replay) ≡ r → (k : Bool) → bytes_eq word (word_of Check) ≡ k → word ≡ word_of chosen
     by true is k also =
         let same : Some Replay ≡ Some chosen = sym (rw is refl) ∙ e in
-        (bytes_eq-Decides word (codes "replay")).0 is ∙ ap (λ o. word_of (unwrap_or o Replay)) same
+        (bytes_eq-Decides word (word_of Replay)).0 is ∙ ap (λ o. word_of (unwrap_or o Replay)) same
     by false is true also =
         let same : Some Check ≡ Some chosen = sym (rw (is, also) refl) ∙ e in
-        (bytes_eq-Decides word (codes "check")).0 also ∙ ap (λ o. word_of (unwrap_or o Check)) same
+        (bytes_eq-Decides word (word_of Check)).0 also ∙ ap (λ o. word_of (unwrap_or o Check)) same
     by false is false also = let same : None ≡ Some chosen = sym (rw (is, also) refl) ∙ e in absurd (false≢true (ap is_some same))
 
 -- the words of a subcommand with these paths

@@ -32,8 +32,8 @@ word_of subcommand.Check = codes "check"
 -- the subcommand of that word
 abbrev pub subcommand_named : List ℕ → Option Subcommand
 subcommand_named word =
-    if bytes_eq word (codes "replay") then Some subcommand.Replay
-    else if bytes_eq word (codes "check") then Some subcommand.Check
+    if bytes_eq word (word_of subcommand.Replay) then Some subcommand.Replay
+    else if bytes_eq word (word_of subcommand.Check) then Some subcommand.Check
     else None
 
 -- the job of a subcommand on these paths

@@ -9,6 +9,8 @@ use Rattle.clap.specs.declared.builder.value_parser.ValueParser.TheVariants as p
 use Rattle.clap.specs.declared.parser.matches.Found.{Found}
 use Rattle.clap.specs.declared.parser.matches.ValueSource.TheVariants.{CommandLine}
 use Rattle.clap.specs.declared.builder.action.ArgAction.TheVariants.{Append}
+use Rattle.lf_app.specs.declared.command.Subcommand.TheVariants.{Replay, Check}
+use Rattle.lf_app.specs.Command.{word_of}
 
 -- the path of the DEF text
 abbrev pub def_rule : Rule
@@ -30,7 +32,7 @@ design_line name = with_rule (with_rule (new_app name) def_rule) lef_rule
 abbrev pub command_line : App
 command_line =
     with_subcommand (with_subcommand (with_subcommand (new_app (codes "lefence")) (new_app (codes "demo")).top)
-    (design_line (codes "replay")).top) (design_line (codes "check")).top
+    (design_line (word_of Replay)).top) (design_line (word_of Check)).top
 
 -- what was found of the DEF text's path
 abbrev pub def_row : List ℕ → Row
