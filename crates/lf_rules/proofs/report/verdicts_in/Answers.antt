@@ -1,4 +1,4 @@
-use Rattle.std.proofs.Common.{◌≡◌, ◌∙◌, ℕ, pos, List, length, map, sym, subst, arith}
+use Rattle.std.proofs.Common.{◌≡◌, ◌∙◌, ℕ, pos, length, map, sym, subst, arith}
 use Rattle.std.proofs.Math.ListN.{length-map}
 use Rattle.lf_rules.specs.Reports.{named, member_of}
 use Rattle.lf_rules.proofs.VerdictLists.{HaveVerdicts, numbers_known, none_yet, one_more, all_done}
