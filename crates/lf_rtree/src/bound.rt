@@ -23,7 +23,7 @@ pub struct Node {
 
 impl Bound {
     /// What bounds one box.
-    pub fn of(placed: &Placed) -> Self
+    pub(crate) fn of(placed: &Placed) -> Self
         ensures { IsBound result placed.now }
     {
         Bound {
@@ -33,7 +33,7 @@ impl Bound {
     }
 
     /// What bounds the same boxes and one more.
-    pub fn with(&self, placed: &Placed) -> Self
+    pub(crate) fn with(&self, placed: &Placed) -> Self
         ensures one_more { IsBound result placed.now }
         ensures the_same { (other : Placed) → IsBound self.now other → IsBound result other }
     {
@@ -51,7 +51,7 @@ impl Bound {
     }
 
     /// What bounds each of these boxes and one among them, which the caller has at hand.
-    pub fn around(boxes: &[Placed], one: &Placed) -> Self
+    pub(crate) fn around(boxes: &[Placed], one: &Placed) -> Self
         ensures { All (IsBound result) boxes.now }
     {
         let mut bound = Bound::of(one);

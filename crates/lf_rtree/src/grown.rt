@@ -22,7 +22,7 @@ fn push_all(boxes: &[Placed], nodes: &mut Vec<Node>) -> Result<(), AllocError>
 }
 
 /// Puts a node for each box behind the others, as a run of this depth, in the boxes' order.
-pub fn grow(boxes: &[Placed], depth: u32, nodes: &mut Vec<Node>) -> Result<(), AllocError>
+pub(crate) fn grow(boxes: &[Placed], depth: u32, nodes: &mut Vec<Node>) -> Result<(), AllocError>
     ensures { OnOk result (AddsTree depth boxes.now nodes.old.items nodes.new.items) }
 {
     if depth == 0 {

@@ -62,7 +62,7 @@ fn likely_least(nodes: &[Node]) -> u32 {
 
 /// The same over a run of a tree: no look is taken into a part where no number can be less, and the
 /// half that is likely to have the lesser one comes first.
-pub fn least_among(
+pub(crate) fn least_among(
     nodes: &[Node],
     depth: u32,
     rect: &Rect,

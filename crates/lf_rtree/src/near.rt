@@ -31,7 +31,7 @@ fn push_near_of_all(nodes: &[Node], rect: &Rect, found: &mut Vec<Placed>) -> Res
 
 /// The same for a run of a tree: no look is taken into a part whose bound shares no point with the
 /// rectangle.
-pub fn push_near_of_run(
+pub(crate) fn push_near_of_run(
     nodes: &[Node],
     depth: u32,
     rect: &Rect,

@@ -7,7 +7,7 @@ use crate::placed::Placed;
 /// Puts the boxes into the order for a tree of this depth: into bands from the bottom upwards, each
 /// a run of half of the depth, and in a band from left to right. So the boxes of a short run lie
 /// close together both ways.
-pub fn sort_for_depth(boxes: &mut [Placed], depth: u32)
+pub(crate) fn sort_for_depth(boxes: &mut [Placed], depth: u32)
     ensures { IsPermutation boxes.old boxes.new }
 {
     boxes.sort_unstable_by_key(|placed| (placed.rect.y1, placed.rect.x1, placed.own));

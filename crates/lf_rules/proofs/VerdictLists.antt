@@ -48,8 +48,8 @@ box_there f n (c ∷ cells) zero m p there at =
     let number : n ≡ n + 0 = omega arith in
     subst (λ (x : Member). Contains (boxes_from f n (c ∷ cells)) (record { own = n + 0; rect = box_in f x.mac p })) same
     (subst (λ (i : ℕ). Contains (boxes_from f n (c ∷ cells)) (record { own = i; rect = box_in f c.mac p })) number
-      (subst (λ (o : Option Spot). Contains (with_box f n c.mac o (boxes_from f (n + 1) cells)) (record { own = n; rect = box_in f c.mac p })) (sym placed)
-        (first_there (record { own = n; rect = box_in f c.mac p }) (boxes_from f (n + 1) cells))))
+    (subst (λ (o : Option Spot). Contains (with_box f n c.mac o (boxes_from f (n + 1) cells)) (record { own = n; rect = box_in f c.mac p })) (sym placed)
+    (first_there (record { own = n; rect = box_in f c.mac p }) (boxes_from f (n + 1) cells))))
 box_there f n (c ∷ cells) (suc k) m p there at =
     let number : (n + 1) + k ≡ n + suc k = omega arith in
     subst (λ (i : ℕ). Contains (boxes_from f n (c ∷ cells)) (record { own = i; rect = box_in f m.mac p })) number

@@ -9,7 +9,7 @@ use lf_rtree::Placed;
 use lf_units::Rect;
 
 /// Whether the box shares no point with any of the rectangles.
-pub fn is_clear_of(rect: &Rect, rects: &[Rect]) -> bool
+pub(crate) fn is_clear_of(rect: &Rect, rects: &[Rect]) -> bool
     ensures { IsTrue result ↔ All (λ r. SharesPoint rect.now r → ⊥) rects.now }
 {
     for other in rects {
@@ -21,7 +21,7 @@ pub fn is_clear_of(rect: &Rect, rects: &[Rect]) -> bool
 }
 
 /// The first of the placed cells whose box shares a point with this one.
-pub fn first_met(rect: &Rect, others: &[Placed]) -> Option<u32>
+pub(crate) fn first_met(rect: &Rect, others: &[Placed]) -> Option<u32>
     ensures { MatchOption result (All (λ p. SharesPoint rect.now p.rect → ⊥) others.now) (λ own. IsFirstMet rect.now others.now own) }
 {
     for other in others {
@@ -34,7 +34,7 @@ pub fn first_met(rect: &Rect, others: &[Placed]) -> Option<u32>
 
 /// Whether no fence covers a point of the box.
 #[tactic(auto, using(crate::proofs::GroundLemmas::open_of_clear, crate::proofs::GroundLemmas::clear_of_open))]
-pub fn is_in_open_ground(rect: &Rect, teams: &[Team]) -> bool
+pub(crate) fn is_in_open_ground(rect: &Rect, teams: &[Team]) -> bool
     ensures { IsTrue result ↔ ((x y : ℤ) → Covers rect.now x y → All (λ u. CoveredBy u.rects x y → ⊥) teams.now) }
 {
     for team in teams {

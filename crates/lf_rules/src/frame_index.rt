@@ -65,7 +65,7 @@ fn boxes_of_obstacles(alloc: Global, obstacles: &[Rect]) -> Result<Vec<Placed>, 
 }
 
 /// The index of a frame.
-pub fn index_of(alloc: Global, frame: &Frame) -> Result<FrameIndex, AllocError>
+pub(crate) fn index_of(alloc: Global, frame: &Frame) -> Result<FrameIndex, AllocError>
     ensures { IfOk result (λ index. IsIndexOf frame.now index) }
 {
     let mut rows = boxes_of_rows(alloc, frame)?;

@@ -249,7 +249,14 @@ fn verdicts_in(
 {
     let mut verdicts = no_verdicts(alloc, cells.len())?;
     for placed in boxes {
-        put_verdict(alloc, frame, search, cells, placed.own as usize, &mut verdicts)?;
+        put_verdict(
+            alloc,
+            frame,
+            search,
+            cells,
+            placed.own as usize,
+            &mut verdicts,
+        )?;
     }
     Ok(verdicts)
 }

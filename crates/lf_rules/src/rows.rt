@@ -24,7 +24,7 @@ fn level(pitch: &Point, rect: &Rect, sites: u32) -> i64
 }
 
 /// How many core sites the box is high, where that is from 1 to 8.
-pub fn height_in_sites(frame: &Frame, rect: &Rect) -> Option<u32>
+pub(crate) fn height_in_sites(frame: &Frame, rect: &Rect) -> Option<u32>
     requires { IsSolid rect.now }
     ensures { MatchOption result ((k : ℕ) → IsSitesHigh frame.now rect.now k → ⊥) (λ k. IsSitesHigh frame.now rect.now k) }
 {
@@ -67,7 +67,7 @@ fn is_row_of_box(frame: &Frame, rect: &Rect, sites: u32, row: &Row) -> bool
 }
 
 /// Whether the row lies at the box's lower edge, under all of its width, and its grid holds the box's left edge.
-pub fn is_bottom_row(frame: &Frame, rect: &Rect, row: &Row) -> bool
+pub(crate) fn is_bottom_row(frame: &Frame, rect: &Rect, row: &Row) -> bool
     requires solid { IsSolid rect.now }
     requires known { Contains frame.now.rows row.now }
     requires heeded { IsHeeded frame.now.pitch row.now }
@@ -80,7 +80,7 @@ pub fn is_bottom_row(frame: &Frame, rect: &Rect, row: &Row) -> bool
 }
 
 /// The bottom row of the box.
-pub fn bottom_row<'a>(frame: &'a Frame, rect: &Rect) -> Option<&'a Row>
+pub(crate) fn bottom_row<'a>(frame: &'a Frame, rect: &Rect) -> Option<&'a Row>
     requires { IsSolid rect.now }
     ensures { MatchOption result ((r : Row) → IsBottomRow frame.now rect.now r → ⊥) (λ r. IsBottomRow frame.now rect.now r.now) }
 {
@@ -104,7 +104,7 @@ fn changed_rail(orient: Orient, times: u32) -> Option<Rail>
 }
 
 /// Whether the row carries the box so many site heights above its bottom row.
-pub fn carries(frame: &Frame, rect: &Rect, bottom: &Row, sites: u32, row: &Row) -> bool
+pub(crate) fn carries(frame: &Frame, rect: &Rect, bottom: &Row, sites: u32, row: &Row) -> bool
     requires solid { IsSolid rect.now }
     requires few { sites ≤ 8 }
     requires known { Contains frame.now.rows row.now }
@@ -132,7 +132,7 @@ fn is_carried(frame: &Frame, rect: &Rect, bottom: &Row, sites: u32) -> bool
 }
 
 /// Whether heeded rows carry the box over all of its height.
-pub fn is_standing(frame: &Frame, rect: &Rect, bottom: &Row, height: u32) -> bool
+pub(crate) fn is_standing(frame: &Frame, rect: &Rect, bottom: &Row, height: u32) -> bool
     requires solid { IsSolid rect.now }
     requires few { height ≤ 8 }
     ensures { IsTrue result ↔ ((j : ℕ) → j < height → (s : Row) × Carries frame.now rect.now bottom.now j s) }

@@ -15,15 +15,17 @@ put_verdict-requires-clause-within c =
 pub loop-placed-init : goal.loop-placed-init
 loop-placed-init c =
     let cells = map named c.args.cells.now in
-    let named_long = length-map c.args.cells.now named in
-    (c.in_ok-verdicts.ensures.count,
-    λ l. none_yet l c.args.frame.now cells c.args.boxes.now c.in_ok-verdicts.verdicts.items (c.in_ok-verdicts.ensures.count ∙ sym named_long) c.in_ok-verdicts.ensures.none)
+    let named_long = length-map c.args.cells.now named in (
+      c.in_ok-verdicts.ensures.count,
+      λ l. none_yet l c.args.frame.now cells c.args.boxes.now c.in_ok-verdicts.verdicts.items (c.in_ok-verdicts.ensures.count ∙ sym named_long) c.in_ok-verdicts.ensures.none,
+    )
 
 pub loop-placed-preserved : goal.loop-placed-preserved
-loop-placed-preserved c =
-    (c.in_ok-put_verdict.ensures.count,
-    λ l. one_more l c.args.frame.now (map named c.args.cells.now) c.args.boxes.now c.loop-placed.placed-index _ c.loop-placed.verdicts.items _ c.loop-placed-test.true (c.loop-placed.invariant.1 l)
-      (c.in_ok-put_verdict.ensures.put l (c.loop-placed.invariant.1 l).some))
+loop-placed-preserved c = (
+  c.in_ok-put_verdict.ensures.count,
+  λ l. one_more l c.args.frame.now (map named c.args.cells.now) c.args.boxes.now c.loop-placed.placed-index _ c.loop-placed.verdicts.items _ c.loop-placed-test.true (c.loop-placed.invariant.1 l)
+      (c.in_ok-put_verdict.ensures.put l (c.loop-placed.invariant.1 l).some),
+)
 
 pub returns-clause-each : goal.returns-clause-each
 returns-clause-each c = λ l.
