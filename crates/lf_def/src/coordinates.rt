@@ -24,7 +24,7 @@ fn dbu_of(token: &Token) -> Result<i64, ReadError>
 
 /// A coordinate.
 #[tactic(auto, unfolding(crate::specs::Coordinates::dbu))]
-pub fn dbu(lexer: &mut Lexer) -> Result<i64, ReadError>
+pub(crate) fn dbu(lexer: &mut Lexer) -> Result<i64, ReadError>
     ensures read { Reads (λ x. x) result grammar.dbu lexer.old lexer.new }
     ensures range { IfOk result (λ x. IsCoordinate x) }
 {
@@ -45,7 +45,7 @@ fn up_to(most: u32, value: i64, line: usize) -> Result<u32, ReadError>
 
 /// A whole number from 1 to the largest one.
 #[tactic(auto, unfolding(crate::specs::Coordinates::count))]
-pub fn count(lexer: &mut Lexer, most: u32) -> Result<u32, ReadError>
+pub(crate) fn count(lexer: &mut Lexer, most: u32) -> Result<u32, ReadError>
     ensures read { Reads (λ n. n) result (grammar.count most) lexer.old lexer.new }
     ensures range { IfOk result (λ n. IsCount most n) }
 {
@@ -56,7 +56,7 @@ pub fn count(lexer: &mut Lexer, most: u32) -> Result<u32, ReadError>
 
 /// `x y )` behind the first parenthesis.
 #[tactic(auto, unfolding(crate::specs::Coordinates::point_rest))]
-pub fn point_rest(lexer: &mut Lexer) -> Result<Point, ReadError>
+pub(crate) fn point_rest(lexer: &mut Lexer) -> Result<Point, ReadError>
     ensures read { Reads (λ p. p) result grammar.point_rest lexer.old lexer.new }
     ensures range { IfOk result (λ p. HasCoordinates p) }
 {
@@ -110,7 +110,7 @@ fn rect_between(p: &Point, q: &Point) -> Rect
 
 /// `x y ) ( x y )` behind the first parenthesis.
 #[tactic(auto, unfolding(crate::specs::Coordinates::rect_rest))]
-pub fn rect_rest(lexer: &mut Lexer) -> Result<Rect, ReadError>
+pub(crate) fn rect_rest(lexer: &mut Lexer) -> Result<Rect, ReadError>
     ensures read { Reads (λ r. r) result grammar.rect_rest lexer.old lexer.new }
     ensures range { IfOk result (λ r. IsRect r) }
 {
@@ -121,7 +121,7 @@ pub fn rect_rest(lexer: &mut Lexer) -> Result<Rect, ReadError>
 
 /// `( x y ) ( x y )`.
 #[tactic(auto, unfolding(crate::specs::Coordinates::rect))]
-pub fn rect(lexer: &mut Lexer) -> Result<Rect, ReadError>
+pub(crate) fn rect(lexer: &mut Lexer) -> Result<Rect, ReadError>
     ensures read { Reads (λ r. r) result grammar.rect lexer.old lexer.new }
     ensures range { IfOk result (λ r. IsRect r) }
 {
@@ -130,7 +130,7 @@ pub fn rect(lexer: &mut Lexer) -> Result<Rect, ReadError>
 }
 
 /// The orientation that a token names, else Unexpected.
-pub fn orient_of(token: &Token) -> Result<Orient, ReadError>
+pub(crate) fn orient_of(token: &Token) -> Result<Orient, ReadError>
     ensures { MatchResult result (λ o. grammar.orient_of (lexeme token.now) ≡ Ok o) (λ e. Fails e (grammar.orient_of (lexeme token.now))) }
 {
     if is(b"N", token) {

@@ -23,7 +23,7 @@ pub enum Due {
 }
 
 /// Whether the token is a name or a pattern, else Unexpected or TooMany.
-pub fn check_name(token: &Token) -> Result<(), ReadError>
+pub(crate) fn check_name(token: &Token) -> Result<(), ReadError>
     requires spelled { IsSpelled (lexeme token.now) }
     ensures read { MatchResult result (λ _. grammar.name_of (lexeme token.now) ≡ Ok (lexeme token.now).text) (λ e. Fails e (grammar.name_of (lexeme token.now))) }
     ensures name { OnOk result (IsName (lexeme token.now).text) }
@@ -38,7 +38,11 @@ pub fn check_name(token: &Token) -> Result<(), ReadError>
 }
 
 /// The first of several names or texts stands.
-pub fn keep_first(alloc: Global, first: &mut Option<Name>, text: &[u8]) -> Result<(), AllocError>
+pub(crate) fn keep_first(
+    alloc: Global,
+    first: &mut Option<Name>,
+    text: &[u8],
+) -> Result<(), AllocError>
     ensures ok { OnOk result (first.new ≡ first_stands first.old text.now) }
     ensures err { OnErr result (first.new ≡ first.old) }
 {

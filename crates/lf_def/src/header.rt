@@ -87,7 +87,7 @@ fn units(lexer: &mut Lexer) -> Result<u32, ReadError>
 }
 
 /// Whether the token begins a statement of the header.
-pub fn is_header(token: &Token) -> bool
+pub(crate) fn is_header(token: &Token) -> bool
     ensures { result ≡ grammar.is_header (lexeme token.now) }
 {
     is(b"VERSION", token)
@@ -99,7 +99,7 @@ pub fn is_header(token: &Token) -> bool
 
 /// A statement of the header, of which the keyword was read.
 #[tactic(auto, unfolding(crate::specs::Header::header_statement))]
-pub fn header_statement(
+pub(crate) fn header_statement(
     alloc: Global,
     lexer: &mut Lexer,
     parts: &mut HeaderParts,
@@ -131,7 +131,7 @@ pub fn header_statement(
 }
 
 /// What is known of the header before its first statement.
-pub fn no_header() -> HeaderParts
+pub(crate) fn no_header() -> HeaderParts
     ensures { result ≡ grammar.no_header }
 {
     HeaderParts {
@@ -154,7 +154,7 @@ fn text_or(alloc: Global, text: Option<Name>, without: &[u8]) -> Result<Name, Al
 }
 
 /// The header that the statements describe.
-pub fn header_of(alloc: Global, parts: HeaderParts) -> Result<Header, AllocError>
+pub(crate) fn header_of(alloc: Global, parts: HeaderParts) -> Result<Header, AllocError>
     requires design { IfSome parts.design (λ n. IsName n) }
     requires units { IfSome parts.units (λ n. IsCount 20000 n) }
     ensures header { IfOk result (λ h. h ≡ grammar.header_of parts) }

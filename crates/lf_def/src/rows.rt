@@ -110,7 +110,7 @@ fn sites_from(lexer: &mut Lexer, token: &Token) -> Result<Sites, ReadError>
 
 /// A row behind its keyword.
 #[tactic(auto, unfolding(crate::specs::Rows::row))]
-pub fn read_row(alloc: Global, lexer: &mut Lexer) -> Result<Row, ReadError>
+pub(crate) fn read_row(alloc: Global, lexer: &mut Lexer) -> Result<Row, ReadError>
     ensures read { Reads (λ r. r) result grammar.row lexer.old lexer.new }
     ensures range { IfOk result (λ r. IsRow r) }
 {

@@ -177,7 +177,7 @@ fn no_parts(alloc: Global) -> DocParts
 }
 
 /// The statements of a text up to END DESIGN.
-pub fn read_statements(alloc: Global, text: &[u8]) -> Result<DocParts, ReadError>
+pub(crate) fn read_statements(alloc: Global, text: &[u8]) -> Result<DocParts, ReadError>
     ensures ok { IfOk result (λ parts. grammar.parts_of text.now ≡ Ok parts) }
     ensures fault { IfErr result (λ e. Fails e (grammar.parts_of text.now)) }
     ensures range { IfOk result (λ parts. AreParts parts) }

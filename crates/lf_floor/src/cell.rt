@@ -31,7 +31,7 @@ pub struct Cell {
 
 /// The position of the team's cell of that name; none for another team's cell, as for one that no
 /// team has.
-pub fn cell_named(cells: &[Cell], name: &[u8]) -> Option<usize>
+pub(crate) fn cell_named(cells: &[Cell], name: &[u8]) -> Option<usize>
     ensures found { result ≡ cell_named name.now cells.now }
     ensures within { IfSome result (λ own. own < length cells.now) }
 {
@@ -90,7 +90,7 @@ fn others_of(
 /// team.
 ///
 /// `Err` where memory for the others' boxes is refused.
-pub fn broken_at(
+pub(crate) fn broken_at(
     alloc: Global,
     frame: &Frame,
     team: usize,
@@ -131,7 +131,7 @@ fn listed_cells<'a>(
 /// The text of the report of the team's cells at their working places.
 ///
 /// `Err` where memory is refused.
-pub fn report_text(
+pub(crate) fn report_text(
     alloc: Global,
     frame: &Frame,
     number: usize,
@@ -149,7 +149,7 @@ pub fn report_text(
 
 /// The working place of the cell of that position; none where it is unplaced, or there is no such
 /// cell.
-pub fn working(cells: &[Cell], own: usize) -> Option<Place>
+pub(crate) fn working(cells: &[Cell], own: usize) -> Option<Place>
     ensures { result ≡ working_at cells.now own }
 {
     match cells.get(own) {
@@ -159,7 +159,7 @@ pub fn working(cells: &[Cell], own: usize) -> Option<Place>
 }
 
 /// Changes the working place of the cell of that position; its committed place stays.
-pub fn put(cells: &mut [Cell], own: usize, place: Option<Place>)
+pub(crate) fn put(cells: &mut [Cell], own: usize, place: Option<Place>)
     requires { own < length cells.old }
     ensures { cells.new ≡ moved cells.old own place }
 {
@@ -167,7 +167,7 @@ pub fn put(cells: &mut [Cell], own: usize, place: Option<Place>)
 }
 
 /// A copy of the working places, in loading order.
-pub fn places(alloc: Global, cells: &[Cell]) -> Result<Vec<Option<Place>>, AllocError>
+pub(crate) fn places(alloc: Global, cells: &[Cell]) -> Result<Vec<Option<Place>>, AllocError>
     ensures { IfOk result (λ places. places.items ≡ places_of cells.now) }
 {
     cells.iter().map(|cell| cell.working).collect(alloc)

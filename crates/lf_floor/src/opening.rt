@@ -54,7 +54,7 @@ fn take_in_all(alloc: Global, teams: &mut Vec<Team>, cells: &[LoadedCell]) -> Re
 }
 
 /// The fence teams and last the ground team, each with its own cells, as loaded.
-pub fn opening_teams(alloc: Global, design: &Loaded) -> Result<Vec<Team>, AllocError>
+pub(crate) fn opening_teams(alloc: Global, design: &Loaded) -> Result<Vec<Team>, AllocError>
     ensures { IfOk result (λ teams. teams.items ≡ opening_teams design.now 0 (length design.now.frame.teams + 1)) }
 {
     let sessions = design.frame.limits.sessions as usize;

@@ -87,7 +87,11 @@ fn remember_entry(entries: &mut Vec<Entry>, entry: Entry, limit: usize) -> Resul
 
 impl Team {
     /// A team that nobody has asked anything, with so many session slots.
-    pub fn opening(alloc: Global, cells: Vec<Cell>, sessions: usize) -> Result<Team, AllocError>
+    pub(crate) fn opening(
+        alloc: Global,
+        cells: Vec<Cell>,
+        sessions: usize,
+    ) -> Result<Team, AllocError>
         ensures { IfOk result (λ team. team ≡ record { cells = cells.items; revision = 0; entries = []; slots = replicate sessions None }) }
     {
         Ok(Team {
@@ -99,7 +103,7 @@ impl Team {
     }
 
     /// Puts a cell behind the others.
-    pub fn push_cell(&mut self, cell: Cell) -> Result<(), AllocError>
+    pub(crate) fn push_cell(&mut self, cell: Cell) -> Result<(), AllocError>
         ensures { OnOk result (self.new ≡ with_cells self.old (cell ∷ [])) }
     {
         self.cells.push(cell)?;
@@ -107,7 +111,7 @@ impl Team {
     }
 
     /// The cells, in loading order.
-    pub fn cells(&self) -> &[Cell]
+    pub(crate) fn cells(&self) -> &[Cell]
         ensures { result.now ≡ self.now.cells }
     {
         self.cells.as_slice()
@@ -322,7 +326,7 @@ impl Team {
     /// Answers an order to this team, the one of that number in the frame.
     ///
     /// `Err` where memory is refused, and then the team is unchanged.
-    pub fn serve(
+    pub(crate) fn serve(
         &mut self,
         alloc: Global,
         frame: &Frame,

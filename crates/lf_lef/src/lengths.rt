@@ -23,7 +23,7 @@ fn micros_of(token: &Token) -> Result<i64, ReadError>
 
 /// A length.
 #[tactic(auto, unfolding(crate::specs::Lengths::micros))]
-pub fn micros(lexer: &mut Lexer) -> Result<i64, ReadError>
+pub(crate) fn micros(lexer: &mut Lexer) -> Result<i64, ReadError>
     ensures read { Reads (λ x. x) result grammar.micros lexer.old lexer.new }
     ensures range { IfOk result (λ x. IsInRange x) }
 {
@@ -33,7 +33,7 @@ pub fn micros(lexer: &mut Lexer) -> Result<i64, ReadError>
 
 /// A point, of which the first token was read.
 #[tactic(auto, unfolding(crate::specs::Lengths::point_from))]
-pub fn point_from(lexer: &mut Lexer, token: &Token) -> Result<Point, ReadError>
+pub(crate) fn point_from(lexer: &mut Lexer, token: &Token) -> Result<Point, ReadError>
     ensures read { Reads (λ p. p) result
         (grammar.point_from (lexeme token.now)) lexer.old lexer.new }
     ensures range { IfOk result (λ p. HasRange p) }
@@ -52,7 +52,7 @@ pub fn point_from(lexer: &mut Lexer, token: &Token) -> Result<Point, ReadError>
 
 /// A point.
 #[tactic(auto, unfolding(crate::specs::Lengths::point))]
-pub fn point(lexer: &mut Lexer) -> Result<Point, ReadError>
+pub(crate) fn point(lexer: &mut Lexer) -> Result<Point, ReadError>
     ensures read { Reads (λ p. p) result grammar.point lexer.old lexer.new }
     ensures range { IfOk result (λ p. HasRange p) }
 {
@@ -62,7 +62,7 @@ pub fn point(lexer: &mut Lexer) -> Result<Point, ReadError>
 
 /// `SIZE w BY h ;` behind its keyword.
 #[tactic(auto, unfolding(crate::specs::Lengths::size))]
-pub fn size(lexer: &mut Lexer) -> Result<Point, ReadError>
+pub(crate) fn size(lexer: &mut Lexer) -> Result<Point, ReadError>
     ensures read { Reads (λ p. p) result grammar.size lexer.old lexer.new }
     ensures range { IfOk result (λ p. HasRange p) }
 {
@@ -75,7 +75,7 @@ pub fn size(lexer: &mut Lexer) -> Result<Point, ReadError>
 
 /// `ORIGIN x y ;` behind its keyword.
 #[tactic(auto, unfolding(crate::specs::Lengths::origin))]
-pub fn origin(lexer: &mut Lexer) -> Result<Point, ReadError>
+pub(crate) fn origin(lexer: &mut Lexer) -> Result<Point, ReadError>
     ensures read { Reads (λ p. p) result grammar.origin lexer.old lexer.new }
     ensures range { IfOk result (λ p. HasRange p) }
 {
@@ -85,7 +85,7 @@ pub fn origin(lexer: &mut Lexer) -> Result<Point, ReadError>
 }
 
 /// The first of several points stands.
-pub fn keep_first(first: &mut Option<Point>, point: Point)
+pub(crate) fn keep_first(first: &mut Option<Point>, point: Point)
     requires range { IfSome first.old (λ p. HasRange p) }
     requires point { HasRange point }
     ensures first { first.new ≡ first_stands first.old point }

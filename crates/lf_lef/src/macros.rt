@@ -141,7 +141,11 @@ fn no_parts(alloc: Global) -> MacroParts
 }
 
 /// The statements of a macro, and its END name.
-pub fn macro_parts(alloc: Global, lexer: &mut Lexer, name: &[u8]) -> Result<MacroParts, ReadError>
+pub(crate) fn macro_parts(
+    alloc: Global,
+    lexer: &mut Lexer,
+    name: &[u8],
+) -> Result<MacroParts, ReadError>
     ensures read { Reads (λ p. p) result (grammar.macro_parts name.now) lexer.old lexer.new }
     ensures range { IfOk result (λ parts. HasRanges parts.size parts.origin) }
 {
@@ -151,7 +155,7 @@ pub fn macro_parts(alloc: Global, lexer: &mut Lexer, name: &[u8]) -> Result<Macr
 }
 
 /// The macro that the statements describe.
-pub fn macro_of(name: Name, parts: &MacroParts) -> Macro
+pub(crate) fn macro_of(name: Name, parts: &MacroParts) -> Macro
     requires range { HasRanges parts.now.size parts.now.origin }
     ensures macro_is { result ≡ grammar.macro_of name parts.now }
     ensures size { HasRange result.size }

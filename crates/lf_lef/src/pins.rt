@@ -179,7 +179,7 @@ fn pin_body(lexer: &mut Lexer, name: &[u8], pin: &mut Pin) -> Result<(), ReadErr
 
 /// `PIN name`, its statements and `END name`, behind its keyword.
 #[tactic(auto, unfolding(crate::specs::Pins::pin))]
-pub fn read_pin(alloc: Global, lexer: &mut Lexer) -> Result<Pin, ReadError>
+pub(crate) fn read_pin(alloc: Global, lexer: &mut Lexer) -> Result<Pin, ReadError>
     ensures { Reads (λ p. p) result grammar.pin lexer.old lexer.new }
 {
     let name = name(lexer)?;
@@ -233,7 +233,7 @@ fn has_at_bottom(supply: PinUse, origin: i64, pins: &[Pin]) -> bool
 }
 
 /// The rail along the bottom of a macro whose ORIGIN has this y.
-pub fn rail_of(origin: i64, pins: &[Pin]) -> Rail
+pub(crate) fn rail_of(origin: i64, pins: &[Pin]) -> Rail
     ensures { result ≡ grammar.rail_of origin pins.now }
 {
     let power = has_at_bottom(PinUse::Power, origin, pins);

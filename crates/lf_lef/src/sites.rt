@@ -35,7 +35,7 @@ pub struct SiteParts {
 
 /// A word and a semicolon.
 #[tactic(auto, unfolding(crate::specs::Sites::one_word))]
-pub fn one_word<'a>(lexer: &mut Lexer<'a>) -> Result<&'a [u8], ReadError>
+pub(crate) fn one_word<'a>(lexer: &mut Lexer<'a>) -> Result<&'a [u8], ReadError>
     ensures { Reads (λ w. w.now) result grammar.one_word lexer.old lexer.new }
 {
     let word = word(lexer)?;
@@ -63,7 +63,7 @@ fn symmetry_word(lexer: &mut Lexer, symmetry: &mut Symmetry) -> Result<bool, Rea
 }
 
 /// `SYMMETRY {X | Y | R90} .. ;` behind its keyword.
-pub fn symmetry(lexer: &mut Lexer) -> Result<Symmetry, ReadError>
+pub(crate) fn symmetry(lexer: &mut Lexer) -> Result<Symmetry, ReadError>
     ensures { Reads (λ s. s) result grammar.symmetry lexer.old lexer.new }
 {
     let mut symmetry = Symmetry { x: false, y: false };
@@ -115,7 +115,7 @@ fn site_statement(lexer: &mut Lexer, name: &[u8], parts: &mut SiteParts) -> Resu
 }
 
 /// The statements of a site, and its END name.
-pub fn site_parts(lexer: &mut Lexer, name: &[u8]) -> Result<SiteParts, ReadError>
+pub(crate) fn site_parts(lexer: &mut Lexer, name: &[u8]) -> Result<SiteParts, ReadError>
     ensures read { Reads (λ p. p) result (grammar.site_parts name.now) lexer.old lexer.new }
     ensures range { IfOk result (λ parts. IfSome parts.size (λ p. HasRange p)) }
 {
@@ -129,14 +129,14 @@ pub fn site_parts(lexer: &mut Lexer, name: &[u8]) -> Result<SiteParts, ReadError
 }
 
 /// No point or no size: 0 and 0.
-pub fn no_point() -> Point
+pub(crate) fn no_point() -> Point
     ensures { result ≡ grammar.no_point }
 {
     Point { x: 0, y: 0 }
 }
 
 /// The site that the statements describe.
-pub fn site_of(name: Name, parts: &SiteParts) -> Site
+pub(crate) fn site_of(name: Name, parts: &SiteParts) -> Site
     requires range { IfSome parts.now.size (λ p. HasRange p) }
     ensures site { result ≡ grammar.site_of name parts.now }
     ensures range { HasRange result.size }

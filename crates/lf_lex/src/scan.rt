@@ -6,13 +6,13 @@ ghost use Rattle.lf_lex.specs.Tokens.{is_white, is_line_feed, is_word_byte, line
 
 use crate::tokens::{LexFault, Token, TokenKind, TokenOf};
 
-pub fn is_white(byte: u8) -> bool
+pub(crate) fn is_white(byte: u8) -> bool
     ensures { result ≡ is_white byte }
 {
     byte == b' ' || byte == b'\t' || byte == b'\n' || byte == b'\r'
 }
 
-pub fn line_feeds(text: &[u8]) -> usize
+pub(crate) fn line_feeds(text: &[u8]) -> usize
     ensures count { result ≡ line_feeds text.now }
     ensures few { result ≤ length text.now }
 {
@@ -32,7 +32,7 @@ fn first_white(text: &[u8]) -> Option<usize>
 }
 
 /// How many bytes stand before the next white space.
-pub fn word_len(text: &[u8]) -> usize
+pub(crate) fn word_len(text: &[u8]) -> usize
     ensures len { result ≡ word_len text.now }
     ensures within { result ≤ length text.now }
 {
@@ -40,7 +40,7 @@ pub fn word_len(text: &[u8]) -> usize
 }
 
 /// How many bytes stand up to the closing quote, with it.
-pub fn quoted_len(text: &[u8]) -> Option<usize>
+pub(crate) fn quoted_len(text: &[u8]) -> Option<usize>
     ensures len { result ≡ quoted_len false text.now }
     ensures within { IfSome result (λ n. n ≤ length text.now) }
 {
@@ -58,7 +58,7 @@ pub fn quoted_len(text: &[u8]) -> Option<usize>
 }
 
 /// The place and the line of the next byte that is neither white space nor in a comment.
-pub fn skip_blank(text: &[u8], start: usize, start_line: usize) -> (usize, usize)
+pub(crate) fn skip_blank(text: &[u8], start: usize, start_line: usize) -> (usize, usize)
     requires start { start ≤ length text.now }
     requires line { start_line ≤ start + 1 }
     ensures within { result.0 ≤ length text.now }
@@ -102,7 +102,11 @@ fn part(text: &[u8], start: usize, stop: usize) -> &[u8]
 }
 
 /// The quoted token at a place where a quote stands.
-pub fn quoted_token<'a>(text: &'a [u8], at: usize, line: usize) -> Result<Token<'a>, LexFault>
+pub(crate) fn quoted_token<'a>(
+    text: &'a [u8],
+    at: usize,
+    line: usize,
+) -> Result<Token<'a>, LexFault>
     requires within { at < length text.now }
     requires line { line ≤ at + 1 }
     requires quote { slice_index text.now at ≡ 34 }
@@ -128,7 +132,7 @@ pub fn quoted_token<'a>(text: &'a [u8], at: usize, line: usize) -> Result<Token<
 }
 
 /// The word at a place where neither white space, a comment nor a quote stands.
-pub fn word_token<'a>(text: &'a [u8], at: usize, line: usize) -> Result<Token<'a>, LexFault>
+pub(crate) fn word_token<'a>(text: &'a [u8], at: usize, line: usize) -> Result<Token<'a>, LexFault>
     requires within { at < length text.now }
     requires line { line ≤ at + 1 }
     requires begins { BeginsToken (drop at text.now) }

@@ -156,6 +156,6 @@ impl LineFramer {
 }
 
 /// However a stream is cut into pieces, feeding them to a new framer and finishing gives the stream's lines.
-pub fn gives_the_lines()
+pub(crate) fn gives_the_lines()
     ensures { GivesTheLines }
 {}

@@ -185,16 +185,16 @@ pub fn parse_line<'a>(line: &'a [u8]) -> Result<Request<'a>, BadRequest>
 
 /// The line that prints a request, one space between each two fields, is that request: for every request with
 /// names of visible bytes and numbers of 32 bits.
-pub fn printed_reads_back()
+pub(crate) fn printed_reads_back()
     ensures { ReadsBack }
 {}
 
 /// Blanks in front of a line and behind it play no part.
-pub fn blanks_around_pass()
+pub(crate) fn blanks_around_pass()
     ensures { PassesBlanksAround }
 {}
 
 /// A run of blanks parts two fields as one blank does, be it a space or a tab.
-pub fn blanks_between_pass()
+pub(crate) fn blanks_between_pass()
     ensures { PassesBlanksBetween }
 {}
