@@ -207,7 +207,7 @@ fn blockage_entries(
 
 /// A BLOCKAGES section behind its keyword: its blockages go behind the others.
 #[tactic(auto, unfolding(crate::specs::Blockages::blockages))]
-pub fn blockages(
+pub(crate) fn blockages(
     alloc: Global,
     lexer: &mut Lexer,
     blockages: &mut Sequence<Blockage>,

@@ -332,7 +332,7 @@ fn component_entries(
 
 /// A COMPONENTS section behind its keyword: its components go behind the others.
 #[tactic(auto, unfolding(crate::specs::Entries::section))]
-pub fn components(
+pub(crate) fn components(
     alloc: Global,
     lexer: &mut Lexer,
     components: &mut Sequence<Component>,

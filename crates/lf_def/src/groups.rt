@@ -207,7 +207,7 @@ fn group_entries(
 
 /// A GROUPS section behind its keyword: its groups go behind the others.
 #[tactic(auto, unfolding(crate::specs::Entries::section))]
-pub fn groups(
+pub(crate) fn groups(
     alloc: Global,
     lexer: &mut Lexer,
     groups: &mut Sequence<Group>,

@@ -234,7 +234,7 @@ fn region_entries(
 
 /// A REGIONS section behind its keyword: its regions go behind the others.
 #[tactic(auto, unfolding(crate::specs::Entries::section))]
-pub fn regions(
+pub(crate) fn regions(
     alloc: Global,
     lexer: &mut Lexer,
     regions: &mut Sequence<Region>,
