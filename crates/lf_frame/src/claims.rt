@@ -1,6 +1,6 @@
 //! Which fences claim a component, by a table of the names of all components.
 
-ghost use Rattle.std.specs.Prelude.{◌≡◌, ◌↔◌, ◌⊎◌, ℕ, ◌+◌, ◌<◌, ◌++◌, [], ◌∷◌, List, Some, None, IsTrue, IfOk, OnOk, length};
+ghost use Rattle.std.specs.Prelude.{◌≡◌, ◌↔◌, ◌⊎◌, ℕ, ◌+◌, ◌-◌, ◌^◌, ◌<◌, ◌++◌, [], ◌∷◌, List, Some, None, IsTrue, IfOk, OnOk, length};
 ghost use Rattle.std.specs.Option.{option_and_then};
 ghost use Rattle.lf_names.specs.Names.{position_of};
 ghost use Rattle.lf_names.specs.Pattern.{Matches};
@@ -45,6 +45,15 @@ pub struct Bound {
 pub struct PatternIndex {
     claims: Vec<Claim>,
     starred: Vec<Bound>,
+}
+
+/// The number of the component that a group named last, and where its next one is expected: as far behind it as it
+/// stands behind the one before. Groups often name their components at even distances, so that this guess saves
+/// looking names up; nothing rests on it.
+#[derive(Clone, Copy)]
+struct Trail {
+    last: usize,
+    expected: usize,
 }
 
 /// What the names of all components tell: which of them is an earlier one's too, and which fences claim each.
@@ -105,6 +114,28 @@ fn claim_by_trial(bounds: &[Bound], name: &[u8]) -> Claim
     claim
 }
 
+impl Trail {
+    /// The trail before the first component.
+    fn start() -> Self
+        ensures { result ≡ record { last = 0; expected = 0 } }
+    {
+        Trail {
+            last: 0,
+            expected: 0,
+        }
+    }
+
+    /// The trail behind the component of this number.
+    fn to(self, number: usize) -> Self
+        ensures { number < 2 ^ 63 → result ≡ record { last = number; expected = number + (number - self.last) } }
+    {
+        Trail {
+            last: number,
+            expected: number.saturating_add(number.saturating_sub(self.last)),
+        }
+    }
+}
+
 /// The claim at the number; at a number beyond them, none.
 fn claim_of(claims: &[Claim], number: usize) -> Claim
     ensures { result ≡ claim_at claims.now number }
@@ -145,15 +176,23 @@ impl PatternIndex {
         )
     }
 
-    /// Adds a pattern without a star.
-    fn add_literal(&mut self, names: &LentNames, pattern: &[u8], fence: usize)
+    /// Adds a pattern without a star, and answers where the trail goes on.
+    fn add_literal(
+        &mut self,
+        names: &LentNames,
+        pattern: &[u8],
+        fence: usize,
+        trail: Trail,
+    ) -> Trail
         requires wide { IsWide names.now self.old }
         requires literal { (name : List ℕ) → (Matches pattern.now name ↔ (name ≡ pattern.now)) }
         ensures { Extends names.now self.old self.new (record { pattern = pattern.now; fence = fence } ∷ []) }
     {
-        if let Some(number) = names.find(pattern) {
-            self.claims[number] = joined(claim_of(&self.claims, number), fence);
-        }
+        let Some(number) = names.find_near(pattern, trail.expected) else {
+            return trail;
+        };
+        self.claims[number] = joined(claim_of(&self.claims, number), fence);
+        trail.to(number)
     }
 
     /// Adds a pattern that is tried on each name.
@@ -172,22 +211,23 @@ impl PatternIndex {
         Ok(())
     }
 
-    /// Adds a pattern.
+    /// Adds a pattern, and answers where the trail goes on.
     fn add(
         &mut self,
         alloc: Global,
         names: &LentNames,
         pattern: &[u8],
         fence: usize,
-    ) -> Result<(), AllocError>
+        trail: Trail,
+    ) -> Result<Trail, AllocError>
         requires { IsWide names.now self.old }
         ensures { OnOk result (Extends names.now self.old self.new (record { pattern = pattern.now; fence = fence } ∷ [])) }
     {
         if Pattern::new(pattern).is_literal() {
-            self.add_literal(names, pattern, fence);
-            return Ok(());
+            return Ok(self.add_literal(names, pattern, fence, trail));
         }
-        self.add_starred(alloc, names, pattern, fence)
+        self.add_starred(alloc, names, pattern, fence)?;
+        Ok(trail)
     }
 
     /// Adds patterns of one fence.
@@ -201,8 +241,9 @@ impl PatternIndex {
         requires { IsWide names.now self.old }
         ensures { OnOk result (Extends names.now self.old self.new (bound_to (Some fence) patterns.now)) }
     {
+        let mut trail = Trail::start();
         for pattern in patterns {
-            self.add(alloc, names, pattern.as_bytes(), fence)?;
+            trail = self.add(alloc, names, pattern.as_bytes(), fence, trail)?;
         }
         Ok(())
     }

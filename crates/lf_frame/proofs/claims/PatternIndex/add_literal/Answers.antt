@@ -5,8 +5,8 @@ use Rattle.lf_frame.specs.Claims.{joined, claim_at, IsWide}
 use Rattle.lf_frame.proofs.Indexes.{extends_known, extends_unknown}
 use Rattle.lf_frame.proofs.claims.PatternIndex.add_literal.Goals as goal
 
-pub returns-in-Some : goal.returns-in-Some
-returns-in-Some c =
+pub returns : goal.returns
+returns c =
     let old = c.args.self.now in
     let number = c.in-Some.number in
     let claim : c.joined.result ≡ joined (claim_at old.claims.items number) c.args.fence =

@@ -18,5 +18,5 @@ loop-pattern-preserved c =
     ap (bound_to (Some c.args.fence)) (sym more) ∙ map-append (λ p. record { pattern = p; fence = c.args.fence }) (take c.loop-pattern.pattern-index c.args.patterns.now) (item ∷ []) in
     rw bounds (
     extends_twice c.args.names.now c.args.self.now c.loop-pattern.self c.add.new.self (bound_to (Some c.args.fence) (take c.loop-pattern.pattern-index c.args.patterns.now))
-    (record { pattern = item; fence = c.args.fence } ∷ []) c.loop-pattern.invariant (rw c.as_bytes.ensures at c.in_ok-add.ensures)
+    (record { pattern = item; fence = c.args.fence } ∷ []) c.loop-pattern.invariant (rw c.as_bytes.ensures at c.in_ok-trail.ensures)
     )
