@@ -1,9 +1,10 @@
 -- An index of patterns, when patterns are added to it.
-use Rattle.std.proofs.Common.{◌≡◌, ◌≢◌, ℕ, ◌⊎◌, inl, inr, ◌↔◌, Bool, true, false, List, [], ◌∷◌, ◌++◌, Option, None, Some, set, refl, sym, ◌∙◌, ap, subst, append_assoc}
+use Rattle.std.proofs.Common.{◌≡◌, ◌≢◌, ℕ, ◌⊎◌, inl, inr, ◌↔◌, Bool, true, false, List, [], ◌∷◌, ◌++◌, Option, None, Some, set, length, refl, sym, ◌∙◌, ap, subst, append_assoc, arith}
 use Rattle.std.specs.Prelude.{unwrap_or, IsSome, slice_get}
 use Rattle.std.specs.Option.{option_and_then}
 use Rattle.std.specs.Str.{bytes_eq}
 use Rattle.std.proofs.lemmas.Bool.{false≢true}
+use Rattle.std.proofs.lemmas.Grind.{common_steps}
 use Rattle.std.proofs.lemmas.List.{append-nil}
 use Rattle.std.proofs.lemmas.Slice.Eq.{bytes_eq-Decides}
 use Rattle.lf_names.specs.Names.{position_of}
@@ -135,3 +136,10 @@ told_by_index names index bounds name number tried h at told =
     (λ n. h.back name n) (λ n. h.forth name n)
     (tells_merged (ClaimsBy h.literals name) (ClaimsBy index.starred.items name) (literal_claim names index name) tried (h.told name (known (position_of names name) number at)) told)
     )
+
+-- with no pattern that is tried, the literal ones tell all
+pub told_by_literals : (names : List (List ℕ)) (index : PatternIndex) (bounds : List Bound) (name : List ℕ) (number : ℕ) → length index.starred.items ≡ 0 → Holds names index bounds → position_of names name ≡ Some number →
+    Tells (ClaimsBy bounds name) (claim_at index.claims.items number)
+told_by_literals names index bounds name number empty h at =
+    let none : index.starred.items ≡ [] = grind (arith, common_steps) in
+    told_by_index names index bounds name number Unclaimed h at (rw none (λ m c. none_of_nothing (λ b. (b.fence ≡ m) × Matches b.pattern name) c))

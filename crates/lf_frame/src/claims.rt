@@ -265,8 +265,12 @@ impl PatternIndex {
         }
     }
 
-    /// What the patterns claim each component for, whose names are those of the index.
-    fn claims_of(&self, alloc: Global, components: &[Component]) -> Result<Vec<Claim>, AllocError>
+    /// What the patterns claim each component for, those with a star tried on each name.
+    fn claims_by_trial(
+        &self,
+        alloc: Global,
+        components: &[Component],
+    ) -> Result<Vec<Claim>, AllocError>
         ensures { IfOk result (λ claims. (names : List (List ℕ)) (bounds : List Bound) → Holds names self.now bounds → AreClaimsBy names bounds components.now claims.items) }
     {
         let mut claims = Vec::with_capacity(alloc, components.len())?;
@@ -274,6 +278,17 @@ impl PatternIndex {
             claims.push(self.claim_at(number, component.name.as_bytes()))?;
         }
         Ok(claims)
+    }
+
+    /// What the patterns claim each component for, whose names are those of the index.
+    fn claims_of(self, alloc: Global, components: &[Component]) -> Result<Vec<Claim>, AllocError>
+        ensures { IfOk result (λ claims. (names : List (List ℕ)) (bounds : List Bound) → Holds names self bounds → AreClaimsBy names bounds components.now claims.items) }
+    {
+        if self.starred.is_empty() {
+            let PatternIndex { claims, starred: _ } = self;
+            return Ok(claims);
+        }
+        self.claims_by_trial(alloc, components)
     }
 }
 

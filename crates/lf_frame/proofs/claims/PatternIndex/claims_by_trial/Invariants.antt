@@ -1,6 +1,6 @@
 use Rattle.std.proofs.Common.{◌≡◌, length}
 use Rattle.lf_frame.proofs.Claimed.{ToldBelow}
-use Rattle.lf_frame.proofs.claims.PatternIndex.claims_of.Given as goal
+use Rattle.lf_frame.proofs.claims.PatternIndex.claims_by_trial.Given as goal
 
 abbrev pub invariant-loop-number : goal.invariant-loop-number
 invariant-loop-number l = record {
