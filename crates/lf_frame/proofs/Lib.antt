@@ -20,5 +20,6 @@ pub mod MapLemmas
 pub mod Tellings
 pub mod Indexes
 pub mod Claimants
+pub mod Claimed
 pub mod AlikeEntries
 pub mod AlikeDesigns

@@ -74,12 +74,12 @@ stays_out : (xs : List (List ℕ)) (y q : List ℕ) → q ≢ y → position_of 
 stays_out xs y q apart e = position_past (bytes_eq q) (xs ++ y ∷ []) (length xs + 1) (at_end xs y q false e (differs q y apart)) (omega (arith, length_push xs y))
 
 -- a list of values with one more, or with one changed
-get_push : {V : Type 0} (vs : List V) (v : V) (n : ℕ) → n < length vs → slice_get (vs ++ v ∷ []) n ≡ slice_get vs n
+pub get_push : {V : Type 0} (vs : List V) (v : V) (n : ℕ) → n < length vs → slice_get (vs ++ v ∷ []) n ≡ slice_get vs n
 get_push [] v n within = absurd (omega arith)
 get_push (x ∷ vs) v zero within = refl
 get_push (x ∷ vs) v (suc n) within = get_push vs v n (omega arith)
 
-get_last : {V : Type 0} (vs : List V) (v : V) → slice_get (vs ++ v ∷ []) (length vs) ≡ Some v
+pub get_last : {V : Type 0} (vs : List V) (v : V) → slice_get (vs ++ v ∷ []) (length vs) ≡ Some v
 get_last [] v = refl
 get_last (x ∷ vs) v = get_last vs v
 

@@ -1,7 +1,11 @@
--- What a table of names knows of regions and groups.
-use Rattle.std.specs.Prelude.{ℕ, List, map, IsSomeAnd, Contains}
+-- What a table of names knows of regions, groups and components.
+use Rattle.std.specs.Prelude.{◌≡◌, ℕ, List, map, Option, None, IsSomeAnd, Contains}
+use Rattle.std.specs.List.{flat_map}
 use Rattle.lf_def.specs.declared.regions.Region.{Region}
 use Rattle.lf_def.specs.declared.groups.Group.{Group}
+use Rattle.lf_def.specs.declared.components.Component.{Component}
+use Rattle.lf_frame.specs.Entries.{FirstIs}
+use Rattle.lf_frame.specs.Refusals.{BearsEarlierName}
 
 -- two lists hold the same names, in any order and number
 pub record HoldSameNames (first second : List (List ℕ)) : Type 0 where
@@ -15,3 +19,16 @@ region_names regions = map (λ r. r.name) regions
 -- a group's region is not among these names
 abbrev pub IsOutside : List (List ℕ) → Group → Type 0
 IsOutside names g = IsSomeAnd g.region (λ name. Contains names name → ⊥)
+
+-- the names of components
+abbrev pub component_names : List Component → List (List ℕ)
+component_names components = map (λ c. c.name) components
+
+-- these names without a gap, one behind the other
+abbrev pub joined_names : List Component → List ℕ
+joined_names components = flat_map (λ c. c.name) components
+
+-- the first component that bears an earlier one's name, and the names of all where there is none such
+pub record AreNamesOf (components : List Component) (second : Option ℕ) (names : List (List ℕ)) : Type 0 where
+  pub first : FirstIs BearsEarlierName components second
+  pub known : second ≡ None → names ≡ component_names components

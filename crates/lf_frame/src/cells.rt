@@ -5,8 +5,9 @@ ghost use Rattle.std.specs.List.{AllZip};
 ghost use Rattle.lf_names.specs.Names.{position_of};
 ghost use Rattle.lf_lef.specs.Contents.{macro_names};
 ghost use Rattle.lf_def.specs.Ranges.{IsComponent, IsLocation};
-ghost use Rattle.lf_frame.specs.Loading.{is_movable as is_movable_component};
-ghost use Rattle.lf_frame.specs.Refusals.{HasTwoFences};
+ghost use Rattle.lf_frame.specs.Loading.{is_movable as is_movable_component, IsTeamOf};
+ghost use Rattle.lf_frame.specs.Entries.{NoneBreaks};
+ghost use Rattle.lf_frame.specs.Refusals.{BearsEarlierName};
 ghost use Rattle.lf_frame.specs.Claims.{IsTableOf};
 ghost use Rattle.lf_frame.specs.Findings.{inputs};
 ghost use Rattle.lf_frame.specs.Loads.{location as location_of, as_location, movables, CanBeCell, IsCellOf};
@@ -47,19 +48,18 @@ fn cell_of(
     library: &Library,
     document: &DefDoc,
     limits: &Limits,
-    claims: &ClaimTable,
+    team: usize,
     number: usize,
     component: &Component,
 ) -> Result<Cell, AllocError>
-    requires claims { IsTableOf document.now.regions document.now.groups claims.now }
+    requires team { IsTeamOf document.now.regions document.now.groups component.now.name team }
     requires range { IsComponent component.now }
     requires able { CanBeCell (inputs library.now document.now limits.now) component.now }
     ensures { IfOk result (λ cell. IsCellOf (inputs library.now document.now limits.now) (number, component.now) cell) }
 {
-    let name = component.name.as_bytes();
     Ok(Cell {
-        name: Name::from_slice(alloc, name)?,
-        team: claims.team_of(name),
+        name: Name::from_slice(alloc, component.name.as_bytes())?,
+        team,
         mac: library.find_macro(component.mac.as_bytes()).unwrap(),
         place: place_of(component),
         component: number,
@@ -74,14 +74,16 @@ pub(crate) fn movable_cells(
     document: &DefDoc,
     limits: &Limits,
 ) -> Result<Sequence<Cell>, AllocError>
-    requires claims { IsTableOf document.now.regions document.now.groups claims.now }
+    requires claims { IsTableOf document.now.regions document.now.groups document.now.components claims.now }
+    requires differ { NoneBreaks BearsEarlierName document.now.components }
     requires able { All (λ c. is_movable_component c ≡ true → CanBeCell (inputs library.now document.now limits.now) c) document.now.components }
     ensures { IfOk result (λ cells. AllZip (IsCellOf (inputs library.now document.now limits.now)) (movables document.now.components) cells) }
 {
     let mut cells = Sequence::new(alloc);
     for (number, component) in document.components.as_slice().iter().enumerate() {
         if is_movable(component) {
-            cells.push(cell_of(alloc, library, document, limits, &claims, number, component)?)?;
+            let team = claims.team_at(number);
+            cells.push(cell_of(alloc, library, document, limits, team, number, component)?)?;
         }
     }
     Ok(cells)

@@ -20,8 +20,11 @@ GROUPS 5 ;
 - g v1 + REGION c ;
 - g u1 + REGION a ;
 END GROUPS
-COMPONENTS 2 ;
+COMPONENTS 5 ;
 - u1 m ;
+- x7 m ;
+- v1 m ;
+- y m ;
 - x\\* m ;
 END COMPONENTS
 END DESIGN
@@ -39,13 +42,14 @@ fn cells_are_of_the_fence_that_claims_them(rt: HostRuntime) -> Result<(), Fail> 
     let document = claims(rt.alloc())?;
     let table = claim_table(
         rt.alloc(),
+        document.components.as_slice(),
         document.groups.as_slice(),
         document.regions.as_slice(),
     )?;
-    assert_eq!(rt; table.team_of(b"u1"), 0);
-    assert_eq!(rt; table.team_of(b"x7"), 1);
-    assert_eq!(rt; table.team_of(b"v1"), 2);
-    assert_eq!(rt; table.team_of(b"y"), 2);
+    assert_eq!(rt; table.team_at(0), 0);
+    assert_eq!(rt; table.team_at(1), 1);
+    assert_eq!(rt; table.team_at(2), 2);
+    assert_eq!(rt; table.team_at(3), 2);
     Ok(())
 }
 
@@ -54,9 +58,10 @@ fn two_fences_claim_one_component(rt: HostRuntime) -> Result<(), Fail> {
     let document = claims(rt.alloc())?;
     let table = claim_table(
         rt.alloc(),
+        document.components.as_slice(),
         document.groups.as_slice(),
         document.regions.as_slice(),
     )?;
-    assert!(rt; first_claimed_twice(document.components.as_slice(), &table) == Some(1));
+    assert!(rt; first_claimed_twice(document.components.as_slice(), &table) == Some(4));
     Ok(())
 }

@@ -6,7 +6,7 @@ ghost use Rattle.lf_lef.specs.Lengths.{IsInRange, HasRange};
 ghost use Rattle.lf_units.specs.Length.{IsLength, in_dbu};
 ghost use Rattle.lf_frame.specs.Entries.{FirstIs};
 ghost use Rattle.lf_frame.specs.Loading.{macro_named as named_macro, has_size as is_size, IsWholeSize, is_cover as is_cover_component, is_fixed as is_fixed_component, is_movable as is_movable_component};
-ghost use Rattle.lf_frame.specs.Refusals.{HasNoMacro, HasNoSize, HasPartUnits, BearsEarlierName, IsComponentTooMany};
+ghost use Rattle.lf_frame.specs.Refusals.{HasNoMacro, HasNoSize, HasPartUnits, IsComponentTooMany};
 
 use lf_def::{Component, PlacementKind};
 use lf_lef::{Library, Macro};
@@ -176,22 +176,6 @@ pub(crate) fn is_added(names: &mut NameTable, name: &[u8]) -> Result<bool, Alloc
         Added::New(_) => Ok(true),
         Added::Present(_) => Ok(false),
     }
-}
-
-/// The first component that bears an earlier one's name.
-pub(crate) fn first_second_name(
-    alloc: Global,
-    components: &[Component],
-) -> Result<Option<usize>, AllocError>
-    ensures { IfOk result (λ found. FirstIs BearsEarlierName components.now found) }
-{
-    let mut names = NameTable::new(alloc);
-    for (number, component) in components.iter().enumerate() {
-        if !is_added(&mut names, component.name.as_bytes())? {
-            return Ok(Some(number));
-        }
-    }
-    Ok(None)
 }
 
 /// The first component that stands behind so many components as the limit allows.

@@ -5,15 +5,16 @@ ghost use Rattle.std.specs.Option.{option_copied};
 ghost use Rattle.lf_lex.specs.declared.fault.FaultNumber.TheVariants.{NoUnits, NoSite, NoRows, VerticalRow, BadStep, RowOrient, RowsOverlap, NoMacro, NoSize, NotWhole, SecondName, SecondRegion, NoRegion, TeamName, FencesOverlap, TwoFences, TooMany};
 ghost use Rattle.lf_lef.specs.Lengths.{HasRange};
 ghost use Rattle.lf_frame.specs.Loading.{at_place, size_in_dbu, IsWholeSize, has_size};
+ghost use Rattle.lf_frame.specs.Entries.{NoneBreaks};
 ghost use Rattle.lf_frame.specs.Rows.{IsPitch};
 ghost use Rattle.lf_frame.specs.Claims.{IsTableOf};
 ghost use Rattle.lf_frame.specs.Findings.{inputs, units_in, core_in, region_name, Finds, OfCore, OfPitch, CoreHasPartUnits, NameOfFirst};
-ghost use Rattle.lf_frame.specs.Refusals.{IsRowTooMany, IsFenceTooMany, IsComponentTooMany, EndsTooFar, HasPartUnits};
+ghost use Rattle.lf_frame.specs.Refusals.{IsRowTooMany, IsFenceTooMany, IsComponentTooMany, BearsEarlierName, EndsTooFar, HasPartUnits};
 
 use crate::claims::{ClaimTable, first_claimed_twice};
 use crate::component_refusals::{
-    first_component_too_many, first_not_whole, first_second_name, first_without_macro,
-    first_without_size, is_whole_size,
+    first_component_too_many, first_not_whole, first_without_macro, first_without_size,
+    is_whole_size,
 };
 use crate::fence_refusals::{
     first_fence_overlap, first_fence_too_many, first_ground_name, first_second_fence,
@@ -269,15 +270,15 @@ pub(crate) fn not_whole<'d>(
 
 /// The first component that bears an earlier one's name.
 pub(crate) fn second_name<'d>(
-    alloc: Global,
+    claims: &ClaimTable,
     library: &Library,
     document: &'d DefDoc,
     limits: &Limits,
-) -> Result<Option<&'d [u8]>, AllocError>
-    ensures { IfOk result (λ name. Finds (inputs library.now document.now limits.now) SecondName (option_copied name)) }
+) -> Option<&'d [u8]>
+    requires { IsTableOf document.now.regions document.now.groups document.now.components claims.now }
+    ensures { Finds (inputs library.now document.now limits.now) SecondName (option_copied result) }
 {
-    let components = document.components.as_slice();
-    Ok(component_name(components, first_second_name(alloc, components)?))
+    component_name(document.components.as_slice(), claims.second_name())
 }
 
 /// The name of the region of that place.
@@ -370,14 +371,15 @@ pub(crate) fn fences_overlap<'d>(
     Ok(region_at(regions, first))
 }
 
-/// The first movable component that groups of two different fences name.
+/// The first movable component that groups of two different fences name, where no two components bear one name.
 pub(crate) fn two_fences<'d>(
     claims: &ClaimTable,
     library: &Library,
     document: &'d DefDoc,
     limits: &Limits,
 ) -> Option<&'d [u8]>
-    requires { IsTableOf document.now.regions document.now.groups claims.now }
+    requires claims { IsTableOf document.now.regions document.now.groups document.now.components claims.now }
+    requires differ { NoneBreaks BearsEarlierName document.now.components }
     ensures { Finds (inputs library.now document.now limits.now) TwoFences (option_copied result) }
 {
     let components = document.components.as_slice();

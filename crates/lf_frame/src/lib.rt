@@ -12,6 +12,7 @@ mod findings;
 mod frame;
 mod laws;
 mod limits;
+mod listed_names;
 mod loaded;
 mod loading;
 mod measure;

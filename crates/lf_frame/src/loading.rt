@@ -132,7 +132,7 @@ fn accepted_design(
     document: &DefDoc,
     limits: &Limits,
 ) -> Result<Loaded, AllocError>
-    requires claims { IsTableOf document.now.regions document.now.groups claims.now }
+    requires claims { IsTableOf document.now.regions document.now.groups document.now.components claims.now }
     requires accepted { IsAccepted (inputs library.now document.now limits.now) }
     ensures { IfOk result (λ loaded. IsLoadedFrom (inputs library.now document.now limits.now) loaded) }
 {
@@ -142,12 +142,13 @@ fn accepted_design(
     Ok(loaded_from(frame, cells))
 }
 
-/// Which fences claim a component, for all groups of the document.
+/// What the names of all components tell, for all groups of the document.
 fn claims_of(alloc: Global, document: &DefDoc) -> Result<ClaimTable, AllocError>
-    ensures { IfOk result (λ claims. IsTableOf document.now.regions document.now.groups claims) }
+    ensures { IfOk result (λ claims. IsTableOf document.now.regions document.now.groups document.now.components claims) }
 {
     claim_table(
         alloc,
+        document.components.as_slice(),
         document.groups.as_slice(),
         document.regions.as_slice(),
     )

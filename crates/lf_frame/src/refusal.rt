@@ -3,6 +3,9 @@
 ghost use Rattle.std.specs.Prelude.{◌≡◌, ◌≤◌, ◌<◌, Some, None, IfOk, MatchOption};
 ghost use Rattle.std.specs.Option.{option_copied};
 ghost use Rattle.lf_lex.specs.declared.fault.FaultNumber.{FaultNumber};
+ghost use Rattle.lf_lex.specs.declared.fault.FaultNumber.TheVariants.{TwoFences};
+ghost use Rattle.lf_frame.specs.Entries.{NoneBreaks};
+ghost use Rattle.lf_frame.specs.Refusals.{BearsEarlierName};
 ghost use Rattle.lf_frame.specs.Claims.{IsTableOf};
 ghost use Rattle.lf_frame.specs.Findings.{inputs, Finds, number_of, IsAccepted, IsFault};
 
@@ -60,7 +63,8 @@ fn finding<'d>(
     limits: &Limits,
     number: FaultNumber,
 ) -> Result<Option<&'d [u8]>, AllocError>
-    requires { IsTableOf document.now.regions document.now.groups claims.now }
+    requires claims { IsTableOf document.now.regions document.now.groups document.now.components claims.now }
+    requires order { number ≡ TwoFences → NoneBreaks BearsEarlierName document.now.components }
     ensures { IfOk result (λ name. Finds (inputs library.now document.now limits.now) number (option_copied name)) }
 {
     match number {
@@ -74,7 +78,7 @@ fn finding<'d>(
         FaultNumber::NoMacro => Ok(no_macro(library, document, limits)),
         FaultNumber::NoSize => Ok(no_size(library, document, limits)),
         FaultNumber::NotWhole => Ok(not_whole(library, document, limits)),
-        FaultNumber::SecondName => second_name(alloc, library, document, limits),
+        FaultNumber::SecondName => Ok(second_name(claims, library, document, limits)),
         FaultNumber::SecondRegion => second_region(alloc, library, document, limits),
         FaultNumber::NoRegion => no_region(alloc, library, document, limits),
         FaultNumber::TeamName => Ok(team_name(library, document, limits)),
@@ -99,7 +103,7 @@ pub(crate) fn first_refusal<'d>(
     document: &'d DefDoc,
     limits: &Limits,
 ) -> Result<Option<LoadFault<'d>>, AllocError>
-    requires { IsTableOf document.now.regions document.now.groups claims.now }
+    requires { IsTableOf document.now.regions document.now.groups document.now.components claims.now }
     ensures { IfOk result (λ found. MatchOption found (IsAccepted (inputs library.now document.now limits.now)) (λ fault. IsFault (inputs library.now document.now limits.now) fault)) }
 {
     for number in FIRST..END {

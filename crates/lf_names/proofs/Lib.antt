@@ -2,3 +2,4 @@ pub mod Keys
 pub mod Positions
 pub mod Parts
 pub mod Places
+pub mod KeySets

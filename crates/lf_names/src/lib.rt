@@ -2,9 +2,11 @@
 //! of DEF GROUPS that stand for names.
 #![tactic(auto)]
 
+mod lent;
 mod pattern;
 mod table;
 
+pub use lent::LentNames;
 pub use pattern::Pattern;
 pub use table::{Added, NameTable};
 

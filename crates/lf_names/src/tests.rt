@@ -23,6 +23,24 @@ fn gives_names_their_positions(rt: HostRuntime) -> Result<(), Fail> {
     Ok(())
 }
 
+/// A name is found where it is expected, and where it is not.
+#[test]
+fn finds_lent_names(rt: HostRuntime) -> Result<(), Fail> {
+    let bytes = b"abca";
+    let mut table = LentNames::with_capacity(rt.alloc(), 1)?;
+    for at in 0..3usize {
+        assert_eq!(rt; table.add(&bytes[at..at + 1])?, Added::New(at));
+    }
+    assert_eq!(rt; table.add(&bytes[3..4])?, Added::Present(0));
+    assert_eq!(rt; table.len(), 3);
+    assert!(rt; table.find(b"b") == Some(1));
+    assert!(rt; table.find_near(b"c", 2) == Some(2));
+    assert!(rt; table.find_near(b"c", 0) == Some(2));
+    assert!(rt; table.find_near(b"c", 7) == Some(2));
+    assert!(rt; table.find_near(b"d", 2).is_none());
+    Ok(())
+}
+
 /// Takes all that is left of the heap, which is given back when the blocks are dropped.
 fn take_all(heap: &LocalHeap) -> Result<Vec<Vec<u8, &LocalHeap>, &LocalHeap>, AllocError> {
     let mut blocks = Vec::with_capacity(heap, 32)?;

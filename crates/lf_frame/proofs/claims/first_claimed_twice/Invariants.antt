@@ -7,4 +7,4 @@ use Rattle.lf_frame.proofs.Firsts.{NoneBelow}
 use Rattle.lf_frame.proofs.claims.first_claimed_twice.Given as goal
 
 abbrev pub invariant-loop-number : goal.invariant-loop-number
-invariant-loop-number l = (regions : List Region) (groups : List Group) → IsTableOf regions groups l.table → NoneBelow (IsClaimedTwice regions groups) l.components l.number
+invariant-loop-number l = (regions : List Region) (groups : List Group) → IsTableOf regions groups l.components l.table → NoneBelow (IsClaimedTwice regions groups) l.components l.number

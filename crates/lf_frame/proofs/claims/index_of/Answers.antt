@@ -9,7 +9,7 @@ loop-group-preserved c =
     let item = c.group-item.result in
     let groups = take c.loop-group.group-index c.args.groups.now in
     record {
-      whole = c.in_ok-add_group.ensures.whole;
+      wide = c.in_ok-add_group.ensures.wide;
       held = λ regions numbered.
           let own = bounds_by_number regions c.args.numbers.now item numbered in
           let more = bounds_more regions c.args.groups.now c.loop-group.group-index item c.loop-group-test.true c.group-item.is in

@@ -26,3 +26,6 @@ returns-in-FencesOverlap c = rw c.in-FencesOverlap.is c.fences_overlap.ensures
 
 pub returns-in-TwoFences : goal.returns-in-TwoFences
 returns-in-TwoFences c = rw c.in-TwoFences.is c.two_fences.ensures
+
+pub two_fences-requires-clause-differ : goal.two_fences-requires-clause-differ
+two_fences-requires-clause-differ c = c.requires.order c.in-TwoFences.is

@@ -7,7 +7,7 @@ use Rattle.lf_frame.proofs.Indexes.{extends_twice, extends_by_none}
 use Rattle.lf_frame.proofs.claims.PatternIndex.add_patterns.Goals as goal
 
 pub loop-pattern-init : goal.loop-pattern-init
-loop-pattern-init c = extends_by_none c.args.self.now c.requires
+loop-pattern-init c = extends_by_none c.args.names.now c.args.self.now c.requires
 
 pub loop-pattern-preserved : goal.loop-pattern-preserved
 loop-pattern-preserved c =
@@ -17,6 +17,6 @@ loop-pattern-preserved c =
     ≡ bound_to (Some c.args.fence) (take c.loop-pattern.pattern-index c.args.patterns.now) ++ record { pattern = item; fence = c.args.fence } ∷ [] =
     ap (bound_to (Some c.args.fence)) (sym more) ∙ map-append (λ p. record { pattern = p; fence = c.args.fence }) (take c.loop-pattern.pattern-index c.args.patterns.now) (item ∷ []) in
     rw bounds (
-    extends_twice c.args.self.now c.loop-pattern.self c.add.new.self (bound_to (Some c.args.fence) (take c.loop-pattern.pattern-index c.args.patterns.now))
-    (record { pattern = item; fence = c.args.fence } ∷ []) c.loop-pattern.invariant (rw c.as_bytes.ensures at c.in_ok-add.ensures)
+    extends_twice c.args.names.now c.args.self.now c.loop-pattern.self c.add.new.self (bound_to (Some c.args.fence) (take c.loop-pattern.pattern-index c.args.patterns.now))
+    (record { pattern = item; fence = c.args.fence } ∷ []) c.loop-pattern.invariant (rw c.as_bytes.ensures at c.in_ok-trail.ensures)
     )

@@ -4,4 +4,4 @@ use Rattle.lf_frame.specs.Claims.{Extends, bound_to}
 use Rattle.lf_frame.proofs.claims.PatternIndex.add_patterns.Given as goal
 
 abbrev pub invariant-loop-pattern : goal.invariant-loop-pattern
-invariant-loop-pattern l = Extends l.fn.self l.self (bound_to (Some l.fence) (take l.pattern-index l.patterns))
+invariant-loop-pattern l = Extends l.names l.fn.self l.self (bound_to (Some l.fence) (take l.pattern-index l.patterns))

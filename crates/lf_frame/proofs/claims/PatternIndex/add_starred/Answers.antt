@@ -4,5 +4,5 @@ use Rattle.lf_frame.proofs.claims.PatternIndex.add_starred.Goals as goal
 
 pub returns : goal.returns
 returns c =
-    extends_starred c.args.self.now (record { literals = c.args.self.now.literals; starred = c.push.new.self }) (record { pattern = c.args.pattern.now; fence = c.args.fence }) c.requires refl
+    extends_starred c.args.names.now c.args.self.now (record { claims = c.args.self.now.claims; starred = c.push.new.self }) (record { pattern = c.args.pattern.now; fence = c.args.fence }) c.requires refl
     (rw c.in_ok-pattern.ensures at c.in_ok-push.ensures.items)

@@ -1,0 +1,79 @@
+//! A table of distinct names that are lent to it.
+
+ghost use Rattle.std.specs.Prelude.{◌≡◌, ◌≢◌, [], IfOk, OnErr, AllPairs, None, length};
+ghost use Rattle.lf_names.specs.Names.{position_of};
+ghost use Rattle.lf_names.specs.Adds.{Adds};
+
+use crate::table::Added;
+use indexmap::IndexSet;
+use std::alloc::{AllocError, Global};
+use std::hash::{BuildHasherDefault, FoldHasher};
+use std::marker::Model;
+
+/// Distinct names that stand elsewhere, in the order in which they were first seen: as a `NameTable`, but without
+/// copies. It is quickest where the names stand close together.
+#[derive(Drop)]
+pub struct LentNames<'a> {
+    names: IndexSet<&'a [u8], BuildHasherDefault<FoldHasher>, Global>,
+}
+
+impl<'a> Model for LentNames<'a> {
+    ghost use Rattle.std.specs.Prelude.{List, ℕ, map};
+
+    ghost Value = { List (List ℕ) };
+
+    ghost view = { λ t. map (λ k. k.now) t.names.keys };
+}
+
+impl<'a> LentNames<'a> {
+    /// The empty table, with room for so many names.
+    pub fn with_capacity(alloc: Global, names: usize) -> Result<Self, AllocError>
+        ensures { IfOk result (λ table. table ≡ []) }
+    {
+        Ok(LentNames {
+            names: IndexSet::with_capacity(alloc, names)?,
+        })
+    }
+
+    /// Adds the name behind the others, unless it is there already. An `Err`, for want of memory,
+    /// can only come of a new name.
+    pub fn add(&mut self, name: &'a [u8]) -> Result<Added, AllocError>
+        ensures ok { IfOk result (λ added. Adds self.old name.now added self.new) }
+        ensures err { OnErr result (self.new ≡ self.old) }
+        ensures only_new { OnErr result (position_of self.old name.now ≡ None) }
+    {
+        let (position, new) = self.names.insert_full(name)?;
+        if new {
+            return Ok(Added::New(position));
+        }
+        Ok(Added::Present(position))
+    }
+
+    /// The name's position.
+    pub fn find(&self, name: &[u8]) -> Option<usize>
+        ensures { result ≡ position_of self.now name.now }
+    {
+        self.names.get_index_of(name)
+    }
+
+    /// The name's position, which is looked at first where it is expected. A right guess takes no look-up, and a
+    /// wrong one little time.
+    pub fn find_near(&self, name: &[u8], expected: usize) -> Option<usize>
+        ensures { result ≡ position_of self.now name.now }
+    {
+        if let Some(there) = self.names.as_slice().get(expected) {
+            if *there == name {
+                return Some(expected);
+            }
+        }
+        self.find(name)
+    }
+
+    /// How many names there are, which all differ.
+    pub fn len(&self) -> usize
+        ensures len { result ≡ length self.now }
+        ensures distinct { AllPairs (λ name later. name ≢ later) self.now }
+    {
+        self.names.len()
+    }
+}
