@@ -137,13 +137,7 @@ fn first_so_far(first: Option<usize>, number: usize, counts: bool) -> Option<usi
 {
     match first {
         Some(earlier) => Some(earlier),
-        None => {
-            if counts {
-                Some(number)
-            } else {
-                None
-            }
-        }
+        None => { if counts { Some(number) } else { None } }
     }
 }
 

@@ -12,9 +12,7 @@ ghost use Rattle.lf_frame.specs.Findings.{inputs, units_in, core_in, region_name
 ghost use Rattle.lf_frame.specs.Refusals.{IsRowTooMany, IsFenceTooMany, IsComponentTooMany, BearsEarlierName, EndsTooFar, AreMacroFaults};
 
 use crate::claims::{ClaimTable, first_claimed_twice};
-use crate::component_refusals::{
-    MacroFaults, first_component_too_many, is_whole_size,
-};
+use crate::component_refusals::{MacroFaults, first_component_too_many, is_whole_size};
 use crate::fence_refusals::{
     first_fence_overlap, first_fence_too_many, first_ground_name, first_second_fence,
     first_without_region,
