@@ -1,5 +1,5 @@
 -- The first entry of a list that breaks a rule, where an entry is read with those before it.
-use Rattle.std.specs.Prelude.{ℕ, ◌<◌, List, length, take, Option, slice_index_or, MatchOption}
+use Rattle.std.specs.Prelude.{ℕ, ◌<◌, Bool, true, false, List, length, take, Option, None, Some, slice_index_or, MatchOption}
 
 -- no entry breaks the rule
 abbrev pub NoneBreaks : {A : Type 0} → (List A → A → Type 0) → List A → Type 0
@@ -14,3 +14,9 @@ pub record IsFirst {A : Type 0} (breaks : List A → A → Type 0) (entries : Li
 -- the place of the first entry that breaks the rule, or none
 abbrev pub FirstIs : {A : Type 0} → (List A → A → Type 0) → List A → Option ℕ → Type 0
 FirstIs breaks entries found = MatchOption found (NoneBreaks breaks entries) (IsFirst breaks entries)
+
+-- the first number, when one more counts or not
+abbrev pub first_of : Option ℕ → ℕ → Bool → Option ℕ
+first_of (Some earlier) number counts = Some earlier
+first_of None number true = Some number
+first_of None number false = None

@@ -11,6 +11,8 @@ use Rattle.lf_def.specs.declared.rows.Row.{Row}
 use Rattle.lf_def.specs.declared.regions.Region.{Region}
 use Rattle.lf_def.specs.declared.groups.Group.{Group}
 use Rattle.lf_def.specs.declared.components.Component.{Component}
+use Rattle.lf_frame.specs.declared.component_refusals.MacroFaults.{MacroFaults}
+use Rattle.lf_frame.specs.Entries.{FirstIs}
 use Rattle.lf_frame.specs.Rows.{row_area}
 use Rattle.lf_frame.specs.Fences.{ground_name}
 use Rattle.lf_frame.specs.Loading.{site_named, macro_named, has_size, IsWholeSize, is_heeded, frame_row, is_fence, is_cover, is_movable, IsClaimed}
@@ -47,6 +49,12 @@ HasNoSize library earlier c = (is_cover c ≡ false) × IsSomeAnd (macro_named l
 -- NotWhole: such a macro's size is not whole in database units
 abbrev pub HasPartUnits : Contents → ℕ → List Component → Component → Type 0
 HasPartUnits library units earlier c = (is_cover c ≡ false) × IsSomeAnd (macro_named library c.mac) (λ m. IsWholeSize units m.size → ⊥)
+
+-- the first component of each of these three kinds
+pub record AreMacroFaults (library : Contents) (units : ℕ) (components : List Component) (faults : MacroFaults) : Type 0 where
+  pub unknown : FirstIs (HasNoMacro library) components faults.unknown
+  pub sizeless : FirstIs (HasNoSize library) components faults.sizeless
+  pub part_units : FirstIs (HasPartUnits library units) components faults.part_units
 
 -- SecondName: a component bears an earlier one's name
 abbrev pub BearsEarlierName : List Component → Component → Type 0

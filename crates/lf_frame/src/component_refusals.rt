@@ -4,9 +4,9 @@ ghost use Rattle.std.specs.Prelude.{[], ◌∷◌, ◌++◌, Contains, ◌≡◌
 ghost use Rattle.std.specs.Option.{option_copied};
 ghost use Rattle.lf_lef.specs.Lengths.{IsInRange, HasRange};
 ghost use Rattle.lf_units.specs.Length.{IsLength, in_dbu};
-ghost use Rattle.lf_frame.specs.Entries.{FirstIs};
+ghost use Rattle.lf_frame.specs.Entries.{FirstIs, first_of};
 ghost use Rattle.lf_frame.specs.Loading.{macro_named as named_macro, has_size as is_size, IsWholeSize, is_cover as is_cover_component, is_fixed as is_fixed_component, is_movable as is_movable_component};
-ghost use Rattle.lf_frame.specs.Refusals.{HasNoMacro, HasNoSize, HasPartUnits, IsComponentTooMany};
+ghost use Rattle.lf_frame.specs.Refusals.{HasNoMacro, HasNoSize, HasPartUnits, AreMacroFaults, IsComponentTooMany};
 
 use lf_def::{Component, PlacementKind};
 use lf_lef::{Library, Macro};
@@ -89,81 +89,78 @@ pub(crate) fn is_whole_size(size: &Point, units: u32) -> bool
     is_whole(size.y, units)
 }
 
-fn has_no_macro(component: &Component, library: &Library) -> bool
-    ensures { IsTrue result ↔ HasNoMacro library.now [] component.now }
-{
-    if is_cover(component) {
-        return false;
-    }
-    macro_named(library, component.mac.as_bytes()).is_none()
+/// What is wrong with a component's macro.
+#[derive(Clone, Copy)]
+struct MacroFault {
+    unknown: bool,
+    sizeless: bool,
+    part_units: bool,
 }
 
-/// The first component other than COVER whose macro no LEF text has.
-pub(crate) fn first_without_macro(components: &[Component], library: &Library) -> Option<usize>
-    ensures { FirstIs (HasNoMacro library.now) components.now result }
-{
-    for (number, component) in components.iter().enumerate() {
-        if has_no_macro(component, library) {
-            return Some(number);
-        }
-    }
-    None
+/// The first components other than COVER whose macro no LEF text has, has no SIZE with both lengths above 0, and
+/// has a size that is not whole in database units.
+#[derive(Clone, Copy)]
+pub struct MacroFaults {
+    pub unknown: Option<usize>,
+    pub sizeless: Option<usize>,
+    pub part_units: Option<usize>,
 }
 
-fn has_no_size(component: &Component, library: &Library) -> bool
-    ensures { IsTrue result ↔ HasNoSize library.now [] component.now }
-{
-    if is_cover(component) {
-        return false;
-    }
-    match macro_named(library, component.mac.as_bytes()) {
-        Some(mac) => !has_size(&mac.size),
-        None => false,
-    }
-}
-
-/// The first component other than COVER whose macro has no SIZE with both lengths above 0.
-pub(crate) fn first_without_size(components: &[Component], library: &Library) -> Option<usize>
-    ensures { FirstIs (HasNoSize library.now) components.now result }
-{
-    for (number, component) in components.iter().enumerate() {
-        if has_no_size(component, library) {
-            return Some(number);
-        }
-    }
-    None
-}
-
-fn has_part_units(component: &Component, library: &Library, units: u32) -> bool
+fn macro_fault(component: &Component, library: &Library, units: u32) -> MacroFault
     requires least { 1 ≤ units }
     requires most { units ≤ 20000 }
-    ensures { IsTrue result ↔ HasPartUnits library.now units [] component.now }
+    ensures unknown { IsTrue result.unknown ↔ HasNoMacro library.now [] component.now }
+    ensures sizeless { IsTrue result.sizeless ↔ HasNoSize library.now [] component.now }
+    ensures part_units { IsTrue result.part_units ↔ HasPartUnits library.now units [] component.now }
 {
+    let mut fault = MacroFault {
+        unknown: false,
+        sizeless: false,
+        part_units: false,
+    };
     if is_cover(component) {
-        return false;
+        return fault;
     }
     match macro_named(library, component.mac.as_bytes()) {
-        Some(mac) => !is_whole_size(&mac.size, units),
-        None => false,
+        Some(mac) => {
+            fault.sizeless = !has_size(&mac.size);
+            fault.part_units = !is_whole_size(&mac.size, units);
+        }
+        None => fault.unknown = true,
+    }
+    fault
+}
+
+/// The first number so far, when this one counts or not.
+fn first_so_far(first: Option<usize>, number: usize, counts: bool) -> Option<usize>
+    ensures { result ≡ first_of first number counts }
+{
+    match first {
+        Some(earlier) => Some(earlier),
+        None => { if counts { Some(number) } else { None } }
     }
 }
 
-/// The first component other than COVER whose macro's size is not whole in database units.
-pub(crate) fn first_not_whole(
-    components: &[Component],
-    library: &Library,
-    units: u32,
-) -> Option<usize>
+/// The first components whose macros are at fault.
+pub(crate) fn macro_faults(components: &[Component], library: &Library, units: u32) -> MacroFaults
     requires least { 1 ≤ units }
     requires most { units ≤ 20000 }
-    ensures { FirstIs (HasPartUnits library.now units) components.now result }
+    ensures { AreMacroFaults library.now units components.now result }
 {
+    let mut unknown = None;
+    let mut sizeless = None;
+    let mut part_units = None;
     for (number, component) in components.iter().enumerate() {
-        if has_part_units(component, library, units) {
-            return Some(number);
-        }
+        let fault = macro_fault(component, library, units);
+        unknown = first_so_far(unknown, number, fault.unknown);
+        sizeless = first_so_far(sizeless, number, fault.sizeless);
+        part_units = first_so_far(part_units, number, fault.part_units);
     }
-    None
+    MacroFaults {
+        unknown,
+        sizeless,
+        part_units,
+    }
 }
 
 /// Adds the name, and answers whether it is new.

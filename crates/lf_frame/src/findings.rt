@@ -9,13 +9,10 @@ ghost use Rattle.lf_frame.specs.Entries.{NoneBreaks};
 ghost use Rattle.lf_frame.specs.Rows.{IsPitch};
 ghost use Rattle.lf_frame.specs.Claims.{IsTableOf};
 ghost use Rattle.lf_frame.specs.Findings.{inputs, units_in, core_in, region_name, Finds, OfCore, OfPitch, CoreHasPartUnits, NameOfFirst};
-ghost use Rattle.lf_frame.specs.Refusals.{IsRowTooMany, IsFenceTooMany, IsComponentTooMany, BearsEarlierName, EndsTooFar, HasPartUnits};
+ghost use Rattle.lf_frame.specs.Refusals.{IsRowTooMany, IsFenceTooMany, IsComponentTooMany, BearsEarlierName, EndsTooFar, AreMacroFaults};
 
 use crate::claims::{ClaimTable, first_claimed_twice};
-use crate::component_refusals::{
-    first_component_too_many, first_not_whole, first_without_macro, first_without_size,
-    is_whole_size,
-};
+use crate::component_refusals::{MacroFaults, first_component_too_many, is_whole_size};
 use crate::fence_refusals::{
     first_fence_overlap, first_fence_too_many, first_ground_name, first_second_fence,
     first_without_region,
@@ -207,26 +204,28 @@ fn component_name<'d>(components: &'d [Component], place: Option<usize>) -> Opti
 
 /// The macro of the first component whose macro no LEF text has.
 pub(crate) fn no_macro<'d>(
+    faults: &MacroFaults,
     library: &Library,
     document: &'d DefDoc,
     limits: &Limits,
 ) -> Option<&'d [u8]>
+    requires { AreMacroFaults library.now (units_in (inputs library.now document.now limits.now)) document.now.components faults.now }
     ensures { Finds (inputs library.now document.now limits.now) NoMacro (option_copied result) }
 {
-    let components = document.components.as_slice();
-    component_mac(components, first_without_macro(components, library))
+    component_mac(document.components.as_slice(), faults.unknown)
 }
 
 /// The macro of the first component whose macro has no size.
 pub(crate) fn no_size<'d>(
+    faults: &MacroFaults,
     library: &Library,
     document: &'d DefDoc,
     limits: &Limits,
 ) -> Option<&'d [u8]>
+    requires { AreMacroFaults library.now (units_in (inputs library.now document.now limits.now)) document.now.components faults.now }
     ensures { Finds (inputs library.now document.now limits.now) NoSize (option_copied result) }
 {
-    let components = document.components.as_slice();
-    component_mac(components, first_without_size(components, library))
+    component_mac(document.components.as_slice(), faults.sizeless)
 }
 
 /// The core site's name, where its size is no whole number of database units.
@@ -243,29 +242,20 @@ fn core_not_whole<'d>(library: &'d Library, document: &DefDoc, limits: &Limits) 
     }
 }
 
-/// The macro of the first component whose macro's size is no whole number of database units.
-fn mac_not_whole<'d>(library: &Library, document: &'d DefDoc, limits: &Limits) -> Option<&'d [u8]>
-    ensures { NameOfFirst (λ c. c.mac) (HasPartUnits library.now (units_in (inputs library.now document.now limits.now))) document.now.components (option_copied result) }
-{
-    let components = document.components.as_slice();
-    component_mac(
-        components,
-        first_not_whole(components, library, units_of(document)),
-    )
-}
-
 /// The site or macro whose size is no whole number of database units: the core site, then those of components.
 pub(crate) fn not_whole<'d>(
+    faults: &MacroFaults,
     library: &'d Library,
     document: &'d DefDoc,
     limits: &Limits,
 ) -> Option<&'d [u8]>
+    requires { AreMacroFaults library.now (units_in (inputs library.now document.now limits.now)) document.now.components faults.now }
     ensures { Finds (inputs library.now document.now limits.now) NotWhole (option_copied result) }
 {
     if let Some(name) = core_not_whole(library, document, limits) {
         return Some(name);
     }
-    mac_not_whole(library, document, limits)
+    component_mac(document.components.as_slice(), faults.part_units)
 }
 
 /// The first component that bears an earlier one's name.

@@ -5,15 +5,16 @@ ghost use Rattle.std.specs.Option.{option_copied};
 ghost use Rattle.lf_lex.specs.declared.fault.FaultNumber.{FaultNumber};
 ghost use Rattle.lf_lex.specs.declared.fault.FaultNumber.TheVariants.{TwoFences};
 ghost use Rattle.lf_frame.specs.Entries.{NoneBreaks};
-ghost use Rattle.lf_frame.specs.Refusals.{BearsEarlierName};
+ghost use Rattle.lf_frame.specs.Refusals.{BearsEarlierName, AreMacroFaults};
 ghost use Rattle.lf_frame.specs.Claims.{IsTableOf};
-ghost use Rattle.lf_frame.specs.Findings.{inputs, Finds, number_of, IsAccepted, IsFault};
+ghost use Rattle.lf_frame.specs.Findings.{inputs, units_in, Finds, number_of, IsAccepted, IsFault};
 
 use crate::claims::ClaimTable;
+use crate::component_refusals::{MacroFaults, macro_faults};
 use crate::findings::{
     bad_step, fences_overlap, no_macro, no_region, no_rows, no_site, no_size, no_units, not_whole,
     row_orient, rows_overlap, second_name, second_region, team_name, too_many, two_fences,
-    vertical_row,
+    units_of, vertical_row,
 };
 use crate::limits::Limits;
 use lf_def::DefDoc;
@@ -58,12 +59,14 @@ fn numbered(number: u8) -> FaultNumber
 fn finding<'d>(
     alloc: Global,
     claims: &ClaimTable,
+    faults: &MacroFaults,
     library: &'d Library,
     document: &'d DefDoc,
     limits: &Limits,
     number: FaultNumber,
 ) -> Result<Option<&'d [u8]>, AllocError>
     requires claims { IsTableOf document.now.regions document.now.groups document.now.components claims.now }
+    requires faults { AreMacroFaults library.now (units_in (inputs library.now document.now limits.now)) document.now.components faults.now }
     requires order { number ≡ TwoFences → NoneBreaks BearsEarlierName document.now.components }
     ensures { IfOk result (λ name. Finds (inputs library.now document.now limits.now) number (option_copied name)) }
 {
@@ -75,9 +78,9 @@ fn finding<'d>(
         FaultNumber::BadStep => Ok(bad_step(library, document, limits)),
         FaultNumber::RowOrient => Ok(row_orient(library, document, limits)),
         FaultNumber::RowsOverlap => rows_overlap(alloc, library, document, limits),
-        FaultNumber::NoMacro => Ok(no_macro(library, document, limits)),
-        FaultNumber::NoSize => Ok(no_size(library, document, limits)),
-        FaultNumber::NotWhole => Ok(not_whole(library, document, limits)),
+        FaultNumber::NoMacro => Ok(no_macro(faults, library, document, limits)),
+        FaultNumber::NoSize => Ok(no_size(faults, library, document, limits)),
+        FaultNumber::NotWhole => Ok(not_whole(faults, library, document, limits)),
         FaultNumber::SecondName => Ok(second_name(claims, library, document, limits)),
         FaultNumber::SecondRegion => second_region(alloc, library, document, limits),
         FaultNumber::NoRegion => no_region(alloc, library, document, limits),
@@ -106,9 +109,11 @@ pub(crate) fn first_refusal<'d>(
     requires { IsTableOf document.now.regions document.now.groups document.now.components claims.now }
     ensures { IfOk result (λ found. MatchOption found (IsAccepted (inputs library.now document.now limits.now)) (λ fault. IsFault (inputs library.now document.now limits.now) fault)) }
 {
+    let components = document.components.as_slice();
+    let faults = macro_faults(components, library, units_of(document));
     for number in FIRST..END {
         let refusal = numbered(number);
-        if let Some(name) = finding(alloc, claims, library, document, limits, refusal)? {
+        if let Some(name) = finding(alloc, claims, &faults, library, document, limits, refusal)? {
             return Ok(Some(LoadFault {
                 number: refusal,
                 line: None,
