@@ -403,8 +403,7 @@ impl ClaimTable {
 
 /// The first movable component that groups of two different fences name, where no two components bear one name.
 pub(crate) fn first_claimed_twice(components: &[Component], table: &ClaimTable) -> Option<usize>
-    requires { NoneBreaks BearsEarlierName components.now }
-    ensures { (regions : List Region) (groups : List Group) → IsTableOf regions groups components.now table.now → FirstIs (IsClaimedTwice regions groups) components.now result }
+    ensures { (regions : List Region) (groups : List Group) → NoneBreaks BearsEarlierName components.now → IsTableOf regions groups components.now table.now → FirstIs (IsClaimedTwice regions groups) components.now result }
 {
     for (number, component) in components.iter().enumerate() {
         if table.is_claimed_twice(number, component) {
