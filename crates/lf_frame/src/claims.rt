@@ -48,8 +48,8 @@ pub struct PatternIndex {
 }
 
 /// The number of the component that a group named last, and where its next one is expected: as far behind it as it
-/// stands behind the one before. Groups often name their components at even distances, so that this guess saves
-/// looking names up; nothing rests on it.
+/// stands behind the one before. Where a group names its components at even distances in the order of the text, the
+/// guess saves looking them up; nothing else rests on it.
 #[derive(Clone, Copy)]
 struct Trail {
     last: usize,
