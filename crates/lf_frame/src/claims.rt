@@ -48,8 +48,8 @@ pub struct PatternIndex {
 }
 
 /// The number of the component that a group named last, and where its next one is expected: as far behind it as it
-/// stands behind the one before. Groups often name their components at even distances, so that this guess saves
-/// looking names up; nothing rests on it.
+/// stands behind the one before. Where a group names its components at even distances in the order of the text, the
+/// guess saves looking them up; nothing else rests on it.
 #[derive(Clone, Copy)]
 struct Trail {
     last: usize,
@@ -403,8 +403,7 @@ impl ClaimTable {
 
 /// The first movable component that groups of two different fences name, where no two components bear one name.
 pub(crate) fn first_claimed_twice(components: &[Component], table: &ClaimTable) -> Option<usize>
-    requires { NoneBreaks BearsEarlierName components.now }
-    ensures { (regions : List Region) (groups : List Group) → IsTableOf regions groups components.now table.now → FirstIs (IsClaimedTwice regions groups) components.now result }
+    ensures { (regions : List Region) (groups : List Group) → NoneBreaks BearsEarlierName components.now → IsTableOf regions groups components.now table.now → FirstIs (IsClaimedTwice regions groups) components.now result }
 {
     for (number, component) in components.iter().enumerate() {
         if table.is_claimed_twice(number, component) {

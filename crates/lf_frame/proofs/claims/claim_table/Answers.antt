@@ -1,4 +1,3 @@
-use Rattle.std.proofs.Common.{sym}
 use Rattle.lf_frame.proofs.Claimed.{claims_made}
 use Rattle.lf_frame.proofs.claims.claim_table.Goals as goal
 

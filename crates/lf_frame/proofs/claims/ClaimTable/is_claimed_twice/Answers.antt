@@ -1,4 +1,4 @@
-use Rattle.std.proofs.Common.{refl, sym, ◌∙◌}
+use Rattle.std.proofs.Common.{refl, sym}
 use Rattle.lf_frame.specs.declared.claims.Claim.TheVariants.{Unclaimed, ByOne, ByTwo}
 use Rattle.lf_frame.proofs.Claimants.{unclaimed_once, claimed_once}
 use Rattle.lf_frame.proofs.Claimed.{claim_read, claim_is}

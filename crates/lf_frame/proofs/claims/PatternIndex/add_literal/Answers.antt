@@ -1,7 +1,6 @@
 use Rattle.std.proofs.Common.{◌≡◌, set, refl, sym, ap, ◌∙◌, arith}
 use Rattle.std.proofs.lemmas.List.{length-set}
-use Rattle.lf_frame.specs.declared.claims.PatternIndex.{PatternIndex}
-use Rattle.lf_frame.specs.Claims.{joined, claim_at, IsWide}
+use Rattle.lf_frame.specs.Claims.{joined, claim_at}
 use Rattle.lf_frame.proofs.Indexes.{extends_known, extends_unknown}
 use Rattle.lf_frame.proofs.claims.PatternIndex.add_literal.Goals as goal
 

@@ -1,4 +1,4 @@
-use Rattle.std.proofs.Common.{◌≡◌, ◌∙◌, length, rules, sym, arith}
+use Rattle.std.proofs.Common.{◌≡◌, length, rules}
 use Rattle.lf_frame.proofs.Indexes.{told_by_literals}
 use Rattle.lf_frame.proofs.claims.PatternIndex.claims_of.Goals as goal
 
