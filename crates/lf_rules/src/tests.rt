@@ -169,11 +169,12 @@ fn tell_the_same(left: &Report, right: &Report) -> bool {
 fn both_searches_tell_the_same(rt: HostRuntime) -> Result<(), Fail> {
     let design = design(rt.alloc())?;
     assert!(rt; design.cells.len() == 5);
-    for step in 0..30i32 {
-        let along = step * 200;
+    for step in 0..30u16 {
+        let along = i32::from(step) * 200;
+        let row = i32::from(step % 4) * 2_000;
         let places = [
             Some(Place::new(along, 0, Orient::N)),
-            Some(Place::new(4_200 - along, 2_000 * (step % 4), Orient::FS)),
+            Some(Place::new(4_200 - along, row, Orient::FS)),
             Some(Place::new(along, 2_000, Orient::FS)),
             Some(Place::new(along + 200, 0, Orient::N)),
             Some(Place::new(3_000 + along, 0, Orient::S)),
