@@ -1,11 +1,13 @@
 -- Verdicts that are found one by one, in the order of the cells' boxes.
-use Rattle.std.proofs.Common.{◌≡◌, ◌≢◌, ◌⊎◌, inl, inr, ℕ, zero, suc, ◌+◌, ◌<◌, List, [], ◌∷◌, ◌++◌, length, map, get_or, set, slice_get, Option, None, Some, refl, sym, ◌∙◌, ap, subst, arith}
+use Rattle.std.proofs.Common.{◌≡◌, ◌≢◌, ◌⊎◌, inl, inr, ℕ, zero, suc, ◌+◌, ◌<◌, List, [], ◌∷◌, ◌++◌, length, map, drop, get_or, set, slice_get, Option, None, Some, refl, sym, ◌∙◌, ap, subst, arith}
 use Rattle.std.specs.Prelude.{All, Contains, IsPermutation, option_and_then, option_map}
 use Rattle.std.proofs.lemmas.Grind.{get_or-set_at}
-use Rattle.std.proofs.lemmas.List.{get_or_default, get_or-set_other, length-set}
+use Rattle.std.proofs.Math.Seq.{drop-cons}
+use Rattle.std.proofs.lemmas.List.{append_assoc, map-append, get_or_default, get_or-set_other, length-set}
 use Rattle.std.proofs.lemmas.Option.{slice_get-map}
-use Rattle.std.proofs.lemmas.List.Elements.{All-nil, All-cons}
+use Rattle.std.proofs.lemmas.List.Elements.{All-nil, All-cons, All-head, All-tail}
 use Rattle.std.proofs.lemmas.List.Sorted.{All-permutation, Contains-permutation}
+use Rattle.std.specs.Borrow.{Bor}
 use Rattle.lf_rtree.specs.declared.placed.Placed.{Placed}
 use Rattle.lf_frame.specs.declared.frame.Frame.{Frame}
 use Rattle.lf_frame.specs.declared.place.Place.{Place}
@@ -14,7 +16,7 @@ use Rattle.lf_rules.specs.declared.report.Listed.{Listed}
 use Rattle.lf_rules.specs.Choice.{Spot, spot_of}
 use Rattle.lf_rules.specs.Legalizer.{Legalizer}
 use Rattle.lf_rules.specs.Team.{Member, box_in, with_box, boxes_from}
-use Rattle.lf_rules.specs.Reports.{member_of, trial_among, broken_among, verdict_at, AreVerdicts, AreSomeVerdicts, PutsVerdict}
+use Rattle.lf_rules.specs.Reports.{IsListed, member_of, named, trial_among, broken_among, verdict_at, AreVerdicts, AreSomeVerdicts, IsPut, PutsVerdict}
 use Rattle.lf_rules.proofs.NearLemmas.{first_there, later_there}
 
 -- ---- the numbers of boxes
@@ -89,6 +91,62 @@ puts l f cells own cell v old there is within some = record {
         verdict_at (set old own v) other ≡ broken_among l f cells other c
     keep other c at had (inl same) = here other c same at
     keep other c at had (inr differ) = get_or-set_other old own other v None differ ∙ had
+
+-- the same where the verdict is only set if a rule is broken
+pub puts_or_keeps : (l : Legalizer) (f : Frame) (cells : List (Listed (List ℕ))) (own : ℕ) (cell : Listed (List ℕ)) (v : Option Broken) (old new : List (Option Broken)) → slice_get cells own ≡ Some cell →
+    v ≡ broken_among l f cells own cell → own < length old → AreSomeVerdicts l f cells old → IsPut own v old new → PutsVerdict l f cells own old new
+puts_or_keeps l f cells own cell v old new there is within some (inr set_now) =
+    subst (λ (n : List (Option Broken)). PutsVerdict l f cells own old n) (sym set_now) (puts l f cells own cell v old there is within some)
+puts_or_keeps l f cells own cell v old new there is within some (inl (nothing, same)) =
+    subst (λ (n : List (Option Broken)). PutsVerdict l f cells own old n) (sym same) record {
+      some = some;
+      put = λ c at. right c at (some.each own c at);
+      kept = λ other c at had. had;
+    }
+  where
+    right : (c : Listed (List ℕ)) → slice_get cells own ≡ Some c → (verdict_at old own ≡ None) ⊎ (verdict_at old own ≡ broken_among l f cells own c) → verdict_at old own ≡ broken_among l f cells own c
+    right c at (inr had) = had
+    right c at (inl none) =
+        let both : Some cell ≡ Some c = sym there ∙ at in
+        let one : cell ≡ c = cc in
+        none ∙ sym nothing ∙ is ∙ ap (λ (d : Listed (List ℕ)). broken_among l f cells own d) one
+
+-- ---- the cells of the boxes
+
+-- the cell that was fetched for a box is the one of the box's number
+pub fetched_at : (cells fetched : List (Listed (List ℕ))) (boxes : List Placed) (k : ℕ) (d : Placed) (c : Listed (List ℕ)) → map Some fetched ≡ map (λ p. slice_get cells p.own) boxes → k < length boxes →
+    slice_get fetched k ≡ Some c → slice_get cells (get_or boxes k d).own ≡ Some c
+fetched_at cells [] [] k d c same within at = absurd (omega (arith, within))
+fetched_at cells [] (p ∷ boxes) k d c same within at = absurd cc
+fetched_at cells (x ∷ fetched) [] k d c same within at = absurd cc
+fetched_at cells (x ∷ fetched) (p ∷ boxes) zero d c same within at =
+    let first : Some x ≡ slice_get cells p.own = cc in
+    sym first ∙ at
+fetched_at cells (x ∷ fetched) (p ∷ boxes) (suc k) d c same within at =
+    let rest : map Some fetched ≡ map (λ p. slice_get cells p.own) boxes = cc in
+    fetched_at cells fetched boxes k d c rest (omega (arith, within)) at
+
+-- what is known of each listed cell is known of the one at a number
+pub listed_there : (f : Frame) (cells : List (Listed (Bor (List ℕ)))) (own : ℕ) (c : Listed (List ℕ)) → All (λ x. IsListed f (named x)) cells → slice_get (map named cells) own ≡ Some c → IsListed f c
+listed_there f [] own c all at = absurd cc
+listed_there f (x ∷ cells) zero c all at =
+    let same : named x ≡ c = cc in
+    subst (IsListed f) same (All-head (λ y. IsListed f (named y)) x cells all)
+listed_there f (x ∷ cells) (suc own) c all at = listed_there f cells own c (All-tail (λ y. IsListed f (named y)) x cells all) at
+
+-- one more cell was fetched
+pub fetched_more : (cells fetched : List (Listed (List ℕ))) (boxes : List Placed) (k : ℕ) (d : Placed) (c : Listed (List ℕ)) → k < length boxes → slice_get cells (get_or boxes k d).own ≡ Some c →
+    map Some fetched ++ map (λ p. slice_get cells p.own) (drop k boxes) ≡ map (λ p. slice_get cells p.own) boxes →
+    map Some (fetched ++ c ∷ []) ++ map (λ p. slice_get cells p.own) (drop (k + 1) boxes) ≡ map (λ p. slice_get cells p.own) boxes
+fetched_more cells fetched boxes k d c within there so_far =
+    let next : suc k ≡ k + 1 = omega arith in
+    let cut : drop k boxes ≡ get_or boxes k d ∷ drop (k + 1) boxes = subst (λ (n : ℕ). drop k boxes ≡ get_or boxes k d ∷ drop n boxes) next (drop-cons boxes k d within) in
+    let behind : List (Option (Listed (List ℕ))) = map (λ p. slice_get cells p.own) (drop (k + 1) boxes) in
+    let step : map (λ p. slice_get cells p.own) (drop k boxes) ≡ Some c ∷ behind =
+    ap (map (λ p. slice_get cells p.own)) cut ∙ ap (λ (o : Option (Listed (List ℕ))). o ∷ behind) there in
+    let grown : map Some (fetched ++ c ∷ []) ++ behind ≡ map Some fetched ++ Some c ∷ behind =
+    ap (λ (x : List (Option (Listed (List ℕ)))). x ++ behind) (map-append Some fetched (c ∷ [])) ∙ append_assoc (map Some fetched) (Some c ∷ []) behind in
+    grown ∙ ap (λ (x : List (Option (Listed (List ℕ)))). map Some fetched ++ x) (sym step) ∙ so_far
 
 -- ---- the verdicts of all boxes so far
 

@@ -1,5 +1,5 @@
 -- What a check tells: how many cells there are, how many of them are unplaced, and which break a rule where they stand.
-use Rattle.std.specs.Prelude.{◌≡◌, ◌↔◌, ℕ, ◌<◌, List, [], ◌∷◌, Option, None, All, is_none, count_by, map, filter_map, length, slice_get, slice_index_or, ◌⊎◌, Some, option_map, option_and_then}
+use Rattle.std.specs.Prelude.{◌≡◌, ◌↔◌, ℕ, ◌<◌, List, [], ◌∷◌, Option, None, All, is_none, count_by, map, filter_map, length, set, slice_get, slice_index_or, ◌⊎◌, Some, option_map, option_and_then}
 use Rattle.std.specs.List.{range_with_len}
 use Rattle.std.specs.Option.{ForSome}
 use Rattle.std.specs.Borrow.{Bor}
@@ -51,6 +51,10 @@ pub record AreVerdicts (l : Legalizer) (f : Frame) (cells : List (Listed (List �
 pub record AreSomeVerdicts (l : Legalizer) (f : Frame) (cells : List (Listed (List ℕ))) (verdicts : List (Option Broken)) : Type 0 where
   pub count : length verdicts ≡ length cells
   pub each : (own : ℕ) (c : Listed (List ℕ)) → slice_get cells own ≡ Some c → (verdict_at verdicts own ≡ None) ⊎ (verdict_at verdicts own ≡ broken_among l f cells own c)
+
+-- the verdict stands at its number, where it says that a rule is broken; else nothing was changed
+abbrev pub IsPut : ℕ → Option Broken → List (Option Broken) → List (Option Broken) → Type 0
+IsPut own verdict old new = ((verdict ≡ None) × (new ≡ old)) ⊎ (new ≡ set old own verdict)
 
 -- the cell of this number has its verdict now, and so has each cell that had it
 pub record PutsVerdict (l : Legalizer) (f : Frame) (cells : List (Listed (List ℕ))) (own : ℕ) (old new : List (Option Broken)) : Type 0 where

@@ -1,11 +1,11 @@
 //! Reports: how many cells there are, how many of them are unplaced, and which break a rule where they stand.
 
-ghost use Rattle.std.specs.Prelude.{◌≡◌, ◌↔◌, ◌<◌, ◌≤◌, ◌++◌, [], All, IfOk, OnOk, None, ℕ, List, IsPermutation, is_none, count_by, length, map, option_and_then};
+ghost use Rattle.std.specs.Prelude.{◌≡◌, ◌↔◌, ◌<◌, ◌≤◌, ◌++◌, [], All, IfOk, OnOk, None, Some, ℕ, List, IsPermutation, is_none, slice_get, count_by, length, map, option_and_then};
 ghost use Rattle.std.specs.List.{cons_option};
 ghost use Rattle.lf_frame.specs.Boxes.{IsSized, macro_of};
 ghost use Rattle.lf_rules.specs.Legalizer.{IsVerdict, Legalizer};
 ghost use Rattle.lf_rules.specs.FullyLegal.{IsFullyLegal, standing_at};
-ghost use Rattle.lf_rules.specs.Reports.{IsClean, IsListed, IsTold, broken_among, listed_at, member_of, name_among, named, report_of, standing_of, trial_among, AreSomeVerdicts, AreVerdicts, PutsVerdict, verdict_at, violation_at, violation_of, violations_in};
+ghost use Rattle.lf_rules.specs.Reports.{IsClean, IsListed, IsTold, broken_among, listed_at, member_of, name_among, named, report_of, standing_of, trial_among, AreSomeVerdicts, IsPut, AreVerdicts, PutsVerdict, verdict_at, violation_at, violation_of, violations_in};
 ghost use Rattle.lf_rules.specs.Nearby.{IsSearchOf};
 ghost use Rattle.lf_rules.specs.Team.{Member, boxes_beside, boxes_from, with_box};
 
@@ -22,7 +22,7 @@ use std::alloc::{AllocError, Global};
 
 /// A movable cell of which a report tells. Its name is of the type `N`: a slice in the program, a list of bytes
 /// in a contract.
-#[derive(Drop)]
+#[derive(Clone, Copy)]
 pub struct Listed<N> {
     pub name: N,
     /// The number of its team.
@@ -209,6 +209,17 @@ fn no_verdicts(alloc: Global, count: usize) -> Result<Vec<Option<Broken>>, Alloc
     Ok(verdicts)
 }
 
+/// Sets the verdict of that number, where it says that a rule is broken.
+fn put(verdicts: &mut Vec<Option<Broken>>, own: usize, verdict: Option<Broken>)
+    requires { own < length verdicts.old.items }
+    ensures { IsPut own verdict verdicts.old.items verdicts.new.items }
+{
+    match verdict {
+        Some(_) => verdicts[own] = verdict,
+        None => {}
+    }
+}
+
 /// Sets the verdict of the cell of that number.
 fn put_verdict(
     alloc: Global,
@@ -216,19 +227,39 @@ fn put_verdict(
     search: &Search,
     cells: &[Listed<&[u8]>],
     own: usize,
+    cell: &Listed<&[u8]>,
     verdicts: &mut Vec<Option<Broken>>,
 ) -> Result<(), AllocError>
     requires listed { All (λ c. IsListed frame.now (named c)) cells.now }
     requires few { length cells.now ≤ 4000000 }
+    requires this { IsListed frame.now (named cell.now) }
+    requires there { slice_get (map named cells.now) own ≡ Some (named cell.now) }
     requires within { own < length cells.now }
     requires search { IsSearchOf frame.now (map member_of (map named cells.now)) search.now }
     requires count { length verdicts.old.items ≡ length cells.now }
     ensures count { OnOk result (length verdicts.new.items ≡ length cells.now) }
     ensures put { (l : Legalizer) → OnOk result (AreSomeVerdicts l frame.now (map named cells.now) verdicts.old.items → PutsVerdict l frame.now (map named cells.now) own verdicts.old.items verdicts.new.items) }
 {
-    let cell = &cells[own];
-    verdicts[own] = broken_in(alloc, frame, search, cells, own, cell)?;
+    let verdict = broken_in(alloc, frame, search, cells, own, cell)?;
+    put(verdicts, own, verdict);
     Ok(())
+}
+
+/// The cells of these boxes, in the boxes' order. They are fetched in a pass of their own, in which one waits for
+/// the memory while the next are on their way.
+fn fetch<'a>(
+    alloc: Global,
+    cells: &[Listed<&'a [u8]>],
+    boxes: &[Placed],
+) -> Result<Vec<Listed<&'a [u8]>>, AllocError>
+    requires { All (λ p. p.own < length cells.now) boxes.now }
+    ensures { IfOk result (λ fetched. map Some (map named fetched.items) ≡ map (λ p. slice_get (map named cells.now) p.own) boxes.now) }
+{
+    let mut fetched = Vec::with_capacity(alloc, boxes.len())?;
+    for placed in boxes {
+        fetched.push(cells[placed.own as usize])?;
+    }
+    Ok(fetched)
 }
 
 /// The verdict of each cell, found in the order of these boxes of the placed cells: cells that lie side by side
@@ -247,16 +278,12 @@ fn verdicts_in(
     ensures count { IfOk result (λ verdicts. length verdicts.items ≡ length cells.now) }
     ensures each { (l : Legalizer) → IfOk result (λ verdicts. AreVerdicts l frame.now (map named cells.now) verdicts.items) }
 {
+    let fetched = fetch(alloc, cells, boxes)?;
     let mut verdicts = no_verdicts(alloc, cells.len())?;
-    for placed in boxes {
-        put_verdict(
-            alloc,
-            frame,
-            search,
-            cells,
-            placed.own as usize,
-            &mut verdicts,
-        )?;
+    for (number, placed) in boxes.iter().enumerate() {
+        let own = placed.own as usize;
+        let cell = &fetched[number];
+        put_verdict(alloc, frame, search, cells, own, cell, &mut verdicts)?;
     }
     Ok(verdicts)
 }
@@ -342,7 +369,7 @@ fn boxes_in(
     requires few { length cells.now ≤ 4000000 }
     ensures { IfOk result (λ boxes. boxes.items ≡ boxes_from frame.now 0 (map member_of (map named cells.now))) }
 {
-    let mut boxes = Vec::new(alloc);
+    let mut boxes = Vec::with_capacity(alloc, cells.len())?;
     for (number, cell) in cells.iter().enumerate() {
         push_box(&mut boxes, frame, cell, number as u32)?;
     }
@@ -418,7 +445,7 @@ fn listed_cells<'a>(
     requires { length places.now ≡ length cells.now }
     ensures { IfOk result (λ listed. map named listed.items ≡ listed_at cells.now places.now) }
 {
-    let mut listed = Vec::new(alloc);
+    let mut listed = Vec::with_capacity(alloc, cells.len())?;
     for (own, cell) in cells.iter().enumerate() {
         listed.push(Listed {
             name: cell.name.as_bytes(),

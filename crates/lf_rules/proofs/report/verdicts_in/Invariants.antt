@@ -5,5 +5,5 @@ use Rattle.lf_rules.proofs.VerdictLists.{HaveVerdicts}
 use Rattle.lf_rules.proofs.report.verdicts_in.Given as goal
 
 -- the cells of the boxes so far have their verdict
-abbrev pub invariant-loop-placed : goal.invariant-loop-placed
-invariant-loop-placed l = (length l.verdicts.items ≡ length l.cells) × ((lz : Legalizer) → HaveVerdicts lz l.frame (map named l.cells) l.boxes l.placed-index l.verdicts.items)
+abbrev pub invariant-loop-number : goal.invariant-loop-number
+invariant-loop-number l = (length l.verdicts.items ≡ length l.cells) × ((lz : Legalizer) → HaveVerdicts lz l.frame (map named l.cells) l.boxes l.number l.verdicts.items)
