@@ -1,12 +1,12 @@
 #!/usr/bin/env python3
 """Checks fully legal designs of growing size by the proved program, and prints seconds, peak memory and how they grow.
 
-usage: bench/check.py [COUNT...]    (10000 100000 1000000 components; from the top; the program crates/lefence is proved and
-                                     built first: rt run there)
+usage: bench/check.py [RUNS]    (5; from the top; the program crates/lefence is proved and built first: rt run there)
 
 `check` is all that `lefence check` does: reading both texts, loading, and the report; `replay` is `lefence replay` without
 a line, which is the same without the report and with the start of the floor. Every cell is placed within its fence, so
-that the report of a design has no violation. The peak is never below that of this Python, about 15 MB.
+that the report of a design has no violation. The designs take turns, run after run, and the best of a design's runs is
+printed. The peak is never below that of this Python, about 15 MB.
 """
 import os
 import subprocess
@@ -14,8 +14,9 @@ import sys
 import tempfile
 import time
 
-from load import LEFENCE, write
+from load import LEFENCE, best, grown, write
 
+COUNTS = 10_000, 100_000, 1_000_000
 DESIGNS = ((10, 0), (500, 10_000))
 
 
@@ -30,24 +31,30 @@ def run(task, lef, def_):
     return time.perf_counter() - start, usage.ru_maxrss * 1024, out.decode()
 
 
+def figures(lef, def_, count):
+    seconds, peak, told = run("check", lef, def_)
+    if told != f'{{"cells":{count},"unplaced":0,"violations":[]}}\n':
+        sys.exit(f"check: {told[:200]}")
+    return seconds, peak, run("replay", lef, def_)[0]
+
+
 def main():
-    counts = [int(word) for word in sys.argv[1:]] or [10_000, 100_000, 1_000_000]
+    runs = int(sys.argv[1]) if len(sys.argv) > 1 else 5
     if not os.access(LEFENCE, os.X_OK):
         sys.exit("build it first: (cd crates/lefence && rt run)")
     print(f"{'fences':>7} {'obstacles':>10} {'components':>11} {'check s':>9} {'times':>6} {'peak MB':>8} {'times':>6} {'replay s':>9} {'times':>6}")
     with tempfile.TemporaryDirectory() as folder:
-        lef, def_ = os.path.join(folder, "x.lef"), os.path.join(folder, "x.def")
+        lef = os.path.join(folder, "x.lef")
         write(lef, "lef", 200)
         for fences, obstacles in DESIGNS:
+            texts = [(os.path.join(folder, f"{fences}_{count}.def"), count) for count in COUNTS]
+            for text, count in texts:
+                write(text, "placed", count, fences, obstacles)
             before = None
-            for count in counts:
-                write(def_, "placed", count, fences, obstacles)
-                seconds, peak, told = run("check", lef, def_)
-                if told != f'{{"cells":{count},"unplaced":0,"violations":[]}}\n':
-                    sys.exit(f"check: {told[:200]}")
-                now = seconds, peak, run("replay", lef, def_)[0]
-                grown = [f"{new / old:.1f}" for new, old in zip(now, before)] if before else ["", "", ""]
-                print(f"{fences:>7} {obstacles:>10} {count:>11} {seconds:9.3f} {grown[0]:>6} {peak / 1e6:8.1f} {grown[1]:>6} {now[2]:9.3f} {grown[2]:>6}", flush=True)
+            for count, now in zip(COUNTS, best([lambda text=text: figures(lef, *text) for text in texts], runs)):
+                seconds, peak, replayed = now
+                times = grown(before, now)
+                print(f"{fences:>7} {obstacles:>10} {count:>11} {seconds:9.3f} {times[0]:>6} {peak / 1e6:8.1f} {times[1]:>6} {replayed:9.3f} {times[2]:>6}", flush=True)
                 before = now
 
 

@@ -1,11 +1,13 @@
 #!/usr/bin/env python3
 """Loads designs of growing size by the proved programs, and prints seconds, peak memory and how they grow.
 
-usage: bench/load.py [FENCES] [ROWS]    (500 and 10000; from the top; the programs crates/lefence_bench and crates/lefence
-                                         are proved and built first: rt run in each)
+usage: bench/load.py [FENCES] [ROWS] [RUNS]    (500, 10000 and 5; from the top; the programs crates/lefence_bench and
+                                                crates/lefence are proved and built first: rt run in each)
 
-The groups of a design name its cells one by one. `load` is loading alone, from texts that are read; `replay` is all that
-`lefence replay` does before it answers: reading both texts, loading, and the start of the floor.
+The groups of a design name its cells one by one: those of `def` at even steps, those of `placed` in no order of theirs.
+`load` is loading alone, from texts that are read; `replay` is all that `lefence replay` does before it answers: reading
+both texts, loading, and the start of the floor. The designs take turns, run after run, and the best of a design's runs is
+printed: other work on a machine makes a run slower, and nothing makes it faster.
 """
 import os
 import subprocess
@@ -43,24 +45,45 @@ def replay(lef, def_):
     return time.perf_counter() - start, usage.ru_maxrss * 1024
 
 
+def best(tasks, runs):
+    """For each task the best figures of so many runs, in which the tasks take turns."""
+    found = [task() for task in tasks]
+    for _ in range(runs - 1):
+        found = [tuple(map(min, old, task())) for old, task in zip(found, tasks)]
+    return found
+
+
+def grown(before, now):
+    """How many times as much each figure is as the one before; nothing where there is none before."""
+    return [f"{new / old:.1f}" for new, old in zip(now, before)] if before else [""] * len(now)
+
+
+def figures(lef, def_):
+    seconds, _, _ = load(lef, def_)
+    return seconds, *replay(lef, def_)
+
+
 def main():
-    fences, rows = (int(word) for word in (sys.argv[1:] + ["500", "10000"][len(sys.argv) - 1:])[:2])
+    words = [int(word) for word in sys.argv[1:]]
+    fences, rows, runs = words + [500, 10_000, 5][len(words):]
     for program in (PROGRAM, LEFENCE):
         if not os.access(program, os.X_OK):
             sys.exit(f"build it first: (cd {os.path.dirname(os.path.dirname(program))} && rt run)")
-    print(f"{'components':>10} {'DEF MB':>7} {'load s':>8} {'times':>6} {'replay s':>9} {'times':>6} {'peak MB':>8} {'times':>6}")
-    before = None
+    print(f"{'design':>7} {'components':>10} {'DEF MB':>7} {'load s':>8} {'times':>6} {'replay s':>9} {'times':>6} {'peak MB':>8} {'times':>6}")
     with tempfile.TemporaryDirectory() as folder:
-        lef, def_ = os.path.join(folder, "x.lef"), os.path.join(folder, "x.def")
+        lef = os.path.join(folder, "x.lef")
         write(lef, "lef", 200)
-        for count in (10_000, 100_000, 1_000_000):
-            write(def_, "def", count, fences, rows)
-            seconds, _, what = load(lef, def_)
-            whole, peak = replay(lef, def_)
-            now = seconds, whole, peak
-            grown = [f"{new / old:.1f}" for new, old in zip(now, before)] if before else ["", "", ""]
-            print(f"{count:>10} {os.path.getsize(def_) / 1e6:7.1f} {seconds:8.3f} {grown[0]:>6} {whole:9.3f} {grown[1]:>6} {peak / 1e6:8.1f} {grown[2]:>6}  {what}")
-            before = now
+        for design, more in (("def", rows), ("placed", 0)):
+            counts = 10_000, 100_000, 1_000_000
+            texts = [os.path.join(folder, f"{design}{count}.def") for count in counts]
+            for count, text in zip(counts, texts):
+                write(text, design, count, fences, more)
+            before = None
+            for count, text, now in zip(counts, texts, best([lambda text=text: figures(lef, text) for text in texts], runs)):
+                seconds, whole, peak = now
+                times = grown(before, now)
+                print(f"{design:>7} {count:>10} {os.path.getsize(text) / 1e6:7.1f} {seconds:8.3f} {times[0]:>6} {whole:9.3f} {times[1]:>6} {peak / 1e6:8.1f} {times[2]:>6}", flush=True)
+                before = now
 
 
 if __name__ == "__main__":
