@@ -13,6 +13,7 @@ pub mod Legalizers
 pub mod BesideLemmas
 pub mod NearLemmas
 pub mod AreaLemmas
+pub mod WindowLemmas
 pub mod MetLemmas
 pub mod VerdictLists
 pub mod TidyLemmas

@@ -1,9 +1,10 @@
 -- What lies near a box: the rows, fences and obstacles of a frame and the placed cells, by where they lie.
-use Rattle.std.specs.Prelude.{◌≡◌, ◌==◌, filter, ℕ, ◌+◌, ◌<◌, ◌≤◌, ◌⊎◌, List, [], ◌∷◌, ◌++◌, map, length, slice_index_or, All, Any, IsPermutation, Option, None, MatchOption}
+use Rattle.std.specs.Prelude.{◌≡◌, ◌==◌, filter, ℕ, ◌+◌, ◌<◌, ◌≤◌, ◌≤ℤ◌, ◌⊎◌, List, [], ◌∷◌, ◌++◌, map, length, slice_index_or, All, Any, IsPermutation, Option, None, MatchOption}
 use Rattle.lf_units.specs.declared.area.Point.{Point}
 use Rattle.lf_units.specs.declared.area.Rect.{Rect}
 use Rattle.lf_units.specs.Area.{SharesPoint}
 use Rattle.lf_rtree.specs.declared.placed.Placed.{Placed}
+use Rattle.lf_rtree.specs.Near.{AreNear}
 use Rattle.lf_frame.specs.declared.frame.Frame.{Frame}
 use Rattle.lf_frame.specs.declared.parts.Row.{Row}
 use Rattle.lf_frame.specs.declared.parts.Team.{Team}
@@ -12,6 +13,7 @@ use Rattle.lf_frame.specs.Ground.{StaysInGround, IsClear}
 use Rattle.lf_rules.specs.declared.rule.Rule.{Rule}
 use Rattle.lf_rules.specs.declared.rule.Rule.TheVariants.{Fence, Obstacle}
 use Rattle.lf_rules.specs.declared.frame_index.FrameIndex.{FrameIndex}
+use Rattle.lf_rules.specs.declared.window.Window.{Window}
 use Rattle.lf_rules.specs.declared.search.Search.{Search}
 use Rattle.lf_rules.specs.declared.search.Search.TheVariants.{Plain, Indexed}
 use Rattle.lf_rules.specs.Legality.{Trial, Holds, number_of, IsFirstBroken}
@@ -45,6 +47,21 @@ pub record IsIndexOf (f : Frame) (i : FrameIndex) : Type 0 where
   pub fences : IsPermutation (fence_boxes 0 f.teams) i.fences
   pub obstacles : IsPermutation (obstacle_boxes f.obstacles) i.obstacles
 
+-- the inner rectangle reaches over no edge of the outer one
+pub record IsWithin (outer inner : Rect) : Type 0 where
+  pub left : outer.x1 ≤ℤ inner.x1
+  pub bottom : outer.y1 ≤ℤ inner.y1
+  pub right : inner.x2 ≤ℤ outer.x2
+  pub top : inner.y2 ≤ℤ outer.y2
+
+-- the window holds the frame's rows, fences and obstacles that share a point with its rectangle
+pub record IsWindowOf (f : Frame) (w : Window) : Type 0 where
+  pub index : FrameIndex
+  pub of : IsIndexOf f index
+  pub rows : AreNear index.rows w.rect w.rows.items
+  pub fences : AreNear index.fences w.rect w.fences.items
+  pub obstacles : AreNear index.obstacles w.rect w.obstacles.items
+
 -- the numbers are those of rows, and each row that shares a point with the box has its number among them
 pub record AreRowsNear (f : Frame) (box : Rect) (near : List Placed) : Type 0 where
   pub known : All (λ p. p.own < length f.rows) near
@@ -63,4 +80,4 @@ IsAreaVerdict f team box verdict =
 -- what a search looks cells up in is the frame's and theirs
 abbrev pub IsSearchOf : Frame → List Member → Search → Type 0
 IsSearchOf f cells Plain = Unit {0}
-IsSearchOf f cells (Indexed index boxes) = IsIndexOf f index × IsPermutation (boxes_from f 0 cells) boxes
+IsSearchOf f cells (Indexed index boxes window) = IsIndexOf f index × IsPermutation (boxes_from f 0 cells) boxes × IsWindowOf f window

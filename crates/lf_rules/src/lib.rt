@@ -12,6 +12,7 @@ mod rows;
 mod rule;
 mod search;
 mod size;
+mod window;
 
 pub use first::first_broken;
 pub use laws::{

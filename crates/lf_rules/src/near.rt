@@ -9,24 +9,28 @@ ghost use Rattle.lf_frame.specs.Ground.{StaysInGround, IsClear};
 ghost use Rattle.lf_frame.specs.Standing.{IsBottomRow, IsSitesHigh, Carries};
 ghost use Rattle.lf_rules.specs.Solid.{IsSolid};
 ghost use Rattle.lf_rules.specs.Legality.{box_of, trial_of};
-ghost use Rattle.lf_rules.specs.Nearby.{AreRowsNear, IsAreaVerdict, IsIndexOf, IsRowVerdict, rects_of};
+ghost use Rattle.lf_rules.specs.Nearby.{AreRowsNear, IsAreaVerdict, IsRowVerdict, IsWindowOf, IsWithin, rects_of};
 
 use crate::cover::is_covered;
 use crate::first::{is_on_rail, is_oriented};
-use crate::frame_index::FrameIndex;
 use crate::rows::{carries, height_in_sites, is_bottom_row};
 use crate::rule::Rule;
+use crate::window::Window;
 use lf_frame::{Frame, Macro, Place, Row};
-use lf_rtree::{Placed, RTree};
+use lf_rtree::Placed;
 use lf_units::Rect;
 use std::alloc::{AllocError, Global};
 
-/// The boxes of the tree that share a point with this one.
-fn near(alloc: Global, tree: &RTree, rect: &Rect) -> Result<Vec<Placed>, AllocError>
-    ensures { IfOk result (λ found. AreNear tree.now rect.now found.items) }
+/// Those of the boxes that share a point with this one.
+fn near(alloc: Global, boxes: &[Placed], rect: &Rect) -> Result<Vec<Placed>, AllocError>
+    ensures { (all : List Placed) (outer : Rect) → AreNear all outer boxes.now → IsWithin outer rect.now → IfOk result (λ found. AreNear all rect.now found.items) }
 {
     let mut found = Vec::new(alloc);
-    tree.find_near(rect, &mut found)?;
+    for placed in boxes {
+        if rect.overlaps(&placed.rect) {
+            found.push(*placed)?;
+        }
+    }
     Ok(found)
 }
 
@@ -41,13 +45,14 @@ fn are_none(boxes: &[Placed]) -> bool
 fn rows_near(
     alloc: Global,
     frame: &Frame,
-    index: &FrameIndex,
+    window: &Window,
     rect: &Rect,
 ) -> Result<Vec<Placed>, AllocError>
-    requires { IsIndexOf frame.now index.now }
+    requires window { IsWindowOf frame.now window.now }
+    requires within { IsWithin window.now.rect rect.now }
     ensures { IfOk result (λ found. AreRowsNear frame.now rect.now found.items) }
 {
-    let found = near(alloc, &index.rows, rect)?;
+    let found = near(alloc, &window.rows, rect)?;
     Ok(found)
 }
 
@@ -119,13 +124,14 @@ fn is_standing_near(frame: &Frame, rect: &Rect, near: &[Placed], bottom: &Row, h
 pub(crate) fn broken_by_rows(
     alloc: Global,
     frame: &Frame,
-    index: &FrameIndex,
+    window: &Window,
     mac: &Macro,
     place: &Place,
     rect: &Rect,
 ) -> Result<Option<Rule>, AllocError>
     requires sized { IsSized frame.now mac.now }
-    requires index { IsIndexOf frame.now index.now }
+    requires window { IsWindowOf frame.now window.now }
+    requires within { IsWithin window.now.rect rect.now }
     requires of_place { rect.now ≡ box_of (trial_of frame.now 0 mac.now place.now []) }
     requires solid { IsSolid rect.now }
     ensures { IfOk result (λ verdict. (team : ℕ) (others : List Placed) → IsRowVerdict (trial_of frame.now team mac.now place.now others) verdict) }
@@ -133,7 +139,7 @@ pub(crate) fn broken_by_rows(
     let Some(height) = height_in_sites(frame, rect) else {
         return Ok(Some(Rule::Height));
     };
-    let near = rows_near(alloc, frame, index, rect)?;
+    let near = rows_near(alloc, frame, window, rect)?;
     let Some(bottom) = bottom_row_near(frame, rect, &near) else {
         return Ok(Some(Rule::Row));
     };
@@ -166,16 +172,17 @@ fn rects_of(alloc: Global, boxes: &[Placed], own: u32) -> Result<Vec<Rect>, Allo
 fn stays_in_ground(
     alloc: Global,
     frame: &Frame,
-    index: &FrameIndex,
+    window: &Window,
     team: usize,
     rect: &Rect,
 ) -> Result<bool, AllocError>
-    requires index { IsIndexOf frame.now index.now }
+    requires window { IsWindowOf frame.now window.now }
+    requires within { IsWithin window.now.rect rect.now }
     requires wide { rect.now.x1 <ℤ rect.now.x2 }
     requires high { rect.now.y1 <ℤ rect.now.y2 }
     ensures { IfOk result (λ stays. IsTrue stays ↔ StaysInGround frame.now team rect.now) }
 {
-    let near = near(alloc, &index.fences, rect)?;
+    let near = near(alloc, &window.fences, rect)?;
     match frame.teams.as_slice().get(team) {
         Some(_) => {
             let rects = rects_of(alloc, &near, team as u32)?;
@@ -191,16 +198,12 @@ fn stays_in_ground(
 }
 
 /// Whether the box meets no obstacle.
-fn is_clear(
-    alloc: Global,
-    frame: &Frame,
-    index: &FrameIndex,
-    rect: &Rect,
-) -> Result<bool, AllocError>
-    requires { IsIndexOf frame.now index.now }
+fn is_clear(alloc: Global, frame: &Frame, window: &Window, rect: &Rect) -> Result<bool, AllocError>
+    requires window { IsWindowOf frame.now window.now }
+    requires within { IsWithin window.now.rect rect.now }
     ensures { IfOk result (λ clear. IsTrue clear ↔ IsClear frame.now rect.now) }
 {
-    let near = near(alloc, &index.obstacles, rect)?;
+    let near = near(alloc, &window.obstacles, rect)?;
     Ok(are_none(&near))
 }
 
@@ -209,19 +212,20 @@ fn is_clear(
 pub(crate) fn broken_by_areas(
     alloc: Global,
     frame: &Frame,
-    index: &FrameIndex,
+    window: &Window,
     team: usize,
     rect: &Rect,
 ) -> Result<Option<Rule>, AllocError>
-    requires index { IsIndexOf frame.now index.now }
+    requires window { IsWindowOf frame.now window.now }
+    requires within { IsWithin window.now.rect rect.now }
     requires wide { rect.now.x1 <ℤ rect.now.x2 }
     requires high { rect.now.y1 <ℤ rect.now.y2 }
     ensures { IfOk result (λ verdict. IsAreaVerdict frame.now team rect.now verdict) }
 {
-    if !stays_in_ground(alloc, frame, index, team, rect)? {
+    if !stays_in_ground(alloc, frame, window, team, rect)? {
         return Ok(Some(Rule::Fence));
     }
-    if !is_clear(alloc, frame, index, rect)? {
+    if !is_clear(alloc, frame, window, rect)? {
         return Ok(Some(Rule::Obstacle));
     }
     Ok(None)

@@ -15,6 +15,7 @@ use crate::laws::{legalizer_is_there, verdict_is_one};
 use crate::rule::{Broken, Rule};
 use crate::search::{Search, broken_beside};
 use crate::size::box_of;
+use crate::window::Window;
 use lf_frame::{Cell, Frame, Loaded, Macro, Place, cell_is_sized};
 use lf_rtree::{Placed, RTree};
 use lf_units::{Name, Sequence};
@@ -126,8 +127,8 @@ fn broken_at(
             let others = boxes_but(alloc, frame, cells, own)?;
             Ok(first_broken(frame, cell.team, mac, place, &others))
         }
-        Search::Indexed(index, boxes) => broken_beside(
-            alloc, frame, index, boxes, cell.team, mac, place, own as u32,
+        Search::Indexed(index, boxes, window) => broken_beside(
+            alloc, frame, index, boxes, window, cell.team, mac, place, own as u32,
         ),
     }
 }
@@ -267,13 +268,13 @@ fn fetch<'a>(
 fn verdicts_in(
     alloc: Global,
     frame: &Frame,
-    search: &Search,
+    search: &mut Search,
     cells: &[Listed<&[u8]>],
     boxes: &[Placed],
 ) -> Result<Vec<Option<Broken>>, AllocError>
     requires listed { All (λ c. IsListed frame.now (named c)) cells.now }
     requires few { length cells.now ≤ 4000000 }
-    requires search { IsSearchOf frame.now (map member_of (map named cells.now)) search.now }
+    requires search { IsSearchOf frame.now (map member_of (map named cells.now)) search.old }
     requires boxes { IsPermutation (boxes_from frame.now 0 (map member_of (map named cells.now))) boxes.now }
     ensures count { IfOk result (λ verdicts. length verdicts.items ≡ length cells.now) }
     ensures each { (l : Legalizer) → IfOk result (λ verdicts. AreVerdicts l frame.now (map named cells.now) verdicts.items) }
@@ -281,6 +282,7 @@ fn verdicts_in(
     let fetched = fetch(alloc, cells, boxes)?;
     let mut verdicts = no_verdicts(alloc, cells.len())?;
     for (number, placed) in boxes.iter().enumerate() {
+        search.move_to(boxes, number)?;
         let own = placed.own as usize;
         let cell = &fetched[number];
         put_verdict(alloc, frame, search, cells, own, cell, &mut verdicts)?;
@@ -337,13 +339,13 @@ fn unplaced_in(cells: &[Listed<&[u8]>]) -> usize
 fn report_by(
     alloc: Global,
     frame: &Frame,
-    search: &Search,
+    search: &mut Search,
     cells: &[Listed<&[u8]>],
     boxes: &[Placed],
 ) -> Result<Report, AllocError>
     requires listed { All (λ c. IsListed frame.now (named c)) cells.now }
     requires few { length cells.now ≤ 4000000 }
-    requires search { IsSearchOf frame.now (map member_of (map named cells.now)) search.now }
+    requires search { IsSearchOf frame.now (map member_of (map named cells.now)) search.old }
     requires boxes { IsPermutation (boxes_from frame.now 0 (map member_of (map named cells.now))) boxes.now }
     ensures report { (l : Legalizer) → IfOk result (λ report. report ≡ report_of l frame.now (map named cells.now)) }
     ensures legal { IfOk result (λ report. IsClean report ↔ IsFullyLegal frame.now (map standing_of (map named cells.now))) }
@@ -383,7 +385,9 @@ fn indexed(alloc: Global, frame: &Frame, boxes: &mut [Placed]) -> Result<Search,
     ensures search { (cells : List Member) → IsPermutation (boxes_from frame.now 0 cells) boxes.old → IfOk result (λ search. IsSearchOf frame.now cells search) }
 {
     let boxes = RTree::build(alloc, boxes)?;
-    Ok(Search::Indexed(index_of(alloc, frame)?, boxes))
+    let index = index_of(alloc, frame)?;
+    let window = Window::new(alloc, &index)?;
+    Ok(Search::Indexed(index, boxes, window))
 }
 
 /// What the rules are tested against for each cell.
@@ -410,10 +414,10 @@ fn report_against(
 {
     let mut boxes = boxes_in(alloc, frame, cells)?;
     match against {
-        Against::All => report_by(alloc, frame, &Search::Plain, cells, &boxes),
+        Against::All => report_by(alloc, frame, &mut Search::Plain, cells, &boxes),
         Against::Near => {
-            let search = indexed(alloc, frame, boxes.as_mut_slice())?;
-            report_by(alloc, frame, &search, cells, &boxes)
+            let mut search = indexed(alloc, frame, boxes.as_mut_slice())?;
+            report_by(alloc, frame, &mut search, cells, &boxes)
         }
     }
 }

@@ -1,4 +1,4 @@
-use Rattle.std.proofs.Common.{◌≡◌, ◌<◌, map, length, arith}
+use Rattle.std.proofs.Common.{◌<◌, map, length, arith}
 use Rattle.lf_rules.specs.Reports.{named}
 use Rattle.lf_rules.proofs.VerdictLists.{puts_or_keeps}
 use Rattle.lf_rules.proofs.report.put_verdict.Goals as goal

@@ -42,6 +42,9 @@ there c =
 pub put_verdict-requires-clause-there : goal.put_verdict-requires-clause-there
 put_verdict-requires-clause-there c = there c
 
+pub put_verdict-requires-clause-search : goal.put_verdict-requires-clause-search
+put_verdict-requires-clause-search c = c.in_ok-move_to.ensures c.args.frame.now (map member_of (map named c.args.cells.now)) c.loop-number.invariant.1
+
 pub put_verdict-requires-clause-this : goal.put_verdict-requires-clause-this
 put_verdict-requires-clause-this c =
     listed_there c.args.frame.now c.args.cells.now (get_or c.args.boxes.now c.loop-number.number nowhere).own (named c.index-cell.result.now) c.requires.listed (there c)
@@ -51,14 +54,16 @@ loop-number-init c =
     let cells = map named c.args.cells.now in
     let named_long = length-map c.args.cells.now named in (
       c.in_ok-verdicts.ensures.count,
+      c.requires.search,
       λ l. none_yet l c.args.frame.now cells c.args.boxes.now c.in_ok-verdicts.verdicts.items (c.in_ok-verdicts.ensures.count ∙ sym named_long) c.in_ok-verdicts.ensures.none,
     )
 
 pub loop-number-preserved : goal.loop-number-preserved
 loop-number-preserved c = (
   c.in_ok-put_verdict.ensures.count,
-  λ l. one_more l c.args.frame.now (map named c.args.cells.now) c.args.boxes.now c.loop-number.number _ c.loop-number.verdicts.items _ c.loop-number-test.true (c.loop-number.invariant.1 l)
-      (c.in_ok-put_verdict.ensures.put l (c.loop-number.invariant.1 l).some),
+  c.in_ok-move_to.ensures c.args.frame.now (map member_of (map named c.args.cells.now)) c.loop-number.invariant.1,
+  λ l. one_more l c.args.frame.now (map named c.args.cells.now) c.args.boxes.now c.loop-number.number _ c.loop-number.verdicts.items _ c.loop-number-test.true (c.loop-number.invariant.2 l)
+      (c.in_ok-put_verdict.ensures.put l (c.loop-number.invariant.2 l).some),
 )
 
 pub returns-clause-each : goal.returns-clause-each
@@ -67,4 +72,4 @@ returns-clause-each c = λ l.
     let cells = map named c.args.cells.now in
     let all : c.loop-number.number ≡ length c.args.boxes.now = omega arith in
     all_done l f cells c.args.boxes.now c.loop-number.verdicts.items c.requires.boxes
-    (subst (λ (k : ℕ). HaveVerdicts l f cells c.args.boxes.now k c.loop-number.verdicts.items) all (c.loop-number.invariant.1 l))
+    (subst (λ (k : ℕ). HaveVerdicts l f cells c.args.boxes.now k c.loop-number.verdicts.items) all (c.loop-number.invariant.2 l))
