@@ -16,6 +16,10 @@ pub record IsBound (bound : Bound) (p : Placed) : Type 0 where
   pub top : p.rect.y2 ≤ℤ bound.rect.y2
   pub least : bound.least ≤ p.own
 
+-- there is a bound, and it bounds the box
+abbrev pub IsWithin : Option Bound → Placed → Type 0
+IsWithin bound p = IsSomeAnd bound (λ b. IsBound b p)
+
 -- the boxes of nodes, in their order
 abbrev pub boxes_of : List Node → List Placed
 boxes_of nodes = map (λ n. n.placed) nodes
@@ -27,13 +31,6 @@ IsTree (suc depth) nodes =
     HoldsAt (λ middle. All (IsBound middle.bound) (boxes_of nodes)) nodes (length nodes / 2)
     × IsTree depth (take (length nodes / 2) nodes)
     × IsTree depth (drop (length nodes / 2 + 1) nodes)
-
--- new nodes stand behind the old ones: a run of this depth, of these boxes
-pub record AddsTree (depth : ℕ) (boxes : List Placed) (old new : List Node) : Type 0 where
-  pub run : List Node
-  pub is : new ≡ old ++ run
-  pub tree : IsTree depth run
-  pub boxes_are : boxes_of run ≡ boxes
 
 -- there is a least number so far, and it is no greater than this one
 abbrev pub IsUpTo : Option ℕ → ℕ → Type 0

@@ -1,7 +1,6 @@
 //! What bounds the boxes of a run, and the nodes of a tree.
 
-ghost use Rattle.std.specs.Prelude.{◌≤◌, All};
-ghost use Rattle.lf_rtree.specs.Packed.{IsBound};
+ghost use Rattle.lf_rtree.specs.Packed.{IsBound, IsWithin};
 
 use crate::placed::Placed;
 use lf_units::Rect;
@@ -32,13 +31,13 @@ impl Bound {
         }
     }
 
-    /// What bounds the same boxes and one more.
-    pub(crate) fn with(&self, placed: &Placed) -> Self
-        ensures one_more { IsBound result placed.now }
-        ensures the_same { (other : Placed) → IsBound self.now other → IsBound result other }
+    /// What bounds the same boxes and those that the other one bounds.
+    pub(crate) fn joined(&self, other: &Bound) -> Self
+        ensures the_same { (p : Placed) → IsBound self.now p → IsBound result p }
+        ensures the_others { (p : Placed) → IsBound other.now p → IsBound result p }
     {
         let rect = &self.rect;
-        let more = &placed.rect;
+        let more = &other.rect;
         Bound {
             rect: Rect {
                 x1: rect.x1.min(more.x1),
@@ -46,18 +45,18 @@ impl Bound {
                 x2: rect.x2.max(more.x2),
                 y2: rect.y2.max(more.y2),
             },
-            least: self.least.min(placed.own),
+            least: self.least.min(other.least),
         }
     }
 
-    /// What bounds each of these boxes and one among them, which the caller has at hand.
-    pub(crate) fn around(boxes: &[Placed], one: &Placed) -> Self
-        ensures { All (IsBound result) boxes.now }
+    /// The same, where there may be no other one.
+    pub(crate) fn with(&self, other: &Option<Bound>) -> Self
+        ensures the_same { (p : Placed) → IsBound self.now p → IsBound result p }
+        ensures the_others { (p : Placed) → IsWithin other.now p → IsBound result p }
     {
-        let mut bound = Bound::of(one);
-        for placed in boxes {
-            bound = bound.with(placed);
+        match other {
+            Some(other) => self.joined(other),
+            None => *self,
         }
-        bound
     }
 }

@@ -1,16 +1,18 @@
-//! How a tree is made of boxes that stand in order.
+//! How a tree is made of boxes that stand in order: a node for each, and then the bounds, from the
+//! shortest runs upwards, with one look at each box.
 
-ghost use Rattle.std.specs.Prelude.{OnOk};
-ghost use Rattle.lf_rtree.specs.Packed.{AddsTree};
+ghost use Rattle.std.specs.Prelude.{◌≡◌, All, IfOk};
+ghost use Rattle.lf_rtree.specs.Packed.{IsTree, IsWithin, boxes_of};
 
 use crate::bound::{Bound, Node};
 use crate::placed::Placed;
-use std::alloc::AllocError;
+use std::alloc::{AllocError, Global};
 
-/// Puts a node for each box behind the others, with no tree among them.
-fn push_all(boxes: &[Placed], nodes: &mut Vec<Node>) -> Result<(), AllocError>
-    ensures { OnOk result (AddsTree 0 boxes.now nodes.old.items nodes.new.items) }
+/// A node for each box, in the boxes' order, with no tree among them.
+fn nodes_of(alloc: Global, boxes: &[Placed]) -> Result<Vec<Node>, AllocError>
+    ensures { IfOk result (λ nodes. boxes_of nodes.items ≡ boxes.now) }
 {
+    let mut nodes = Vec::with_capacity(alloc, boxes.len())?;
     for placed in boxes {
         let bound = Bound::of(placed);
         nodes.push(Node {
@@ -18,24 +20,46 @@ fn push_all(boxes: &[Placed], nodes: &mut Vec<Node>) -> Result<(), AllocError>
             bound,
         })?;
     }
-    Ok(())
+    Ok(nodes)
 }
 
-/// Puts a node for each box behind the others, as a run of this depth, in the boxes' order.
-pub(crate) fn grow(boxes: &[Placed], depth: u32, nodes: &mut Vec<Node>) -> Result<(), AllocError>
-    ensures { OnOk result (AddsTree depth boxes.now nodes.old.items nodes.new.items) }
+/// What bounds each of these boxes; none where there is no box.
+fn bound_of(nodes: &[Node]) -> Option<Bound>
+    ensures { All (IsWithin result) (boxes_of nodes.now) }
+{
+    let mut bound = None;
+    for node in nodes {
+        bound = Some(Bound::of(&node.placed).with(&bound));
+    }
+    bound
+}
+
+/// Makes the nodes a run of this depth, each where it stands, and gives what bounds the run; none
+/// where there is no box.
+fn bind(nodes: &mut [Node], depth: u32) -> Option<Bound>
+    ensures same { boxes_of nodes.new ≡ boxes_of nodes.old }
+    ensures tree { IsTree depth nodes.new }
+    ensures bounds { All (IsWithin result) (boxes_of nodes.new) }
 {
     if depth == 0 {
-        return push_all(boxes, nodes);
+        return bound_of(nodes);
     }
-    if boxes.is_empty() {
-        return Ok(());
-    }
-    let half = boxes.len() / 2;
-    let placed = boxes[half];
-    let bound = Bound::around(boxes, &placed);
-    grow(&boxes[..half], depth - 1, nodes)?;
-    nodes.push(Node { placed, bound })?;
-    grow(&boxes[half + 1..], depth - 1, nodes)?;
-    Ok(())
+    let half = nodes.len() / 2;
+    let (before, rest) = nodes.split_at_mut(half);
+    let (middle, behind) = rest.split_first_mut()?;
+    let first = bind(before, depth - 1);
+    let last = bind(behind, depth - 1);
+    let bound = Bound::of(&middle.placed).with(&first).with(&last);
+    middle.bound = bound;
+    Some(bound)
+}
+
+/// The nodes of the boxes, in their order, as a run of this depth.
+pub(crate) fn grow(alloc: Global, boxes: &[Placed], depth: u32) -> Result<Vec<Node>, AllocError>
+    ensures same { IfOk result (λ nodes. boxes_of nodes.items ≡ boxes.now) }
+    ensures tree { IfOk result (λ nodes. IsTree depth nodes.items) }
+{
+    let mut nodes = nodes_of(alloc, boxes)?;
+    bind(nodes.as_mut_slice(), depth);
+    Ok(nodes)
 }

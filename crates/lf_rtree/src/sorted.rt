@@ -10,7 +10,7 @@ use crate::placed::Placed;
 pub(crate) fn sort_for_depth(boxes: &mut [Placed], depth: u32)
     ensures { IsPermutation boxes.old boxes.new }
 {
-    boxes.sort_unstable_by_key(|placed| (placed.rect.y1, placed.rect.x1, placed.own));
+    boxes.sort_unstable_by_key(|placed| (placed.rect.y1, placed.rect.x1));
     sort_bands(boxes, depth / 2);
 }
 
@@ -19,7 +19,7 @@ fn sort_bands(boxes: &mut [Placed], depth: u32)
     ensures { IsPermutation boxes.old boxes.new }
 {
     if depth == 0 {
-        boxes.sort_unstable_by_key(|placed| (placed.rect.x1, placed.own));
+        boxes.sort_unstable_by_key(|placed| placed.rect.x1);
         return;
     }
     if boxes.is_empty() {

@@ -44,8 +44,7 @@ impl RTree {
     {
         let depth = usize::BITS - (boxes.len() / BUCKET).leading_zeros();
         sort_for_depth(boxes, depth);
-        let mut nodes = Vec::with_capacity(alloc, boxes.len())?;
-        grow(boxes, depth, &mut nodes)?;
+        let nodes = grow(alloc, boxes, depth)?;
         Ok(RTree { nodes, depth })
     }
 

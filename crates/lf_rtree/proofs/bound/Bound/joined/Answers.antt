@@ -1,9 +1,9 @@
 use Rattle.std.proofs.Common.{arith}
 use Rattle.std.proofs.lemmas.Int.{ints}
-use Rattle.lf_rtree.proofs.bound.Bound.with.Goals as goal
+use Rattle.lf_rtree.proofs.bound.Bound.joined.Goals as goal
 
-pub returns-clause-one_more : goal.returns-clause-one_more
-returns-clause-one_more c = record {
+pub returns-clause-the_same : goal.returns-clause-the_same
+returns-clause-the_same c = λ p within. record {
   left = omega (arith, ints);
   bottom = omega (arith, ints);
   right = omega (arith, ints);
@@ -11,8 +11,8 @@ returns-clause-one_more c = record {
   least = omega arith;
 }
 
-pub returns-clause-the_same : goal.returns-clause-the_same
-returns-clause-the_same c = λ other within. record {
+pub returns-clause-the_others : goal.returns-clause-the_others
+returns-clause-the_others c = λ p within. record {
   left = omega (arith, ints);
   bottom = omega (arith, ints);
   right = omega (arith, ints);

@@ -1,0 +1,4 @@
+use Rattle.lf_rtree.proofs.grown.+bind.Given as goal
+
+abbrev pub decreases-bind : goal.decreases-bind
+decreases-bind l = l.depth
