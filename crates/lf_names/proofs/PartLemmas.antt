@@ -142,10 +142,10 @@ answers_step names questions part pairs asked found own differ asked_own below =
   answers = below_more (AnsweredIn names questions (with_answers (number_in pairs) asked found)) part
       (λ k less j name e is. answers_kept (number_in pairs) j (position_of names name) asked found (agree j name e) (below.answers k less j name e is))
       (λ j name e is.
-          let there = kept questions part asked asked_own j name e is in
-          let within : j < length questions = slice_get_within questions j name e in
-          let long : length found ≡ length questions = below.long in
-          answers_put (number_in pairs) j (position_of names name) asked found there.0 _ (agree j name e) there.1 refl (omega arith));
+      let there = kept questions part asked asked_own j name e is in
+      let within : j < length questions = slice_get_within questions j name e in
+      let long : length found ≡ length questions = below.long in
+      answers_put (number_in pairs) j (position_of names name) asked found there.0 _ (agree j name e) there.1 refl (omega arith));
 }
   where
     agree : (j : ℕ) (name : List ℕ) → slice_get questions j ≡ Some name → (i : ℕ) (p : Numbered) → slice_get asked i ≡ Some p → p.number ≡ j → number_in pairs p.name ≡ position_of names name
@@ -237,8 +237,8 @@ eq_cases m n = elim (cases_lt m n) [
 ]
 
 module _ (names : List (List ℕ)) (name : List ℕ) (old new : NameParts) (d store : NumberedNames) (before : ArePartsOf names old)
-  (keeps : (pairs : List Numbered) → Keeps (get_or old.parts.items (part_of name) d) pairs → Keeps store (pairs ++ record { number = old.count; name = name } ∷ [])) (parts : new.parts.items ≡ set old.parts.items (part_of name) store)
-  (count : new.count ≡ old.count + 1) where
+    (keeps : (pairs : List Numbered) → Keeps (get_or old.parts.items (part_of name) d) pairs → Keeps store (pairs ++ record { number = old.count; name = name } ∷ [])) (parts : new.parts.items ≡ set old.parts.items (part_of name) store)
+    (count : new.count ≡ old.count + 1) where
   within : part_of name < length old.parts.items
   within = let below : part_of name < part_count = part_within name in let many : length old.parts.items ≡ part_count = before.many in omega arith
 
