@@ -15,6 +15,7 @@ pub mod FrameMade
 pub mod CellsMade
 pub mod DesignMade
 pub mod Pieces
+pub mod PlaceLemmas
 pub mod Named
 pub mod MapLemmas
 pub mod Tellings

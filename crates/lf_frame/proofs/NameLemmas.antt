@@ -15,7 +15,7 @@ use Rattle.lf_frame.specs.Tables.{component_names as names_of, joined_names}
 name_at : (components : List Component) (k : ℕ) (d : Component) (e : List ℕ) → k < length components → get_or (names_of components) k e ≡ (get_or components k d).name
 name_at components k d e within = grind (arith, common_steps)
 
-many_names : (components : List Component) → length (names_of components) ≡ length components
+pub many_names : (components : List Component) → length (names_of components) ≡ length components
 many_names components = grind (arith, common_steps)
 
 pub bears_known : (components : List Component) (name : List ℕ) → Any (λ c. c.name ≡ name) components → Contains (names_of components) name
@@ -71,3 +71,11 @@ own_bytes bytes name behind lent same is = rw (is, same) (grind (arith, common_s
 
 pub behind_bytes : (bytes name behind lent : List ℕ) → lent ≡ name → bytes ≡ name ++ behind → drop (length lent) bytes ≡ behind
 behind_bytes bytes name behind lent same is = rw (is, same) (grind (arith, common_steps))
+
+-- where all names differ, no component bears an earlier one's
+pub differ_none : (components : List Component) → AllPairs (λ name later. name ≢ later) (names_of components) → NoneBreaks BearsEarlierName components
+differ_none components differ k d within (i, e, inside, is, same) =
+    let behind : k < length (names_of components) = omega (arith, many_names components) in
+    let early : i < k = grind (arith, common_steps) in
+    let earlier : get_or (take k components) i e ≡ get_or components i e = grind (arith, common_steps) in
+    differ i k [] early behind (name_at components i e [] (omega arith) ∙ ap (λ (c : Component). c.name) (sym earlier ∙ is) ∙ same ∙ sym (name_at components k d [] within))

@@ -65,3 +65,29 @@ fn two_fences_claim_one_component(rt: HostRuntime) -> Result<(), Fail> {
     assert!(rt; first_claimed_twice(document.components.as_slice(), &table) == Some(4));
     Ok(())
 }
+
+/// Where names repeat, the first component that bears an earlier one's name is told, whatever parts the names are in.
+#[test]
+fn the_first_second_name_is_told(rt: HostRuntime) -> Result<(), Fail> {
+    const REPEATED: &[u8] = b"DESIGN r ;
+COMPONENTS 5 ;
+- u1 m ;
+- u2 m ;
+- u3 m ;
+- u2 m ;
+- u1 m ;
+END COMPONENTS
+END DESIGN
+";
+    let Ok(document) = read_def(rt.alloc(), REPEATED) else {
+        return Err(Fail::from("a DEF text"));
+    };
+    let table = claim_table(
+        rt.alloc(),
+        document.components.as_slice(),
+        document.groups.as_slice(),
+        document.regions.as_slice(),
+    )?;
+    assert!(rt; table.second_name() == Some(3));
+    Ok(())
+}

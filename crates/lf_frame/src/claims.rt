@@ -1,6 +1,6 @@
-//! Which fences claim a component, by a table of the names of all components.
+//! Which fences claim a component, by where the patterns of groups stand among the names of all components.
 
-ghost use Rattle.std.specs.Prelude.{◌≡◌, ◌↔◌, ◌⊎◌, ℕ, ◌+◌, ◌-◌, ◌^◌, ◌<◌, ◌++◌, [], ◌∷◌, List, Some, None, IsTrue, IfOk, OnOk, length};
+ghost use Rattle.std.specs.Prelude.{◌≡◌, ◌↔◌, ◌⊎◌, ℕ, ◌++◌, [], ◌∷◌, List, Some, None, IsTrue, IfOk, OnOk, drop, length, map, slice_get, slice_set, take};
 ghost use Rattle.std.specs.Option.{option_and_then};
 ghost use Rattle.lf_names.specs.Names.{position_of};
 ghost use Rattle.lf_names.specs.Pattern.{Matches};
@@ -11,13 +11,14 @@ ghost use Rattle.lf_frame.specs.Loading.{fences, fence_names, IsTeamOf};
 ghost use Rattle.lf_frame.specs.Refusals.{HasTwoFences, IsClaimedTwice, BearsEarlierName};
 ghost use Rattle.lf_frame.specs.NameMaps.{value_of, IsWhole};
 ghost use Rattle.lf_frame.specs.Claims.{IsClaimOf, joined as joined_claim, merged as merged_claim, Tells, ClaimsBy, bound_to, claim_at, all_bounds, IsWide, Holds, Extends, Numbers, NumbersOneMore, AreClaimsBy, IsTableOf, StepsTo};
+ghost use Rattle.lf_frame.specs.Tables.{all_patterns};
 
 use crate::component_refusals::is_movable;
 use crate::fence_refusals::is_fence;
-use crate::listed_names::{join_names, list_names};
 use crate::name_map::NameMap;
+use crate::named_patterns::{NamedPatterns, name_patterns};
 use lf_def::{Component, Group, Region};
-use lf_names::{LentNames, Pattern};
+use lf_names::Pattern;
 use lf_units::Name;
 use std::alloc::{AllocError, Global};
 
@@ -45,15 +46,6 @@ pub struct Bound {
 pub struct PatternIndex {
     claims: Vec<Claim>,
     starred: Vec<Bound>,
-}
-
-/// The number of the component that a group named last, and where its next one is expected: as far behind it as it
-/// stands behind the one before. Where a group names its components at even distances in the order of the text, the
-/// guess saves looking them up; nothing else rests on it.
-#[derive(Clone, Copy)]
-struct Trail {
-    last: usize,
-    expected: usize,
 }
 
 /// What the names of all components tell: which of them is an earlier one's too, and which fences claim each.
@@ -114,28 +106,6 @@ fn claim_by_trial(bounds: &[Bound], name: &[u8]) -> Claim
     claim
 }
 
-impl Trail {
-    /// The trail before the first component.
-    fn start() -> Self
-        ensures { result ≡ record { last = 0; expected = 0 } }
-    {
-        Trail {
-            last: 0,
-            expected: 0,
-        }
-    }
-
-    /// The trail behind the component of this number.
-    fn to(self, number: usize) -> Self
-        ensures { number < 2 ^ 63 → result ≡ record { last = number; expected = number + (number - self.last) } }
-    {
-        Trail {
-            last: number,
-            expected: number.saturating_add(number.saturating_sub(self.last)),
-        }
-    }
-}
-
 /// The claim at the number; at a number beyond them, none.
 fn claim_of(claims: &[Claim], number: usize) -> Claim
     ensures { result ≡ claim_at claims.now number }
@@ -154,14 +124,33 @@ fn unclaimed(alloc: Global, count: usize) -> Result<Vec<Claim>, AllocError>
     vec![in alloc; Claim::Unclaimed; count]
 }
 
+/// Joins the fence to the claim at the number, if there is one.
+fn join_at(claims: &mut Vec<Claim>, number: usize, fence: usize)
+    ensures { claims.new.items ≡ slice_set claims.old.items number (joined_claim (claim_at claims.old.items number) fence) }
+{
+    if let Some(claim) = claims.get_mut(number) {
+        *claim = joined(*claim, fence);
+    }
+}
+
+/// The place at the number; beyond them, none.
+fn place_of(places: &[Option<usize>], number: usize) -> Option<usize>
+    ensures { (names patterns : List (List ℕ)) (pattern : List ℕ) → places.now ≡ map (position_of names) patterns → slice_get patterns number ≡ Some pattern → result ≡ position_of names pattern }
+{
+    match places.get(number) {
+        Some(place) => *place,
+        None => None,
+    }
+}
+
 impl PatternIndex {
-    /// The index of no pattern.
-    fn new(alloc: Global, names: &LentNames) -> Result<Self, AllocError>
-        ensures wide { IfOk result (λ index. IsWide names.now index) }
-        ensures nothing { IfOk result (λ index. Holds names.now index []) }
+    /// The index of no pattern, for so many names.
+    fn new(alloc: Global, count: usize) -> Result<Self, AllocError>
+        ensures wide { (names : List (List ℕ)) → length names ≡ count → IfOk result (IsWide names) }
+        ensures nothing { (names : List (List ℕ)) → IfOk result (λ index. Holds names index []) }
     {
         Ok(PatternIndex {
-            claims: unclaimed(alloc, names.len())?,
+            claims: unclaimed(alloc, count)?,
             starred: Vec::new(alloc),
         })
     }
@@ -176,91 +165,69 @@ impl PatternIndex {
         )
     }
 
-    /// Adds a pattern without a star, and answers where the trail goes on.
-    fn add_literal(
-        &mut self,
-        names: &LentNames,
-        pattern: &[u8],
-        fence: usize,
-        trail: Trail,
-    ) -> Trail
-        requires wide { IsWide names.now self.old }
-        requires literal { (name : List ℕ) → (Matches pattern.now name ↔ (name ≡ pattern.now)) }
-        ensures { Extends names.now self.old self.new (record { pattern = pattern.now; fence = fence } ∷ []) }
+    /// Adds a pattern without a star, whose place among the names is this.
+    fn add_literal(&mut self, place: Option<usize>, fence: usize)
+        ensures { (names : List (List ℕ)) (pattern : List ℕ) → IsWide names self.old → ((name : List ℕ) → (Matches pattern name ↔ (name ≡ pattern))) → place ≡ position_of names pattern → Extends names self.old self.new (record { pattern = pattern; fence = fence } ∷ []) }
     {
-        let Some(number) = names.find_near(pattern, trail.expected) else {
-            return trail;
-        };
-        self.claims[number] = joined(claim_of(&self.claims, number), fence);
-        trail.to(number)
+        if let Some(number) = place {
+            join_at(&mut self.claims, number, fence);
+        }
     }
 
     /// Adds a pattern that is tried on each name.
-    fn add_starred(
-        &mut self,
-        alloc: Global,
-        names: &LentNames,
-        pattern: &[u8],
-        fence: usize,
-    ) -> Result<(), AllocError>
-        requires { IsWide names.now self.old }
-        ensures { OnOk result (Extends names.now self.old self.new (record { pattern = pattern.now; fence = fence } ∷ [])) }
+    fn add_starred(&mut self, alloc: Global, pattern: &[u8], fence: usize) -> Result<(), AllocError>
+        ensures { (names : List (List ℕ)) → IsWide names self.old → OnOk result (Extends names self.old self.new (record { pattern = pattern.now; fence = fence } ∷ [])) }
     {
         let pattern = Name::from_slice(alloc, pattern)?;
         self.starred.push(Bound { pattern, fence })?;
         Ok(())
     }
 
-    /// Adds a pattern, and answers where the trail goes on.
+    /// Adds a pattern, whose place among the names, read as a name, is this.
     fn add(
         &mut self,
         alloc: Global,
-        names: &LentNames,
         pattern: &[u8],
+        place: Option<usize>,
         fence: usize,
-        trail: Trail,
-    ) -> Result<Trail, AllocError>
-        requires { IsWide names.now self.old }
-        ensures { OnOk result (Extends names.now self.old self.new (record { pattern = pattern.now; fence = fence } ∷ [])) }
+    ) -> Result<(), AllocError>
+        ensures { (names : List (List ℕ)) → IsWide names self.old → place ≡ position_of names pattern.now → OnOk result (Extends names self.old self.new (record { pattern = pattern.now; fence = fence } ∷ [])) }
     {
         if Pattern::new(pattern).is_literal() {
-            return Ok(self.add_literal(names, pattern, fence, trail));
+            self.add_literal(place, fence);
+            return Ok(());
         }
-        self.add_starred(alloc, names, pattern, fence)?;
-        Ok(trail)
+        self.add_starred(alloc, pattern, fence)
     }
 
     /// Adds patterns of one fence.
     fn add_patterns(
         &mut self,
         alloc: Global,
-        names: &LentNames,
         patterns: &[Name],
+        places: &[Option<usize>],
         fence: usize,
     ) -> Result<(), AllocError>
-        requires { IsWide names.now self.old }
-        ensures { OnOk result (Extends names.now self.old self.new (bound_to (Some fence) patterns.now)) }
+        ensures { (names : List (List ℕ)) → IsWide names self.old → places.now ≡ map (position_of names) patterns.now → OnOk result (Extends names self.old self.new (bound_to (Some fence) patterns.now)) }
     {
-        let mut trail = Trail::start();
-        for pattern in patterns {
-            trail = self.add(alloc, names, pattern.as_bytes(), fence, trail)?;
+        for (number, pattern) in patterns.iter().enumerate() {
+            self.add(alloc, pattern.as_bytes(), place_of(places, number), fence)?;
         }
         Ok(())
     }
 
-    /// Adds the patterns of a group that is bound to a fence.
+    /// Adds the patterns of a group, where it is bound to a fence.
     fn add_group(
         &mut self,
         alloc: Global,
-        names: &LentNames,
         group: &Group,
+        places: &[Option<usize>],
         numbers: &NameMap<usize>,
     ) -> Result<(), AllocError>
-        requires { IsWide names.now self.old }
-        ensures { OnOk result (Extends names.now self.old self.new (bound_to (option_and_then (value_of numbers.now) group.now.region) group.now.patterns)) }
+        ensures { (names : List (List ℕ)) → IsWide names self.old → places.now ≡ map (position_of names) group.now.patterns → OnOk result (Extends names self.old self.new (bound_to (option_and_then (value_of numbers.now) group.now.region) group.now.patterns)) }
     {
         match fence_of(group, numbers) {
-            Some(fence) => self.add_patterns(alloc, names, group.patterns.as_slice(), fence),
+            Some(fence) => self.add_patterns(alloc, group.patterns.as_slice(), places, fence),
             None => Ok(()),
         }
     }
@@ -330,18 +297,30 @@ fn number_fences(alloc: Global, regions: &[Region]) -> Result<(NameMap<usize>, u
     Ok((numbers, count))
 }
 
-/// The index of the patterns of all groups.
+/// The first places, and those behind them.
+fn split_places(places: &[Option<usize>], count: usize) -> (&[Option<usize>], &[Option<usize>])
+    ensures front { result.0.now ≡ take count places.now }
+    ensures back { result.1.now ≡ drop count places.now }
+{
+    places.split_at(count.min(places.len()))
+}
+
+/// The index of the patterns of all groups, for so many names, among which the patterns have these places.
 fn index_of(
     alloc: Global,
-    names: &LentNames,
+    count: usize,
+    places: &[Option<usize>],
     groups: &[Group],
     numbers: &NameMap<usize>,
 ) -> Result<PatternIndex, AllocError>
-    ensures { (regions : List Region) → Numbers (fence_names regions) numbers.now → IfOk result (λ index. Holds names.now index (all_bounds regions groups.now)) }
+    ensures { (names : List (List ℕ)) (regions : List Region) → length names ≡ count → places.now ≡ map (position_of names) (all_patterns groups.now) → Numbers (fence_names regions) numbers.now → IfOk result (λ index. Holds names index (all_bounds regions groups.now)) }
 {
-    let mut index = PatternIndex::new(alloc, names)?;
+    let mut index = PatternIndex::new(alloc, count)?;
+    let mut remaining = places;
     for group in groups {
-        index.add_group(alloc, names, group, numbers)?;
+        let (own, behind) = split_places(remaining, group.patterns.len());
+        remaining = behind;
+        index.add_group(alloc, group, own, numbers)?;
     }
     Ok(index)
 }
@@ -355,10 +334,9 @@ pub(crate) fn claim_table(
 ) -> Result<ClaimTable, AllocError>
     ensures { IfOk result (λ table. IsTableOf regions.now groups.now components.now table) }
 {
-    let bytes = join_names(alloc, components)?;
-    let (names, second) = list_names(alloc, components, &bytes)?;
+    let NamedPatterns { second, places } = name_patterns(alloc, components, groups)?;
     let (numbers, ground) = number_fences(alloc, regions)?;
-    let index = index_of(alloc, &names, groups, &numbers)?;
+    let index = index_of(alloc, components.len(), &places, groups, &numbers)?;
     Ok(ClaimTable {
         second,
         claims: index.claims_of(alloc, components)?,

@@ -17,6 +17,7 @@ mod loaded;
 mod loading;
 mod measure;
 mod name_map;
+mod named_patterns;
 mod parts;
 mod pitch;
 mod place;

@@ -3,3 +3,5 @@ pub mod Positions
 pub mod Parts
 pub mod Places
 pub mod KeySets
+pub mod NumberedLemmas
+pub mod PartLemmas

@@ -2,3 +2,4 @@ pub mod Names
 pub mod Adds
 pub mod Pattern
 pub mod Places
+pub mod NameParts

@@ -56,19 +56,6 @@ impl<'a> LentNames<'a> {
         self.names.get_index_of(name)
     }
 
-    /// The name's position, which is looked at first where it is expected. A right guess takes no look-up, and a
-    /// wrong one little time.
-    pub fn find_near(&self, name: &[u8], expected: usize) -> Option<usize>
-        ensures { result ≡ position_of self.now name.now }
-    {
-        if let Some(there) = self.names.as_slice().get(expected) {
-            if *there == name {
-                return Some(expected);
-            }
-        }
-        self.find(name)
-    }
-
     /// How many names there are, which all differ.
     pub fn len(&self) -> usize
         ensures len { result ≡ length self.now }

@@ -3,10 +3,12 @@
 #![tactic(auto)]
 
 mod lent;
+mod name_parts;
 mod pattern;
 mod table;
 
 pub use lent::LentNames;
+pub use name_parts::NameParts;
 pub use pattern::Pattern;
 pub use table::{Added, NameTable};
 

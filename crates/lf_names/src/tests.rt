@@ -23,7 +23,6 @@ fn gives_names_their_positions(rt: HostRuntime) -> Result<(), Fail> {
     Ok(())
 }
 
-/// A name is found where it is expected, and where it is not.
 #[test]
 fn finds_lent_names(rt: HostRuntime) -> Result<(), Fail> {
     let bytes = b"abca";
@@ -34,10 +33,29 @@ fn finds_lent_names(rt: HostRuntime) -> Result<(), Fail> {
     assert_eq!(rt; table.add(&bytes[3..4])?, Added::Present(0));
     assert_eq!(rt; table.len(), 3);
     assert!(rt; table.find(b"b") == Some(1));
-    assert!(rt; table.find_near(b"c", 2) == Some(2));
-    assert!(rt; table.find_near(b"c", 0) == Some(2));
-    assert!(rt; table.find_near(b"c", 7) == Some(2));
-    assert!(rt; table.find_near(b"d", 2).is_none());
+    Ok(())
+}
+
+/// Names of many parts are found at their own numbers; where one stands twice there is no answer.
+#[test]
+fn finds_names_in_parts(rt: HostRuntime) -> Result<(), Fail> {
+    let mut names = NameParts::new(rt.alloc())?;
+    let mut asked = NameParts::new(rt.alloc())?;
+    asked.push(b"")?;
+    for name in 0..200u8 {
+        names.push(&[name, 0])?;
+        asked.push(&[199 - name, 0])?;
+    }
+    let Some(found) = names.positions(rt.alloc(), &asked)? else {
+        return Err(Fail::from("names that differ"));
+    };
+    assert_eq!(rt; found.len(), 201);
+    assert!(rt; found[0].is_none());
+    for number in 0..200usize {
+        assert!(rt; found[number + 1] == Some(199 - number));
+    }
+    names.push(&[7, 0])?;
+    assert!(rt; names.positions(rt.alloc(), &asked)?.is_none());
     Ok(())
 }
 

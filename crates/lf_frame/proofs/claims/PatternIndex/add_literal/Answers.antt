@@ -1,18 +1,14 @@
-use Rattle.std.proofs.Common.{◌≡◌, set, refl, sym, ap, ◌∙◌, arith}
+use Rattle.std.proofs.Common.{refl, sym, ap, ◌∙◌, length}
 use Rattle.std.proofs.lemmas.List.{length-set}
-use Rattle.lf_frame.specs.Claims.{joined, claim_at}
 use Rattle.lf_frame.proofs.Indexes.{extends_known, extends_unknown}
 use Rattle.lf_frame.proofs.claims.PatternIndex.add_literal.Goals as goal
 
-pub returns : goal.returns
-returns c =
+pub returns-in-Some : goal.returns-in-Some
+returns-in-Some c = λ names pattern wide own place.
     let old = c.args.self.now in
-    let number = c.in-Some.number in
-    let claim : c.joined.result ≡ joined (claim_at old.claims.items number) c.args.fence =
-    c.joined.ensures ∙ ap (λ q. joined q c.args.fence) (c.claim_of.ensures ∙ ap (λ claims. claim_at claims number) c.deref.ensures.value) in
-    extends_known c.args.names.now old _ (record { pattern = c.args.pattern.now; fence = c.args.fence }) number c.requires.literal c.requires.wide
-    (omega (arith, c.requires.wide, length-set old.claims.items number c.joined.result)) (sym (c.in-Some.ensures {u = tt})) (ap (set old.claims.items number) claim) refl
+    extends_known names old _ (record { pattern = pattern; fence = c.args.fence }) c.in-Some.number own wide
+    (wide ∙ sym (length-set old.claims.items c.in-Some.number _) ∙ sym (ap length c.join_at.ensures)) (sym place ∙ c.in-Some.is) c.join_at.ensures refl
 
 pub returns-in_default : goal.returns-in_default
-returns-in_default c =
-    extends_unknown c.args.names.now c.args.self.now (record { pattern = c.args.pattern.now; fence = c.args.fence }) c.requires.literal c.requires.wide (sym (c.in_default.ensures {u = tt}))
+returns-in_default c = λ names pattern wide own place.
+    extends_unknown names c.args.self.now (record { pattern = pattern; fence = c.args.fence }) own wide (sym place ∙ c.in_default.is)
