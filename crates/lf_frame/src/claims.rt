@@ -368,11 +368,8 @@ impl ClaimTable {
     fn is_claimed_twice(&self, number: usize, component: &Component) -> bool
         ensures { (regions : List Region) (groups : List Group) → IsClaimOf regions groups component.now.name (claim_at self.now.claims.items number) → (IsTrue result ↔ IsClaimedTwice regions groups [] component.now) }
     {
-        if !is_movable(component) {
-            return false;
-        }
         match claim_of(&self.claims, number) {
-            Claim::ByTwo => true,
+            Claim::ByTwo => is_movable(component),
             Claim::ByOne(_) => false,
             Claim::Unclaimed => false,
         }

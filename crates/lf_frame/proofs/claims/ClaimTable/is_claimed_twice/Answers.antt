@@ -1,4 +1,4 @@
-use Rattle.std.proofs.Common.{refl, sym}
+use Rattle.std.proofs.Common.{◌∙◌, sym}
 use Rattle.lf_frame.specs.declared.claims.Claim.TheVariants.{Unclaimed, ByOne, ByTwo}
 use Rattle.lf_frame.proofs.Claimants.{unclaimed_once, claimed_once}
 use Rattle.lf_frame.proofs.Claimed.{claim_read, claim_is}
@@ -7,8 +7,8 @@ use Rattle.lf_frame.proofs.claims.ClaimTable.is_claimed_twice.Goals as goal
 pub returns-in-ByTwo : goal.returns-in-ByTwo
 returns-in-ByTwo c = λ regions groups claim.
     let is = claim_read c.args.self.now.claims.items c.deref.result.now c.args.number ByTwo c.deref.ensures.value (c.in-ByTwo.ensures {u = tt}) in (
-      λ t. (sym (c.if-not-is_movable.ensures {u = tt}), claim_is regions groups c.args.component.now.name _ ByTwo is claim),
-      λ h. refl,
+      λ t. (sym c.is_movable.ensures ∙ t, claim_is regions groups c.args.component.now.name _ ByTwo is claim),
+      λ h. c.is_movable.ensures ∙ h.0,
     )
 
 pub returns-in-ByOne : goal.returns-in-ByOne
