@@ -14,7 +14,7 @@ use crate::frame_index::FrameIndex;
 use crate::near::{broken_by_areas, broken_by_rows};
 use crate::rule::{Broken, Rule};
 use crate::size::solid_box;
-use crate::window::Window;
+use crate::window::{CELLS, Window};
 use lf_frame::{Frame, Macro, Place};
 use lf_rtree::{Placed, RTree};
 use lf_units::Rect;
@@ -31,8 +31,8 @@ pub enum Search {
 }
 
 impl Search {
-    /// Moves the window to the box of that number, where it does not hold it since an earlier move. Where memory is
-    /// refused, the search is good for nothing.
+    /// Moves the window to the box of that number, unless it was laid over it a few boxes ago: a window over boxes that
+    /// lie far apart is not kept for long. Where memory is refused, the search is good for nothing.
     pub(crate) fn move_to(&mut self, boxes: &[Placed], number: usize) -> Result<(), AllocError>
         requires { number < length boxes.now }
         ensures { (f : Frame) (cells : List Member) → IsSearchOf f cells self.old → OnOk result (IsSearchOf f cells self.new) }
@@ -40,7 +40,7 @@ impl Search {
         match self {
             Search::Plain => Ok(()),
             Search::Indexed(index, _, window) => {
-                if window.holds(&boxes[number].rect) {
+                if number % CELLS != 0 && window.holds(&boxes[number].rect) {
                     return Ok(());
                 }
                 window.lay_over(index, &boxes[number..])

@@ -11,7 +11,7 @@ use lf_units::Rect;
 use std::alloc::{AllocError, Global};
 
 /// How many cells a window is laid over at a time.
-const CELLS: usize = 8;
+pub(crate) const CELLS: usize = 8;
 
 /// A rectangle without points.
 const NOWHERE: Rect = Rect {
