@@ -15,11 +15,11 @@ pub mod FrameMade
 pub mod CellsMade
 pub mod DesignMade
 pub mod Pieces
-pub mod PlaceLemmas
 pub mod Named
 pub mod MapLemmas
 pub mod Tellings
 pub mod Indexes
+pub mod Numbered
 pub mod Claimants
 pub mod Claimed
 pub mod AlikeEntries

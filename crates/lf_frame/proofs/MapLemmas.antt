@@ -83,12 +83,12 @@ pub get_last : {V : Type 0} (vs : List V) (v : V) → slice_get (vs ++ v ∷ [])
 get_last [] v = refl
 get_last (x ∷ vs) v = get_last vs v
 
-get_set : {V : Type 0} (vs : List V) (n : ℕ) (v : V) → n < length vs → slice_get (set vs n v) n ≡ Some v
+pub get_set : {V : Type 0} (vs : List V) (n : ℕ) (v : V) → n < length vs → slice_get (set vs n v) n ≡ Some v
 get_set [] n v within = absurd (omega arith)
 get_set (x ∷ vs) zero v within = refl
 get_set (x ∷ vs) (suc n) v within = get_set vs n v (omega arith)
 
-get_set_other : {V : Type 0} (vs : List V) (n m : ℕ) (v : V) → m ≢ n → slice_get (set vs n v) m ≡ slice_get vs m
+pub get_set_other : {V : Type 0} (vs : List V) (n m : ℕ) (v : V) → m ≢ n → slice_get (set vs n v) m ≡ slice_get vs m
 get_set_other [] n m v apart = refl
 get_set_other (x ∷ vs) zero zero v apart = absurd (apart refl)
 get_set_other (x ∷ vs) zero (suc m) v apart = refl

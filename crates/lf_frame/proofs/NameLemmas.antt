@@ -1,18 +1,14 @@
 -- The names of components, kept in a list or one behind the other.
-use Rattle.std.proofs.Common.{◌≡◌, ◌≢◌, ℕ, ◌+◌, ◌<◌, List, [], ◌∷◌, ◌++◌, length, take, drop, get_or, Option, None, Some, AllPairs, refl, sym, ◌∙◌, ap, arith}
+use Rattle.std.proofs.Common.{◌≡◌, ◌≢◌, ℕ, ◌+◌, ◌<◌, List, [], ◌∷◌, ◌++◌, length, take, get_or, AllPairs, sym, ◌∙◌, ap, arith}
 use Rattle.std.specs.Prelude.{Any, Contains}
 use Rattle.std.proofs.lemmas.Grind.{common_steps}
 use Rattle.std.proofs.lemmas.List.{get_or_default}
-use Rattle.std.proofs.lemmas.List.Concat.{flat_map-append}
-use Rattle.std.proofs.lemmas.Option.{slice_get-get_or}
-use Rattle.lf_names.specs.Names.{position_of}
-use Rattle.lf_names.proofs.Positions.{found_there}
 use Rattle.lf_def.specs.declared.components.Component.{Component}
-use Rattle.lf_frame.specs.Entries.{FirstIs, NoneBreaks}
+use Rattle.lf_frame.specs.Entries.{NoneBreaks}
 use Rattle.lf_frame.specs.Refusals.{BearsEarlierName}
-use Rattle.lf_frame.specs.Tables.{component_names as names_of, joined_names}
+use Rattle.lf_frame.specs.Tables.{component_names as names_of}
 
-name_at : (components : List Component) (k : ℕ) (d : Component) (e : List ℕ) → k < length components → get_or (names_of components) k e ≡ (get_or components k d).name
+pub name_at : (components : List Component) (k : ℕ) (d : Component) (e : List ℕ) → k < length components → get_or (names_of components) k e ≡ (get_or components k d).name
 name_at components k d e within = grind (arith, common_steps)
 
 pub many_names : (components : List Component) → length (names_of components) ≡ length components
@@ -31,46 +27,13 @@ known_borne components d name (k, within, is) =
 pub names_more : (components : List Component) (n : ℕ) (c : Component) → n < length components → c ≡ get_or components n c → names_of (take n components) ++ c.name ∷ [] ≡ names_of (take (n + 1) components)
 names_more components n c within is = grind (arith, common_steps)
 
--- the names of the components from this one on, one behind the other
-pub joined_next : (components : List Component) (n : ℕ) (c : Component) → n < length components → c ≡ get_or components n c → joined_names (drop n components) ≡ c.name ++ joined_names (drop (n + 1) components)
-joined_next components n c within is =
-    let left : drop n components ≡ c ∷ drop (n + 1) components = grind (arith, common_steps) in
-    ap joined_names left
-
-pub joined_more : (components : List Component) (n : ℕ) (c : Component) → n < length components → c ≡ get_or components n c → joined_names (take n components) ++ c.name ≡ joined_names (take (n + 1) components)
-joined_more components n c within is =
-    let more : take (n + 1) components ≡ take n components ++ c ∷ [] = grind (arith, common_steps) in
-    let own : joined_names (c ∷ []) ≡ c.name = grind (arith, common_steps) in
-    sym (ap joined_names more ∙ flat_map-append (λ d. d.name) (take n components) (c ∷ []) ∙ ap (λ l. joined_names (take n components) ++ l) own)
-
--- where no component bears an earlier one's name, there is no first that does
-pub none_second : (components : List Component) (second : Option ℕ) → NoneBreaks BearsEarlierName components → FirstIs BearsEarlierName components second → second ≡ None
-none_second [] None none first = refl
-none_second [] (Some k) none first = let below : k < 0 = first.within in absurd (omega arith)
-none_second (c ∷ components) None none first = refl
-none_second (c ∷ components) (Some k) none first = absurd (none k c first.within (first.breaking c))
-
--- and all names differ
-names_apart : (components : List Component) (d : Component) → NoneBreaks BearsEarlierName components → AllPairs (λ name later. name ≢ later) (names_of components)
+-- where no component bears an earlier one's name, all names differ
+pub names_apart : (components : List Component) (d : Component) → NoneBreaks BearsEarlierName components → AllPairs (λ name later. name ≢ later) (names_of components)
 names_apart components d none i j e below within same =
     let behind : j < length components = omega (arith, many_names components) in
     let early : i < length (take j components) = grind (arith, common_steps) in
     let there : get_or (take j components) i (get_or components i d) ≡ get_or components i d = grind (arith, common_steps, get_or_default components i (get_or components i d) d) in
     none j d behind (i, get_or components i d, early, there, sym (name_at components i d e (omega arith)) ∙ same ∙ name_at components j d e behind)
-
--- so that each name stands at its component's number
-pub own_place : (components : List Component) (k : ℕ) (d : Component) → k < length components → NoneBreaks BearsEarlierName components → position_of (names_of components) (get_or components k d).name ≡ Some k
-own_place components k d within none =
-    let there : k < length (names_of components) = omega (arith, many_names components) in
-    found_there (names_of components) (get_or components k d).name k (names_apart components d none)
-    (slice_get-get_or (names_of components) k [] there ∙ ap Some (name_at components k d [] within))
-
--- the first of joined names, and those behind it
-pub own_bytes : (bytes name behind lent : List ℕ) → lent ≡ name → bytes ≡ name ++ behind → take (length lent) bytes ≡ name
-own_bytes bytes name behind lent same is = rw (is, same) (grind (arith, common_steps))
-
-pub behind_bytes : (bytes name behind lent : List ℕ) → lent ≡ name → bytes ≡ name ++ behind → drop (length lent) bytes ≡ behind
-behind_bytes bytes name behind lent same is = rw (is, same) (grind (arith, common_steps))
 
 -- where all names differ, no component bears an earlier one's
 pub differ_none : (components : List Component) → AllPairs (λ name later. name ≢ later) (names_of components) → NoneBreaks BearsEarlierName components

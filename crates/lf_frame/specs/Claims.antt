@@ -1,9 +1,12 @@
 -- Which fences claim a component, by the patterns of all groups (DEF GROUPS).
-use Rattle.std.specs.Prelude.{◌≡◌, ◌≢◌, ℕ, ◌<◌, ◌==◌, ◌⊎◌, if◌then◌else◌, List, [], ◌∷◌, ◌++◌, length, map, Option, None, Some, IsSome, Any, unwrap_or, slice_get, slice_index_or}
+use Rattle.std.specs.Prelude.{◌≡◌, ◌≢◌, ℕ, ◌<◌, ◌==◌, ◌⊎◌, if◌then◌else◌, List, [], ◌∷◌, ◌++◌, length, map, Option, None, Some, Any, unwrap_or, slice_get, slice_index_or, Contains, Vec}
 use Rattle.std.specs.List.{flat_map}
+use Rattle.std.specs.Global.{Global}
 use Rattle.std.specs.Option.{option_and_then}
 use Rattle.lf_names.specs.Names.{position_of}
 use Rattle.lf_names.specs.Pattern.{Matches}
+use Rattle.lf_names.specs.NameParts.{Labelled, ArePartsOf}
+use Rattle.lf_names.specs.declared.name_parts.Match.{Match}
 use Rattle.lf_def.specs.declared.regions.Region.{Region}
 use Rattle.lf_def.specs.declared.groups.Group.{Group}
 use Rattle.lf_def.specs.declared.components.Component.{Component}
@@ -50,6 +53,14 @@ ClaimsBy bounds name fence = Any (λ b. (b.fence ≡ fence) × Matches b.pattern
 abbrev pub StepsTo : Bound → List ℕ → Claim → Claim → Type 0
 StepsTo b name claim after = (Matches b.pattern name × (after ≡ joined claim b.fence)) ⊎ ((Matches b.pattern name → ⊥) × (after ≡ claim))
 
+-- the name stands in the list with this label
+abbrev pub Labels : List Labelled → List ℕ → ℕ → Type 0
+Labels names name label = Contains names (record { label = label; name = name })
+
+-- a name is matched: it has this number, and is asked for with this label
+abbrev pub IsMatched : List Match → ℕ → ℕ → Type 0
+IsMatched matches number label = Contains matches (record { own = number; asked = label })
+
 -- patterns that are bound to one fence, or to none
 abbrev pub bound_to : Option ℕ → List (List ℕ) → List Bound
 bound_to None patterns = []
@@ -67,25 +78,16 @@ all_bounds regions groups = flat_map (group_bounds regions) groups
 abbrev pub claim_at : List Claim → ℕ → Claim
 claim_at claims number = unwrap_or (slice_get claims number) Unclaimed
 
--- what the literal patterns of an index claim a name for, which has its place among these names
-abbrev pub literal_claim : List (List ℕ) → PatternIndex → List ℕ → Claim
-literal_claim names index name = unwrap_or (option_and_then (slice_get index.claims.items) (position_of names name)) Unclaimed
-
--- the index has a claim for each name
-abbrev pub IsWide : List (List ℕ) → PatternIndex → Type 0
-IsWide names index = length names ≡ length index.claims.items
-
--- the index holds these patterns: literal ones by what they claim each of the names for, the others as they are
-pub record Holds (names : List (List ℕ)) (index : PatternIndex) (bounds : List Bound) : Type 0 where
-  pub literals : List Bound
-  pub forth : (name : List ℕ) (fence : ℕ) → ClaimsBy bounds name fence → ClaimsBy literals name fence ⊎ ClaimsBy index.starred.items name fence
-  pub back : (name : List ℕ) (fence : ℕ) → ClaimsBy literals name fence ⊎ ClaimsBy index.starred.items name fence → ClaimsBy bounds name fence
-  pub told : (name : List ℕ) → IsSome (position_of names name) → Tells (ClaimsBy literals name) (literal_claim names index name)
+-- the index holds these patterns: literal ones as names, labelled with the number of the fence, the others as they are
+pub record Holds (index : PatternIndex) (bounds : List Bound) : Type 0 where
+  pub literals : List Labelled
+  pub kept : ArePartsOf literals index.literals
+  pub forth : (name : List ℕ) (fence : ℕ) → ClaimsBy bounds name fence → Labels literals name fence ⊎ ClaimsBy index.starred.items name fence
+  pub back : (name : List ℕ) (fence : ℕ) → Labels literals name fence ⊎ ClaimsBy index.starred.items name fence → ClaimsBy bounds name fence
 
 -- whatever patterns the old index holds, the new one holds these behind them
-pub record Extends (names : List (List ℕ)) (old new : PatternIndex) (more : List Bound) : Type 0 where
-  pub wide : IsWide names new
-  pub holds : (bounds : List Bound) → Holds names old bounds → Holds names new (bounds ++ more)
+abbrev pub Extends : PatternIndex → PatternIndex → List Bound → Type 0
+Extends old new more = (bounds : List Bound) → Holds old bounds → Holds new (bounds ++ more)
 
 -- the map has the place of each name of the list, the first where a name stands twice
 abbrev pub Numbers : List (List ℕ) → NameMap ℕ → Type 0
@@ -96,10 +98,14 @@ pub record NumbersOneMore (old new : NameMap ℕ) (number : ℕ) (name : List �
   pub whole : IsWhole new
   pub numbers : (names : List (List ℕ)) → number ≡ length names → Numbers names old → Numbers (names ++ name ∷ []) new
 
--- each component whose name stands at its own number among these names has the claim of its number
-pub record AreClaimsBy (names : List (List ℕ)) (bounds : List Bound) (components : List Component) (claims : List Claim) : Type 0 where
-  pub told : (k : ℕ) (d : Component) → k < length components → position_of names (slice_index_or components k d).name ≡ Some k →
-      Tells (ClaimsBy bounds (slice_index_or components k d).name) (claim_at claims k)
+-- each component has the claim of its number, by fences that are told from its name
+abbrev pub AreTold : (List ℕ → ℕ → Type 0) → List Component → List Claim → Type 0
+AreTold claims components told = (k : ℕ) (d : Component) → k < length components → Tells (claims (slice_index_or components k d).name) (claim_at told k)
+
+-- where the components' names all differ, each component has its claim; and there are none only where two bear one name
+abbrev pub AreClaimsWhereDistinct : (List ℕ → ℕ → Type 0) → List Component → Option (Vec Claim Global) → Type 0
+AreClaimsWhereDistinct claims components (Some told) = NoneBreaks BearsEarlierName components × AreTold claims components told.items
+AreClaimsWhereDistinct claims components None = NoneBreaks BearsEarlierName components → ⊥
 
 -- each component has the claim of its number
 abbrev pub AreClaimsOf : List Region → List Group → List Component → List Claim → Type 0

@@ -1,8 +1,8 @@
-//! Which fences claim a component, by where the patterns of groups stand among the names of all components.
+//! Which fences claim a component, by the patterns of all groups.
 
-ghost use Rattle.std.specs.Prelude.{◌≡◌, ◌↔◌, ◌⊎◌, ℕ, ◌++◌, [], ◌∷◌, List, Some, None, IsTrue, IfOk, OnOk, drop, length, map, slice_get, slice_set, take};
+ghost use Rattle.std.specs.Prelude.{◌≡◌, ◌↔◌, ◌⊎◌, ◌<◌, ℕ, ◌++◌, [], ◌∷◌, List, Some, IsTrue, IfOk, OnOk, length, slice_set};
 ghost use Rattle.std.specs.Option.{option_and_then};
-ghost use Rattle.lf_names.specs.Names.{position_of};
+ghost use Rattle.lf_names.specs.NameParts.{Labelled, ArePartsOf};
 ghost use Rattle.lf_names.specs.Pattern.{Matches};
 ghost use Rattle.lf_def.specs.declared.regions.Region.{Region};
 ghost use Rattle.lf_def.specs.declared.groups.Group.{Group};
@@ -10,15 +10,14 @@ ghost use Rattle.lf_frame.specs.Entries.{FirstIs, NoneBreaks};
 ghost use Rattle.lf_frame.specs.Loading.{fences, fence_names, IsTeamOf};
 ghost use Rattle.lf_frame.specs.Refusals.{HasTwoFences, IsClaimedTwice, BearsEarlierName};
 ghost use Rattle.lf_frame.specs.NameMaps.{value_of, IsWhole};
-ghost use Rattle.lf_frame.specs.Claims.{IsClaimOf, joined as joined_claim, merged as merged_claim, Tells, ClaimsBy, bound_to, claim_at, all_bounds, IsWide, Holds, Extends, Numbers, NumbersOneMore, AreClaimsBy, IsTableOf, StepsTo};
-ghost use Rattle.lf_frame.specs.Tables.{all_patterns};
+ghost use Rattle.lf_frame.specs.Claims.{IsClaimOf, joined as joined_claim, merged as merged_claim, Tells, ClaimsBy, bound_to, claim_at, all_bounds, Labels, IsMatched, Holds, Extends, Numbers, NumbersOneMore, AreTold, AreClaimsWhereDistinct, IsTableOf, StepsTo};
 
+use crate::component_names::{first_second_name, parts_of_components};
 use crate::component_refusals::is_movable;
 use crate::fence_refusals::is_fence;
 use crate::name_map::NameMap;
-use crate::named_patterns::{NamedPatterns, name_patterns};
 use lf_def::{Component, Group, Region};
-use lf_names::Pattern;
+use lf_names::{Match, NameParts, Pattern};
 use lf_units::Name;
 use std::alloc::{AllocError, Global};
 
@@ -28,7 +27,7 @@ pub enum Claim {
     /// None does.
     Unclaimed,
     /// The fence of this number does, and no other.
-    ByOne(usize),
+    ByOne(u32),
     /// Two different fences do.
     ByTwo,
 }
@@ -37,14 +36,14 @@ pub enum Claim {
 #[derive(Drop)]
 pub struct Bound {
     pub pattern: Name,
-    pub fence: usize,
+    pub fence: u32,
 }
 
-/// Patterns that are bound to fences: those without a star by what they claim each component for, whose name is
-/// the one that such a pattern stands for.
+/// Patterns that are bound to fences: those without a star in parts, as the names that they stand for, each labelled
+/// with the number of its fence; the others as they are.
 #[derive(Drop)]
 pub struct PatternIndex {
-    claims: Vec<Claim>,
+    literals: NameParts,
     starred: Vec<Bound>,
 }
 
@@ -53,11 +52,11 @@ pub struct PatternIndex {
 pub struct ClaimTable {
     second: Option<usize>,
     claims: Vec<Claim>,
-    ground: usize,
+    ground: u32,
 }
 
 /// The claim when this fence claims the name too.
-fn joined(claim: Claim, fence: usize) -> Claim
+fn joined(claim: Claim, fence: u32) -> Claim
     ensures { result ≡ joined_claim claim fence }
 {
     match claim {
@@ -125,7 +124,7 @@ fn unclaimed(alloc: Global, count: usize) -> Result<Vec<Claim>, AllocError>
 }
 
 /// Joins the fence to the claim at the number, if there is one.
-fn join_at(claims: &mut Vec<Claim>, number: usize, fence: usize)
+fn join_at(claims: &mut Vec<Claim>, number: usize, fence: u32)
     ensures { claims.new.items ≡ slice_set claims.old.items number (joined_claim (claim_at claims.old.items number) fence) }
 {
     if let Some(claim) = claims.get_mut(number) {
@@ -133,69 +132,51 @@ fn join_at(claims: &mut Vec<Claim>, number: usize, fence: usize)
     }
 }
 
-/// The place at the number; beyond them, none.
-fn place_of(places: &[Option<usize>], number: usize) -> Option<usize>
-    ensures { (names patterns : List (List ℕ)) (pattern : List ℕ) → places.now ≡ map (position_of names) patterns → slice_get patterns number ≡ Some pattern → result ≡ position_of names pattern }
+/// What each of so many names is claimed for by its matches, in which it is named by its number.
+fn claims_by_match(alloc: Global, count: usize, matches: &[Match]) -> Result<Vec<Claim>, AllocError>
+    ensures { IfOk result (λ claims. (number : ℕ) → number < count → Tells (IsMatched matches.now number) (claim_at claims.items number)) }
 {
-    match places.get(number) {
-        Some(place) => *place,
-        None => None,
+    let mut claims = unclaimed(alloc, count)?;
+    for found in matches {
+        join_at(&mut claims, found.own as usize, found.asked);
     }
+    Ok(claims)
 }
 
 impl PatternIndex {
-    /// The index of no pattern, for so many names.
-    fn new(alloc: Global, count: usize) -> Result<Self, AllocError>
-        ensures wide { (names : List (List ℕ)) → length names ≡ count → IfOk result (IsWide names) }
-        ensures nothing { (names : List (List ℕ)) → IfOk result (λ index. Holds names index []) }
+    /// The index of no pattern.
+    fn new(alloc: Global) -> Result<Self, AllocError>
+        ensures { IfOk result (λ index. Holds index []) }
     {
         Ok(PatternIndex {
-            claims: unclaimed(alloc, count)?,
+            literals: NameParts::new(alloc)?,
             starred: Vec::new(alloc),
         })
     }
 
-    /// What the patterns claim the component for that has this number and this name.
-    fn claim_at(&self, number: usize, name: &[u8]) -> Claim
-        ensures { (names : List (List ℕ)) (bounds : List Bound) → Holds names self.now bounds → position_of names name.now ≡ Some number → Tells (ClaimsBy bounds name.now) result }
+    /// Adds a pattern without a star.
+    fn add_literal(&mut self, pattern: &[u8], fence: u32) -> Result<(), AllocError>
+        ensures { ((name : List ℕ) → (Matches pattern.now name ↔ (name ≡ pattern.now))) → OnOk result (Extends self.old self.new (record { pattern = pattern.now; fence = fence } ∷ [])) }
     {
-        merged(
-            claim_of(&self.claims, number),
-            claim_by_trial(&self.starred, name),
-        )
-    }
-
-    /// Adds a pattern without a star, whose place among the names is this.
-    fn add_literal(&mut self, place: Option<usize>, fence: usize)
-        ensures { (names : List (List ℕ)) (pattern : List ℕ) → IsWide names self.old → ((name : List ℕ) → (Matches pattern name ↔ (name ≡ pattern))) → place ≡ position_of names pattern → Extends names self.old self.new (record { pattern = pattern; fence = fence } ∷ []) }
-    {
-        if let Some(number) = place {
-            join_at(&mut self.claims, number, fence);
-        }
+        self.literals.push(fence, pattern)?;
+        Ok(())
     }
 
     /// Adds a pattern that is tried on each name.
-    fn add_starred(&mut self, alloc: Global, pattern: &[u8], fence: usize) -> Result<(), AllocError>
-        ensures { (names : List (List ℕ)) → IsWide names self.old → OnOk result (Extends names self.old self.new (record { pattern = pattern.now; fence = fence } ∷ [])) }
+    fn add_starred(&mut self, alloc: Global, pattern: &[u8], fence: u32) -> Result<(), AllocError>
+        ensures { OnOk result (Extends self.old self.new (record { pattern = pattern.now; fence = fence } ∷ [])) }
     {
         let pattern = Name::from_slice(alloc, pattern)?;
         self.starred.push(Bound { pattern, fence })?;
         Ok(())
     }
 
-    /// Adds a pattern, whose place among the names, read as a name, is this.
-    fn add(
-        &mut self,
-        alloc: Global,
-        pattern: &[u8],
-        place: Option<usize>,
-        fence: usize,
-    ) -> Result<(), AllocError>
-        ensures { (names : List (List ℕ)) → IsWide names self.old → place ≡ position_of names pattern.now → OnOk result (Extends names self.old self.new (record { pattern = pattern.now; fence = fence } ∷ [])) }
+    /// Adds a pattern.
+    fn add(&mut self, alloc: Global, pattern: &[u8], fence: u32) -> Result<(), AllocError>
+        ensures { OnOk result (Extends self.old self.new (record { pattern = pattern.now; fence = fence } ∷ [])) }
     {
         if Pattern::new(pattern).is_literal() {
-            self.add_literal(place, fence);
-            return Ok(());
+            return self.add_literal(pattern, fence);
         }
         self.add_starred(alloc, pattern, fence)
     }
@@ -205,13 +186,12 @@ impl PatternIndex {
         &mut self,
         alloc: Global,
         patterns: &[Name],
-        places: &[Option<usize>],
-        fence: usize,
+        fence: u32,
     ) -> Result<(), AllocError>
-        ensures { (names : List (List ℕ)) → IsWide names self.old → places.now ≡ map (position_of names) patterns.now → OnOk result (Extends names self.old self.new (bound_to (Some fence) patterns.now)) }
+        ensures { OnOk result (Extends self.old self.new (bound_to (Some fence) patterns.now)) }
     {
-        for (number, pattern) in patterns.iter().enumerate() {
-            self.add(alloc, pattern.as_bytes(), place_of(places, number), fence)?;
+        for pattern in patterns {
+            self.add(alloc, pattern.as_bytes(), fence)?;
         }
         Ok(())
     }
@@ -221,46 +201,80 @@ impl PatternIndex {
         &mut self,
         alloc: Global,
         group: &Group,
-        places: &[Option<usize>],
-        numbers: &NameMap<usize>,
+        numbers: &NameMap<u32>,
     ) -> Result<(), AllocError>
-        ensures { (names : List (List ℕ)) → IsWide names self.old → places.now ≡ map (position_of names) group.now.patterns → OnOk result (Extends names self.old self.new (bound_to (option_and_then (value_of numbers.now) group.now.region) group.now.patterns)) }
+        ensures { OnOk result (Extends self.old self.new (bound_to (option_and_then (value_of numbers.now) group.now.region) group.now.patterns)) }
     {
         match fence_of(group, numbers) {
-            Some(fence) => self.add_patterns(alloc, group.patterns.as_slice(), places, fence),
+            Some(fence) => self.add_patterns(alloc, group.patterns.as_slice(), fence),
             None => Ok(()),
         }
     }
 
-    /// What the patterns claim each component for, those with a star tried on each name.
-    fn claims_by_trial(
+    /// What the literal patterns claim each component for; none where two components bear one name.
+    fn literal_claims(
         &self,
         alloc: Global,
         components: &[Component],
-    ) -> Result<Vec<Claim>, AllocError>
-        ensures { IfOk result (λ claims. (names : List (List ℕ)) (bounds : List Bound) → Holds names self.now bounds → AreClaimsBy names bounds components.now claims.items) }
+    ) -> Result<Option<Vec<Claim>>, AllocError>
+        ensures { (literals : List Labelled) → ArePartsOf literals self.now.literals → IfOk result (AreClaimsWhereDistinct (Labels literals) components.now) }
     {
-        let mut claims = Vec::with_capacity(alloc, components.len())?;
-        for (number, component) in components.iter().enumerate() {
-            claims.push(self.claim_at(number, component.name.as_bytes()))?;
-        }
-        Ok(claims)
+        let names = parts_of_components(alloc, components)?;
+        let Some(matches) = names.matches(alloc, &self.literals)? else {
+            return Ok(None);
+        };
+        Ok(Some(claims_by_match(alloc, components.len(), &matches)?))
     }
 
-    /// What the patterns claim each component for, whose names are those of the index.
-    fn claims_of(self, alloc: Global, components: &[Component]) -> Result<Vec<Claim>, AllocError>
-        ensures { IfOk result (λ claims. (names : List (List ℕ)) (bounds : List Bound) → Holds names self bounds → AreClaimsBy names bounds components.now claims.items) }
+    /// These claims of all components with those of the patterns with a star, which are tried on each name.
+    fn with_starred(
+        &self,
+        alloc: Global,
+        components: &[Component],
+        claims: &[Claim],
+    ) -> Result<Vec<Claim>, AllocError>
+        ensures { (literals : List Labelled) → AreTold (Labels literals) components.now claims.now → IfOk result (λ all. AreTold (λ name fence. Labels literals name fence ⊎ ClaimsBy self.now.starred.items name fence) components.now all.items) }
+    {
+        let mut all = Vec::with_capacity(alloc, components.len())?;
+        for (number, component) in components.iter().enumerate() {
+            let tried = claim_by_trial(&self.starred, component.name.as_bytes());
+            all.push(merged(claim_of(claims, number), tried))?;
+        }
+        Ok(all)
+    }
+
+    /// These claims of all components with those of the patterns with a star.
+    fn completed(
+        &self,
+        alloc: Global,
+        components: &[Component],
+        claims: Vec<Claim>,
+    ) -> Result<Vec<Claim>, AllocError>
+        ensures { (literals : List Labelled) → AreTold (Labels literals) components.now claims.items → IfOk result (λ all. AreTold (λ name fence. Labels literals name fence ⊎ ClaimsBy self.now.starred.items name fence) components.now all.items) }
     {
         if self.starred.is_empty() {
-            let PatternIndex { claims, starred: _ } = self;
             return Ok(claims);
         }
-        self.claims_by_trial(alloc, components)
+        self.with_starred(alloc, components, &claims)
+    }
+
+    /// What the patterns claim each component for; none where two components bear one name.
+    fn claims_of(
+        &self,
+        alloc: Global,
+        components: &[Component],
+    ) -> Result<Option<Vec<Claim>>, AllocError>
+        ensures { (bounds : List Bound) → Holds self.now bounds → IfOk result (AreClaimsWhereDistinct (ClaimsBy bounds) components.now) }
+    {
+        let Some(claims) = self.literal_claims(alloc, components)? else {
+            return Ok(None);
+        };
+        Ok(Some(self.completed(alloc, components, claims)?))
     }
 }
 
 /// The number of the fence that the group is bound to.
-fn fence_of(group: &Group, numbers: &NameMap<usize>) -> Option<usize>
+fn fence_of(group: &Group, numbers: &NameMap<u32>) -> Option<u32>
     ensures { result ≡ option_and_then (value_of numbers.now) group.now.region }
 {
     match &group.region {
@@ -270,7 +284,7 @@ fn fence_of(group: &Group, numbers: &NameMap<usize>) -> Option<usize>
 }
 
 /// Puts the number of the fence under its name, unless an earlier fence bears it.
-fn put_fence(numbers: &mut NameMap<usize>, name: &Name, number: usize) -> Result<(), AllocError>
+fn put_fence(numbers: &mut NameMap<u32>, name: &Name, number: u32) -> Result<(), AllocError>
     requires { IsWhole numbers.old }
     ensures { OnOk result (NumbersOneMore numbers.old numbers.new number name.now) }
 {
@@ -281,51 +295,39 @@ fn put_fence(numbers: &mut NameMap<usize>, name: &Name, number: usize) -> Result
     Ok(())
 }
 
-/// The number of each fence by its name, and how many fences there are.
-fn number_fences(alloc: Global, regions: &[Region]) -> Result<(NameMap<usize>, usize), AllocError>
+/// The number of each fence by its name, and how many fences there are. More of them than 32 bits count are refused as
+/// want of memory.
+fn number_fences(alloc: Global, regions: &[Region]) -> Result<(NameMap<u32>, u32), AllocError>
     ensures numbers { IfOk result (λ answer. Numbers (fence_names regions.now) answer.0) }
     ensures ground { IfOk result (λ answer. answer.1 ≡ length (fences regions.now)) }
 {
     let mut numbers = NameMap::new(alloc);
-    let mut count = 0;
+    let mut count: u32 = 0;
     for region in regions {
         if is_fence(region) {
             put_fence(&mut numbers, &region.name, count)?;
-            count += 1;
+            count = count.checked_add(1).ok_or(AllocError)?;
         }
     }
     Ok((numbers, count))
 }
 
-/// The first places, and those behind them.
-fn split_places(places: &[Option<usize>], count: usize) -> (&[Option<usize>], &[Option<usize>])
-    ensures front { result.0.now ≡ take count places.now }
-    ensures back { result.1.now ≡ drop count places.now }
-{
-    places.split_at(count.min(places.len()))
-}
-
-/// The index of the patterns of all groups, for so many names, among which the patterns have these places.
+/// The index of the patterns of all groups.
 fn index_of(
     alloc: Global,
-    count: usize,
-    places: &[Option<usize>],
     groups: &[Group],
-    numbers: &NameMap<usize>,
+    numbers: &NameMap<u32>,
 ) -> Result<PatternIndex, AllocError>
-    ensures { (names : List (List ℕ)) (regions : List Region) → length names ≡ count → places.now ≡ map (position_of names) (all_patterns groups.now) → Numbers (fence_names regions) numbers.now → IfOk result (λ index. Holds names index (all_bounds regions groups.now)) }
+    ensures { (regions : List Region) → Numbers (fence_names regions) numbers.now → IfOk result (λ index. Holds index (all_bounds regions groups.now)) }
 {
-    let mut index = PatternIndex::new(alloc, count)?;
-    let mut remaining = places;
+    let mut index = PatternIndex::new(alloc)?;
     for group in groups {
-        let (own, behind) = split_places(remaining, group.patterns.len());
-        remaining = behind;
-        index.add_group(alloc, group, own, numbers)?;
+        index.add_group(alloc, group, numbers)?;
     }
     Ok(index)
 }
 
-/// The table of the components that all groups' claims name.
+/// The table of the components that all groups' claims name. It has no claims where two components bear one name.
 pub(crate) fn claim_table(
     alloc: Global,
     components: &[Component],
@@ -334,12 +336,18 @@ pub(crate) fn claim_table(
 ) -> Result<ClaimTable, AllocError>
     ensures { IfOk result (λ table. IsTableOf regions.now groups.now components.now table) }
 {
-    let NamedPatterns { second, places } = name_patterns(alloc, components, groups)?;
     let (numbers, ground) = number_fences(alloc, regions)?;
-    let index = index_of(alloc, components.len(), &places, groups, &numbers)?;
+    let index = index_of(alloc, groups, &numbers)?;
+    if let Some(claims) = index.claims_of(alloc, components)? {
+        return Ok(ClaimTable {
+            second: None,
+            claims,
+            ground,
+        });
+    }
     Ok(ClaimTable {
-        second,
-        claims: index.claims_of(alloc, components)?,
+        second: first_second_name(alloc, components)?,
+        claims: Vec::new(alloc),
         ground,
     })
 }
@@ -358,9 +366,9 @@ impl ClaimTable {
         ensures { (regions : List Region) (groups : List Group) (name : List ℕ) → IsClaimOf regions groups name (claim_at self.now.claims.items number) → (HasTwoFences regions groups name → ⊥) → self.now.ground ≡ length (fences regions) → IsTeamOf regions groups name result }
     {
         match claim_of(&self.claims, number) {
-            Claim::ByOne(team) => team,
-            Claim::Unclaimed => self.ground,
-            Claim::ByTwo => self.ground,
+            Claim::ByOne(team) => team as usize,
+            Claim::Unclaimed => self.ground as usize,
+            Claim::ByTwo => self.ground as usize,
         }
     }
 

@@ -1,8 +1,10 @@
-use Rattle.std.proofs.Common.{◌≡◌, length, rules}
-use Rattle.lf_frame.proofs.Indexes.{told_by_literals}
+use Rattle.lf_frame.proofs.Claimed.{told_by_index}
 use Rattle.lf_frame.proofs.claims.PatternIndex.claims_of.Goals as goal
 
-pub returns-then-is_empty : goal.returns-then-is_empty
-returns-then-is_empty c = λ names bounds h.
-    let none : length c.args.self.starred.items ≡ 0 = search rules in
-    record { told = λ k d within at. told_by_literals names c.args.self bounds _ k none h at }
+pub returns-in_default : goal.returns-in_default
+returns-in_default c = λ bounds h. rw c.in_default.is at (c.in_ok-claims.ensures h.literals h.kept)
+
+pub returns : goal.returns
+returns c = λ bounds h.
+    let literal = rw c.in-Some.is at (c.in_ok-claims.ensures h.literals h.kept) in
+    (literal.0, told_by_index c.args.self.now bounds c.args.components.now c.in_ok-completed.field-0.items h (c.in_ok-completed.ensures h.literals literal.1))

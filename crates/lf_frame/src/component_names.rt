@@ -1,0 +1,46 @@
+//! The names of components.
+
+ghost use Rattle.std.specs.Prelude.{IfOk};
+ghost use Rattle.lf_names.specs.NameParts.{ArePartsOf};
+ghost use Rattle.lf_frame.specs.Entries.{FirstIs};
+ghost use Rattle.lf_frame.specs.Refusals.{BearsEarlierName};
+ghost use Rattle.lf_frame.specs.Tables.{numbered_names};
+
+use crate::component_refusals::is_added;
+use lf_def::Component;
+use lf_names::{NameParts, NameTable};
+use std::alloc::{AllocError, Global};
+
+/// The names of components in parts, each labelled with its component's number. More of them than 32 bits count are
+/// refused as want of memory.
+pub(crate) fn parts_of_components(
+    alloc: Global,
+    components: &[Component],
+) -> Result<NameParts, AllocError>
+    ensures { IfOk result (ArePartsOf (numbered_names components.now)) }
+{
+    let mut parts = NameParts::new(alloc)?;
+    for (number, component) in components.iter().enumerate() {
+        let Ok(label) = u32::try_from(number) else {
+            return Err(AllocError);
+        };
+        parts.push(label, component.name.as_bytes())?;
+    }
+    Ok(parts)
+}
+
+/// The first component that bears an earlier one's name.
+pub(crate) fn first_second_name(
+    alloc: Global,
+    components: &[Component],
+) -> Result<Option<usize>, AllocError>
+    ensures { IfOk result (FirstIs BearsEarlierName components.now) }
+{
+    let mut names = NameTable::new(alloc);
+    for (number, component) in components.iter().enumerate() {
+        if !is_added(&mut names, component.name.as_bytes())? {
+            return Ok(Some(number));
+        }
+    }
+    Ok(None)
+}
