@@ -12,8 +12,8 @@ use Rattle.lf_def.specs.declared.groups.Group.{Group}
 use Rattle.lf_def.specs.declared.components.Component.{Component}
 use Rattle.lf_frame.specs.declared.claims.Claim.{Claim}
 use Rattle.lf_frame.specs.declared.claims.Claim.TheVariants.{Unclaimed}
-use Rattle.lf_frame.specs.declared.claims.Bound.{Bound}
-use Rattle.lf_frame.specs.declared.claims.PatternIndex.{PatternIndex}
+use Rattle.lf_frame.specs.declared.pattern_index.Bound.{Bound}
+use Rattle.lf_frame.specs.declared.pattern_index.PatternIndex.{PatternIndex}
 use Rattle.lf_frame.specs.Tables.{numbered_names}
 use Rattle.lf_frame.specs.Claims.{IsClaimOf, joined, Tells, ClaimsBy, Labels, IsMatched, all_bounds, claim_at, Holds, AreTold, AreClaimsOf}
 use Rattle.lf_frame.proofs.MapLemmas.{get_push, get_last, get_set, get_set_other}

@@ -4,8 +4,8 @@ use Rattle.std.proofs.lemmas.List.{append-nil}
 use Rattle.std.proofs.lemmas.List.Elements.{Contains-append_left, Contains-push, Contains-push_cases}
 use Rattle.lf_names.specs.Pattern.{Matches}
 use Rattle.lf_names.specs.NameParts.{Labelled, ArePartsOf}
-use Rattle.lf_frame.specs.declared.claims.Bound.{Bound}
-use Rattle.lf_frame.specs.declared.claims.PatternIndex.{PatternIndex}
+use Rattle.lf_frame.specs.declared.pattern_index.Bound.{Bound}
+use Rattle.lf_frame.specs.declared.pattern_index.PatternIndex.{PatternIndex}
 use Rattle.lf_frame.specs.Claims.{ClaimsBy, Labels, Holds, Extends}
 use Rattle.lf_frame.proofs.Named.{none_of_nothing}
 use Rattle.lf_frame.proofs.Tellings.{claims_parts, claims_old, claims_new}

@@ -12,9 +12,9 @@ use Rattle.lf_def.specs.declared.groups.Group.{Group}
 use Rattle.lf_def.specs.declared.components.Component.{Component}
 use Rattle.lf_frame.specs.declared.claims.Claim.{Claim}
 use Rattle.lf_frame.specs.declared.claims.Claim.TheVariants.{Unclaimed, ByOne, ByTwo}
-use Rattle.lf_frame.specs.declared.claims.Bound.{Bound}
-use Rattle.lf_frame.specs.declared.claims.PatternIndex.{PatternIndex}
-use Rattle.lf_frame.specs.declared.claims.ClaimTable.{ClaimTable}
+use Rattle.lf_frame.specs.declared.pattern_index.Bound.{Bound}
+use Rattle.lf_frame.specs.declared.pattern_index.PatternIndex.{PatternIndex}
+use Rattle.lf_frame.specs.declared.claim_table.ClaimTable.{ClaimTable}
 use Rattle.lf_frame.specs.declared.name_map.NameMap.{NameMap}
 use Rattle.lf_frame.specs.NameMaps.{value_of, IsWhole}
 use Rattle.lf_frame.specs.Loading.{fences, fence_names, IsUnclaimed, IsClaimedBy}

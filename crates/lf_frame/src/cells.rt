@@ -12,7 +12,7 @@ ghost use Rattle.lf_frame.specs.Claims.{IsTableOf};
 ghost use Rattle.lf_frame.specs.Findings.{inputs};
 ghost use Rattle.lf_frame.specs.Loads.{location as location_of, as_location, movables, CanBeCell, IsCellOf};
 
-use crate::claims::ClaimTable;
+use crate::claim_table::ClaimTable;
 use crate::component_refusals::is_movable;
 use crate::copies::location;
 use crate::limits::Limits;

@@ -1,6 +1,6 @@
 //! Tests of what fences claim.
 
-use crate::claims::{claim_table, first_claimed_twice};
+use crate::claim_table::{claim_table, first_claimed_twice};
 use lf_def::{DefDoc, read_def};
 use std::alloc::Global;
 use std::test::Fail;

@@ -11,7 +11,7 @@ ghost use Rattle.lf_frame.specs.Claims.{IsTableOf};
 ghost use Rattle.lf_frame.specs.Findings.{inputs, units_in, core_in, region_name, Finds, OfCore, OfPitch, CoreHasPartUnits, NameOfFirst};
 ghost use Rattle.lf_frame.specs.Refusals.{IsRowTooMany, IsFenceTooMany, IsComponentTooMany, BearsEarlierName, EndsTooFar, AreMacroFaults};
 
-use crate::claims::{ClaimTable, first_claimed_twice};
+use crate::claim_table::{ClaimTable, first_claimed_twice};
 use crate::component_refusals::{MacroFaults, first_component_too_many, is_whole_size};
 use crate::fence_refusals::{
     first_fence_overlap, first_fence_too_many, first_ground_name, first_second_fence,

@@ -3,6 +3,7 @@
 
 mod assembled;
 mod cells;
+mod claim_table;
 mod claims;
 mod component_names;
 mod component_refusals;
@@ -18,6 +19,7 @@ mod loading;
 mod measure;
 mod name_map;
 mod parts;
+mod pattern_index;
 mod pitch;
 mod place;
 mod refusal;

@@ -11,7 +11,7 @@ ghost use Rattle.lf_frame.specs.Loads.{fixed_box, blocked, FixedIsSized, AreInRa
 
 use crate::assembled::Parts;
 use crate::cells::movable_cells;
-use crate::claims::{ClaimTable, claim_table};
+use crate::claim_table::{ClaimTable, claim_table};
 use crate::copies::{
     copy_header, copy_macros, copy_site, fence_teams, fixed_boxes, heeded_rows, push_blockages,
 };

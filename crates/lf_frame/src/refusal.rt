@@ -9,7 +9,7 @@ ghost use Rattle.lf_frame.specs.Refusals.{BearsEarlierName, AreMacroFaults};
 ghost use Rattle.lf_frame.specs.Claims.{IsTableOf};
 ghost use Rattle.lf_frame.specs.Findings.{inputs, units_in, Finds, number_of, IsAccepted, IsFault};
 
-use crate::claims::ClaimTable;
+use crate::claim_table::ClaimTable;
 use crate::component_refusals::{MacroFaults, macro_faults};
 use crate::findings::{
     bad_step, fences_overlap, no_macro, no_region, no_rows, no_site, no_size, no_units, not_whole,

@@ -1,0 +1,210 @@
+//! The patterns of groups, bound to the fences of the groups.
+
+ghost use Rattle.std.specs.Prelude.{◌≡◌, ◌↔◌, ◌⊎◌, ℕ, [], ◌∷◌, List, Some, IfOk, OnOk};
+ghost use Rattle.std.specs.Option.{option_and_then};
+ghost use Rattle.lf_names.specs.NameParts.{Labelled, ArePartsOf};
+ghost use Rattle.lf_names.specs.Pattern.{Matches};
+ghost use Rattle.lf_def.specs.declared.regions.Region.{Region};
+ghost use Rattle.lf_frame.specs.Loading.{fence_names};
+ghost use Rattle.lf_frame.specs.NameMaps.{value_of};
+ghost use Rattle.lf_frame.specs.Claims.{Tells, ClaimsBy, bound_to, all_bounds, Labels, Holds, Extends, Numbers, AreTold, AreClaimsWhereDistinct, StepsTo};
+
+use crate::claims::{Claim, claim_of, claims_by_match, joined, merged};
+use crate::component_names::parts_of_components;
+use crate::name_map::NameMap;
+use lf_def::{Component, Group};
+use lf_names::{NameParts, Pattern};
+use lf_units::Name;
+use std::alloc::{AllocError, Global};
+
+/// A pattern of a group, and the number of the fence that the group is bound to.
+#[derive(Drop)]
+pub struct Bound {
+    pub pattern: Name,
+    pub fence: u32,
+}
+
+/// Patterns that are bound to fences: those without a star in parts, as the names that they stand for, each labelled
+/// with the number of its fence; the others as they are.
+#[derive(Drop)]
+pub struct PatternIndex {
+    literals: NameParts,
+    starred: Vec<Bound>,
+}
+
+/// The claim with that of one pattern more.
+fn with_bound(claim: Claim, bound: &Bound, name: &[u8]) -> Claim
+    ensures { StepsTo bound.now name.now claim result }
+{
+    if Pattern::new(bound.pattern.as_bytes()).matches(name) {
+        joined(claim, bound.fence)
+    } else {
+        claim
+    }
+}
+
+/// What the patterns claim the name for, each tried in turn.
+fn claim_by_trial(bounds: &[Bound], name: &[u8]) -> Claim
+    ensures { Tells (ClaimsBy bounds.now name.now) result }
+{
+    let mut claim = Claim::Unclaimed;
+    for bound in bounds {
+        claim = with_bound(claim, bound, name);
+    }
+    claim
+}
+
+impl PatternIndex {
+    /// The index of no pattern.
+    fn new(alloc: Global) -> Result<Self, AllocError>
+        ensures { IfOk result (λ index. Holds index []) }
+    {
+        Ok(PatternIndex {
+            literals: NameParts::new(alloc)?,
+            starred: Vec::new(alloc),
+        })
+    }
+
+    /// Adds a pattern without a star.
+    fn add_literal(&mut self, pattern: &[u8], fence: u32) -> Result<(), AllocError>
+        ensures { ((name : List ℕ) → (Matches pattern.now name ↔ (name ≡ pattern.now))) → OnOk result (Extends self.old self.new (record { pattern = pattern.now; fence = fence } ∷ [])) }
+    {
+        self.literals.push(fence, pattern)?;
+        Ok(())
+    }
+
+    /// Adds a pattern that is tried on each name.
+    fn add_starred(&mut self, alloc: Global, pattern: &[u8], fence: u32) -> Result<(), AllocError>
+        ensures { OnOk result (Extends self.old self.new (record { pattern = pattern.now; fence = fence } ∷ [])) }
+    {
+        let pattern = Name::from_slice(alloc, pattern)?;
+        self.starred.push(Bound { pattern, fence })?;
+        Ok(())
+    }
+
+    /// Adds a pattern.
+    fn add(&mut self, alloc: Global, pattern: &[u8], fence: u32) -> Result<(), AllocError>
+        ensures { OnOk result (Extends self.old self.new (record { pattern = pattern.now; fence = fence } ∷ [])) }
+    {
+        if Pattern::new(pattern).is_literal() {
+            return self.add_literal(pattern, fence);
+        }
+        self.add_starred(alloc, pattern, fence)
+    }
+
+    /// Adds patterns of one fence.
+    fn add_patterns(
+        &mut self,
+        alloc: Global,
+        patterns: &[Name],
+        fence: u32,
+    ) -> Result<(), AllocError>
+        ensures { OnOk result (Extends self.old self.new (bound_to (Some fence) patterns.now)) }
+    {
+        for pattern in patterns {
+            self.add(alloc, pattern.as_bytes(), fence)?;
+        }
+        Ok(())
+    }
+
+    /// Adds the patterns of a group, where it is bound to a fence.
+    fn add_group(
+        &mut self,
+        alloc: Global,
+        group: &Group,
+        numbers: &NameMap<u32>,
+    ) -> Result<(), AllocError>
+        ensures { OnOk result (Extends self.old self.new (bound_to (option_and_then (value_of numbers.now) group.now.region) group.now.patterns)) }
+    {
+        match fence_of(group, numbers) {
+            Some(fence) => self.add_patterns(alloc, group.patterns.as_slice(), fence),
+            None => Ok(()),
+        }
+    }
+
+    /// What the literal patterns claim each component for; none where two components bear one name.
+    fn literal_claims(
+        &self,
+        alloc: Global,
+        components: &[Component],
+    ) -> Result<Option<Vec<Claim>>, AllocError>
+        ensures { (literals : List Labelled) → ArePartsOf literals self.now.literals → IfOk result (AreClaimsWhereDistinct (Labels literals) components.now) }
+    {
+        let names = parts_of_components(alloc, components)?;
+        let Some(matches) = names.matches(alloc, &self.literals)? else {
+            return Ok(None);
+        };
+        Ok(Some(claims_by_match(alloc, components.len(), &matches)?))
+    }
+
+    /// These claims of all components with those of the patterns with a star, which are tried on each name.
+    fn with_starred(
+        &self,
+        alloc: Global,
+        components: &[Component],
+        claims: &[Claim],
+    ) -> Result<Vec<Claim>, AllocError>
+        ensures { (literals : List Labelled) → AreTold (Labels literals) components.now claims.now → IfOk result (λ all. AreTold (λ name fence. Labels literals name fence ⊎ ClaimsBy self.now.starred.items name fence) components.now all.items) }
+    {
+        let mut all = Vec::with_capacity(alloc, components.len())?;
+        for (number, component) in components.iter().enumerate() {
+            let tried = claim_by_trial(&self.starred, component.name.as_bytes());
+            all.push(merged(claim_of(claims, number), tried))?;
+        }
+        Ok(all)
+    }
+
+    /// These claims of all components with those of the patterns with a star.
+    fn completed(
+        &self,
+        alloc: Global,
+        components: &[Component],
+        claims: Vec<Claim>,
+    ) -> Result<Vec<Claim>, AllocError>
+        ensures { (literals : List Labelled) → AreTold (Labels literals) components.now claims.items → IfOk result (λ all. AreTold (λ name fence. Labels literals name fence ⊎ ClaimsBy self.now.starred.items name fence) components.now all.items) }
+    {
+        if self.starred.is_empty() {
+            return Ok(claims);
+        }
+        self.with_starred(alloc, components, &claims)
+    }
+
+    /// What the patterns claim each component for; none where two components bear one name.
+    pub(crate) fn claims_of(
+        &self,
+        alloc: Global,
+        components: &[Component],
+    ) -> Result<Option<Vec<Claim>>, AllocError>
+        ensures { (bounds : List Bound) → Holds self.now bounds → IfOk result (AreClaimsWhereDistinct (ClaimsBy bounds) components.now) }
+    {
+        let Some(claims) = self.literal_claims(alloc, components)? else {
+            return Ok(None);
+        };
+        Ok(Some(self.completed(alloc, components, claims)?))
+    }
+}
+
+/// The number of the fence that the group is bound to.
+fn fence_of(group: &Group, numbers: &NameMap<u32>) -> Option<u32>
+    ensures { result ≡ option_and_then (value_of numbers.now) group.now.region }
+{
+    match &group.region {
+        Some(region) => numbers.get(region.as_bytes()),
+        None => None,
+    }
+}
+
+/// The index of the patterns of all groups.
+pub(crate) fn index_of(
+    alloc: Global,
+    groups: &[Group],
+    numbers: &NameMap<u32>,
+) -> Result<PatternIndex, AllocError>
+    ensures { (regions : List Region) → Numbers (fence_names regions) numbers.now → IfOk result (λ index. Holds index (all_bounds regions groups.now)) }
+{
+    let mut index = PatternIndex::new(alloc)?;
+    for group in groups {
+        index.add_group(alloc, group, numbers)?;
+    }
+    Ok(index)
+}
