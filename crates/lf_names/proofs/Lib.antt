@@ -3,5 +3,5 @@ pub mod Positions
 pub mod Parts
 pub mod Places
 pub mod KeySets
-pub mod NumberedLemmas
+pub mod LabelledLemmas
 pub mod PartLemmas

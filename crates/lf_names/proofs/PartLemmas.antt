@@ -1,261 +1,222 @@
--- Lists of names in parts.
-use Rattle.std.proofs.Common.{◌≡◌, ◌≢◌, ℕ, zero, suc, ◌+◌, ◌<◌, ◌⊎◌, inl, inr, List, [], ◌∷◌, ◌++◌, length, map, get_or, set, Option, None, Some, AllPairs, Contains, slice_get, refl, sym, ◌∙◌, ap, arith, length-append}
-use Rattle.std.proofs.lemmas.Bool.{cases_lt}
-use Rattle.std.proofs.lemmas.List.{length-set, get_or-set_same, get_or-set_other}
-use Rattle.std.proofs.lemmas.List.Elements.{Contains-append_left, Contains-append_right, Contains-append_cases}
+-- Lists of labelled names in parts.
+use Rattle.std.proofs.Common.{◌≡◌, ◌≢◌, ◌↔◌, ℕ, zero, suc, ◌+◌, ◌<◌, inl, inr, Bool, true, false, cond, List, [], ◌∷◌, ◌++◌, length, map, get_or, set, Option, None, Some, All, Contains, slice_get, refl, sym, subst, ◌∙◌, ap, arith}
+use Rattle.std.proofs.lemmas.Bool.{cases_lt, eq-eqb, eqb-true}
+use Rattle.std.proofs.lemmas.List.{length-set, get_or-set_same, get_or-set_other, append-nil}
+use Rattle.std.proofs.lemmas.List.Elements.{Contains-get_or, Contains-append_left, Contains-append_right, Contains-append_cases, filter-append}
+use Rattle.std.proofs.lemmas.List.Kept.{AllPairs-cons, AllPairs-filter}
 use Rattle.std.proofs.lemmas.Option.{slice_get-map, slice_get_within, slice_get-get_or, get_or_from_slice_get}
+use Rattle.std.specs.List.{cons_option, filter, filter_map}
 use Rattle.std.specs.Option.{option_map, option_and_then}
+use Rattle.std.specs.Prelude.{◌==◌}
 use Rattle.lf_names.specs.Names.{position_of}
-use Rattle.lf_names.specs.NameParts.{Numbered, Keeps, KeepsPart, ArePart, ArePartsOf, part_of, part_count, number_in, with_answers}
-use Rattle.lf_names.specs.declared.name_parts.NumberedNames.{NumberedNames}
+use Rattle.lf_names.specs.NameParts.{Labelled, Keeps, ArePartsOf, Differ, IsMatch, AreMatches, names_of_part, part_of, part_count}
+use Rattle.lf_names.specs.PartMatches.{label_in, labels_of, match_of, matches_of}
+use Rattle.lf_names.specs.declared.name_parts.Match.{Match}
+use Rattle.lf_names.specs.declared.name_parts.LabelledNames.{LabelledNames}
 use Rattle.lf_names.specs.declared.name_parts.NameParts.{NameParts}
-use Rattle.lf_names.proofs.Positions.{stands_there, stands_nowhere, found_there}
-use borrow.Author.Count.{below_more}
+use Rattle.lf_names.proofs.LabelledLemmas.{differ_names}
+use Rattle.lf_names.proofs.Positions.{stands_there, found_there}
 
 -- a part is one of them
-pub part_within : (name : List ℕ) → part_of name < part_count
+part_within : (name : List ℕ) → part_of name < part_count
 unfolding part_of
 part_within name = omega arith
 
--- elements by their places
-pub at_place : {X : Type 0} (xs : List X) (x : X) → Contains xs x → (i : ℕ) × (slice_get xs i ≡ Some x)
-at_place xs x there = (there.0, slice_get-get_or xs there.0 x there.1 ∙ ap Some there.2)
-
-pub place_of : {X : Type 0} (xs : List X) (i : ℕ) (x : X) → slice_get xs i ≡ Some x → Contains xs x
-place_of xs i x e = (i, slice_get_within xs i x e, get_or_from_slice_get xs i x x e)
-
-named : (o : Option Numbered) (name : List ℕ) → option_map (λ p. p.name) o ≡ Some name → (p : Numbered) × (o ≡ Some p) × (p.name ≡ name)
-named None name e = absurd (cc)
-named (Some p) name e = (p, refl, cc)
-
-no_position : (names : List (List ℕ)) (name : List ℕ) → ((i : ℕ) → slice_get names i ≡ Some name → ⊥) → (o : Option ℕ) → position_of names name ≡ o → o ≡ None
-no_position names name absent None e = refl
-no_position names name absent (Some i) e = absurd (absent i (stands_there names name i e))
-
--- a part, whose names differ
-module _ (names : List (List ℕ)) (part : ℕ) (pairs : List Numbered) (own : ArePart names part pairs) where
-  known : (i : ℕ) (p : Numbered) → slice_get pairs i ≡ Some p → (slice_get names p.number ≡ Some p.name) × (part_of p.name ≡ part)
-  known i p e = (own p).0 (place_of pairs i p e)
-
-  kept : (number : ℕ) (name : List ℕ) → slice_get names number ≡ Some name → part_of name ≡ part → (i : ℕ) × (slice_get pairs i ≡ Some (record { number = number; name = name }))
-  kept number name e is = at_place pairs (record { number = number; name = name }) ((own (record { number = number; name = name })).1 (e, is))
-
-  name_kept : (i : ℕ) (p : Numbered) → slice_get pairs i ≡ Some p → slice_get (map (λ q. q.name) pairs) i ≡ Some p.name
-  name_kept i p e = slice_get-map (λ q. q.name) pairs i ∙ ap (option_map (λ q. q.name)) e
-
-  module _ (differ : AllPairs (λ earlier later. earlier ≢ later) (map (λ p. p.name) pairs)) where
-    -- a name of the part has one number
-    one_number : (i j : ℕ) (name : List ℕ) → slice_get names i ≡ Some name → slice_get names j ≡ Some name → part_of name ≡ part → i ≡ j
-    one_number i j name e f is =
-        let u = kept i name e is in
-        let v = kept j name f is in
-        let pu = found_there (map (λ p. p.name) pairs) name u.0 differ (name_kept u.0 _ u.1) in
-        let pv = found_there (map (λ p. p.name) pairs) name v.0 differ (name_kept v.0 _ v.1) in
-        let same : u.0 ≡ v.0 = cc in
-        let pair : Some (record { number = i; name = name }) ≡ Some (record { number = j; name = name }) = sym u.1 ∙ ap (slice_get pairs) same ∙ v.1 in
-        ap (λ o. number_or o) pair
-      where
-        number_or : Option Numbered → ℕ
-        number_or None = 0
-        number_or (Some p) = p.number
-
-    -- its number is its position
-    pub number_is : (name : List ℕ) → part_of name ≡ part → number_in pairs name ≡ position_of names name
-    number_is name is = by (position_of (map (λ p. p.name) pairs) name) refl
-      where
-        by : (o : Option ℕ) → position_of (map (λ p. p.name) pairs) name ≡ o → number_in pairs name ≡ position_of names name
-        by None e =
-            let absent : (i : ℕ) → slice_get names i ≡ Some name → ⊥ = λ i f. let u = kept i name f is in stands_nowhere (map (λ p. p.name) pairs) name e (place_of (map (λ p. p.name) pairs) u.0 name (name_kept u.0 _ u.1)) in
-            ap (option_and_then (λ at. option_map (λ p. p.number) (slice_get pairs at))) e ∙ sym (no_position names name absent (position_of names name) refl)
-        by (Some i) e =
-            let there = named (slice_get pairs i) name (sym (slice_get-map (λ p. p.name) pairs i) ∙ stands_there (map (λ p. p.name) pairs) name i e) in
-            let stands : slice_get names there.0.number ≡ Some name = (known i there.0 there.1).0 ∙ ap Some there.2 in
-            ap (option_and_then (λ at. option_map (λ p. p.number) (slice_get pairs at))) e ∙ ap (option_map (λ p. p.number)) there.1 ∙ sym (here there.0.number stands (position_of names name) refl)
-          where
-            here : (n : ℕ) → slice_get names n ≡ Some name → (o : Option ℕ) → position_of names name ≡ o → o ≡ Some n
-            here n stands None e = absurd (stands_nowhere names name e (place_of names n name stands))
-            here n stands (Some m) e = ap Some (one_number m n name (stands_there names name m e) stands is)
-
--- each name of the part stands once
-abbrev pub DifferIn : List (List ℕ) → ℕ → Type 0
-DifferIn names part = (i j : ℕ) (name : List ℕ) → i < j → slice_get names i ≡ Some name → slice_get names j ≡ Some name → part_of name ≡ part → ⊥
-
--- each name of the parts below this one stands once
-abbrev pub DifferBelow : List (List ℕ) → ℕ → Type 0
-DifferBelow names part = (k : ℕ) → k < part → DifferIn names k
-
--- each asked name of the part has its position
-abbrev pub AnsweredIn : List (List ℕ) → List (List ℕ) → List (Option ℕ) → ℕ → Type 0
-AnsweredIn names questions found part = (j : ℕ) (name : List ℕ) → slice_get questions j ≡ Some name → part_of name ≡ part → slice_get found j ≡ Some (position_of names name)
-
--- each asked name of the parts below this one has its position
-pub record AnsweredBelow (names questions : List (List ℕ)) (part : ℕ) (found : List (Option ℕ)) : Type 0 where
-  pub long : length found ≡ length questions
-  pub answers : (k : ℕ) → k < part → AnsweredIn names questions found k
-
-pub differ_step : (names : List (List ℕ)) (part : ℕ) (pairs : List Numbered) → ArePart names part pairs → AllPairs (λ earlier later. earlier ≢ later) (map (λ p. p.name) pairs) → DifferBelow names part → DifferBelow names (part + 1)
-differ_step names part pairs own differ below = below_more (DifferIn names) part below (λ i j name less e f is. let same : i ≡ j = one_number names part pairs own differ i j name e f is in omega arith)
-
--- an element that is set, and the others
-get_set : {X : Type 0} (xs : List X) (i j : ℕ) (w v : X) → (i ≡ j → w ≡ v) → slice_get xs j ≡ Some v → slice_get (set xs i w) j ≡ Some v
-get_set [] i j w v same e = absurd (cc)
-get_set (x ∷ xs) zero zero w v same e = ap Some (same refl)
-get_set (x ∷ xs) zero (suc j) w v same e = e
-get_set (x ∷ xs) (suc i) zero w v same e = e
-get_set (x ∷ xs) (suc i) (suc j) w v same e = get_set xs i j w v (λ q. same (ap suc q)) e
-
-get_set_own : {X : Type 0} (xs : List X) (i : ℕ) (w : X) → i < length xs → slice_get (set xs i w) i ≡ Some w
-get_set_own [] i w within = absurd (omega arith)
-get_set_own (x ∷ xs) zero w within = refl
-get_set_own (x ∷ xs) (suc i) w within = get_set_own xs i w (omega arith)
-
-module _ (answer : List ℕ → Option ℕ) where
-  answers_long : (pairs : List Numbered) (found : List (Option ℕ)) → length (with_answers answer pairs found) ≡ length found
-  answers_long [] found = refl
-  answers_long (p ∷ pairs) found = answers_long pairs (set found p.number (answer p.name)) ∙ length-set found p.number (answer p.name)
-
-  module _ (j : ℕ) (v : Option ℕ) where
-    answers_kept : (pairs : List Numbered) (found : List (Option ℕ)) → ((i : ℕ) (p : Numbered) → slice_get pairs i ≡ Some p → p.number ≡ j → answer p.name ≡ v) → slice_get found j ≡ Some v → slice_get (with_answers answer pairs found) j ≡ Some v
-    answers_kept [] found agree e = e
-    answers_kept (p ∷ pairs) found agree e =
-        answers_kept pairs (set found p.number (answer p.name)) (λ i q. agree (suc i) q) (get_set found p.number j (answer p.name) v (λ is. agree zero p refl is) e)
-
-    answers_put : (pairs : List Numbered) (found : List (Option ℕ)) (i : ℕ) (q : Numbered) → ((i : ℕ) (p : Numbered) → slice_get pairs i ≡ Some p → p.number ≡ j → answer p.name ≡ v) → slice_get pairs i ≡ Some q → q.number ≡ j → j < length found →
-        slice_get (with_answers answer pairs found) j ≡ Some v
-    answers_put [] found i q agree e is within = absurd (cc)
-    answers_put (p ∷ pairs) found zero q agree e is within =
-        let own : p.number ≡ j = ap number_of e ∙ is in
-        let set_there : slice_get (set found p.number (answer p.name)) j ≡ Some v = ap (λ n. slice_get (set found n (answer p.name)) j) own ∙ get_set_own found j (answer p.name) within ∙ ap Some (agree zero p refl own) in
-        answers_kept pairs (set found p.number (answer p.name)) (λ i q. agree (suc i) q) set_there
-      where
-        number_of : Option Numbered → ℕ
-        number_of None = 0
-        number_of (Some r) = r.number
-    answers_put (p ∷ pairs) found (suc i) q agree e is within =
-        let long : length (set found p.number (answer p.name)) ≡ length found = length-set found p.number (answer p.name) in
-        answers_put pairs (set found p.number (answer p.name)) i q (λ k r. agree (suc k) r) e is (omega arith)
-
-pub answers_step : (names questions : List (List ℕ)) (part : ℕ) (pairs asked : List Numbered) (found : List (Option ℕ)) → ArePart names part pairs → AllPairs (λ earlier later. earlier ≢ later) (map (λ p. p.name) pairs) →
-    ArePart questions part asked → AnsweredBelow names questions part found → AnsweredBelow names questions (part + 1) (with_answers (number_in pairs) asked found)
-answers_step names questions part pairs asked found own differ asked_own below = record {
-  long = answers_long (number_in pairs) asked found ∙ below.long;
-  answers = below_more (AnsweredIn names questions (with_answers (number_in pairs) asked found)) part
-      (λ k less j name e is. answers_kept (number_in pairs) j (position_of names name) asked found (agree j name e) (below.answers k less j name e is))
-      (λ j name e is.
-      let there = kept questions part asked asked_own j name e is in
-      let within : j < length questions = slice_get_within questions j name e in
-      let long : length found ≡ length questions = below.long in
-      answers_put (number_in pairs) j (position_of names name) asked found there.0 _ (agree j name e) there.1 refl (omega arith));
-}
-  where
-    agree : (j : ℕ) (name : List ℕ) → slice_get questions j ≡ Some name → (i : ℕ) (p : Numbered) → slice_get asked i ≡ Some p → p.number ≡ j → number_in pairs p.name ≡ position_of names name
-    agree j name e i p at is =
-        let stands = known questions part asked asked_own i p at in
-        let same : p.name ≡ name = named_same (sym stands.0 ∙ ap (slice_get questions) is ∙ e) in
-        number_is names part pairs own differ p.name stands.1 ∙ ap (position_of names) same
-      where
-        named_same : {a b : List ℕ} → Some a ≡ Some b → a ≡ b
-        named_same q = cc
-
--- no name stands twice in any part, and so in none
-pub all_differ : (names : List (List ℕ)) → DifferBelow names part_count → AllPairs (λ earlier later. earlier ≢ later) names
-all_differ names below i j d less within same =
-    let early : i < length names = omega arith in
-    below (part_of (get_or names i d)) (part_within (get_or names i d)) i j (get_or names i d) less (slice_get-get_or names i d early) (slice_get-get_or names j d within ∙ ap Some (sym same)) refl
-
--- each asked name is of some part
-pub all_answered : (names questions : List (List ℕ)) (found : List (Option ℕ)) → AnsweredBelow names questions part_count found → found ≡ map (position_of names) questions
-all_answered names questions found below = by questions found below.long (λ j name e. below.answers (part_of name) (part_within name) j name e refl)
-  where
-    by : (asked : List (List ℕ)) (found : List (Option ℕ)) → length found ≡ length asked → ((j : ℕ) (name : List ℕ) → slice_get asked j ≡ Some name → slice_get found j ≡ Some (position_of names name)) → found ≡ map (position_of names) asked
-    by [] [] long all = refl
-    by [] (o ∷ found) long all = absurd (omega arith)
-    by (a ∷ asked) [] long all = absurd (omega arith)
-    by (a ∷ asked) (o ∷ found) long all =
-        let first : Some o ≡ Some (position_of names a) = all zero a refl in
-        let rest : found ≡ map (position_of names) asked = by asked found (omega arith) (λ j name e. all (suc j) name e) in
-        ap (λ l. o ∷ l) rest ∙ ap (λ p. p ∷ map (position_of names) asked) (cc)
-
--- a name behind others
-snoc_old : {X : Type 0} (xs ys : List X) (i : ℕ) (y : X) → slice_get xs i ≡ Some y → slice_get (xs ++ ys) i ≡ Some y
-snoc_old [] ys i y e = absurd (cc)
-snoc_old (x ∷ xs) ys zero y e = e
-snoc_old (x ∷ xs) ys (suc i) y e = snoc_old xs ys i y e
-
-snoc_last : {X : Type 0} (xs : List X) (y : X) → slice_get (xs ++ y ∷ []) (length xs) ≡ Some y
-snoc_last [] y = refl
-snoc_last (x ∷ xs) y = snoc_last xs y
-
-snoc_cases : {X : Type 0} (xs : List X) (x : X) (i : ℕ) (y : X) → slice_get (xs ++ x ∷ []) i ≡ Some y → (slice_get xs i ≡ Some y) ⊎ ((i ≡ length xs) × (y ≡ x))
-snoc_cases [] x zero y e = inr (refl, cc)
-snoc_cases [] x (suc i) y e = absurd (cc)
-snoc_cases (z ∷ xs) x zero y e = inl e
-snoc_cases (z ∷ xs) x (suc i) y e = elim (snoc_cases xs x i y e) [ inl old ↦ inl old | inr (at, is) ↦ inr (ap suc at, is) ]
-
-pub part_of_none : (part : ℕ) → ArePart [] part []
-part_of_none part p = (λ there. let within : there.0 < 0 = there.1 in absurd (omega arith), λ h. let none : None ≡ Some p.name = h.0 in absurd (cc))
-
-one_alone : {X : Type 0} (x y : X) → Contains (x ∷ []) y → y ≡ x
-one_alone x y (zero, within, is) = sym is
+one_alone : {X : Type 0} (x y : X) → Contains (x ∷ []) y → x ≡ y
+one_alone x y (zero, within, is) = is
 one_alone x y (suc k, within, is) = absurd (omega arith)
 
-part_more : (names : List (List ℕ)) (name : List ℕ) (pairs : List Numbered) → ArePart names (part_of name) pairs → ArePart (names ++ name ∷ []) (part_of name) (pairs ++ record { number = length names; name = name } ∷ [])
-part_more names name pairs own p = (forth, back)
+-- what a filter keeps
+module _ {X : Type 0} (p : X → Bool) where
+  kept : (xs : List X) (x : X) → p x ≡ true → Contains xs x → Contains (filter p xs) x
+  kept [] x passes there = let none : there.0 < 0 = there.1 in absurd (omega arith)
+  kept (y ∷ xs) x passes (zero, within, is) = subst (λ t. Contains (cond t (y ∷ filter p xs) (filter p xs)) x) (sym (ap p is ∙ passes)) (0, omega arith, is)
+  kept (y ∷ xs) x passes (suc k, within, is) = behind (p y) (kept xs x passes (k, omega arith, is))
+    where
+      behind : (t : Bool) → Contains (filter p xs) x → Contains (cond t (y ∷ filter p xs) (filter p xs)) x
+      behind true there = Contains-append_right (y ∷ []) (filter p xs) x there
+      behind false there = there
+
+  stood : (xs : List X) (x : X) → Contains (filter p xs) x → Contains xs x
+  stood [] x there = there
+  stood (y ∷ xs) x there = by (p y) there (stood xs x)
+    where
+      by : (t : Bool) → Contains (cond t (y ∷ filter p xs) (filter p xs)) x → (Contains (filter p xs) x → Contains xs x) → Contains (y ∷ xs) x
+      by true there more = elim (Contains-append_cases (y ∷ []) (filter p xs) x there) [
+        | inl one ↦ Contains-append_left (y ∷ []) xs x one
+        | inr later ↦ Contains-append_right (y ∷ []) xs x (more later)
+      ]
+      by false there more = Contains-append_right (y ∷ []) xs x (more there)
+
+-- what a list of options gives
+module _ {X Y : Type 0} (f : X → Option Y) (y : Y) where
+  given : (xs : List X) → Contains (filter_map f xs) y → (x : X) × Contains xs x × (f x ≡ Some y)
+  given [] there = let none : there.0 < 0 = there.1 in absurd (omega arith)
+  given (x ∷ xs) there = by (f x) refl there (given xs)
+    where
+      by : (o : Option Y) → f x ≡ o → Contains (cons_option o (filter_map f xs)) y → (Contains (filter_map f xs) y → (w : X) × Contains xs w × (f w ≡ Some y)) → (w : X) × Contains (x ∷ xs) w × (f w ≡ Some y)
+      by None e there more = let w = more there in (w.0, Contains-append_right (x ∷ []) xs w.0 w.1, w.2)
+      by (Some z) e there more = elim (Contains-append_cases (z ∷ []) (filter_map f xs) y there) [
+        | inl one ↦ (x, (0, omega arith, refl), e ∙ ap Some (one_alone z y one))
+        | inr later ↦ let w = more later in (w.0, Contains-append_right (x ∷ []) xs w.0 w.1, w.2)
+      ]
+
+  gives : (xs : List X) (x : X) → Contains xs x → f x ≡ Some y → Contains (filter_map f xs) y
+  gives [] x there e = let none : there.0 < 0 = there.1 in absurd (omega arith)
+  gives (w ∷ xs) x (zero, within, is) e = subst (λ o. Contains (cons_option o (filter_map f xs)) y) (sym (ap f is ∙ e)) (0, omega arith, refl)
+  gives (w ∷ xs) x (suc k, within, is) e = behind (f w) (gives xs x (k, omega arith, is) e)
+    where
+      behind : (o : Option Y) → Contains (filter_map f xs) y → Contains (cons_option o (filter_map f xs)) y
+      behind None there = there
+      behind (Some z) there = Contains-append_right (z ∷ []) (filter_map f xs) y there
+
+-- names that differ have one label each
+named : (o : Option Labelled) (name : List ℕ) → option_map (λ n. n.name) o ≡ Some name → (n : Labelled) × (o ≡ Some n) × (n.name ≡ name)
+named None name e = absurd (cc)
+named (Some n) name e = (n, refl, cc)
+
+has_label : (names : List Labelled) (name : List ℕ) (label : ℕ) → label_in names name ≡ Some label → Contains names (record { label = label; name = name })
+has_label names name label e = by (position_of (map (λ n. n.name) names) name) refl
   where
-    one : Numbered
-    one = record { number = length names; name = name }
+    label_there : (n : Labelled) (i : ℕ) → position_of (map (λ m. m.name) names) name ≡ Some i → slice_get names i ≡ Some n → n.label ≡ label
+    label_there n i known there =
+        let own : label_in names name ≡ Some n.label = ap (option_and_then (λ at. option_map (λ (m : Labelled). m.label) (slice_get names at))) known ∙ ap (option_map (λ (m : Labelled). m.label)) there in
+        let some : Some n.label ≡ Some label = sym own ∙ e in
+        cc
 
-    forth : Contains (pairs ++ one ∷ []) p → (slice_get (names ++ name ∷ []) p.number ≡ Some p.name) × (part_of p.name ≡ part_of name)
-    forth there = elim (Contains-append_cases pairs (one ∷ []) p there) [
-      | inl old ↦ let h = (own p).0 old in (snoc_old names (name ∷ []) p.number p.name h.0, h.1)
-      | inr last ↦
-          let is : p ≡ one = one_alone one p last in
-          (ap (λ (q : Numbered). slice_get (names ++ name ∷ []) q.number) is ∙ snoc_last names name ∙ ap (λ (q : Numbered). Some q.name) (sym is), ap (λ (q : Numbered). part_of q.name) is)
+    by : (o : Option ℕ) → position_of (map (λ n. n.name) names) name ≡ o → Contains names (record { label = label; name = name })
+    by None known =
+        let none : None ≡ Some label = sym (ap (option_and_then (λ at. option_map (λ (n : Labelled). n.label) (slice_get names at))) known) ∙ e in
+        absurd (cc)
+    by (Some i) known =
+        let there = named (slice_get names i) name (sym (slice_get-map (λ n. n.name) names i) ∙ stands_there (map (λ n. n.name) names) name i known) in
+        let same : there.0.label ≡ label = label_there there.0 i known there.1 in
+        let is : ◌≡◌ {A = Labelled} there.0 (record { label = label; name = name }) = ap (λ l. record { label = l; name = there.0.name }) same ∙ ap (λ m. record { label = label; name = m }) there.2 in
+        subst (Contains names) is (i, slice_get_within names i there.0 there.1, get_or_from_slice_get names i there.0 there.0 there.1)
+
+label_is : (names : List Labelled) → Differ names → (n : Labelled) → Contains names n → label_in names n.name ≡ Some n.label
+label_is names differ n there =
+    let at : slice_get names there.0 ≡ Some n = slice_get-get_or names there.0 n there.1 ∙ ap Some there.2 in
+    let named_there : slice_get (map (λ (m : Labelled). m.name) names) there.0 ≡ Some n.name = slice_get-map (λ m. m.name) names there.0 ∙ ap (option_map (λ (m : Labelled). m.name)) at in
+    let known : position_of (map (λ (m : Labelled). m.name) names) n.name ≡ Some there.0 = found_there (map (λ m. m.name) names) n.name there.0 (differ_names names differ) named_there in
+    ap (option_and_then (λ i. option_map (λ (m : Labelled). m.label) (slice_get names i))) known ∙ ap (option_map (λ (m : Labelled). m.label)) at
+
+-- the matches of one part, whose names differ
+matched : (names asked : List Labelled) → Differ names → (m : Match) → Contains (matches_of names asked) m ↔ IsMatch names asked m
+matched names asked differ m = (forth, back)
+  where
+    forth : Contains (matches_of names asked) m → IsMatch names asked m
+    forth there = let q = given (match_of names) m asked there in by q.0 q.1 (label_in names q.0.name) refl q.2
+      where
+        by : (q : Labelled) → Contains asked q → (o : Option ℕ) → label_in names q.name ≡ o → match_of names q ≡ Some m → IsMatch names asked m
+        by q stands None e is = let none : None ≡ Some m = sym (ap (option_map (labels_of q.label)) e) ∙ is in absurd (cc)
+        by q stands (Some own) e is =
+            let some : Some (labels_of q.label own) ≡ Some m = sym (ap (option_map (labels_of q.label)) e) ∙ is in
+            let same : labels_of q.label own ≡ m = cc in
+            record {
+              name = q.name;
+              is_own = has_label names q.name m.own (e ∙ ap (λ (l : Match). Some l.own) same);
+              is_asked = subst (λ l. Contains asked (record { label = l; name = q.name })) (ap (λ (l : Match). l.asked) same) stands;
+            }
+
+    back : IsMatch names asked m → Contains (matches_of names asked) m
+    back is = gives (match_of names) m asked (record { label = m.asked; name = is.name }) is.is_asked (ap (option_map (labels_of m.asked)) (label_is names differ (record { label = m.own; name = is.name }) is.is_own))
+
+-- names that differ differ in each part, and names that differ in each part differ
+pub differ_in_part : (names : List Labelled) (part : ℕ) → Differ names → Differ (names_of_part part names)
+differ_in_part names part differ = AllPairs-filter (λ n later. n.name ≢ later.name) (λ n. part_of n.name == part) names differ
+
+behind_differ : (n : Labelled) (names : List Labelled) (t : Bool) → Differ (cond t (n ∷ names) names) → Differ names
+behind_differ n names true differ = λ i j d less within. differ (suc i) (suc j) d (omega arith) (omega arith)
+behind_differ n names false differ = differ
+
+-- a name differs from those behind it that are of its part, and so from all behind it
+differs_from : (n : Labelled) (names : List Labelled) (part : ℕ) → part_of n.name ≡ part → Differ (names_of_part part (n ∷ names)) → All (λ later. n.name ≢ later.name) names
+differs_from n names part is differ k d within same =
+    let later : Labelled = get_or names k d in
+    let own : Differ (n ∷ names_of_part part names) = subst (λ t. Differ (cond t (n ∷ names_of_part part names) (names_of_part part names))) (eq-eqb (part_of n.name) part is) differ in
+    let there = kept (λ m. part_of m.name == part) names later (eq-eqb (part_of later.name) part (ap part_of (sym same) ∙ is)) (Contains-get_or names k d within) in
+    let inside : there.0 < length (names_of_part part names) = there.1 in
+    own 0 (suc there.0) later (omega arith) (omega arith) (same ∙ ap (λ (m : Labelled). m.name) (sym there.2))
+
+pub all_differ : (names : List Labelled) → ((k : ℕ) → k < part_count → Differ (names_of_part k names)) → Differ names
+all_differ [] parts = λ i j d less within. absurd (omega arith)
+all_differ (n ∷ names) parts =
+    AllPairs-cons (λ m later. m.name ≢ later.name) n names
+    (differs_from n names (part_of n.name) refl (parts (part_of n.name) (part_within n.name)))
+    (all_differ names (λ k below. behind_differ n (names_of_part k names) (part_of n.name == k) (parts k below)))
+
+-- the matches of the parts below this one
+abbrev pub MatchesBelow : List Labelled → List Labelled → ℕ → List Match → Type 0
+MatchesBelow names asked part matches = (m : Match) → Contains matches m ↔ ((k : ℕ) × (k < part) × IsMatch (names_of_part k names) (names_of_part k asked) m)
+
+pub matches_step : (names asked : List Labelled) (part : ℕ) (matches : List Match) → Differ (names_of_part part names) → MatchesBelow names asked part matches → MatchesBelow names asked (part + 1) (matches ++ matches_of (names_of_part part names) (names_of_part part asked))
+matches_step names asked part matches differ below m = (forth, back)
+  where
+    forth : Contains (matches ++ matches_of (names_of_part part names) (names_of_part part asked)) m → (k : ℕ) × (k < part + 1) × IsMatch (names_of_part k names) (names_of_part k asked) m
+    forth there = elim (Contains-append_cases matches (matches_of (names_of_part part names) (names_of_part part asked)) m there) [
+      | inl old ↦ let h = (below m).0 old in let less : h.0 < part = h.1 in (h.0, omega arith, h.2)
+      | inr last ↦ (part, omega arith, (matched (names_of_part part names) (names_of_part part asked) differ m).0 last)
     ]
 
-    back : (slice_get (names ++ name ∷ []) p.number ≡ Some p.name) × (part_of p.name ≡ part_of name) → Contains (pairs ++ one ∷ []) p
-    back (e, is) = elim (snoc_cases names name p.number p.name e) [
-      | inl old ↦ Contains-append_left pairs (one ∷ []) p ((own p).1 (old, is))
-      | inr (at, same) ↦
-          let own_pair : one ≡ p = ap (λ n. record { number = n; name = name }) (sym at) ∙ ap (λ m. record { number = p.number; name = m }) (sym same) in
-          Contains-append_right pairs (one ∷ []) p (0, omega arith, own_pair)
+    back : (k : ℕ) × (k < part + 1) × IsMatch (names_of_part k names) (names_of_part k asked) m → Contains (matches ++ matches_of (names_of_part part names) (names_of_part part asked)) m
+    back (k, less, is) = elim (cases_lt k part) [
+      | inl lower ↦ Contains-append_left matches (matches_of (names_of_part part names) (names_of_part part asked)) m ((below m).1 (k, lower, is))
+      | inr most ↦
+          let same : k ≡ part = omega arith in
+          let last : IsMatch (names_of_part part names) (names_of_part part asked) m = subst (λ n. IsMatch (names_of_part n names) (names_of_part n asked) m) same is in
+          Contains-append_right matches (matches_of (names_of_part part names) (names_of_part part asked)) m ((matched (names_of_part part names) (names_of_part part asked) differ m).1 last)
     ]
 
-part_same : (names : List (List ℕ)) (name : List ℕ) (part : ℕ) (pairs : List Numbered) → part ≢ part_of name → ArePart names part pairs → ArePart (names ++ name ∷ []) part pairs
-part_same names name part pairs other own p = (
-  λ there. let h = (own p).0 there in (snoc_old names (name ∷ []) p.number p.name h.0, h.1),
-  λ h. elim (snoc_cases names name p.number p.name h.0) [
-    | inl old ↦ (own p).1 (old, h.1)
-    | inr (at, same) ↦ absurd (other (sym h.1 ∙ ap part_of same))
-  ],
-)
+-- a name that stands in both lists stands in both lists' part
+pub all_matched : (names asked : List Labelled) (matches : List Match) → MatchesBelow names asked part_count matches → AreMatches names asked matches
+all_matched names asked matches below m = (forth, back)
+  where
+    forth : Contains matches m → IsMatch names asked m
+    forth there =
+        let h = (below m).0 there in
+        let is = h.2 in
+        record {
+          name = is.name;
+          is_own = stood (λ n. part_of n.name == h.0) names (record { label = m.own; name = is.name }) is.is_own;
+          is_asked = stood (λ n. part_of n.name == h.0) asked (record { label = m.asked; name = is.name }) is.is_asked;
+        }
 
-eq_cases : (m n : ℕ) → (m ≡ n) ⊎ (m ≢ n)
-eq_cases m n = elim (cases_lt m n) [
-  | inl less ↦ inr (λ e. absurd (omega arith))
-  | inr most ↦ elim (cases_lt n m) [ inl more ↦ inr (λ e. absurd (omega arith)) | inr least ↦ inl (omega arith) ]
-]
+    back : IsMatch names asked m → Contains matches m
+    back is =
+        let part = part_of is.name in
+        (below m).1 (
+          part,
+          part_within is.name,
+          record {
+            name = is.name;
+            is_own = kept (λ n. part_of n.name == part) names (record { label = m.own; name = is.name }) (eq-eqb part part refl) is.is_own;
+            is_asked = kept (λ n. part_of n.name == part) asked (record { label = m.asked; name = is.name }) (eq-eqb part part refl) is.is_asked;
+          },
+        )
 
-module _ (names : List (List ℕ)) (name : List ℕ) (old new : NameParts) (d store : NumberedNames) (before : ArePartsOf names old)
-    (keeps : (pairs : List Numbered) → Keeps (get_or old.parts.items (part_of name) d) pairs → Keeps store (pairs ++ record { number = old.count; name = name } ∷ [])) (parts : new.parts.items ≡ set old.parts.items (part_of name) store)
-    (count : new.count ≡ old.count + 1) where
-  within : part_of name < length old.parts.items
-  within = let below : part_of name < part_count = part_within name in let many : length old.parts.items ≡ part_count = before.many in omega arith
+-- a name more, in its part
+part_more : (names : List Labelled) (n : Labelled) (part : ℕ) (t : Bool) → (part_of n.name == part) ≡ t → names_of_part part (names ++ n ∷ []) ≡ names_of_part part names ++ cond t (n ∷ []) []
+part_more names n part t is = filter-append (λ m. part_of m.name == part) names (n ∷ []) ∙ ap (λ b. names_of_part part names ++ cond b (n ∷ []) []) is
 
-  own_part : (part : ℕ) (e : NumberedNames) → part ≡ part_of name → KeepsPart (names ++ name ∷ []) part (get_or (set old.parts.items (part_of name) store) part e)
-  own_part part e is =
-      let known = before.each (part_of name) d (part_within name) in
-      let here : get_or (set old.parts.items (part_of name) store) part e ≡ store = ap (λ k. get_or (set old.parts.items (part_of name) store) k e) is ∙ get_or-set_same old.parts.items (part_of name) store e within in
-      rw here (rw is (known.0 ++ record { number = length names; name = name } ∷ [], rw before.count at (keeps known.0 known.1), part_more names name known.0 known.2))
+module _ (names : List Labelled) (n : Labelled) (old new : NameParts) (d store : LabelledNames) (before : ArePartsOf names old)
+    (keeps : (own : List Labelled) → Keeps (get_or old.parts.items (part_of n.name) d) own → Keeps store (own ++ n ∷ [])) (parts : new.parts.items ≡ set old.parts.items (part_of n.name) store) where
+  within : part_of n.name < length old.parts.items
+  within = let below : part_of n.name < part_count = part_within n.name in let many : length old.parts.items ≡ part_count = before.many in omega arith
 
-  other_part : (part : ℕ) (e : NumberedNames) → part < part_count → part ≢ part_of name → KeepsPart (names ++ name ∷ []) part (get_or (set old.parts.items (part_of name) store) part e)
-  other_part part e below other =
-      let known = before.each part e below in
-      rw (get_or-set_other old.parts.items (part_of name) part store e other) (known.0, known.1, part_same names name part known.0 other known.2)
+  after : (part : ℕ) (e : LabelledNames) → part < part_count → (t : Bool) → (part_of n.name == part) ≡ t → Keeps (get_or (set old.parts.items (part_of n.name) store) part e) (names_of_part part (names ++ n ∷ []))
+  after part e below true is =
+      let same : part ≡ part_of n.name = sym (eqb-true (part_of n.name) part is) in
+      let here : get_or (set old.parts.items (part_of n.name) store) part e ≡ store = ap (λ k. get_or (set old.parts.items (part_of n.name) store) k e) same ∙ get_or-set_same old.parts.items (part_of n.name) store e within in
+      let own : Keeps store (names_of_part part names ++ n ∷ []) = keeps (names_of_part part names) (subst (λ k. Keeps (get_or old.parts.items k d) (names_of_part part names)) same (before.each part d below)) in
+      rw here (subst (Keeps store) (sym (part_more names n part true is)) own)
+  after part e below false is =
+      let other : part ≢ part_of n.name = λ same. let yes : (part_of n.name == part) ≡ true = eq-eqb (part_of n.name) part (sym same) in cc in
+      let kept_names : names_of_part part (names ++ n ∷ []) ≡ names_of_part part names = part_more names n part false is ∙ append-nil (names_of_part part names) in
+      rw (get_or-set_other old.parts.items (part_of n.name) part store e other) (subst (Keeps (get_or old.parts.items part e)) (sym kept_names) (before.each part e below))
 
-  pub pushed : ArePartsOf (names ++ name ∷ []) new
+  pub pushed : ArePartsOf (names ++ n ∷ []) new
   pushed = record {
-    many = ap length parts ∙ length-set old.parts.items (part_of name) store ∙ before.many;
-    count = omega (arith, length-append names (name ∷ []), before.count);
-    each = λ part e below. rw parts (elim (eq_cases part (part_of name)) [ inl is ↦ own_part part e is | inr other ↦ other_part part e below other ]);
+    many = ap length parts ∙ length-set old.parts.items (part_of n.name) store ∙ before.many;
+    each = λ part e below. rw parts (after part e below (part_of n.name == part) refl);
   }

@@ -1,14 +1,13 @@
--- Names in parts, so that equal names are in one part: each part is looked up by itself.
-use Rattle.std.specs.Prelude.{◌≡◌, ◌↔◌, ℕ, ◌+◌, ◌*◌, ◌/◌, ◌%◌, ◌^◌, ◌<◌, List, [], ◌∷◌, length, map, fold, flat_map, Option, Some, slice_get, slice_set, slice_index_or, Contains}
-use Rattle.std.specs.Option.{option_and_then, option_map}
-use Rattle.lf_names.specs.Names.{position_of}
+-- Labelled names in parts, so that equal names are in one part: each part is looked up by itself.
+use Rattle.std.specs.Prelude.{◌≡◌, ◌≢◌, ◌↔◌, ℕ, ◌+◌, ◌*◌, ◌/◌, ◌%◌, ◌^◌, ◌<◌, ◌==◌, List, length, map, filter, fold, flat_map, slice_index_or, AllPairs, Contains}
 use Rattle.lf_names.specs.declared.name_parts.Entry.{Entry}
-use Rattle.lf_names.specs.declared.name_parts.NumberedNames.{NumberedNames}
+use Rattle.lf_names.specs.declared.name_parts.Match.{Match}
+use Rattle.lf_names.specs.declared.name_parts.LabelledNames.{LabelledNames}
 use Rattle.lf_names.specs.declared.name_parts.NameParts.{NameParts}
 
 -- how many parts there are, and the factor of the hash that tells them apart
 abbrev pub part_count : ℕ
-part_count = 64
+part_count = 256
 
 abbrev pub factor : ℕ
 factor = 2654435761
@@ -17,47 +16,47 @@ factor = 2654435761
 abbrev pub hash_step : ℕ → ℕ → ℕ
 hash_step hash byte = (hash * factor % 2 ^ 32 + byte) % 2 ^ 32
 
--- the part of a name: the highest six of the 32 bits of its hash times the factor
+-- the part of a name: the highest byte of the 32 bits of its hash times the factor
 unfoldable pub part_of : List ℕ → ℕ
-part_of name = fold hash_step 0 name * factor % 2 ^ 32 / 2 ^ 26
+part_of name = fold hash_step 0 name * factor % 2 ^ 32 / 2 ^ 24
 
--- a name, and its number in a list of names
-pub record Numbered : Type 0 where
-  pub number : ℕ
+-- a name, and the label that it was given
+pub record Labelled : Type 0 where
+  pub label : ℕ
   pub name : List ℕ
 
 -- the bytes of these names, one behind the other
-abbrev pub joined : List Numbered → List ℕ
-joined pairs = flat_map (λ p. p.name) pairs
+abbrev pub joined : List Labelled → List ℕ
+joined names = flat_map (λ n. n.name) names
 
 -- what is kept of a name beside its bytes
-abbrev pub entry_of : Numbered → Entry
-entry_of p = record { number = p.number; len = length p.name }
+abbrev pub entry_of : Labelled → Entry
+entry_of n = record { label = n.label; len = length n.name }
 
--- the store has these names with their numbers, in this order
-pub record Keeps (names : NumberedNames) (pairs : List Numbered) : Type 0 where
-  pub bytes : names.bytes.items ≡ joined pairs
-  pub entries : names.entries.items ≡ map entry_of pairs
+-- the store has these names with their labels, in this order
+pub record Keeps (store : LabelledNames) (names : List Labelled) : Type 0 where
+  pub bytes : store.bytes.items ≡ joined names
+  pub entries : store.entries.items ≡ map entry_of names
 
--- these are the names of the list that belong to the part, each with its number in the list
-abbrev pub ArePart : List (List ℕ) → ℕ → List Numbered → Type 0
-ArePart names part pairs = (p : Numbered) → Contains pairs p ↔ ((slice_get names p.number ≡ Some p.name) × (part_of p.name ≡ part))
+-- those of the names that belong to the part, in their order
+abbrev pub names_of_part : ℕ → List Labelled → List Labelled
+names_of_part part names = filter (λ n. part_of n.name == part) names
 
--- the store has the names of the list that belong to the part, each with its number in the list
-abbrev pub KeepsPart : List (List ℕ) → ℕ → NumberedNames → Type 0
-KeepsPart names part store = (pairs : List Numbered) × Keeps store pairs × ArePart names part pairs
-
--- the parts together have the names of the list, each with its number in the list
-pub record ArePartsOf (names : List (List ℕ)) (parts : NameParts) : Type 0 where
+-- the parts together have these names, each part its own
+pub record ArePartsOf (names : List Labelled) (parts : NameParts) : Type 0 where
   pub many : length parts.parts.items ≡ part_count
-  pub count : parts.count ≡ length names
-  pub each : (part : ℕ) (d : NumberedNames) → part < part_count → KeepsPart names part (slice_index_or parts.parts.items part d)
+  pub each : (part : ℕ) (d : LabelledNames) → part < part_count → Keeps (slice_index_or parts.parts.items part d) (names_of_part part names)
 
--- the number of a name among numbered ones, the first where it stands twice
-abbrev pub number_in : List Numbered → List ℕ → Option ℕ
-number_in pairs name = option_and_then (λ at. option_map (λ p. p.number) (slice_get pairs at)) (position_of (map (λ p. p.name) pairs) name)
+-- no name stands twice, whatever its labels
+abbrev pub Differ : List Labelled → Type 0
+Differ names = AllPairs (λ n later. n.name ≢ later.name) names
 
--- the list when, for each of these pairs in turn, the element of its number is what its name gives
-abbrev pub with_answers : (List ℕ → Option ℕ) → List Numbered → List (Option ℕ) → List (Option ℕ)
-with_answers answer [] found = found
-with_answers answer (p ∷ pairs) found = with_answers answer pairs (slice_set found p.number (answer p.name))
+-- one name stands in both lists, with these labels
+pub record IsMatch (names asked : List Labelled) (m : Match) : Type 0 where
+  pub name : List ℕ
+  pub is_own : Contains names (record { label = m.own; name = name })
+  pub is_asked : Contains asked (record { label = m.asked; name = name })
+
+-- these are the matches of two lists, in whatever order
+abbrev pub AreMatches : List Labelled → List Labelled → List Match → Type 0
+AreMatches names asked matches = (m : Match) → Contains matches m ↔ IsMatch names asked m

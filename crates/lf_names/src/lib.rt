@@ -8,7 +8,7 @@ mod pattern;
 mod table;
 
 pub use lent::LentNames;
-pub use name_parts::NameParts;
+pub use name_parts::{Match, NameParts};
 pub use pattern::Pattern;
 pub use table::{Added, NameTable};
 

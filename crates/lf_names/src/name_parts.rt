@@ -1,8 +1,9 @@
-//! Names in parts, each of which is looked up by itself.
+//! Labelled names in parts, each of which is looked up by itself.
 
-ghost use Rattle.std.specs.Prelude.{◌≡◌, ◌≢◌, ◌<◌, ◌++◌, ◌∷◌, ℕ, List, [], AllPairs, IfOk, IfSome, IsTrue, OnOk, length, map, slice_set, take, drop};
-ghost use Rattle.lf_names.specs.Names.{position_of};
-ghost use Rattle.lf_names.specs.NameParts.{part_of as name_part, part_count, Numbered, Keeps, ArePartsOf, number_in, with_answers};
+ghost use Rattle.std.specs.Prelude.{◌≡◌, ◌↔◌, ◌<◌, ◌++◌, ◌∷◌, ℕ, List, [], IfOk, IfSome, IfNone, IsTrue, OnOk, map, take, drop};
+ghost use Rattle.std.specs.Option.{option_map, option_to_list};
+ghost use Rattle.lf_names.specs.NameParts.{part_of as name_part, part_count, Labelled, Keeps, ArePartsOf, Differ, AreMatches};
+ghost use Rattle.lf_names.specs.PartMatches.{label_in, labels_of, matches_of};
 
 use crate::lent::LentNames;
 use crate::table::Added;
@@ -10,31 +11,38 @@ use std::alloc::{AllocError, Global};
 
 /// How many parts there are: so many that the table of one part of a million names is small enough to stay close to
 /// the processor.
-const PARTS: usize = 64;
+const PARTS: usize = 256;
 
 /// The odd factor of the hash that tells parts apart.
 const FACTOR: u32 = 0x9E37_79B1;
 
-/// A name's number, and how many bytes it has.
+/// A name's label, and how many bytes it has.
 #[derive(Clone, Copy)]
 pub struct Entry {
-    number: usize,
-    len: usize,
+    label: u32,
+    len: u32,
 }
 
-/// Names with numbers, in the order in which they were pushed: their bytes stand one behind the other.
+/// Names with labels, in the order in which they were pushed: their bytes stand one behind the other.
 #[derive(Drop)]
-pub struct NumberedNames {
+pub struct LabelledNames {
     bytes: Vec<u8>,
     entries: Vec<Entry>,
 }
 
-/// A list of names in parts, of which each has copies of its names. Equal names are in one part, so that names are
-/// looked up part by part, in tables that are small. That is quicker than one large table where there are many names.
+/// The labels of one name that stands in two lists: its own, and that with which it is asked for.
+#[derive(Clone, Copy)]
+pub struct Match {
+    pub own: u32,
+    pub asked: u32,
+}
+
+/// A list of labelled names in parts, of which each has copies of its names. Equal names are in one part, so that
+/// names are looked up part by part, in tables that are small. That is quicker than one large table where there are
+/// many names.
 #[derive(Drop)]
 pub struct NameParts {
-    parts: Vec<NumberedNames>,
-    count: usize,
+    parts: Vec<LabelledNames>,
 }
 
 /// The part of a name. The hash is not that of the tables, so that the names of a part do not crowd in its table.
@@ -46,45 +54,44 @@ fn part_of(name: &[u8]) -> usize
     for byte in name {
         hash = hash.wrapping_mul(FACTOR).wrapping_add(u32::from(*byte));
     }
-    (hash.wrapping_mul(FACTOR) >> 26) as usize
+    (hash.wrapping_mul(FACTOR) >> 24) as usize
 }
 
 /// The first `len` bytes, and those behind them.
-fn cut(bytes: &[u8], len: usize) -> (&[u8], &[u8])
+fn cut(bytes: &[u8], len: u32) -> (&[u8], &[u8])
     ensures front { result.0.now ≡ take len bytes.now }
     ensures back { result.1.now ≡ drop len bytes.now }
 {
-    bytes.split_at(len.min(bytes.len()))
+    bytes.split_at((len as usize).min(bytes.len()))
 }
 
-impl NumberedNames {
+impl LabelledNames {
     /// No name.
     fn new(alloc: Global) -> Self
         ensures { Keeps result [] }
     {
-        NumberedNames {
+        LabelledNames {
             bytes: Vec::new(alloc),
             entries: Vec::new(alloc),
         }
     }
 
-    /// Puts a name with its number behind the others. After an `Err` the names are of no use.
-    fn push(&mut self, number: usize, name: &[u8]) -> Result<(), AllocError>
-        ensures { (pairs : List Numbered) → Keeps self.old pairs → OnOk result (Keeps self.new (pairs ++ record { number = number; name = name.now } ∷ [])) }
+    /// Puts a name with its label behind the others. After an `Err` the names are of no use.
+    fn push(&mut self, label: u32, name: &[u8]) -> Result<(), AllocError>
+        ensures { (names : List Labelled) → Keeps self.old names → OnOk result (Keeps self.new (names ++ record { label = label; name = name.now } ∷ [])) }
     {
+        let len = u32::try_from(name.len()).ok().ok_or(AllocError)?;
         self.bytes.extend_from_slice(name)?;
-        self.entries.push(Entry {
-            number,
-            len: name.len(),
-        })?;
+        self.entries.push(Entry { label, len })?;
         Ok(())
     }
 }
 
 /// The table of the names, or none where one stands twice.
-fn table_of(alloc: Global, names: &NumberedNames) -> Result<Option<LentNames<'_>>, AllocError>
-    ensures names { (pairs : List Numbered) → Keeps names.now pairs → IfOk result (λ answer. IfSome answer (λ table. table ≡ map (λ p. p.name) pairs)) }
-    ensures differ { IfOk result (λ answer. IfSome answer (λ table. AllPairs (λ name later. name ≢ later) table)) }
+fn table_of(alloc: Global, names: &LabelledNames) -> Result<Option<LentNames<'_>>, AllocError>
+    ensures names { (own : List Labelled) → Keeps names.now own → IfOk result (λ answer. IfSome answer (λ table. table ≡ map (λ n. n.name) own)) }
+    ensures differ { (own : List Labelled) → Keeps names.now own → IfOk result (λ answer. IfSome answer (λ table. Differ own)) }
+    ensures none { (own : List Labelled) → Keeps names.now own → IfOk result (λ answer. IfNone answer (Differ own → ⊥)) }
 {
     let mut table = LentNames::with_capacity(alloc, names.entries.len())?;
     let mut remaining = names.bytes.as_slice();
@@ -99,54 +106,57 @@ fn table_of(alloc: Global, names: &NumberedNames) -> Result<Option<LentNames<'_>
     Ok(Some(table))
 }
 
-/// The number of a name, whose place is that of the table.
-fn number_of(names: &NumberedNames, table: &LentNames, name: &[u8]) -> Option<usize>
-    ensures { (pairs : List Numbered) → Keeps names.now pairs → table.now ≡ map (λ p. p.name) pairs → result ≡ number_in pairs name.now }
+/// The label of a name, whose place is that of the table.
+fn label_of(names: &LabelledNames, table: &LentNames, name: &[u8]) -> Option<u32>
+    ensures { (own : List Labelled) → Keeps names.now own → table.now ≡ map (λ n. n.name) own → result ≡ label_in own name.now }
 {
     let entry = names.entries.get(table.find(name)?)?;
-    Some(entry.number)
+    Some(entry.label)
 }
 
-/// Puts the answer at the place, if the list is so long.
-fn put(found: &mut Vec<Option<usize>>, place: usize, answer: Option<usize>)
-    ensures { found.new.items ≡ slice_set found.old.items place answer }
+/// Puts a match behind the others, if the name that is asked for has a label.
+fn add_match(matches: &mut Vec<Match>, own: Option<u32>, asked: u32) -> Result<(), AllocError>
+    ensures { OnOk result (matches.new.items ≡ matches.old.items ++ option_to_list (option_map (labels_of asked) own)) }
 {
-    if let Some(there) = found.get_mut(place) {
-        *there = answer;
+    if let Some(own) = own {
+        matches.push(Match { own, asked })?;
     }
+    Ok(())
 }
 
-/// Puts the number of each asked name at the asked name's own number.
-fn answer_part(
-    names: &NumberedNames,
+/// Puts the match of each asked name that is there behind the others.
+fn match_names(
+    names: &LabelledNames,
     table: &LentNames,
-    asked: &NumberedNames,
-    found: &mut Vec<Option<usize>>,
-)
-    ensures { (pairs questions : List Numbered) → Keeps names.now pairs → table.now ≡ map (λ p. p.name) pairs → Keeps asked.now questions → found.new.items ≡ with_answers (number_in pairs) questions found.old.items }
+    asked: &LabelledNames,
+    matches: &mut Vec<Match>,
+) -> Result<(), AllocError>
+    ensures { (own questions : List Labelled) → Keeps names.now own → table.now ≡ map (λ n. n.name) own → Keeps asked.now questions → OnOk result (matches.new.items ≡ matches.old.items ++ matches_of own questions) }
 {
     let mut remaining = asked.bytes.as_slice();
     for entry in &asked.entries {
         let (name, behind) = cut(remaining, entry.len);
         remaining = behind;
-        put(found, entry.number, number_of(names, table, name));
+        add_match(matches, label_of(names, table, name), entry.label)?;
     }
+    Ok(())
 }
 
-/// Answers what is asked of one part, and tells whether its names differ; where they do not, the answers say nothing.
-fn resolve_part(
+/// Puts the matches of one part behind the others, and tells whether the names of the part differ; where they do
+/// not, there are none.
+fn match_part(
     alloc: Global,
-    names: &NumberedNames,
-    asked: &NumberedNames,
-    found: &mut Vec<Option<usize>>,
+    names: &LabelledNames,
+    asked: &LabelledNames,
+    matches: &mut Vec<Match>,
 ) -> Result<bool, AllocError>
-    ensures differ { (pairs : List Numbered) → Keeps names.now pairs → IfOk result (λ differ. IsTrue differ → AllPairs (λ name later. name ≢ later) (map (λ p. p.name) pairs)) }
-    ensures found { (pairs questions : List Numbered) → Keeps names.now pairs → Keeps asked.now questions → IfOk result (λ differ. IsTrue differ → found.new.items ≡ with_answers (number_in pairs) questions found.old.items) }
+    ensures differ { (own : List Labelled) → Keeps names.now own → IfOk result (λ differ. IsTrue differ ↔ Differ own) }
+    ensures matches { (own questions : List Labelled) → Keeps names.now own → Keeps asked.now questions → IfOk result (λ differ. IsTrue differ → matches.new.items ≡ matches.old.items ++ matches_of own questions) }
 {
     let Some(table) = table_of(alloc, names)? else {
         return Ok(false);
     };
-    answer_part(names, &table, asked, found);
+    match_names(names, &table, asked, matches)?;
     Ok(true)
 }
 
@@ -157,43 +167,43 @@ impl NameParts {
     {
         let mut parts = Vec::with_capacity(alloc, PARTS)?;
         for _ in 0..PARTS {
-            parts.push(NumberedNames::new(alloc))?;
+            parts.push(LabelledNames::new(alloc))?;
         }
-        Ok(NameParts { parts, count: 0 })
+        Ok(NameParts { parts })
     }
 
-    /// Puts the name behind the others, in its part. After an `Err`, for want of memory, the parts are of no use.
-    pub fn push(&mut self, name: &[u8]) -> Result<(), AllocError>
-        ensures { (names : List (List ℕ)) → ArePartsOf names self.old → OnOk result (ArePartsOf (names ++ name.now ∷ []) self.new) }
+    /// Puts the name behind the others, in its part. After an `Err`, for want of memory or for a name of more bytes
+    /// than 32 bits count, the parts are of no use.
+    pub fn push(&mut self, label: u32, name: &[u8]) -> Result<(), AllocError>
+        ensures { (names : List Labelled) → ArePartsOf names self.old → OnOk result (ArePartsOf (names ++ record { label = label; name = name.now } ∷ []) self.new) }
     {
-        let count = self.count.checked_add(1).ok_or(AllocError)?;
         let Some(part) = self.parts.get_mut(part_of(name)) else {
             return Ok(());
         };
-        part.push(self.count, name)?;
-        self.count = count;
+        part.push(label, name)?;
         Ok(())
     }
 
-    /// The position of each asked name among these, in the order of the asked names, where these names all differ.
-    /// Where one of these stands twice there may be no answer, and any answer says nothing then.
-    pub fn positions(
+    /// The labels of each of these names that is asked for, once for each time that it is. None exactly where one of
+    /// these names stands twice.
+    pub fn matches(
         &self,
         alloc: Global,
         asked: &NameParts,
-    ) -> Result<Option<Vec<Option<usize>>>, AllocError>
-        ensures differ { (names : List (List ℕ)) → ArePartsOf names self.now → IfOk result (λ answer. IfSome answer (λ found. AllPairs (λ name later. name ≢ later) names)) }
-        ensures found { (names questions : List (List ℕ)) → ArePartsOf names self.now → ArePartsOf questions asked.now → IfOk result (λ answer. IfSome answer (λ found. found.items ≡ map (position_of names) questions)) }
+    ) -> Result<Option<Vec<Match>>, AllocError>
+        ensures differ { (names questions : List Labelled) → ArePartsOf names self.now → ArePartsOf questions asked.now → IfOk result (λ answer. IfSome answer (λ matches. Differ names)) }
+        ensures matches { (names questions : List Labelled) → ArePartsOf names self.now → ArePartsOf questions asked.now → IfOk result (λ answer. IfSome answer (λ matches. AreMatches names questions matches.items)) }
+        ensures none { (names questions : List Labelled) → ArePartsOf names self.now → ArePartsOf questions asked.now → IfOk result (λ answer. IfNone answer (Differ names → ⊥)) }
     {
-        let mut found = vec![in alloc; None; asked.count]?;
+        let mut matches = Vec::new(alloc);
         for (part, names) in self.parts.iter().enumerate() {
             let Some(questions) = asked.parts.get(part) else {
                 return Ok(None);
             };
-            if !resolve_part(alloc, names, questions, &mut found)? {
+            if !match_part(alloc, names, questions, &mut matches)? {
                 return Ok(None);
             }
         }
-        Ok(Some(found))
+        Ok(Some(matches))
     }
 }

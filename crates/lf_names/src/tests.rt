@@ -36,26 +36,35 @@ fn finds_lent_names(rt: HostRuntime) -> Result<(), Fail> {
     Ok(())
 }
 
-/// Names of many parts are found at their own numbers; where one stands twice there is no answer.
+/// Whether one of the matches has these labels.
+fn has_match(matches: &[Match], own: u32, asked: u32) -> bool {
+    matches
+        .iter()
+        .any(|found| found.own == own && found.asked == asked)
+}
+
+/// Names of many parts are matched with their labels: a name that is asked for twice has two matches, and one that is
+/// not there has none. Where a name stands twice there is no answer.
 #[test]
 fn finds_names_in_parts(rt: HostRuntime) -> Result<(), Fail> {
     let mut names = NameParts::new(rt.alloc())?;
     let mut asked = NameParts::new(rt.alloc())?;
-    asked.push(b"")?;
+    asked.push(999, b"")?;
     for name in 0..200u8 {
-        names.push(&[name, 0])?;
-        asked.push(&[199 - name, 0])?;
+        names.push(u32::from(name), &[name, 0])?;
+        asked.push(1000 + u32::from(name), &[name, 0])?;
     }
-    let Some(found) = names.positions(rt.alloc(), &asked)? else {
+    asked.push(1200, &[7, 0])?;
+    let Some(matches) = names.matches(rt.alloc(), &asked)? else {
         return Err(Fail::from("names that differ"));
     };
-    assert_eq!(rt; found.len(), 201);
-    assert!(rt; found[0].is_none());
-    for number in 0..200usize {
-        assert!(rt; found[number + 1] == Some(199 - number));
+    assert_eq!(rt; matches.len(), 201);
+    for name in 0..200u32 {
+        assert!(rt; has_match(&matches, name, 1000 + name));
     }
-    names.push(&[7, 0])?;
-    assert!(rt; names.positions(rt.alloc(), &asked)?.is_none());
+    assert!(rt; has_match(&matches, 7, 1200));
+    names.push(200, &[7, 0])?;
+    assert!(rt; names.matches(rt.alloc(), &asked)?.is_none());
     Ok(())
 }
 

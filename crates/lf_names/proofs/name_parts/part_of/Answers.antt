@@ -8,4 +8,4 @@ pub returns-clause-part : goal.returns-clause-part
 unfolding part_of
 returns-clause-part c =
     let left : drop c.loop-byte.byte-index c.args.name.now ≡ [] = grind (arith, common_steps) in
-    ap (λ h. h * 2654435761 % 2 ^ 32 / 2 ^ 26) (ap (fold hash_step c.loop-byte.hash) (sym left) ∙ c.loop-byte.invariant)
+    ap (λ h. h * 2654435761 % 2 ^ 32 / 2 ^ 24) (ap (fold hash_step c.loop-byte.hash) (sym left) ∙ c.loop-byte.invariant)

@@ -8,10 +8,9 @@ pub returns : goal.returns
 returns c = λ names before.
     let old = c.args.self.now in
     let part = c.in-Some.part.now in
-    let sum = rw c.in_ok-count.ensures.ok_part at c.checked_add.ensures in
     let place = c.part_of.ensures.part in
     let part_is : part ≡ get_or old.parts.items (part_of c.args.name.now) part = c.in-Some.ensures.value ∙ ap (λ k. get_or old.parts.items k part) place in
-    pushed names c.args.name.now old _ part c.push.new.self before (λ pairs keeps. c.in_ok-push.ensures pairs (subst (λ s. Keeps s pairs) (sym part_is) keeps)) (ap (λ k. set old.parts.items k c.push.new.self) place) sum.1
+    pushed names (record { label = c.args.label; name = c.args.name.now }) old _ part c.push.new.self before (λ own keeps. c.in_ok-push.ensures own (subst (λ s. Keeps s own) (sym part_is) keeps)) (ap (λ k. set old.parts.items k c.push.new.self) place)
 
 pub returns-in_default : goal.returns-in_default
 returns-in_default c = λ names before.

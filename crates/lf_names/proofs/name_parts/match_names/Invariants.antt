@@ -1,0 +1,11 @@
+use Rattle.std.proofs.Common.{◌≡◌, ◌++◌, List, map, drop}
+use Rattle.lf_names.specs.NameParts.{Labelled, Keeps, joined}
+use Rattle.lf_names.specs.PartMatches.{matches_of}
+use Rattle.lf_names.proofs.name_parts.match_names.Given as goal
+
+abbrev pub invariant-loop-entry : goal.invariant-loop-entry
+invariant-loop-entry l = record {
+  left : (questions : List Labelled) → Keeps l.asked questions → l.remaining ≡ joined (drop l.entry-index questions);
+  matched : (own questions : List Labelled) → Keeps l.names own → l.table ≡ map (λ n. n.name) own → Keeps l.asked questions →
+      l.matches.items ++ matches_of own (drop l.entry-index questions) ≡ l.fn.matches.items ++ matches_of own questions;
+}
