@@ -4,4 +4,5 @@ pub mod Parts
 pub mod Places
 pub mod KeySets
 pub mod LabelledLemmas
+pub mod Gathered
 pub mod PartLemmas

@@ -1,19 +1,21 @@
 -- Lists of labelled names in parts.
-use Rattle.std.proofs.Common.{◌≡◌, ◌≢◌, ◌↔◌, ℕ, zero, suc, ◌+◌, ◌<◌, inl, inr, Bool, true, false, cond, List, [], ◌∷◌, ◌++◌, length, map, get_or, set, Option, None, Some, All, Contains, slice_get, refl, sym, subst, ◌∙◌, ap, arith}
-use Rattle.std.proofs.lemmas.Bool.{cases_lt, eq-eqb, eqb-true}
+use Rattle.std.proofs.Common.{◌≡◌, ◌≢◌, ◌↔◌, ℕ, zero, suc, ◌<◌, inl, inr, Bool, true, false, cond, List, [], ◌∷◌, ◌++◌, length, map, get_or, set, Option, None, Some, All, Contains, slice_get, refl, sym, subst, ◌∙◌, ap, arith}
+use Rattle.std.proofs.lemmas.Bool.{eq-eqb, eqb-true}
 use Rattle.std.proofs.lemmas.List.{length-set, get_or-set_same, get_or-set_other, append-nil}
 use Rattle.std.proofs.lemmas.List.Elements.{Contains-get_or, Contains-append_left, Contains-append_right, Contains-append_cases, filter-append}
 use Rattle.std.proofs.lemmas.List.Kept.{AllPairs-cons, AllPairs-filter}
+use Rattle.std.proofs.lemmas.List.Sorted.{IsPermutation-sym, Contains-permutation}
 use Rattle.std.proofs.lemmas.Option.{slice_get-map, slice_get_within, slice_get-get_or, get_or_from_slice_get}
 use Rattle.std.specs.List.{cons_option, filter, filter_map}
+use Rattle.std.specs.List.Sorted.{IsPermutation}
 use Rattle.std.specs.Option.{option_map, option_and_then}
 use Rattle.std.specs.Prelude.{◌==◌}
 use Rattle.lf_names.specs.Names.{position_of}
-use Rattle.lf_names.specs.NameParts.{Labelled, Keeps, ArePartsOf, Differ, IsMatch, AreMatches, names_of_part, part_of, part_count}
-use Rattle.lf_names.specs.PartMatches.{label_in, labels_of, match_of, matches_of}
+use Rattle.lf_names.specs.NameParts.{Labelled, Keeps, ArePartsOf, Differ, IsMatch, AreMatches, names_of_part, part_of, part_count, label_in, labels_of, match_of, matches_of}
 use Rattle.lf_names.specs.declared.name_parts.Match.{Match}
 use Rattle.lf_names.specs.declared.name_parts.LabelledNames.{LabelledNames}
 use Rattle.lf_names.specs.declared.name_parts.NameParts.{NameParts}
+use Rattle.lf_names.proofs.Gathered.{gathered, all_gathered, filter_map_same}
 use Rattle.lf_names.proofs.LabelledLemmas.{differ_names}
 use Rattle.lf_names.proofs.Positions.{stands_there, found_there}
 
@@ -146,54 +148,42 @@ all_differ (n ∷ names) parts =
     (differs_from n names (part_of n.name) refl (parts (part_of n.name) (part_within n.name)))
     (all_differ names (λ k below. behind_differ n (names_of_part k names) (part_of n.name == k) (parts k below)))
 
--- the matches of the parts below this one
-abbrev pub MatchesBelow : List Labelled → List Labelled → ℕ → List Match → Type 0
-MatchesBelow names asked part matches = (m : Match) → Contains matches m ↔ ((k : ℕ) × (k < part) × IsMatch (names_of_part k names) (names_of_part k asked) m)
-
-pub matches_step : (names asked : List Labelled) (part : ℕ) (matches : List Match) → Differ (names_of_part part names) → MatchesBelow names asked part matches → MatchesBelow names asked (part + 1) (matches ++ matches_of (names_of_part part names) (names_of_part part asked))
-matches_step names asked part matches differ below m = (forth, back)
+-- where names differ, a name has the label that it has in its part
+label_in_part : (names : List Labelled) → Differ names → (name : List ℕ) → label_in (names_of_part (part_of name) names) name ≡ label_in names name
+label_in_part names differ name = by (label_in names name) refl (label_in (names_of_part (part_of name) names) name) refl
   where
-    forth : Contains (matches ++ matches_of (names_of_part part names) (names_of_part part asked)) m → (k : ℕ) × (k < part + 1) × IsMatch (names_of_part k names) (names_of_part k asked) m
-    forth there = elim (Contains-append_cases matches (matches_of (names_of_part part names) (names_of_part part asked)) m there) [
-      | inl old ↦ let h = (below m).0 old in let less : h.0 < part = h.1 in (h.0, omega arith, h.2)
-      | inr last ↦ (part, omega arith, (matched (names_of_part part names) (names_of_part part asked) differ m).0 last)
-    ]
+    by : (o : Option ℕ) → label_in names name ≡ o → (p : Option ℕ) → label_in (names_of_part (part_of name) names) name ≡ p → label_in (names_of_part (part_of name) names) name ≡ label_in names name
+    by (Some label) e p inside =
+        let n : Labelled = record { label = label; name = name } in
+        let there : Contains (names_of_part (part_of name) names) n = kept (λ m. part_of m.name == part_of name) names n (eq-eqb (part_of name) (part_of name) refl) (has_label names name label e) in
+        label_is (names_of_part (part_of name) names) (differ_in_part names (part_of name) differ) n there ∙ sym e
+    by None e None inside = inside ∙ sym e
+    by None e (Some label) inside =
+        let n : Labelled = record { label = label; name = name } in
+        let there : Contains names n = stood (λ m. part_of m.name == part_of name) names n (has_label (names_of_part (part_of name) names) name label inside) in
+        let known : label_in names name ≡ Some label = label_is names differ n there in
+        absurd (cc)
 
-    back : (k : ℕ) × (k < part + 1) × IsMatch (names_of_part k names) (names_of_part k asked) m → Contains (matches ++ matches_of (names_of_part part names) (names_of_part part asked)) m
-    back (k, less, is) = elim (cases_lt k part) [
-      | inl lower ↦ Contains-append_left matches (matches_of (names_of_part part names) (names_of_part part asked)) m ((below m).1 (k, lower, is))
-      | inr most ↦
-          let same : k ≡ part = omega arith in
-          let last : IsMatch (names_of_part part names) (names_of_part part asked) m = subst (λ n. IsMatch (names_of_part n names) (names_of_part n asked) m) same is in
-          Contains-append_right matches (matches_of (names_of_part part names) (names_of_part part asked)) m ((matched (names_of_part part names) (names_of_part part asked) differ m).1 last)
-    ]
+-- the matches of the parts below this one, part by part
+abbrev pub matches_below : List Labelled → List Labelled → ℕ → List Match
+matches_below names asked part = gathered (λ q. part_of q.name) (λ k. match_of (names_of_part k names)) part asked
 
--- a name that stands in both lists stands in both lists' part
-pub all_matched : (names asked : List Labelled) (matches : List Match) → MatchesBelow names asked part_count matches → AreMatches names asked matches
-all_matched names asked matches below m = (forth, back)
-  where
-    forth : Contains matches m → IsMatch names asked m
-    forth there =
-        let h = (below m).0 there in
-        let is = h.2 in
-        record {
-          name = is.name;
-          is_own = stood (λ n. part_of n.name == h.0) names (record { label = m.own; name = is.name }) is.is_own;
-          is_asked = stood (λ n. part_of n.name == h.0) asked (record { label = m.asked; name = is.name }) is.is_asked;
-        }
+-- all parts together have the matches of the names as they are asked for
+pub all_matched : (names asked : List Labelled) (matches : List Match) (part : ℕ) → part ≡ part_count → ((k : ℕ) → k < part → Differ (names_of_part k names)) → matches ≡ matches_below names asked part → IsPermutation (matches_of names asked) matches
+all_matched names asked matches part many parts are =
+    let differ : Differ names = all_differ names (subst (λ n. (k : ℕ) → k < n → Differ (names_of_part k names)) many parts) in
+    let all : matches ≡ matches_below names asked part_count = are ∙ ap (matches_below names asked) many in
+    let inside : Labelled → Option Match = λ q. match_of (names_of_part (part_of q.name) names) q in
+    let same : filter_map inside asked ≡ matches_of names asked = filter_map_same inside (match_of names) asked (λ q. ap (option_map (labels_of q.label)) (label_in_part names differ q.name)) in
+    let found : IsPermutation (matches_below names asked part_count) (filter_map inside asked) = all_gathered (λ q. part_of q.name) (λ k. match_of (names_of_part k names)) part_count asked (λ q. part_within q.name) in
+    IsPermutation-sym matches (matches_of names asked) (subst (λ ms. IsPermutation ms (matches_of names asked)) (sym all) (subst (IsPermutation (matches_below names asked part_count)) same found))
 
-    back : IsMatch names asked m → Contains matches m
-    back is =
-        let part = part_of is.name in
-        (below m).1 (
-          part,
-          part_within is.name,
-          record {
-            name = is.name;
-            is_own = kept (λ n. part_of n.name == part) names (record { label = m.own; name = is.name }) (eq-eqb part part refl) is.is_own;
-            is_asked = kept (λ n. part_of n.name == part) asked (record { label = m.asked; name = is.name }) (eq-eqb part part refl) is.is_asked;
-          },
-        )
+-- a list that has the matches as they are asked for has no others
+pub are_matches : (names asked : List Labelled) (matches : List Match) → Differ names → IsPermutation (matches_of names asked) matches → AreMatches names asked matches
+are_matches names asked matches differ same m = (
+  λ there. (matched names asked differ m).0 (Contains-permutation matches (matches_of names asked) m (IsPermutation-sym (matches_of names asked) matches same) there),
+  λ is. Contains-permutation (matches_of names asked) matches m same ((matched names asked differ m).1 is),
+)
 
 -- a name more, in its part
 part_more : (names : List Labelled) (n : Labelled) (part : ℕ) (t : Bool) → (part_of n.name == part) ≡ t → names_of_part part (names ++ n ∷ []) ≡ names_of_part part names ++ cond t (n ∷ []) []

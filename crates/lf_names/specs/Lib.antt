@@ -3,4 +3,3 @@ pub mod Adds
 pub mod Pattern
 pub mod Places
 pub mod NameParts
-pub mod PartMatches

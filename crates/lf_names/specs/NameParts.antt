@@ -1,5 +1,7 @@
 -- Labelled names in parts, so that equal names are in one part: each part is looked up by itself.
-use Rattle.std.specs.Prelude.{◌≡◌, ◌≢◌, ◌↔◌, ℕ, ◌+◌, ◌*◌, ◌/◌, ◌%◌, ◌^◌, ◌<◌, ◌==◌, List, length, map, filter, fold, flat_map, slice_index_or, AllPairs, Contains}
+use Rattle.std.specs.Prelude.{◌≡◌, ◌≢◌, ◌↔◌, ℕ, ◌+◌, ◌*◌, ◌/◌, ◌%◌, ◌^◌, ◌<◌, ◌==◌, List, length, map, filter, filter_map, fold, flat_map, Option, slice_get, slice_index_or, AllPairs, Contains}
+use Rattle.std.specs.Option.{option_and_then, option_map}
+use Rattle.lf_names.specs.Names.{position_of}
 use Rattle.lf_names.specs.declared.name_parts.Entry.{Entry}
 use Rattle.lf_names.specs.declared.name_parts.Match.{Match}
 use Rattle.lf_names.specs.declared.name_parts.LabelledNames.{LabelledNames}
@@ -60,3 +62,19 @@ pub record IsMatch (names asked : List Labelled) (m : Match) : Type 0 where
 -- these are the matches of two lists, in whatever order
 abbrev pub AreMatches : List Labelled → List Labelled → List Match → Type 0
 AreMatches names asked matches = (m : Match) → Contains matches m ↔ IsMatch names asked m
+
+-- the label that a name has among these, if it is there; the first where it stands twice
+abbrev pub label_in : List Labelled → List ℕ → Option ℕ
+label_in names name = option_and_then (λ at. option_map (λ n. n.label) (slice_get names at)) (position_of (map (λ n. n.name) names) name)
+
+-- a name's own label beside the one with which it is asked for
+abbrev pub labels_of : ℕ → ℕ → Match
+labels_of asked own = record { own = own; asked = asked }
+
+-- the match of an asked name, if the name is there
+abbrev pub match_of : List Labelled → Labelled → Option Match
+match_of names q = option_map (labels_of q.label) (label_in names q.name)
+
+-- the matches of the asked names that are there, in the order in which they are asked
+abbrev pub matches_of : List Labelled → List Labelled → List Match
+matches_of names asked = filter_map (match_of names) asked

@@ -1,6 +1,6 @@
 //! A table of distinct names that are lent to it.
 
-ghost use Rattle.std.specs.Prelude.{◌≡◌, ◌≢◌, [], IfOk, OnErr, AllPairs, None, length};
+ghost use Rattle.std.specs.Prelude.{◌≡◌, [], IfOk, OnErr, None};
 ghost use Rattle.lf_names.specs.Names.{position_of};
 ghost use Rattle.lf_names.specs.Adds.{Adds};
 
@@ -13,7 +13,7 @@ use std::marker::Model;
 /// Distinct names that stand elsewhere, in the order in which they were first seen: as a `NameTable`, but without
 /// copies. It is quickest where the names stand close together.
 #[derive(Drop)]
-pub struct LentNames<'a> {
+pub(crate) struct LentNames<'a> {
     names: IndexSet<&'a [u8], BuildHasherDefault<FoldHasher>, Global>,
 }
 
@@ -27,7 +27,7 @@ impl<'a> Model for LentNames<'a> {
 
 impl<'a> LentNames<'a> {
     /// The empty table, with room for so many names.
-    pub fn with_capacity(alloc: Global, names: usize) -> Result<Self, AllocError>
+    pub(crate) fn with_capacity(alloc: Global, names: usize) -> Result<Self, AllocError>
         ensures { IfOk result (λ table. table ≡ []) }
     {
         Ok(LentNames {
@@ -37,7 +37,7 @@ impl<'a> LentNames<'a> {
 
     /// Adds the name behind the others, unless it is there already. An `Err`, for want of memory,
     /// can only come of a new name.
-    pub fn add(&mut self, name: &'a [u8]) -> Result<Added, AllocError>
+    pub(crate) fn add(&mut self, name: &'a [u8]) -> Result<Added, AllocError>
         ensures ok { IfOk result (λ added. Adds self.old name.now added self.new) }
         ensures err { OnErr result (self.new ≡ self.old) }
         ensures only_new { OnErr result (position_of self.old name.now ≡ None) }
@@ -50,17 +50,9 @@ impl<'a> LentNames<'a> {
     }
 
     /// The name's position.
-    pub fn find(&self, name: &[u8]) -> Option<usize>
+    pub(crate) fn find(&self, name: &[u8]) -> Option<usize>
         ensures { result ≡ position_of self.now name.now }
     {
         self.names.get_index_of(name)
-    }
-
-    /// How many names there are, which all differ.
-    pub fn len(&self) -> usize
-        ensures len { result ≡ length self.now }
-        ensures distinct { AllPairs (λ name later. name ≢ later) self.now }
-    {
-        self.names.len()
     }
 }

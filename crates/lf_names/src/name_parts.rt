@@ -1,9 +1,9 @@
 //! Labelled names in parts, each of which is looked up by itself.
 
 ghost use Rattle.std.specs.Prelude.{◌≡◌, ◌↔◌, ◌<◌, ◌++◌, ◌∷◌, ℕ, List, [], IfOk, IfSome, IfNone, IsTrue, OnOk, map, take, drop};
+ghost use Rattle.std.specs.List.Sorted.{IsPermutation};
 ghost use Rattle.std.specs.Option.{option_map, option_to_list};
-ghost use Rattle.lf_names.specs.NameParts.{part_of as name_part, part_count, Labelled, Keeps, ArePartsOf, Differ, AreMatches};
-ghost use Rattle.lf_names.specs.PartMatches.{label_in, labels_of, matches_of};
+ghost use Rattle.lf_names.specs.NameParts.{part_of as name_part, part_count, Labelled, Keeps, ArePartsOf, Differ, AreMatches, label_in, labels_of, matches_of};
 
 use crate::lent::LentNames;
 use crate::table::Added;
@@ -184,8 +184,8 @@ impl NameParts {
         Ok(())
     }
 
-    /// The labels of each of these names that is asked for, once for each time that it is. None exactly where one of
-    /// these names stands twice.
+    /// The labels of each of these names that is asked for, once for each time that it is, in whatever order. None
+    /// exactly where one of these names stands twice.
     pub fn matches(
         &self,
         alloc: Global,
@@ -193,6 +193,7 @@ impl NameParts {
     ) -> Result<Option<Vec<Match>>, AllocError>
         ensures differ { (names questions : List Labelled) → ArePartsOf names self.now → ArePartsOf questions asked.now → IfOk result (λ answer. IfSome answer (λ matches. Differ names)) }
         ensures matches { (names questions : List Labelled) → ArePartsOf names self.now → ArePartsOf questions asked.now → IfOk result (λ answer. IfSome answer (λ matches. AreMatches names questions matches.items)) }
+        ensures many { (names questions : List Labelled) → ArePartsOf names self.now → ArePartsOf questions asked.now → IfOk result (λ answer. IfSome answer (λ matches. IsPermutation (matches_of names questions) matches.items)) }
         ensures none { (names questions : List Labelled) → ArePartsOf names self.now → ArePartsOf questions asked.now → IfOk result (λ answer. IfNone answer (Differ names → ⊥)) }
     {
         let mut matches = Vec::new(alloc);

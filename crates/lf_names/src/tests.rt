@@ -23,19 +23,6 @@ fn gives_names_their_positions(rt: HostRuntime) -> Result<(), Fail> {
     Ok(())
 }
 
-#[test]
-fn finds_lent_names(rt: HostRuntime) -> Result<(), Fail> {
-    let bytes = b"abca";
-    let mut table = LentNames::with_capacity(rt.alloc(), 1)?;
-    for at in 0..3usize {
-        assert_eq!(rt; table.add(&bytes[at..at + 1])?, Added::New(at));
-    }
-    assert_eq!(rt; table.add(&bytes[3..4])?, Added::Present(0));
-    assert_eq!(rt; table.len(), 3);
-    assert!(rt; table.find(b"b") == Some(1));
-    Ok(())
-}
-
 /// Whether one of the matches has these labels.
 fn has_match(matches: &[Match], own: u32, asked: u32) -> bool {
     matches

@@ -1,6 +1,6 @@
-use Rattle.std.proofs.Common.{◌≡◌, ◌<◌, ◌+◌, ◌∙◌, ℕ, true, length, ap, sym, get_or, subst, arith, below_more}
-use Rattle.lf_names.specs.NameParts.{part_count, names_of_part, Differ, Keeps}
-use Rattle.lf_names.proofs.PartLemmas.{MatchesBelow, matches_step, differ_in_part, all_differ, all_matched}
+use Rattle.std.proofs.Common.{◌≡◌, ◌<◌, ◌+◌, ◌++◌, ◌∙◌, ℕ, suc, true, length, ap, sym, get_or, subst, arith, below_more}
+use Rattle.lf_names.specs.NameParts.{part_count, names_of_part, matches_of, Differ, Keeps}
+use Rattle.lf_names.proofs.PartLemmas.{matches_below, differ_in_part, all_differ, all_matched, are_matches}
 use Rattle.lf_names.proofs.name_parts.NameParts.matches.Goals as goal
 
 pub loop-part-preserved : goal.loop-part-preserved
@@ -21,8 +21,10 @@ loop-part-preserved c =
           let below : part < part_count = omega (arith, ap length c.deref-names-items.ensures.value, parts.many) in
           let keeps = subst (λ s. Keeps s (names_of_part part names)) (sym own_is) (parts.each part own below) in
           let asks = subst (λ s. Keeps s (names_of_part part questions)) (sym asked_is) (asked_parts.each part asked below) in
-          subst (MatchesBelow names questions (part + 1)) (sym (answers.matches (names_of_part part names) (names_of_part part questions) keeps asks yes))
-          (matches_step names questions part c.loop-part.matches.items ((answers.differ (names_of_part part names) keeps).0 yes) (c.loop-part.invariant.matched names questions parts asked_parts));
+          let next : suc part ≡ part + 1 = omega arith in
+          answers.matches (names_of_part part names) (names_of_part part questions) keeps asks yes
+          ∙ ap (λ ms. ms ++ matches_of (names_of_part part names) (names_of_part part questions)) (c.loop-part.invariant.matched names questions parts asked_parts)
+          ∙ ap (matches_below names questions) next;
     }
 
 pub returns-then-not-branch-clause-none : goal.returns-then-not-branch-clause-none
@@ -40,7 +42,11 @@ returns-clause-differ c = λ names questions parts asked_parts.
     let many : c.loop-part.part ≡ part_count = omega (arith, ap length c.deref-names-items.ensures.value, parts.many) in
     all_differ names (subst (λ n. (k : ℕ) → k < n → Differ (names_of_part k names)) many (c.loop-part.invariant.differ names parts))
 
+pub returns-clause-many : goal.returns-clause-many
+returns-clause-many c = λ names questions parts asked_parts.
+    let many : c.loop-part.part ≡ part_count = omega (arith, ap length c.deref-names-items.ensures.value, parts.many) in
+    all_matched names questions c.loop-part.matches.items c.loop-part.part many (c.loop-part.invariant.differ names parts) (c.loop-part.invariant.matched names questions parts asked_parts)
+
 pub returns-clause-matches : goal.returns-clause-matches
 returns-clause-matches c = λ names questions parts asked_parts.
-    let many : c.loop-part.part ≡ part_count = omega (arith, ap length c.deref-names-items.ensures.value, parts.many) in
-    all_matched names questions c.loop-part.matches.items (subst (λ n. MatchesBelow names questions n c.loop-part.matches.items) many (c.loop-part.invariant.matched names questions parts asked_parts))
+    are_matches names questions c.loop-part.matches.items (returns-clause-differ c names questions parts asked_parts) (returns-clause-many c names questions parts asked_parts)

@@ -1,10 +1,10 @@
-use Rattle.std.proofs.Common.{ℕ, ◌<◌, List}
+use Rattle.std.proofs.Common.{◌≡◌, ℕ, ◌<◌, List}
 use Rattle.lf_names.specs.NameParts.{Labelled, ArePartsOf, Differ, names_of_part}
-use Rattle.lf_names.proofs.PartLemmas.{MatchesBelow}
+use Rattle.lf_names.proofs.PartLemmas.{matches_below}
 use Rattle.lf_names.proofs.name_parts.NameParts.matches.Given as goal
 
 abbrev pub invariant-loop-part : goal.invariant-loop-part
 invariant-loop-part l = record {
   differ : (names : List Labelled) → ArePartsOf names l.self → (k : ℕ) → k < l.part → Differ (names_of_part k names);
-  matched : (names questions : List Labelled) → ArePartsOf names l.self → ArePartsOf questions l.asked → MatchesBelow names questions l.part l.matches.items;
+  matched : (names questions : List Labelled) → ArePartsOf names l.self → ArePartsOf questions l.asked → l.matches.items ≡ matches_below names questions l.part;
 }
