@@ -12,7 +12,7 @@ use Rattle.lf_def.specs.declared.regions.Region.{Region}
 use Rattle.lf_def.specs.declared.groups.Group.{Group}
 use Rattle.lf_frame.specs.declared.claims.Claim.{Claim}
 use Rattle.lf_frame.specs.declared.claims.Claim.TheVariants.{Unclaimed, ByOne, ByTwo}
-use Rattle.lf_frame.specs.declared.pattern_index.Bound.{Bound}
+use Rattle.lf_frame.specs.declared.starred.Bound.{Bound}
 use Rattle.lf_frame.specs.declared.name_map.NameMap.{NameMap}
 use Rattle.lf_frame.specs.NameMaps.{value_of}
 use Rattle.lf_frame.specs.Loading.{is_fence, fence_names, Claims, IsClaimed, IsUnclaimed, IsClaimedBy}

@@ -12,7 +12,7 @@ use Rattle.lf_def.specs.declared.groups.Group.{Group}
 use Rattle.lf_def.specs.declared.components.Component.{Component}
 use Rattle.lf_frame.specs.declared.claims.Claim.{Claim}
 use Rattle.lf_frame.specs.declared.claims.Claim.TheVariants.{Unclaimed}
-use Rattle.lf_frame.specs.declared.pattern_index.Bound.{Bound}
+use Rattle.lf_frame.specs.declared.starred.Bound.{Bound}
 use Rattle.lf_frame.specs.declared.pattern_index.PatternIndex.{PatternIndex}
 use Rattle.lf_frame.specs.Tables.{numbered_names}
 use Rattle.lf_frame.specs.Claims.{IsClaimOf, joined, Tells, ClaimsBy, Labels, IsMatched, all_bounds, claim_at, Holds, AreTold, AreClaimsOf}
@@ -96,18 +96,19 @@ told_more claims components told n c claim long within is one before k d below =
         rw (here, item) one
 
 -- with no pattern that is tried, nothing is added
-pub told_without_starred : (told : List ℕ → ℕ → Type 0) (starred : List Bound) (components : List Component) (claims : List Claim) → length starred ≡ 0 → AreTold told components claims → AreTold (λ name fence. told name fence ⊎ ClaimsBy starred name fence) components claims
+pub told_without_starred : (told : List ℕ → ℕ → Type 0) (starred : List Bound) (components : List Component) (claims : List Claim) → starred ≡ [] → AreTold told components claims → AreTold (λ name fence. told name fence ⊎ ClaimsBy starred name fence) components claims
 told_without_starred told starred components claims empty h k d within =
     let name : List ℕ = (get_or components k d).name in
+    let none : length starred ≡ 0 = ap length empty in
     tells_same (told name) (λ fence. told name fence ⊎ ClaimsBy starred name fence) (claim_at claims k) (λ fence s. inl s)
     (λ fence u. elim u [ inl s ↦ s | inr c ↦ absurd (omega (arith, c.2)) ]) (h k d within)
 
 -- what literal and tried patterns tell together, all patterns of the index do
-pub told_by_index : (index : PatternIndex) (bounds : List Bound) (components : List Component) (claims : List Claim) (h : Holds index bounds) → AreTold (λ name fence. Labels h.literals name fence ⊎ ClaimsBy index.starred.items name fence) components claims →
+pub told_by_index : (index : PatternIndex) (bounds : List Bound) (components : List Component) (claims : List Claim) (h : Holds index bounds) → AreTold (λ name fence. Labels h.literals name fence ⊎ ClaimsBy h.starred name fence) components claims →
     AreTold (ClaimsBy bounds) components claims
 told_by_index index bounds components claims h told k d within =
     let name : List ℕ = (get_or components k d).name in
-    tells_same (λ fence. Labels h.literals name fence ⊎ ClaimsBy index.starred.items name fence) (ClaimsBy bounds name) (claim_at claims k) (h.back name) (h.forth name) (told k d within)
+    tells_same (λ fence. Labels h.literals name fence ⊎ ClaimsBy h.starred name fence) (ClaimsBy bounds name) (claim_at claims k) (h.back name) (h.forth name) (told k d within)
 
 -- the claims of all groups
 pub claims_made : (regions : List Region) (groups : List Group) (components : List Component) (claims : List Claim) → AreTold (ClaimsBy (all_bounds regions groups)) components claims → AreClaimsOf regions groups components claims

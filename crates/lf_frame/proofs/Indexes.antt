@@ -4,21 +4,23 @@ use Rattle.std.proofs.lemmas.List.{append-nil}
 use Rattle.std.proofs.lemmas.List.Elements.{Contains-append_left, Contains-push, Contains-push_cases}
 use Rattle.lf_names.specs.Pattern.{Matches}
 use Rattle.lf_names.specs.NameParts.{Labelled, ArePartsOf}
-use Rattle.lf_frame.specs.declared.pattern_index.Bound.{Bound}
+use Rattle.lf_frame.specs.declared.starred.Bound.{Bound}
 use Rattle.lf_frame.specs.declared.pattern_index.PatternIndex.{PatternIndex}
-use Rattle.lf_frame.specs.Claims.{ClaimsBy, Labels, Holds, Extends}
+use Rattle.lf_frame.specs.Claims.{ClaimsBy, Labels, HasStarred, Holds, Extends}
 use Rattle.lf_frame.proofs.Named.{none_of_nothing}
 use Rattle.lf_frame.proofs.Tellings.{claims_parts, claims_old, claims_new}
 
 none_labelled : (name : List ℕ) (n : ℕ) → Labels [] name n → ⊥
 none_labelled name n h = omega (arith, h.1)
 
-pub holds_nothing : (index : PatternIndex) → ArePartsOf [] index.literals → index.starred.items ≡ [] → Holds index []
+pub holds_nothing : (index : PatternIndex) → ArePartsOf [] index.literals → HasStarred index.starred [] → Holds index []
 holds_nothing index kept none = record {
   literals = [];
   kept = kept;
+  starred = [];
+  tried = none;
   forth = λ name n h. absurd (none_of_nothing (λ b. (b.fence ≡ n) × Matches b.pattern name) h);
-  back = λ name n h. elim h [ inl early ↦ absurd (none_labelled name n early) | inr late ↦ rw none at late ];
+  back = λ name n h. elim h [ inl early ↦ absurd (none_labelled name n early) | inr late ↦ late ];
 }
 
 -- a pattern as the name that it stands for
@@ -40,10 +42,12 @@ pub extends_literal : (old new : PatternIndex) (b : Bound) → ((name : List ℕ
 extends_literal old new b own kept starred bounds h = record {
   literals = h.literals ++ label_of b ∷ [];
   kept = kept h.literals h.kept;
+  starred = h.starred;
+  tried = rw starred h.tried;
   forth = λ name n c. elim (claims_parts bounds b name n c) [
     | inl early ↦ elim (h.forth name n early) [
       | inl one ↦ inl (Contains-append_left h.literals (label_of b ∷ []) (record { label = n; name = name }) one)
-      | inr other ↦ inr (rw starred other)
+      | inr other ↦ inr other
     ]
     | inr here ↦ inl (labelled_last h.literals b name n here.0 ((own name).0 here.1))
   ];
@@ -52,25 +56,27 @@ extends_literal old new b own kept starred bounds h = record {
       | inl early ↦ claims_old bounds b name n (h.back name n (inl early))
       | inr here ↦ claimed_last bounds b name n ((own b.pattern).1 refl) here
     ]
-    | inr other ↦ claims_old bounds b name n (h.back name n (inr (rw starred at other)))
+    | inr other ↦ claims_old bounds b name n (h.back name n (inr other))
   ];
 }
 
 -- a pattern that is tried
-pub extends_starred : (old new : PatternIndex) (b : Bound) → new.literals ≡ old.literals → new.starred.items ≡ old.starred.items ++ b ∷ [] → Extends old new (b ∷ [])
-extends_starred old new b literals starred bounds h = record {
+pub extends_starred : (old new : PatternIndex) (b : Bound) → new.literals ≡ old.literals → ((starred : List Bound) → HasStarred old.starred starred → HasStarred new.starred (starred ++ b ∷ [])) → Extends old new (b ∷ [])
+extends_starred old new b literals tried bounds h = record {
   literals = h.literals;
   kept = rw literals h.kept;
+  starred = h.starred ++ b ∷ [];
+  tried = tried h.starred h.tried;
   forth = λ name n c. elim (claims_parts bounds b name n c) [
     | inl early ↦ elim (h.forth name n early) [
       | inl one ↦ inl one
-      | inr other ↦ inr (rw starred (claims_old old.starred.items b name n other))
+      | inr other ↦ inr (claims_old h.starred b name n other)
     ]
-    | inr here ↦ inr (rw (starred, ← here.0) (claims_new old.starred.items b name here.1))
+    | inr here ↦ inr (rw (← here.0) (claims_new h.starred b name here.1))
   ];
   back = λ name n c. elim c [
     | inl one ↦ claims_old bounds b name n (h.back name n (inl one))
-    | inr other ↦ elim (claims_parts old.starred.items b name n (rw starred at other)) [
+    | inr other ↦ elim (claims_parts h.starred b name n other) [
       | inl early ↦ claims_old bounds b name n (h.back name n (inr early))
       | inr here ↦ rw (← here.0) (claims_new bounds b name here.1)
     ]

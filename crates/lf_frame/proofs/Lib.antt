@@ -18,6 +18,7 @@ pub mod Pieces
 pub mod Named
 pub mod MapLemmas
 pub mod Tellings
+pub mod PrefixLemmas
 pub mod Indexes
 pub mod Numbered
 pub mod Claimants

@@ -7,7 +7,7 @@ use Rattle.std.proofs.lemmas.Grind.{common_steps}
 use Rattle.lf_names.specs.Pattern.{Matches}
 use Rattle.lf_frame.specs.declared.claims.Claim.{Claim}
 use Rattle.lf_frame.specs.declared.claims.Claim.TheVariants.{Unclaimed, ByOne, ByTwo}
-use Rattle.lf_frame.specs.declared.pattern_index.Bound.{Bound}
+use Rattle.lf_frame.specs.declared.starred.Bound.{Bound}
 use Rattle.lf_frame.specs.Claims.{joined, merged, Tells, ClaimsBy, StepsTo}
 use Rattle.lf_frame.proofs.Named.{any_first, any_later, any_cases, none_of_nothing}
 

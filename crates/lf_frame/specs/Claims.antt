@@ -1,10 +1,10 @@
 -- Which fences claim a component, by the patterns of all groups (DEF GROUPS).
-use Rattle.std.specs.Prelude.{◌≡◌, ◌≢◌, ℕ, ◌<◌, ◌==◌, ◌⊎◌, if◌then◌else◌, List, [], ◌∷◌, ◌++◌, length, map, Option, None, Some, Any, unwrap_or, slice_get, slice_index_or, Contains, Vec}
+use Rattle.std.specs.Prelude.{◌≡◌, ◌≢◌, ℕ, ◌<◌, ◌≤◌, ◌==◌, ◌⊎◌, if◌then◌else◌, List, [], ◌∷◌, ◌++◌, length, map, take, Option, None, Some, Any, unwrap_or, slice_get, slice_index_or, Contains, Vec}
 use Rattle.std.specs.List.{flat_map}
 use Rattle.std.specs.Global.{Global}
 use Rattle.std.specs.Option.{option_and_then}
 use Rattle.lf_names.specs.Names.{position_of}
-use Rattle.lf_names.specs.Pattern.{Matches}
+use Rattle.lf_names.specs.Pattern.{prefix_of, Matches}
 use Rattle.lf_names.specs.NameParts.{Labelled, ArePartsOf}
 use Rattle.lf_names.specs.declared.name_parts.Match.{Match}
 use Rattle.lf_def.specs.declared.regions.Region.{Region}
@@ -12,7 +12,8 @@ use Rattle.lf_def.specs.declared.groups.Group.{Group}
 use Rattle.lf_def.specs.declared.components.Component.{Component}
 use Rattle.lf_frame.specs.declared.claims.Claim.{Claim}
 use Rattle.lf_frame.specs.declared.claims.Claim.TheVariants.{Unclaimed, ByOne, ByTwo}
-use Rattle.lf_frame.specs.declared.pattern_index.Bound.{Bound}
+use Rattle.lf_frame.specs.declared.starred.Bound.{Bound}
+use Rattle.lf_frame.specs.declared.starred.StarredPatterns.{StarredPatterns}
 use Rattle.lf_frame.specs.declared.pattern_index.PatternIndex.{PatternIndex}
 use Rattle.lf_frame.specs.declared.claim_table.ClaimTable.{ClaimTable}
 use Rattle.lf_frame.specs.declared.name_map.NameMap.{NameMap}
@@ -78,12 +79,41 @@ all_bounds regions groups = flat_map (group_bounds regions) groups
 abbrev pub claim_at : List Claim → ℕ → Claim
 claim_at claims number = unwrap_or (slice_get claims number) Unclaimed
 
--- the index holds these patterns: literal ones as names, labelled with the number of the fence, the others as they are
+-- the patterns that stand at a place, where it is one
+abbrev pub bounds_there : Option (Vec Bound Global) → List Bound
+bounds_there None = []
+bounds_there (Some bounds) = bounds.items
+
+-- the patterns that are kept under a prefix
+abbrev pub kept_under : StarredPatterns → List ℕ → List Bound
+kept_under starred prefix = bounds_there (option_and_then (slice_get starred.bounds.items) (position_of starred.prefixes prefix))
+
+-- a pattern claims the name that is kept under the name's first bytes, so many of them
+abbrev pub ClaimsUnder : StarredPatterns → List ℕ → ℕ → ℕ → Type 0
+ClaimsUnder starred name count fence = (count ≤ length name) × ClaimsBy (kept_under starred (take count name)) name fence
+
+-- these patterns are kept: where one of them claims a name, one claims it that is kept under the name's first bytes, as many as a length tells; what is kept claims nothing that these do not; and each length is that of one's prefix
+pub record HasStarred (starred : StarredPatterns) (bounds : List Bound) : Type 0 where
+  pub whole : length starred.prefixes ≡ length starred.bounds.items
+  pub found : (name : List ℕ) (fence : ℕ) → ClaimsBy bounds name fence → Any (λ count. ClaimsUnder starred name count fence) starred.lengths.items
+  pub own : (prefix name : List ℕ) (fence : ℕ) → ClaimsBy (kept_under starred prefix) name fence → ClaimsBy bounds name fence
+  pub needed : (count : ℕ) → Contains starred.lengths.items count → Any (λ b. length (prefix_of b.pattern) ≡ count) bounds
+
+-- the pattern is kept behind those of the prefix; under each other prefix, and among the lengths, all is as it was
+pub record Keeps (old new : StarredPatterns) (prefix : List ℕ) (bound : Bound) : Type 0 where
+  pub whole : length new.prefixes ≡ length new.bounds.items
+  pub there : kept_under new prefix ≡ kept_under old prefix ++ bound ∷ []
+  pub others : (other : List ℕ) → other ≢ prefix → kept_under new other ≡ kept_under old other
+  pub lengths : new.lengths ≡ old.lengths
+
+-- the index holds these patterns: literal ones as names, labelled with the number of the fence, the others by their prefixes
 pub record Holds (index : PatternIndex) (bounds : List Bound) : Type 0 where
   pub literals : List Labelled
   pub kept : ArePartsOf literals index.literals
-  pub forth : (name : List ℕ) (fence : ℕ) → ClaimsBy bounds name fence → Labels literals name fence ⊎ ClaimsBy index.starred.items name fence
-  pub back : (name : List ℕ) (fence : ℕ) → Labels literals name fence ⊎ ClaimsBy index.starred.items name fence → ClaimsBy bounds name fence
+  pub starred : List Bound
+  pub tried : HasStarred index.starred starred
+  pub forth : (name : List ℕ) (fence : ℕ) → ClaimsBy bounds name fence → Labels literals name fence ⊎ ClaimsBy starred name fence
+  pub back : (name : List ℕ) (fence : ℕ) → Labels literals name fence ⊎ ClaimsBy starred name fence → ClaimsBy bounds name fence
 
 -- whatever patterns the old index holds, the new one holds these behind them
 abbrev pub Extends : PatternIndex → PatternIndex → List Bound → Type 0

@@ -5,7 +5,8 @@ use lf_def::{DefDoc, read_def};
 use std::alloc::Global;
 use std::test::Fail;
 
-/// A guide and a fence of one name, another fence and another guide; groups of each, with and without stars.
+/// A guide and a fence of one name, another fence and another guide; groups of each, with and without stars, of which
+/// one begins as another does.
 const CLAIMS: &[u8] = b"DESIGN c ;
 REGIONS 4 ;
 - a ( 0 0 ) ( 1 1 ) + TYPE GUIDE ;
@@ -13,19 +14,21 @@ REGIONS 4 ;
 - b ( 4 0 ) ( 5 1 ) + TYPE FENCE ;
 - c ( 6 0 ) ( 7 1 ) + TYPE GUIDE ;
 END REGIONS
-GROUPS 5 ;
+GROUPS 6 ;
 - g u1 + REGION a ;
 - g x* + REGION b ;
+- g x7* + REGION b ;
 - g x\\* + REGION a ;
 - g v1 + REGION c ;
 - g u1 + REGION a ;
 END GROUPS
-COMPONENTS 5 ;
+COMPONENTS 6 ;
 - u1 m ;
 - x7 m ;
 - v1 m ;
 - y m ;
 - x\\* m ;
+- x m ;
 END COMPONENTS
 END DESIGN
 ";
@@ -50,6 +53,7 @@ fn cells_are_of_the_fence_that_claims_them(rt: HostRuntime) -> Result<(), Fail> 
     assert_eq!(rt; table.team_at(1), 1);
     assert_eq!(rt; table.team_at(2), 2);
     assert_eq!(rt; table.team_at(3), 2);
+    assert_eq!(rt; table.team_at(5), 1);
     Ok(())
 }
 

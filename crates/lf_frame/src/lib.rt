@@ -24,6 +24,7 @@ mod pitch;
 mod place;
 mod refusal;
 mod row_refusals;
+mod starred;
 mod sweep;
 
 pub use design::{is_sized, mac_at};

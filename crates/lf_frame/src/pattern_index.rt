@@ -7,51 +7,24 @@ ghost use Rattle.lf_names.specs.Pattern.{Matches};
 ghost use Rattle.lf_def.specs.declared.regions.Region.{Region};
 ghost use Rattle.lf_frame.specs.Loading.{fence_names};
 ghost use Rattle.lf_frame.specs.NameMaps.{value_of};
-ghost use Rattle.lf_frame.specs.Claims.{Tells, ClaimsBy, bound_to, all_bounds, Labels, Holds, Extends, Numbers, AreTold, AreClaimsWhereDistinct, StepsTo};
+ghost use Rattle.lf_frame.specs.declared.starred.Bound.{Bound};
+ghost use Rattle.lf_frame.specs.Claims.{Tells, ClaimsBy, bound_to, all_bounds, Labels, Holds, Extends, Numbers, AreTold, AreClaimsWhereDistinct, HasStarred};
 
-use crate::claims::{Claim, claim_of, claims_by_match, joined, merged};
+use crate::claims::{Claim, claim_of, claims_by_match, merged};
 use crate::component_names::parts_of_components;
 use crate::name_map::NameMap;
+use crate::starred::StarredPatterns;
 use lf_def::{Component, Group};
 use lf_names::{NameParts, Pattern};
 use lf_units::Name;
 use std::alloc::{AllocError, Global};
 
-/// A pattern of a group, and the number of the fence that the group is bound to.
-#[derive(Drop)]
-pub struct Bound {
-    pub pattern: Name,
-    pub fence: u32,
-}
-
 /// Patterns that are bound to fences: those without a star in parts, as the names that they stand for, each labelled
-/// with the number of its fence; the others as they are.
+/// with the number of its fence; the others by what they begin with.
 #[derive(Drop)]
 pub struct PatternIndex {
     literals: NameParts,
-    starred: Vec<Bound>,
-}
-
-/// The claim with that of one pattern more.
-fn with_bound(claim: Claim, bound: &Bound, name: &[u8]) -> Claim
-    ensures { StepsTo bound.now name.now claim result }
-{
-    if Pattern::new(bound.pattern.as_bytes()).matches(name) {
-        joined(claim, bound.fence)
-    } else {
-        claim
-    }
-}
-
-/// What the patterns claim the name for, each tried in turn.
-fn claim_by_trial(bounds: &[Bound], name: &[u8]) -> Claim
-    ensures { Tells (ClaimsBy bounds.now name.now) result }
-{
-    let mut claim = Claim::Unclaimed;
-    for bound in bounds {
-        claim = with_bound(claim, bound, name);
-    }
-    claim
+    starred: StarredPatterns,
 }
 
 impl PatternIndex {
@@ -61,7 +34,7 @@ impl PatternIndex {
     {
         Ok(PatternIndex {
             literals: NameParts::new(alloc)?,
-            starred: Vec::new(alloc),
+            starred: StarredPatterns::new(alloc),
         })
     }
 
@@ -73,12 +46,11 @@ impl PatternIndex {
         Ok(())
     }
 
-    /// Adds a pattern that is tried on each name.
+    /// Adds a pattern that is tried on each name that begins as it does.
     fn add_starred(&mut self, alloc: Global, pattern: &[u8], fence: u32) -> Result<(), AllocError>
         ensures { OnOk result (Extends self.old self.new (record { pattern = pattern.now; fence = fence } ∷ [])) }
     {
-        let pattern = Name::from_slice(alloc, pattern)?;
-        self.starred.push(Bound { pattern, fence })?;
+        self.starred.add(alloc, pattern, fence)?;
         Ok(())
     }
 
@@ -137,18 +109,19 @@ impl PatternIndex {
         Ok(Some(claims_by_match(alloc, components.len(), &matches)?))
     }
 
-    /// These claims of all components with those of the patterns with a star, which are tried on each name.
+    /// These claims of all components with those of the patterns with a star, each of which is tried on the names that
+    /// begin as it does.
     fn with_starred(
         &self,
         alloc: Global,
         components: &[Component],
         claims: &[Claim],
     ) -> Result<Vec<Claim>, AllocError>
-        ensures { (literals : List Labelled) → AreTold (Labels literals) components.now claims.now → IfOk result (λ all. AreTold (λ name fence. Labels literals name fence ⊎ ClaimsBy self.now.starred.items name fence) components.now all.items) }
+        ensures { (literals : List Labelled) (starred : List Bound) → HasStarred self.now.starred starred → AreTold (Labels literals) components.now claims.now → IfOk result (λ all. AreTold (λ name fence. Labels literals name fence ⊎ ClaimsBy starred name fence) components.now all.items) }
     {
         let mut all = Vec::with_capacity(alloc, components.len())?;
         for (number, component) in components.iter().enumerate() {
-            let tried = claim_by_trial(&self.starred, component.name.as_bytes());
+            let tried = self.starred.claim_on(component.name.as_bytes());
             all.push(merged(claim_of(claims, number), tried))?;
         }
         Ok(all)
@@ -161,7 +134,7 @@ impl PatternIndex {
         components: &[Component],
         claims: Vec<Claim>,
     ) -> Result<Vec<Claim>, AllocError>
-        ensures { (literals : List Labelled) → AreTold (Labels literals) components.now claims.items → IfOk result (λ all. AreTold (λ name fence. Labels literals name fence ⊎ ClaimsBy self.now.starred.items name fence) components.now all.items) }
+        ensures { (literals : List Labelled) (starred : List Bound) → HasStarred self.now.starred starred → AreTold (Labels literals) components.now claims.items → IfOk result (λ all. AreTold (λ name fence. Labels literals name fence ⊎ ClaimsBy starred name fence) components.now all.items) }
     {
         if self.starred.is_empty() {
             return Ok(claims);

@@ -5,7 +5,7 @@ use Rattle.std.proofs.lemmas.Bool.{false≢true}
 use Rattle.std.proofs.lemmas.Bool.Decides.{Decides-eqb}
 use Rattle.std.proofs.lemmas.Slice.Eq.{ends_is}
 use Rattle.std.specs.List.{ends_with}
-use Rattle.lf_names.specs.Pattern.{Part, byte, star, parts_of, Becomes, IsLiteral}
+use Rattle.lf_names.specs.Pattern.{Part, byte, star, parts_of, bytes_before_star, Becomes, IsLiteral}
 use Rattle.lf_names.specs.Places.{IsBehindFirst}
 
 -- bytes become themselves
@@ -92,3 +92,19 @@ none_means_literal pattern (Some p) parts false is = (
   λ t. absurd (false≢true t),
   λ literal. absurd (no_star pattern p.0.now (parts_of p.1.now) (sym literal ∙ parts)),
 )
+
+-- the bytes before the first star of parts that are cut there
+pub before_star : (piece : List ℕ) (more : List Part) → bytes_before_star (map byte piece ++ star ∷ more) ≡ piece
+before_star [] more = refl
+before_star (c ∷ piece) more = ap (λ l. c ∷ l) (before_star piece more)
+
+pub before_no_star : (piece : List ℕ) → bytes_before_star (map byte piece) ≡ piece
+before_no_star [] = refl
+before_no_star (c ∷ piece) = ap (λ l. c ∷ l) (before_no_star piece)
+
+-- what some parts become begins with the bytes before their first star. A caller's proof may cite this.
+pub begins_before_star : (parts : List Part) (name : List ℕ) → Becomes parts name → (rest : List ℕ) × (name ≡ bytes_before_star parts ++ rest)
+begins_before_star [] name h = (name, refl)
+begins_before_star (byte c ∷ parts) name h =
+    let more = begins_before_star parts h.0 h.2 in (more.0, h.1 ∙ ap (λ l. c ∷ l) more.1)
+begins_before_star (star ∷ parts) name h = (name, refl)

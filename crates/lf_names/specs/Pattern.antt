@@ -40,3 +40,13 @@ Matches pattern name = Becomes (parts_of pattern) name
 -- the pattern has no star: each of its bytes stands for itself
 abbrev pub IsLiteral : List ℕ → Type 0
 IsLiteral pattern = parts_of pattern ≡ map byte pattern
+
+-- the bytes before the first star, or all where there is none
+abbrev pub bytes_before_star : List Part → List ℕ
+bytes_before_star [] = []
+bytes_before_star (byte c ∷ parts) = c ∷ bytes_before_star parts
+bytes_before_star (star ∷ parts) = []
+
+-- the bytes of a pattern before its first star
+abbrev pub prefix_of : List ℕ → List ℕ
+prefix_of pattern = bytes_before_star (parts_of pattern)

@@ -1,7 +1,7 @@
 //! Patterns that stand for names.
 
 ghost use Rattle.std.specs.Prelude.{◌≡◌, ◌≢◌, ◌<◌, ◌↔◌, ℕ, List, ◌∷◌, ◌++◌, length, map, IsTrue, IfSome, MatchOption};
-ghost use Rattle.lf_names.specs.Pattern.{byte, star, parts_of, Becomes, Matches, IsLiteral};
+ghost use Rattle.lf_names.specs.Pattern.{byte, star, parts_of, prefix_of, Becomes, Matches, IsLiteral};
 ghost use Rattle.lf_names.specs.Places.{IsBehindFirst};
 
 use std::marker::Model;
@@ -36,6 +36,18 @@ impl<'a> Pattern<'a> {
         ensures own_bytes { IsTrue result → (name : List ℕ) → (Matches self.now name ↔ (name ≡ self.now)) }
     {
         split_at_star(self.bytes).is_none()
+    }
+
+    /// The bytes before the first star, or all where there is none. Each name that the pattern
+    /// stands for begins with them.
+    pub fn prefix(&self) -> &'a [u8]
+        ensures prefix { result.now ≡ prefix_of self.now }
+        ensures begins { (name : List ℕ) → Matches self.now name → (rest : List ℕ) × (name ≡ result.now ++ rest) }
+    {
+        match split_at_star(self.bytes) {
+            Some((before, _)) => before,
+            None => self.bytes,
+        }
     }
 
     /// Whether the pattern stands for the name. Takes no memory, and time at most in proportion to

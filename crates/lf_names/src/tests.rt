@@ -152,6 +152,14 @@ fn only_a_pattern_without_a_star_is_literal(rt: HostRuntime) {
     assert!(rt; !Pattern::new(b"a\\**").is_literal());
 }
 
+#[test]
+fn the_prefix_of_a_pattern_ends_before_its_first_star(rt: HostRuntime) {
+    assert!(rt; Pattern::new(b"top/u*7*").prefix() == b"top/u".as_slice());
+    assert!(rt; Pattern::new(b"a\\**").prefix() == b"a\\*".as_slice());
+    assert!(rt; Pattern::new(b"u1").prefix() == b"u1".as_slice());
+    assert!(rt; Pattern::new(b"*").prefix().is_empty());
+}
+
 /// Many stars before a letter that never comes: found out without going back to an earlier star.
 #[test]
 fn many_stars_end_quickly(rt: HostRuntime) -> Result<(), Fail> {

@@ -12,16 +12,16 @@ loop-number-preserved c =
     let item = c.index-components-number.result in
     let claim = c.merged.result in
     let items : c.push.new.self.items ≡ all ++ claim ∷ [] = (c.in_ok-push.ensures {u = tt}).items in
-    let tried = rw (c.as_bytes.ensures, c.deref.ensures.value) at c.claim_by_trial-tried.ensures in
     record {
       long = rw items (omega (arith, c.loop-number.invariant.long, length_push all claim));
-      told = λ literals told.
+      told = λ literals starred has told.
+          let tried = rw c.as_bytes.ensures at (c.claim_on-tried.ensures starred has) in
           let own : Tells (Labels literals item.name) (claim_at c.args.claims.now n) = subst (λ e. Tells (Labels literals e.name) (claim_at c.args.claims.now n)) (sym c.index-components-number.is) (told n item c.loop-number-test.true) in
           rw items (
-          told_more (λ name fence. Labels literals name fence ⊎ ClaimsBy c.args.self.now.starred.items name fence) c.args.components.now all n item claim c.loop-number.invariant.long c.loop-number-test.true c.index-components-number.is
-          (rw (c.merged.ensures, c.claim_of.ensures) (tells_merged (Labels literals item.name) (ClaimsBy c.args.self.now.starred.items item.name) (claim_at c.args.claims.now n) c.claim_by_trial-tried.result own tried)) (c.loop-number.invariant.told literals told)
+          told_more (λ name fence. Labels literals name fence ⊎ ClaimsBy starred name fence) c.args.components.now all n item claim c.loop-number.invariant.long c.loop-number-test.true c.index-components-number.is
+          (rw (c.merged.ensures, c.claim_of.ensures) (tells_merged (Labels literals item.name) (ClaimsBy starred item.name) (claim_at c.args.claims.now n) c.claim_on-tried.result own tried)) (c.loop-number.invariant.told literals starred has told)
           );
     }
 
 pub returns : goal.returns
-returns c = λ literals told k d within. c.loop-number.invariant.told literals told k d (omega arith)
+returns c = λ literals starred has told k d within. c.loop-number.invariant.told literals starred has told k d (omega arith)

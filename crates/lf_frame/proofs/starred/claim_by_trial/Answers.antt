@@ -1,6 +1,6 @@
 use Rattle.std.proofs.Common.{take, arith}
 use Rattle.lf_frame.proofs.Tellings.{tells_step, one_bound_more, all_bounds_seen}
-use Rattle.lf_frame.proofs.pattern_index.claim_by_trial.Goals as goal
+use Rattle.lf_frame.proofs.starred.claim_by_trial.Goals as goal
 
 pub loop-bound-preserved : goal.loop-bound-preserved
 loop-bound-preserved c =
