@@ -3,11 +3,12 @@
 
 usage: generate.py lef MACROS [SEED] > x.lef
        generate.py def COMPONENTS [FENCES] [ROWS] [SEED] > x.def    (on the macros of a LEF text of 200 macros)
+       generate.py starred COMPONENTS [FENCES] [ROWS] [SEED] > x.def    (on the same)
        generate.py placed COMPONENTS [FENCES] [BLOCKAGES] [SEED] > x.def    (on those of a LEF text of 200 macros and seed 1)
 
 `def` throws its cells anywhere; its fences are bands of rows over the left half. `placed` is a fully legal design: fences
 are the left halves of tiles, every cell stands on its rows within its fence, or outside all, beside blockages of two
-sites. Groups name their cells one by one.
+sites. Groups name their cells one by one. `starred` is `def` with cells in blocks, of which each group names one by a star.
 """
 import random
 import sys
@@ -51,7 +52,7 @@ def lef(macros, seed):
     yield "END LIBRARY\n"
 
 
-def def_(components, fences, rows, seed):
+def def_(components, fences, rows, seed, starred=False):
     rng = random.Random(seed)
     rows = rows or max(8, int((components * 3) ** 0.5 / 2) // 2 * 2)
     sites = max(200, components * 10 // rows)
@@ -66,7 +67,8 @@ def def_(components, fences, rows, seed):
         yield f"- f{fence} ( 0 {fence * band * 2000} ) ( {sites // 2 * 200} {(fence + 1) * band * 2000} ) + TYPE FENCE ;\n"
     yield f"END REGIONS\nCOMPONENTS {components} ;\n"
     for number in range(components):
-        name, mac = f"u{number}", f"M{rng.randint(0, 199)}"
+        block = f"block{number % (fences + 1)}/" if starred else ""
+        name, mac = f"{block}u{number}", f"M{rng.randint(0, 199)}"
         if number % 4 == 3:
             yield f"- {name} {mac} + SOURCE DIST ;\n"
         else:
@@ -74,7 +76,7 @@ def def_(components, fences, rows, seed):
             yield f"- {name} {mac} + SOURCE NETLIST + PLACED ( {x} {y} ) N ;\n"
     yield f"END COMPONENTS\nGROUPS {fences} ;\n"
     for fence in range(fences):
-        members = " ".join(f"u{number}" for number in range(fence, components, fences + 1))
+        members = f"block{fence}/*" if starred else " ".join(f"u{number}" for number in range(fence, components, fences + 1))
         yield f"- g{fence} {members} + REGION f{fence} ;\n"
     yield "END GROUPS\nEND DESIGN\n"
 
@@ -171,7 +173,7 @@ def main():
     elif kind == "placed":
         parts = placed(*(numbers + [10, 0, 1][len(numbers) - 1:]))
     else:
-        parts = def_(*(numbers + [8, 0, 1][len(numbers) - 1:]))
+        parts = def_(*(numbers + [8, 0, 1][len(numbers) - 1:]), starred=kind == "starred")
     for part in parts:
         sys.stdout.write(part)
 

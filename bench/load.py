@@ -4,7 +4,8 @@
 usage: bench/load.py [FENCES] [ROWS] [RUNS]    (500, 10000 and 5; from the top; the programs crates/lefence_bench and
                                                 crates/lefence are proved and built first: rt run in each)
 
-The groups of a design name its cells one by one: those of `def` at even steps, those of `placed` in no order of theirs.
+The groups of `def` and `placed` name their cells one by one, at even steps and in no order of theirs; those of `starred` by
+one pattern each, which ends with a star.
 `load` is loading alone, from texts that are read; `replay` is all that `lefence replay` does before it answers: reading
 both texts, loading, and the start of the floor. The designs take turns, run after run, and the best of a design's runs is
 printed: other work on a machine makes a run slower, and nothing makes it faster.
@@ -73,7 +74,7 @@ def main():
     with tempfile.TemporaryDirectory() as folder:
         lef = os.path.join(folder, "x.lef")
         write(lef, "lef", 200)
-        for design, more in (("def", rows), ("placed", 0)):
+        for design, more in (("def", rows), ("placed", 0), ("starred", rows)):
             counts = 10_000, 100_000, 1_000_000
             texts = [os.path.join(folder, f"{design}{count}.def") for count in counts]
             for count, text in zip(counts, texts):

@@ -56,7 +56,7 @@ fn number_fences(alloc: Global, regions: &[Region]) -> Result<(NameMap<u32>, u32
     Ok((numbers, count))
 }
 
-/// The table of the components that all groups' claims name. It has no claims where two components bear one name.
+/// What the names of all components tell, by all groups; the table has no claims where two components bear one name.
 pub(crate) fn claim_table(
     alloc: Global,
     components: &[Component],
