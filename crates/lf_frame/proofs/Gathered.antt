@@ -25,10 +25,6 @@ none_of_name {A} {name_of} {breaks} {entries} n = by n.place n.first n.name
     by None first name = first
     by (Some k) first name = absurd (inside name_of entries k first.within name)
 
--- no entry that passes the test breaks the rule
-pub all_from_none : {A : Type 0} (p : A → Bool) (Q : A → Type 0) (entries : List A) → NoneBreaks (λ earlier x. (p x ≡ true) × Q x) entries → All (λ x. p x ≡ true → Q x → ⊥) entries
-all_from_none p Q entries none = λ k d within is q. none k d within (is, q)
-
 -- no entry that passes the test breaks the rule with an earlier one that does
 pub pairs_from_none : {A : Type 0} (p : A → Bool) (Q : A → A → Type 0) (entries : List A) →
     NoneBreaks (λ earlier x. (p x ≡ true) × Any (λ e. (p e ≡ true) × Q e x) earlier) entries → AllPairs (λ a b. p a ≡ true → p b ≡ true → Q a b → ⊥) entries

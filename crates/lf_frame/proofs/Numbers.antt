@@ -1,5 +1,5 @@
 -- Refusals in the order of their numbers.
-use Rattle.std.proofs.Common.{◌≡◌, ℕ, ◌+◌, ◌<◌, ◌⊎◌, inl, inr, None, [], ◌∷◌, get_or, refl, sym, ap, ◌∙◌, arith}
+use Rattle.std.proofs.Common.{◌≡◌, ℕ, ◌<◌, None, [], ◌∷◌, get_or, refl, sym, ap, ◌∙◌, arith}
 use Rattle.lf_lex.specs.declared.fault.FaultNumber.{FaultNumber}
 use Rattle.lf_lex.specs.declared.fault.FaultNumber.TheVariants.{BadToken, UnexpectedEnd, Unexpected, BadNumber, WrongEnd, UnknownStatement, NoUnits, NoSite, NoRows, VerticalRow, BadStep, RowOrient, RowsOverlap, NoMacro, NoSize, NotWhole, SecondName, SecondRegion, NoRegion, TeamName, FencesOverlap, TwoFences, TooMany, OutOfMemory}
 use Rattle.lf_frame.specs.Findings.{Inputs, Finds, number_of, IsAccepted}
@@ -66,14 +66,6 @@ readers_find_nothing i FencesOverlap below = absurd (omega arith)
 readers_find_nothing i TwoFences below = absurd (omega arith)
 readers_find_nothing i TooMany below = absurd (omega arith)
 readers_find_nothing i OutOfMemory below = absurd (omega arith)
-
-pub none_up_to : (i : Inputs) (number : ℕ) (x : FaultNumber) → number_of x ≡ number → NoneBelow i number → Finds i x None → NoneBelow i (number + 1)
-none_up_to i number x is before none n below =
-    let cases : (number_of n < number) ⊎ (number_of n ≡ number) = grind arith in
-    elim cases [
-      | inl less ↦ before n less
-      | inr last ↦ rw (one_number n x (last ∙ sym is)) none
-    ]
 
 pub none_at_all : (i : Inputs) → NoneBelow i 24 → IsAccepted i
 none_at_all i before BadToken = before BadToken (omega arith)

@@ -1,5 +1,5 @@
 -- A search for the first place of a piece, from one end of the name to the next.
-use Rattle.std.proofs.Common.{◌≡◌, ℕ, ◌≤◌, List, [], ◌∷◌, ◌++◌, length, drop, refl, sym, ap, ◌∙◌, append_assoc, arith, length-append}
+use Rattle.std.proofs.Common.{◌≡◌, ℕ, ◌≤◌, List, [], ◌∷◌, ◌++◌, length, drop, sym, ap, ◌∙◌, append_assoc, arith, length-append}
 use Rattle.std.proofs.Math.Seq.{drop-append_seam}
 use Rattle.std.proofs.lemmas.List.{drop-append-le}
 use Rattle.lf_names.specs.Places.{IsBehindFirst}
@@ -9,9 +9,6 @@ pub record IsEndWithAll (name piece end : List ℕ) : Type 0 where
   pub before : List ℕ
   pub is : name ≡ before ++ end
   pub all : (front later : List ℕ) → name ≡ front ++ (piece ++ later) → (ahead : List ℕ) × (end ≡ ahead ++ (piece ++ later))
-
-pub all_of_name : (name piece : List ℕ) → IsEndWithAll name piece name
-all_of_name name piece = record { before = []; is = refl; all = λ front later e. (front, e) }
 
 -- where the piece does not stand at its front, the end without its first byte has all places too
 pub shorter_end : (name piece end rest : List ℕ) (c : ℕ) → IsEndWithAll name piece end → end ≡ c ∷ rest → ((later : List ℕ) → end ≡ piece ++ later → ⊥) → IsEndWithAll name piece rest
