@@ -11,8 +11,3 @@ pub use command::{Task, UsageFault, command_of};
 pub use faults::{Fault, status_of, write_fault};
 pub use lines::{Ending, answer_lines};
 pub use tasks::perform;
-
-#[cfg(test)]
-mod shelf;
-#[cfg(test)]
-mod tests;

@@ -32,6 +32,3 @@ pub use regions::{Region, RegionKind};
 pub use rows::Row;
 pub use sample::W_DEF;
 pub use texts::read_def;
-
-#[cfg(test)]
-mod tests;

@@ -39,8 +39,3 @@ pub use loaded::{Cell, Loaded};
 pub use loading::load;
 pub use parts::{Header, Row, Team};
 pub use place::Place;
-
-#[cfg(test)]
-mod claim_tests;
-#[cfg(test)]
-mod tests;

@@ -21,6 +21,3 @@ pub use macros::Macro;
 pub use sample::W_LEF;
 pub use sites::Site;
 pub use texts::read_lef;
-
-#[cfg(test)]
-mod tests;

@@ -16,6 +16,3 @@ pub use read::{
     to_word, token, word,
 };
 pub use tokens::{LexFault, Token, TokenKind, TokenOf};
-
-#[cfg(test)]
-mod tests;

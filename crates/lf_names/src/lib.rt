@@ -10,6 +10,3 @@ mod table;
 pub use name_parts::{Match, NameParts};
 pub use pattern::Pattern;
 pub use table::{Added, NameTable};
-
-#[cfg(test)]
-mod tests;

@@ -112,6 +112,3 @@ pub fn opposite(rail: Rail) -> Rail
         Rail::Power => Rail::Ground,
     }
 }
-
-#[cfg(test)]
-mod tests;

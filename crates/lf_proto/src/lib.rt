@@ -17,6 +17,3 @@ pub use report::report_json;
 pub use request::{Action, Change, Command, Order, Request};
 pub use request_list::RequestList;
 pub use text::reply_text;
-
-#[cfg(test)]
-mod tests;

@@ -12,6 +12,3 @@ mod tree;
 
 pub use placed::Placed;
 pub use tree::RTree;
-
-#[cfg(test)]
-mod tests;

@@ -25,6 +25,3 @@ pub use lf_rtree::Placed;
 pub use report::{Listed, Report, Violation, check_all, check_all_pairs, report_on};
 pub use rule::{Broken, Rule};
 pub use size::box_of;
-
-#[cfg(test)]
-mod tests;

@@ -9,6 +9,3 @@ mod sequence;
 pub use area::{Point, Rect, Span};
 pub use number::{NumberFault, micros_to_dbu, read_fixed};
 pub use sequence::{Name, Sequence};
-
-#[cfg(test)]
-mod tests;

@@ -122,11 +122,4 @@ impl Name {
     {
         self.as_bytes() == bytes
     }
-
-    /// Whether the two names are one.
-    pub fn is_same(&self, other: &Name) -> bool
-        ensures { IsTrue result ↔ (self.now ≡ other.now) }
-    {
-        self.as_bytes() == other.as_bytes()
-    }
 }

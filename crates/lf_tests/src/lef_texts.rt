@@ -1,50 +1,11 @@
-use super::*;
+//! LEF texts.
+
+use crate::changed::{at_line, with_line};
+use lf_lef::{Library, W_LEF, read_lef};
 use lf_lex::{FaultNumber, LoadFault};
 use lf_orient::{Rail, Symmetry};
 use lf_units::Point;
-use std::alloc::{AllocError, Global};
 use std::test::Fail;
-
-/// The text with one of its lines, numbered from 1, exchanged for another.
-fn with_line(
-    alloc: Global,
-    text: &[u8],
-    number: usize,
-    line: &[u8],
-) -> Result<Vec<u8>, AllocError> {
-    let mut new = Vec::new(alloc);
-    for (i, old) in text.split(|byte| *byte == b'\n').enumerate() {
-        if i > 0 {
-            new.push(b'\n')?;
-        }
-        if number.checked_sub(1) == Some(i) {
-            new.extend_from_slice(line)?;
-        } else {
-            new.extend_from_slice(old)?;
-        }
-    }
-    Ok(new)
-}
-
-/// The first lines of the text, so many of them.
-fn first_lines(alloc: Global, text: &[u8], count: usize) -> Result<Vec<u8>, AllocError> {
-    let mut new = Vec::new(alloc);
-    for (i, line) in text.split(|byte| *byte == b'\n').enumerate() {
-        if i < count {
-            new.extend_from_slice(line)?;
-            new.push(b'\n')?;
-        }
-    }
-    Ok(new)
-}
-
-fn at_line(number: FaultNumber, line: usize) -> Option<LoadFault<'static>> {
-    Some(LoadFault {
-        number,
-        line: Some(line),
-        name: None,
-    })
-}
 
 /// What a text is refused for, where it is read into an empty library.
 fn refusal<'a>(rt: &HostRuntime, text: &'a [u8]) -> Option<LoadFault<'a>> {
@@ -131,40 +92,6 @@ RECT 0 -1 1 -2 ; RECT 0 -1 1 0 ; END USE GROUND ; END G END B END LIBRARY SITE";
     assert!(rt; refusal(&rt, text).is_none());
     assert!(rt; rail_in(&rt, text, b"A") == Some(Rail::Power));
     assert!(rt; rail_in(&rt, text, b"B") == Some(Rail::Ground));
-}
-
-#[test]
-fn refuses_changed_lines(rt: HostRuntime) -> Result<(), Fail> {
-    let cases: [(usize, &[u8], FaultNumber, usize); 8] = [
-        (27, b"END IN", FaultNumber::WrongEnd, 27),
-        (5, b"  SIZE 0.2 BY 2.0000001 ;", FaultNumber::BadNumber, 5),
-        (
-            5,
-            b"  SIZE 0.2 BY 1000000.000001 ;",
-            FaultNumber::BadNumber,
-            5,
-        ),
-        (4, b"  SYMMETRY Z ;", FaultNumber::Unexpected, 4),
-        (6, b"END\n\"core\"", FaultNumber::Unexpected, 7),
-        (27, b"END ;", FaultNumber::WrongEnd, 27),
-        (3, b"  CLASS ;", FaultNumber::Unexpected, 3),
-        (12, b"  SITE co\x80re ;", FaultNumber::BadToken, 12),
-    ];
-    for (number, line, fault, at) in cases {
-        let text = with_line(rt.alloc(), W_LEF, number, line)?;
-        assert!(rt; refusal(&rt, &text) == at_line(fault, at), "line {number}");
-    }
-    Ok(())
-}
-
-#[test]
-fn reads_a_text_that_ends_between_statements(rt: HostRuntime) -> Result<(), Fail> {
-    assert!(rt; refusal(&rt, b"").is_none());
-    let without_end = first_lines(rt.alloc(), W_LEF, 43)?;
-    assert!(rt; refusal(&rt, &without_end).is_none());
-    let cut = first_lines(rt.alloc(), W_LEF, 28)?;
-    assert!(rt; refusal(&rt, &cut) == at_line(FaultNumber::UnexpectedEnd, 29));
-    Ok(())
 }
 
 #[test]

@@ -1,4 +1,6 @@
-use super::*;
+//! The tables of orientations.
+
+use lf_orient::{Orient, Rail, Symmetry, equal_under, is_candidate, opposite, row_rail};
 
 const NONE: Symmetry = Symmetry { x: false, y: false };
 

@@ -1,6 +1,6 @@
-//! Tests of what no clause says.
+//! Tables of names, and patterns.
 
-use super::*;
+use lf_names::{Added, Match, NameParts, NameTable, Pattern};
 use linked_list_allocator::LocalHeap;
 use std::alloc::AllocError;
 use std::test::Fail;

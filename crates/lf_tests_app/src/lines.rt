@@ -1,4 +1,9 @@
-use super::*;
+//! Requests, replies and the lines of a stream.
+
+use lf_proto::{
+    Action, Change, Command, Got, LineFramer, Order, Refusal, Reply, Request, RequestList, parse_line, reply_text,
+    report_json,
+};
 use lf_frame::Place;
 use lf_orient::Orient;
 use lf_rules::{Report, Rule, Violation};
@@ -21,37 +26,6 @@ fn asked_place(line: &[u8]) -> Option<Place> {
 }
 
 #[test]
-fn reads_requests(rt: HostRuntime) {
-    let Ok(Command::To { team, order }) = parse_line(b" \twhere  A 4294967295\ta1 ") else {
-        assert!(rt; false, "a request");
-        return;
-    };
-    assert!(rt; team == b"A".as_slice());
-    let Order::Within { session, action } = order else {
-        assert!(rt; false, "within a session");
-        return;
-    };
-    assert_eq!(rt; session, 4_294_967_295);
-    let Action::Where { cell } = action else {
-        assert!(rt; false, "where");
-        return;
-    };
-    assert!(rt; cell == b"a1".as_slice());
-}
-
-#[test]
-fn reads_places(rt: HostRuntime) {
-    assert_eq!(rt;
-        asked_place(b"place A 0 a1 2147483647 -2147483647 FS"),
-        Some(Place::new(2_147_483_647, -2_147_483_647, Orient::FS))
-    );
-    assert_eq!(rt;
-        asked_place(b"place A 0 a1 -0 0000000400 N"),
-        Some(Place::new(0, 400, Orient::N))
-    );
-}
-
-#[test]
 fn reads_orientations(rt: HostRuntime) {
     let names: [(&[u8], Orient); 8] = [
         (b"place A 0 a1 1 2 N", Orient::N),
@@ -65,31 +39,6 @@ fn reads_orientations(rt: HostRuntime) {
     ];
     for (line, orient) in names {
         assert_eq!(rt; asked_place(line), Some(Place::new(1, 2, orient)));
-    }
-}
-
-#[test]
-fn refuses_lines(rt: HostRuntime) {
-    let lines: [&[u8]; 16] = [
-        b"",
-        b" \t ",
-        b"where A 0",
-        b"open",
-        b"open A B",
-        b"Open A",
-        b"move A",
-        b"place A 0 a1 2147483648 0 N",
-        b"place A 0 a1 -2147483648 0 N",
-        b"place A 0 a1 00000000001 0 N",
-        b"place A 0 a1 +1 0 N",
-        b"place A 0 a1 0 0 n",
-        b"where A 4294967296 a1",
-        b"where A -0 a1",
-        b"check A",
-        b"check A 0 a1",
-    ];
-    for line in lines {
-        assert!(rt; parse_line(line).is_err());
     }
 }
 
@@ -275,14 +224,3 @@ fn writes_reports(rt: HostRuntime) -> Result<(), Fail> {
     Ok(())
 }
 
-#[test]
-fn asks_for_a_report(rt: HostRuntime) {
-    let asked = match parse_line(b"check A 7") {
-        Ok(Command::To { order, .. }) => match order {
-            Order::Within { session, action } => session == 7 && matches!(action, Action::Check),
-            Order::Open => false,
-        },
-        _ => false,
-    };
-    assert!(rt; asked);
-}

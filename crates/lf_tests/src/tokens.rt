@@ -1,4 +1,10 @@
-use super::*;
+//! Tokens and words.
+
+use crate::changed::at_line;
+use lf_lex::{
+    FaultNumber, LexFault, Lexer, LoadFault, ReadError, TokenKind, end_name, keyword, name, next, to_end, to_semicolon,
+    to_word, token, word,
+};
 use std::test::Fail;
 
 /// A comment that holds quotation marks, an escaped mark in a quoted text, a semicolon inside a word,
@@ -60,14 +66,6 @@ fn refusal<T: Drop>(answer: Result<T, ReadError>) -> Option<LoadFault<'static>> 
         Ok(_) => None,
         Err(error) => Some(error.into_load_fault()),
     }
-}
-
-fn at_line(number: FaultNumber, line: usize) -> Option<LoadFault<'static>> {
-    Some(LoadFault {
-        number,
-        line: Some(line),
-        name: None,
-    })
 }
 
 #[test]

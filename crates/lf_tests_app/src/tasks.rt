@@ -1,84 +1,15 @@
+//! The command line, and tasks over files in memory.
+
+use crate::designs::with_line;
 use crate::shelf::Shelf;
-use crate::{Ending, Task, UsageFault, answer_lines, command_of, perform};
-use lf_def::{W_DEF, read_def};
-use lf_floor::Floor;
-use lf_frame::{Limits, load};
-use lf_lef::{Library, W_LEF, read_lef};
+use lf_app::{Task, UsageFault, command_of, perform};
+use lf_def::W_DEF;
+use lf_lef::W_LEF;
 use lf_units::Sequence;
 use std::alloc::{AllocError, Global};
 use std::io;
 use std::io::{Read, Write};
 use std::test::Fail;
-
-/// What the demo writes for an input: the worked rows, byte for byte.
-fn answers(rt: &HostRuntime, input: &str, output: &str) -> Result<bool, Fail> {
-    let mut reader = input.as_bytes();
-    let mut written = Vec::new(rt.alloc());
-    let mut faults = Vec::new(rt.alloc());
-    let status = perform(rt, &Task::Demo, &mut reader, &mut written, &mut faults);
-    Ok(status == 0 && faults.is_empty() && written.as_slice() == output.as_bytes())
-}
-
-#[test]
-fn a_cell_is_placed_and_found_again(rt: HostRuntime) -> Result<(), Fail> {
-    let first = "open A\nplace A 0 a1 0 0 N\nwhere A 0 a1\n";
-    assert!(rt; answers(&rt, first, "ok 0 0\nok 1\nok 0 0 N\n")?);
-    Ok(())
-}
-
-#[test]
-fn cells_of_one_team_do_not_overlap(rt: HostRuntime) -> Result<(), Fail> {
-    let input = "open A\nplace A 0 a1 0 0 N\nplace A 0 a2 200 0 N\nplace A 0 a2 400 0 N\n";
-    assert!(rt; answers(&rt, input, "ok 0 0\nok 1\nno 7 Illegal 8 a2 a1\nok 2\n")?);
-    Ok(())
-}
-
-#[test]
-fn a_cell_is_oriented_as_its_row(rt: HostRuntime) -> Result<(), Fail> {
-    let input = "open A\nplace A 0 a1 0 0 N\nplace A 0 a2 400 2000 N\nplace A 0 a2 400 2000 FS\n";
-    assert!(rt; answers(&rt, input, "ok 0 0\nok 1\nno 7 Illegal 4 a2\nok 2\n")?);
-    Ok(())
-}
-
-#[test]
-fn the_first_broken_rule_is_told(rt: HostRuntime) -> Result<(), Fail> {
-    let input = "open A\nplace A 0 a2 3800 0 N\nplace A 0 a2 100 0 N\nplace A 0 a2 0 0 E\n\
-        place A 0 a3 0 6000 FS\nopen -\nplace - 0 g1 4000 0 N\n";
-    let output = "ok 0 0\nno 7 Illegal 6 a2\nno 7 Illegal 2 a2\nno 7 Illegal 1 a2\n\
-        no 7 Illegal 3 a3\nok 0 0\nno 7 Illegal 7 g1\n";
-    assert!(rt; answers(&rt, input, output)?);
-    Ok(())
-}
-
-#[test]
-fn a_cell_of_two_rows_stands_on_its_rail(rt: HostRuntime) -> Result<(), Fail> {
-    let input = "open A\nplace A 0 a3 400 2000 N\nplace A 0 a3 400 0 FS\n";
-    assert!(rt; answers(&rt, input, "ok 0 0\nno 7 Illegal 5 a3\nok 1\n")?);
-    Ok(())
-}
-
-#[test]
-fn other_teams_cells_are_unknown(rt: HostRuntime) -> Result<(), Fail> {
-    let input = "open A\nplace A 0 b1 0 0 N\nplace A 0 zz 0 0 N\nwhere A 0 a1\n";
-    assert!(rt;
-        answers(
-            &rt,
-            input,
-            "ok 0 0\nno 5 NoCell\nno 5 NoCell\nno 6 Unplaced a1\n"
-        )?
-    );
-    Ok(())
-}
-
-#[test]
-fn sessions_are_counted_team_by_team(rt: HostRuntime) -> Result<(), Fail> {
-    let input = "open B\nopen B\nopen A\nopen A\nopen A\nopen A\nopen A\nopen A\nopen A\nopen A\n\
-        open A\nopen C\nwhere A 9 zz\n";
-    let output = "ok 0 0\nok 1 0\nok 0 0\nok 1 0\nok 2 0\nok 3 0\nok 4 0\nok 5 0\nok 6 0\nok 7 0\n\
-        no 10 SessionsFull\nno 2 NoTeam\nno 3 NoSession\n";
-    assert!(rt; answers(&rt, input, output)?);
-    Ok(())
-}
 
 #[test]
 fn a_line_that_is_no_request_is_refused(rt: HostRuntime) -> Result<(), Fail> {
@@ -101,36 +32,6 @@ fn a_line_that_is_no_request_is_refused(rt: HostRuntime) -> Result<(), Fail> {
     let expected = "ok 0 0\nno 1 BadRequest\nno 1 BadRequest\nno 1 BadRequest\nno 1 BadRequest\n\
         no 1 BadRequest\nok 1 0\nno 1 BadRequest\nok 2 0\n";
     assert_eq!(rt; written.as_slice(), expected.as_bytes());
-    Ok(())
-}
-
-/// The floor of the design of the sample texts on these limits.
-fn sample_floor(alloc: Global, limits: Limits) -> Option<Floor> {
-    let mut library = Library::new(alloc);
-    if read_lef(&mut library, W_LEF).is_err() {
-        return None;
-    }
-    let Ok(document) = read_def(alloc, W_DEF) else {
-        return None;
-    };
-    match load(alloc, &library, &document, limits) {
-        Ok(loaded) => Floor::start(alloc, loaded).ok(),
-        Err(_) => None,
-    }
-}
-
-#[test]
-fn revisions_are_spent(rt: HostRuntime) -> Result<(), Fail> {
-    let limits = Limits::checked(65_535, 1_024, 4_000_000, 8, 64, 1).ok_or("limits")?;
-    let mut floor = sample_floor(rt.alloc(), limits).ok_or("the design is refused")?;
-    let mut reader = b"open A\nplace A 0 a1 0 0 N\nplace A 0 zz 0 0 N\n".as_slice();
-    let mut written = Vec::new(rt.alloc());
-    let ending = answer_lines(rt.alloc(), &mut floor, &mut reader, &mut written);
-    assert_eq!(rt; ending, Ending::Done);
-    assert_eq!(rt;
-        written.as_slice(),
-        b"ok 0 0\nok 1\nno 11 RevisionsSpent\n".as_slice()
-    );
     Ok(())
 }
 
@@ -167,27 +68,6 @@ fn a_device_that_fails_ends_the_demo(rt: HostRuntime) -> Result<(), Fail> {
     assert_eq!(rt; status, 3);
     assert_eq!(rt; faults.as_slice(), b"lefence: WriteFault\n".as_slice());
     Ok(())
-}
-
-/// The text with one of its lines, numbered from 1, exchanged for another.
-fn with_line(
-    alloc: Global,
-    text: &[u8],
-    number: usize,
-    line: &[u8],
-) -> Result<Vec<u8>, AllocError> {
-    let mut new = Vec::new(alloc);
-    for (i, old) in text.split(|byte| *byte == b'\n').enumerate() {
-        if i > 0 {
-            new.push(b'\n')?;
-        }
-        if number.checked_sub(1) == Some(i) {
-            new.extend_from_slice(line)?;
-        } else {
-            new.extend_from_slice(old)?;
-        }
-    }
-    Ok(new)
 }
 
 /// What a task does: its exit status, what it writes and what it tells of faults.
@@ -271,17 +151,6 @@ fn a_design_of_files_is_replayed(rt: HostRuntime) -> Result<(), Fail> {
         run.written.as_slice(),
         b"ok 0 0\nok 1\nok 0 0 N\n".as_slice()
     );
-    Ok(())
-}
-
-#[test]
-fn a_cell_of_another_team_is_no_obstacle(rt: HostRuntime) -> Result<(), Fail> {
-    let def = with_line(rt.alloc(), W_DEF, 18, b"- b1 INV + PLACED ( 0 0 ) N ;")?;
-    let files = [("w.lef", Some(W_LEF)), ("w.def", Some(def.as_slice()))];
-    let input = "open A\nplace A 0 a1 0 0 N\n";
-    let run = replayed(rt.alloc(), files.as_slice(), ["w.lef"].as_slice(), input)?;
-    assert_eq!(rt; run.status, 0);
-    assert_eq!(rt; run.written.as_slice(), b"ok 0 0\nok 1\n".as_slice());
     Ok(())
 }
 

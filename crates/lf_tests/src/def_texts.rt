@@ -1,50 +1,12 @@
-use super::*;
+//! DEF texts.
+
+use crate::changed::{at_line, first_lines, with_line};
+use lf_def::{Location, Placement, PlacementKind, RegionKind, W_DEF, read_def};
 use lf_lex::{FaultNumber, LoadFault};
 use lf_orient::Orient;
 use lf_units::{Point, Rect};
 use std::alloc::{AllocError, Global};
 use std::test::Fail;
-
-/// The text with one of its lines, numbered from 1, exchanged for another.
-fn with_line(
-    alloc: Global,
-    text: &[u8],
-    number: usize,
-    line: &[u8],
-) -> Result<Vec<u8>, AllocError> {
-    let mut new = Vec::new(alloc);
-    for (i, old) in text.split(|byte| *byte == b'\n').enumerate() {
-        if i > 0 {
-            new.push(b'\n')?;
-        }
-        if number.checked_sub(1) == Some(i) {
-            new.extend_from_slice(line)?;
-        } else {
-            new.extend_from_slice(old)?;
-        }
-    }
-    Ok(new)
-}
-
-/// The first lines of the text, so many of them.
-fn first_lines(alloc: Global, text: &[u8], count: usize) -> Result<Vec<u8>, AllocError> {
-    let mut new = Vec::new(alloc);
-    for (i, line) in text.split(|byte| *byte == b'\n').enumerate() {
-        if i < count {
-            new.extend_from_slice(line)?;
-            new.push(b'\n')?;
-        }
-    }
-    Ok(new)
-}
-
-fn at_line(number: FaultNumber, line: usize) -> Option<LoadFault<'static>> {
-    Some(LoadFault {
-        number,
-        line: Some(line),
-        name: None,
-    })
-}
 
 /// What a text is refused for.
 fn refusal<'a>(rt: &HostRuntime, text: &'a [u8]) -> Option<LoadFault<'a>> {
@@ -273,84 +235,6 @@ fn reads_blockages(rt: HostRuntime) -> Result<(), Fail> {
     assert!(rt; blockage.soft);
     assert!(rt; blockage.partial);
     assert_eq!(rt; blockage.rects.len(), 1);
-    Ok(())
-}
-
-#[test]
-fn refuses_changed_statements(rt: HostRuntime) -> Result<(), Fail> {
-    let cases: [(usize, &[u8], FaultNumber, usize); 8] = [
-        (14, b"COMPONENT 5 ;", FaultNumber::UnknownStatement, 14),
-        (20, b"END REGIONS", FaultNumber::WrongEnd, 20),
-        (3, b"BUSBITCHARS \"[] ;", FaultNumber::UnexpectedEnd, 29),
-        (
-            5,
-            b"UNITS DISTANCE MICRONS 20001 ;",
-            FaultNumber::BadNumber,
-            5,
-        ),
-        (6, b";", FaultNumber::UnknownStatement, 6),
-        (6, b"\"ROW\"", FaultNumber::Unexpected, 6),
-        (28, b"END \"DESIGN\"", FaultNumber::Unexpected, 28),
-        (28, b"END DESIGNS", FaultNumber::WrongEnd, 28),
-    ];
-    for (number, line, fault, at) in cases {
-        let text = with_line(rt.alloc(), W_DEF, number, line)?;
-        assert!(rt; refusal(&rt, &text) == at_line(fault, at), "line {number}");
-    }
-    Ok(())
-}
-
-#[test]
-fn refuses_changed_entries(rt: HostRuntime) -> Result<(), Fail> {
-    let cases: [(usize, &[u8], FaultNumber, usize); 8] = [
-        (
-            6,
-            b"ROW r core 0 0 Q DO 50 BY 1 ;",
-            FaultNumber::Unexpected,
-            6,
-        ),
-        (
-            6,
-            b"ROW r core 0 0 N DO 0 BY 1 ;",
-            FaultNumber::BadNumber,
-            6,
-        ),
-        (
-            11,
-            b"- A ( 0 0 ) ( 12.5 4000 ) ;",
-            FaultNumber::BadNumber,
-            11,
-        ),
-        (
-            11,
-            b"- A ( 0 0 ) ( 4 4 ) + TYPE FENCE X ;",
-            FaultNumber::Unexpected,
-            11,
-        ),
-        (
-            15,
-            b"- a\x80 INV + SOURCE DIST ;",
-            FaultNumber::BadToken,
-            15,
-        ),
-        (
-            16,
-            b"- a2 INV + UNPLACED +\nFIXED ( 0 0 ) N ;",
-            FaultNumber::Unexpected,
-            17,
-        ),
-        (
-            22,
-            b"- PLACEMENT ( 0 0 ) ( 1 1 ) ;",
-            FaultNumber::Unexpected,
-            22,
-        ),
-        (25, b"- ga a* + REGION ( ;", FaultNumber::Unexpected, 25),
-    ];
-    for (number, line, fault, at) in cases {
-        let text = with_line(rt.alloc(), W_DEF, number, line)?;
-        assert!(rt; refusal(&rt, &text) == at_line(fault, at), "line {number}");
-    }
     Ok(())
 }
 

@@ -2,7 +2,7 @@
 
 ghost use Rattle.std.specs.Prelude.{◌<◌};
 
-use crate::{Placed, RTree};
+use lf_rtree::{Placed, RTree};
 use lf_units::Rect;
 use std::alloc::{AllocError, Global};
 use std::test::Fail;

@@ -1,0 +1,161 @@
+//! The design of a row: the built-in texts with some of their lines exchanged.
+
+use lf_app::{Fault, answer_lines, write_fault};
+use lf_def::{W_DEF, read_def};
+use lf_floor::Floor;
+use lf_frame::{Limits, Loaded, load};
+use lf_lef::{Library, W_LEF, read_lef};
+use lf_lex::LoadFault;
+use lf_proto::report_json;
+use lf_rules::check_all;
+use std::alloc::{AllocError, Global};
+use std::io;
+use std::io::Write;
+
+/// The texts and the limits.
+#[derive(Drop)]
+pub struct Design {
+    alloc: Global,
+    lef: Vec<u8>,
+    def: Vec<u8>,
+    limits: Limits,
+}
+
+/// Puts a line behind the text, with a line feed for each `\n` in it.
+fn push_line(text: &mut Vec<u8>, line: &[u8]) -> Result<(), AllocError> {
+    let mut rest = line;
+    while let Some(at) = rest.windows(2).position(|pair| pair == b"\\n".as_slice()) {
+        text.extend_from_slice(&rest[..at])?;
+        text.push(b'\n')?;
+        rest = &rest[at + 2..];
+    }
+    text.extend_from_slice(rest)
+}
+
+/// The text with one of its lines, numbered from 1, exchanged for another.
+fn with_line(
+    alloc: Global,
+    text: &[u8],
+    number: usize,
+    line: &[u8],
+) -> Result<Vec<u8>, AllocError> {
+    let mut new = Vec::new(alloc);
+    for (i, old) in text.split(|byte| *byte == b'\n').enumerate() {
+        if i > 0 {
+            new.push(b'\n')?;
+        }
+        if number.checked_sub(1) == Some(i) {
+            push_line(&mut new, line)?;
+        } else {
+            new.extend_from_slice(old)?;
+        }
+    }
+    Ok(new)
+}
+
+/// The first lines of the text, so many of them.
+fn first_lines(alloc: Global, text: &[u8], count: usize) -> Result<Vec<u8>, AllocError> {
+    let mut new = Vec::new(alloc);
+    for (i, line) in text.split(|byte| *byte == b'\n').enumerate() {
+        if i < count {
+            new.extend_from_slice(line)?;
+            new.push(b'\n')?;
+        }
+    }
+    Ok(new)
+}
+
+/// Writes the line of a refusal.
+fn put_fault<W: Write>(writer: &mut W, fault: LoadFault<'_>) -> io::Result<()> {
+    write_fault(writer, &Fault::Refused(fault))
+}
+
+impl Design {
+    /// The built-in design.
+    pub fn new(alloc: Global) -> Result<Design, AllocError> {
+        Ok(Design {
+            alloc,
+            lef: Vec::from_slice(alloc, W_LEF)?,
+            def: Vec::from_slice(alloc, W_DEF)?,
+            limits: Limits::standard(),
+        })
+    }
+
+    /// Exchanges a line of the LEF text.
+    pub fn set_lef(&mut self, number: usize, line: &[u8]) -> Result<(), AllocError> {
+        self.lef = with_line(self.alloc, &self.lef, number, line)?;
+        Ok(())
+    }
+
+    /// Exchanges a line of the DEF text.
+    pub fn set_def(&mut self, number: usize, line: &[u8]) -> Result<(), AllocError> {
+        self.def = with_line(self.alloc, &self.def, number, line)?;
+        Ok(())
+    }
+
+    /// Keeps the first lines of the LEF text, so many of them.
+    pub fn cut_lef(&mut self, count: usize) -> Result<(), AllocError> {
+        self.lef = first_lines(self.alloc, &self.lef, count)?;
+        Ok(())
+    }
+
+    /// Keeps the first lines of the DEF text, so many of them.
+    pub fn cut_def(&mut self, count: usize) -> Result<(), AllocError> {
+        self.def = first_lines(self.alloc, &self.def, count)?;
+        Ok(())
+    }
+
+    /// Sets the limits.
+    pub fn set_limits(&mut self, limits: Limits) {
+        self.limits = limits;
+    }
+
+    /// Writes what the design answers: its refusal, or `loaded`, its report where it is asked for, and the replies to the
+    /// lines.
+    pub fn answer<W: Write>(&self, is_checked: bool, lines: &[u8], writer: &mut W) -> io::Result<()> {
+        let mut library = Library::new(self.alloc);
+        if let Err(fault) = read_lef(&mut library, &self.lef) {
+            return put_fault(writer, fault);
+        }
+        let document = match read_def(self.alloc, &self.def) {
+            Ok(document) => document,
+            Err(fault) => return put_fault(writer, fault),
+        };
+        let loaded = match load(self.alloc, &library, &document, self.limits) {
+            Ok(loaded) => loaded,
+            Err(fault) => return put_fault(writer, fault),
+        };
+        writer.write_all(b"loaded\n")?;
+        if is_checked {
+            put_report(self.alloc, &loaded, writer)?;
+        }
+        put_replies(self.alloc, loaded, lines, writer)
+    }
+}
+
+/// Writes the report of the design as loaded.
+fn put_report<W: Write>(alloc: Global, loaded: &Loaded, writer: &mut W) -> io::Result<()> {
+    let mut places = Vec::new(alloc);
+    for cell in loaded.cells.as_slice() {
+        places.push(cell.place)?;
+    }
+    if places.len() != loaded.cells.len() {
+        return Ok(());
+    }
+    let report = check_all(alloc, loaded, &places)?;
+    writer.write_all(report_json(alloc, &report)?.as_bytes())?;
+    writer.write_all(b"\n")
+}
+
+/// Writes the replies to the lines on the floor of the design.
+fn put_replies<W: Write>(
+    alloc: Global,
+    loaded: Loaded,
+    lines: &[u8],
+    writer: &mut W,
+) -> io::Result<()> {
+    let mut floor = Floor::start(alloc, loaded)?;
+    let mut reader = lines;
+    let _ending = answer_lines(alloc, &mut floor, &mut reader, writer);
+    Ok(())
+}

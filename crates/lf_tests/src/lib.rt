@@ -1,0 +1,19 @@
+//! Tests of the crates up to the readers of texts: what no clause says of them.
+#![tactic(auto)]
+
+#[cfg(test)]
+mod boxes;
+#[cfg(test)]
+mod changed;
+#[cfg(test)]
+mod def_texts;
+#[cfg(test)]
+mod lef_texts;
+#[cfg(test)]
+mod names;
+#[cfg(test)]
+mod orientations;
+#[cfg(test)]
+mod tokens;
+#[cfg(test)]
+mod units;

@@ -1,0 +1,85 @@
+//! The floor of all teams.
+
+use crate::designs::{design_of, with_line};
+use lf_def::W_DEF;
+use lf_floor::Floor;
+use lf_frame::{Limits, Place};
+use lf_orient::Orient;
+use lf_proto::{Action, Change, Command, Order, Reply, Request, RequestList, reply_text};
+use std::alloc::{AllocError, Global};
+use std::test::Fail;
+
+/// The floor of the built-in design with a1 and b1 at the lower left corners of their fences.
+fn floor(alloc: Global) -> Result<Floor, Fail> {
+    let def = with_line(alloc, W_DEF, 15, b"- a1 INV + PLACED ( 0 0 ) N ;")?;
+    let def = with_line(alloc, &def, 18, b"- b1 INV + PLACED ( 6000 0 ) N ;")?;
+    Ok(Floor::start(alloc, design_of(alloc, &def, Limits::standard())?)?)
+}
+
+/// The request of the first session of a team to unplace a cell.
+fn unplace<'a>(team: &'a [u8], cell: &'a [u8]) -> Request<'a> {
+    let action = Action::Change(Change::Unplace { cell });
+    Command::To {
+        team,
+        order: Order::Within { session: 0, action },
+    }
+}
+
+/// B opens a session, takes b1 from its place, and parts.
+fn requests(alloc: Global) -> Result<RequestList, AllocError> {
+    let mut list = RequestList::new(alloc);
+    list.push(&Command::To {
+        team: b"B",
+        order: Order::Open,
+    })?;
+    list.push(&unplace(b"B", b"b1"))?;
+    list.push(&unplace(b"B", b"b1"))?;
+    list.push(&Command::Bye)?;
+    Ok(list)
+}
+
+/// The text of the replies, with their cells named `b1`.
+fn text_of(alloc: Global, replies: &[Reply]) -> Result<Vec<u8>, AllocError> {
+    let mut text = Vec::new(alloc);
+    for reply in replies {
+        reply_text(reply, b"b1", b"", &mut text)?;
+    }
+    Ok(text)
+}
+
+/// Whether a1 has its place, and b1 none.
+fn is_b1_gone(floor: &Floor) -> bool {
+    if floor.place_of(b"B", 0).is_some() {
+        return false;
+    }
+    floor.place_of(b"A", 0) == Some(Place::new(0, 0, Orient::N))
+}
+
+/// Whether a2 is the second cell of A, and no team has a second cell outside the fences.
+fn are_cells_named(floor: &Floor) -> bool {
+    if floor.name_of(b"-", 1).is_some() {
+        return false;
+    }
+    floor.name_of(b"A", 1) == Some(b"a2".as_slice())
+}
+
+/// The replies to the requests, in one text.
+fn ran(alloc: Global, floor: &mut Floor) -> Result<Vec<u8>, AllocError> {
+    let replies = floor.run(&requests(alloc)?)?;
+    text_of(alloc, &replies)
+}
+
+/// Whether the requests are answered by these replies, and then b1 alone has left its place.
+fn runs(alloc: Global, mut floor: Floor, replies: &[u8]) -> Result<bool, AllocError> {
+    if ran(alloc, &mut floor)?.as_slice() != replies {
+        return Ok(false);
+    }
+    Ok(is_b1_gone(&floor) && are_cells_named(&floor))
+}
+
+#[test]
+fn runs_requests(rt: HostRuntime) -> Result<(), Fail> {
+    let replies = b"ok 0 0\nok 1\nno 6 Unplaced b1\nok\n";
+    assert!(rt; runs(rt.alloc(), floor(rt.alloc())?, replies)?);
+    Ok(())
+}
