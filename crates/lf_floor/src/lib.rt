@@ -21,6 +21,3 @@ pub use verb_laws::{
     revert_after_commit_keeps, stuck_tidy_keeps, swap_makes_legal, tidy_makes_legal,
     undo_brings_back, verb_keeps_team, verb_rows,
 };
-
-#[cfg(test)]
-mod tests;

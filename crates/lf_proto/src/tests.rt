@@ -1,5 +1,5 @@
 use super::*;
-use lf_frame::Place;
+use lf_floorplan::Place;
 use lf_orient::Orient;
 use lf_rules::{Report, Rule, Violation};
 use lf_units::{Name, Sequence};
