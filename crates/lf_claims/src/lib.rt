@@ -12,6 +12,3 @@ mod table;
 pub use component_names::is_added;
 pub use kinds::{is_cover, is_fence, is_fixed, is_movable};
 pub use table::{ClaimTable, claim_table, first_claimed_twice};
-
-#[cfg(test)]
-mod claim_tests;

@@ -1,6 +1,6 @@
 //! Tests of what fences claim.
 
-use crate::table::{claim_table, first_claimed_twice};
+use lf_claims::{claim_table, first_claimed_twice};
 use lf_def::{DefDoc, read_def};
 use std::alloc::Global;
 use std::test::Fail;
