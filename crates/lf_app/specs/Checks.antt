@@ -1,8 +1,8 @@
 -- What a check of a design tells.
 use Rattle.std.specs.Prelude.{ℕ, List, [], ◌∷◌, ◌++◌, Option, map}
-use Rattle.lf_frame.specs.declared.loaded.Cell.{Cell}
-use Rattle.lf_frame.specs.declared.loaded.Loaded.{Loaded}
-use Rattle.lf_frame.specs.declared.place.Place.{Place}
+use Rattle.lf_floorplan.specs.declared.loaded.Cell.{Cell}
+use Rattle.lf_floorplan.specs.declared.loaded.Loaded.{Loaded}
+use Rattle.lf_floorplan.specs.declared.place.Place.{Place}
 use Rattle.lf_rules.specs.declared.report.Report.{Report}
 use Rattle.lf_rules.specs.FullyLegal.{IsFullyLegal, standing_at}
 use Rattle.lf_rules.specs.Legalizer.{Legalizer}

@@ -1,7 +1,7 @@
 -- One case analysis of what a command to a team comes to, for every law about it.
 use Rattle.std.proofs.Common.{◌≡◌, ℕ, List, Bool, true, false, cond, ltb, Option, Some, None, refl}
 use Rattle.std.specs.Prelude.{position, is_none}
-use Rattle.lf_frame.specs.declared.place.Place.{Place}
+use Rattle.lf_floorplan.specs.declared.place.Place.{Place}
 use Rattle.lf_rules.specs.declared.rule.Broken.{Broken}
 use Rattle.lf_proto.specs.declared.request.Order.{Order}
 use Rattle.lf_proto.specs.declared.request.Order.TheVariants.{Open, Within}

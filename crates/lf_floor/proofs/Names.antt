@@ -3,9 +3,9 @@ use Rattle.std.proofs.Common.{◌≡◌, ℕ, suc, ◌+◌, List, [], ◌∷◌,
 use Rattle.std.specs.Prelude.{position, bytes_eq}
 use Rattle.std.specs.List.{position_from}
 use Rattle.std.proofs.lemmas.Iterator.Adapters.{position_from-zero}
-use Rattle.lf_frame.specs.declared.frame.Frame.{Frame}
-use Rattle.lf_frame.specs.declared.parts.Team.{Team}
-use Rattle.lf_frame.specs.Fences.{ground_name}
+use Rattle.lf_floorplan.specs.declared.frame.Frame.{Frame}
+use Rattle.lf_floorplan.specs.declared.parts.Team.{Team}
+use Rattle.lf_floorplan.specs.Fences.{ground_name}
 use Rattle.lf_floor.specs.Teams.{team_number}
 
 -- a fence's number, or else that of the team outside all fences

@@ -4,15 +4,15 @@ use Rattle.std.specs.Prelude.{slice_get, unwrap_or, bytes_eq, replicate, All}
 use Rattle.std.proofs.lemmas.List.{length-append, length-map, length-replicate}
 use Rattle.std.proofs.lemmas.List.Elements.{All-cons, All-filter, All-map}
 use Rattle.std.proofs.lemmas.List.Quantifiers.{position-Some}
-use Rattle.lf_frame.specs.declared.frame.Frame.{Frame}
-use Rattle.lf_frame.specs.declared.loaded.Cell.{Cell as LoadedCell}
-use Rattle.lf_frame.specs.declared.loaded.Loaded.{Loaded}
-use Rattle.lf_lef.specs.declared.macros.Macro.{Macro}
-use Rattle.lf_frame.specs.declared.parts.Team.{Team}
-use Rattle.lf_frame.specs.Boxes.{macro_of, no_macro}
-use Rattle.lf_frame.specs.Design.{IsCell}
-use Rattle.lf_frame.specs.Fences.{ground_name}
-use Rattle.lf_frame.specs.Bounds.{IsName}
+use Rattle.lf_floorplan.specs.declared.frame.Frame.{Frame}
+use Rattle.lf_floorplan.specs.declared.loaded.Cell.{Cell as LoadedCell}
+use Rattle.lf_floorplan.specs.declared.loaded.Loaded.{Loaded}
+use Rattle.lf_floorplan.specs.declared.macros.Macro.{Macro}
+use Rattle.lf_floorplan.specs.declared.parts.Team.{Team}
+use Rattle.lf_floorplan.specs.Boxes.{macro_of, no_macro}
+use Rattle.lf_floorplan.specs.Design.{IsCell}
+use Rattle.lf_floorplan.specs.Fences.{ground_name}
+use Rattle.lf_floorplan.specs.Bounds.{IsName}
 use Rattle.lf_floor.specs.declared.cell.Cell.{Cell}
 use Rattle.lf_floor.specs.States.{TeamState}
 use Rattle.lf_floor.specs.Teams.{team_names, team_number, state_at, state_of, IsSizedCell, IsTeamOf}

@@ -6,9 +6,9 @@ use Rattle.std.proofs.lemmas.Iterator.Adapters.{position_from-zero}
 use Rattle.std.proofs.lemmas.List.Elements.{All-map}
 use Rattle.std.proofs.lemmas.Option.{slice_get-map, slice_get_within}
 use Rattle.lf_units.specs.declared.area.Point.{Point}
-use Rattle.lf_frame.specs.declared.frame.Frame.{Frame}
-use Rattle.lf_frame.specs.declared.place.Place.{Place}
-use Rattle.lf_frame.specs.Boxes.{IsSized, macro_of}
+use Rattle.lf_floorplan.specs.declared.frame.Frame.{Frame}
+use Rattle.lf_floorplan.specs.declared.place.Place.{Place}
+use Rattle.lf_floorplan.specs.Boxes.{IsSized, macro_of}
 use Rattle.lf_rules.specs.declared.rule.Broken.{Broken}
 use Rattle.lf_rules.specs.Choice.{Spot, Lifted, spot_of, IsLegalAt, IsChoice, LegalInRange}
 use Rattle.lf_rules.specs.Legalizer.{Legalizer}

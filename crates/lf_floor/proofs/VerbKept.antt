@@ -2,8 +2,8 @@
 use Rattle.std.proofs.Common.{◌≡◌, ◌≢◌, ℕ, zero, suc, ◌+◌, List, [], ◌∷◌, true, false, length, map, get_or, Option, Some, None, refl, ap, sym, ◌∙◌}
 use Rattle.std.specs.Prelude.{slice_set}
 use Rattle.std.proofs.lemmas.List.{length-set, length-map}
-use Rattle.lf_frame.specs.declared.frame.Frame.{Frame}
-use Rattle.lf_frame.specs.declared.place.Place.{Place}
+use Rattle.lf_floorplan.specs.declared.frame.Frame.{Frame}
+use Rattle.lf_floorplan.specs.declared.place.Place.{Place}
 use Rattle.lf_proto.specs.declared.reply.Reply.{Reply}
 use Rattle.lf_proto.specs.declared.reply.Reply.TheVariants.{Refused}
 use Rattle.lf_proto.specs.declared.reply.Refusal.{Refusal}

@@ -1,7 +1,7 @@
 -- The worked rows of verbs.
 use Rattle.std.proofs.Common.{◌≡◌, ℕ, ◌<◌, List, ◌∷◌, true, false, ltb, take, Option, refl, ap, arith}
 use Rattle.std.proofs.lemmas.Bool.{lt-ltb}
-use Rattle.lf_frame.specs.declared.place.Place.{Place}
+use Rattle.lf_floorplan.specs.declared.place.Place.{Place}
 use Rattle.lf_proto.proofs.Places.{place_at-some}
 use Rattle.lf_floor.specs.Teams.{Setting}
 use Rattle.lf_floor.specs.Outcomes.{opened, located, placed, unplaced}

@@ -1,7 +1,7 @@
 -- The floor with which a loaded design begins.
 use Rattle.std.specs.Prelude.{◌≡◌, ℕ, zero, suc, ◌+◌, ◌<◌, List, [], ◌∷◌, ◌++◌, Some, None, ◌==◌, filter, map, length, replicate, slice_index_or}
-use Rattle.lf_frame.specs.declared.loaded.Cell.{Cell as LoadedCell}
-use Rattle.lf_frame.specs.declared.loaded.Loaded.{Loaded}
+use Rattle.lf_floorplan.specs.declared.loaded.Cell.{Cell as LoadedCell}
+use Rattle.lf_floorplan.specs.declared.loaded.Loaded.{Loaded}
 use Rattle.lf_floor.specs.declared.cell.Cell.{Cell}
 use Rattle.lf_floor.specs.States.{TeamState, FloorState}
 use Rattle.lf_floor.specs.Teams.{team_number}

@@ -4,8 +4,8 @@
 -- other order); for a change, no revision is left; the team has no such cell; the cell is unplaced (where, unplace), or
 -- its place breaks a rule (place).
 use Rattle.std.specs.Prelude.{◌≡◌, ℕ, zero, suc, ◌+◌, List, [], ◌∷◌, Option, Some, None, Bool, true, false, nat_lt, position, is_none, map, take, slice_set, slice_get, slice_index_or, option_and_then, option_map, if◌then◌else◌}
-use Rattle.lf_frame.specs.declared.place.Place.{Place}
-use Rattle.lf_frame.specs.declared.limits.Limits.{Limits}
+use Rattle.lf_floorplan.specs.declared.place.Place.{Place}
+use Rattle.lf_floorplan.specs.declared.limits.Limits.{Limits}
 use Rattle.lf_rules.specs.declared.rule.Broken.{Broken}
 use Rattle.lf_rules.specs.Reports.{report_of}
 use Rattle.lf_proto.specs.ReportText.{report_text}

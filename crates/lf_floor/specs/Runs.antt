@@ -1,7 +1,7 @@
 -- What many commands do: to the floor, step by step, and to one team, by its own commands alone.
 use Rattle.std.specs.Prelude.{◌≡◌, ℕ, List, [], ◌∷◌, Some, ◌&&◌, not, bytes_eq, if◌then◌else◌}
-use Rattle.lf_frame.specs.declared.frame.Frame.{Frame}
-use Rattle.lf_frame.specs.declared.place.Place.{Place}
+use Rattle.lf_floorplan.specs.declared.frame.Frame.{Frame}
+use Rattle.lf_floorplan.specs.declared.place.Place.{Place}
 use Rattle.lf_rules.specs.Legalizer.{Legalizer}
 use Rattle.lf_proto.specs.declared.request.Command.{Command}
 use Rattle.lf_proto.specs.declared.request.Command.TheVariants.{Bye, To}

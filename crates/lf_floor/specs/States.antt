@@ -1,7 +1,7 @@
 -- What contracts see of a team and of a floor.
 use Rattle.std.specs.Prelude.{ℕ, List, Option}
-use Rattle.lf_frame.specs.declared.frame.Frame.{Frame}
-use Rattle.lf_frame.specs.declared.place.Place.{Place}
+use Rattle.lf_floorplan.specs.declared.frame.Frame.{Frame}
+use Rattle.lf_floorplan.specs.declared.place.Place.{Place}
 use Rattle.lf_floor.specs.declared.cell.Cell.{Cell}
 
 -- a team: its cells in loading order; its revision, which is how many changes it has made; the working places before each

@@ -1,11 +1,11 @@
 -- Teams and cells by their names, and a team's cells beside each other (LEF/DEF 5.8, DEF REGIONS, GROUPS and COMPONENTS).
 use Rattle.std.specs.Prelude.{ℕ, ◌<◌, ◌≤◌, List, [], ◌∷◌, ◌++◌, length, map, position, bytes_eq, All, Option, Some, None, slice_get, option_map}
-use Rattle.lf_frame.specs.declared.frame.Frame.{Frame}
-use Rattle.lf_frame.specs.declared.place.Place.{Place}
+use Rattle.lf_floorplan.specs.declared.frame.Frame.{Frame}
+use Rattle.lf_floorplan.specs.declared.place.Place.{Place}
 use Rattle.lf_rules.specs.declared.rule.Broken.{Broken}
-use Rattle.lf_frame.specs.Bounds.{IsName}
-use Rattle.lf_frame.specs.Boxes.{IsSized, macro_of}
-use Rattle.lf_frame.specs.Fences.{ground_name}
+use Rattle.lf_floorplan.specs.Bounds.{IsName}
+use Rattle.lf_floorplan.specs.Boxes.{IsSized, macro_of}
+use Rattle.lf_floorplan.specs.Fences.{ground_name}
 use Rattle.lf_rules.specs.Legality.{Trial, trial_of}
 use Rattle.lf_rules.specs.Legalizer.{Legalizer}
 use Rattle.lf_rules.specs.Choice.{spot_of}

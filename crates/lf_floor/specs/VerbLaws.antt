@@ -1,7 +1,7 @@
 -- Laws on what the verbs of the command table come to.
 use Rattle.std.specs.Prelude.{◌≡◌, ◌≢◌, ℕ, ◌+◌, ◌<◌, List, Option, Some, None, Bool, true, false, map, slice_get, option_map}
 use Rattle.lf_units.specs.declared.area.Point.{Point}
-use Rattle.lf_frame.specs.declared.place.Place.{Place}
+use Rattle.lf_floorplan.specs.declared.place.Place.{Place}
 use Rattle.lf_rules.specs.Choice.{IsChoice, spot_of}
 use Rattle.lf_rules.specs.Team.{StandsLegal}
 use Rattle.lf_rules.specs.Tidy.{Stuck, tidied}

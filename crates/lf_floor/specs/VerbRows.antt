@@ -1,7 +1,7 @@
 -- Worked rows: what verbs come to on a team of three cells, by what the legalizer finds.
 use Rattle.std.specs.Prelude.{◌≡◌, ℕ, ◌<◌, List, [], ◌∷◌, Option, Some, None, map, replicate, codes}
 use Rattle.lf_units.specs.declared.area.Point.{Point}
-use Rattle.lf_frame.specs.declared.place.Place.{Place}
+use Rattle.lf_floorplan.specs.declared.place.Place.{Place}
 use Rattle.lf_rules.specs.declared.rule.Rule.TheVariants.{Overlap}
 use Rattle.lf_rules.specs.Tidy.{Going, Stuck, tidied}
 use Rattle.lf_proto.specs.declared.reply.Reply.{Reply}

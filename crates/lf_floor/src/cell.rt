@@ -1,8 +1,8 @@
 //! A team's own cells.
 
 ghost use Rattle.std.specs.Prelude.{◌≡◌, ◌<◌, ◌≤◌, ◌++◌, All, length, IfOk, IfSome, OnOk, map};
-ghost use Rattle.lf_frame.specs.Bounds.{IsName};
-ghost use Rattle.lf_frame.specs.Boxes.{IsSized, macro_of};
+ghost use Rattle.lf_floorplan.specs.Bounds.{IsName};
+ghost use Rattle.lf_floorplan.specs.Boxes.{IsSized, macro_of};
 ghost use Rattle.lf_rules.specs.Legalizer.{Legalizer};
 ghost use Rattle.lf_rules.specs.Reports.{named, report_of};
 ghost use Rattle.lf_rules.specs.Team.{boxes_beside};
@@ -11,7 +11,7 @@ ghost use Rattle.lf_floor.specs.Teams.{cell_named, listed_of, member_of, IsSized
 ghost use Rattle.lf_floor.specs.Steps.{setting};
 ghost use Rattle.lf_floor.specs.Outcomes.{moved, places_of, working_at};
 
-use lf_frame::{Frame, Macro, Place};
+use lf_floorplan::{Frame, Macro, Place};
 use lf_proto::{Text, report_json};
 use lf_rules::{Broken, Listed, Placed, box_of, first_broken, report_on, verdict_is_one};
 use lf_units::Name;

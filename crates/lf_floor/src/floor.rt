@@ -1,7 +1,7 @@
 //! The floor of all teams.
 
 ghost use Rattle.std.specs.Prelude.{◌≡◌, ◌<◌, ◌≤◌, ◌+◌, ◌++◌, ◌∷◌, [], bytes_eq, position, ℕ, List, All, IfOk, IfSome, OnOk, OnErr, Some, option_and_then, option_map, false, length, slice_get, vec_len, vec_capacity};
-ghost use Rattle.lf_frame.specs.Fences.{ground_name};
+ghost use Rattle.lf_floorplan.specs.Fences.{ground_name};
 ghost use Rattle.lf_rules.specs.Legalizer.{Legalizer};
 ghost use Rattle.lf_proto.specs.Commands.{command_of, order_of};
 ghost use Rattle.lf_floor.specs.States.{TeamState};
@@ -14,7 +14,7 @@ ghost use Rattle.lf_floor.specs.Steps.{Answers, Gives, StaysShort, RunsShort, St
 use crate::cell::{Cell, working};
 use crate::opening::opening_teams;
 use crate::team::Team;
-use lf_frame::{Frame, Loaded, Place};
+use lf_floorplan::{Frame, Loaded, Place};
 use lf_proto::{Command, Order, Refusal, Reply, Request, RequestList};
 use lf_rules::legalizer_is_there;
 use std::alloc::{AllocError, Global};

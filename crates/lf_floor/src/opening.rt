@@ -5,7 +5,7 @@ ghost use Rattle.lf_floor.specs.Designs.{opening_cell, opening_teams, empty_team
 
 use crate::cell::Cell;
 use crate::team::Team;
-use lf_frame::{Cell as LoadedCell, Loaded};
+use lf_floorplan::{Cell as LoadedCell, Loaded};
 use lf_units::Name;
 use std::alloc::{AllocError, Global};
 

@@ -11,7 +11,7 @@ ghost use Rattle.lf_floor.specs.Steps.{setting};
 ghost use Rattle.lf_floor.specs.Outcomes.{Reaches, RunsOut, outcome_of, after_change, if_left, changed, with_entry, seen_at, opened, checked, located, placed, unplaced, unplaced_own};
 
 use crate::cell::{Cell, broken_at, cell_named, places, put, report_text, working};
-use lf_frame::{Frame, Place};
+use lf_floorplan::{Frame, Place};
 use lf_proto::{Action, Change, Order, Refusal, Reply};
 use std::alloc::{AllocError, Global};
 use std::marker::Model;
@@ -24,7 +24,7 @@ struct Entry {
 
 impl Model for Entry {
     ghost use Rattle.std.specs.Prelude.{List, Option};
-    ghost use Rattle.lf_frame.specs.declared.place.Place.{Place};
+    ghost use Rattle.lf_floorplan.specs.declared.place.Place.{Place};
 
     ghost Value = { List (Option Place) };
 

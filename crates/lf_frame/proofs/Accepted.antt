@@ -10,18 +10,19 @@ use Rattle.lf_units.specs.declared.area.Point.{Point}
 use Rattle.lf_units.specs.Length.{in_dbu}
 use Rattle.lf_lex.specs.declared.fault.FaultNumber.TheVariants.{NoRows, NoSize, NotWhole}
 use Rattle.lf_names.specs.Names.{position_of}
-use Rattle.lf_lef.specs.declared.sites.Site.{Site}
-use Rattle.lf_lef.specs.declared.macros.Macro.{Macro}
+use Rattle.lf_floorplan.specs.declared.sites.Site.{Site}
+use Rattle.lf_floorplan.specs.declared.macros.Macro.{Macro}
 use Rattle.lf_lef.specs.Contents.{IsMacro, macro_names}
 use Rattle.lf_def.specs.declared.components.Component.{Component}
 use Rattle.lf_def.specs.declared.components.Placement.{Placement}
 use Rattle.lf_def.specs.declared.components.PlacementKind.TheVariants.{Fixed, Cover, Placed, Unplaced}
-use Rattle.lf_frame.specs.Loading.{macro_named, has_size, IsWholeSize, size_in_dbu, is_fixed, is_cover, is_movable, at_place}
-use Rattle.lf_frame.specs.Refusals.{HasNoSize, HasPartUnits}
-use Rattle.lf_frame.specs.Findings.{Inputs, units_in, core_in, Finding, OfCore, WhereWhole, OfPitch, CoreHasPartUnits, IsAccepted}
+use Rattle.lf_claims.specs.Teams.{is_fixed, is_cover, is_movable}
+use Rattle.lf_refusals.specs.Loading.{macro_named, has_size, IsWholeSize, size_in_dbu, at_place}
+use Rattle.lf_refusals.specs.Refusals.{HasNoSize, HasPartUnits}
+use Rattle.lf_refusals.specs.Findings.{Inputs, units_in, core_in, Finding, OfCore, WhereWhole, OfPitch, CoreHasPartUnits, IsAccepted}
 use Rattle.lf_frame.specs.Loads.{IsSizedIn, FixedIsSized, AreInRange}
-use Rattle.lf_frame.proofs.CoreLemmas.{pitch_of_core, above}
-use Rattle.lf_frame.proofs.Gathered.{none_of_name}
+use Rattle.lf_refusals.proofs.CoreLemmas.{pitch_of_core, above}
+use Rattle.lf_refusals.proofs.Gathered.{none_of_name}
 
 -- there is a core site
 pub core_there : (i : Inputs) → IsAccepted i → IsSome (core_in i)
@@ -113,11 +114,11 @@ macros_sized i range a k d within uncovered =
 fixed_uncovered : (c : Component) → is_fixed c ≡ true → is_cover c ≡ false
 fixed_uncovered c = by c.placement
   where
-    by : (p : Option Placement) → Rattle.lf_frame.specs.Loading.says Rattle.lf_frame.specs.Loading.is_fixed_kind p ≡ true → Rattle.lf_frame.specs.Loading.says Rattle.lf_frame.specs.Loading.is_cover_kind p ≡ false
+    by : (p : Option Placement) → Rattle.lf_claims.specs.Teams.says Rattle.lf_claims.specs.Teams.is_fixed_kind p ≡ true → Rattle.lf_claims.specs.Teams.says Rattle.lf_claims.specs.Teams.is_cover_kind p ≡ false
     by None e = absurd (false≢true e)
     by (Some p) e = kind p.kind e
       where
-        kind : (k : Rattle.lf_def.specs.declared.components.PlacementKind.PlacementKind) → Rattle.lf_frame.specs.Loading.is_fixed_kind k ≡ true → Rattle.lf_frame.specs.Loading.is_cover_kind k ≡ false
+        kind : (k : Rattle.lf_def.specs.declared.components.PlacementKind.PlacementKind) → Rattle.lf_claims.specs.Teams.is_fixed_kind k ≡ true → Rattle.lf_claims.specs.Teams.is_cover_kind k ≡ false
         kind Fixed e = refl
         kind Cover e = absurd (false≢true e)
         kind Placed e = refl

@@ -6,18 +6,20 @@ use Rattle.lf_units.specs.declared.area.Point.{Point}
 use Rattle.lf_units.specs.declared.area.Rect.{Rect}
 use Rattle.lf_lex.specs.declared.fault.FaultNumber.{FaultNumber}
 use Rattle.lf_lex.specs.declared.fault.FaultNumber.TheVariants.{BadToken, UnexpectedEnd, Unexpected, BadNumber, WrongEnd, UnknownStatement, NoUnits, NoSite, NoRows, VerticalRow, BadStep, RowOrient, RowsOverlap, NoMacro, NoSize, NotWhole, SecondName, SecondRegion, NoRegion, TeamName, FencesOverlap, TwoFences, TooMany, OutOfMemory}
-use Rattle.lf_lef.specs.declared.sites.Site.{Site}
+use Rattle.lf_floorplan.specs.declared.sites.Site.{Site}
 use Rattle.lf_lef.specs.Contents.{Contents, macro_names}
 use Rattle.lf_names.specs.Names.{position_of}
 use Rattle.lf_def.specs.declared.components.Component.{Component}
 use Rattle.lf_def.specs.declared.components.Placement.{Placement}
 use Rattle.lf_def.specs.Laws.{without_places}
-use Rattle.lf_frame.specs.declared.frame.Frame.{Frame}
-use Rattle.lf_frame.specs.declared.loaded.Cell.{Cell}
-use Rattle.lf_frame.specs.declared.loaded.Loaded.{Loaded}
-use Rattle.lf_frame.specs.Loading.{size_in_dbu, is_movable, IsTeamOf}
-use Rattle.lf_frame.specs.Refusals.{HasBadStep, MeetsEarlierRow, HasNoMacro, HasNoSize, HasPartUnits, BearsEarlierName, IsClaimedTwice, IsComponentTooMany, EndsTooFar}
-use Rattle.lf_frame.specs.Findings.{Inputs, units_in, core_in, Finding, NameOfFirst, InTurn, OfCore, WhereWhole, OfPitch, CoreHasPartUnits, Finds}
+use Rattle.lf_floorplan.specs.declared.frame.Frame.{Frame}
+use Rattle.lf_floorplan.specs.declared.loaded.Cell.{Cell}
+use Rattle.lf_floorplan.specs.declared.loaded.Loaded.{Loaded}
+use Rattle.lf_claims.specs.Teams.{is_movable, IsTeamOf}
+use Rattle.lf_refusals.specs.Loading.{size_in_dbu}
+use Rattle.lf_claims.specs.Refusals.{BearsEarlierName, IsClaimedTwice}
+use Rattle.lf_refusals.specs.Refusals.{HasBadStep, MeetsEarlierRow, HasNoMacro, HasNoSize, HasPartUnits, IsComponentTooMany, EndsTooFar}
+use Rattle.lf_refusals.specs.Findings.{Inputs, units_in, core_in, Finding, NameOfFirst, InTurn, OfCore, WhereWhole, OfPitch, CoreHasPartUnits, Finds}
 use Rattle.lf_frame.specs.Loads.{fixed_box, blocked, obstacles_in, movables_from, IsFrameOf, IsCellOf, IsLoadedFrom}
 use Rattle.lf_frame.specs.Alike.{AreAlike, FindAlike, AcceptedAlike, RefusedAlike, LoadedAlike}
 use Rattle.lf_frame.proofs.AlikeEntries.{Same, SameAll, name_same, mac_same, movable_same, location_same, name_alike, no_macro_respects, no_size_respects, part_units_respects, earlier_name_respects, claimed_twice_respects, too_many_respects}

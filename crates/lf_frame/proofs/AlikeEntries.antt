@@ -11,12 +11,14 @@ use Rattle.lf_def.specs.declared.components.Placement.{Placement}
 use Rattle.lf_def.specs.declared.components.PlacementKind.{PlacementKind}
 use Rattle.lf_def.specs.Laws.{placement_without_places, without_places}
 use Rattle.lf_lef.specs.Contents.{Contents}
-use Rattle.lf_frame.specs.Entries.{FirstIs}
-use Rattle.lf_frame.specs.Loading.{at_place, macro_named, has_size, IsWholeSize, is_fixed_kind, is_cover_kind, says, is_fixed, is_cover, is_movable}
-use Rattle.lf_frame.specs.Refusals.{HasNoMacro, HasNoSize, HasPartUnits, BearsEarlierName, HasTwoFences, IsClaimedTwice, IsComponentTooMany}
-use Rattle.lf_frame.specs.Findings.{NameOfFirst}
+use Rattle.lf_claims.specs.Entries.{FirstIs}
+use Rattle.lf_claims.specs.Teams.{is_fixed_kind, is_cover_kind, says, is_fixed, is_cover, is_movable}
+use Rattle.lf_refusals.specs.Loading.{at_place, macro_named, has_size, IsWholeSize}
+use Rattle.lf_claims.specs.Refusals.{BearsEarlierName, HasTwoFences, IsClaimedTwice}
+use Rattle.lf_refusals.specs.Refusals.{HasNoMacro, HasNoSize, HasPartUnits, IsComponentTooMany}
+use Rattle.lf_refusals.specs.Findings.{NameOfFirst}
 use Rattle.lf_frame.specs.Loads.{location}
-use Rattle.lf_frame.proofs.Named.{name_of_any, any_of_name}
+use Rattle.lf_claims.proofs.Named.{name_of_any, any_of_name}
 
 -- they are the same component, but for where it stands
 abbrev pub Same : Component → Component → Type 0

@@ -3,9 +3,9 @@ use Rattle.std.proofs.Common.{◌≡◌, ℕ, ◌+◌, ◌<◌, ◌≤◌, true,
 use Rattle.std.specs.List.{AllZip}
 use Rattle.std.proofs.lemmas.Grind.{common_steps}
 use Rattle.lf_def.specs.declared.components.Component.{Component}
-use Rattle.lf_frame.specs.declared.loaded.Cell.{Cell}
-use Rattle.lf_frame.specs.Loading.{is_movable}
-use Rattle.lf_frame.specs.Findings.{Inputs}
+use Rattle.lf_floorplan.specs.declared.loaded.Cell.{Cell}
+use Rattle.lf_claims.specs.Teams.{is_movable}
+use Rattle.lf_refusals.specs.Findings.{Inputs}
 use Rattle.lf_frame.specs.Loads.{movables, movables_from, IsCellOf}
 
 -- whatever cells the components from this one on have, behind these they are the cells of all

@@ -16,22 +16,24 @@ use Rattle.lf_lex.specs.Tokens.{is_word_byte}
 use Rattle.lf_lex.specs.Reading.{IsName as IsReadName}
 use Rattle.lf_lex.specs.declared.fault.FaultNumber.TheVariants.{NoMacro, SecondName, TwoFences, TooMany}
 use Rattle.lf_names.specs.Names.{position_of}
-use Rattle.lf_lef.specs.declared.macros.Macro.{Macro}
+use Rattle.lf_floorplan.specs.declared.macros.Macro.{Macro}
 use Rattle.lf_lef.specs.Contents.{macro_names}
 use Rattle.lf_def.specs.declared.components.Component.{Component}
 use Rattle.lf_def.specs.Ranges.{IsComponent}
-use Rattle.lf_frame.specs.declared.frame.Frame.{Frame}
-use Rattle.lf_frame.specs.declared.loaded.Cell.{Cell}
-use Rattle.lf_frame.specs.Bounds.{IsPrinted, IsName}
-use Rattle.lf_frame.specs.Boxes.{IsSized}
-use Rattle.lf_frame.specs.Ground.{IsTeam}
-use Rattle.lf_frame.specs.Design.{IsCell, MakeDesign}
-use Rattle.lf_frame.specs.Entries.{NoneBreaks}
-use Rattle.lf_frame.specs.Loading.{macro_named, is_cover, is_fixed, is_movable, fences, fence_names, IsTeamOf}
-use Rattle.lf_frame.specs.Refusals.{HasNoMacro, BearsEarlierName, IsComponentTooMany, IsClaimedTwice}
-use Rattle.lf_frame.specs.Findings.{Inputs, units_in, IsAccepted}
+use Rattle.lf_floorplan.specs.declared.frame.Frame.{Frame}
+use Rattle.lf_floorplan.specs.declared.loaded.Cell.{Cell}
+use Rattle.lf_floorplan.specs.Bounds.{IsPrinted, IsName}
+use Rattle.lf_floorplan.specs.Boxes.{IsSized}
+use Rattle.lf_floorplan.specs.Ground.{IsTeam}
+use Rattle.lf_floorplan.specs.Design.{IsCell, MakeDesign}
+use Rattle.lf_claims.specs.Entries.{NoneBreaks}
+use Rattle.lf_claims.specs.Teams.{is_cover, is_fixed, is_movable, fences, fence_names, IsTeamOf}
+use Rattle.lf_refusals.specs.Loading.{macro_named}
+use Rattle.lf_claims.specs.Refusals.{BearsEarlierName, IsClaimedTwice}
+use Rattle.lf_refusals.specs.Refusals.{HasNoMacro, IsComponentTooMany}
+use Rattle.lf_refusals.specs.Findings.{Inputs, units_in, IsAccepted}
 use Rattle.lf_frame.specs.Loads.{IsSizedIn, AreInRange, IsFrameOf, movables, CanBeCell, IsCellOf}
-use Rattle.lf_frame.proofs.Gathered.{none_of_name}
+use Rattle.lf_refusals.proofs.Gathered.{none_of_name}
 use Rattle.lf_frame.proofs.Accepted.{first_nothing, macros_sized}
 
 -- what holds of each entry holds of the one that belongs to it
@@ -80,7 +82,7 @@ known : (o : Option Macro) → (o ≡ None → ⊥) → IsSome o
 known None there = absurd (there refl)
 known (Some m) there = refl
 
-placed : (macros : List Macro) (place : Option ℕ) → IsSome (Rattle.lf_frame.specs.Loading.at_place macros place) → IsSome place
+placed : (macros : List Macro) (place : Option ℕ) → IsSome (Rattle.lf_refusals.specs.Loading.at_place macros place) → IsSome place
 placed macros None there = there
 placed macros (Some k) there = refl
 
@@ -112,7 +114,7 @@ IsEntry i e = IsComponent e.1 × ((is_movable e.1 ≡ true) × (is_cover e.1 ≡
 
 sized_in : (f : Frame) (i : Inputs) (m : Macro) (k : ℕ) → IsFrameOf i f → slice_get f.macros k ≡ Some m → IsSizedIn (units_in i) m → IsSized f m
 sized_in f i m k is at sized =
-    let units : f.header.units ≡ units_in i = ap (λ (h : Rattle.lf_frame.specs.declared.parts.Header.Header). h.units) is.header in
+    let units : f.header.units ≡ units_in i = ap (λ (h : Rattle.lf_floorplan.specs.declared.parts.Header.Header). h.units) is.header in
     let within : k < length f.macros = slice_get_within f.macros k m at in
     let there : get_or f.macros k m ≡ m = sym (unwrap_or-slice_get f.macros k m) ∙ ap (λ o. Rattle.std.specs.Prelude.unwrap_or o m) at in
     let lef = rw there at (f.macros_in_lef k m within) in
@@ -126,7 +128,7 @@ sized_in f i m k is at sized =
 
 team_there : (i : Inputs) (f : Frame) (name : List ℕ) (team : ℕ) → IsFrameOf i f → IsTeamOf i.document.regions i.document.groups name team → IsTeam f team
 team_there i f name team is of =
-    let count : length f.teams ≡ length (fences i.document.regions) = ap (λ (ts : List Rattle.lf_frame.specs.declared.parts.Team.Team). length ts) is.teams ∙ (grind (arith, common_steps)) in
+    let count : length f.teams ≡ length (fences i.document.regions) = ap (λ (ts : List Rattle.lf_floorplan.specs.declared.parts.Team.Team). length ts) is.teams ∙ (grind (arith, common_steps)) in
     by count of
   where
     by : length f.teams ≡ length (fences i.document.regions) → IsTeamOf i.document.regions i.document.groups name team → team ≤ length f.teams

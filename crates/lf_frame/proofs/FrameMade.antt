@@ -11,8 +11,8 @@ use Rattle.lf_units.specs.Area.{SharesPoint}
 use Rattle.lf_orient.specs.declared.Rail.{Rail}
 use Rattle.lf_orient.specs.Orientation.{rail_below}
 use Rattle.lf_lex.specs.declared.fault.FaultNumber.TheVariants.{RowOrient, RowsOverlap, SecondRegion, TeamName, FencesOverlap, TooMany}
-use Rattle.lf_lef.specs.declared.sites.Site.{Site}
-use Rattle.lf_lef.specs.declared.macros.Macro.{Macro}
+use Rattle.lf_floorplan.specs.declared.sites.Site.{Site}
+use Rattle.lf_floorplan.specs.declared.macros.Macro.{Macro}
 use Rattle.lf_lef.specs.Contents.{Contents, IsMacro}
 use Rattle.lf_lef.specs.Lengths.{IsInRange, HasRange}
 use Rattle.lf_def.specs.declared.rows.Row.{Row}
@@ -23,19 +23,20 @@ use Rattle.lf_def.specs.declared.components.Placement.{Placement}
 use Rattle.lf_def.specs.declared.blockages.Blockage.{Blockage}
 use Rattle.lf_def.specs.Ranges.{IsCoordinate, IsRect, IsRow, IsRegion, IsComponent, IsBlockage, IsLocation, IsPlacement}
 use Rattle.lf_frame.specs.declared.assembled.Parts.{Parts}
-use Rattle.lf_frame.specs.Bounds.{IsDefNumber, IsLefLength, IsLefSize, IsDefRect, IsObstacle}
-use Rattle.lf_frame.specs.Rows.{row_area, IsHeeded, RowsApart}
-use Rattle.lf_frame.specs.Fences.{IsFence, AreApart, FencesNamed, FencesApart}
-use Rattle.lf_frame.specs.Boxes.{turned, box_at}
+use Rattle.lf_floorplan.specs.Bounds.{IsDefNumber, IsLefLength, IsLefSize, IsDefRect, IsObstacle}
+use Rattle.lf_floorplan.specs.Rows.{row_area, IsHeeded, RowsApart}
+use Rattle.lf_floorplan.specs.Fences.{IsFence, AreApart, FencesNamed, FencesApart}
+use Rattle.lf_floorplan.specs.Boxes.{turned, box_at}
 use Rattle.lf_frame.specs.Premise.{MakeFrame}
-use Rattle.lf_frame.specs.Entries.{NoneBreaks}
-use Rattle.lf_frame.specs.Loading.{is_heeded, frame_row, is_fence, fences, is_fixed, macro_named, size_in_dbu, has_size, IsWholeSize}
-use Rattle.lf_frame.specs.Refusals.{IsTurned, MeetsEarlierRow, EndsTooFar, BearsEarlierFence, BearsGroundName, SharePoint, MeetsEarlierFence, IsRowTooMany, IsFenceTooMany}
-use Rattle.lf_frame.specs.Findings.{Inputs, units_in, core_in, NameOfFirst, IsAccepted}
+use Rattle.lf_claims.specs.Entries.{NoneBreaks}
+use Rattle.lf_claims.specs.Teams.{is_fence, fences, is_fixed}
+use Rattle.lf_refusals.specs.Loading.{is_heeded, frame_row, macro_named, size_in_dbu, has_size, IsWholeSize}
+use Rattle.lf_refusals.specs.Refusals.{IsTurned, MeetsEarlierRow, EndsTooFar, BearsEarlierFence, BearsGroundName, SharePoint, MeetsEarlierFence, IsRowTooMany, IsFenceTooMany}
+use Rattle.lf_refusals.specs.Findings.{Inputs, units_in, core_in, NameOfFirst, IsAccepted}
 use Rattle.lf_frame.specs.Loads.{frame_team, location, IsSizedIn, FixedIsSized, fixed_box, blocked, obstacles_in, AreInRange, ArePartsOf}
-use Rattle.lf_frame.proofs.Gathered.{none_of_name, pairs_from_none, all_kept, pairs_kept, few_kept, all_filter_map, all_flat_map}
+use Rattle.lf_refusals.proofs.Gathered.{none_of_name, pairs_from_none, all_kept, pairs_kept, few_kept, all_filter_map, all_flat_map}
 use Rattle.lf_frame.proofs.SizeBounds.{IsSmall, small_pitch, turned_small}
-use Rattle.lf_frame.proofs.CoreLemmas.{pitch_of_core, core_heeded}
+use Rattle.lf_refusals.proofs.CoreLemmas.{pitch_of_core, core_heeded}
 use Rattle.lf_frame.proofs.Accepted.{of_core, of_pitch, first_nothing, fixed_sized}
 
 lef_length : (v : ℤ) → IsInRange v → IsLefLength v

@@ -3,8 +3,8 @@ use Rattle.std.proofs.Common.{pos, ◌≤ℤ◌, ◌<ℤ◌, ℕ}
 use Rattle.lf_units.specs.declared.area.Point.{Point}
 use Rattle.lf_orient.specs.declared.Orient.{Orient}
 use Rattle.lf_orient.specs.declared.Orient.TheVariants.{N, W, S, E, FN, FW, FS, FE}
-use Rattle.lf_frame.specs.Rows.{IsPitch}
-use Rattle.lf_frame.specs.Boxes.{turned}
+use Rattle.lf_floorplan.specs.Rows.{IsPitch}
+use Rattle.lf_floorplan.specs.Boxes.{turned}
 
 -- a size that is above 0 both ways, and small
 pub record IsSmall (size : Point) : Type 0 where

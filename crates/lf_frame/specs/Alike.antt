@@ -3,8 +3,8 @@ use Rattle.std.specs.Prelude.{◌≡◌, ℕ, List, Option}
 use Rattle.lf_lex.specs.declared.fault.FaultNumber.{FaultNumber}
 use Rattle.lf_lex.specs.declared.fault.LoadFault.{LoadFault}
 use Rattle.lf_def.specs.Laws.{document_without_places}
-use Rattle.lf_frame.specs.declared.loaded.Loaded.{Loaded}
-use Rattle.lf_frame.specs.Findings.{Inputs, Finds, IsAccepted, IsFault}
+use Rattle.lf_floorplan.specs.declared.loaded.Loaded.{Loaded}
+use Rattle.lf_refusals.specs.Findings.{Inputs, Finds, IsAccepted, IsFault}
 use Rattle.lf_frame.specs.Loads.{IsLoadedFrom}
 
 -- they differ in the byte positions of components and of their placement clauses alone

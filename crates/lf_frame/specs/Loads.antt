@@ -4,27 +4,28 @@ use Rattle.std.specs.List.{AllZip, enumerate_from}
 use Rattle.std.specs.Option.{option_and_then}
 use Rattle.lf_units.specs.declared.area.Rect.{Rect}
 use Rattle.lf_names.specs.Names.{position_of}
-use Rattle.lf_lef.specs.declared.macros.Macro.{Macro}
-use Rattle.lf_lef.specs.declared.sites.Site.{Site}
+use Rattle.lf_floorplan.specs.declared.macros.Macro.{Macro}
+use Rattle.lf_floorplan.specs.declared.sites.Site.{Site}
 use Rattle.lf_lef.specs.Contents.{Contents, macro_names, IsSite, IsMacro}
 use Rattle.lf_def.specs.declared.regions.Region.{Region}
 use Rattle.lf_def.specs.declared.components.Component.{Component}
 use Rattle.lf_def.specs.declared.components.Location.{Location}
 use Rattle.lf_def.specs.declared.blockages.Blockage.{Blockage}
 use Rattle.lf_def.specs.Ranges.{IsRow, IsRegion, IsComponent, IsBlockage}
-use Rattle.lf_frame.specs.declared.place.Place.{Place}
-use Rattle.lf_frame.specs.declared.parts.Header.{Header}
-use Rattle.lf_frame.specs.declared.parts.Team.{Team}
-use Rattle.lf_frame.specs.declared.frame.Frame.{Frame}
+use Rattle.lf_floorplan.specs.declared.place.Place.{Place}
+use Rattle.lf_floorplan.specs.declared.parts.Header.{Header}
+use Rattle.lf_floorplan.specs.declared.parts.Team.{Team}
+use Rattle.lf_floorplan.specs.declared.frame.Frame.{Frame}
 use Rattle.lf_frame.specs.declared.assembled.Parts.{Parts}
-use Rattle.lf_frame.specs.declared.loaded.Cell.{Cell}
-use Rattle.lf_frame.specs.declared.loaded.Loaded.{Loaded}
-use Rattle.lf_frame.specs.Bounds.{IsWithin}
-use Rattle.lf_frame.specs.Rows.{IsPitch}
-use Rattle.lf_frame.specs.Boxes.{turned, box_at}
-use Rattle.lf_frame.specs.Loading.{macro_named, size_in_dbu, is_heeded, frame_row, fences, is_fixed, is_movable, IsTeamOf}
-use Rattle.lf_frame.specs.Refusals.{HasTwoFences}
-use Rattle.lf_frame.specs.Findings.{Inputs, units_in, core_in, IsAccepted}
+use Rattle.lf_floorplan.specs.declared.loaded.Cell.{Cell}
+use Rattle.lf_floorplan.specs.declared.loaded.Loaded.{Loaded}
+use Rattle.lf_floorplan.specs.Bounds.{IsWithin}
+use Rattle.lf_floorplan.specs.Rows.{IsPitch}
+use Rattle.lf_floorplan.specs.Boxes.{turned, box_at}
+use Rattle.lf_claims.specs.Teams.{fences, is_fixed, is_movable, IsTeamOf}
+use Rattle.lf_refusals.specs.Loading.{macro_named, size_in_dbu, is_heeded, frame_row}
+use Rattle.lf_claims.specs.Refusals.{HasTwoFences}
+use Rattle.lf_refusals.specs.Findings.{Inputs, units_in, core_in, IsAccepted}
 
 -- the head of the document, with its database units of a micron
 abbrev pub header_in : Inputs → Header

@@ -2,9 +2,9 @@
 use Rattle.std.specs.Prelude.{◌<◌, ◌≤◌, All, length}
 use Rattle.lf_units.specs.declared.area.Point.{Point}
 use Rattle.lf_frame.specs.declared.assembled.Parts.{Parts}
-use Rattle.lf_frame.specs.Bounds.{IsWithin, IsLefSize, IsObstacle}
-use Rattle.lf_frame.specs.Rows.{IsPitch, IsHeeded, RowsApart}
-use Rattle.lf_frame.specs.Fences.{IsFence, FencesNamed, FencesApart}
+use Rattle.lf_floorplan.specs.Bounds.{IsWithin, IsLefSize, IsObstacle}
+use Rattle.lf_floorplan.specs.Rows.{IsPitch, IsHeeded, RowsApart}
+use Rattle.lf_floorplan.specs.Fences.{IsFence, FencesNamed, FencesApart}
 
 -- the parts make a frame, whose core site has this size in database units
 pub record MakeFrame (parts : Parts) (pitch : Point) : Type 0 where

@@ -1,8 +1,6 @@
 //! The parts of a frame.
 
-use crate::limits::Limits;
-use crate::parts::{Header, Row, Team};
-use lf_lef::{Macro, Site};
+use lf_floorplan::{Header, Limits, Macro, Row, Site, Team};
 use lf_units::{Rect, Sequence};
 
 /// The parts of a frame, before what it keeps of them is known.

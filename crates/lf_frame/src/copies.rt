@@ -3,18 +3,17 @@
 ghost use Rattle.std.specs.Prelude.{◌≡◌, ℕ, ◌≤◌, ◌++◌, ◌∷◌, [], true, false, Some, None, IfOk, IfSome, OnOk, OnErr, All, map, filter, filter_map, flat_map, unwrap_or, option_map};
 ghost use Rattle.lf_lef.specs.Lengths.{HasRange};
 ghost use Rattle.lf_def.specs.Ranges.{IsCoordinate, IsRow, IsComponent, IsLocation};
-ghost use Rattle.lf_frame.specs.Boxes.{turned, box_at};
-ghost use Rattle.lf_frame.specs.Loading.{is_heeded as is_heeded_row, frame_row as frame_row_of, fences, size_in_dbu};
+ghost use Rattle.lf_floorplan.specs.Boxes.{turned, box_at};
+ghost use Rattle.lf_claims.specs.Teams.{fences};
+ghost use Rattle.lf_refusals.specs.Loading.{is_heeded as is_heeded_row, frame_row as frame_row_of, size_in_dbu};
 ghost use Rattle.lf_frame.specs.Loads.{IsSizedIn, FixedIsSized, frame_team as frame_team_of, location as location_of, fixed_box as fixed_box_of, blocked};
 
-use crate::component_refusals::{is_fixed, macro_named};
-use crate::fence_refusals::is_fence;
-use crate::parts::{Header, Row, Team};
-use crate::pitch::size_in_units;
-use crate::row_refusals::is_heeded;
+use lf_claims::{is_fence, is_fixed};
 use lf_def::{Blockage, Component, Header as DefHeader, Location, Region, Row as DefRow};
-use lf_lef::{Library, Macro, Site};
+use lf_floorplan::{Header, Macro, Row, Site, Team};
+use lf_lef::Library;
 use lf_orient::Orient;
+use lf_refusals::{is_heeded, macro_named, size_in_units};
 use lf_units::{Name, Point, Rect, Sequence};
 use std::alloc::{AllocError, Global};
 

@@ -4,26 +4,22 @@ ghost use Rattle.std.specs.Prelude.{◌≡◌, ◌≤◌, ◌++◌, ◌⊎◌, I
 ghost use Rattle.lf_lex.specs.declared.fault.ReadError.TheVariants.{Memory};
 ghost use Rattle.lf_lex.specs.Faults.{load_fault_of};
 ghost use Rattle.lf_frame.specs.Premise.{MakeFrame};
-ghost use Rattle.lf_frame.specs.Design.{MakeDesign};
-ghost use Rattle.lf_frame.specs.Claims.{IsTableOf};
-ghost use Rattle.lf_frame.specs.Findings.{inputs, units_in, IsAccepted, IsFault};
+ghost use Rattle.lf_floorplan.specs.Design.{MakeDesign};
+ghost use Rattle.lf_claims.specs.Claims.{IsTableOf};
+ghost use Rattle.lf_refusals.specs.Findings.{inputs, units_in, IsAccepted, IsFault};
 ghost use Rattle.lf_frame.specs.Loads.{fixed_box, blocked, FixedIsSized, AreInRange, ArePartsOf, IsFrameOf, IsLoadedFrom};
 
 use crate::assembled::Parts;
 use crate::cells::movable_cells;
-use crate::claim_table::{ClaimTable, claim_table};
 use crate::copies::{
     copy_header, copy_macros, copy_site, fence_teams, fixed_boxes, heeded_rows, push_blockages,
 };
-use crate::findings::units_of;
-use crate::frame::Frame;
-use crate::limits::Limits;
-use crate::loaded::{Cell, Loaded};
-use crate::pitch::{core_pitch, sized_core_site};
-use crate::refusal::first_refusal;
+use lf_claims::{ClaimTable, claim_table};
 use lf_def::DefDoc;
-use lf_lef::{Library, Site};
+use lf_floorplan::{Cell, Frame, Limits, Loaded, Site};
+use lf_lef::Library;
 use lf_lex::{LoadFault, ReadError};
+use lf_refusals::{core_pitch, first_refusal, sized_core_site, units_of};
 use lf_units::{Point, Rect, Sequence};
 use std::alloc::{AllocError, Global};
 

@@ -2,8 +2,8 @@
 use Rattle.std.proofs.Common.{ℕ, List, take, arith}
 use Rattle.std.proofs.lemmas.List.{length-take}
 use Rattle.std.proofs.lemmas.List.Elements.{All-take}
-use Rattle.lf_lef.specs.declared.sites.Site.{Site}
-use Rattle.lf_lef.specs.declared.macros.Macro.{Macro}
+use Rattle.lf_floorplan.specs.declared.sites.Site.{Site}
+use Rattle.lf_floorplan.specs.declared.macros.Macro.{Macro}
 use Rattle.lf_lef.specs.Contents.{IsSite, IsMacro, AreSites, AreMacros}
 
 pub first_sites : (n : ℕ) (sites : List Site) → AreSites sites → AreSites (take n sites)

@@ -20,11 +20,11 @@ use Rattle.lf_lex.specs.Reading.{◌>>=◌, Taken, Turn, Statement, taken, turn,
 use Rattle.lf_lex.proofs.Turns.{Going, begins, turn_on, turn_ends}
 use Rattle.lf_lex.proofs.Runs.{Goes, same_run, split_alike, with_both}
 use Rattle.lf_lex.proofs.Following.{passed_token_goes, passed_to_end_goes, passed_to_word_goes}
-use Rattle.lf_lef.specs.declared.sites.Site.{Site}
+use Rattle.lf_floorplan.specs.declared.sites.Site.{Site}
 use Rattle.lf_lef.specs.declared.sites.SiteParts.{SiteParts}
 use Rattle.lf_lef.specs.declared.pins.Reach.{Reach}
 use Rattle.lf_lef.specs.declared.pins.Pin.{Pin}
-use Rattle.lf_lef.specs.declared.macros.Macro.{Macro}
+use Rattle.lf_floorplan.specs.declared.macros.Macro.{Macro}
 use Rattle.lf_lef.specs.declared.macros.MacroParts.{MacroParts}
 use Rattle.lf_lef.specs.Contents.{Contents, site_names, macro_names}
 use Rattle.lf_lef.specs.Lengths.{or_bad_number, micros, point_from, point, size, origin}

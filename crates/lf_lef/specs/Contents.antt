@@ -1,8 +1,8 @@
 -- What a library holds.
 use Rattle.std.specs.Prelude.{◌≡◌, ℕ, ◌≤◌, List, length, map, take, All}
 use Rattle.lf_lex.specs.Reading.{IsName}
-use Rattle.lf_lef.specs.declared.sites.Site.{Site}
-use Rattle.lf_lef.specs.declared.macros.Macro.{Macro}
+use Rattle.lf_floorplan.specs.declared.sites.Site.{Site}
+use Rattle.lf_floorplan.specs.declared.macros.Macro.{Macro}
 use Rattle.lf_lef.specs.Lengths.{HasRange}
 
 -- the sites and the macros, each in the order in which they were first read

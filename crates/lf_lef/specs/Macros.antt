@@ -3,7 +3,7 @@ use Rattle.std.specs.Prelude.{ℕ, ◌||◌, List, [], ◌∷◌, ◌++◌, None
 use Rattle.lf_units.specs.declared.area.Point.{Point}
 use Rattle.lf_lex.specs.Tokens.{Lexeme}
 use Rattle.lf_lex.specs.Reading.{◌>>=◌, Reader, Statement, Turn, taken, goes_on, ends, token, is, end_name, to_semicolon, to_end, block, first_stands}
-use Rattle.lf_lef.specs.declared.macros.Macro.{Macro}
+use Rattle.lf_floorplan.specs.declared.macros.Macro.{Macro}
 use Rattle.lf_lef.specs.declared.macros.MacroParts.{MacroParts}
 use Rattle.lf_lef.specs.Lengths.{size, origin}
 use Rattle.lf_lef.specs.Sites.{symmetry, no_symmetry, no_point}

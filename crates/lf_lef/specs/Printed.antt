@@ -6,8 +6,8 @@ use Rattle.lf_orient.specs.declared.Symmetry.{Symmetry}
 use Rattle.lf_names.specs.Names.{position_of}
 use Rattle.lf_lex.specs.Tokens.{Lexed, Lexeme, plain, with_tokens}
 use Rattle.lf_lex.specs.Splices.{word_of}
-use Rattle.lf_lef.specs.declared.sites.Site.{Site}
-use Rattle.lf_lef.specs.declared.macros.Macro.{Macro}
+use Rattle.lf_floorplan.specs.declared.sites.Site.{Site}
+use Rattle.lf_floorplan.specs.declared.macros.Macro.{Macro}
 use Rattle.lf_lef.specs.Contents.{Contents, site_names, macro_names}
 use Rattle.lf_lef.specs.Pins.{rail_of, reach_of, use_named}
 use Rattle.lf_lef.specs.Library.{library}

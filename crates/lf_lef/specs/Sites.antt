@@ -6,7 +6,7 @@ use Rattle.lf_orient.specs.declared.Symmetry.{Symmetry}
 use Rattle.lf_lex.specs.declared.fault.FaultNumber.TheVariants.{Unexpected}
 use Rattle.lf_lex.specs.Tokens.{Lexeme}
 use Rattle.lf_lex.specs.Reading.{◌>>=◌, Reader, Statement, Turn, taken, goes_on, ends, fault_at, token, is, word, keyword, end_name, to_semicolon, block, first_stands}
-use Rattle.lf_lef.specs.declared.sites.Site.{Site}
+use Rattle.lf_floorplan.specs.declared.sites.Site.{Site}
 use Rattle.lf_lef.specs.declared.sites.SiteParts.{SiteParts}
 use Rattle.lf_lef.specs.Lengths.{size}
 

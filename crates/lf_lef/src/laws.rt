@@ -12,8 +12,8 @@ ghost use Rattle.lf_lef.specs.Pins.{port_statement, pin_statement};
 ghost use Rattle.lf_lef.specs.Contents.{Contents, BeginsWith};
 ghost use Rattle.lf_lef.specs.Laws.{EndsBefore, SiteStands, PinStands, MacroStands};
 ghost use Rattle.lf_lef.specs.Library.{statement, library};
-ghost use Rattle.lf_lef.specs.declared.sites.Site.{Site};
-ghost use Rattle.lf_lef.specs.declared.macros.Macro.{Macro};
+ghost use Rattle.lf_floorplan.specs.declared.sites.Site.{Site};
+ghost use Rattle.lf_floorplan.specs.declared.macros.Macro.{Macro};
 ghost use Rattle.lf_lef.specs.Printed.{PassesOver, ReadsSite, ReadsMacro};
 ghost use Rattle.lf_lef.specs.Macros.{passed_statement, macro_statement, macro_parts};
 

@@ -16,8 +16,7 @@ pub use laws::{
     nothing_behind_end_library_counts, passed_over_statements_play_no_part, statements_read_alike,
     statements_take_tokens,
 };
+pub use lf_floorplan::{Macro, Site};
 pub use library::Library;
-pub use macros::Macro;
 pub use sample::W_LEF;
-pub use sites::Site;
 pub use texts::read_lef;

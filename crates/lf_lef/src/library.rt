@@ -4,8 +4,7 @@ ghost use Rattle.std.specs.Prelude.{◌≡◌, ◌≢◌, ◌≤◌, ◌<◌, []
 ghost use Rattle.lf_names.specs.Names.{position_of};
 ghost use Rattle.lf_lef.specs.Contents.{site_names, macro_names, IsSite, IsMacro};
 
-use crate::macros::Macro;
-use crate::sites::Site;
+use lf_floorplan::{Macro, Site};
 use lf_names::NameTable;
 use std::alloc::{AllocError, Global};
 use std::marker::Model;

@@ -10,24 +10,11 @@ ghost use Rattle.lf_lef.specs.MacroRange.{HasRanges};
 use crate::lengths::{keep_first, origin, size};
 use crate::pins::{Pin, rail_of, read_pin};
 use crate::sites::{no_point, symmetry};
+use lf_floorplan::Macro;
 use lf_lex::{Lexer, ReadError, Token, end_name, is, to_end, to_semicolon, token};
 use lf_orient::{Rail, Symmetry};
 use lf_units::{Name, Point, Sequence};
 use std::alloc::Global;
-
-/// A library cell (LEF/DEF 5.8, LEF MACRO). Its lengths are millionths of a micron.
-#[derive(Drop)]
-pub struct Macro {
-    pub name: Name,
-    /// Its width and height; 0 by 0 where it has no SIZE.
-    pub size: Point,
-    /// What is added to its points; 0 0 where it has no ORIGIN.
-    pub origin: Point,
-    pub symmetry: Symmetry,
-    /// The supply rail along its bottom: power where a RECT of a POWER pin reaches y = 0 once ORIGIN is
-    /// added and none of a GROUND pin does, else ground.
-    pub rail: Rail,
-}
 
 /// What the statements of a macro say: of each kind the first, and all pins.
 #[derive(Drop)]

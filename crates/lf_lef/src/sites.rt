@@ -7,23 +7,13 @@ ghost use Rattle.lf_lef.specs.Lengths.{HasRange};
 ghost use Rattle.lf_lef.specs.Sites as grammar;
 
 use crate::lengths::{keep_first, size};
+use lf_floorplan::Site;
 use lf_lex::{
     FaultNumber, Lexer, ReadError, Token, end_name, fault_at, is, keyword, to_semicolon, token,
     word,
 };
 use lf_orient::Symmetry;
 use lf_units::{Name, Point};
-
-/// A placement site (LEF/DEF 5.8, LEF SITE). Its lengths are millionths of a micron.
-#[derive(Drop)]
-pub struct Site {
-    pub name: Name,
-    /// Its CLASS is CORE.
-    pub core: bool,
-    /// Its width and height; 0 by 0 where it has no SIZE.
-    pub size: Point,
-    pub symmetry: Symmetry,
-}
 
 /// What the statements of a site say: of each kind the first.
 #[derive(Clone, Copy, Debug, PartialEq, Eq)]

@@ -2,7 +2,7 @@
 use Rattle.std.proofs.Common.{◌≡◌, ℕ, List, Bool, true, false, ℤ, negsuc, Some, ◌<ℤ◌, ap, refl}
 use Rattle.std.proofs.Math.Dec.{T, T_prop}
 use Rattle.std.specs.Int.Signed.{lt_z, lt_z_yes}
-use Rattle.lf_frame.specs.declared.place.Place.{Place}
+use Rattle.lf_floorplan.specs.declared.place.Place.{Place}
 use Rattle.lf_proto.specs.Requests.{shown, in_def, place_at, place_written, orient_named}
 use Rattle.lf_proto.specs.Numbers.{coordinate}
 

@@ -11,7 +11,7 @@ use Rattle.std.specs.List.{slice_split, onto_first, list_all, join_with_byte}
 use Rattle.std.specs.Prelude.{slice_index}
 use Rattle.lf_orient.specs.declared.Orient.{Orient}
 use Rattle.lf_orient.specs.declared.Orient.TheVariants.{N, W, S, E, FN, FW, FS, FE}
-use Rattle.lf_frame.specs.declared.place.Place.{Place}
+use Rattle.lf_floorplan.specs.declared.place.Place.{Place}
 use Rattle.lf_proto.proofs.Blanks.{fields-blank, line_bytes-blank}
 use Rattle.lf_proto.proofs.Digits.{all_digits, is_digit_at, Digits}
 use Rattle.lf_proto.proofs.Places.{place_written-some}

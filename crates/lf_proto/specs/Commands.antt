@@ -1,7 +1,7 @@
 -- A request as a command: its names are lists of bytes, and no parts of a line.
 use Rattle.std.specs.Prelude.{ℕ, List}
 use denote.Ref.{Bor}
-use Rattle.lf_frame.specs.declared.place.Place.{Place}
+use Rattle.lf_floorplan.specs.declared.place.Place.{Place}
 use Rattle.lf_proto.specs.declared.request.Command.{Command}
 use Rattle.lf_proto.specs.declared.request.Command.TheVariants.{Bye, To}
 use Rattle.lf_proto.specs.declared.request.Order.{Order}

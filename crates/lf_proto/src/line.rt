@@ -10,7 +10,7 @@ ghost use Rattle.lf_proto.specs.Printed.{PassesBlanksAround, PassesBlanksBetween
 use crate::number::{coordinate_of, session_of};
 use crate::request::{Action, Change, Command, Order, Request};
 use bstr::{ByteSlice, Fields};
-use lf_frame::Place;
+use lf_floorplan::Place;
 use lf_orient::Orient;
 
 /// The line is no request.

@@ -2,7 +2,7 @@
 
 ghost use Rattle.std.specs.Prelude.{◌≡◌, string_bytes};
 
-use lf_frame::Place;
+use lf_floorplan::Place;
 use lf_rules::Rule;
 use std::marker::Model;
 

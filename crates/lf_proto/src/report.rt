@@ -3,7 +3,7 @@
 ghost use Rattle.std.specs.Prelude.{◌≡◌, All, IfOk, map, string_bytes};
 ghost use Rattle.serde_json.specs.View.{view};
 ghost use Rattle.serde_json.specs.Written.{compact_text};
-ghost use Rattle.lf_frame.specs.Bounds.{IsName};
+ghost use Rattle.lf_floorplan.specs.Bounds.{IsName};
 ghost use Rattle.lf_rules.specs.Reports.{IsTold};
 ghost use Rattle.lf_proto.specs.ReportText.{report_data, report_text, violation_data};
 

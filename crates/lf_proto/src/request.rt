@@ -3,7 +3,7 @@
 ghost use Rattle.std.specs.Prelude.{◌≡◌, IfOk};
 ghost use Rattle.lf_proto.specs.Commands.{action_of, change_of, command_of, order_of};
 
-use lf_frame::Place;
+use lf_floorplan::Place;
 use lf_units::Name;
 use std::alloc::{AllocError, Global};
 

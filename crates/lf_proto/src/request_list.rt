@@ -17,7 +17,7 @@ pub struct RequestList {
 
 impl Model for RequestList {
     ghost use Rattle.std.specs.Prelude.{List, ℕ};
-    ghost use Rattle.lf_frame.specs.declared.place.Place.{Place};
+    ghost use Rattle.lf_floorplan.specs.declared.place.Place.{Place};
     ghost use Rattle.lf_proto.specs.declared.request.Command.{Command};
 
     ghost Value = { List (Command (List ℕ) Place) };

@@ -11,9 +11,9 @@ use Rattle.lf_units.specs.declared.area.Rect.{Rect}
 use Rattle.lf_units.specs.Area.{Covers, CoveredBy, SharesPoint}
 use Rattle.lf_rtree.specs.declared.placed.Placed.{Placed}
 use Rattle.lf_rtree.specs.Near.{AreNear}
-use Rattle.lf_frame.specs.declared.frame.Frame.{Frame}
-use Rattle.lf_frame.specs.declared.parts.Team.{Team}
-use Rattle.lf_frame.specs.Ground.{StaysInGround, IsClear}
+use Rattle.lf_floorplan.specs.declared.frame.Frame.{Frame}
+use Rattle.lf_floorplan.specs.declared.parts.Team.{Team}
+use Rattle.lf_floorplan.specs.Ground.{StaysInGround, IsClear}
 use Rattle.lf_rules.specs.declared.frame_index.FrameIndex.{FrameIndex}
 use Rattle.lf_rules.specs.Nearby.{numbered, fence_boxes, obstacle_boxes, rects_of, IsIndexOf}
 use Rattle.lf_rules.proofs.NearLemmas.{first_there, later_there}

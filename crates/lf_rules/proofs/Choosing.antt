@@ -2,8 +2,8 @@
 use Rattle.std.proofs.Common.{◌≡◌, ◌⊎◌, ℕ, zero, suc, ◌<◌, ◌≤◌, List, [], ◌∷◌, length, Option, Some, None, inl, inr, refl, sym, subst, arith, slice_get}
 use Rattle.lf_units.specs.declared.area.Point.{Point}
 use Rattle.lf_orient.specs.declared.Orient.TheVariants.{N, S, FN, FS}
-use Rattle.lf_frame.specs.declared.parts.Row.{Row}
-use Rattle.lf_frame.specs.Boxes.{IsSized}
+use Rattle.lf_floorplan.specs.declared.parts.Row.{Row}
+use Rattle.lf_floorplan.specs.Boxes.{IsSized}
 use Rattle.lf_rules.specs.Choice.{Spot, Lifted, IsLegalAt, IsChoice, Precedes, distance, rank}
 use Rattle.lf_rules.proofs.Looking.{LooksAt, IsAtSite, IsOnSites, IsOnRows, spot_at, passed_over, taken_first, taken, left, idle}
 use Rattle.lf_rules.proofs.Order.{ordered, through, not_itself, by_rank}

@@ -7,11 +7,11 @@ use Rattle.std.proofs.lemmas.List.Elements.{All-nil, All-cons, All-head, All-tai
 use Rattle.lf_units.specs.declared.area.Rect.{Rect}
 use Rattle.lf_units.specs.Area.{Covers, SharesPoint, CoveredBy}
 use Rattle.lf_units.proofs.Edges.{edges_of_shared, shared_of_edges}
-use Rattle.lf_frame.specs.declared.frame.Frame.{Frame}
-use Rattle.lf_frame.specs.declared.parts.Row.{Row}
-use Rattle.lf_frame.specs.declared.parts.Team.{Team}
-use Rattle.lf_frame.specs.Standing.{IsSitesHigh, IsBottomRow, IsRowOfBox, Carries, changed}
-use Rattle.lf_frame.specs.Ground.{InGround}
+use Rattle.lf_floorplan.specs.declared.frame.Frame.{Frame}
+use Rattle.lf_floorplan.specs.declared.parts.Row.{Row}
+use Rattle.lf_floorplan.specs.declared.parts.Team.{Team}
+use Rattle.lf_floorplan.specs.Standing.{IsSitesHigh, IsBottomRow, IsRowOfBox, Carries, changed}
+use Rattle.lf_floorplan.specs.Ground.{InGround}
 use Rattle.std.specs.Option.{option_map}
 use Rattle.lf_orient.specs.declared.Rail.{Rail}
 use Rattle.lf_orient.specs.declared.Rail.TheVariants.{Ground, Power}

@@ -4,8 +4,8 @@ use Rattle.std.specs.Prelude.{All, AllPairs, IsSome, MatchOption}
 use Rattle.std.specs.Option.{ForSome}
 use Rattle.std.proofs.lemmas.List.Elements.{All-nil, All-cons}
 use Rattle.std.proofs.lemmas.List.Kept.{AllPairs-cons}
-use Rattle.lf_frame.specs.declared.frame.Frame.{Frame}
-use Rattle.lf_frame.proofs.GroundLemmas.{teams_apart}
+use Rattle.lf_floorplan.specs.declared.frame.Frame.{Frame}
+use Rattle.lf_floorplan.proofs.GroundLemmas.{teams_apart}
 use Rattle.lf_rules.specs.declared.rule.Rule.TheVariants.{Height, Row as RowRule, Stand, Orient as OrientRule, Rail as RailRule, Fence, Obstacle, Overlap}
 use Rattle.lf_rules.specs.Choice.{Spot, IsLegalAt}
 use Rattle.lf_rules.specs.Team.{Member, box_in, lifted_from, StandsLegal}

@@ -5,9 +5,9 @@ use Rattle.std.specs.Prelude.{All}
 use Rattle.std.proofs.lemmas.Grind.{common_steps}
 use Rattle.lf_units.specs.declared.area.Rect.{Rect}
 use Rattle.lf_units.specs.Area.{Covers, SharesPoint, CoveredBy}
-use Rattle.lf_frame.specs.Ground.{InGround, StaysInGround}
-use Rattle.lf_frame.specs.declared.frame.Frame.{Frame}
-use Rattle.lf_frame.specs.declared.parts.Team.{Team}
+use Rattle.lf_floorplan.specs.Ground.{InGround, StaysInGround}
+use Rattle.lf_floorplan.specs.declared.frame.Frame.{Frame}
+use Rattle.lf_floorplan.specs.declared.parts.Team.{Team}
 
 -- the box shares no point with a fence's rectangle
 abbrev pub IsClear : Rect → List Team → Type 0

@@ -2,7 +2,7 @@
 use Rattle.std.proofs.Common.{◌≡◌, ℕ, zero, suc, ◌+◌, List, [], ◌∷◌, Option, Some, None, refl, ◌∙◌, ap, slice_get}
 use Rattle.std.specs.Prelude.{map, slice_set, length}
 use Rattle.lf_units.specs.declared.area.Point.{Point}
-use Rattle.lf_frame.specs.declared.frame.Frame.{Frame}
+use Rattle.lf_floorplan.specs.declared.frame.Frame.{Frame}
 use Rattle.lf_rules.specs.Choice.{Spot, Lifted}
 use Rattle.lf_rules.specs.Legalizer.{Legalizer}
 use Rattle.lf_rules.specs.Team.{Member, lifted_from}

@@ -1,11 +1,11 @@
 -- There is a legalizer.
 use Rattle.std.proofs.Common.{Option, Some, None, inl, inr}
 use Rattle.lf_units.specs.declared.area.Point.{Point}
-use Rattle.lf_frame.specs.declared.frame.Frame.{Frame}
-use Rattle.lf_lef.specs.declared.macros.Macro.{Macro}
+use Rattle.lf_floorplan.specs.declared.frame.Frame.{Frame}
+use Rattle.lf_floorplan.specs.declared.macros.Macro.{Macro}
 use Rattle.lf_rules.specs.declared.rule.Broken.{Broken}
 use Rattle.lf_rules.specs.Legality.{Trial, IsTeamLegal}
-use Rattle.lf_frame.specs.Boxes.{IsSized}
+use Rattle.lf_floorplan.specs.Boxes.{IsSized}
 use Rattle.lf_rules.specs.Choice.{Spot, Lifted, IsChoice, trial_at}
 use Rattle.lf_rules.specs.Legalizer.{Legalizer, IsVerdict}
 use Rattle.lf_rules.proofs.Deciding.{Settles, both, turned_round, at_most, below, same}

@@ -3,7 +3,7 @@ use Rattle.std.proofs.Common.{◌≡◌, ◌⊎◌, ℕ, pos, ◌<◌, ◌+ℤ�
 use Rattle.std.specs.Prelude.{IfSome, MatchOption}
 use Rattle.lf_units.specs.declared.area.Point.{Point}
 use Rattle.lf_orient.specs.declared.Orient.{Orient}
-use Rattle.lf_frame.specs.declared.parts.Row.{Row}
+use Rattle.lf_floorplan.specs.declared.parts.Row.{Row}
 use Rattle.lf_rules.specs.Choice.{Spot, Lifted, IsLegalAt, Precedes}
 use Rattle.lf_rules.proofs.Order.{through, not_itself}
 

@@ -12,10 +12,10 @@ use Rattle.lf_units.specs.declared.area.Rect.{Rect}
 use Rattle.lf_units.specs.Area.{SharesPoint}
 use Rattle.lf_rtree.specs.declared.placed.Placed.{Placed}
 use Rattle.lf_rtree.specs.Near.{AreNear}
-use Rattle.lf_frame.specs.declared.frame.Frame.{Frame}
-use Rattle.lf_frame.specs.declared.parts.Row.{Row}
-use Rattle.lf_frame.specs.Rows.{row_area}
-use Rattle.lf_frame.specs.Standing.{IsSitesHigh, IsRowOfBox, IsBottomRow, Carries}
+use Rattle.lf_floorplan.specs.declared.frame.Frame.{Frame}
+use Rattle.lf_floorplan.specs.declared.parts.Row.{Row}
+use Rattle.lf_floorplan.specs.Rows.{row_area}
+use Rattle.lf_floorplan.specs.Standing.{IsSitesHigh, IsRowOfBox, IsBottomRow, Carries}
 use Rattle.lf_rules.specs.declared.frame_index.FrameIndex.{FrameIndex}
 use Rattle.lf_rules.specs.Solid.{IsSolid}
 use Rattle.lf_rules.specs.Nearby.{numbered, row_boxes, IsIndexOf, AreRowsNear}

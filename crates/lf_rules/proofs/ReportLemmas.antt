@@ -3,10 +3,10 @@ use Rattle.std.proofs.Common.{◌≡◌, ℕ, zero, suc, ◌+◌, List, [], ◌�
 use Rattle.std.specs.Prelude.{slice_get, filter_map, option_map, option_and_then}
 use Rattle.std.specs.List.{range_with_len, cons_option}
 use Rattle.std.specs.Borrow.{Bor}
-use Rattle.lf_frame.specs.declared.frame.Frame.{Frame}
-use Rattle.lf_lef.specs.declared.macros.Macro.{Macro}
-use Rattle.lf_frame.specs.declared.place.Place.{Place}
-use Rattle.lf_frame.specs.Boxes.{macro_of}
+use Rattle.lf_floorplan.specs.declared.frame.Frame.{Frame}
+use Rattle.lf_floorplan.specs.declared.macros.Macro.{Macro}
+use Rattle.lf_floorplan.specs.declared.place.Place.{Place}
+use Rattle.lf_floorplan.specs.Boxes.{macro_of}
 use Rattle.lf_rules.specs.declared.rule.Broken.{Broken}
 use Rattle.lf_rtree.specs.declared.placed.Placed.{Placed}
 use Rattle.lf_rules.specs.declared.report.Listed.{Listed}

@@ -5,14 +5,14 @@ use Rattle.std.proofs.lemmas.Option.{slice_get_within, get_or_from_slice_get}
 use Rattle.lf_units.specs.declared.area.Rect.{Rect}
 use Rattle.lf_units.specs.Area.{Covers, SharesPoint}
 use Rattle.lf_orient.specs.Orientation.{is_allowed, EqualUnder, rail_below}
-use Rattle.lf_frame.specs.declared.frame.Frame.{Frame}
-use Rattle.lf_frame.specs.declared.parts.Row.{Row}
-use Rattle.lf_frame.proofs.StandingLemmas.{height_one, bottom_one}
+use Rattle.lf_floorplan.specs.declared.frame.Frame.{Frame}
+use Rattle.lf_floorplan.specs.declared.parts.Row.{Row}
+use Rattle.lf_floorplan.proofs.StandingLemmas.{height_one, bottom_one}
 use Rattle.lf_rules.specs.declared.rule.Rule.{Rule}
 use Rattle.lf_rules.specs.declared.rule.Rule.TheVariants.{Height, Row as RowRule, Stand, Orient as OrientRule, Rail as RailRule, Fence, Obstacle, Overlap}
 use Rattle.lf_rules.specs.Legality.{IsFirstMet, Trial, box_of, Holds, number_of, IsTeamLegal, IsFirstBroken}
-use Rattle.lf_frame.specs.Standing.{IsSitesHigh, IsBottomRow, Carries}
-use Rattle.lf_frame.specs.Ground.{InGround}
+use Rattle.lf_floorplan.specs.Standing.{IsSitesHigh, IsBottomRow, Carries}
+use Rattle.lf_floorplan.specs.Ground.{InGround}
 
 -- what holds at the height and the bottom row holds at each height and bottom row there are
 pub at_each : (P : ℕ → Row → Type 0) (f : Frame) (box : Rect) → box.x1 <ℤ box.x2 → (k : ℕ) (r : Row) → IsSitesHigh f box k → IsBottomRow f box r → P k r →

@@ -8,9 +8,9 @@ use Rattle.lf_orient.specs.declared.Orient.{Orient}
 use Rattle.lf_orient.specs.declared.Orient.TheVariants.{N, W, S, E, FN, FW, FS, FE}
 use Rattle.lf_orient.specs.declared.Symmetry.{Symmetry}
 use Rattle.lf_orient.specs.Orientation.{is_allowed}
-use Rattle.lf_frame.specs.declared.parts.Row.{Row}
+use Rattle.lf_floorplan.specs.declared.parts.Row.{Row}
 use Rattle.lf_rules.specs.declared.rule.Rule.TheVariants.{Row as RowRule, Orient as OrientRule}
-use Rattle.lf_frame.specs.Boxes.{IsSized, size_of, turned}
+use Rattle.lf_floorplan.specs.Boxes.{IsSized, size_of, turned}
 use Rattle.lf_rules.specs.Legality.{Holds}
 use Rattle.lf_rules.specs.Choice.{Spot, Lifted, IsLegalAt, IsChoice, IsUpright, trial_at, rank}
 use Rattle.lf_rules.proofs.SizeLemmas.{IsModest, turned-modest, sized-modest}

@@ -3,10 +3,10 @@ use Rattle.std.proofs.Common.{◌≡◌, pos, ◌≤ℤ◌, ◌<ℤ◌, ◌⊎�
 use Rattle.lf_units.specs.declared.area.Point.{Point}
 use Rattle.lf_orient.specs.declared.Orient.{Orient}
 use Rattle.lf_orient.specs.declared.Orient.TheVariants.{N, W, S, E, FN, FW, FS, FE}
-use Rattle.lf_frame.specs.declared.frame.Frame.{Frame}
-use Rattle.lf_lef.specs.declared.macros.Macro.{Macro}
-use Rattle.lf_frame.proofs.LengthLemmas.{small_length}
-use Rattle.lf_frame.specs.Boxes.{size_of, turned, IsSized}
+use Rattle.lf_floorplan.specs.declared.frame.Frame.{Frame}
+use Rattle.lf_floorplan.specs.declared.macros.Macro.{Macro}
+use Rattle.lf_floorplan.proofs.LengthLemmas.{small_length}
+use Rattle.lf_floorplan.specs.Boxes.{size_of, turned, IsSized}
 
 -- a size that is above 0 both ways, and small
 pub record IsModest (size : Point) : Type 0 where

@@ -9,13 +9,13 @@ use Rattle.lf_orient.specs.declared.Orient.{Orient}
 use Rattle.lf_orient.specs.declared.Orient.TheVariants.{N, W, S, E, FN, FW, FS, FE}
 use Rattle.lf_orient.specs.declared.Symmetry.{Symmetry}
 use Rattle.lf_orient.specs.Orientation.{is_allowed, EqualUnder, rail_below, flipped_over_x, flipped_over_y}
-use Rattle.lf_frame.specs.declared.parts.Row.{Row}
+use Rattle.lf_floorplan.specs.declared.parts.Row.{Row}
 use Rattle.lf_rules.specs.declared.rule.Rule.TheVariants.{Height, Row as RowRule, Stand, Orient as OrientRule, Rail as RailRule, Fence, Obstacle, Overlap}
 use Rattle.lf_rtree.specs.declared.placed.Placed.{Placed}
 use Rattle.lf_rules.specs.declared.rule.Broken.{Broken}
 use Rattle.lf_rules.specs.Legality.{IsFirstMet, Trial, IsFirstBroken, Holds, box_of}
-use Rattle.lf_frame.specs.Boxes.{IsSized, size_of, turned}
-use Rattle.lf_frame.specs.Standing.{Carries}
+use Rattle.lf_floorplan.specs.Boxes.{IsSized, size_of, turned}
+use Rattle.lf_floorplan.specs.Standing.{Carries}
 use Rattle.lf_rules.specs.Legalizer.{IsVerdict}
 use Rattle.lf_rules.proofs.SizeLemmas.{IsModest, turned-modest, sized-modest}
 use Rattle.lf_rules.proofs.RuleLemmas.{Found, OnRows, on_rows, by_number, row_broken, stand_broken, orient_broken, rail_broken, fence_broken, obstacle_broken, overlap_broken, all_hold}

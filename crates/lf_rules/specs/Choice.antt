@@ -7,12 +7,12 @@ use Rattle.lf_units.specs.declared.area.Rect.{Rect}
 use Rattle.lf_orient.specs.declared.Orient.{Orient}
 use Rattle.lf_orient.specs.declared.Orient.TheVariants.{N, S, FN, FS}
 use Rattle.lf_orient.specs.Orientation.{rail_below}
-use Rattle.lf_frame.specs.declared.frame.Frame.{Frame}
-use Rattle.lf_lef.specs.declared.macros.Macro.{Macro}
-use Rattle.lf_frame.specs.declared.parts.Row.{Row}
-use Rattle.lf_frame.specs.declared.place.Place.{Place}
-use Rattle.lf_frame.specs.Bounds.{IsDefNumber}
-use Rattle.lf_frame.specs.Boxes.{IsSized}
+use Rattle.lf_floorplan.specs.declared.frame.Frame.{Frame}
+use Rattle.lf_floorplan.specs.declared.macros.Macro.{Macro}
+use Rattle.lf_floorplan.specs.declared.parts.Row.{Row}
+use Rattle.lf_floorplan.specs.declared.place.Place.{Place}
+use Rattle.lf_floorplan.specs.Bounds.{IsDefNumber}
+use Rattle.lf_floorplan.specs.Boxes.{IsSized}
 use Rattle.lf_rtree.specs.declared.placed.Placed.{Placed}
 use Rattle.lf_rules.specs.Legality.{Trial, IsTeamLegal}
 

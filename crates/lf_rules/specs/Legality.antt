@@ -4,13 +4,13 @@ use Rattle.lf_units.specs.declared.area.Rect.{Rect}
 use Rattle.lf_units.specs.Area.{SharesPoint}
 use Rattle.lf_orient.specs.declared.Orient.{Orient}
 use Rattle.lf_orient.specs.Orientation.{is_allowed, EqualUnder, rail_below}
-use Rattle.lf_frame.specs.declared.frame.Frame.{Frame}
-use Rattle.lf_lef.specs.declared.macros.Macro.{Macro}
-use Rattle.lf_frame.specs.declared.parts.Row.{Row}
-use Rattle.lf_frame.specs.declared.place.Place.{Place}
-use Rattle.lf_frame.specs.Boxes.{size_of, turned, box_at}
-use Rattle.lf_frame.specs.Ground.{StaysInGround, IsClear}
-use Rattle.lf_frame.specs.Standing.{IsSitesHigh, IsBottomRow, HasHeight, HasBottomRow, IsCarried}
+use Rattle.lf_floorplan.specs.declared.frame.Frame.{Frame}
+use Rattle.lf_floorplan.specs.declared.macros.Macro.{Macro}
+use Rattle.lf_floorplan.specs.declared.parts.Row.{Row}
+use Rattle.lf_floorplan.specs.declared.place.Place.{Place}
+use Rattle.lf_floorplan.specs.Boxes.{size_of, turned, box_at}
+use Rattle.lf_floorplan.specs.Ground.{StaysInGround, IsClear}
+use Rattle.lf_floorplan.specs.Standing.{IsSitesHigh, IsBottomRow, HasHeight, HasBottomRow, IsCarried}
 use Rattle.lf_rules.specs.declared.rule.Rule.{Rule}
 use Rattle.lf_rules.specs.declared.rule.Rule.TheVariants.{Height, Row as RowRule, Stand, Orient as OrientRule, Rail as RailRule, Fence, Obstacle, Overlap}
 use Rattle.lf_rtree.specs.declared.placed.Placed.{Placed}

@@ -1,7 +1,7 @@
 -- What the rules say of places, as functions: the first broken rule, and the best place.
 use Rattle.std.specs.Prelude.{◌≡◌, Option, MatchOption}
 use Rattle.lf_units.specs.declared.area.Point.{Point}
-use Rattle.lf_frame.specs.Boxes.{IsSized}
+use Rattle.lf_floorplan.specs.Boxes.{IsSized}
 use Rattle.lf_rules.specs.declared.rule.Broken.{Broken}
 use Rattle.lf_rules.specs.Legality.{Trial, IsTeamLegal, IsFirstBroken}
 use Rattle.lf_rules.specs.Choice.{Spot, Lifted, IsChoice}

@@ -3,11 +3,11 @@ use Rattle.std.specs.Prelude.{◌≡◌, ◌↔◌, ℕ, ◌<◌, List, [], ◌�
 use Rattle.std.specs.List.{range_with_len}
 use Rattle.std.specs.Option.{ForSome}
 use Rattle.std.specs.Borrow.{Bor}
-use Rattle.lf_frame.specs.declared.frame.Frame.{Frame}
-use Rattle.lf_frame.specs.declared.loaded.Cell.{Cell}
-use Rattle.lf_frame.specs.declared.place.Place.{Place}
-use Rattle.lf_frame.specs.Bounds.{IsName}
-use Rattle.lf_frame.specs.Boxes.{IsSized, macro_of}
+use Rattle.lf_floorplan.specs.declared.frame.Frame.{Frame}
+use Rattle.lf_floorplan.specs.declared.loaded.Cell.{Cell}
+use Rattle.lf_floorplan.specs.declared.place.Place.{Place}
+use Rattle.lf_floorplan.specs.Bounds.{IsName}
+use Rattle.lf_floorplan.specs.Boxes.{IsSized, macro_of}
 use Rattle.lf_rules.specs.declared.rule.Broken.{Broken}
 use Rattle.lf_rules.specs.declared.report.Listed.{Listed}
 use Rattle.lf_rules.specs.declared.report.Violation.{Violation}

@@ -1,8 +1,8 @@
 -- The cells of a team, and a cell beside the others.
 use Rattle.std.specs.Prelude.{◌≡◌, ◌==◌, ℕ, ◌+◌, List, [], ◌∷◌, filter, not, Option, Some, None, slice_get, MatchOption}
 use Rattle.lf_units.specs.declared.area.Rect.{Rect}
-use Rattle.lf_frame.specs.declared.frame.Frame.{Frame}
-use Rattle.lf_frame.specs.Boxes.{size_of, turned, box_at, macro_of}
+use Rattle.lf_floorplan.specs.declared.frame.Frame.{Frame}
+use Rattle.lf_floorplan.specs.Boxes.{size_of, turned, box_at, macro_of}
 use Rattle.lf_rtree.specs.declared.placed.Placed.{Placed}
 use Rattle.lf_rules.specs.Choice.{Spot, Lifted, IsLegalAt}
 

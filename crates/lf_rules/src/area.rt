@@ -4,7 +4,7 @@ ghost use Rattle.std.specs.Prelude.{◌≡◌, ◌↔◌, ℕ, ℤ, All, IsTrue,
 ghost use Rattle.lf_units.specs.Area.{SharesPoint, Covers, CoveredBy};
 ghost use Rattle.lf_rules.specs.Legality.{IsFirstMet};
 
-use lf_frame::Team;
+use lf_floorplan::Team;
 use lf_rtree::Placed;
 use lf_units::Rect;
 

@@ -2,8 +2,8 @@
 
 ghost use Rattle.std.specs.Prelude.{◌≡◌, ◌↔◌, ◌<ℤ◌, ◌%◌, Some, None, IsTrue};
 ghost use Rattle.lf_orient.specs.Orientation.{is_allowed, EqualUnder, rail_below};
-ghost use Rattle.lf_frame.specs.Boxes.{IsSized};
-ghost use Rattle.lf_frame.specs.Ground.{StaysInGround};
+ghost use Rattle.lf_floorplan.specs.Boxes.{IsSized};
+ghost use Rattle.lf_floorplan.specs.Ground.{StaysInGround};
 ghost use Rattle.lf_rules.specs.Legality.{trial_of};
 ghost use Rattle.lf_rules.specs.Legalizer.{IsVerdict};
 
@@ -12,7 +12,7 @@ use crate::cover::is_covered;
 use crate::rows::{bottom_row, height_in_sites, is_standing};
 use crate::rule::{Broken, Rule};
 use crate::size::solid_box;
-use lf_frame::{Frame, Macro, Place, Row};
+use lf_floorplan::{Frame, Macro, Place, Row};
 use lf_orient::{Orient, equal_under, is_candidate, row_rail};
 use lf_rtree::Placed;
 use lf_units::Rect;

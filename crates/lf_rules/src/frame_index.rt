@@ -3,7 +3,7 @@
 ghost use Rattle.std.specs.Prelude.{◌≡◌, ◌≤◌, ◌++◌, IfOk, OnOk, length, map};
 ghost use Rattle.lf_rules.specs.Nearby.{numbered, row_boxes, fence_boxes, obstacle_boxes, IsIndexOf};
 
-use lf_frame::{Frame, Team};
+use lf_floorplan::{Frame, Team};
 use lf_rtree::{Placed, RTree};
 use lf_units::Rect;
 use std::alloc::{AllocError, Global};

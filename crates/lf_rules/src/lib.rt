@@ -20,7 +20,7 @@ pub use laws::{
     legalizer_is_there, teams_make_legal, tidied_is_legal, tidied_keeps_cells, verdict_is_one,
     verdict_is_there,
 };
-pub use lf_frame::Place;
+pub use lf_floorplan::Place;
 pub use lf_rtree::Placed;
 pub use report::{Listed, Report, Violation, check_all, check_all_pairs, report_on};
 pub use rule::{Broken, Rule};

@@ -1,12 +1,12 @@
 //! The rules on rows, ground and obstacles, by what lies near the box.
 
 ghost use Rattle.std.specs.Prelude.{◌≡◌, ◌↔◌, ◌<◌, ◌<ℤ◌, ℕ, List, [], IfOk, IsTrue, MatchOption, Contains, Some, length, slice_get};
-ghost use Rattle.lf_frame.specs.Rows.{IsHeeded};
+ghost use Rattle.lf_floorplan.specs.Rows.{IsHeeded};
 ghost use Rattle.lf_rtree.specs.Near.{AreNear};
-ghost use Rattle.lf_frame.specs.declared.parts.Row.{Row};
-ghost use Rattle.lf_frame.specs.Boxes.{IsSized};
-ghost use Rattle.lf_frame.specs.Ground.{StaysInGround, IsClear};
-ghost use Rattle.lf_frame.specs.Standing.{IsBottomRow, IsSitesHigh, Carries};
+ghost use Rattle.lf_floorplan.specs.declared.parts.Row.{Row};
+ghost use Rattle.lf_floorplan.specs.Boxes.{IsSized};
+ghost use Rattle.lf_floorplan.specs.Ground.{StaysInGround, IsClear};
+ghost use Rattle.lf_floorplan.specs.Standing.{IsBottomRow, IsSitesHigh, Carries};
 ghost use Rattle.lf_rules.specs.Solid.{IsSolid};
 ghost use Rattle.lf_rules.specs.Legality.{box_of, trial_of};
 ghost use Rattle.lf_rules.specs.Nearby.{AreRowsNear, IsAreaVerdict, IsRowVerdict, IsWindowOf, IsWithin, rects_of};
@@ -16,7 +16,7 @@ use crate::first::{is_on_rail, is_oriented};
 use crate::rows::{carries, height_in_sites, is_bottom_row};
 use crate::rule::Rule;
 use crate::window::Window;
-use lf_frame::{Frame, Macro, Place, Row};
+use lf_floorplan::{Frame, Macro, Place, Row};
 use lf_rtree::Placed;
 use lf_units::Rect;
 use std::alloc::{AllocError, Global};

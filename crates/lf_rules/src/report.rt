@@ -2,7 +2,7 @@
 
 ghost use Rattle.std.specs.Prelude.{◌≡◌, ◌↔◌, ◌<◌, ◌≤◌, ◌++◌, [], All, IfOk, OnOk, None, Some, ℕ, List, IsPermutation, is_none, slice_get, count_by, length, map, option_and_then};
 ghost use Rattle.std.specs.List.{cons_option};
-ghost use Rattle.lf_frame.specs.Boxes.{IsSized, macro_of};
+ghost use Rattle.lf_floorplan.specs.Boxes.{IsSized, macro_of};
 ghost use Rattle.lf_rules.specs.Legalizer.{IsVerdict, Legalizer};
 ghost use Rattle.lf_rules.specs.FullyLegal.{IsFullyLegal, standing_at};
 ghost use Rattle.lf_rules.specs.Reports.{IsClean, IsListed, IsTold, broken_among, listed_at, member_of, name_among, named, report_of, standing_of, trial_among, AreSomeVerdicts, IsPut, AreVerdicts, PutsVerdict, verdict_at, violation_at, violation_of, violations_in};
@@ -16,7 +16,7 @@ use crate::rule::{Broken, Rule};
 use crate::search::{Search, broken_beside};
 use crate::size::box_of;
 use crate::window::Window;
-use lf_frame::{Cell, Frame, Loaded, Macro, Place, cell_is_sized};
+use lf_floorplan::{Cell, Frame, Loaded, Macro, Place, cell_is_sized};
 use lf_rtree::{Placed, RTree};
 use lf_units::{Name, Sequence};
 use std::alloc::{AllocError, Global};

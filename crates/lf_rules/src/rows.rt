@@ -3,12 +3,12 @@
 ghost use Rattle.std.specs.Prelude.{◌≡◌, ◌↔◌, ℕ, ℤ, pos, ◌<◌, ◌≤◌, ◌+ℤ◌, ◌-ℤ◌, ◌*ℤ◌, ◌<ℤ◌, ◌≤ℤ◌, IsTrue, MatchOption, Contains, if◌then◌else◌, IfSome};
 ghost use Rattle.std.specs.Option.{option_map};
 ghost use Rattle.lf_orient.specs.Orientation.{rail_below};
-ghost use Rattle.lf_frame.specs.Rows.{IsHeeded};
-ghost use Rattle.lf_frame.specs.declared.parts.Row.{Row};
-ghost use Rattle.lf_frame.specs.Standing.{IsSitesHigh, IsRowOfBox, IsBottomRow, Carries, changed};
+ghost use Rattle.lf_floorplan.specs.Rows.{IsHeeded};
+ghost use Rattle.lf_floorplan.specs.declared.parts.Row.{Row};
+ghost use Rattle.lf_floorplan.specs.Standing.{IsSitesHigh, IsRowOfBox, IsBottomRow, Carries, changed};
 ghost use Rattle.lf_rules.specs.Solid.{IsSolid};
 
-use lf_frame::{Frame, Row};
+use lf_floorplan::{Frame, Row};
 use lf_orient::{Orient, Rail, opposite, row_rail};
 use lf_units::{Point, Rect};
 

@@ -3,7 +3,7 @@
 ghost use Rattle.std.specs.Prelude.{◌≡◌, List, [], Some, IfOk, OnOk, IsPermutation, ◌<◌, length};
 ghost use Rattle.std.specs.Option.{option_map};
 ghost use Rattle.lf_rules.specs.declared.rule.Rule.TheVariants.{Overlap};
-ghost use Rattle.lf_frame.specs.Boxes.{IsSized};
+ghost use Rattle.lf_floorplan.specs.Boxes.{IsSized};
 ghost use Rattle.lf_rules.specs.Solid.{IsSolid};
 ghost use Rattle.lf_rules.specs.Legality.{box_of, trial_of};
 ghost use Rattle.lf_rules.specs.Legalizer.{IsVerdict};
@@ -15,7 +15,7 @@ use crate::near::{broken_by_areas, broken_by_rows};
 use crate::rule::{Broken, Rule};
 use crate::size::solid_box;
 use crate::window::{CELLS, Window};
-use lf_frame::{Frame, Macro, Place};
+use lf_floorplan::{Frame, Macro, Place};
 use lf_rtree::{Placed, RTree};
 use lf_units::Rect;
 use std::alloc::{AllocError, Global};

@@ -2,10 +2,10 @@
 
 ghost use Rattle.std.specs.Prelude.{◌≡◌, ℕ, ℤ, pos, ◌≤◌, ◌<ℤ◌, ◌≤ℤ◌};
 ghost use Rattle.lf_units.specs.Length.{in_dbu};
-ghost use Rattle.lf_frame.specs.Boxes.{size_of, turned, box_at, IsSized};
+ghost use Rattle.lf_floorplan.specs.Boxes.{size_of, turned, box_at, IsSized};
 ghost use Rattle.lf_rules.specs.Solid.{IsSolid};
 
-use lf_frame::{Frame, Macro, Place};
+use lf_floorplan::{Frame, Macro, Place};
 use lf_orient::Orient;
 use lf_units::{Point, Rect};
 

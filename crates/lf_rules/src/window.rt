@@ -1,7 +1,7 @@
 //! What of a frame lies near cells that are looked at one after another.
 
 ghost use Rattle.std.specs.Prelude.{◌≡◌, ◌↔◌, IfOk, IsTrue, OnOk};
-ghost use Rattle.lf_frame.specs.declared.frame.Frame.{Frame};
+ghost use Rattle.lf_floorplan.specs.declared.frame.Frame.{Frame};
 ghost use Rattle.lf_rtree.specs.Near.{AreNear};
 ghost use Rattle.lf_rules.specs.Nearby.{IsIndexOf, IsWindowOf, IsWithin};
 

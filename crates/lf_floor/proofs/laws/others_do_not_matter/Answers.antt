@@ -1,5 +1,5 @@
 use Rattle.std.proofs.Common.{ap, ◌∙◌, sym}
-use Rattle.lf_frame.specs.declared.frame.Frame.{Frame}
+use Rattle.lf_floorplan.specs.declared.frame.Frame.{Frame}
 use Rattle.lf_floor.specs.Teams.{team_number}
 use Rattle.lf_floor.proofs.Isolation.{isolated_from_run, has_number}
 use Rattle.lf_floor.proofs.laws.others_do_not_matter.Goals as goal

@@ -1,8 +1,8 @@
 use Rattle.std.proofs.Common.{◌≡◌, ◌<◌, ◌≤◌, length, get_or, arith, ap, List, sym, ◌∙◌}
 use Rattle.lf_def.specs.declared.components.Component.{Component}
-use Rattle.lf_frame.specs.Findings.{Inputs, inputs}
+use Rattle.lf_refusals.specs.Findings.{Inputs, inputs}
 use Rattle.lf_frame.specs.Loads.{CanBeCell}
-use Rattle.lf_frame.proofs.Claimed.{claim_there}
+use Rattle.lf_claims.proofs.Claimed.{claim_there}
 use Rattle.lf_frame.proofs.CellsMade.{cell_more, none_more, all_made}
 use Rattle.lf_frame.proofs.cells.movable_cells.Goals.{then-is_movable+in_ok-cell_of+in_ok-push, else-is_movable}
 use Rattle.lf_frame.proofs.cells.movable_cells.Goals as goal

@@ -1,5 +1,5 @@
 use Rattle.std.proofs.Common.{◌≡◌, ◌++◌, drop, map}
-use Rattle.lf_frame.specs.Loading.{fences}
+use Rattle.lf_claims.specs.Teams.{fences}
 use Rattle.lf_frame.specs.Loads.{frame_team}
 use Rattle.lf_frame.proofs.copies.fence_teams.Given as goal
 

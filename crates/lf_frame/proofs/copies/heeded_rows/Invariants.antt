@@ -1,6 +1,6 @@
 use Rattle.std.proofs.Common.{◌≡◌, ◌++◌, drop, map}
 use Rattle.std.specs.Prelude.{filter}
-use Rattle.lf_frame.specs.Loading.{is_heeded, frame_row}
+use Rattle.lf_refusals.specs.Loading.{is_heeded, frame_row}
 use Rattle.lf_frame.proofs.copies.heeded_rows.Given as goal
 
 -- the heeded rows so far, followed by those among the rows that are left, are all of them

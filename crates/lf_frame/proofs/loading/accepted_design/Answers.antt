@@ -1,7 +1,7 @@
 use Rattle.lf_lex.specs.declared.fault.FaultNumber.TheVariants.{SecondName}
-use Rattle.lf_frame.specs.Findings.{inputs}
-use Rattle.lf_frame.specs.Refusals.{BearsEarlierName}
-use Rattle.lf_frame.proofs.Gathered.{none_of_name}
+use Rattle.lf_refusals.specs.Findings.{inputs}
+use Rattle.lf_claims.specs.Refusals.{BearsEarlierName}
+use Rattle.lf_refusals.proofs.Gathered.{none_of_name}
 use Rattle.lf_frame.proofs.DesignMade.{can_be_cells, design_made}
 use Rattle.lf_frame.proofs.loading.accepted_design.Goals as goal
 

@@ -1,5 +1,5 @@
 use Rattle.std.proofs.Common.{◌≡◌, Some, sym}
-use Rattle.lf_frame.specs.Findings.{Inputs, inputs, core_in}
+use Rattle.lf_refusals.specs.Findings.{Inputs, inputs, core_in}
 use Rattle.lf_frame.proofs.Accepted.{core_there, lent_there, core_whole, pitch_there, fixed_sized}
 use Rattle.lf_frame.proofs.FrameMade.{frame_made}
 use Rattle.lf_frame.proofs.loading.frame_of.Goals as goal

@@ -3,7 +3,7 @@ use Rattle.std.specs.Prelude.{All}
 use Rattle.std.specs.Str.{IsAscii, IsUtf8}
 use Rattle.std.proofs.lemmas.Str.{IsUtf8-from_ascii}
 use Rattle.std.proofs.lemmas.List.Elements.{All-head, All-tail}
-use Rattle.lf_frame.specs.Bounds.{IsPrinted}
+use Rattle.lf_floorplan.specs.Bounds.{IsPrinted}
 use Rattle.lf_proto.proofs.report.name_text.Goals as goal
 
 -- visible bytes are ASCII

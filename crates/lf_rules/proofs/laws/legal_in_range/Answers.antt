@@ -1,10 +1,10 @@
 use Rattle.std.proofs.Common.{arith, subst}
 use Rattle.std.proofs.lemmas.Int.{ints}
-use Rattle.lf_frame.specs.declared.parts.Row.{Row}
-use Rattle.lf_frame.specs.Rows.{IsHeeded}
+use Rattle.lf_floorplan.specs.declared.parts.Row.{Row}
+use Rattle.lf_floorplan.specs.Rows.{IsHeeded}
 use Rattle.lf_rules.specs.declared.rule.Rule.TheVariants.{Row as RowRule}
 use Rattle.lf_rules.specs.Legality.{Holds}
-use Rattle.lf_frame.specs.Boxes.{size_of, turned}
+use Rattle.lf_floorplan.specs.Boxes.{size_of, turned}
 use Rattle.lf_rules.proofs.SizeLemmas.{IsModest, turned-modest, sized-modest}
 use Rattle.lf_rules.proofs.laws.legal_in_range.Goals as goal
 

@@ -1,5 +1,5 @@
 use Rattle.std.proofs.Common.{length, arith, subst, ◌≡◌}
-use Rattle.lf_frame.specs.Standing.{IsBottomRow}
+use Rattle.lf_floorplan.specs.Standing.{IsBottomRow}
 use Rattle.lf_rules.proofs.NearLemmas.{NoneYet, none_more, none_at_all, bottom_shares}
 use Rattle.lf_rules.proofs.near.bottom_row_near.Goals as goal
 

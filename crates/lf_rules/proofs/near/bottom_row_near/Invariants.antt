@@ -1,4 +1,4 @@
-use Rattle.lf_frame.specs.Standing.{IsBottomRow}
+use Rattle.lf_floorplan.specs.Standing.{IsBottomRow}
 use Rattle.lf_rules.proofs.NearLemmas.{NoneYet}
 use Rattle.lf_rules.proofs.near.bottom_row_near.Given as goal
 

@@ -1,5 +1,5 @@
 use Rattle.std.proofs.Common.{length, arith, subst, ◌≡◌}
-use Rattle.lf_frame.specs.Standing.{Carries}
+use Rattle.lf_floorplan.specs.Standing.{Carries}
 use Rattle.lf_rules.proofs.NearLemmas.{NoneYet, none_more, none_at_all, carrier_shares}
 use Rattle.lf_rules.proofs.near.is_carried_near.Goals as goal
 

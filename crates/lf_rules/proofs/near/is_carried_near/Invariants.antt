@@ -1,4 +1,4 @@
-use Rattle.lf_frame.specs.Standing.{Carries}
+use Rattle.lf_floorplan.specs.Standing.{Carries}
 use Rattle.lf_rules.proofs.NearLemmas.{NoneYet}
 use Rattle.lf_rules.proofs.near.is_carried_near.Given as goal
 

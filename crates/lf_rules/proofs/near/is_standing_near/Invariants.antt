@@ -1,6 +1,6 @@
 use Rattle.std.proofs.Common.{ℕ, ◌<◌}
-use Rattle.lf_frame.specs.declared.parts.Row.{Row}
-use Rattle.lf_frame.specs.Standing.{Carries}
+use Rattle.lf_floorplan.specs.declared.parts.Row.{Row}
+use Rattle.lf_floorplan.specs.Standing.{Carries}
 use Rattle.lf_rules.proofs.near.is_standing_near.Given as goal
 
 abbrev pub invariant-loop-sites : goal.invariant-loop-sites

@@ -1,6 +1,6 @@
 use Rattle.std.proofs.Common.{◌∙◌, Option, ap, sym, map}
 use Rattle.std.specs.Prelude.{option_and_then}
-use Rattle.lf_frame.specs.declared.place.Place.{Place}
+use Rattle.lf_floorplan.specs.declared.place.Place.{Place}
 use Rattle.lf_rules.specs.Reports.{named, trial_among}
 use Rattle.lf_rules.proofs.ReportLemmas.{broken_is}
 use Rattle.lf_rules.proofs.report.broken_in.Goals as goal

@@ -1,7 +1,7 @@
 use Rattle.std.proofs.Common.{◌≡◌, map}
 use Rattle.std.specs.Prelude.{filter_map}
 use Rattle.std.specs.List.{range_with_len}
-use Rattle.lf_frame.specs.declared.frame.Frame.{Frame}
+use Rattle.lf_floorplan.specs.declared.frame.Frame.{Frame}
 use Rattle.lf_rules.specs.Legalizer.{Legalizer}
 use Rattle.lf_rules.specs.Reports.{named, violation_at, AreVerdicts}
 use Rattle.lf_rules.proofs.report.violations_in.Given as goal

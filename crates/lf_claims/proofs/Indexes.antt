@@ -1,0 +1,90 @@
+-- An index of patterns, when patterns are added to it.
+use Rattle.std.proofs.Common.{◌≡◌, ℕ, inl, inr, ◌↔◌, List, [], ◌∷◌, ◌++◌, refl, ap, append_assoc, arith}
+use Rattle.std.proofs.lemmas.List.{append-nil}
+use Rattle.std.proofs.lemmas.List.Elements.{Contains-append_left, Contains-push, Contains-push_cases}
+use Rattle.lf_names.specs.Pattern.{Matches}
+use Rattle.lf_names.specs.NameParts.{Labelled, ArePartsOf}
+use Rattle.lf_claims.specs.declared.starred.Bound.{Bound}
+use Rattle.lf_claims.specs.declared.pattern_index.PatternIndex.{PatternIndex}
+use Rattle.lf_claims.specs.Claims.{ClaimsBy, Labels, HasStarred, Holds, Extends}
+use Rattle.lf_claims.proofs.Named.{none_of_nothing}
+use Rattle.lf_claims.proofs.Tellings.{claims_parts, claims_old, claims_new}
+
+none_labelled : (name : List ℕ) (n : ℕ) → Labels [] name n → ⊥
+none_labelled name n h = omega (arith, h.1)
+
+pub holds_nothing : (index : PatternIndex) → ArePartsOf [] index.literals → HasStarred index.starred [] → Holds index []
+holds_nothing index kept none = record {
+  literals = [];
+  kept = kept;
+  starred = [];
+  tried = none;
+  forth = λ name n h. absurd (none_of_nothing (λ b. (b.fence ≡ n) × Matches b.pattern name) h);
+  back = λ name n h. elim h [ inl early ↦ absurd (none_labelled name n early) | inr late ↦ late ];
+}
+
+-- a pattern as the name that it stands for
+abbrev pub label_of : Bound → Labelled
+label_of b = record { label = b.fence; name = b.pattern }
+
+labelled_last : (literals : List Labelled) (b : Bound) (name : List ℕ) (n : ℕ) → b.fence ≡ n → name ≡ b.pattern → Labels (literals ++ label_of b ∷ []) name n
+labelled_last literals b name n fence same = rw (← fence, same) (Contains-push literals (label_of b))
+
+claimed_last : (bounds : List Bound) (b : Bound) (name : List ℕ) (n : ℕ) → Matches b.pattern b.pattern → label_of b ≡ record { label = n; name = name } → ClaimsBy (bounds ++ b ∷ []) name n
+claimed_last bounds b name n own is =
+    let fence : b.fence ≡ n = ap (λ (l : Labelled). l.label) is in
+    let same : b.pattern ≡ name = ap (λ (l : Labelled). l.name) is in
+    rw (← fence, ← same) (claims_new bounds b b.pattern own)
+
+-- a pattern that stands for its own bytes alone
+pub extends_literal : (old new : PatternIndex) (b : Bound) → ((name : List ℕ) → (Matches b.pattern name ↔ (name ≡ b.pattern))) → ((names : List Labelled) → ArePartsOf names old.literals → ArePartsOf (names ++ label_of b ∷ []) new.literals) → new.starred ≡ old.starred →
+    Extends old new (b ∷ [])
+extends_literal old new b own kept starred bounds h = record {
+  literals = h.literals ++ label_of b ∷ [];
+  kept = kept h.literals h.kept;
+  starred = h.starred;
+  tried = rw starred h.tried;
+  forth = λ name n c. elim (claims_parts bounds b name n c) [
+    | inl early ↦ elim (h.forth name n early) [
+      | inl one ↦ inl (Contains-append_left h.literals (label_of b ∷ []) (record { label = n; name = name }) one)
+      | inr other ↦ inr other
+    ]
+    | inr here ↦ inl (labelled_last h.literals b name n here.0 ((own name).0 here.1))
+  ];
+  back = λ name n c. elim c [
+    | inl one ↦ elim (Contains-push_cases h.literals (label_of b) (record { label = n; name = name }) one) [
+      | inl early ↦ claims_old bounds b name n (h.back name n (inl early))
+      | inr here ↦ claimed_last bounds b name n ((own b.pattern).1 refl) here
+    ]
+    | inr other ↦ claims_old bounds b name n (h.back name n (inr other))
+  ];
+}
+
+-- a pattern that is tried
+pub extends_starred : (old new : PatternIndex) (b : Bound) → new.literals ≡ old.literals → ((starred : List Bound) → HasStarred old.starred starred → HasStarred new.starred (starred ++ b ∷ [])) → Extends old new (b ∷ [])
+extends_starred old new b literals tried bounds h = record {
+  literals = h.literals;
+  kept = rw literals h.kept;
+  starred = h.starred ++ b ∷ [];
+  tried = tried h.starred h.tried;
+  forth = λ name n c. elim (claims_parts bounds b name n c) [
+    | inl early ↦ elim (h.forth name n early) [
+      | inl one ↦ inl one
+      | inr other ↦ inr (claims_old h.starred b name n other)
+    ]
+    | inr here ↦ inr (rw (← here.0) (claims_new h.starred b name here.1))
+  ];
+  back = λ name n c. elim c [
+    | inl one ↦ claims_old bounds b name n (h.back name n (inl one))
+    | inr other ↦ elim (claims_parts h.starred b name n other) [
+      | inl early ↦ claims_old bounds b name n (h.back name n (inr early))
+      | inr here ↦ rw (← here.0) (claims_new bounds b name here.1)
+    ]
+  ];
+}
+
+pub extends_by_none : (index : PatternIndex) → Extends index index []
+extends_by_none index bounds h = rw append-nil h
+
+pub extends_twice : (a b c : PatternIndex) (xs ys : List Bound) → Extends a b xs → Extends b c ys → Extends a c (xs ++ ys)
+extends_twice a b c xs ys first second bounds h = rw (← append_assoc bounds xs ys) (second (bounds ++ xs) (first bounds h))

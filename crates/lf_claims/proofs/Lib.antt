@@ -1,0 +1,10 @@
+pub mod Firsts
+pub mod NameLemmas
+pub mod Named
+pub mod MapLemmas
+pub mod Tellings
+pub mod PrefixLemmas
+pub mod Indexes
+pub mod Numbered
+pub mod Claimants
+pub mod Claimed

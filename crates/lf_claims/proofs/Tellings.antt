@@ -1,0 +1,105 @@
+-- What a claim tells of a set of fences, when the set grows.
+use Rattle.std.proofs.Common.{◌≡◌, ℕ, ◌+◌, ◌<◌, ◌≤◌, ◌⊎◌, inl, inr, Bool, true, false, eqb, if◌then◌else◌, List, [], ◌∷◌, ◌++◌, length, map, take, get_or, refl, sym, ◌∙◌, arith}
+use Rattle.std.specs.Prelude.{Any}
+use Rattle.std.proofs.lemmas.Bool.{eqb-true, eqb-false}
+use Rattle.std.proofs.lemmas.List.{take_all}
+use Rattle.std.proofs.lemmas.Grind.{common_steps}
+use Rattle.lf_names.specs.Pattern.{Matches}
+use Rattle.lf_claims.specs.declared.claims.Claim.{Claim}
+use Rattle.lf_claims.specs.declared.claims.Claim.TheVariants.{Unclaimed, ByOne, ByTwo}
+use Rattle.lf_claims.specs.declared.starred.Bound.{Bound}
+use Rattle.lf_claims.specs.Claims.{joined, merged, Tells, ClaimsBy, StepsTo}
+use Rattle.lf_claims.proofs.Named.{any_first, any_later, any_cases, none_of_nothing}
+
+-- an entry of a list that is put together
+pub any_parts : {A : Type 0} (P : A → Type 0) (xs ys : List A) → Any P (xs ++ ys) → Any P xs ⊎ Any P ys
+any_parts P [] ys h = inr h
+any_parts P (x ∷ xs) ys h = elim (any_cases P x (xs ++ ys) h) [
+  | inl own ↦ inl (any_first P x xs own)
+  | inr rest ↦ elim (any_parts P xs ys rest) [ inl early ↦ inl (any_later P x xs early) | inr late ↦ inr late ]
+]
+
+pub any_left : {A : Type 0} (P : A → Type 0) (xs ys : List A) → Any P xs → Any P (xs ++ ys)
+any_left P [] ys h = absurd (none_of_nothing P h)
+any_left P (x ∷ xs) ys h = elim (any_cases P x xs h) [
+  | inl own ↦ any_first P x (xs ++ ys) own
+  | inr rest ↦ any_later P x (xs ++ ys) (any_left P xs ys rest)
+]
+
+pub any_right : {A : Type 0} (P : A → Type 0) (xs ys : List A) → Any P ys → Any P (xs ++ ys)
+any_right P [] ys h = h
+any_right P (x ∷ xs) ys h = any_later P x (xs ++ ys) (any_right P xs ys h)
+
+pub any_one : {A : Type 0} (P : A → Type 0) (x : A) → Any P (x ∷ []) → P x
+any_one P x h = elim (any_cases P x [] h) [ inl own ↦ own | inr rest ↦ absurd (none_of_nothing P rest) ]
+
+pub any_mapped : {A B : Type 0} (f : A → B) (P : B → Type 0) (xs : List A) → Any P (map f xs) → Any (λ x. P (f x)) xs
+any_mapped f P [] h = absurd (none_of_nothing P h)
+any_mapped f P (x ∷ xs) h = elim (any_cases P (f x) (map f xs) h) [
+  | inl own ↦ any_first (λ y. P (f y)) x xs own
+  | inr rest ↦ any_later (λ y. P (f y)) x xs (any_mapped f P xs rest)
+]
+
+pub any_map : {A B : Type 0} (f : A → B) (P : B → Type 0) (xs : List A) → Any (λ x. P (f x)) xs → Any P (map f xs)
+any_map f P [] h = absurd (none_of_nothing (λ x. P (f x)) h)
+any_map f P (x ∷ xs) h = elim (any_cases (λ y. P (f y)) x xs h) [
+  | inl own ↦ any_first P (f x) (map f xs) own
+  | inr rest ↦ any_later P (f x) (map f xs) (any_map f P xs rest)
+]
+
+-- a set of fences and one fence more
+pub tells_joined : (S T : ℕ → Type 0) (claim : Claim) (n : ℕ) → ((m : ℕ) → S m → T m) → T n → ((m : ℕ) → T m → S m ⊎ (m ≡ n)) → Tells S claim → Tells T (joined claim n)
+tells_joined S T Unclaimed n old new cases none = (new, λ m h. elim (cases m h) [ inl s ↦ absurd (none m s) | inr e ↦ e ])
+tells_joined S T (ByOne one) n old new cases h = by (eqb one n) refl
+  where
+    by : (t : Bool) → eqb one n ≡ t → Tells T (if t then ByOne one else ByTwo)
+    by true e =
+        let same : one ≡ n = eqb-true one n e in
+        (old one h.0, λ m t. elim (cases m t) [ inl s ↦ h.1 m s | inr is ↦ is ∙ sym same ])
+    by false e = (one, n, eqb-false one n e, old one h.0, new)
+tells_joined S T ByTwo n old new cases (a, b, differ, in_a, in_b) = (a, b, differ, old a in_a, old b in_b)
+
+pub tells_same : (S T : ℕ → Type 0) (claim : Claim) → ((m : ℕ) → S m → T m) → ((m : ℕ) → T m → S m) → Tells S claim → Tells T claim
+tells_same S T Unclaimed forth back none = λ m t. none m (back m t)
+tells_same S T (ByOne one) forth back h = (forth one h.0, λ m t. h.1 m (back m t))
+tells_same S T ByTwo forth back (a, b, differ, in_a, in_b) = (a, b, differ, forth a in_a, forth b in_b)
+
+-- two sets of fences as one
+pub tells_merged : (S T : ℕ → Type 0) (claim more : Claim) → Tells S claim → Tells T more → Tells (λ m. S m ⊎ T m) (merged claim more)
+tells_merged S T claim Unclaimed h none = tells_same S (λ m. S m ⊎ T m) claim (λ m s. inl s) (λ m u. elim u [ inl s ↦ s | inr t ↦ absurd (none m t) ]) h
+tells_merged S T claim (ByOne one) h g = tells_joined S (λ m. S m ⊎ T m) claim one (λ m s. inl s) (inr g.0) (λ m u. elim u [ inl s ↦ inl s | inr t ↦ inr (g.1 m t) ]) h
+tells_merged S T claim ByTwo h (a, b, differ, in_a, in_b) = (a, b, differ, inr in_a, inr in_b)
+
+-- bound patterns and one pattern more
+pub claims_parts : (bounds : List Bound) (b : Bound) (name : List ℕ) (n : ℕ) → ClaimsBy (bounds ++ b ∷ []) name n → ClaimsBy bounds name n ⊎ ((b.fence ≡ n) × Matches b.pattern name)
+claims_parts bounds b name n h = elim (any_parts (λ c. (c.fence ≡ n) × Matches c.pattern name) bounds (b ∷ []) h) [
+  | inl early ↦ inl early
+  | inr late ↦ inr (any_one (λ c. (c.fence ≡ n) × Matches c.pattern name) b late)
+]
+
+pub claims_old : (bounds : List Bound) (b : Bound) (name : List ℕ) (n : ℕ) → ClaimsBy bounds name n → ClaimsBy (bounds ++ b ∷ []) name n
+claims_old bounds b name n h = any_left (λ c. (c.fence ≡ n) × Matches c.pattern name) bounds (b ∷ []) h
+
+pub claims_new : (bounds : List Bound) (b : Bound) (name : List ℕ) → Matches b.pattern name → ClaimsBy (bounds ++ b ∷ []) name b.fence
+claims_new bounds b name h =
+    any_right (λ c. (c.fence ≡ b.fence) × Matches c.pattern name) bounds (b ∷ []) (any_first (λ c. (c.fence ≡ b.fence) × Matches c.pattern name) b [] (refl, h))
+
+pub tells_one_more : (bounds : List Bound) (b : Bound) (name : List ℕ) (claim : Claim) → Matches b.pattern name → Tells (ClaimsBy bounds name) claim → Tells (ClaimsBy (bounds ++ b ∷ []) name) (joined claim b.fence)
+tells_one_more bounds b name claim stands h =
+    tells_joined (ClaimsBy bounds name) (ClaimsBy (bounds ++ b ∷ []) name) claim b.fence (λ m. claims_old bounds b name m) (claims_new bounds b name stands)
+    (λ m c. elim (claims_parts bounds b name m c) [ inl early ↦ inl early | inr own ↦ inr (sym own.0) ]) h
+
+pub tells_no_more : (bounds : List Bound) (b : Bound) (name : List ℕ) (claim : Claim) → (Matches b.pattern name → ⊥) → Tells (ClaimsBy bounds name) claim → Tells (ClaimsBy (bounds ++ b ∷ []) name) claim
+tells_no_more bounds b name claim apart h =
+    tells_same (ClaimsBy bounds name) (ClaimsBy (bounds ++ b ∷ []) name) claim (λ m. claims_old bounds b name m)
+    (λ m c. elim (claims_parts bounds b name m c) [ inl early ↦ early | inr own ↦ absurd (apart own.1) ]) h
+
+pub tells_step : (bounds : List Bound) (b : Bound) (name : List ℕ) (claim after : Claim) → StepsTo b name claim after → Tells (ClaimsBy bounds name) claim → Tells (ClaimsBy (bounds ++ b ∷ []) name) after
+tells_step bounds b name claim after (inl (stands, is)) h = rw is (tells_one_more bounds b name claim stands h)
+tells_step bounds b name claim after (inr (apart, is)) h = rw is (tells_no_more bounds b name claim apart h)
+
+pub one_bound_more : {A : Type 0} (xs : List A) (n : ℕ) (x : A) → n < length xs → x ≡ get_or xs n x → take n xs ++ x ∷ [] ≡ take (n + 1) xs
+one_bound_more xs n x within is = grind (arith, common_steps)
+
+pub all_bounds_seen : {A : Type 0} (xs : List A) (n : ℕ) → length xs ≤ n → take n xs ≡ xs
+all_bounds_seen xs n past = take_all n xs past

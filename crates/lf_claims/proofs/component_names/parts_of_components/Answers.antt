@@ -1,0 +1,17 @@
+use Rattle.std.proofs.Common.{◌≡◌, take, arith}
+use Rattle.lf_claims.specs.Tables.{numbered_names}
+use Rattle.lf_claims.proofs.Numbered.{numbered_more}
+use Rattle.lf_claims.proofs.Tellings.{all_bounds_seen}
+use Rattle.lf_claims.proofs.component_names.parts_of_components.Goals as goal
+
+pub loop-number-preserved : goal.loop-number-preserved
+loop-number-preserved c =
+    let components = c.args.components.now in
+    let n = c.loop-number.number in
+    let item = c.index-components-number.result in
+    let more = numbered_more components n item c.loop-number-test.true c.index-components-number.is in
+    let label : c.in-Ok.label ≡ n = (rw c.in-Ok.is at c.try_from.ensures).1 in
+    rw (← more) (rw (c.as_bytes.ensures, label) at (c.in_ok-push.ensures (numbered_names (take n components)) c.loop-number.invariant))
+
+pub returns : goal.returns
+returns c = rw (all_bounds_seen c.args.components.now c.loop-number.number (omega arith)) at c.loop-number.invariant

@@ -1,0 +1,148 @@
+-- Which fences claim a component, by the patterns of all groups (DEF GROUPS).
+use Rattle.std.specs.Prelude.{◌≡◌, ◌≢◌, ℕ, ◌<◌, ◌≤◌, ◌==◌, ◌⊎◌, if◌then◌else◌, List, [], ◌∷◌, ◌++◌, length, map, take, Option, None, Some, Any, unwrap_or, slice_get, slice_index_or, Contains, Vec}
+use Rattle.std.specs.List.{flat_map}
+use Rattle.std.specs.Global.{Global}
+use Rattle.std.specs.Option.{option_and_then}
+use Rattle.lf_names.specs.Names.{position_of}
+use Rattle.lf_names.specs.Pattern.{prefix_of, Matches}
+use Rattle.lf_names.specs.NameParts.{Labelled, ArePartsOf}
+use Rattle.lf_names.specs.declared.name_parts.Match.{Match}
+use Rattle.lf_def.specs.declared.regions.Region.{Region}
+use Rattle.lf_def.specs.declared.groups.Group.{Group}
+use Rattle.lf_def.specs.declared.components.Component.{Component}
+use Rattle.lf_claims.specs.declared.claims.Claim.{Claim}
+use Rattle.lf_claims.specs.declared.claims.Claim.TheVariants.{Unclaimed, ByOne, ByTwo}
+use Rattle.lf_claims.specs.declared.starred.Bound.{Bound}
+use Rattle.lf_claims.specs.declared.starred.StarredPatterns.{StarredPatterns}
+use Rattle.lf_claims.specs.declared.pattern_index.PatternIndex.{PatternIndex}
+use Rattle.lf_claims.specs.declared.table.ClaimTable.{ClaimTable}
+use Rattle.lf_claims.specs.declared.name_map.NameMap.{NameMap}
+use Rattle.lf_claims.specs.NameMaps.{value_of, IsWhole}
+use Rattle.lf_claims.specs.Teams.{fences, fence_names, IsUnclaimed, IsClaimedBy}
+use Rattle.lf_claims.specs.Entries.{NoneBreaks, FirstIs}
+use Rattle.lf_claims.specs.Refusals.{HasTwoFences, BearsEarlierName}
+
+-- what the claim says: no fence claims the name, one does, or two different ones do
+abbrev pub IsClaimOf : List Region → List Group → List ℕ → Claim → Type 0
+IsClaimOf regions groups name Unclaimed = IsUnclaimed regions groups name
+IsClaimOf regions groups name (ByOne team) = IsClaimedBy regions groups name team
+IsClaimOf regions groups name ByTwo = HasTwoFences regions groups name
+
+-- the claim when this fence claims the name too
+abbrev pub joined : Claim → ℕ → Claim
+joined Unclaimed fence = ByOne fence
+joined (ByOne other) fence = if other == fence then ByOne other else ByTwo
+joined ByTwo fence = ByTwo
+
+-- two claims as one
+abbrev pub merged : Claim → Claim → Claim
+merged claim Unclaimed = claim
+merged claim (ByOne fence) = joined claim fence
+merged claim ByTwo = ByTwo
+
+-- the claim tells how many fences of a set there are: none, one alone, or two that differ
+abbrev pub Tells : (ℕ → Type 0) → Claim → Type 0
+Tells claims Unclaimed = (fence : ℕ) → claims fence → ⊥
+Tells claims (ByOne one) = claims one × ((other : ℕ) → claims other → other ≡ one)
+Tells claims ByTwo = (first : ℕ) × (second : ℕ) × (first ≢ second) × claims first × claims second
+
+-- a pattern that is bound to the fence of this number stands for the name
+abbrev pub ClaimsBy : List Bound → List ℕ → ℕ → Type 0
+ClaimsBy bounds name fence = Any (λ b. (b.fence ≡ fence) × Matches b.pattern name) bounds
+
+-- the claim joins the fence of the pattern, where it stands for the name, and stays as it is where not
+abbrev pub StepsTo : Bound → List ℕ → Claim → Claim → Type 0
+StepsTo b name claim after = (Matches b.pattern name × (after ≡ joined claim b.fence)) ⊎ ((Matches b.pattern name → ⊥) × (after ≡ claim))
+
+-- the name stands in the list with this label
+abbrev pub Labels : List Labelled → List ℕ → ℕ → Type 0
+Labels names name label = Contains names (record { label = label; name = name })
+
+-- a name is matched: it has this number, and is asked for with this label
+abbrev pub IsMatched : List Match → ℕ → ℕ → Type 0
+IsMatched matches number label = Contains matches (record { own = number; asked = label })
+
+-- patterns that are bound to one fence, or to none
+abbrev pub bound_to : Option ℕ → List (List ℕ) → List Bound
+bound_to None patterns = []
+bound_to (Some fence) patterns = map (λ p. record { pattern = p; fence = fence }) patterns
+
+-- the patterns of a group, bound to its fence where it has one
+abbrev pub group_bounds : List Region → Group → List Bound
+group_bounds regions g = bound_to (option_and_then (position_of (fence_names regions)) g.region) g.patterns
+
+-- the patterns of all groups
+abbrev pub all_bounds : List Region → List Group → List Bound
+all_bounds regions groups = flat_map (group_bounds regions) groups
+
+-- the claim at a number
+abbrev pub claim_at : List Claim → ℕ → Claim
+claim_at claims number = unwrap_or (slice_get claims number) Unclaimed
+
+-- the patterns that stand at a place, where it is one
+abbrev pub bounds_there : Option (Vec Bound Global) → List Bound
+bounds_there None = []
+bounds_there (Some bounds) = bounds.items
+
+-- the patterns that are kept under a prefix
+abbrev pub kept_under : StarredPatterns → List ℕ → List Bound
+kept_under starred prefix = bounds_there (option_and_then (slice_get starred.bounds.items) (position_of starred.prefixes prefix))
+
+-- a pattern claims the name that is kept under the name's first bytes, so many of them
+abbrev pub ClaimsUnder : StarredPatterns → List ℕ → ℕ → ℕ → Type 0
+ClaimsUnder starred name count fence = (count ≤ length name) × ClaimsBy (kept_under starred (take count name)) name fence
+
+-- these patterns are kept: where one of them claims a name, one claims it that is kept under the name's first bytes, as many as a length tells; what is kept claims nothing that these do not; and each length is that of one's prefix
+pub record HasStarred (starred : StarredPatterns) (bounds : List Bound) : Type 0 where
+  pub whole : length starred.prefixes ≡ length starred.bounds.items
+  pub found : (name : List ℕ) (fence : ℕ) → ClaimsBy bounds name fence → Any (λ count. ClaimsUnder starred name count fence) starred.lengths.items
+  pub own : (prefix name : List ℕ) (fence : ℕ) → ClaimsBy (kept_under starred prefix) name fence → ClaimsBy bounds name fence
+  pub needed : (count : ℕ) → Contains starred.lengths.items count → Any (λ b. length (prefix_of b.pattern) ≡ count) bounds
+
+-- the pattern is kept behind those of the prefix; under each other prefix, and among the lengths, all is as it was
+pub record Keeps (old new : StarredPatterns) (prefix : List ℕ) (bound : Bound) : Type 0 where
+  pub whole : length new.prefixes ≡ length new.bounds.items
+  pub there : kept_under new prefix ≡ kept_under old prefix ++ bound ∷ []
+  pub others : (other : List ℕ) → other ≢ prefix → kept_under new other ≡ kept_under old other
+  pub lengths : new.lengths ≡ old.lengths
+
+-- the index holds these patterns: literal ones as names, labelled with the number of the fence, the others by their prefixes
+pub record Holds (index : PatternIndex) (bounds : List Bound) : Type 0 where
+  pub literals : List Labelled
+  pub kept : ArePartsOf literals index.literals
+  pub starred : List Bound
+  pub tried : HasStarred index.starred starred
+  pub forth : (name : List ℕ) (fence : ℕ) → ClaimsBy bounds name fence → Labels literals name fence ⊎ ClaimsBy starred name fence
+  pub back : (name : List ℕ) (fence : ℕ) → Labels literals name fence ⊎ ClaimsBy starred name fence → ClaimsBy bounds name fence
+
+-- whatever patterns the old index holds, the new one holds these behind them
+abbrev pub Extends : PatternIndex → PatternIndex → List Bound → Type 0
+Extends old new more = (bounds : List Bound) → Holds old bounds → Holds new (bounds ++ more)
+
+-- the map has the place of each name of the list, the first where a name stands twice
+abbrev pub Numbers : List (List ℕ) → NameMap ℕ → Type 0
+Numbers names numbers = (name : List ℕ) → value_of numbers name ≡ position_of names name
+
+-- whatever names the old map numbers, the new one numbers those and this name behind them
+pub record NumbersOneMore (old new : NameMap ℕ) (number : ℕ) (name : List ℕ) : Type 0 where
+  pub whole : IsWhole new
+  pub numbers : (names : List (List ℕ)) → number ≡ length names → Numbers names old → Numbers (names ++ name ∷ []) new
+
+-- each component has the claim of its number, by fences that are told from its name
+abbrev pub AreTold : (List ℕ → ℕ → Type 0) → List Component → List Claim → Type 0
+AreTold claims components told = (k : ℕ) (d : Component) → k < length components → Tells (claims (slice_index_or components k d).name) (claim_at told k)
+
+-- where the components' names all differ, each component has its claim; and there are none only where two bear one name
+abbrev pub AreClaimsWhereDistinct : (List ℕ → ℕ → Type 0) → List Component → Option (Vec Claim Global) → Type 0
+AreClaimsWhereDistinct claims components (Some told) = NoneBreaks BearsEarlierName components × AreTold claims components told.items
+AreClaimsWhereDistinct claims components None = NoneBreaks BearsEarlierName components → ⊥
+
+-- each component has the claim of its number
+abbrev pub AreClaimsOf : List Region → List Group → List Component → List Claim → Type 0
+AreClaimsOf regions groups components claims = (k : ℕ) (d : Component) → k < length components → IsClaimOf regions groups (slice_index_or components k d).name (claim_at claims k)
+
+-- the table has the first component that bears an earlier one's name, the claims of all where there is none such, and the number of the ground
+pub record IsTableOf (regions : List Region) (groups : List Group) (components : List Component) (table : ClaimTable) : Type 0 where
+  pub second : FirstIs BearsEarlierName components table.second
+  pub claims : NoneBreaks BearsEarlierName components → AreClaimsOf regions groups components table.claims.items
+  pub ground : table.ground ≡ length (fences regions)

@@ -1,0 +1,6 @@
+pub mod Entries
+pub mod Teams
+pub mod Refusals
+pub mod NameMaps
+pub mod Tables
+pub mod Claims

@@ -1,0 +1,85 @@
+-- The fences, the components that teams may move, and which team each of these is of (DEF REGIONS, GROUPS, COMPONENTS).
+use Rattle.std.specs.Prelude.{◌≡◌, ℕ, Bool, true, false, not, ◌&&◌, ◌⊎◌, List, length, filter, map, Option, Some, None, Any}
+use Rattle.lf_names.specs.Names.{position_of}
+use Rattle.lf_names.specs.Pattern.{Matches}
+use Rattle.lf_def.specs.declared.regions.Region.{Region}
+use Rattle.lf_def.specs.declared.regions.RegionKind.{RegionKind}
+use Rattle.lf_def.specs.declared.regions.RegionKind.TheVariants.{Fence, Guide}
+use Rattle.lf_def.specs.declared.groups.Group.{Group}
+use Rattle.lf_def.specs.declared.components.Component.{Component}
+use Rattle.lf_def.specs.declared.components.Placement.{Placement}
+use Rattle.lf_def.specs.declared.components.PlacementKind.{PlacementKind}
+use Rattle.lf_def.specs.declared.components.PlacementKind.TheVariants.{Fixed, Cover, Placed, Unplaced}
+
+abbrev pub is_fence_kind : Option RegionKind → Bool
+is_fence_kind (Some Fence) = true
+is_fence_kind (Some Guide) = false
+is_fence_kind None = false
+
+-- the region is a fence: its TYPE is FENCE
+abbrev pub is_fence : Region → Bool
+is_fence r = is_fence_kind r.kind
+
+-- the fences, in the order of the text
+abbrev pub fences : List Region → List Region
+fences regions = filter is_fence regions
+
+-- the names of the fences, in the order of the text
+abbrev pub fence_names : List Region → List (List ℕ)
+fence_names regions = map (λ r. r.name) (fences regions)
+
+abbrev pub is_fixed_kind : PlacementKind → Bool
+is_fixed_kind Fixed = true
+is_fixed_kind Cover = false
+is_fixed_kind Placed = false
+is_fixed_kind Unplaced = false
+
+abbrev pub is_cover_kind : PlacementKind → Bool
+is_cover_kind Fixed = false
+is_cover_kind Cover = true
+is_cover_kind Placed = false
+is_cover_kind Unplaced = false
+
+-- its placement clause says so; without a clause it does not
+abbrev pub says : (PlacementKind → Bool) → Option Placement → Bool
+says is_kind None = false
+says is_kind (Some p) = is_kind p.kind
+
+abbrev pub is_fixed : Component → Bool
+is_fixed c = says is_fixed_kind c.placement
+
+abbrev pub is_cover : Component → Bool
+is_cover c = says is_cover_kind c.placement
+
+-- a component that teams may move: neither FIXED nor COVER
+abbrev pub is_movable : Component → Bool
+is_movable c = not (is_fixed c) && not (is_cover c)
+
+-- a pattern of the group stands for the name
+abbrev pub NamedBy : Group → List ℕ → Type 0
+NamedBy group name = Any (λ pattern. Matches pattern name) group.patterns
+
+-- the group is bound to the fence, and names the component
+pub record Claims (regions : List Region) (group : Group) (name fence : List ℕ) : Type 0 where
+  pub bound : group.region ≡ Some fence
+  pub fence_there : Any (λ r. (is_fence r ≡ true) × (r.name ≡ fence)) regions
+  pub named : NamedBy group name
+
+-- a group that is bound to the fence names the component
+abbrev pub IsClaimed : List Region → List Group → List ℕ → List ℕ → Type 0
+IsClaimed regions groups name fence = Any (λ g. Claims regions g name fence) groups
+
+-- no fence claims the name
+abbrev pub IsUnclaimed : List Region → List Group → List ℕ → Type 0
+IsUnclaimed regions groups name = (fence : List ℕ) → IsClaimed regions groups name fence → ⊥
+
+-- the fence of this number claims the name, and no other does; of fences of one name the first counts
+pub record IsClaimedBy (regions : List Region) (groups : List Group) (name : List ℕ) (team : ℕ) : Type 0 where
+  pub fence : List ℕ
+  pub place : position_of (fence_names regions) fence ≡ Some team
+  pub claimed : IsClaimed regions groups name fence
+  pub only : (other : List ℕ) → IsClaimed regions groups name other → other ≡ fence
+
+-- the team of a movable component: the one fence that claims it, or the ground, whose number is behind the fences
+abbrev pub IsTeamOf : List Region → List Group → List ℕ → ℕ → Type 0
+IsTeamOf regions groups name team = IsClaimedBy regions groups name team ⊎ (IsUnclaimed regions groups name × (team ≡ length (fences regions)))

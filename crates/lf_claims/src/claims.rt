@@ -1,0 +1,88 @@
+//! Claims of fences on names.
+
+ghost use Rattle.std.specs.Prelude.{◌≡◌, ◌<◌, ℕ, IfOk, length, slice_set};
+ghost use Rattle.lf_claims.specs.Claims.{joined as joined_claim, merged as merged_claim, Tells, claim_at, IsMatched};
+
+use lf_names::Match;
+use std::alloc::{AllocError, Global};
+
+/// Which fences claim a name.
+#[derive(Clone, Copy)]
+pub enum Claim {
+    /// None does.
+    Unclaimed,
+    /// The fence of this number does, and no other.
+    ByOne(u32),
+    /// Two different fences do.
+    ByTwo,
+}
+
+/// The claim when this fence claims the name too.
+pub(crate) fn joined(claim: Claim, fence: u32) -> Claim
+    ensures { result ≡ joined_claim claim fence }
+{
+    match claim {
+        Claim::Unclaimed => Claim::ByOne(fence),
+        Claim::ByOne(other) => {
+            if other == fence {
+                Claim::ByOne(other)
+            } else {
+                Claim::ByTwo
+            }
+        }
+        Claim::ByTwo => Claim::ByTwo,
+    }
+}
+
+/// Two claims as one.
+pub(crate) fn merged(claim: Claim, more: Claim) -> Claim
+    ensures { result ≡ merged_claim claim more }
+{
+    match more {
+        Claim::Unclaimed => claim,
+        Claim::ByOne(fence) => joined(claim, fence),
+        Claim::ByTwo => Claim::ByTwo,
+    }
+}
+
+/// The claim at the number; at a number beyond them, none.
+pub(crate) fn claim_of(claims: &[Claim], number: usize) -> Claim
+    ensures { result ≡ claim_at claims.now number }
+{
+    match claims.get(number) {
+        Some(claim) => *claim,
+        None => Claim::Unclaimed,
+    }
+}
+
+/// No claim, so many times.
+fn unclaimed(alloc: Global, count: usize) -> Result<Vec<Claim>, AllocError>
+    ensures long { IfOk result (λ claims. length claims.items ≡ count) }
+    ensures nothing { IfOk result (λ claims. (number : ℕ) → claim_at claims.items number ≡ Claim.Unclaimed) }
+{
+    vec![in alloc; Claim::Unclaimed; count]
+}
+
+/// Joins the fence to the claim at the number, if there is one.
+fn join_at(claims: &mut Vec<Claim>, number: usize, fence: u32)
+    ensures { claims.new.items ≡ slice_set claims.old.items number (joined_claim (claim_at claims.old.items number) fence) }
+{
+    if let Some(claim) = claims.get_mut(number) {
+        *claim = joined(*claim, fence);
+    }
+}
+
+/// What each of so many names is claimed for by its matches, in which it is named by its number.
+pub(crate) fn claims_by_match(
+    alloc: Global,
+    count: usize,
+    matches: &[Match],
+) -> Result<Vec<Claim>, AllocError>
+    ensures { IfOk result (λ claims. (number : ℕ) → number < count → Tells (IsMatched matches.now number) (claim_at claims.items number)) }
+{
+    let mut claims = unclaimed(alloc, count)?;
+    for found in matches {
+        join_at(&mut claims, found.own as usize, found.asked);
+    }
+    Ok(claims)
+}

@@ -1,0 +1,57 @@
+//! The names of components.
+
+ghost use Rattle.std.specs.Prelude.{[], ◌∷◌, ◌++◌, ◌≡◌, Contains, IsTrue, IsFalse, IfOk};
+ghost use Rattle.lf_names.specs.NameParts.{ArePartsOf};
+ghost use Rattle.lf_claims.specs.Entries.{FirstIs};
+ghost use Rattle.lf_claims.specs.Refusals.{BearsEarlierName};
+ghost use Rattle.lf_claims.specs.Tables.{numbered_names};
+
+use lf_def::Component;
+use lf_names::{Added, NameParts, NameTable};
+use std::alloc::{AllocError, Global};
+
+/// The names of components in parts, each labelled with its component's number. More of them than 32 bits count are
+/// refused as want of memory.
+pub(crate) fn parts_of_components(
+    alloc: Global,
+    components: &[Component],
+) -> Result<NameParts, AllocError>
+    ensures { IfOk result (ArePartsOf (numbered_names components.now)) }
+{
+    let mut parts = NameParts::new(alloc)?;
+    for (number, component) in components.iter().enumerate() {
+        let Ok(label) = u32::try_from(number) else {
+            return Err(AllocError);
+        };
+        parts.push(label, component.name.as_bytes())?;
+    }
+    Ok(parts)
+}
+
+/// Adds the name, and answers whether it is new.
+pub fn is_added(names: &mut NameTable, name: &[u8]) -> Result<bool, AllocError>
+    ensures new { IfOk result (λ added. IsTrue added → Contains names.old name.now → ⊥) }
+    ensures added { IfOk result (λ added. IsTrue added → names.new ≡ names.old ++ name.now ∷ []) }
+    ensures present { IfOk result (λ added. IsFalse added → Contains names.old name.now) }
+{
+    match names.add(name)? {
+        Added::New(_) => Ok(true),
+        Added::Present(_) => Ok(false),
+    }
+}
+
+/// The first component that bears an earlier one's name.
+pub(crate) fn first_second_name(
+    alloc: Global,
+    components: &[Component],
+) -> Result<Option<usize>, AllocError>
+    ensures { IfOk result (FirstIs BearsEarlierName components.now) }
+{
+    let mut names = NameTable::new(alloc);
+    for (number, component) in components.iter().enumerate() {
+        if !is_added(&mut names, component.name.as_bytes())? {
+            return Ok(Some(number));
+        }
+    }
+    Ok(None)
+}

@@ -1,0 +1,54 @@
+//! What is a fence, and which components teams may move.
+
+ghost use Rattle.std.specs.Prelude.{◌≡◌};
+ghost use Rattle.lf_claims.specs.Teams.{is_fence as is_fence_region, is_cover as is_cover_component, is_fixed as is_fixed_component, is_movable as is_movable_component};
+
+use lf_def::{Component, PlacementKind, Region, RegionKind};
+
+/// Whether the component is FIXED.
+pub fn is_fixed(component: &Component) -> bool
+    ensures { result ≡ is_fixed_component component.now }
+{
+    match &component.placement {
+        Some(placement) => match placement.kind {
+            PlacementKind::Fixed => true,
+            PlacementKind::Cover => false,
+            PlacementKind::Placed => false,
+            PlacementKind::Unplaced => false,
+        },
+        None => false,
+    }
+}
+
+/// Whether the component is COVER.
+pub fn is_cover(component: &Component) -> bool
+    ensures { result ≡ is_cover_component component.now }
+{
+    match &component.placement {
+        Some(placement) => match placement.kind {
+            PlacementKind::Fixed => false,
+            PlacementKind::Cover => true,
+            PlacementKind::Placed => false,
+            PlacementKind::Unplaced => false,
+        },
+        None => false,
+    }
+}
+
+/// Whether teams may move the component: it is neither FIXED nor COVER.
+pub fn is_movable(component: &Component) -> bool
+    ensures { result ≡ is_movable_component component.now }
+{
+    !is_fixed(component) && !is_cover(component)
+}
+
+/// Whether the region's TYPE is FENCE.
+pub fn is_fence(region: &Region) -> bool
+    ensures { result ≡ is_fence_region region.now }
+{
+    match region.kind {
+        Some(RegionKind::Fence) => true,
+        Some(RegionKind::Guide) => false,
+        None => false,
+    }
+}

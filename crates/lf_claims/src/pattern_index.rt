@@ -1,0 +1,183 @@
+//! The patterns of groups, bound to the fences of the groups.
+
+ghost use Rattle.std.specs.Prelude.{◌≡◌, ◌↔◌, ◌⊎◌, ℕ, [], ◌∷◌, List, Some, IfOk, OnOk};
+ghost use Rattle.std.specs.Option.{option_and_then};
+ghost use Rattle.lf_names.specs.NameParts.{Labelled, ArePartsOf};
+ghost use Rattle.lf_names.specs.Pattern.{Matches};
+ghost use Rattle.lf_def.specs.declared.regions.Region.{Region};
+ghost use Rattle.lf_claims.specs.Teams.{fence_names};
+ghost use Rattle.lf_claims.specs.NameMaps.{value_of};
+ghost use Rattle.lf_claims.specs.declared.starred.Bound.{Bound};
+ghost use Rattle.lf_claims.specs.Claims.{Tells, ClaimsBy, bound_to, all_bounds, Labels, Holds, Extends, Numbers, AreTold, AreClaimsWhereDistinct, HasStarred};
+
+use crate::claims::{Claim, claim_of, claims_by_match, merged};
+use crate::component_names::parts_of_components;
+use crate::name_map::NameMap;
+use crate::starred::StarredPatterns;
+use lf_def::{Component, Group};
+use lf_names::{NameParts, Pattern};
+use lf_units::Name;
+use std::alloc::{AllocError, Global};
+
+/// Patterns that are bound to fences: those without a star in parts, as the names that they stand for, each labelled
+/// with the number of its fence; the others by what they begin with.
+#[derive(Drop)]
+pub struct PatternIndex {
+    literals: NameParts,
+    starred: StarredPatterns,
+}
+
+impl PatternIndex {
+    /// The index of no pattern.
+    fn new(alloc: Global) -> Result<Self, AllocError>
+        ensures { IfOk result (λ index. Holds index []) }
+    {
+        Ok(PatternIndex {
+            literals: NameParts::new(alloc)?,
+            starred: StarredPatterns::new(alloc),
+        })
+    }
+
+    /// Adds a pattern without a star.
+    fn add_literal(&mut self, pattern: &[u8], fence: u32) -> Result<(), AllocError>
+        ensures { ((name : List ℕ) → (Matches pattern.now name ↔ (name ≡ pattern.now))) → OnOk result (Extends self.old self.new (record { pattern = pattern.now; fence = fence } ∷ [])) }
+    {
+        self.literals.push(fence, pattern)?;
+        Ok(())
+    }
+
+    /// Adds a pattern that is tried on each name that begins as it does.
+    fn add_starred(&mut self, alloc: Global, pattern: &[u8], fence: u32) -> Result<(), AllocError>
+        ensures { OnOk result (Extends self.old self.new (record { pattern = pattern.now; fence = fence } ∷ [])) }
+    {
+        self.starred.add(alloc, pattern, fence)?;
+        Ok(())
+    }
+
+    /// Adds a pattern.
+    fn add(&mut self, alloc: Global, pattern: &[u8], fence: u32) -> Result<(), AllocError>
+        ensures { OnOk result (Extends self.old self.new (record { pattern = pattern.now; fence = fence } ∷ [])) }
+    {
+        if Pattern::new(pattern).is_literal() {
+            return self.add_literal(pattern, fence);
+        }
+        self.add_starred(alloc, pattern, fence)
+    }
+
+    /// Adds patterns of one fence.
+    fn add_patterns(
+        &mut self,
+        alloc: Global,
+        patterns: &[Name],
+        fence: u32,
+    ) -> Result<(), AllocError>
+        ensures { OnOk result (Extends self.old self.new (bound_to (Some fence) patterns.now)) }
+    {
+        for pattern in patterns {
+            self.add(alloc, pattern.as_bytes(), fence)?;
+        }
+        Ok(())
+    }
+
+    /// Adds the patterns of a group, where it is bound to a fence.
+    fn add_group(
+        &mut self,
+        alloc: Global,
+        group: &Group,
+        numbers: &NameMap<u32>,
+    ) -> Result<(), AllocError>
+        ensures { OnOk result (Extends self.old self.new (bound_to (option_and_then (value_of numbers.now) group.now.region) group.now.patterns)) }
+    {
+        match fence_of(group, numbers) {
+            Some(fence) => self.add_patterns(alloc, group.patterns.as_slice(), fence),
+            None => Ok(()),
+        }
+    }
+
+    /// What the literal patterns claim each component for; none where two components bear one name.
+    fn literal_claims(
+        &self,
+        alloc: Global,
+        components: &[Component],
+    ) -> Result<Option<Vec<Claim>>, AllocError>
+        ensures { (literals : List Labelled) → ArePartsOf literals self.now.literals → IfOk result (AreClaimsWhereDistinct (Labels literals) components.now) }
+    {
+        let names = parts_of_components(alloc, components)?;
+        let Some(matches) = names.matches(alloc, &self.literals)? else {
+            return Ok(None);
+        };
+        Ok(Some(claims_by_match(alloc, components.len(), &matches)?))
+    }
+
+    /// These claims of all components with those of the patterns with a star, each of which is tried on the names that
+    /// begin as it does.
+    fn with_starred(
+        &self,
+        alloc: Global,
+        components: &[Component],
+        claims: &[Claim],
+    ) -> Result<Vec<Claim>, AllocError>
+        ensures { (literals : List Labelled) (starred : List Bound) → HasStarred self.now.starred starred → AreTold (Labels literals) components.now claims.now → IfOk result (λ all. AreTold (λ name fence. Labels literals name fence ⊎ ClaimsBy starred name fence) components.now all.items) }
+    {
+        let mut all = Vec::with_capacity(alloc, components.len())?;
+        for (number, component) in components.iter().enumerate() {
+            let tried = self.starred.claim_on(component.name.as_bytes());
+            all.push(merged(claim_of(claims, number), tried))?;
+        }
+        Ok(all)
+    }
+
+    /// These claims of all components with those of the patterns with a star.
+    fn completed(
+        &self,
+        alloc: Global,
+        components: &[Component],
+        claims: Vec<Claim>,
+    ) -> Result<Vec<Claim>, AllocError>
+        ensures { (literals : List Labelled) (starred : List Bound) → HasStarred self.now.starred starred → AreTold (Labels literals) components.now claims.items → IfOk result (λ all. AreTold (λ name fence. Labels literals name fence ⊎ ClaimsBy starred name fence) components.now all.items) }
+    {
+        if self.starred.is_empty() {
+            return Ok(claims);
+        }
+        self.with_starred(alloc, components, &claims)
+    }
+
+    /// What the patterns claim each component for; none where two components bear one name.
+    pub(crate) fn claims_of(
+        &self,
+        alloc: Global,
+        components: &[Component],
+    ) -> Result<Option<Vec<Claim>>, AllocError>
+        ensures { (bounds : List Bound) → Holds self.now bounds → IfOk result (AreClaimsWhereDistinct (ClaimsBy bounds) components.now) }
+    {
+        let Some(claims) = self.literal_claims(alloc, components)? else {
+            return Ok(None);
+        };
+        Ok(Some(self.completed(alloc, components, claims)?))
+    }
+}
+
+/// The number of the fence that the group is bound to.
+fn fence_of(group: &Group, numbers: &NameMap<u32>) -> Option<u32>
+    ensures { result ≡ option_and_then (value_of numbers.now) group.now.region }
+{
+    match &group.region {
+        Some(region) => numbers.get(region.as_bytes()),
+        None => None,
+    }
+}
+
+/// The index of the patterns of all groups.
+pub(crate) fn index_of(
+    alloc: Global,
+    groups: &[Group],
+    numbers: &NameMap<u32>,
+) -> Result<PatternIndex, AllocError>
+    ensures { (regions : List Region) → Numbers (fence_names regions) numbers.now → IfOk result (λ index. Holds index (all_bounds regions groups.now)) }
+{
+    let mut index = PatternIndex::new(alloc)?;
+    for group in groups {
+        index.add_group(alloc, group, numbers)?;
+    }
+    Ok(index)
+}

@@ -1,0 +1,125 @@
+//! Which fences claim each component.
+
+ghost use Rattle.std.specs.Prelude.{◌≡◌, ◌↔◌, ℕ, [], List, IsTrue, IfOk, OnOk, length};
+ghost use Rattle.lf_def.specs.declared.regions.Region.{Region};
+ghost use Rattle.lf_def.specs.declared.groups.Group.{Group};
+ghost use Rattle.lf_claims.specs.Entries.{FirstIs, NoneBreaks};
+ghost use Rattle.lf_claims.specs.Teams.{fences, fence_names, IsTeamOf};
+ghost use Rattle.lf_claims.specs.Refusals.{HasTwoFences, IsClaimedTwice, BearsEarlierName};
+ghost use Rattle.lf_claims.specs.NameMaps.{IsWhole};
+ghost use Rattle.lf_claims.specs.Claims.{IsClaimOf, claim_at, Numbers, NumbersOneMore, IsTableOf};
+
+use crate::claims::{Claim, claim_of};
+use crate::component_names::first_second_name;
+use crate::kinds::{is_fence, is_movable};
+use crate::name_map::NameMap;
+use crate::pattern_index::index_of;
+use lf_def::{Component, Group, Region};
+use lf_units::Name;
+use std::alloc::{AllocError, Global};
+
+/// What the names of all components tell: which of them is an earlier one's too, and which fences claim each.
+#[derive(Drop)]
+pub struct ClaimTable {
+    second: Option<usize>,
+    claims: Vec<Claim>,
+    ground: u32,
+}
+
+/// Puts the number of the fence under its name, unless an earlier fence bears it.
+fn put_fence(numbers: &mut NameMap<u32>, name: &Name, number: u32) -> Result<(), AllocError>
+    requires { IsWhole numbers.old }
+    ensures { OnOk result (NumbersOneMore numbers.old numbers.new number name.now) }
+{
+    match numbers.get(name.as_bytes()) {
+        Some(_) => (),
+        None => numbers.put(name.as_bytes(), number)?,
+    }
+    Ok(())
+}
+
+/// The number of each fence by its name, and how many fences there are. More of them than 32 bits count are refused as
+/// want of memory.
+fn number_fences(alloc: Global, regions: &[Region]) -> Result<(NameMap<u32>, u32), AllocError>
+    ensures numbers { IfOk result (λ answer. Numbers (fence_names regions.now) answer.0) }
+    ensures ground { IfOk result (λ answer. answer.1 ≡ length (fences regions.now)) }
+{
+    let mut numbers = NameMap::new(alloc);
+    let mut count: u32 = 0;
+    for region in regions {
+        if is_fence(region) {
+            put_fence(&mut numbers, &region.name, count)?;
+            count = count.checked_add(1).ok_or(AllocError)?;
+        }
+    }
+    Ok((numbers, count))
+}
+
+/// What the names of all components tell, by all groups; the table has no claims where two components bear one name.
+pub fn claim_table(
+    alloc: Global,
+    components: &[Component],
+    groups: &[Group],
+    regions: &[Region],
+) -> Result<ClaimTable, AllocError>
+    ensures { IfOk result (λ table. IsTableOf regions.now groups.now components.now table) }
+{
+    let (numbers, ground) = number_fences(alloc, regions)?;
+    let index = index_of(alloc, groups, &numbers)?;
+    if let Some(claims) = index.claims_of(alloc, components)? {
+        return Ok(ClaimTable {
+            second: None,
+            claims,
+            ground,
+        });
+    }
+    Ok(ClaimTable {
+        second: first_second_name(alloc, components)?,
+        claims: Vec::new(alloc),
+        ground,
+    })
+}
+
+impl ClaimTable {
+    /// The first component that bears an earlier one's name.
+    pub fn second_name(&self) -> Option<usize>
+        ensures { result ≡ self.now.second }
+    {
+        self.second
+    }
+
+    /// The team of the component of that number, which no two fences claim: the place of its fence among the
+    /// fences, or their number where no fence claims it.
+    pub fn team_at(&self, number: usize) -> usize
+        ensures { (regions : List Region) (groups : List Group) (name : List ℕ) → IsClaimOf regions groups name (claim_at self.now.claims.items number) → (HasTwoFences regions groups name → ⊥) → self.now.ground ≡ length (fences regions) → IsTeamOf regions groups name result }
+    {
+        match claim_of(&self.claims, number) {
+            Claim::ByOne(team) => team as usize,
+            Claim::Unclaimed => self.ground as usize,
+            Claim::ByTwo => self.ground as usize,
+        }
+    }
+
+    /// Whether teams may move the component, which has this number, and groups of two different fences name it.
+    fn is_claimed_twice(&self, number: usize, component: &Component) -> bool
+        ensures { (regions : List Region) (groups : List Group) → IsClaimOf regions groups component.now.name (claim_at self.now.claims.items number) → (IsTrue result ↔ IsClaimedTwice regions groups [] component.now) }
+    {
+        match claim_of(&self.claims, number) {
+            Claim::ByTwo => is_movable(component),
+            Claim::ByOne(_) => false,
+            Claim::Unclaimed => false,
+        }
+    }
+}
+
+/// The first movable component that groups of two different fences name, where no two components bear one name.
+pub fn first_claimed_twice(components: &[Component], table: &ClaimTable) -> Option<usize>
+    ensures { (regions : List Region) (groups : List Group) → NoneBreaks BearsEarlierName components.now → IsTableOf regions groups components.now table.now → FirstIs (IsClaimedTwice regions groups) components.now result }
+{
+    for (number, component) in components.iter().enumerate() {
+        if table.is_claimed_twice(number, component) {
+            return Some(number);
+        }
+    }
+    None
+}

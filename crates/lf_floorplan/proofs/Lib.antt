@@ -1,0 +1,4 @@
+pub mod LengthLemmas
+pub mod StandingLemmas
+pub mod GroundLemmas
+pub mod CellLemmas

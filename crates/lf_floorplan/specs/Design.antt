@@ -1,0 +1,34 @@
+-- What a loaded design keeps of its cells (DEF COMPONENTS).
+use Rattle.std.specs.Prelude.{◌≢◌, ◌<◌, ◌≤◌, List, All, AllPairs, length, slice_get}
+use Rattle.std.specs.Option.{ForSome}
+use Rattle.lf_floorplan.specs.declared.frame.Frame.{Frame}
+use Rattle.lf_floorplan.specs.declared.loaded.Cell.{Cell}
+use Rattle.lf_floorplan.specs.Bounds.{IsName}
+use Rattle.lf_floorplan.specs.Boxes.{IsSized, macro_of}
+use Rattle.lf_floorplan.specs.Ground.{IsTeam}
+
+-- the cell's team and macro are there, the macro is whole, and the name is one
+pub record IsCell (f : Frame) (c : Cell) : Type 0 where
+  pub team_known : IsTeam f c.team
+  pub mac_known : c.mac < length f.macros
+  pub mac_sized : ForSome (slice_get f.macros c.mac) (λ m. IsSized f m)
+  pub name_printed : IsName c.name
+
+-- the macro of a cell's number is whole in database units
+abbrev pub CellIsSized : Type 0
+CellIsSized = (f : Frame) (c : Cell) → IsCell f c → IsSized f (macro_of f c.mac)
+
+-- no two cells bear one name
+abbrev pub CellsNamed : List Cell → Type 0
+CellsNamed cells = AllPairs (λ a b. a.name ≢ b.name) cells
+
+-- the cells stand in the order of their components
+abbrev pub ComponentsRise : List Cell → Type 0
+ComponentsRise cells = AllPairs (λ a b. a.component < b.component) cells
+
+-- the cells make a design on this frame
+pub record MakeDesign (f : Frame) (cells : List Cell) : Type 0 where
+  pub few_cells : length cells ≤ 4000000
+  pub cells_known : All (IsCell f) cells
+  pub names_differ : CellsNamed cells
+  pub components_rise : ComponentsRise cells

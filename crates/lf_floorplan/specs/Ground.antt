@@ -1,0 +1,34 @@
+-- Teams, their ground and the obstacles (DEF REGIONS, BLOCKAGES).
+use Rattle.std.specs.Prelude.{◌≡◌, ◌≢◌, ℕ, ℤ, ◌≤◌, All, length, slice_get, MatchOption}
+use Rattle.lf_units.specs.declared.area.Rect.{Rect}
+use Rattle.lf_units.specs.Area.{Covers, SharesPoint, CoveredBy}
+use Rattle.lf_floorplan.specs.declared.frame.Frame.{Frame}
+
+-- a team by its number: a fence, or the ground team, whose number is the number of fences
+abbrev pub IsTeam : Frame → ℕ → Type 0
+IsTeam f team = team ≤ length f.teams
+
+-- the point is ground of the team: of a fence what its rectangles cover, of the ground team what no
+-- fence covers; a greater number is no team and has no ground
+abbrev pub InGround : Frame → ℕ → ℤ → ℤ → Type 0
+InGround f team x y =
+    MatchOption (slice_get f.teams team)
+    ((team ≡ length f.teams) × All (λ fence. CoveredBy fence.rects x y → ⊥) f.teams)
+    (λ fence. CoveredBy fence.rects x y)
+
+-- every point of the box is ground of the team
+abbrev pub StaysInGround : Frame → ℕ → Rect → Type 0
+StaysInGround f team box = (x y : ℤ) → Covers box x y → InGround f team x y
+
+-- no point of the box is in an obstacle
+abbrev pub IsClear : Frame → Rect → Type 0
+IsClear f box = All (λ obstacle. SharesPoint box obstacle → ⊥) f.obstacles
+
+-- each point is ground of one team
+pub record PointHasOneTeam : Type 0 where
+  pub some_team : (f : Frame) (x y : ℤ) → (team : ℕ) × InGround f team x y
+  pub one_team : (f : Frame) (s t : ℕ) (x y : ℤ) → InGround f s x y → InGround f t x y → s ≡ t
+
+-- boxes that stay in the grounds of different teams share no point
+abbrev pub TeamsStayApart : Type 0
+TeamsStayApart = (f : Frame) (s t : ℕ) (a b : Rect) → s ≢ t → StaysInGround f s a → StaysInGround f t b → SharesPoint a b → ⊥

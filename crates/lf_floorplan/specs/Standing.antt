@@ -1,0 +1,63 @@
+-- A box that stands on rows (DEF ROW): its height in sites, its bottom row, and the rows above that one.
+use Rattle.std.specs.Prelude.{◌≡◌, ℕ, zero, suc, pos, ◌≤◌, ◌<◌, ◌+ℤ◌, ◌-ℤ◌, ◌*ℤ◌, ◌≤ℤ◌, ◌<ℤ◌, Contains}
+use Rattle.std.specs.Option.{option_map}
+use Rattle.lf_units.specs.declared.area.Rect.{Rect}
+use Rattle.lf_orient.specs.declared.Rail.{Rail}
+use Rattle.lf_orient.specs.Orientation.{rail_below, other_rail}
+use Rattle.lf_floorplan.specs.declared.frame.Frame.{Frame}
+use Rattle.lf_floorplan.specs.declared.parts.Row.{Row}
+use Rattle.lf_floorplan.specs.Rows.{row_area}
+
+-- the box is k core sites high, and k is from 1 to 8
+pub record IsSitesHigh (f : Frame) (box : Rect) (k : ℕ) : Type 0 where
+  pub least : 1 ≤ k
+  pub most : k ≤ 8
+  pub high : box.y2 ≡ box.y1 +ℤ (pos k *ℤ f.pitch.y)
+
+-- row j of the box: it lies j site heights above the box's lower edge, and its extent holds the box's x range
+pub record IsRowOfBox (f : Frame) (box : Rect) (j : ℕ) (r : Row) : Type 0 where
+  pub at_level : r.y ≡ box.y1 +ℤ (pos j *ℤ f.pitch.y)
+  pub left : r.x ≤ℤ box.x1
+  pub right : box.x2 ≤ℤ (row_area f.pitch r).x2
+
+-- the bottom row of the box: a heeded row that is its row 0, and whose x grid holds the box's x
+pub record IsBottomRow (f : Frame) (box : Rect) (r : Row) : Type 0 where
+  pub heeded : Contains f.rows r
+  pub at_bottom : IsRowOfBox f box 0 r
+  pub site : ℕ
+  pub on_grid : box.x1 -ℤ r.x ≡ pos site *ℤ f.pitch.x
+
+-- a rail, changed j times
+abbrev pub changed : ℕ → Rail → Rail
+changed zero rail = rail
+changed (suc j) rail = other_rail (changed j rail)
+
+-- the heeded row s carries the box: it is row j of it, and its rail is the bottom row's, changed j times
+pub record Carries (f : Frame) (box : Rect) (bottom : Row) (j : ℕ) (s : Row) : Type 0 where
+  pub heeded : Contains f.rows s
+  pub at_row : IsRowOfBox f box j s
+  pub rail : rail_below s.orient ≡ option_map (changed j) (rail_below bottom.orient)
+
+-- the box is from 1 to 8 core sites high
+abbrev pub HasHeight : Frame → Rect → Type 0
+HasHeight f box = (k : ℕ) × IsSitesHigh f box k
+
+-- the box has a bottom row
+abbrev pub HasBottomRow : Frame → Rect → Type 0
+HasBottomRow f box = (r : Row) × IsBottomRow f box r
+
+-- for each j below the height, a heeded row carries the box
+abbrev pub IsCarried : Frame → Rect → Type 0
+IsCarried f box =
+    (k : ℕ) (r : Row) → IsSitesHigh f box k → IsBottomRow f box r → (j : ℕ) → j < k → (s : Row) × Carries f box r j s
+
+-- the box stands on rows: it has a height and a bottom row, and rows carry it over its height
+pub record StandsOn (f : Frame) (box : Rect) : Type 0 where
+  pub height : HasHeight f box
+  pub row : HasBottomRow f box
+  pub stand : IsCarried f box
+
+-- a box has one height in sites, and where it has points one bottom row
+pub record StandingIsOne : Type 0 where
+  pub height : (f : Frame) (box : Rect) (j k : ℕ) → IsSitesHigh f box j → IsSitesHigh f box k → j ≡ k
+  pub bottom : (f : Frame) (box : Rect) (r s : Row) → box.x1 <ℤ box.x2 → IsBottomRow f box r → IsBottomRow f box s → r ≡ s

@@ -1,0 +1,48 @@
+//! The frame, with what loading has made sure of.
+
+ghost use Rattle.std.specs.Prelude.{◌≡◌, ℕ, ◌<◌, ◌≤◌, All, length};
+ghost use Rattle.lf_floorplan.specs.Bounds.{IsWithin, IsLefSize, IsObstacle};
+ghost use Rattle.lf_floorplan.specs.Rows.{IsPitch, IsHeeded, RowsApart};
+ghost use Rattle.lf_floorplan.specs.Fences.{IsFence, FencesNamed, FencesApart};
+
+use crate::limits::Limits;
+use crate::macros::Macro;
+use crate::parts::{Header, Row, Team};
+use crate::sites::Site;
+use lf_units::{Point, Rect, Sequence};
+
+/// What every team sees, and no command changes.
+///
+/// A team's number is the position of its fence in `teams`; the ground team `-` has the number of
+/// fences, and a greater number is no team. The type keeps what loading has made sure of.
+#[derive(Drop)]
+pub struct Frame {
+    /// The core site: that of the first ROW whose site has CLASS CORE and a size above 0.
+    pub site: Site,
+    /// The size of a core site in database units.
+    pub pitch: Point,
+    /// The rows of core sites, in the order of the DEF text.
+    pub rows: Sequence<Row>,
+    /// The fences, in the order of the DEF text.
+    pub teams: Sequence<Team>,
+    /// The boxes of FIXED components, and then the placement blockages, in database units.
+    pub obstacles: Sequence<Rect>,
+    /// All macros of the LEF texts, used or not.
+    pub macros: Sequence<Macro>,
+    /// The head of the DEF text.
+    pub header: Header,
+    pub limits: Limits,
+    pub ghost units_in_range: { IsWithin header.units 20000 },
+    pub ghost site_in_lef: { IsLefSize site.size },
+    pub ghost pitch_whole: { IsPitch header.units site.size pitch },
+    pub ghost has_row: { 0 < length rows },
+    pub ghost few_rows: { length rows ≤ limits.rows },
+    pub ghost rows_heeded: { All (λ r. IsHeeded pitch r) rows },
+    pub ghost rows_apart: { RowsApart pitch rows },
+    pub ghost few_fences: { length teams ≤ limits.fences },
+    pub ghost fences_whole: { All IsFence teams },
+    pub ghost fences_named: { FencesNamed teams },
+    pub ghost fences_apart: { FencesApart teams },
+    pub ghost obstacles_in_range: { All IsObstacle obstacles },
+    pub ghost macros_in_lef: { All (λ m. IsLefSize m.size × IsLefSize m.origin) macros },
+}

@@ -1,0 +1,31 @@
+//! Laws on the definitions of boxes, ground and rows.
+
+ghost use Rattle.lf_floorplan.specs.Boxes.{TurnsBack};
+ghost use Rattle.lf_floorplan.specs.Design.{CellIsSized};
+ghost use Rattle.lf_floorplan.specs.Ground.{PointHasOneTeam, TeamsStayApart};
+ghost use Rattle.lf_floorplan.specs.Standing.{StandingIsOne};
+
+/// A size that is turned twice alike is what it was.
+pub fn size_turns_back()
+    ensures { TurnsBack }
+{}
+
+/// Each point is ground of one team and no other.
+pub fn point_has_one_team()
+    ensures { PointHasOneTeam }
+{}
+
+/// Boxes that stay in the grounds of different teams share no point.
+pub fn teams_stay_apart()
+    ensures { TeamsStayApart }
+{}
+
+/// A box has one height in sites and one bottom row.
+pub fn standing_is_one()
+    ensures { StandingIsOne }
+{}
+
+/// The macro of a cell's number is whole in database units.
+pub fn cell_is_sized()
+    ensures { CellIsSized }
+{}

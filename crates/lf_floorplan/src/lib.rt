@@ -1,0 +1,26 @@
+//! The floor plan of a design: the frame, which every team sees and no command changes, the cells, and what legality
+//! measures of them.
+#![tactic(auto)]
+
+mod design;
+mod frame;
+mod laws;
+mod limits;
+mod loaded;
+mod macros;
+mod measure;
+mod parts;
+mod place;
+mod sites;
+
+pub use design::{is_sized, mac_at};
+pub use frame::Frame;
+pub use laws::{
+    cell_is_sized, point_has_one_team, size_turns_back, standing_is_one, teams_stay_apart,
+};
+pub use limits::Limits;
+pub use loaded::{Cell, Loaded};
+pub use macros::Macro;
+pub use parts::{Header, Row, Team};
+pub use place::Place;
+pub use sites::Site;

@@ -1,0 +1,33 @@
+//! A loaded design.
+
+ghost use Rattle.std.specs.Prelude.{◌≤◌, All, length};
+ghost use Rattle.lf_floorplan.specs.Design.{IsCell, CellsNamed, ComponentsRise};
+
+use crate::frame::Frame;
+use crate::place::Place;
+use lf_units::{Name, Sequence};
+
+/// A movable cell: a component of the DEF text that is neither FIXED nor COVER.
+#[derive(Drop)]
+pub struct Cell {
+    pub name: Name,
+    /// The number of its team: a fence's position in the frame, or the number of fences for `-`.
+    pub team: usize,
+    /// The position of its macro in the frame.
+    pub mac: usize,
+    /// Its place in the DEF text; none where it is unplaced there.
+    pub place: Option<Place>,
+    /// The position of its entry among all COMPONENTS of the DEF text.
+    pub component: usize,
+}
+
+/// A frame and its movable cells, in loading order: the order of the DEF text.
+#[derive(Drop)]
+pub struct Loaded {
+    pub frame: Frame,
+    pub cells: Sequence<Cell>,
+    pub ghost few_cells: { length cells ≤ 4000000 },
+    pub ghost cells_known: { All (IsCell frame) cells },
+    pub ghost names_differ: { CellsNamed cells },
+    pub ghost components_rise: { ComponentsRise cells },
+}

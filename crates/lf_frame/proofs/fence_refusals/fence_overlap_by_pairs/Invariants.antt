@@ -1,6 +1,0 @@
-use Rattle.lf_frame.specs.Refusals.{MeetsEarlierFence}
-use Rattle.lf_frame.proofs.Firsts.{NoneBelow}
-use Rattle.lf_frame.proofs.fence_refusals.fence_overlap_by_pairs.Given as goal
-
-abbrev pub invariant-loop-number : goal.invariant-loop-number
-invariant-loop-number l = NoneBelow MeetsEarlierFence l.regions l.number

@@ -1,5 +1,0 @@
-use Rattle.lf_frame.proofs.GroundLemmas.{ground_one, ground_there}
-use Rattle.lf_frame.proofs.laws.point_has_one_team.Goals as goal
-
-pub returns : goal.returns
-returns c = record { some_team = ground_there; one_team = ground_one }

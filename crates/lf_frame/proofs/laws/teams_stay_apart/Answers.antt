@@ -1,5 +1,0 @@
-use Rattle.lf_frame.proofs.GroundLemmas.{teams_apart}
-use Rattle.lf_frame.proofs.laws.teams_stay_apart.Goals as goal
-
-pub returns : goal.returns
-returns c f s t a b differ first second meet = teams_apart f s t a b differ first second meet

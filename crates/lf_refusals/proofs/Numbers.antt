@@ -1,0 +1,94 @@
+-- Refusals in the order of their numbers.
+use Rattle.std.proofs.Common.{◌≡◌, ℕ, ◌<◌, None, [], ◌∷◌, get_or, refl, sym, ap, ◌∙◌, arith}
+use Rattle.lf_lex.specs.declared.fault.FaultNumber.{FaultNumber}
+use Rattle.lf_lex.specs.declared.fault.FaultNumber.TheVariants.{BadToken, UnexpectedEnd, Unexpected, BadNumber, WrongEnd, UnknownStatement, NoUnits, NoSite, NoRows, VerticalRow, BadStep, RowOrient, RowsOverlap, NoMacro, NoSize, NotWhole, SecondName, SecondRegion, NoRegion, TeamName, FencesOverlap, TwoFences, TooMany, OutOfMemory}
+use Rattle.lf_refusals.specs.Findings.{Inputs, Finds, number_of, IsAccepted}
+
+abbrev numbered : ℕ → FaultNumber
+numbered n = get_or (OutOfMemory ∷ BadToken ∷ UnexpectedEnd ∷ Unexpected ∷ BadNumber ∷ WrongEnd ∷ UnknownStatement ∷ NoUnits ∷ NoSite ∷ NoRows ∷ VerticalRow ∷ BadStep ∷ RowOrient ∷ RowsOverlap ∷ NoMacro ∷ NoSize ∷ NotWhole ∷ SecondName ∷ SecondRegion ∷ NoRegion ∷ TeamName ∷ FencesOverlap ∷ TwoFences ∷ TooMany ∷ OutOfMemory ∷ []) n OutOfMemory
+
+number_back : (n : FaultNumber) → numbered (number_of n) ≡ n
+number_back BadToken = refl
+number_back UnexpectedEnd = refl
+number_back Unexpected = refl
+number_back BadNumber = refl
+number_back WrongEnd = refl
+number_back UnknownStatement = refl
+number_back NoUnits = refl
+number_back NoSite = refl
+number_back NoRows = refl
+number_back VerticalRow = refl
+number_back BadStep = refl
+number_back RowOrient = refl
+number_back RowsOverlap = refl
+number_back NoMacro = refl
+number_back NoSize = refl
+number_back NotWhole = refl
+number_back SecondName = refl
+number_back SecondRegion = refl
+number_back NoRegion = refl
+number_back TeamName = refl
+number_back FencesOverlap = refl
+number_back TwoFences = refl
+number_back TooMany = refl
+number_back OutOfMemory = refl
+
+one_number : (m n : FaultNumber) → number_of m ≡ number_of n → m ≡ n
+one_number m n same = sym (number_back m) ∙ ap numbered same ∙ number_back n
+
+-- no refusal below the number finds anything
+abbrev pub NoneBelow : Inputs → ℕ → Type 0
+NoneBelow i number = (n : FaultNumber) → number_of n < number → Finds i n None
+
+-- readers' refusals find nothing
+pub readers_find_nothing : (i : Inputs) → NoneBelow i 7
+readers_find_nothing i BadToken below = refl
+readers_find_nothing i UnexpectedEnd below = refl
+readers_find_nothing i Unexpected below = refl
+readers_find_nothing i BadNumber below = refl
+readers_find_nothing i WrongEnd below = refl
+readers_find_nothing i UnknownStatement below = refl
+readers_find_nothing i NoUnits below = absurd (omega arith)
+readers_find_nothing i NoSite below = absurd (omega arith)
+readers_find_nothing i NoRows below = absurd (omega arith)
+readers_find_nothing i VerticalRow below = absurd (omega arith)
+readers_find_nothing i BadStep below = absurd (omega arith)
+readers_find_nothing i RowOrient below = absurd (omega arith)
+readers_find_nothing i RowsOverlap below = absurd (omega arith)
+readers_find_nothing i NoMacro below = absurd (omega arith)
+readers_find_nothing i NoSize below = absurd (omega arith)
+readers_find_nothing i NotWhole below = absurd (omega arith)
+readers_find_nothing i SecondName below = absurd (omega arith)
+readers_find_nothing i SecondRegion below = absurd (omega arith)
+readers_find_nothing i NoRegion below = absurd (omega arith)
+readers_find_nothing i TeamName below = absurd (omega arith)
+readers_find_nothing i FencesOverlap below = absurd (omega arith)
+readers_find_nothing i TwoFences below = absurd (omega arith)
+readers_find_nothing i TooMany below = absurd (omega arith)
+readers_find_nothing i OutOfMemory below = absurd (omega arith)
+
+pub none_at_all : (i : Inputs) → NoneBelow i 24 → IsAccepted i
+none_at_all i before BadToken = before BadToken (omega arith)
+none_at_all i before UnexpectedEnd = before UnexpectedEnd (omega arith)
+none_at_all i before Unexpected = before Unexpected (omega arith)
+none_at_all i before BadNumber = before BadNumber (omega arith)
+none_at_all i before WrongEnd = before WrongEnd (omega arith)
+none_at_all i before UnknownStatement = before UnknownStatement (omega arith)
+none_at_all i before NoUnits = before NoUnits (omega arith)
+none_at_all i before NoSite = before NoSite (omega arith)
+none_at_all i before NoRows = before NoRows (omega arith)
+none_at_all i before VerticalRow = before VerticalRow (omega arith)
+none_at_all i before BadStep = before BadStep (omega arith)
+none_at_all i before RowOrient = before RowOrient (omega arith)
+none_at_all i before RowsOverlap = before RowsOverlap (omega arith)
+none_at_all i before NoMacro = before NoMacro (omega arith)
+none_at_all i before NoSize = before NoSize (omega arith)
+none_at_all i before NotWhole = before NotWhole (omega arith)
+none_at_all i before SecondName = before SecondName (omega arith)
+none_at_all i before SecondRegion = before SecondRegion (omega arith)
+none_at_all i before NoRegion = before NoRegion (omega arith)
+none_at_all i before TeamName = before TeamName (omega arith)
+none_at_all i before FencesOverlap = before FencesOverlap (omega arith)
+none_at_all i before TwoFences = before TwoFences (omega arith)
+none_at_all i before TooMany = before TooMany (omega arith)
+none_at_all i before OutOfMemory = refl

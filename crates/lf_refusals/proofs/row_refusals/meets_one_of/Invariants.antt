@@ -1,0 +1,11 @@
+use Rattle.std.proofs.Common.{◌≡◌, ℕ, ◌<◌, true, get_or}
+use Rattle.lf_units.specs.Area.{SharesPoint}
+use Rattle.lf_def.specs.declared.rows.Row.{Row}
+use Rattle.lf_floorplan.specs.Rows.{row_area}
+use Rattle.lf_refusals.specs.Loading.{is_heeded, frame_row}
+use Rattle.lf_refusals.proofs.row_refusals.meets_one_of.Given as goal
+
+abbrev pub invariant-loop-other : goal.invariant-loop-other
+invariant-loop-other l =
+    (k : ℕ) (d : Row) → k < l.other-index →
+    (is_heeded l.core (get_or l.earlier k d) ≡ true) × SharesPoint (row_area l.pitch (frame_row (get_or l.earlier k d))) (row_area l.pitch (frame_row l.row)) → ⊥

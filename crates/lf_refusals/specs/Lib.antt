@@ -1,0 +1,5 @@
+pub mod Loading
+pub mod Refusals
+pub mod Findings
+pub mod Sweep
+pub mod Tables

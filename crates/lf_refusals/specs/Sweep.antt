@@ -1,0 +1,53 @@
+-- Pieces of rows or of fences: rectangles, each with the number of the entry that it belongs to.
+use Rattle.std.specs.Prelude.{◌≢◌, ℕ, ◌<◌, ◌≤ℤ◌, ◌⊎◌, if◌then◌else◌, List, [], ◌∷◌, length, map, slice_index_or, All, AllPairs, Contains}
+use Rattle.lf_units.specs.declared.area.Point.{Point}
+use Rattle.lf_units.specs.declared.area.Rect.{Rect}
+use Rattle.lf_units.specs.Area.{SharesPoint}
+use Rattle.lf_floorplan.specs.declared.sites.Site.{Site}
+use Rattle.lf_def.specs.declared.rows.Row.{Row}
+use Rattle.lf_def.specs.declared.regions.Region.{Region}
+use Rattle.lf_floorplan.specs.Rows.{row_area}
+use Rattle.lf_claims.specs.Teams.{is_fence}
+use Rattle.lf_refusals.specs.Loading.{is_heeded, frame_row}
+use Rattle.lf_refusals.specs.declared.sweep.Piece.{Piece}
+
+-- the points of a piece
+abbrev pub piece_area : Piece → Rect
+piece_area p = record { x1 = p.left; y1 = p.bottom; x2 = p.right; y2 = p.top }
+
+-- the piece of an entry that has these points
+abbrev pub piece_of : ℕ → Rect → Piece
+piece_of entry area = record { entry = entry; left = area.x1; right = area.x2; bottom = area.y1; top = area.y2 }
+
+-- the one piece ends at the left of the other, or below it; a piece without points ends before itself
+abbrev pub EndsBefore : Piece → Piece → Type 0
+EndsBefore a b = (a.right ≤ℤ b.left) ⊎ (a.top ≤ℤ b.bottom)
+
+-- two pieces of different entries share a point
+pub record Clash (a b : Piece) : Type 0 where
+  pub entries : a.entry ≢ b.entry
+  pub point : SharesPoint (piece_area a) (piece_area b)
+
+-- the piece clashes with none of the list
+abbrev pub ClashesWithNone : Piece → List Piece → Type 0
+ClashesWithNone a pieces = All (λ b. Clash a b → ⊥) pieces
+
+-- no two pieces of the list clash
+abbrev pub NoneClash : List Piece → Type 0
+NoneClash pieces = All (λ a. ClashesWithNone a pieces) pieces
+
+-- no piece begins below an earlier one
+abbrev pub Rise : List Piece → Type 0
+Rise pieces = AllPairs (λ a b. a.bottom ≤ℤ b.bottom) pieces
+
+-- the pieces of a row: all of it, where it is heeded
+abbrev pub row_pieces : Site → Point → ℕ → Row → List Piece
+row_pieces core pitch number r = if is_heeded core r then piece_of number (row_area pitch (frame_row r)) ∷ [] else []
+
+-- the pieces of a region: its rectangles, where it is a fence
+abbrev pub fence_pieces : ℕ → Region → List Piece
+fence_pieces number r = if is_fence r then map (λ rect. piece_of number rect) r.rects else []
+
+-- each piece of each entry is in the list
+abbrev pub HoldPieces : {A : Type 0} → (ℕ → A → List Piece) → List A → List Piece → Type 0
+HoldPieces {A} own entries pieces = (k : ℕ) (d : A) → k < length entries → All (Contains pieces) (own k (slice_index_or entries k d))

@@ -1,0 +1,227 @@
+//! What loading refuses of regions and groups.
+
+ghost use Rattle.std.specs.Prelude.{[], ◌∷◌, ◌≡◌, ◌≢◌, ◌↔◌, ℕ, ◌<◌, ◌≤◌, ◌++◌, true, None, List, map, All, Any, Contains, IsTrue, IsFalse, IfOk, OnOk, MatchOption, IfSome, length};
+ghost use Rattle.lf_units.specs.Area.{SharesPoint};
+ghost use Rattle.lf_claims.specs.Entries.{FirstIs};
+ghost use Rattle.lf_claims.specs.Teams.{is_fence as is_fence_region, fence_names};
+ghost use Rattle.lf_refusals.specs.Tables.{HoldSameNames, region_names as region_names_of, IsOutside};
+ghost use Rattle.lf_refusals.specs.Sweep.{piece_of, fence_pieces as fence_pieces_of, HoldPieces};
+ghost use Rattle.lf_refusals.specs.Refusals.{BearsEarlierFence, HasNoRegion, BearsGroundName, SharePoint, MeetsEarlierFence, IsFenceTooMany};
+
+use crate::sweep::{Piece, none_clash};
+use lf_claims::{is_added, is_fence};
+use lf_def::{Group, Region};
+use lf_names::NameTable;
+use lf_units::Rect;
+use std::alloc::{AllocError, Global};
+
+/// Whether the region is a fence whose name is in the table; the name of another fence is added.
+fn is_second_fence(names: &mut NameTable, region: &Region) -> Result<bool, AllocError>
+    ensures second { IfOk result (λ second. IsTrue second → (is_fence_region region.now ≡ true) × Contains names.old region.now.name) }
+    ensures first { IfOk result (λ second. IsFalse second → is_fence_region region.now ≡ true → Contains names.old region.now.name → ⊥) }
+    ensures names { IfOk result (λ second. IsFalse second → names.new ≡ names.old ++ fence_names (region.now ∷ [])) }
+{
+    if !is_fence(region) {
+        return Ok(false);
+    }
+    let new = is_added(names, region.name.as_bytes())?;
+    Ok(!new)
+}
+
+/// The first fence that bears an earlier fence's name.
+pub(crate) fn first_second_fence(
+    alloc: Global,
+    regions: &[Region],
+) -> Result<Option<usize>, AllocError>
+    ensures { IfOk result (λ found. FirstIs BearsEarlierFence regions.now found) }
+{
+    let mut names = NameTable::new(alloc);
+    for (number, region) in regions.iter().enumerate() {
+        if is_second_fence(&mut names, region)? {
+            return Ok(Some(number));
+        }
+    }
+    Ok(None)
+}
+
+/// Whether the region is a fence named `-`.
+fn bears_ground_name(region: &Region) -> bool
+    ensures { IsTrue result ↔ BearsGroundName [] region.now }
+{
+    is_fence(region) && region.name.is(b"-")
+}
+
+/// The first fence named `-`.
+pub(crate) fn first_ground_name(regions: &[Region]) -> Option<usize>
+    ensures { FirstIs BearsGroundName regions.now result }
+{
+    for (number, region) in regions.iter().enumerate() {
+        if bears_ground_name(region) {
+            return Some(number);
+        }
+    }
+    None
+}
+
+/// The names of the regions.
+fn region_names(alloc: Global, regions: &[Region]) -> Result<NameTable, AllocError>
+    ensures { IfOk result (λ names. HoldSameNames names (region_names_of regions.now)) }
+{
+    let mut names = NameTable::new(alloc);
+    for region in regions {
+        names.add(region.name.as_bytes())?;
+    }
+    Ok(names)
+}
+
+/// Whether the group has a region that is not in the table.
+fn is_outside(group: &Group, names: &NameTable) -> bool
+    ensures { IsTrue result ↔ IsOutside names.now group.now }
+{
+    match &group.region {
+        Some(name) => names.find(name.as_bytes()).is_none(),
+        None => false,
+    }
+}
+
+/// The first group whose region no entry of REGIONS is.
+pub(crate) fn first_without_region(
+    alloc: Global,
+    groups: &[Group],
+    regions: &[Region],
+) -> Result<Option<usize>, AllocError>
+    ensures { IfOk result (λ found. FirstIs (HasNoRegion regions.now) groups.now found) }
+{
+    let names = region_names(alloc, regions)?;
+    for (number, group) in groups.iter().enumerate() {
+        if is_outside(group, &names) {
+            return Ok(Some(number));
+        }
+    }
+    Ok(None)
+}
+
+/// Whether the rectangle shares a point with one of the list.
+fn meets_rect(rect: &Rect, others: &[Rect]) -> bool
+    ensures { IsTrue result ↔ Any (λ b. SharesPoint rect.now b) others.now }
+{
+    others.iter().any(|other| rect.overlaps(other))
+}
+
+/// Whether a rectangle of the one list shares a point with one of the other.
+fn do_rects_meet(first: &[Rect], second: &[Rect]) -> bool
+    ensures { IsTrue result ↔ Any (λ a. Any (λ b. SharesPoint a b) second.now) first.now }
+{
+    for rect in first {
+        if meets_rect(rect, second) {
+            return true;
+        }
+    }
+    false
+}
+
+/// Whether a point lies in rectangles of both regions.
+fn do_regions_meet(first: &Region, second: &Region) -> bool
+    ensures { IsTrue result ↔ SharePoint first.now.rects second.now.rects }
+{
+    do_rects_meet(first.rects.as_slice(), second.rects.as_slice())
+}
+
+/// Whether a fence of the list shares a point with the region.
+fn meets_one_of(region: &Region, earlier: &[Region]) -> bool
+    ensures { IsTrue result ↔ Any (λ e. (is_fence_region e ≡ true) × SharePoint e.rects region.now.rects) earlier.now }
+{
+    for other in earlier {
+        if is_fence(other) && do_regions_meet(other, region) {
+            return true;
+        }
+    }
+    false
+}
+
+/// The first fence that shares a point with an earlier fence, by a look at each two fences.
+fn fence_overlap_by_pairs(regions: &[Region]) -> Option<usize>
+    ensures { FirstIs MeetsEarlierFence regions.now result }
+{
+    for (number, region) in regions.iter().enumerate() {
+        if is_fence(region) && meets_one_of(region, &regions[..number]) {
+            return Some(number);
+        }
+    }
+    None
+}
+
+/// The rectangle as a piece of a sweep.
+fn rect_piece(number: usize, rect: &Rect) -> Piece
+    ensures { result ≡ piece_of number rect.now }
+{
+    Piece {
+        entry: number,
+        left: rect.x1,
+        right: i128::from(rect.x2),
+        bottom: rect.y1,
+        top: rect.y2,
+    }
+}
+
+/// The rectangles of an entry, behind the pieces of earlier ones.
+fn push_pieces(pieces: &mut Vec<Piece>, number: usize, rects: &[Rect]) -> Result<(), AllocError>
+    ensures { OnOk result (pieces.new.items ≡ pieces.old.items ++ map (λ rect. piece_of number rect) rects.now) }
+{
+    for rect in rects {
+        pieces.push(rect_piece(number, rect))?;
+    }
+    Ok(())
+}
+
+/// The rectangles of a region behind the pieces of earlier ones, where it is a fence.
+fn push_region(pieces: &mut Vec<Piece>, number: usize, region: &Region) -> Result<(), AllocError>
+    ensures { OnOk result (pieces.new.items ≡ pieces.old.items ++ fence_pieces_of number region.now) }
+{
+    if is_fence(region) {
+        return push_pieces(pieces, number, region.rects.as_slice());
+    }
+    Ok(())
+}
+
+/// The rectangles of all fences as pieces of a sweep.
+fn fence_pieces(alloc: Global, regions: &[Region]) -> Result<Vec<Piece>, AllocError>
+    ensures { IfOk result (λ pieces. HoldPieces fence_pieces_of regions.now pieces.items) }
+{
+    let mut pieces = Vec::new(alloc);
+    for (number, region) in regions.iter().enumerate() {
+        push_region(&mut pieces, number, region)?;
+    }
+    Ok(pieces)
+}
+
+/// The first fence that shares a point with an earlier fence. Takes the time of a sort where there is none and
+/// few rectangles lie at one height.
+pub(crate) fn first_fence_overlap(
+    alloc: Global,
+    regions: &[Region],
+) -> Result<Option<usize>, AllocError>
+    ensures { IfOk result (λ found. FirstIs MeetsEarlierFence regions.now found) }
+{
+    let mut pieces = fence_pieces(alloc, regions)?;
+    if none_clash(&mut pieces) {
+        return Ok(None);
+    }
+    Ok(fence_overlap_by_pairs(regions))
+}
+
+/// The first fence that stands behind so many fences as the limit allows.
+pub(crate) fn first_fence_too_many(regions: &[Region], limit: usize) -> Option<usize>
+    ensures { FirstIs (IsFenceTooMany limit) regions.now result }
+{
+    let mut fences = 0;
+    for (number, region) in regions.iter().enumerate() {
+        if is_fence(region) {
+            if limit <= fences {
+                return Some(number);
+            }
+            fences += 1;
+        }
+    }
+    None
+}
