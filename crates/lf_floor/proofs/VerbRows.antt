@@ -4,8 +4,9 @@ use Rattle.std.proofs.lemmas.Bool.{lt-ltb}
 use Rattle.lf_frame.specs.declared.place.Place.{Place}
 use Rattle.lf_proto.proofs.Places.{place_at-some}
 use Rattle.lf_floor.specs.Teams.{Setting}
-use Rattle.lf_floor.specs.Outcomes.{opened, located, placed, unplaced}
-use Rattle.lf_floor.specs.Verbs.{closed, synced, found, legalized, tidied_team, swapped, reverted, undone, committed}
+use Rattle.lf_floor.specs.Sessions.{opened, closed, synced}
+use Rattle.lf_floor.specs.Looks.{located, found}
+use Rattle.lf_floor.specs.Changes.{placed, unplaced, legalized, tidied_team, swapped, reverted, undone, committed}
 use Rattle.lf_floor.specs.VerbRows.{HasRoom, SessionRow, StaleRow, UndoRow, SpentRow, BestRow, NoPlaceRow, TidyRow, CommitRow, RefusedRow, SwapRow}
 
 -- a revision is left at each number up to nine

@@ -13,6 +13,7 @@ use Rattle.lf_rtree.specs.declared.placed.Placed.{Placed}
 use Rattle.lf_rules.specs.declared.report.Listed.{Listed}
 use Rattle.lf_rules.specs.Team.{Member, with_box, boxes_beside}
 use Rattle.lf_floor.specs.declared.cell.Cell.{Cell}
+use Rattle.lf_floor.specs.declared.surroundings.Surroundings.{Surroundings}
 use Rattle.lf_floor.specs.States.{FloorState, TeamState}
 
 -- the names of all teams: those of the fences, in the frame's order, and last '-'
@@ -66,6 +67,14 @@ pub record Setting : Type 0 where
   pub legalizer : Legalizer
   pub frame : Frame
   pub number : ℕ
+
+-- the setting of the team of that number
+abbrev pub setting : Legalizer → Frame → ℕ → Setting
+setting l f number = record { legalizer = l; frame = f; number = number }
+
+-- the setting that a team's surroundings are, with a legalizer
+abbrev pub setting_in : Legalizer → Surroundings → Setting
+setting_in l around = setting l around.frame.now around.number
 
 -- the cell of that position, tried at a place beside the team's other placed cells
 abbrev pub trial_of_cell : Setting → List Cell → ℕ → Cell → Place → Trial

@@ -4,16 +4,23 @@ use Rattle.lf_units.specs.declared.area.Point.{Point}
 use Rattle.lf_frame.specs.declared.place.Place.{Place}
 use Rattle.lf_rules.specs.declared.rule.Rule.TheVariants.{Overlap}
 use Rattle.lf_rules.specs.Tidy.{Going, Stuck, tidied}
+use Rattle.lf_proto.specs.declared.request.Order.{Order}
+use Rattle.lf_proto.specs.declared.request.Order.TheVariants.{Open, Within}
+use Rattle.lf_proto.specs.declared.request.Action.TheVariants.{Close, Sync, Where, Find, Change as Changing}
+use Rattle.lf_proto.specs.declared.request.Change.{Change}
+use Rattle.lf_proto.specs.declared.request.Change.TheVariants.{Place as PlaceAt, Legalize, Tidy, Unplace, Swap, Undo, Commit, Revert}
 use Rattle.lf_proto.specs.declared.reply.Reply.{Reply}
 use Rattle.lf_proto.specs.declared.reply.Reply.TheVariants.{Done, Opened, Revision, At, Legalized, Tidied as TidyDone, Refused}
 use Rattle.lf_proto.specs.declared.reply.Refusal.TheVariants.{NoSession, Stale, NoCell, Unplaced, Illegal, NoPlace, NothingToUndo, SessionsFull, RevisionsSpent}
 use Rattle.lf_floor.specs.declared.cell.Cell.{Cell}
 use Rattle.lf_floor.specs.States.{TeamState}
 use Rattle.lf_floor.specs.Teams.{Setting, member_of, broken_at}
-use Rattle.lf_floor.specs.Verbs.{TeamVerb, Open, Within, Close, Sync, Where, Find, Changing, ChangeVerb, PlaceAt, Legalize, Tidy, Unplace, Swap, Undo, Commit, Revert, best_at, broken_where, exchanged, broken_cells, outcome_of_verb}
+use Rattle.lf_floor.specs.Looks.{best_at}
+use Rattle.lf_floor.specs.Changes.{broken_where, exchanged, broken_cells}
+use Rattle.lf_floor.specs.Verbs.{outcome_of_verb}
 
 -- the replies to these verbs, one after the other
-abbrev pub replies_to : Setting → List TeamVerb → TeamState → List Reply
+abbrev pub replies_to : Setting → List (Order (List ℕ) Place) → TeamState → List Reply
 replies_to t [] s = []
 replies_to t (verb ∷ verbs) s = (outcome_of_verb t verb s).reply ∷ replies_to t verbs (outcome_of_verb t verb s).team
 
@@ -30,11 +37,11 @@ abbrev pub team_after : ℕ → List (List (Option Place)) → List Cell → Tea
 team_after revision entries cells = record { cells = cells; revision = revision; entries = entries; slots = Some revision ∷ [] }
 
 -- what that session asks
-abbrev pub where_is : List ℕ → TeamVerb
+abbrev pub where_is : List ℕ → Order (List ℕ) Place
 where_is name = Within 0 (Where name)
 
 -- the change that it asks
-abbrev pub change_to : ChangeVerb → TeamVerb
+abbrev pub change_to : Change (List ℕ) Place → Order (List ℕ) Place
 change_to change = Within 0 (Changing change)
 
 -- revisions and undo entries enough for each row
@@ -72,7 +79,7 @@ UndoRow =
 -- at the revision limit no change is made, undo included
 abbrev pub SpentRow : Type 0
 SpentRow =
-    (t : Setting) (change : ChangeVerb) (entries : List (List (Option Place))) (cells : List Cell) → t.frame.limits.revisions ≡ 3 →
+    (t : Setting) (change : Change (List ℕ) Place) (entries : List (List (Option Place))) (cells : List Cell) → t.frame.limits.revisions ≡ 3 →
     replies_to t (change_to change ∷ []) (team_after 3 entries cells) ≡ (Refused RevisionsSpent ∷ [])
 
 -- find changes nothing, and legalize puts the cell where find has told

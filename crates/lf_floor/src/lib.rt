@@ -6,11 +6,15 @@
 pub use lf_proto as proto;
 
 mod cell;
+mod entries;
 mod floor;
 mod laws;
 mod opening;
+mod slots;
+mod surroundings;
 mod team;
 mod verb_laws;
+mod verbs;
 
 pub use cell::Cell;
 pub use floor::Floor;
