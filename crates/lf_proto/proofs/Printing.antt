@@ -15,11 +15,11 @@ use Rattle.lf_frame.specs.declared.place.Place.{Place}
 use Rattle.lf_proto.proofs.Blanks.{fields-blank, line_bytes-blank}
 use Rattle.lf_proto.proofs.Digits.{all_digits, is_digit_at, Digits}
 use Rattle.lf_proto.proofs.Places.{place_written-some}
-use Rattle.lf_proto.specs.Lines.{is_blank, is_line_byte, fields}
+use Rattle.lf_proto.specs.Lines.{is_blank, is_line_byte, fields, is_visible, IsName}
 use Rattle.lf_proto.specs.Numbers.{◌>>=◌, digits, below, session_number, negative, positive, coordinate}
-use Rattle.lf_proto.specs.Printed.{action_words, printed_fields, printed, is_visible, IsName, IsInRange, IsPlainAction, IsPlain, ReadsBack}
+use Rattle.lf_proto.specs.Printed.{action_words, printed_fields, printed, ReadsBack}
 use Rattle.lf_proto.specs.ReplyText.{orient_text, place_words}
-use Rattle.lf_proto.specs.Requests.{verb_named, within_of, command_in, orient_named, place_written}
+use Rattle.lf_proto.specs.Requests.{command_in, orient_named, place_written, IsInRange, IsPlainAction, IsPlain}
 use Rattle.lf_proto.specs.declared.request.Command.{Command}
 use Rattle.lf_proto.specs.declared.request.Command.TheVariants.{Bye, To}
 use Rattle.lf_proto.specs.declared.request.Order.TheVariants.{Open, Within}

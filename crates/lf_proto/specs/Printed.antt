@@ -1,11 +1,11 @@
 -- The line that prints a request, and the laws of lines.
-use Rattle.std.specs.Prelude.{◌≡◌, ℕ, ◌<◌, ◌^◌, Bool, true, nat_lt, ◌&&◌, List, [], ◌∷◌, ◌++◌, length, pos, ◌<ℤ◌, Some, codes, decimal}
+use Rattle.std.specs.Prelude.{◌≡◌, ℕ, true, List, [], ◌∷◌, ◌++◌, Some, codes, decimal}
 use Rattle.std.specs.Fmt.{signed_decimal}
-use Rattle.std.specs.List.{join_with_byte, list_all}
+use Rattle.std.specs.List.{join_with_byte}
 use Rattle.lf_units.specs.declared.area.Point.{Point}
 use Rattle.lf_frame.specs.declared.place.Place.{Place}
 use Rattle.lf_proto.specs.Lines.{is_blank}
-use Rattle.lf_proto.specs.Requests.{command_on}
+use Rattle.lf_proto.specs.Requests.{command_on, IsPlain}
 use Rattle.lf_proto.specs.ReplyText.{place_words}
 use Rattle.lf_proto.specs.declared.request.Command.{Command}
 use Rattle.lf_proto.specs.declared.request.Command.TheVariants.{Bye, To}
@@ -48,38 +48,6 @@ printed_fields (To team (Within session action)) = (action_words action).0 ∷ t
 -- the line that prints a request: its fields with one space between each two
 abbrev pub printed : Command (List ℕ) Place → List ℕ
 printed command = join_with_byte 32 (printed_fields command)
-
--- a visible byte
-abbrev pub is_visible : ℕ → Bool
-is_visible b = nat_lt 32 b && nat_lt b 127
-
--- what can be a name: one visible byte or more
-pub record IsName (name : List ℕ) : Type 0 where
-  pub some : 0 < length name
-  pub visible : list_all is_visible name ≡ true
-
--- a place whose corner fits 32 bits
-pub record IsInRange (place : Place) : Type 0 where
-  pub x_in_range : place.x <ℤ pos (2 ^ 31)
-  pub y_in_range : place.y <ℤ pos (2 ^ 31)
-
--- a change that a line can ask
-abbrev pub IsPlainChange : Change (List ℕ) Place → Type 0
-IsPlainChange (Placing cell place) = IsName cell × IsInRange place
-IsPlainChange _ = ⊥
-
--- what a session can ask by a line
-abbrev pub IsPlainAction : Action (List ℕ) Place → Type 0
-IsPlainAction Check = Unit {0}
-IsPlainAction (Where cell) = IsName cell
-IsPlainAction (Changing change) = IsPlainChange change
-IsPlainAction _ = ⊥
-
--- a request that a line can ask: open, check, where or place, its names of visible bytes and its numbers of 32 bits
-abbrev pub IsPlain : Command (List ℕ) Place → Type 0
-IsPlain Bye = ⊥
-IsPlain (To team Open) = IsName team
-IsPlain (To team (Within session action)) = IsName team × (session < 2 ^ 32) × IsPlainAction action
 
 -- the line that prints a request is that request
 abbrev pub ReadsBack : Type 0

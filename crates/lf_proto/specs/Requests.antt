@@ -1,5 +1,5 @@
 -- The lines that are requests, verb by verb.
-use Rattle.std.specs.Prelude.{ℕ, Bool, true, false, cond, List, [], ◌∷◌, Option, Some, None, ℤ, negsuc, ◌<ℤ◌, codes}
+use Rattle.std.specs.Prelude.{ℕ, ◌<◌, ◌^◌, Bool, true, false, cond, List, [], ◌∷◌, Option, Some, None, ℤ, pos, negsuc, ◌<ℤ◌, codes}
 use Rattle.std.specs.Int.Signed.{lt_z, lt_z_yes}
 use Rattle.std.specs.List.{list_all}
 use Rattle.std.specs.Str.{bytes_eq}
@@ -8,17 +8,18 @@ use Rattle.lf_units.specs.declared.area.Point.{Point}
 use Rattle.lf_orient.specs.declared.Orient.{Orient}
 use Rattle.lf_orient.specs.declared.Orient.TheVariants.{N, W, S, E, FN, FW, FS, FE}
 use Rattle.lf_frame.specs.declared.place.Place.{Place}
-use Rattle.lf_proto.specs.Lines.{fields, is_line_byte}
+use Rattle.lf_proto.specs.Lines.{fields, is_line_byte, IsName}
 use Rattle.lf_proto.specs.Numbers.{◌>>=◌, session_number, coordinate}
 use Rattle.lf_proto.specs.declared.line.Verb.{Verb}
 use Rattle.lf_proto.specs.declared.line.Verb.TheVariants.{Open as Opens, OfSession}
 use Rattle.lf_proto.specs.declared.line.SessionVerb.{SessionVerb}
 use Rattle.lf_proto.specs.declared.line.SessionVerb.TheVariants.{Check as Checks, Where as Asks, Place as Places}
 use Rattle.lf_proto.specs.declared.request.Command.{Command}
-use Rattle.lf_proto.specs.declared.request.Command.TheVariants.{To}
+use Rattle.lf_proto.specs.declared.request.Command.TheVariants.{Bye, To}
 use Rattle.lf_proto.specs.declared.request.Order.TheVariants.{Open, Within}
 use Rattle.lf_proto.specs.declared.request.Action.{Action}
 use Rattle.lf_proto.specs.declared.request.Action.TheVariants.{Check, Where, Change as Changing}
+use Rattle.lf_proto.specs.declared.request.Change.{Change}
 use Rattle.lf_proto.specs.declared.request.Change.TheVariants.{Place as Placing}
 
 -- an orientation by its name (LEF/DEF 5.8, DEF COMPONENTS)
@@ -135,3 +136,28 @@ command_in (word ∷ arguments) = do
 -- the command that a line gives, if it is a request
 abbrev pub command_on : List ℕ → Option (Command (List ℕ) Place)
 command_on line = cond (list_all is_line_byte line) (command_in (fields line)) None
+
+-- ---- what a line can ask
+
+-- a place whose corner fits 32 bits
+pub record IsInRange (place : Place) : Type 0 where
+  pub x_in_range : place.x <ℤ pos (2 ^ 31)
+  pub y_in_range : place.y <ℤ pos (2 ^ 31)
+
+-- a change that a line can ask
+abbrev pub IsPlainChange : Change (List ℕ) Place → Type 0
+IsPlainChange (Placing cell place) = IsName cell × IsInRange place
+IsPlainChange _ = ⊥
+
+-- what a session can ask by a line
+abbrev pub IsPlainAction : Action (List ℕ) Place → Type 0
+IsPlainAction Check = Unit {0}
+IsPlainAction (Where cell) = IsName cell
+IsPlainAction (Changing change) = IsPlainChange change
+IsPlainAction _ = ⊥
+
+-- a request that a line can ask: open, check, where or place, its names of visible bytes and its numbers of 32 bits
+abbrev pub IsPlain : Command (List ℕ) Place → Type 0
+IsPlain Bye = ⊥
+IsPlain (To team Open) = IsName team
+IsPlain (To team (Within session action)) = IsName team × (session < 2 ^ 32) × IsPlainAction action
