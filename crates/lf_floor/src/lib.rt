@@ -6,11 +6,13 @@
 pub use lf_proto as proto;
 
 mod cell;
+mod changes;
 mod entries;
 mod floor;
 mod laws;
+mod looks;
 mod opening;
-mod slots;
+mod sessions;
 mod surroundings;
 mod team;
 mod verb_laws;

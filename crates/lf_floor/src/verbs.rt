@@ -1,22 +1,16 @@
-//! What each order does to a team: the verbs that run.
+//! Which verb an order asks: the verbs that run, and the refusals that they share.
 
-ghost use Rattle.std.specs.Prelude.{Some, ◌≡◌, ◌<◌, ◌≤◌, IfOk, OnOk, OnErr, length, true};
+ghost use Rattle.std.specs.Prelude.{◌≡◌, ◌<◌, IfOk, OnErr, true};
 ghost use Rattle.lf_rules.specs.Legalizer.{Legalizer};
 ghost use Rattle.lf_proto.specs.declared.request.Order.TheVariants.{Within};
 ghost use Rattle.lf_proto.specs.Commands.{change_of, action_of, order_of};
 ghost use Rattle.lf_floor.specs.Teams.{IsTeamOf, setting_in};
-ghost use Rattle.lf_floor.specs.Outcomes.{Reaches, RunsOut, changed, with_entry};
-ghost use Rattle.lf_floor.specs.Sessions.{opened};
-ghost use Rattle.lf_floor.specs.Looks.{checked, located};
-ghost use Rattle.lf_floor.specs.Changes.{placed, unplaced, unplaced_own};
+ghost use Rattle.lf_floor.specs.Outcomes.{Reaches, RunsOut};
 ghost use Rattle.lf_floor.specs.Verbs.{outcome_of, outcome_of_change, outcome_running, outcome_within, runs, runs_action, runs_change, takes_memory, unless_spent};
 
-use crate::cell::{broken_at, cell_named, places, put, report_text, working};
-use crate::entries::{Entry, remember_entry};
-use crate::slots::{free_slot, seen, set_slot};
+use crate::sessions::seen;
 use crate::surroundings::Surroundings;
 use crate::team::Team;
-use lf_frame::Place;
 use lf_proto::{Action, Change, Order, Refusal, Reply};
 use std::alloc::AllocError;
 
@@ -50,145 +44,6 @@ fn runs(order: &Order<&[u8]>) -> bool
 }
 
 impl Team {
-    /// Takes the least free session slot; `SessionsFull` where there is none.
-    #[tactic(auto, unfolding(crate::specs::Sessions::opened))]
-    fn open(&mut self) -> Reply
-        requires { length self.old.slots ≤ 64 }
-        ensures { Reaches (opened self.old) result self.new }
-    {
-        match free_slot(&self.slots) {
-            Some(session) => {
-                set_slot(&mut self.slots, session, Some(self.revision));
-                Reply::Opened {
-                    session: session as u32,
-                    revision: self.revision,
-                }
-            }
-            None => Reply::Refused(Refusal::SessionsFull),
-        }
-    }
-
-    /// Tells where a cell stands: `NoCell` where the team has none of that name, else `Unplaced`
-    /// where it stands nowhere.
-    #[tactic(auto, unfolding(crate::specs::Looks::located))]
-    fn locate(&self, name: &[u8]) -> Reply
-        requires { length self.now.cells ≤ 4000000 }
-        ensures { Reaches (located name.now self.now) result self.now }
-    {
-        let Some(own) = cell_named(&self.cells, name) else {
-            return Reply::Refused(Refusal::NoCell);
-        };
-        match working(&self.cells, own) {
-            Some(place) => Reply::At(place),
-            None => Reply::Refused(Refusal::Unplaced { cell: own as u32 }),
-        }
-    }
-
-    /// Tells the report of the team's cells at their working places.
-    #[tactic(auto, unfolding(crate::specs::Looks::checked))]
-    fn check(&self, around: &Surroundings<'_>) -> Result<Reply, AllocError>
-        requires { IsTeamOf around.now.frame.now self.now }
-        ensures ok { (l : Legalizer) → IfOk result (λ reply. Reaches (checked (setting_in l around.now) self.now) reply self.now) }
-        ensures err { (l : Legalizer) → OnErr result (RunsOut (checked (setting_in l around.now) self.now) self.now self.now) }
-    {
-        let text = report_text(around, &self.cells)?;
-        Ok(Reply::Report(text))
-    }
-
-    /// Puts the present working places in front of the undo entries.
-    fn remember(&mut self, around: &Surroundings<'_>) -> Result<(), AllocError>
-        ensures ok { OnOk result (self.new ≡ record self.old { entries = with_entry around.now.frame.now.limits self.old }) }
-        ensures err { OnErr result (self.new ≡ self.old) }
-    {
-        let places = places(around.alloc, &self.cells)?;
-        remember_entry(
-            &mut self.entries,
-            Entry { places },
-            around.frame.limits.undo as usize,
-        )
-    }
-
-    /// Counts one more change, which the session has then seen.
-    fn count_change(&mut self, session: u32) -> Reply
-        requires { self.old.revision < u32.MAX }
-        ensures { Reaches (changed session self.old.cells self.old.entries self.old) result self.new }
-    {
-        self.revision += 1;
-        set_slot(&mut self.slots, session as usize, Some(self.revision));
-        Reply::Revision(self.revision)
-    }
-
-    /// Puts a cell at a place: `NoCell` where the team has none of that name, else `Illegal` where
-    /// the place breaks a rule.
-    #[tactic(auto, unfolding(crate::specs::Changes::placed))]
-    fn place(
-        &mut self,
-        around: &Surroundings<'_>,
-        session: u32,
-        name: &[u8],
-        place: &Place,
-    ) -> Result<Reply, AllocError>
-        requires left { self.old.revision < u32.MAX }
-        requires team { IsTeamOf around.now.frame.now self.old }
-        ensures ok { (l : Legalizer) → IfOk result (λ reply. Reaches (placed (setting_in l around.now) session name.now place.now self.old) reply self.new) }
-        ensures err { (l : Legalizer) → OnErr result (RunsOut (placed (setting_in l around.now) session name.now place.now self.old) self.old self.new) }
-    {
-        let Some(own) = cell_named(&self.cells, name) else {
-            return Ok(Reply::Refused(Refusal::NoCell));
-        };
-        if let Some(broken) = broken_at(around, &self.cells, own, place)? {
-            return Ok(Reply::Refused(Refusal::Illegal {
-                rule: broken.rule,
-                cell: own as u32,
-                other: broken.other,
-            }));
-        }
-        self.remember(around)?;
-        put(&mut self.cells, own, Some(*place));
-        Ok(self.count_change(session))
-    }
-
-    /// Takes the cell of that position from its place; `Unplaced` where it has none.
-    fn unplace_own(
-        &mut self,
-        around: &Surroundings<'_>,
-        session: u32,
-        own: usize,
-    ) -> Result<Reply, AllocError>
-        requires left { self.old.revision < u32.MAX }
-        requires few { length self.old.cells ≤ 4000000 }
-        requires within { own < length self.old.cells }
-        ensures ok { IfOk result (λ reply. Reaches (unplaced_own (Some own) around.now.frame.now.limits session self.old) reply self.new) }
-        ensures err { OnErr result (RunsOut (unplaced_own (Some own) around.now.frame.now.limits session self.old) self.old self.new) }
-    {
-        if working(&self.cells, own).is_none() {
-            return Ok(Reply::Refused(Refusal::Unplaced { cell: own as u32 }));
-        }
-        self.remember(around)?;
-        put(&mut self.cells, own, None);
-        Ok(self.count_change(session))
-    }
-
-    /// Takes a cell from its place: `NoCell` where the team has none of that name, else `Unplaced`
-    /// where it stands nowhere.
-    #[tactic(auto, unfolding(crate::specs::Changes::unplaced))]
-    fn unplace(
-        &mut self,
-        around: &Surroundings<'_>,
-        session: u32,
-        name: &[u8],
-    ) -> Result<Reply, AllocError>
-        requires left { self.old.revision < u32.MAX }
-        requires team { IsTeamOf around.now.frame.now self.old }
-        ensures ok { IfOk result (λ reply. Reaches (unplaced around.now.frame.now.limits session name.now self.old) reply self.new) }
-        ensures err { OnErr result (RunsOut (unplaced around.now.frame.now.limits session name.now self.old) self.old self.new) }
-    {
-        let Some(own) = cell_named(&self.cells, name) else {
-            return Ok(Reply::Refused(Refusal::NoCell));
-        };
-        self.unplace_own(around, session, own)
-    }
-
     /// Makes a change.
     fn apply(
         &mut self,
