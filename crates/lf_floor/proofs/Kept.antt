@@ -1,7 +1,8 @@
 -- What an order leaves as it was, and what a change counts.
-use Rattle.std.proofs.Common.{◌≡◌, ◌≢◌, ℕ, zero, suc, ◌+◌, List, [], ◌∷◌, true, false, length, map, get_or, Option, Some, None, refl, ap, sym, ◌∙◌}
-use Rattle.std.specs.Prelude.{slice_set}
-use Rattle.std.proofs.lemmas.List.{length-set, length-map}
+use Rattle.std.proofs.Common.{◌≡◌, ◌≢◌, ℕ, zero, suc, ◌+◌, ◌≤◌, List, [], ◌∷◌, true, false, length, map, get_or, Option, Some, None, refl, ap, sym, ◌∙◌, subst, arith}
+use Rattle.std.specs.Prelude.{All, AllPairs, IfSome, slice_set}
+use Rattle.std.proofs.lemmas.List.{length-set, length-map, length-take}
+use Rattle.std.proofs.lemmas.List.Elements.{All-cons, All-set, All-tail, All-take}
 use Rattle.lf_frame.specs.declared.frame.Frame.{Frame}
 use Rattle.lf_frame.specs.declared.place.Place.{Place}
 use Rattle.lf_proto.specs.declared.reply.Reply.{Reply}
@@ -13,8 +14,8 @@ use Rattle.lf_floor.specs.Teams.{Setting, IsSizedCell, IsTeamOf}
 use Rattle.lf_proto.specs.declared.request.Order.{Order}
 use Rattle.lf_proto.specs.declared.request.Order.TheVariants.{Open, Within}
 use Rattle.lf_proto.specs.declared.request.Action.TheVariants.{Close, Sync, Check, Where, Find, Change as Changing}
-use Rattle.lf_floor.specs.Outcomes.{Outcome, is_short, refused, changed, moved, working_at}
-use Rattle.lf_floor.specs.Sessions.{seen_at}
+use Rattle.lf_floor.specs.Outcomes.{Outcome, is_short, refused, places_of, changed, with_entry, recorded, moved, working_at}
+use Rattle.lf_floor.specs.Sessions.{with_slot, seen_at}
 use Rattle.lf_floor.specs.Changes.{restored, exchanged, back_to_committed, as_committed, places_in}
 use Rattle.lf_floor.specs.Verbs.{outcome_of, outcome_of_verb}
 use Rattle.lf_floor.specs.VerbLaws.{MayChange, CountsOne, KeepsCells, is_accepted, is_granted, is_change, is_commit, committed_places, told_revision}
@@ -226,36 +227,99 @@ name_at (b ∷ bs) (c ∷ cs) same (suc i) d =
     let rest : map (λ c. c.name) cs ≡ map (λ c. c.name) bs = cc in
     name_at bs cs rest i d
 
--- the macros and the names of the cells say whether a team is one of the frame
-like_team : (f : Frame) (s : TeamState) (cells : List Cell) (revision : ℕ) (entries : List (List (Option Place))) (slots : List (Option ℕ))
-    → map (λ c. c.mac) cells ≡ map (λ c. c.mac) s.cells → map (λ c. c.name) cells ≡ map (λ c. c.name) s.cells → length slots ≡ length s.slots → IsTeamOf f s
-    → IsTeamOf f (record { cells = cells; revision = revision; entries = entries; slots = slots })
-like_team f s cells revision entries slots macs names slot h =
-    let long = same_length s.cells cells macs in
+-- the slots have seen no revision to come
+abbrev SeenPast : ℕ → List (Option ℕ) → Type 0
+SeenPast revision slots = All (λ slot. IfSome slot (λ seen. seen ≤ revision)) slots
+
+seen_later : (old new : ℕ) (slots : List (Option ℕ)) → old ≤ new → SeenPast old slots → SeenPast new slots
+seen_later old new slots more past i d within = later (get_or slots i d) (past i d within) where
+  later : (slot : Option ℕ) → IfSome slot (λ seen. seen ≤ old) → IfSome slot (λ seen. seen ≤ new)
+  later None seen = tt
+  later (Some seen) is = omega (arith, is, more)
+
+-- what is asked of new cells: their macros and names are the old ones
+record AreAlike (old new : List Cell) : Type 0 where
+  macs : map (λ c. c.mac) new ≡ map (λ c. c.mac) old
+  names : map (λ c. c.name) new ≡ map (λ c. c.name) old
+
+-- a change to cells that are alike, with entries that are whole and few
+changed_team : (t : Setting) (s : TeamState) (session : ℕ) (cells : List Cell) (entries : List (List (Option Place))) → IsTeamOf t.frame s → IsLeft t s → AreAlike s.cells cells
+    → All (λ places. length places ≡ length s.cells) entries → length entries ≤ t.frame.limits.undo → IsTeamOf t.frame (changed session cells entries s).team
+changed_team t s session cells entries h left alike whole few =
+    let long = same_length s.cells cells alike.macs in
     record {
-      sized = λ i d within. sized_as f (get_or s.cells i d) (get_or cells i d) (mac_at s.cells cells macs i d) (h.sized i d (rw long at within));
-      printed = λ i d within. rw (name_at s.cells cells names i d) (h.printed i d (rw long at within));
+      sized = λ i d within. sized_as t.frame (get_or s.cells i d) (get_or cells i d) (mac_at s.cells cells alike.macs i d) (h.sized i d (rw long at within));
+      printed = λ i d within. rw (name_at s.cells cells alike.names i d) (h.printed i d (rw long at within));
+      names_differ = subst (λ (names : List (List ℕ)). AllPairs (λ a b. a ≢ b) names) (sym alike.names) h.names_differ;
       few_cells = rw long h.few_cells;
-      few_slots = rw slot h.few_slots;
+      few_slots = rw (length-set s.slots session (Some (s.revision + 1))) h.few_slots;
+      whole_entries = rw long whole;
+      few_entries = few;
+      few_revisions = omega (arith, left);
+      seen_past =
+          All-set (λ slot. IfSome slot (λ seen. seen ≤ s.revision + 1)) s.slots session (Some (s.revision + 1)) (omega arith)
+          (seen_later s.revision (s.revision + 1) s.slots (omega arith) h.seen_past);
     }
+
+-- the working places before the change are put in front of the entries
+recorded_team : (t : Setting) (s : TeamState) (session : ℕ) (cells : List Cell) → IsTeamOf t.frame s → IsLeft t s → AreAlike s.cells cells → IsTeamOf t.frame (recorded t session cells s).team
+recorded_team t s session cells h left alike =
+    let whole = λ (places : List (Option Place)). length places ≡ length s.cells in
+    let newest : length (places_of s.cells) ≡ length s.cells = length-map s.cells (λ (c : Cell). c.working) in
+    changed_team t s session cells (with_entry t.frame.limits s) h left alike
+    (All-take whole t.frame.limits.undo (places_of s.cells ∷ s.entries) (All-cons whole (places_of s.cells) s.entries newest h.whole_entries))
+    (omega (arith, length-take t.frame.limits.undo (places_of s.cells ∷ s.entries)))
+
+-- one slot is written, with a revision that is past
+with_slot_team : (t : Setting) (s : TeamState) (session : ℕ) (seen : Option ℕ) → IfSome seen (λ n. n ≤ s.revision) → IsTeamOf t.frame s → IsTeamOf t.frame (with_slot session seen s)
+with_slot_team t s session seen past h = record {
+  sized = h.sized;
+  printed = h.printed;
+  names_differ = h.names_differ;
+  few_cells = h.few_cells;
+  few_slots = rw (length-set s.slots session seen) h.few_slots;
+  whole_entries = h.whole_entries;
+  few_entries = h.few_entries;
+  few_revisions = h.few_revisions;
+  seen_past = All-set (λ slot. IfSome slot (λ seen. seen ≤ s.revision)) s.slots session seen past h.seen_past;
+}
+
+alike_moved : (cells : List Cell) (own : ℕ) (place : Option Place) → AreAlike cells (moved cells own place)
+alike_moved cells own place = record { macs = moved_part (λ c. c.mac) (λ c p. refl) cells own place; names = moved_part (λ c. c.name) (λ c p. refl) cells own place }
+
+alike_restored : (places : List (Option Place)) (cells : List Cell) → AreAlike cells (restored places cells)
+alike_restored places cells = record { macs = restored_part (λ c. c.mac) (λ c p. refl) places cells; names = restored_part (λ c. c.name) (λ c p. refl) places cells }
+
+alike_exchanged : (cells : List Cell) (first second : ℕ) → AreAlike cells (exchanged cells first second)
+alike_exchanged cells first second = record { macs = exchanged_part (λ c. c.mac) (λ c p. refl) cells first second; names = exchanged_part (λ c. c.name) (λ c p. refl) cells first second }
+
+alike_back : (cells : List Cell) → AreAlike cells (map back_to_committed cells)
+alike_back cells = record { macs = back_part (λ c. c.mac) (λ c p. refl) cells; names = back_part (λ c. c.name) (λ c p. refl) cells }
+
+-- the entries behind the newest one are whole and few
+older : (t : Setting) (s : TeamState) (old : List (Option Place)) (entries : List (List (Option Place))) → s.entries ≡ old ∷ entries → IsTeamOf t.frame s
+    → All (λ places. length places ≡ length s.cells) entries × (length entries ≤ t.frame.limits.undo)
+older t s old entries is h =
+    let all : All (λ (places : List (Option Place)). length places ≡ length s.cells) (old ∷ entries) = rw is at h.whole_entries in
+    (All-tail (λ (places : List (Option Place)). length places ≡ length s.cells) old entries all, omega (arith, ap length is, h.few_entries))
 
 stays_one : (t : Setting) (s : TeamState) → IsTeamOf t.frame s → Leaves t s (λ session. IsLeft t s) (λ v o. IsTeamOf t.frame o.team)
 stays_one t s h = record {
   refusal = λ v r plain. h;
-  opens = λ session e. like_team t.frame s _ _ _ _ refl refl (length-set s.slots session (Some s.revision)) h;
-  closes = λ session. like_team t.frame s _ _ _ _ refl refl (length-set s.slots session None) h;
-  syncs = λ session. like_team t.frame s _ _ _ _ refl refl (length-set s.slots session (Some s.revision)) h;
+  opens = λ session e. with_slot_team t s session (Some s.revision) (omega arith) h;
+  closes = λ session. with_slot_team t s session None tt h;
+  syncs = λ session. with_slot_team t s session (Some s.revision) (omega arith) h;
   checks = λ session text. h;
   tells = λ session name place. h;
   finds = λ session name target place. h;
-  places = λ session own name place left named e. like_team t.frame s _ _ _ _ (moved_part (λ c. c.mac) (λ c p. refl) s.cells own (Some place)) (moved_part (λ c. c.name) (λ c p. refl) s.cells own (Some place)) (length-set s.slots session (Some (s.revision + 1))) h;
-  legalizes = λ session own name target place left named e. like_team t.frame s _ _ _ _ (moved_part (λ c. c.mac) (λ c p. refl) s.cells own (Some place)) (moved_part (λ c. c.name) (λ c p. refl) s.cells own (Some place)) (length-set s.slots session (Some (s.revision + 1))) h;
-  tidies = λ session count members left e. like_team t.frame s _ _ _ _ (restored_part (λ c. c.mac) (λ c p. refl) (places_in members) s.cells) (restored_part (λ c. c.name) (λ c p. refl) (places_in members) s.cells) (length-set s.slots session (Some (s.revision + 1))) h;
-  unplaces = λ session own name left named. like_team t.frame s _ _ _ _ (moved_part (λ c. c.mac) (λ c p. refl) s.cells own None) (moved_part (λ c. c.name) (λ c p. refl) s.cells own None) (length-set s.slots session (Some (s.revision + 1))) h;
-  swaps = λ session first second name other p q left named named' at at' e e'. like_team t.frame s _ _ _ _ (exchanged_part (λ c. c.mac) (λ c p. refl) s.cells first second) (exchanged_part (λ c. c.name) (λ c p. refl) s.cells first second) (length-set s.slots session (Some (s.revision + 1))) h;
-  undoes = λ session old entries left e. like_team t.frame s _ _ _ _ (restored_part (λ c. c.mac) (λ c p. refl) old s.cells) (restored_part (λ c. c.name) (λ c p. refl) old s.cells) (length-set s.slots session (Some (s.revision + 1))) h;
-  commits = λ session left u b. like_team t.frame s _ _ _ _ (committed_macs s.cells) (committed_names s.cells) (length-set s.slots session (Some (s.revision + 1))) h;
-  reverts = λ session left. like_team t.frame s _ _ _ _ (back_part (λ c. c.mac) (λ c p. refl) s.cells) (back_part (λ c. c.name) (λ c p. refl) s.cells) (length-set s.slots session (Some (s.revision + 1))) h;
+  places = λ session own name place left named e. recorded_team t s session _ h left (alike_moved s.cells own (Some place));
+  legalizes = λ session own name target place left named e. recorded_team t s session _ h left (alike_moved s.cells own (Some place));
+  tidies = λ session count members left e. recorded_team t s session _ h left (alike_restored (places_in members) s.cells);
+  unplaces = λ session own name left named. recorded_team t s session _ h left (alike_moved s.cells own None);
+  swaps = λ session first second name other p q left named named' at at' e e'. recorded_team t s session _ h left (alike_exchanged s.cells first second);
+  undoes = λ session old entries left e. let rest = older t s old entries e h in changed_team t s session _ entries h left (alike_restored old s.cells) rest.0 rest.1;
+  commits = λ session left u b. changed_team t s session _ s.entries h left (record { macs = committed_macs s.cells; names = committed_names s.cells }) h.whole_entries h.few_entries;
+  reverts = λ session left. recorded_team t s session _ h left (alike_back s.cells);
 }
 
 -- a team of the frame stays one, whatever is asked of it
