@@ -1,6 +1,7 @@
 //! The floor of all teams.
 
 ghost use Rattle.std.specs.Prelude.{◌≡◌, ◌<◌, ◌≤◌, ◌+◌, ◌++◌, ◌∷◌, [], bytes_eq, position, ℕ, List, All, IfOk, IfSome, OnOk, OnErr, Some, option_and_then, option_map, true, length, slice_get, vec_len, vec_capacity};
+ghost use Rattle.lf_frame.specs.Bounds.{IsName};
 ghost use Rattle.lf_frame.specs.Fences.{ground_name};
 ghost use Rattle.lf_rules.specs.Legalizer.{Legalizer};
 ghost use Rattle.lf_proto.specs.Commands.{command_of, order_of};
@@ -149,14 +150,16 @@ impl Floor {
     ///
     /// None where the team has no such cell, or there is no such team.
     pub fn name_of(&self, team: &[u8], own: usize) -> Option<&[u8]>
-        ensures { option_map (λ name. name.now) result ≡ option_and_then (λ s. name_at s.cells own) (state_of self.now team.now) }
+        ensures name { option_map (λ name. name.now) result ≡ option_and_then (λ s. name_at s.cells own) (state_of self.now team.now) }
+        ensures printed { IfSome result (λ name. IsName name.now) }
     {
         Some(self.cells_of(team)?.get(own)?.name.as_bytes())
     }
 
     /// The cells of the team of that name, in loading order.
     fn cells_of(&self, team: &[u8]) -> Option<&[Cell]>
-        ensures { option_map (λ cells. cells.now) result ≡ option_map (λ s. s.cells) (state_of self.now team.now) }
+        ensures cells { option_map (λ cells. cells.now) result ≡ option_map (λ s. s.cells) (state_of self.now team.now) }
+        ensures printed { IfSome result (λ cells. All (λ c. IsName c.name) cells.now) }
     {
         let number = team_named(&self.frame, team)?;
         Some(self.teams[number].cells())
