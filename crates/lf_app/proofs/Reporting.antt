@@ -15,33 +15,46 @@ use Rattle.lf_proto.specs.declared.request.Command.TheVariants.{Bye, To}
 use Rattle.lf_proto.specs.declared.request.Order.{Order}
 use Rattle.lf_proto.specs.Requests.{command_on}
 use Rattle.lf_floor.specs.States.{FloorState, TeamState}
-use Rattle.lf_floor.specs.Steps.{Answers, Gives, RunsShort, Step, answer_at, answer_by, answer_of, setting}
-use Rattle.lf_floor.specs.Teams.{Setting, team_number}
-use Rattle.lf_floor.specs.Outcomes.{is_short, may_be_short, outcome_of}
+use Rattle.lf_floor.specs.Steps.{Answers, Gives, RunsShort, Step, answer_at, answer_by, answer_of}
+use Rattle.lf_floor.specs.Teams.{Setting, setting, team_number}
+use Rattle.lf_floor.specs.Outcomes.{Outcome, is_short, may_be_short}
+use Rattle.lf_floor.specs.Verbs.{outcome_of, takes_memory}
 use Rattle.lf_floor.proofs.Answering.{some_short}
-use Rattle.lf_floor.proofs.Cases.{outcome_by}
+use Rattle.lf_floor.proofs.Cases.{order_by}
 use Rattle.lf_app.specs.Lines.{AnswersLine, RefusesLine, StandsIn, StepsOn, Tells, is_report, team_of, text_of}
 
--- an outcome that is a report leaves the team as it was
-team_kept : (t : Setting) (order : Order (List ℕ) Place) (s : TeamState) → is_report (outcome_of t order s).reply ≡ true → (outcome_of t order s).team ≡ s
-team_kept t order s = outcome_by t s (λ o. is_report o.reply ≡ true → o.team ≡ s) (record {
-  refusal = λ r plain e. absurd (false≢true e);
+-- an outcome that is a report leaves the team as it was, and the order takes memory
+pub record LooksOnly (s : TeamState) (order : Order (List ℕ) Place) (o : Outcome) : Type 0 where
+  pub kept : o.team ≡ s
+  pub takes : takes_memory order ≡ true
+
+report_looks : (t : Setting) (order : Order (List ℕ) Place) (s : TeamState) → is_report (outcome_of t order s).reply ≡ true → LooksOnly s order (outcome_of t order s)
+report_looks t order s = order_by t s (λ v o. is_report o.reply ≡ true → LooksOnly s v o) (record {
+  refusal = λ v r plain e. absurd (false≢true e);
   opens = λ session free e. absurd (false≢true e);
-  tells = λ place e. absurd (false≢true e);
-  checks = λ text e. refl;
-  places = λ session own place legal e. absurd (false≢true e);
-  unplaces = λ session own e. absurd (false≢true e);
+  closes = λ session e. absurd (false≢true e);
+  syncs = λ session e. absurd (false≢true e);
+  checks = λ session text e. record { kept = refl; takes = refl };
+  tells = λ session name place e. absurd (false≢true e);
+  finds = λ session name target place e. absurd (false≢true e);
+  places = λ session own name place left named legal e. absurd (false≢true e);
+  legalizes = λ session own name target place left named best e. absurd (false≢true e);
+  tidies = λ session count members left is e. absurd (false≢true e);
+  unplaces = λ session own name left named e. absurd (false≢true e);
+  swaps = λ session first second name other p q left named named' at at' legal legal' e. absurd (false≢true e);
+  undoes = λ session old entries left is e. absurd (false≢true e);
+  commits = λ session left placed legal e. absurd (false≢true e);
+  reverts = λ session left e. absurd (false≢true e);
 }) order
 
 -- so does an answer that is a report the floor
 by_kept : (l : Legalizer) (floor : FloorState) (number : ℕ) (order : Order (List ℕ) Place) (o : Option TeamState) → slice_get floor.teams number ≡ o
-    → is_report (answer_by o l floor number order).reply ≡ true → (answer_by o l floor number order).floor ≡ floor
-by_kept l floor number order None there e = refl
+    → is_report (answer_by o l floor number order).reply ≡ true → ((answer_by o l floor number order).floor ≡ floor) × (takes_memory order ≡ true)
+by_kept l floor number order None there e = absurd (false≢true e)
 by_kept l floor number order (Some s) there e =
-    let after = (outcome_of (setting l floor.frame number) order s).team in
-    let same : after ≡ s = team_kept (setting l floor.frame number) order s e in
+    let looks = report_looks (setting l floor.frame number) order s e in
     let read : slice_set floor.teams number s ≡ floor.teams = ap (slice_set floor.teams number) (sym (get_or_from_slice_get floor.teams number s s there)) ∙ set-get_or floor.teams number s in
-    ap (λ (teams : List TeamState). record floor { teams = teams }) (ap (slice_set floor.teams number) same ∙ read)
+    (ap (λ (teams : List TeamState). record floor { teams = teams }) (ap (slice_set floor.teams number) looks.kept ∙ read), looks.takes)
 
 may_report : (reply : Reply) → is_report reply ≡ true → may_be_short reply ≡ true
 may_report (Report text) e = refl
@@ -56,8 +69,9 @@ at_short : (l : Legalizer) (old new : FloorState) (name : List ℕ) (order : Ord
 at_short l old new name order reply is None named gives = absurd (false≢true (sym (ap is_report gives.reply_is) ∙ is))
 at_short l old new name order reply is (Some number) named gives =
     let told : is_report (answer_at (Some number) l old order).reply ≡ true = sym (ap is_report gives.reply_is) ∙ is in
-    some_short l old new name order number (sym named) (record {
-      kept = gives.floor_is ∙ by_kept l old number order (slice_get old.teams number) refl told;
+    let looks = by_kept l old number order (slice_get old.teams number) refl told in
+    some_short l old new name order number (sym named) looks.1 (record {
+      kept = gives.floor_is ∙ looks.0;
       may = may_report _ told;
     })
 

@@ -1,7 +1,6 @@
 -- What the answer to a command is: from the team's part in it to the step.
-use Rattle.std.proofs.Common.{◌≡◌, ◌≢◌, ℕ, zero, suc, ◌<◌, List, [], ◌∷◌, Bool, false, set, length, get_or, Option, Some, None, refl, ap, sym, ◌∙◌, subst, arith}
-use Rattle.std.specs.Prelude.{slice_get, position, bytes_eq, is_none, MatchBool}
-use Rattle.std.proofs.lemmas.Bool.{both_ways}
+use Rattle.std.proofs.Common.{◌≡◌, ◌≢◌, ℕ, zero, suc, ◌<◌, List, [], ◌∷◌, Bool, true, false, set, length, get_or, Option, Some, None, refl, ap, sym, ◌∙◌, subst, arith}
+use Rattle.std.specs.Prelude.{slice_get, bytes_eq, MatchBool}
 use Rattle.std.proofs.lemmas.List.Quantifiers.{position-Some}
 use Rattle.std.proofs.lemmas.Option.{slice_get_within}
 use Rattle.std.proofs.lemmas.Slice.Eq.{bytes_eq-Decides}
@@ -11,16 +10,14 @@ use Rattle.lf_rules.specs.Legalizer.{Legalizer}
 use Rattle.lf_proto.specs.declared.request.Command.{Command}
 use Rattle.lf_proto.specs.declared.request.Command.TheVariants.{Bye, To}
 use Rattle.lf_proto.specs.declared.request.Order.{Order}
-use Rattle.lf_proto.specs.declared.request.Order.TheVariants.{Open, Within}
-use Rattle.lf_proto.specs.declared.request.Action.TheVariants.{Check, Where, Change as Changing}
 use Rattle.lf_proto.specs.declared.reply.Reply.{Reply}
 use Rattle.lf_proto.specs.declared.reply.Reply.TheVariants.{Done, Refused}
 use Rattle.lf_proto.specs.declared.reply.Refusal.TheVariants.{NoTeam}
 use Rattle.lf_floor.specs.States.{TeamState, FloorState}
-use Rattle.lf_floor.specs.Teams.{team_names, team_number, state_at, state_of}
-use Rattle.lf_floor.specs.Outcomes.{is_short, may_be_short, opened, opened_at, located, located_own, located_at, working_at, if_open, seen_at}
-use Rattle.lf_floor.specs.Teams.{cell_named}
-use Rattle.lf_floor.specs.Steps.{Answer, setting, ruled, no_team, settled, answer_by, answer_at, answer_of, Answers, Gives, RunsShort, StaysShort, Step, TakesNone, IsTo}
+use Rattle.lf_floor.specs.Teams.{setting, team_names, team_number, state_at, state_of}
+use Rattle.lf_floor.specs.Outcomes.{is_short}
+use Rattle.lf_floor.specs.Verbs.{takes_memory}
+use Rattle.lf_floor.specs.Steps.{Answer, ruled, no_team, settled, answer_by, answer_at, answer_of, Answers, Gives, RunsShort, StaysShort, Step, IsTo}
 use Rattle.lf_floor.proofs.Kept.{outcome_plain}
 
 -- ---- the team of a command
@@ -46,7 +43,7 @@ some_answers l old new name order number reply some given =
     let P : Answer → Type 0 = λ a. Gives a reply new in
     subst P (sym (answer_some l old name order number some)) given
 
--- ---- each answer is plain, and that to a look takes no memory
+-- ---- each answer is plain, and one that is short is to an order that takes memory
 
 by_plain : (l : Legalizer) (floor : FloorState) (number : ℕ) (order : Order (List ℕ) Place) (o : Option TeamState) → is_short (answer_by o l floor number order).reply ≡ false
 by_plain l floor number order None = refl
@@ -61,58 +58,19 @@ unfolding answer_of
 answer_plain l floor Bye = refl
 answer_plain l floor (To name order) = at_plain l floor order (team_number floor.frame name)
 
-opened_free : (s : TeamState) → may_be_short (opened s).reply ≡ false
-unfolding opened
-opened_free s = go (position is_none s.slots) where
-  go : (o : Option ℕ) → may_be_short (opened_at o s).reply ≡ false
-  go None = refl
-  go (Some n) = refl
-
-located_free : (name : List ℕ) (s : TeamState) → may_be_short (located name s).reply ≡ false
-unfolding located
-located_free name s = own (cell_named name s.cells) where
-  at : (o : Option Place) (n : ℕ) → may_be_short (located_at o n s).reply ≡ false
-  at None n = refl
-  at (Some p) n = refl
-
-  own : (o : Option ℕ) → may_be_short (located_own o s).reply ≡ false
-  own None = refl
-  own (Some n) = at (working_at s.cells n) n
-
-looked_free : (l : Legalizer) (f : Frame) (number session : ℕ) (cell : List ℕ) (s : TeamState) (o : Option ℕ) → may_be_short (if_open o (setting l f number) session (Where cell) s).reply ≡ false
-looked_free l f number session cell s None = refl
-looked_free l f number session cell s (Some seen) = located_free cell s
-
-order_free : (l : Legalizer) (f : Frame) (number : ℕ) (name : List ℕ) (order : Order (List ℕ) Place) (s : TeamState) → TakesNone (To name order) → may_be_short (ruled l f number order s).reply ≡ false
-order_free l f number name Open s none = opened_free s
-order_free l f number name (Within session Check) s none = absurd none
-order_free l f number name (Within session (Where cell)) s none = looked_free l f number session cell s (seen_at s.slots session)
-order_free l f number name (Within session (Changing c)) s none = absurd none
-
-by_free : (l : Legalizer) (floor : FloorState) (number : ℕ) (name : List ℕ) (order : Order (List ℕ) Place) → TakesNone (To name order) → (o : Option TeamState) → may_be_short (answer_by o l floor number order).reply ≡ false
-by_free l floor number name order none None = refl
-by_free l floor number name order none (Some s) = order_free l floor.frame number name order s none
-
-at_free : (l : Legalizer) (floor : FloorState) (name : List ℕ) (order : Order (List ℕ) Place) → TakesNone (To name order) → (o : Option ℕ) → may_be_short (answer_at o l floor order).reply ≡ false
-at_free l floor name order none None = refl
-at_free l floor name order none (Some number) = by_free l floor number name order none (slice_get floor.teams number)
-
-answer_free : (l : Legalizer) (floor : FloorState) (command : Command (List ℕ) Place) → TakesNone command → may_be_short (answer_of l floor command).reply ≡ false
-unfolding answer_of
-answer_free l floor Bye none = refl
-answer_free l floor (To name order) none = at_free l floor name order none (team_number floor.frame name)
-
-takes_some : (l : Legalizer) (old new : FloorState) (command : Command (List ℕ) Place) → StaysShort (answer_of l old command) old new → RunsShort l old command new
-takes_some l old new command short = record {
+takes_some : (l : Legalizer) (old new : FloorState) (name : List ℕ) (order : Order (List ℕ) Place) → takes_memory order ≡ true → StaysShort (answer_of l old (To name order)) old new → RunsShort l old (To name order) new
+takes_some l old new name order takes short = record {
   short = short;
-  takes = λ none. both_ways _ (answer_free l old command none) short.may;
-}
+  takes = λ none. false_true (sym none ∙ takes);
+} where
+  false_true : false ≡ true → ⊥
+  false_true e = cc
 
 pub some_short : (l : Legalizer) (old new : FloorState) (name : List ℕ) (order : Order (List ℕ) Place) (number : ℕ) → Some number ≡ team_number old.frame name
-    → StaysShort (answer_at (Some number) l old order) old new → RunsShort l old (To name order) new
-some_short l old new name order number some short =
+    → takes_memory order ≡ true → StaysShort (answer_at (Some number) l old order) old new → RunsShort l old (To name order) new
+some_short l old new name order number some takes short =
     let P : Answer → Type 0 = λ a. StaysShort a old new in
-    takes_some l old new (To name order) (subst P (sym (answer_some l old name order number some)) short)
+    takes_some l old new name order takes (subst P (sym (answer_some l old name order number some)) short)
 
 pub step_of_answer : (l : Legalizer) (old new : FloorState) (command : Command (List ℕ) Place) (reply : Reply) → Answers l old command reply new → Step l old command reply new
 step_of_answer l old new command reply answers =

@@ -11,8 +11,7 @@ use Rattle.lf_rules.specs.Legality.{trial_of}
 use Rattle.lf_rules.specs.Legalizer.{Legalizer, IsVerdict, VerdictIsOne}
 use Rattle.lf_rules.specs.Team.{boxes_from, boxes_beside}
 use Rattle.lf_floor.specs.declared.cell.Cell.{Cell}
-use Rattle.lf_floor.specs.Teams.{member_of, broken_at, broken_by}
-use Rattle.lf_floor.specs.Steps.{setting}
+use Rattle.lf_floor.specs.Teams.{member_of, setting, broken_at, broken_by}
 
 -- the boxes of the cells from that position on, but for the cell `own`
 abbrev pub beside_from : Frame → ℕ → ℕ → List Cell → List Placed

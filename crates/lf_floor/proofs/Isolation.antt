@@ -8,10 +8,10 @@ use Rattle.lf_rules.specs.Legalizer.{Legalizer}
 use Rattle.lf_proto.specs.declared.request.Command.{Command}
 use Rattle.lf_proto.specs.declared.request.Command.TheVariants.{Bye, To}
 use Rattle.lf_proto.specs.declared.request.Order.{Order}
+use Rattle.lf_floor.specs.Outcomes.{is_short}
 use Rattle.lf_proto.specs.declared.reply.Reply.{Reply}
 use Rattle.lf_floor.specs.States.{TeamState, FloorState}
 use Rattle.lf_floor.specs.Teams.{team_number, state_at, state_of}
-use Rattle.lf_floor.specs.Outcomes.{is_short}
 use Rattle.lf_floor.specs.Steps.{ruled, Answers, RunsShort, Step, IsTo}
 use Rattle.lf_floor.specs.Runs.{Run, own_replies, own_state, asked_before, asked, told_before, told, IsOwnRun, IsIsolated}
 use Rattle.lf_floor.proofs.Answering.{own_answer, others_kept, frame_kept}

@@ -7,8 +7,6 @@ pub mod Serving
 pub mod Answering
 pub mod Isolation
 pub mod Openings
-pub mod VerbCases
-pub mod VerbKept
 pub mod VerbBack
 pub mod Standing
 pub mod Tidying

@@ -1,6 +1,6 @@
--- The cells of a team as its report lists them, and what check comes to.
-use Rattle.std.proofs.Common.{◌≡◌, ◌∙◌, ℕ, List, Option, Some, map, ap, sym, subst}
-use Rattle.std.specs.Prelude.{All, Result, IfOk}
+-- The cells of a team as its report lists them.
+use Rattle.std.proofs.Common.{◌≡◌, ◌∙◌, ℕ, List, map, ap, sym, subst}
+use Rattle.std.specs.Prelude.{All}
 use Rattle.std.specs.Borrow.{Bor}
 use Rattle.std.proofs.lemmas.List.Elements.{All-map}
 use Rattle.lf_floorplan.specs.declared.frame.Frame.{Frame}
@@ -9,13 +9,7 @@ use Rattle.lf_rules.specs.declared.report.Listed.{Listed}
 use Rattle.lf_rules.specs.Reports.{named, IsListed}
 use Rattle.lf_rules.proofs.CleanLemmas.{each_named}
 use Rattle.lf_floor.specs.declared.cell.Cell.{Cell}
-use Rattle.lf_floorplan.specs.declared.place.Place.{Place}
-use Rattle.lf_proto.specs.declared.request.Action.{Action}
-use Rattle.lf_proto.specs.declared.request.Action.TheVariants.{Check}
-use Rattle.lf_proto.specs.declared.reply.Reply.{Reply}
-use Rattle.lf_floor.specs.States.{TeamState}
-use Rattle.lf_floor.specs.Teams.{Setting, IsSizedCell, listed_of}
-use Rattle.lf_floor.specs.Outcomes.{Reaches, checked, if_open}
+use Rattle.lf_floor.specs.Teams.{IsSizedCell, listed_of}
 
 all_listed : (f : Frame) (number : ℕ) (cells : List Cell) → All (IsSizedCell f) cells → All (λ c. IsName c.name) cells → All (IsListed f) (map (listed_of number) cells)
 all_listed f number cells sized printed =
@@ -27,8 +21,3 @@ lent_are number cells lent items same are = ap (λ (cs : List (Listed (Bor (List
 pub lent_listed : (f : Frame) (number : ℕ) (cells : List Cell) (lent : List (Listed (Bor (List ℕ)))) → map named lent ≡ map (listed_of number) cells →
     All (IsSizedCell f) cells → All (λ c. IsName c.name) cells → All (λ c. IsListed f (named c)) lent
 lent_listed f number cells lent are sized printed = each_named f lent (subst (All (IsListed f)) (sym are) (all_listed f number cells sized printed))
-
--- an open session that asks for the report gets it
-pub check_opened : {E : Type 0} (t : Setting) (session : ℕ) (s : TeamState) (action : Action (List ℕ) Place) (o : Option ℕ) (seen : ℕ) (result : Result Reply E) →
-    action ≡ Check → o ≡ Some seen → IfOk result (λ reply. Reaches (checked t s) reply s) → IfOk result (λ reply. Reaches (if_open o t session action s) reply s)
-check_opened t session s action o seen result is opens checks = rw (is, opens) checks

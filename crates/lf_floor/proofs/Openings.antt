@@ -1,8 +1,9 @@
 -- The floor with which a design begins, team by team.
-use Rattle.std.proofs.Common.{◌≡◌, ℕ, zero, suc, ◌+◌, ◌<◌, ◌≤◌, List, [], ◌∷◌, length, map, filter, get_or, eqb, Bool, true, false, cond, Option, Some, None, refl, ap, sym, ◌∙◌, add-zero, zero-add, arith}
-use Rattle.std.specs.Prelude.{slice_get, unwrap_or, bytes_eq, replicate, All}
-use Rattle.std.proofs.lemmas.List.{length-append, length-map, length-replicate}
+use Rattle.std.proofs.Common.{◌≡◌, ◌≢◌, ℕ, zero, suc, ◌+◌, ◌<◌, ◌≤◌, List, [], ◌∷◌, length, map, filter, get_or, eqb, Bool, true, false, cond, Option, Some, None, refl, ap, sym, ◌∙◌, add-zero, zero-add, arith}
+use Rattle.std.specs.Prelude.{slice_get, unwrap_or, bytes_eq, replicate, All, AllPairs, IfSome}
+use Rattle.std.proofs.lemmas.List.{length-append, length-map, length-replicate, get_or-replicate}
 use Rattle.std.proofs.lemmas.List.Elements.{All-cons, All-filter, All-map}
+use Rattle.std.proofs.lemmas.List.Kept.{AllPairs-filter}
 use Rattle.std.proofs.lemmas.List.Quantifiers.{position-Some}
 use Rattle.lf_floorplan.specs.declared.frame.Frame.{Frame}
 use Rattle.lf_floorplan.specs.declared.loaded.Cell.{Cell as LoadedCell}
@@ -70,6 +71,23 @@ sized_cell f c known = go (slice_get_some f.macros c.mac known.mac_known) where
       let is : macro_of f c.mac ≡ found.0 = ap (λ (o : Option Macro). unwrap_or o no_macro) found.1 in
       record { known = known.mac_known; sized = rw is (known.mac_sized found.0 found.1) }
 
+map_at : {X Y : Type 0} (f : X → Y) (xs : List X) (i : ℕ) (d : Y) (e : X) → i < length xs → get_or (map f xs) i d ≡ f (get_or xs i e)
+map_at f [] i d e within = absurd (omega (arith, within))
+map_at f (x ∷ xs) zero d e within = refl
+map_at f (x ∷ xs) (suc i) d e within = map_at f xs i d e (omega (arith, within))
+
+-- what holds of each two elements' parts holds of each two parts
+pairs_map : {X Y : Type 0} (f : X → Y) (R : Y → Y → Type 0) (xs : List X) → AllPairs (λ a b. R (f a) (f b)) xs → AllPairs R (map f xs)
+pairs_map f R [] all i j d less within = absurd (omega (arith, within))
+pairs_map f R (x ∷ xs) all i j d less within =
+    let inside : j < length (x ∷ xs) = rw (length-map (x ∷ xs) f) at within in
+    rw (map_at f (x ∷ xs) i d x (omega (arith, less, inside)), map_at f (x ∷ xs) j d x inside) (all i j x less inside)
+
+none_seen : (count : ℕ) → All (λ slot. IfSome slot (λ seen. seen ≤ 0)) (replicate {A = Option ℕ} count None)
+none_seen count i d within =
+    let inside : i < count = rw (length-replicate {A = Option ℕ} count None) at within in
+    rw (get_or-replicate {A = Option ℕ} count i None d inside) tt
+
 opened_team : (design : Loaded) (number : ℕ) → IsTeamOf design.frame (opening_team design number)
 opened_team design number =
     let own = filter (λ (c : LoadedCell). eqb c.team number) design.cells in
@@ -78,8 +96,15 @@ opened_team design number =
     record {
       sized = All-map (λ (c : Cell). IsSizedCell design.frame c) opening_cell own (All-filter (λ (c : LoadedCell). eqb c.team number) (λ (c : LoadedCell). IsSizedCell design.frame (opening_cell c)) design.cells known);
       printed = All-map (λ (c : Cell). IsName c.name) opening_cell own (All-filter (λ (c : LoadedCell). eqb c.team number) (λ (c : LoadedCell). IsName c.name) design.cells (λ i d within. (design.cells_known i d within).name_printed));
+      names_differ =
+          pairs_map (λ (c : Cell). c.name) (λ a b. a ≢ b) (map opening_cell own)
+          (pairs_map opening_cell (λ (a : Cell) (b : Cell). a.name ≢ b.name) own (AllPairs-filter (λ (a : LoadedCell) (b : LoadedCell). a.name ≢ b.name) (λ (c : LoadedCell). eqb c.team number) design.cells design.names_differ));
       few_cells = rw (length-map own opening_cell) (omega (arith, few, design.few_cells));
       few_slots = rw (length-replicate {A = Option ℕ} design.frame.limits.sessions None) design.frame.limits.allowed.sessions_within.most;
+      whole_entries = λ i d within. absurd (omega (arith, within));
+      few_entries = omega arith;
+      few_revisions = omega arith;
+      seen_past = none_seen design.frame.limits.sessions;
     }
 
 opened_teams : (design : Loaded) (number more : ℕ) → All (λ s. IsTeamOf design.frame s) (opening_teams design number more)

@@ -7,9 +7,9 @@ use Rattle.lf_floorplan.specs.declared.frame.Frame.{Frame}
 use Rattle.lf_floorplan.specs.declared.place.Place.{Place}
 use Rattle.lf_rules.specs.Legalizer.{Legalizer}
 use Rattle.lf_proto.specs.declared.request.Order.{Order}
+use Rattle.lf_floor.specs.Outcomes.{Outcome, Reaches, RunsOut}
 use Rattle.lf_proto.specs.declared.reply.Reply.{Reply}
 use Rattle.lf_floor.specs.States.{TeamState}
-use Rattle.lf_floor.specs.Outcomes.{Outcome, Reaches, RunsOut}
 use Rattle.lf_floor.specs.Steps.{ruled, answer_by, Gives, StaysShort, floor_of}
 
 -- whatever holds of the team before and of its outcome holds of the team afterwards
@@ -36,3 +36,8 @@ stays_short l f teams number order s new there read out =
       kept = ap (λ (t : TeamState). floor_of f (slice_set teams number t)) (out.kept ∙ read) ∙ ap (floor_of f) (set-get_or teams number s);
       may = out.may;
     }
+
+-- two things that hold where memory is refused hold together
+pub on_err_both : {T E A B C : Type 0} (result : Result T E) → (A → B → C) → OnErr result A → OnErr result B → OnErr result C
+on_err_both (Ok x) both a b = tt
+on_err_both (Err e) both a b = both a b

@@ -19,7 +19,8 @@ use Rattle.lf_proto.proofs.Places.{place_at-some}
 use Rattle.lf_floor.specs.declared.cell.Cell.{Cell}
 use Rattle.lf_floor.specs.Teams.{Setting, IsSizedCell, cell_named, member_of, trial_of_cell, broken_at, broken_by}
 use Rattle.lf_floor.specs.Outcomes.{moved, working_at}
-use Rattle.lf_floor.specs.Verbs.{place_of_spot, lifted_cell, broken_where}
+use Rattle.lf_floor.specs.Looks.{place_of_spot, lifted_cell}
+use Rattle.lf_floor.specs.Changes.{broken_where}
 
 -- ---- cells by their position
 

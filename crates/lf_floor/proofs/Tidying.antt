@@ -18,7 +18,8 @@ use Rattle.lf_rules.proofs.TidyLemmas.{tidied_legal}
 use Rattle.lf_floor.specs.declared.cell.Cell.{Cell}
 use Rattle.lf_floor.specs.Teams.{Setting, IsSizedCell, member_of}
 use Rattle.lf_floor.specs.Outcomes.{working_at}
-use Rattle.lf_floor.specs.Verbs.{place_of_spot, lifted_cell, best_at, restored, places_in, broken_where, as_committed, first_unplaced, BrokenCell, broken_cells}
+use Rattle.lf_floor.specs.Looks.{place_of_spot, lifted_cell, best_at}
+use Rattle.lf_floor.specs.Changes.{restored, places_in, broken_where, as_committed, first_unplaced, BrokenCell, broken_cells}
 use Rattle.lf_floor.proofs.Standing.{some_one, member_there, place_is, sized_at, stands_where}
 
 none_some : {X : Type 0} {x : X} → None ≡ Some x → ⊥

@@ -1,27 +1,35 @@
--- What undo and revert bring back, and requests as verbs.
-use Rattle.std.proofs.Common.{◌≡◌, ℕ, zero, suc, ◌<◌, ◌≤◌, List, [], ◌∷◌, Bool, true, cond, ltb, map, take, length, Option, Some, None, refl, ap, sym, ◌∙◌, subst, arith}
+-- What undo and revert bring back, and that an order which runs is its verb.
+use Rattle.std.proofs.Common.{◌≡◌, ℕ, zero, suc, ◌<◌, ◌≤◌, List, [], ◌∷◌, Bool, true, cond, map, take, length, Option, Some, None, refl, ap, sym, ◌∙◌, subst, arith}
 use Rattle.std.proofs.lemmas.Bool.{eq-eqb, lt-ltb}
 use Rattle.lf_floorplan.specs.declared.place.Place.{Place}
 use Rattle.lf_rules.specs.Tidy.{Tidied, Stuck, tidied}
 use Rattle.lf_proto.specs.declared.request.Order.{Order}
-use Rattle.lf_proto.specs.declared.request.Order.TheVariants.{Open as Opens, Within as Asks}
-use Rattle.lf_proto.specs.declared.request.Action.TheVariants.{Check as AsksCheck, Where as AsksWhere, Change as Changes}
+use Rattle.lf_proto.specs.declared.request.Order.TheVariants.{Open, Within}
+use Rattle.lf_proto.specs.declared.request.Action.{Action}
+use Rattle.lf_proto.specs.declared.request.Action.TheVariants.{Close, Sync, Check, Where, Find, Change as Changing}
 use Rattle.lf_proto.specs.declared.request.Change.{Change}
-use Rattle.lf_proto.specs.declared.request.Change.TheVariants.{Place as Places, Unplace as Unplaces}
+use Rattle.lf_proto.specs.declared.request.Change.TheVariants.{Tidy, Undo, Commit, Revert}
+use Rattle.lf_floor.specs.Outcomes.{Outcome, refused, with_entry, places_of, recorded}
+use Rattle.lf_floor.specs.Verbs.{outcome_of, outcome_of_change, unless_spent, outcome_by_slot, outcome_of_verb, runs, never_stale, outcome_running, outcome_within}
+use Rattle.lf_floor.specs.Sessions.{seen_at}
+use Rattle.lf_floor.specs.Changes.{restored, places_in, reverted, undone, undone_by, tidied_by, tidied_team, back_to_committed, as_committed}
 use Rattle.lf_proto.specs.declared.reply.Refusal.{Refusal}
-use Rattle.lf_proto.specs.declared.reply.Refusal.TheVariants.{NoPlace, RevisionsSpent, Stale}
+use Rattle.lf_proto.specs.declared.reply.Refusal.TheVariants.{BadRequest, NoPlace, RevisionsSpent, Stale}
 use Rattle.lf_floor.specs.declared.cell.Cell.{Cell}
 use Rattle.lf_floor.specs.States.{TeamState}
 use Rattle.lf_floor.specs.Teams.{Setting, member_of}
-use Rattle.lf_floor.specs.Outcomes.{Outcome, refused, with_entry, places_of, seen_at, after_change, if_left, if_open, outcome_of}
-use Rattle.lf_floor.specs.Verbs.{TeamVerb, Open, Within, Close, Sync, Check, Where, Find, Changing, ChangeVerb, Tidy, Undo, Commit, Revert, restored, recorded, places_in, reverted, undone, undone_by, tidied_by, tidied_team, back_to_committed, as_committed, outcome_of_change, unless_spent, outcome_by_slot, outcome_of_verb}
-use Rattle.lf_floor.specs.VerbLaws.{MayChange, Leads, HasSeen, verb_of, verb_of_change, is_accepted, is_recorded, is_commit, outcome_of_asking}
-use Rattle.lf_floor.proofs.VerbCases.{verb_by, asking}
-use Rattle.lf_floor.proofs.VerbKept.{moved_part, restored_part, exchanged_part, back_part, same_length, false_true}
+use Rattle.lf_floor.specs.VerbLaws.{MayChange, Leads, HasSeen, is_accepted, is_recorded, is_commit, outcome_of_asking}
+use Rattle.lf_floor.proofs.Cases.{verb_by, asking}
+use Rattle.lf_floor.proofs.Kept.{moved_part, restored_part, exchanged_part, back_part, same_length, false_true}
+
+-- it is a change
+abbrev IsChange : Action (List ℕ) Place → Type 0
+IsChange (Changing change) = Unit {0}
+IsChange _ = ⊥
 
 -- ---- a session that may change
 
-slot_is : (t : Setting) (session : ℕ) (change : ChangeVerb) (s : TeamState) (o : Option ℕ) → o ≡ Some s.revision → s.revision < t.frame.limits.revisions
+slot_is : (t : Setting) (session : ℕ) (change : Change (List ℕ) Place) (s : TeamState) (o : Option ℕ) → o ≡ Some s.revision → s.revision < t.frame.limits.revisions
     → outcome_by_slot o t session (Changing change) s ≡ outcome_of_change t session change s
 slot_is t session change s None seen left = absurd cc
 slot_is t session change s (Some n) seen left =
@@ -33,7 +41,7 @@ slot_is t session change s (Some n) seen left =
     some_one e = cc
 
 -- what a change comes to that a session asks which may
-pub may_is : (t : Setting) (session : ℕ) (change : ChangeVerb) (s : TeamState) → MayChange t session s
+pub may_is : (t : Setting) (session : ℕ) (change : Change (List ℕ) Place) (s : TeamState) → MayChange t session s
     → outcome_of_asking t session change s ≡ outcome_of_change t session change s
 may_is t session change s may = slot_is t session change s (seen_at s.slots session) may.seen may.left
 
@@ -61,11 +69,11 @@ pub record IsRecorded (t : Setting) (s new : TeamState) : Type 0 where
   pub entries : new.entries ≡ with_entry t.frame.limits s
   pub many : length new.cells ≡ length s.cells
 
-abbrev Records : Setting → TeamState → TeamVerb → Outcome → Type 0
+abbrev Records : Setting → TeamState → Order (List ℕ) Place → Outcome → Type 0
 Records t s (Within session (Changing change)) o = is_recorded change ≡ true → is_accepted o ≡ true → IsRecorded t s o.team
 Records t s _ o = Unit {0}
 
-refused_records : (t : Setting) (s : TeamState) (verb : TeamVerb) (r : Refusal) → Records t s verb (refused r s)
+refused_records : (t : Setting) (s : TeamState) (verb : Order (List ℕ) Place) (r : Refusal) → Records t s verb (refused r s)
 refused_records t s Open r = tt
 refused_records t s (Within session Close) r = tt
 refused_records t s (Within session Sync) r = tt
@@ -77,7 +85,7 @@ refused_records t s (Within session (Changing change)) r = λ recorded denied. a
 records : (t : Setting) (session : ℕ) (s : TeamState) (cells : List Cell) → map (λ c. c.mac) cells ≡ map (λ c. c.mac) s.cells → IsRecorded t s (recorded t session cells s).team
 records t session s cells same = record { entries = refl; many = same_length s.cells cells same }
 
-pub change_recorded : (t : Setting) (verb : TeamVerb) (s : TeamState) → Records t s verb (outcome_of_verb t verb s)
+pub change_recorded : (t : Setting) (verb : Order (List ℕ) Place) (s : TeamState) → Records t s verb (outcome_of_verb t verb s)
 change_recorded t verb s = verb_by t s (λ v o. Records t s v o) record {
   refusal = λ v r plain. refused_records t s v r;
   opens = λ session e. tt;
@@ -104,7 +112,7 @@ undone_leads t other s new is =
     let P : List (List (Option Place)) → Type 0 = λ e. Leads (undone_by e other new) (places_of s.cells) in
     subst P (sym entries) record { told = refl; places_are = restored_places s.cells new.cells is.many }
 
-pub undo_leads : (t : Setting) (session other : ℕ) (change : ChangeVerb) (s : TeamState) → is_recorded change ≡ true → is_accepted (outcome_of_asking t session change s) ≡ true
+pub undo_leads : (t : Setting) (session other : ℕ) (change : Change (List ℕ) Place) (s : TeamState) → is_recorded change ≡ true → is_accepted (outcome_of_asking t session change s) ≡ true
     → MayChange t other (outcome_of_asking t session change s).team → Leads (outcome_of_asking t other Undo (outcome_of_asking t session change s).team) (places_of s.cells)
 undo_leads t session other change s is accepted may =
     let after = (outcome_of_asking t session change s).team in
@@ -118,10 +126,10 @@ back_committed : (cells : List Cell) → places_of (map back_to_committed (map a
 back_committed [] = refl
 back_committed (c ∷ cs) = ap (λ (places : List (Option Place)). c.working ∷ places) (back_committed cs)
 
-abbrev Commits : TeamState → TeamVerb → Outcome → Type 0
+abbrev Commits : TeamState → Order (List ℕ) Place → Outcome → Type 0
 Commits s verb o = is_commit verb ≡ true → is_accepted o ≡ true → o.team.cells ≡ map as_committed s.cells
 
-pub commit_copies : (t : Setting) (verb : TeamVerb) (s : TeamState) → Commits s verb (outcome_of_verb t verb s)
+pub commit_copies : (t : Setting) (verb : Order (List ℕ) Place) (s : TeamState) → Commits s verb (outcome_of_verb t verb s)
 commit_copies t verb s = verb_by t s (λ v o. Commits s v o) record {
   refusal = λ v r plain is denied. absurd (false_true denied);
   opens = λ session e is. absurd (false_true is);
@@ -154,32 +162,33 @@ revert_leads t session other s accepted may =
     let P : Outcome → Type 0 = λ o. Leads o (places_of s.cells) in
     subst P (sym (may_is t other Revert after may)) (reverted_leads t other s after (commit_copies t (asking session Commit) s refl accepted))
 
--- ---- requests and verbs
+-- ---- verbs that run
 
-same_change : (t : Setting) (session : ℕ) (c : Change (List ℕ) Place) (s : TeamState) → after_change t session c s ≡ outcome_of_change t session (verb_of_change c) s
-same_change t session (Places cell place) s = refl
-same_change t session (Unplaces cell) s = refl
+-- what an open session asks does not ask what it has seen, unless it is a change
+seen_alike : (t : Setting) (session seen : ℕ) (action : Action (List ℕ) Place) (s : TeamState) → (IsChange action → seen ≡ s.revision) → outcome_within s.revision t session action s ≡ outcome_within seen t session action s
+seen_alike t session seen Close s same = refl
+seen_alike t session seen Sync s same = refl
+seen_alike t session seen Check s same = refl
+seen_alike t session seen (Where cell) s same = refl
+seen_alike t session seen (Find cell target) s same = refl
+seen_alike t session seen (Changing change) s same = ap (λ (n : ℕ). outcome_within n t session (Changing change) s) (sym (same tt))
 
-same_left : (t : Setting) (session : ℕ) (c : Change (List ℕ) Place) (s : TeamState) → if_left t session c s ≡ unless_spent t session (verb_of_change c) s
-same_left t session c s = ap (λ (o : Outcome). cond (ltb s.revision t.frame.limits.revisions) o (refused RevisionsSpent s)) (same_change t session c s)
+slot_alike : (t : Setting) (session : ℕ) (action : Action (List ℕ) Place) (s : TeamState) (o : Option ℕ) → (IsChange action → (seen : ℕ) → o ≡ Some seen → seen ≡ s.revision)
+    → outcome_by_slot (never_stale s.revision o) t session action s ≡ outcome_by_slot o t session action s
+slot_alike t session action s None has_seen = refl
+slot_alike t session action s (Some seen) has_seen = seen_alike t session seen action s (λ is. has_seen is seen refl)
 
-same_slot : (t : Setting) (session : ℕ) (c : Change (List ℕ) Place) (s : TeamState) (o : Option ℕ) → ((seen : ℕ) → o ≡ Some seen → seen ≡ s.revision)
-    → if_open o t session (Changes c) s ≡ outcome_by_slot o t session (Changing (verb_of_change c)) s
-same_slot t session c s None has_seen = refl
-same_slot t session c s (Some n) has_seen =
-    same_left t session c s
-    ∙ sym (ap (λ (b : Bool). cond b (unless_spent t session (verb_of_change c) s) (refused (Stale s.revision) s)) (eq-eqb n s.revision (has_seen n refl)))
+has_seen_of : (session : ℕ) (action : Action (List ℕ) Place) (s : TeamState) → HasSeen (Within session action) s → IsChange action → (seen : ℕ) → seen_at s.slots session ≡ Some seen → seen ≡ s.revision
+has_seen_of session Close s has_seen is = absurd is
+has_seen_of session Sync s has_seen is = absurd is
+has_seen_of session Check s has_seen is = absurd is
+has_seen_of session (Where cell) s has_seen is = absurd is
+has_seen_of session (Find cell target) s has_seen is = absurd is
+has_seen_of session (Changing change) s has_seen is = has_seen
 
-look_slot : (t : Setting) (session : ℕ) (cell : List ℕ) (s : TeamState) (o : Option ℕ) → if_open o t session (AsksWhere cell) s ≡ outcome_by_slot o t session (Where cell) s
-look_slot t session cell s None = refl
-look_slot t session cell s (Some n) = refl
+running_as_verb : (t : Setting) (order : Order (List ℕ) Place) (s : TeamState) → HasSeen order s → outcome_running t order s ≡ outcome_of_verb t order s
+running_as_verb t Open s has_seen = refl
+running_as_verb t (Within session action) s has_seen = slot_alike t session action s (seen_at s.slots session) (has_seen_of session action s has_seen)
 
-check_slot : (t : Setting) (session : ℕ) (s : TeamState) (o : Option ℕ) → if_open o t session AsksCheck s ≡ outcome_by_slot o t session Check s
-check_slot t session s None = refl
-check_slot t session s (Some n) = refl
-
-pub order_as_verb : (t : Setting) (order : Order (List ℕ) Place) (s : TeamState) → HasSeen order s → outcome_of t order s ≡ outcome_of_verb t (verb_of order) s
-order_as_verb t Opens s has_seen = refl
-order_as_verb t (Asks session AsksCheck) s has_seen = check_slot t session s (seen_at s.slots session)
-order_as_verb t (Asks session (AsksWhere cell)) s has_seen = look_slot t session cell s (seen_at s.slots session)
-order_as_verb t (Asks session (Changes c)) s has_seen = same_slot t session c s (seen_at s.slots session) has_seen
+pub order_as_verb : (t : Setting) (order : Order (List ℕ) Place) (s : TeamState) → runs order ≡ true → HasSeen order s → outcome_of t order s ≡ outcome_of_verb t order s
+order_as_verb t order s run has_seen = ap (λ (b : Bool). cond b (outcome_running t order s) (refused BadRequest s)) run ∙ running_as_verb t order s has_seen

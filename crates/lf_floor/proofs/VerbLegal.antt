@@ -10,16 +10,23 @@ use Rattle.lf_proto.specs.declared.reply.Refusal.{Refusal}
 use Rattle.lf_floor.specs.declared.cell.Cell.{Cell}
 use Rattle.lf_floor.specs.States.{TeamState}
 use Rattle.lf_floor.specs.Teams.{Setting, IsSizedCell, IsTeamOf, cell_named, member_of, broken_at}
+use Rattle.lf_proto.specs.declared.request.Order.{Order}
+use Rattle.lf_proto.specs.declared.request.Order.TheVariants.{Open, Within}
+use Rattle.lf_proto.specs.declared.request.Action.TheVariants.{Close, Sync, Check, Where, Find, Change as Changing}
+use Rattle.lf_proto.specs.declared.request.Change.{Change}
+use Rattle.lf_proto.specs.declared.request.Change.TheVariants.{Place as PlaceAt, Legalize, Tidy, Swap, Commit}
 use Rattle.lf_floor.specs.Outcomes.{Outcome, refused, moved, working_at}
-use Rattle.lf_floor.specs.Verbs.{TeamVerb, Open, Within, Close, Sync, Check, Where, Find, Changing, ChangeVerb, PlaceAt, Legalize, Tidy, Swap, Commit, best_at, broken_where, exchanged, outcome_of_verb}
+use Rattle.lf_floor.specs.Looks.{best_at}
+use Rattle.lf_floor.specs.Changes.{broken_where, exchanged}
+use Rattle.lf_floor.specs.Verbs.{outcome_of_verb}
 use Rattle.lf_floor.specs.VerbLaws.{HasLegal, AreLegal, is_accepted}
-use Rattle.lf_floor.proofs.VerbCases.{verb_by}
-use Rattle.lf_floor.proofs.VerbKept.{moved_part, exchanged_part, mac_at, same_length, sized_as, false_true}
+use Rattle.lf_floor.proofs.Cases.{verb_by}
+use Rattle.lf_floor.proofs.Kept.{moved_part, exchanged_part, mac_at, same_length, sized_as, false_true}
 use Rattle.lf_floor.proofs.Standing.{named_there, named_alike, working_is, moved_here, moved_there, sized_at, unbroken, stands_moved, stands_where}
 use Rattle.lf_floor.proofs.Tidying.{tidied_stand, best_legal, committed_stand}
 
 -- what is legal after an accepted change
-abbrev pub MakesLegal : Setting → ChangeVerb → TeamState → Type 0
+abbrev pub MakesLegal : Setting → Change (List ℕ) Place → TeamState → Type 0
 MakesLegal t (PlaceAt name place) s = HasLegal t name s
 MakesLegal t (Legalize name target) s = HasLegal t name s
 MakesLegal t (Swap name other) s = HasLegal t name s × HasLegal t other s
@@ -27,11 +34,11 @@ MakesLegal t Tidy s = AreLegal t s
 MakesLegal t Commit s = AreLegal t s
 MakesLegal t _ s = Unit {0}
 
-abbrev pub Legal : Setting → TeamVerb → Outcome → Type 0
+abbrev pub Legal : Setting → Order (List ℕ) Place → Outcome → Type 0
 Legal t (Within session (Changing change)) o = is_accepted o ≡ true → MakesLegal t change o.team
 Legal t _ o = Unit {0}
 
-refused_legal : (t : Setting) (s : TeamState) (verb : TeamVerb) (r : Refusal) → Legal t verb (refused r s)
+refused_legal : (t : Setting) (s : TeamState) (verb : Order (List ℕ) Place) (r : Refusal) → Legal t verb (refused r s)
 refused_legal t s Open r = tt
 refused_legal t s (Within session Close) r = tt
 refused_legal t s (Within session Sync) r = tt
@@ -111,7 +118,7 @@ module _ (t : Setting) (s : TeamState) (known : IsTeamOf t.frame s) (in_range : 
   }
 
   -- what an accepted change makes legal
-  pub verb_legal : (verb : TeamVerb) → Legal t verb (outcome_of_verb t verb s)
+  pub verb_legal : (verb : Order (List ℕ) Place) → Legal t verb (outcome_of_verb t verb s)
   verb_legal verb = verb_by t s (λ v o. Legal t v o) record {
     refusal = λ v r plain. refused_legal t s v r;
     opens = λ session e. tt;

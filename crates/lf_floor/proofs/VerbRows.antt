@@ -4,25 +4,39 @@ use Rattle.std.proofs.lemmas.Bool.{lt-ltb}
 use Rattle.lf_floorplan.specs.declared.place.Place.{Place}
 use Rattle.lf_proto.proofs.Places.{place_at-some}
 use Rattle.lf_floor.specs.Teams.{Setting}
-use Rattle.lf_floor.specs.Outcomes.{opened, located, placed, unplaced}
-use Rattle.lf_floor.specs.Verbs.{closed, synced, found, legalized, tidied_team, swapped, reverted, undone, committed}
+use Rattle.lf_floor.specs.Sessions.{opened, closed, synced}
+use Rattle.lf_floor.specs.Looks.{located, found}
+use Rattle.lf_floor.specs.Changes.{placed, unplaced, legalized, tidied_team, swapped, reverted, undone, committed}
 use Rattle.lf_floor.specs.VerbRows.{HasRoom, SessionRow, StaleRow, UndoRow, SpentRow, BestRow, NoPlaceRow, TidyRow, CommitRow, RefusedRow, SwapRow}
 
 -- a revision is left at each number up to nine
+more_left : (t : Setting) (n : ℕ) → 9 < t.frame.limits.revisions → n < 10 → ltb n t.frame.limits.revisions ≡ true
+more_left t n room small = lt-ltb n t.frame.limits.revisions (omega (arith, room, small))
+
 left : (t : Setting) (n : ℕ) → HasRoom t → n < 10 → ltb n t.frame.limits.revisions ≡ true
-left t n room small = lt-ltb n t.frame.limits.revisions (omega (arith, room.revisions, small))
+left t n room = more_left t n room.revisions
 
 -- the newest entry is kept
 newest : (t : Setting) → HasRoom t → (x : List (Option Place)) (xs : List (List (Option Place))) → take t.frame.limits.undo (x ∷ xs) ≡ x ∷ take 63 xs
 newest t room x xs = ap (λ (n : ℕ). take n (x ∷ xs)) room.undo
+
+-- where two changes can be undone, the two newest entries are kept
+two_kept : (t : Setting) → t.frame.limits.undo ≡ 2 → (entries : List (List (Option Place))) → take t.frame.limits.undo entries ≡ take 2 entries
+two_kept t is entries = ap (λ (n : ℕ). take n entries) is
 
 pub session_row : SessionRow
 unfolding opened closed located
 session_row t cells = refl
 
 pub undo_row : UndoRow
-unfolding undone located
-undo_row t p q r room = rw (left t 3 room (omega arith), left t 4 room (omega arith), left t 5 room (omega arith)) refl
+unfolding placed undone located
+undo_row t p q r room two first second third =
+    rw (
+      more_left t 0 room (omega arith), first, two_kept t two _,
+      more_left t 1 room (omega arith), second, two_kept t two _,
+      more_left t 2 room (omega arith), third, two_kept t two _,
+      more_left t 3 room (omega arith), more_left t 4 room (omega arith), more_left t 5 room (omega arith)
+    ) refl
 
 pub spent_row : SpentRow
 spent_row t change entries cells is =

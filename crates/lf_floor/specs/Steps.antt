@@ -1,27 +1,22 @@
 -- What one command does to the floor of all teams.
-use Rattle.std.specs.Prelude.{◌≡◌, ℕ, List, Option, Some, None, true, MatchBool, slice_get, slice_set}
+use Rattle.std.specs.Prelude.{◌≡◌, ℕ, List, Option, Some, None, true, false, MatchBool, slice_get, slice_set}
 use Rattle.lf_floorplan.specs.declared.frame.Frame.{Frame}
 use Rattle.lf_floorplan.specs.declared.place.Place.{Place}
 use Rattle.lf_rules.specs.Legalizer.{Legalizer}
 use Rattle.lf_proto.specs.declared.request.Command.{Command}
 use Rattle.lf_proto.specs.declared.request.Command.TheVariants.{Bye, To}
 use Rattle.lf_proto.specs.declared.request.Order.{Order}
-use Rattle.lf_proto.specs.declared.request.Order.TheVariants.{Open, Within}
-use Rattle.lf_proto.specs.declared.request.Action.TheVariants.{Where}
 use Rattle.lf_proto.specs.declared.reply.Reply.{Reply}
 use Rattle.lf_proto.specs.declared.reply.Reply.TheVariants.{Done, Refused}
 use Rattle.lf_proto.specs.declared.reply.Refusal.TheVariants.{NoTeam}
 use Rattle.lf_floor.specs.States.{TeamState, FloorState}
-use Rattle.lf_floor.specs.Teams.{Setting, team_number}
-use Rattle.lf_floor.specs.Outcomes.{Outcome, outcome_of, is_short, may_be_short}
+use Rattle.lf_floor.specs.Teams.{setting, team_number}
+use Rattle.lf_floor.specs.Outcomes.{Outcome, is_short, may_be_short}
+use Rattle.lf_floor.specs.Verbs.{outcome_of, takes_memory}
 
 -- the floor of that frame and these teams
 abbrev pub floor_of : Frame → List TeamState → FloorState
 floor_of f teams = record { frame = f; teams = teams }
-
--- the setting of the team of that number
-abbrev pub setting : Legalizer → Frame → ℕ → Setting
-setting l f number = record { legalizer = l; frame = f; number = number }
 
 -- the reply to a command, and the floor afterwards
 pub record Answer : Type 0 where
@@ -61,12 +56,10 @@ answer_of l floor (To team order) = answer_at (team_number floor.frame team) l f
 
 -- ---- a step
 
--- the commands that take no memory, so that OutOfMemory is never told: bye, open and where
+-- the commands that take no memory, so that OutOfMemory is never told: bye, open, close, sync and where
 abbrev pub TakesNone : Command (List ℕ) Place → Type 0
 TakesNone Bye = Unit {0}
-TakesNone (To team Open) = Unit {0}
-TakesNone (To team (Within session (Where cell))) = Unit {0}
-TakesNone _ = ⊥
+TakesNone (To team order) = takes_memory order ≡ false
 
 -- the reply and the floor are those of the answer
 pub record Gives (answer : Answer) (reply : Reply) (floor : FloorState) : Type 0 where

@@ -1,5 +1,5 @@
 -- Teams and cells by their names, and a team's cells beside each other (LEF/DEF 5.8, DEF REGIONS, GROUPS and COMPONENTS).
-use Rattle.std.specs.Prelude.{ℕ, ◌<◌, ◌≤◌, List, [], ◌∷◌, ◌++◌, length, map, position, bytes_eq, All, Option, Some, None, slice_get, option_map}
+use Rattle.std.specs.Prelude.{◌≡◌, ◌≢◌, ℕ, ◌<◌, ◌≤◌, List, [], ◌∷◌, ◌++◌, length, map, position, bytes_eq, All, AllPairs, IfSome, Option, Some, None, slice_get, option_map}
 use Rattle.lf_floorplan.specs.declared.frame.Frame.{Frame}
 use Rattle.lf_floorplan.specs.declared.place.Place.{Place}
 use Rattle.lf_rules.specs.declared.rule.Broken.{Broken}
@@ -13,6 +13,7 @@ use Rattle.lf_rtree.specs.declared.placed.Placed.{Placed}
 use Rattle.lf_rules.specs.declared.report.Listed.{Listed}
 use Rattle.lf_rules.specs.Team.{Member, with_box, boxes_beside}
 use Rattle.lf_floor.specs.declared.cell.Cell.{Cell}
+use Rattle.lf_floor.specs.declared.surroundings.Surroundings.{Surroundings}
 use Rattle.lf_floor.specs.States.{FloorState, TeamState}
 
 -- the names of all teams: those of the fences, in the frame's order, and last '-'
@@ -53,19 +54,33 @@ pub record IsSizedCell (f : Frame) (c : Cell) : Type 0 where
   pub known : c.mac < length f.macros
   pub sized : IsSized f (macro_of f c.mac)
 
--- a team of the frame: the macros of its cells are the frame's, of whole size, their names are names of a text, and cells and
--- slots are no more than a design may have
+-- a team of the frame: the macros of its cells are the frame's, of whole size, their names are names of a text and differ, and
+-- cells, slots, undo entries and revisions are no more than a design may have; an undo entry has a place for each cell, and no
+-- session has seen a revision that is still to come
 pub record IsTeamOf (f : Frame) (s : TeamState) : Type 0 where
   pub sized : All (λ c. IsSizedCell f c) s.cells
   pub printed : All (λ c. IsName c.name) s.cells
+  pub names_differ : AllPairs (λ a b. a ≢ b) (map (λ c. c.name) s.cells)
   pub few_cells : length s.cells ≤ 4000000
   pub few_slots : length s.slots ≤ 64
+  pub whole_entries : All (λ places. length places ≡ length s.cells) s.entries
+  pub few_entries : length s.entries ≤ f.limits.undo
+  pub few_revisions : s.revision ≤ f.limits.revisions
+  pub seen_past : All (λ slot. IfSome slot (λ seen. seen ≤ s.revision)) s.slots
 
 -- where a team works: the frame, the team's number there, and the legalizer of its places
 pub record Setting : Type 0 where
   pub legalizer : Legalizer
   pub frame : Frame
   pub number : ℕ
+
+-- the setting of the team of that number
+abbrev pub setting : Legalizer → Frame → ℕ → Setting
+setting l f number = record { legalizer = l; frame = f; number = number }
+
+-- the setting that a team's surroundings are, with a legalizer
+abbrev pub setting_in : Legalizer → Surroundings → Setting
+setting_in l around = setting l around.frame.now around.number
 
 -- the cell of that position, tried at a place beside the team's other placed cells
 abbrev pub trial_of_cell : Setting → List Cell → ℕ → Cell → Place → Trial

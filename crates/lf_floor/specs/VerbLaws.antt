@@ -6,11 +6,10 @@ use Rattle.lf_rules.specs.Choice.{IsChoice, spot_of}
 use Rattle.lf_rules.specs.Team.{StandsLegal}
 use Rattle.lf_rules.specs.Tidy.{Stuck, tidied}
 use Rattle.lf_proto.specs.declared.request.Order.{Order}
-use Rattle.lf_proto.specs.declared.request.Order.TheVariants.{Open as Opens, Within as Asks}
-use Rattle.lf_proto.specs.declared.request.Action.{Action}
-use Rattle.lf_proto.specs.declared.request.Action.TheVariants.{Check as AsksCheck, Where as AsksWhere, Change as Changes}
+use Rattle.lf_proto.specs.declared.request.Order.TheVariants.{Within}
+use Rattle.lf_proto.specs.declared.request.Action.TheVariants.{Change as Changing}
 use Rattle.lf_proto.specs.declared.request.Change.{Change}
-use Rattle.lf_proto.specs.declared.request.Change.TheVariants.{Place as Places, Unplace as Unplaces}
+use Rattle.lf_proto.specs.declared.request.Change.TheVariants.{Place as PlaceAt, Legalize, Tidy, Swap, Undo, Commit, Revert}
 use Rattle.lf_proto.specs.declared.reply.Reply.{Reply}
 use Rattle.lf_proto.specs.declared.reply.Reply.TheVariants.{Revision, Legalized, Tidied as TidyDone, Refused}
 use Rattle.lf_proto.specs.declared.reply.Refusal.{Refusal}
@@ -18,11 +17,13 @@ use Rattle.lf_proto.specs.declared.reply.Refusal.TheVariants.{NoPlace}
 use Rattle.lf_floor.specs.declared.cell.Cell.{Cell}
 use Rattle.lf_floor.specs.States.{TeamState}
 use Rattle.lf_floor.specs.Teams.{Setting, IsTeamOf, cell_named, member_of}
-use Rattle.lf_floor.specs.Outcomes.{Outcome, is_short, refused, places_of, seen_at, outcome_of}
-use Rattle.lf_floor.specs.Verbs.{TeamVerb, Open, Within, SessionVerb, Check, Where, Changing, ChangeVerb, PlaceAt, Legalize, Tidy, Unplace, Swap, Undo, Commit, Revert, lifted_cell, best_at, outcome_of_verb}
+use Rattle.lf_floor.specs.Outcomes.{Outcome, is_short, refused, places_of}
+use Rattle.lf_floor.specs.Sessions.{seen_at}
+use Rattle.lf_floor.specs.Looks.{lifted_cell, best_at}
+use Rattle.lf_floor.specs.Verbs.{runs, outcome_of, outcome_of_verb}
 
 -- what a change comes to that a session asks
-abbrev pub outcome_of_asking : Setting → ℕ → ChangeVerb → TeamState → Outcome
+abbrev pub outcome_of_asking : Setting → ℕ → Change (List ℕ) Place → TeamState → Outcome
 outcome_of_asking t session change s = outcome_of_verb t (Within session (Changing change)) s
 
 -- the reply is no refusal
@@ -43,12 +44,12 @@ pub record MayChange (t : Setting) (session : ℕ) (s : TeamState) : Type 0 wher
 
 -- no verb comes to OutOfMemory: memory plays no part in the rules
 abbrev pub NeverOutOfMemory : Type 0
-NeverOutOfMemory = (t : Setting) (verb : TeamVerb) (s : TeamState) → is_short (outcome_of_verb t verb s).reply ≡ false
+NeverOutOfMemory = (t : Setting) (verb : Order (List ℕ) Place) (s : TeamState) → is_short (outcome_of_verb t verb s).reply ≡ false
 
 -- a refusal leaves the team as it was
 abbrev pub RefusalKeeps : Type 0
 RefusalKeeps =
-    (t : Setting) (verb : TeamVerb) (s : TeamState) (refusal : Refusal)
+    (t : Setting) (verb : Order (List ℕ) Place) (s : TeamState) (refusal : Refusal)
     → (outcome_of_verb t verb s).reply ≡ Refused refusal → (outcome_of_verb t verb s).team ≡ s
 
 -- a tidy in which a cell has no place names that cell, and leaves the team as it was
@@ -82,11 +83,11 @@ pub record CountsOne (t : Setting) (session : ℕ) (old : TeamState) (o : Outcom
 -- an accepted change counts one more revision
 abbrev pub ChangeCounts : Type 0
 ChangeCounts =
-    (t : Setting) (session : ℕ) (change : ChangeVerb) (s : TeamState)
+    (t : Setting) (session : ℕ) (change : Change (List ℕ) Place) (s : TeamState)
     → is_accepted (outcome_of_asking t session change s) ≡ true → CountsOne t session s (outcome_of_asking t session change s)
 
 -- the verb changes a team's places
-abbrev pub is_change : TeamVerb → Bool
+abbrev pub is_change : Order (List ℕ) Place → Bool
 is_change (Within session (Changing change)) = true
 is_change _ = false
 
@@ -98,12 +99,12 @@ pub record KeepsCells (old new : TeamState) : Type 0 where
 
 -- a verb that is no change leaves cells, revision and undo entries
 abbrev pub LookKeeps : Type 0
-LookKeeps = (t : Setting) (verb : TeamVerb) (s : TeamState) → is_change verb ≡ false → KeepsCells s (outcome_of_verb t verb s).team
+LookKeeps = (t : Setting) (verb : Order (List ℕ) Place) (s : TeamState) → is_change verb ≡ false → KeepsCells s (outcome_of_verb t verb s).team
 
 -- ---- undo, commit and revert
 
 -- the changes that undo takes back
-abbrev pub is_recorded : ChangeVerb → Bool
+abbrev pub is_recorded : Change (List ℕ) Place → Bool
 is_recorded Undo = false
 is_recorded Commit = false
 is_recorded _ = true
@@ -116,7 +117,7 @@ pub record Leads (o : Outcome) (places : List (Option Place)) : Type 0 where
 -- undo after an accepted place, legalize, tidy, unplace, swap or revert brings back the working places before it
 abbrev pub UndoBringsBack : Type 0
 UndoBringsBack =
-    (t : Setting) (session other : ℕ) (change : ChangeVerb) (s : TeamState) →
+    (t : Setting) (session other : ℕ) (change : Change (List ℕ) Place) (s : TeamState) →
     let after = outcome_of_asking t session change s in
     is_recorded change ≡ true → is_accepted after ≡ true → MayChange t other after.team
     → Leads (outcome_of_asking t other Undo after.team) (places_of s.cells)
@@ -129,7 +130,7 @@ RevertAfterCommitKeeps =
     is_accepted after ≡ true → MayChange t other after.team → Leads (outcome_of_asking t other Revert after.team) (places_of s.cells)
 
 -- the verb is a commit
-abbrev pub is_commit : TeamVerb → Bool
+abbrev pub is_commit : Order (List ℕ) Place → Bool
 is_commit (Within session (Changing Commit)) = true
 is_commit _ = false
 
@@ -140,7 +141,7 @@ committed_places s = map (λ c. c.committed) s.cells
 -- no verb but commit changes a committed place
 abbrev pub OnlyCommitCommits : Type 0
 OnlyCommitCommits =
-    (t : Setting) (verb : TeamVerb) (s : TeamState) → is_commit verb ≡ false
+    (t : Setting) (verb : Order (List ℕ) Place) (s : TeamState) → is_commit verb ≡ false
     → committed_places (outcome_of_verb t verb s).team ≡ committed_places s
 
 -- ---- legal places
@@ -196,31 +197,15 @@ SwapMakesLegal =
 
 -- a team of the frame stays one
 abbrev pub VerbKeepsTeam : Type 0
-VerbKeepsTeam = (t : Setting) (verb : TeamVerb) (s : TeamState) → IsTeamOf t.frame s → IsTeamOf t.frame (outcome_of_verb t verb s).team
+VerbKeepsTeam = (t : Setting) (verb : Order (List ℕ) Place) (s : TeamState) → IsTeamOf t.frame s → IsTeamOf t.frame (outcome_of_verb t verb s).team
 
--- ---- requests and verbs
-
--- the verb of a change
-abbrev pub verb_of_change : Change (List ℕ) Place → ChangeVerb
-verb_of_change (Places cell place) = PlaceAt cell place
-verb_of_change (Unplaces cell) = Unplace cell
-
--- the verb of what a session asks
-abbrev pub verb_of_action : Action (List ℕ) Place → SessionVerb
-verb_of_action AsksCheck = Check
-verb_of_action (AsksWhere cell) = Where cell
-verb_of_action (Changes change) = Changing (verb_of_change change)
-
--- the verb that an order asks
-abbrev pub verb_of : Order (List ℕ) Place → TeamVerb
-verb_of Opens = Open
-verb_of (Asks session action) = Within session (verb_of_action action)
+-- ---- verbs that run
 
 -- if the order is a change, its session has seen the present revision, where it is open
 abbrev pub HasSeen : Order (List ℕ) Place → TeamState → Type 0
-HasSeen (Asks session (Changes change)) s = (seen : ℕ) → seen_at s.slots session ≡ Some seen → seen ≡ s.revision
+HasSeen (Within session (Changing change)) s = (seen : ℕ) → seen_at s.slots session ≡ Some seen → seen ≡ s.revision
 HasSeen _ s = Unit {0}
 
--- an order comes to what its verb comes to, where its session is not stale
+-- an order that runs comes to what its verb comes to, where its session is not stale
 abbrev pub OrderIsVerb : Type 0
-OrderIsVerb = (t : Setting) (order : Order (List ℕ) Place) (s : TeamState) → HasSeen order s → outcome_of t order s ≡ outcome_of_verb t (verb_of order) s
+OrderIsVerb = (t : Setting) (order : Order (List ℕ) Place) (s : TeamState) → runs order ≡ true → HasSeen order s → outcome_of t order s ≡ outcome_of_verb t order s

@@ -4,37 +4,44 @@ use Rattle.lf_units.specs.declared.area.Point.{Point}
 use Rattle.lf_floorplan.specs.declared.place.Place.{Place}
 use Rattle.lf_rules.specs.declared.rule.Rule.TheVariants.{Overlap}
 use Rattle.lf_rules.specs.Tidy.{Going, Stuck, tidied}
+use Rattle.lf_proto.specs.declared.request.Order.{Order}
+use Rattle.lf_proto.specs.declared.request.Order.TheVariants.{Open, Within}
+use Rattle.lf_proto.specs.declared.request.Action.TheVariants.{Close, Sync, Where, Find, Change as Changing}
+use Rattle.lf_proto.specs.declared.request.Change.{Change}
+use Rattle.lf_proto.specs.declared.request.Change.TheVariants.{Place as PlaceAt, Legalize, Tidy, Unplace, Swap, Undo, Commit, Revert}
 use Rattle.lf_proto.specs.declared.reply.Reply.{Reply}
 use Rattle.lf_proto.specs.declared.reply.Reply.TheVariants.{Done, Opened, Revision, At, Legalized, Tidied as TidyDone, Refused}
 use Rattle.lf_proto.specs.declared.reply.Refusal.TheVariants.{NoSession, Stale, NoCell, Unplaced, Illegal, NoPlace, NothingToUndo, SessionsFull, RevisionsSpent}
 use Rattle.lf_floor.specs.declared.cell.Cell.{Cell}
 use Rattle.lf_floor.specs.States.{TeamState}
 use Rattle.lf_floor.specs.Teams.{Setting, member_of, broken_at}
-use Rattle.lf_floor.specs.Verbs.{TeamVerb, Open, Within, Close, Sync, Where, Find, Changing, ChangeVerb, PlaceAt, Legalize, Tidy, Unplace, Swap, Undo, Commit, Revert, best_at, broken_where, exchanged, broken_cells, outcome_of_verb}
+use Rattle.lf_floor.specs.Looks.{best_at}
+use Rattle.lf_floor.specs.Changes.{broken_where, exchanged, broken_cells}
+use Rattle.lf_floor.specs.Verbs.{outcome_of_verb}
 
 -- the replies to these verbs, one after the other
-abbrev pub replies_to : Setting → List TeamVerb → TeamState → List Reply
+abbrev pub replies_to : Setting → List (Order (List ℕ) Place) → TeamState → List Reply
 replies_to t [] s = []
 replies_to t (verb ∷ verbs) s = (outcome_of_verb t verb s).reply ∷ replies_to t verbs (outcome_of_verb t verb s).team
 
--- a cell of that name at this working place, and at no committed one
-abbrev pub cell_at : List ℕ → Option Place → Cell
-cell_at name place = record { name = name; mac = 0; working = place; committed = None }
+-- a cell of that name and macro at this working place, and at no committed one
+abbrev pub cell_at : List ℕ → ℕ → Option Place → Cell
+cell_at name mac place = record { name = name; mac = mac; working = place; committed = None }
 
--- the cells a1, a2 and a3 at these working places
+-- the cells a1 and a2 of one macro, and a3 of another, at these working places
 abbrev pub three : Option Place → Option Place → Option Place → List Cell
-three p q r = cell_at (codes "a1") p ∷ cell_at (codes "a2") q ∷ cell_at (codes "a3") r ∷ []
+three p q r = cell_at (codes "a1") 0 p ∷ cell_at (codes "a2") 0 q ∷ cell_at (codes "a3") 1 r ∷ []
 
 -- a team that has made so many changes, the last of which its one session has seen
 abbrev pub team_after : ℕ → List (List (Option Place)) → List Cell → TeamState
 team_after revision entries cells = record { cells = cells; revision = revision; entries = entries; slots = Some revision ∷ [] }
 
 -- what that session asks
-abbrev pub where_is : List ℕ → TeamVerb
+abbrev pub where_is : List ℕ → Order (List ℕ) Place
 where_is name = Within 0 (Where name)
 
 -- the change that it asks
-abbrev pub change_to : ChangeVerb → TeamVerb
+abbrev pub change_to : Change (List ℕ) Place → Order (List ℕ) Place
 change_to change = Within 0 (Changing change)
 
 -- revisions and undo entries enough for each row
@@ -61,18 +68,21 @@ StaleRow =
     (record { cells = three (Some p) None None; revision = 1; entries = (None ∷ None ∷ None ∷ []) ∷ []; slots = Some 1 ∷ Some 0 ∷ [] })
     ≡ (Refused (Stale 1) ∷ Revision 1 ∷ Revision 2 ∷ At q ∷ [])
 
--- after three changes of which two can be undone, a third undo finds no entry
+-- where two changes can be undone, three are made, and a third undo finds no entry
 abbrev pub UndoRow : Type 0
 UndoRow =
-    (t : Setting) (p q r : Place) → HasRoom t →
-    replies_to t (change_to Undo ∷ change_to Undo ∷ change_to Undo ∷ where_is (codes "a1") ∷ where_is (codes "a2") ∷ [])
-    (team_after 3 ((Some p ∷ Some q ∷ None ∷ []) ∷ (Some p ∷ None ∷ None ∷ []) ∷ []) (three (Some p) (Some q) (Some r)))
-    ≡ (Revision 4 ∷ Revision 5 ∷ Refused NothingToUndo ∷ At p ∷ Refused (Unplaced 1) ∷ [])
+    (t : Setting) (p q r : Place) → 9 < t.frame.limits.revisions → t.frame.limits.undo ≡ 2 →
+    broken_at t (three None None None) 0 p ≡ None → broken_at t (three (Some p) None None) 1 q ≡ None → broken_at t (three (Some p) (Some q) None) 2 r ≡ None →
+    replies_to t
+    (change_to (PlaceAt (codes "a1") p) ∷ change_to (PlaceAt (codes "a2") q) ∷ change_to (PlaceAt (codes "a3") r)
+    ∷ change_to Undo ∷ change_to Undo ∷ change_to Undo ∷ where_is (codes "a1") ∷ where_is (codes "a2") ∷ where_is (codes "a3") ∷ [])
+    (team_after 0 [] (three None None None))
+    ≡ (Revision 1 ∷ Revision 2 ∷ Revision 3 ∷ Revision 4 ∷ Revision 5 ∷ Refused NothingToUndo ∷ At p ∷ Refused (Unplaced 1) ∷ Refused (Unplaced 2) ∷ [])
 
 -- at the revision limit no change is made, undo included
 abbrev pub SpentRow : Type 0
 SpentRow =
-    (t : Setting) (change : ChangeVerb) (entries : List (List (Option Place))) (cells : List Cell) → t.frame.limits.revisions ≡ 3 →
+    (t : Setting) (change : Change (List ℕ) Place) (entries : List (List (Option Place))) (cells : List Cell) → t.frame.limits.revisions ≡ 3 →
     replies_to t (change_to change ∷ []) (team_after 3 entries cells) ≡ (Refused RevisionsSpent ∷ [])
 
 -- find changes nothing, and legalize puts the cell where find has told
@@ -84,15 +94,15 @@ BestRow =
     (team_after 0 [] (three None None None))
     ≡ (At best ∷ Refused (Unplaced 0) ∷ Legalized 1 best ∷ At best ∷ [])
 
--- a cell without a place stops find, legalize and tidy, and nothing is changed
+-- a cell without a place stops find, legalize and tidy, which had found places for the two before it, and nothing is changed
 abbrev pub NoPlaceRow : Type 0
 NoPlaceRow =
-    (t : Setting) (target : Point) → HasRoom t → best_at t (three None None None) 0 target ≡ None →
+    (t : Setting) (target : Point) → HasRoom t → best_at t (three None None None) 2 target ≡ None →
     tidied t.legalizer t.frame t.number (map member_of (three None None None)) ≡ Stuck 2 →
     replies_to t
-    (Within 0 (Find (codes "a1") target) ∷ change_to (Legalize (codes "a1") target) ∷ change_to Tidy ∷ where_is (codes "a1") ∷ change_to Undo ∷ [])
+    (Within 0 (Find (codes "a3") target) ∷ change_to (Legalize (codes "a3") target) ∷ change_to Tidy ∷ where_is (codes "a1") ∷ change_to Undo ∷ [])
     (team_after 0 [] (three None None None))
-    ≡ (Refused (NoPlace 0) ∷ Refused (NoPlace 0) ∷ Refused (NoPlace 2) ∷ Refused (Unplaced 0) ∷ Refused NothingToUndo ∷ [])
+    ≡ (Refused (NoPlace 2) ∷ Refused (NoPlace 2) ∷ Refused (NoPlace 2) ∷ Refused (Unplaced 0) ∷ Refused NothingToUndo ∷ [])
 
 -- a tidy tells how many cells went to their best place
 abbrev pub TidyRow : Type 0

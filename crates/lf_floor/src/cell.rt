@@ -7,10 +7,10 @@ ghost use Rattle.lf_rules.specs.Legalizer.{Legalizer};
 ghost use Rattle.lf_rules.specs.Reports.{named, report_of};
 ghost use Rattle.lf_rules.specs.Team.{boxes_beside};
 ghost use Rattle.lf_proto.specs.ReportText.{report_text};
-ghost use Rattle.lf_floor.specs.Teams.{cell_named, listed_of, member_of, IsSizedCell, box_if_placed, broken_at};
-ghost use Rattle.lf_floor.specs.Steps.{setting};
+ghost use Rattle.lf_floor.specs.Teams.{cell_named, listed_of, member_of, setting_in, IsSizedCell, box_if_placed, broken_at};
 ghost use Rattle.lf_floor.specs.Outcomes.{moved, places_of, working_at};
 
+use crate::surroundings::Surroundings;
 use lf_floorplan::{Frame, Macro, Place};
 use lf_proto::{Text, report_json};
 use lf_rules::{Broken, Listed, Placed, box_of, first_broken, report_on, verdict_is_one};
@@ -91,21 +91,26 @@ fn others_of(
 ///
 /// `Err` where memory for the others' boxes is refused.
 pub(crate) fn broken_at(
-    alloc: Global,
-    frame: &Frame,
-    team: usize,
+    around: &Surroundings<'_>,
     cells: &[Cell],
     own: usize,
     place: &Place,
 ) -> Result<Option<Broken>, AllocError>
     requires within { own < length cells.now }
-    requires sized { All (IsSizedCell frame.now) cells.now }
+    requires sized { All (IsSizedCell around.now.frame.now) cells.now }
     requires few { length cells.now ≤ 4000000 }
-    ensures { IfOk result (λ broken. (l : Legalizer) → broken ≡ broken_at (setting l frame.now team) cells.now own place.now) }
+    ensures { IfOk result (λ broken. (l : Legalizer) → broken ≡ broken_at (setting_in l around.now) cells.now own place.now) }
 {
     verdict_is_one();
-    let others = others_of(alloc, frame, cells, own)?;
-    Ok(first_broken(frame, team, macro_of(frame, &cells[own]), place, &others))
+    let frame = around.frame;
+    let others = others_of(around.alloc, frame, cells, own)?;
+    Ok(first_broken(
+        frame,
+        around.number,
+        macro_of(frame, &cells[own]),
+        place,
+        &others,
+    ))
 }
 
 /// The cells of the team of that number, as its report lists them.
@@ -131,20 +136,15 @@ fn listed_cells<'a>(
 /// The text of the report of the team's cells at their working places.
 ///
 /// `Err` where memory is refused.
-pub(crate) fn report_text(
-    alloc: Global,
-    frame: &Frame,
-    number: usize,
-    cells: &[Cell],
-) -> Result<Text, AllocError>
-    requires sized { All (IsSizedCell frame.now) cells.now }
+pub(crate) fn report_text(around: &Surroundings<'_>, cells: &[Cell]) -> Result<Text, AllocError>
+    requires sized { All (IsSizedCell around.now.frame.now) cells.now }
     requires printed { All (λ c. IsName c.name) cells.now }
     requires few { length cells.now ≤ 4000000 }
-    ensures { IfOk result (λ text. (l : Legalizer) → text ≡ report_text (report_of l frame.now (map (listed_of number) cells.now))) }
+    ensures { IfOk result (λ text. (l : Legalizer) → text ≡ report_text (report_of l around.now.frame.now (map (listed_of around.now.number) cells.now))) }
 {
-    let listed = listed_cells(alloc, number, cells)?;
-    let report = report_on(alloc, frame, &listed)?;
-    report_json(alloc, &report)
+    let listed = listed_cells(around.alloc, around.number, cells)?;
+    let report = report_on(around.alloc, around.frame, &listed)?;
+    report_json(around.alloc, &report)
 }
 
 /// The working place of the cell of that position; none where it is unplaced, or there is no such

@@ -1,18 +1,21 @@
 //! The floor of all teams.
 
-ghost use Rattle.std.specs.Prelude.{◌≡◌, ◌<◌, ◌≤◌, ◌+◌, ◌++◌, ◌∷◌, [], bytes_eq, position, ℕ, List, All, IfOk, IfSome, OnOk, OnErr, Some, option_and_then, option_map, false, length, slice_get, vec_len, vec_capacity};
+ghost use Rattle.std.specs.Prelude.{◌≡◌, ◌<◌, ◌≤◌, ◌+◌, ◌++◌, ◌∷◌, [], bytes_eq, position, ℕ, List, All, IfOk, IfSome, OnOk, OnErr, Some, option_and_then, option_map, true, length, slice_get, vec_len, vec_capacity};
+ghost use Rattle.lf_floorplan.specs.Bounds.{IsName};
 ghost use Rattle.lf_floorplan.specs.Fences.{ground_name};
 ghost use Rattle.lf_rules.specs.Legalizer.{Legalizer};
 ghost use Rattle.lf_proto.specs.Commands.{command_of, order_of};
 ghost use Rattle.lf_floor.specs.States.{TeamState};
 ghost use Rattle.lf_floor.specs.Teams.{IsTeamOf, team_number, state_of};
-ghost use Rattle.lf_floor.specs.Outcomes.{is_short, working_at, name_at};
+ghost use Rattle.lf_floor.specs.Outcomes.{working_at, name_at};
+ghost use Rattle.lf_floor.specs.Verbs.{takes_memory};
 ghost use Rattle.lf_floor.specs.Designs.{opening};
 ghost use Rattle.lf_floor.specs.Runs.{Run, IsIsolated};
 ghost use Rattle.lf_floor.specs.Steps.{Answers, Gives, StaysShort, RunsShort, Step, IsTo, answer_at, floor_of};
 
 use crate::cell::{Cell, working};
 use crate::opening::opening_teams;
+use crate::surroundings::Surroundings;
 use crate::team::Team;
 use lf_floorplan::{Frame, Loaded, Place};
 use lf_proto::{Command, Order, Refusal, Reply, Request, RequestList};
@@ -91,11 +94,17 @@ fn serve_at(
     requires teams { All (λ t. IsTeamOf frame.now t) teams.old.items }
     ensures ok { (l : Legalizer) → IfOk result (λ reply. Gives (answer_at (Some number) l (floor_of frame.now teams.old.items) (order_of order.now)) reply (floor_of frame.now teams.new.items)) }
     ensures err { (l : Legalizer) → OnErr result (StaysShort (answer_at (Some number) l (floor_of frame.now teams.old.items) (order_of order.now)) (floor_of frame.now teams.old.items) (floor_of frame.now teams.new.items)) }
+    ensures takes { OnErr result (takes_memory (order_of order.now) ≡ true) }
     ensures len { length teams.new.items ≡ length teams.old.items }
     ensures teams { All (λ t. IsTeamOf frame.now t) teams.new.items }
 {
     legalizer_is_there();
-    teams[number].serve(alloc, frame, number, order)
+    let around = Surroundings {
+        alloc,
+        frame,
+        number,
+    };
+    teams[number].serve(&around, order)
 }
 
 /// Puts a reply behind the others, where there is room.
@@ -141,14 +150,16 @@ impl Floor {
     ///
     /// None where the team has no such cell, or there is no such team.
     pub fn name_of(&self, team: &[u8], own: usize) -> Option<&[u8]>
-        ensures { option_map (λ name. name.now) result ≡ option_and_then (λ s. name_at s.cells own) (state_of self.now team.now) }
+        ensures name { option_map (λ name. name.now) result ≡ option_and_then (λ s. name_at s.cells own) (state_of self.now team.now) }
+        ensures printed { IfSome result (λ name. IsName name.now) }
     {
         Some(self.cells_of(team)?.get(own)?.name.as_bytes())
     }
 
     /// The cells of the team of that name, in loading order.
     fn cells_of(&self, team: &[u8]) -> Option<&[Cell]>
-        ensures { option_map (λ cells. cells.now) result ≡ option_map (λ s. s.cells) (state_of self.now team.now) }
+        ensures cells { option_map (λ cells. cells.now) result ≡ option_map (λ s. s.cells) (state_of self.now team.now) }
+        ensures printed { IfSome result (λ cells. All (λ c. IsName c.name) cells.now) }
     {
         let number = team_named(&self.frame, team)?;
         Some(self.teams[number].cells())

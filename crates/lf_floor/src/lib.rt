@@ -6,11 +6,17 @@
 pub use lf_proto as proto;
 
 mod cell;
+mod changes;
+mod entries;
 mod floor;
 mod laws;
+mod looks;
 mod opening;
+mod sessions;
+mod surroundings;
 mod team;
 mod verb_laws;
+mod verbs;
 
 pub use cell::Cell;
 pub use floor::Floor;

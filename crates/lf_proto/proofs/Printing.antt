@@ -15,16 +15,17 @@ use Rattle.lf_floorplan.specs.declared.place.Place.{Place}
 use Rattle.lf_proto.proofs.Blanks.{fields-blank, line_bytes-blank}
 use Rattle.lf_proto.proofs.Digits.{all_digits, is_digit_at, Digits}
 use Rattle.lf_proto.proofs.Places.{place_written-some}
-use Rattle.lf_proto.specs.Lines.{is_blank, is_line_byte, fields}
+use Rattle.lf_proto.specs.Lines.{is_blank, is_line_byte, fields, is_visible, IsName}
 use Rattle.lf_proto.specs.Numbers.{◌>>=◌, digits, below, session_number, negative, positive, coordinate}
-use Rattle.lf_proto.specs.Printed.{printed_fields, printed, is_visible, IsName, IsInRange, IsPlain, ReadsBack}
-use Rattle.lf_proto.specs.ReplyText.{orient_text}
-use Rattle.lf_proto.specs.Requests.{command_in, orient_named, place_written}
+use Rattle.lf_proto.specs.Printed.{action_words, printed_fields, printed, ReadsBack}
+use Rattle.lf_proto.specs.ReplyText.{orient_text, place_words}
+use Rattle.lf_proto.specs.Requests.{command_in, orient_named, place_written, IsInRange, IsPlainAction, IsPlain}
 use Rattle.lf_proto.specs.declared.request.Command.{Command}
 use Rattle.lf_proto.specs.declared.request.Command.TheVariants.{Bye, To}
 use Rattle.lf_proto.specs.declared.request.Order.TheVariants.{Open, Within}
-use Rattle.lf_proto.specs.declared.request.Action.TheVariants.{Check, Where, Change as Changing}
-use Rattle.lf_proto.specs.declared.request.Change.TheVariants.{Place as Placing, Unplace}
+use Rattle.lf_proto.specs.declared.request.Action.{Action}
+use Rattle.lf_proto.specs.declared.request.Action.TheVariants.{Close, Sync, Check, Where, Find, Change as Changing}
+use Rattle.lf_proto.specs.declared.request.Change.TheVariants.{Place as Placing, Legalize, Tidy, Unplace, Swap, Undo, Commit, Revert}
 
 -- the digits of a number that has at most ten
 decimal_digits : (n : ℕ) → n < 10 ^ 10 → Digits (decimal n)
@@ -88,17 +89,30 @@ place_written-printed p range =
     (coordinate-signed_decimal p.y p.y_in_def range.y_in_range)
     (orient_named-text p.orient)
 
+-- the fields of what a session asks, behind the verb's name
+abbrev ReadsWithin : List ℕ → ℕ → Action (List ℕ) Place → Type 0
+ReadsWithin team session action = command_in (printed_fields (To team (Within session action))) ≡ Some (To team (Within session action))
+
+action-printed : (team : List ℕ) (session : ℕ) (action : Action (List ℕ) Place) → session < 2 ^ 32 → IsPlainAction action → ReadsWithin team session action
+action-printed team session Check small plain = ap (λ o. o >>= (λ n. Some (To team (Within n Check)))) (session_number-decimal session small)
+action-printed team session (Where cell) small plain = ap (λ o. o >>= (λ n. Some (To team (Within n (Where cell))))) (session_number-decimal session small)
+action-printed team session (Changing (Placing cell place)) small (cell_is, range) =
+    rw (session_number-decimal session small, place_written-printed place range) refl
+action-printed team session Close small plain = absurd plain
+action-printed team session Sync small plain = absurd plain
+action-printed team session (Find cell target) small plain = absurd plain
+action-printed team session (Changing (Legalize cell target)) small plain = absurd plain
+action-printed team session (Changing Tidy) small plain = absurd plain
+action-printed team session (Changing (Unplace cell)) small plain = absurd plain
+action-printed team session (Changing (Swap first second)) small plain = absurd plain
+action-printed team session (Changing Undo) small plain = absurd plain
+action-printed team session (Changing Commit) small plain = absurd plain
+action-printed team session (Changing Revert) small plain = absurd plain
+
 command_in-printed : (command : Command (List ℕ) Place) → IsPlain command → command_in (printed_fields command) ≡ Some command
 command_in-printed Bye plain = absurd plain
 command_in-printed (To team Open) plain = refl
-command_in-printed (To team (Within session Check)) (team_is, small) =
-    ap (λ o. o >>= (λ n. Some (To team (Within n Check)))) (session_number-decimal session small)
-command_in-printed (To team (Within session (Where cell))) (team_is, small, cell_is) =
-    ap (λ o. o >>= (λ n. Some (To team (Within n (Where cell))))) (session_number-decimal session small)
-command_in-printed (To team (Within session (Changing (Placing cell place)))) (team_is, small, cell_is, range) =
-    ap (λ o. o >>= (λ n. place_written (signed_decimal place.x) (signed_decimal place.y) (orient_text place.orient) >>= (λ p. Some (To team (Within n (Changing (Placing cell p))))))) (session_number-decimal session small)
-    ∙ ap (λ o. o >>= (λ p. Some (To team (Within session (Changing (Placing cell p)))))) (place_written-printed place range)
-command_in-printed (To team (Within session (Changing (Unplace cell)))) plain = absurd plain
+command_in-printed (To team (Within session action)) (team_is, small, plain) = action-printed team session action small plain
 
 -- each field is a name
 abbrev AllNames : List (List ℕ) → Type 0
@@ -168,27 +182,34 @@ orient_name FW = record { some = omega arith; visible = refl }
 orient_name FS = record { some = omega arith; visible = refl }
 orient_name FE = record { some = omega arith; visible = refl }
 
+place_names : (place : Place) → IsInRange place → AllNames (place_words place)
+place_names place range = (signed_name place.x place.x_in_def range.x_in_range, (signed_name place.y place.y_in_def range.y_in_range, (orient_name place.orient, tt)))
+
+-- the verb and its own fields are names
+abbrev ActionNames : Action (List ℕ) Place → Type 0
+ActionNames action = IsName (action_words action).0 × AllNames (action_words action).1
+
+action_names : (action : Action (List ℕ) Place) → IsPlainAction action → ActionNames action
+action_names Check plain = (record { some = omega arith; visible = refl }, tt)
+action_names (Where cell) cell_is = (record { some = omega arith; visible = refl }, (cell_is, tt))
+action_names (Changing (Placing cell place)) (cell_is, range) = (record { some = omega arith; visible = refl }, (cell_is, place_names place range))
+action_names Close plain = absurd plain
+action_names Sync plain = absurd plain
+action_names (Find cell target) plain = absurd plain
+action_names (Changing (Legalize cell target)) plain = absurd plain
+action_names (Changing Tidy) plain = absurd plain
+action_names (Changing (Unplace cell)) plain = absurd plain
+action_names (Changing (Swap first second)) plain = absurd plain
+action_names (Changing Undo) plain = absurd plain
+action_names (Changing Commit) plain = absurd plain
+action_names (Changing Revert) plain = absurd plain
+
 printed_names : (command : Command (List ℕ) Place) → IsPlain command → AllNames (printed_fields command)
 printed_names Bye plain = absurd plain
 printed_names (To team Open) plain = (record { some = omega arith; visible = refl }, (plain, tt))
-printed_names (To team (Within session Check)) (team_is, small) =
-    (record { some = omega arith; visible = refl }, (team_is, (decimal_name session (omega arith), tt)))
-printed_names (To team (Within session (Where cell))) (team_is, small, cell_is) =
-    (record { some = omega arith; visible = refl }, (team_is, (decimal_name session (omega arith), (cell_is, tt))))
-printed_names (To team (Within session (Changing (Placing cell place)))) (team_is, small, cell_is, range) = (
-  record { some = omega arith; visible = refl },
-  (
-    team_is,
-    (
-      decimal_name session (omega arith),
-      (
-        cell_is,
-        (signed_name place.x place.x_in_def range.x_in_range, (signed_name place.y place.y_in_def range.y_in_range, (orient_name place.orient, tt))),
-      ),
-    ),
-  ),
-)
-printed_names (To team (Within session (Changing (Unplace cell)))) plain = absurd plain
+printed_names (To team (Within session action)) (team_is, small, plain) =
+    let names = action_names action plain in
+    (names.0, (team_is, (decimal_name session (omega arith), names.1)))
 
 pub reads_back : ReadsBack
 reads_back command plain =

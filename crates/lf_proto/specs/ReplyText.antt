@@ -1,5 +1,5 @@
 -- The text of a reply, given the names of the cells that it is about.
-use Rattle.std.specs.Prelude.{ℕ, List, [], ◌∷◌, ◌++◌, Option, None, Some, codes, decimal}
+use Rattle.std.specs.Prelude.{ℕ, List, [], ◌∷◌, ◌++◌, length, Option, None, Some, codes, decimal}
 use Rattle.std.specs.Fmt.{signed_decimal}
 use Rattle.std.specs.List.{join_with_byte}
 use Rattle.lf_orient.specs.declared.Orient.{Orient}
@@ -8,7 +8,7 @@ use Rattle.lf_floorplan.specs.declared.place.Place.{Place}
 use Rattle.lf_rules.specs.declared.rule.Rule.{Rule}
 use Rattle.lf_rules.specs.Legality.{number_of}
 use Rattle.lf_proto.specs.declared.reply.Reply.{Reply}
-use Rattle.lf_proto.specs.declared.reply.Reply.TheVariants.{Done, Opened, Revision, At, Legalized, Tidied, Report, Refused}
+use Rattle.lf_proto.specs.declared.reply.Reply.TheVariants.{Done, Opened, Revision, At, Legalized, Tidied, Report, Def, Refused}
 use Rattle.lf_proto.specs.declared.reply.Refusal.{Refusal}
 use Rattle.lf_proto.specs.declared.reply.Refusal.TheVariants.{BadRequest, NoTeam, NoSession, Stale, NoCell, Unplaced, Illegal, NoPlace, NothingToUndo, SessionsFull, RevisionsSpent, OutOfMemory}
 
@@ -64,8 +64,18 @@ reply_words (At place) cell_name other_name = codes "ok" ∷ place_words place
 reply_words (Legalized revision place) cell_name other_name = codes "ok" ∷ decimal revision ∷ place_words place
 reply_words (Tidied revision moved) cell_name other_name = codes "ok" ∷ decimal revision ∷ decimal moved ∷ []
 reply_words (Report text) cell_name other_name = codes "ok" ∷ text ∷ []
+reply_words (Def text) cell_name other_name = codes "ok" ∷ decimal (length text) ∷ []
 reply_words (Refused refusal) cell_name other_name = codes "no" ∷ refusal_words refusal cell_name other_name
 
--- the text of a reply
+-- the text that follows the line of a reply: of a DEF text, whose length the line tells, all its bytes
+abbrev pub text_behind : Reply → List ℕ
+text_behind (Def text) = text
+text_behind _ = []
+
+-- the line of a reply
+abbrev pub reply_line : Reply → List ℕ → List ℕ → List ℕ
+reply_line reply cell_name other_name = line_text (reply_words reply cell_name other_name)
+
+-- the text of a reply: its line, and the text behind
 abbrev pub reply_text : Reply → List ℕ → List ℕ → List ℕ
-reply_text reply cell_name other_name = line_text (reply_words reply cell_name other_name)
+reply_text reply cell_name other_name = reply_line reply cell_name other_name ++ text_behind reply

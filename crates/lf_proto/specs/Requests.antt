@@ -1,20 +1,25 @@
 -- The lines that are requests, verb by verb.
-use Rattle.std.specs.Prelude.{ℕ, Bool, true, false, cond, List, [], ◌∷◌, Option, Some, None, ℤ, negsuc, ◌<ℤ◌, codes}
+use Rattle.std.specs.Prelude.{ℕ, ◌<◌, ◌^◌, Bool, true, false, cond, List, [], ◌∷◌, Option, Some, None, ℤ, pos, negsuc, ◌<ℤ◌, codes}
 use Rattle.std.specs.Int.Signed.{lt_z, lt_z_yes}
 use Rattle.std.specs.List.{list_all}
 use Rattle.std.specs.Str.{bytes_eq}
 use Rattle.std.proofs.Math.Dec.{T}
+use Rattle.lf_units.specs.declared.area.Point.{Point}
 use Rattle.lf_orient.specs.declared.Orient.{Orient}
 use Rattle.lf_orient.specs.declared.Orient.TheVariants.{N, W, S, E, FN, FW, FS, FE}
 use Rattle.lf_floorplan.specs.declared.place.Place.{Place}
-use Rattle.lf_proto.specs.Lines.{fields, is_line_byte}
+use Rattle.lf_proto.specs.Lines.{fields, is_line_byte, IsName}
 use Rattle.lf_proto.specs.Numbers.{◌>>=◌, session_number, coordinate}
 use Rattle.lf_proto.specs.declared.line.Verb.{Verb}
-use Rattle.lf_proto.specs.declared.line.Verb.TheVariants.{Open as Opens, Check as Checks, Where as Asks, Place as Places}
+use Rattle.lf_proto.specs.declared.line.Verb.TheVariants.{Open as Opens, OfSession}
+use Rattle.lf_proto.specs.declared.line.SessionVerb.{SessionVerb}
+use Rattle.lf_proto.specs.declared.line.SessionVerb.TheVariants.{Check as Checks, Where as Asks, Place as Places}
 use Rattle.lf_proto.specs.declared.request.Command.{Command}
-use Rattle.lf_proto.specs.declared.request.Command.TheVariants.{To}
+use Rattle.lf_proto.specs.declared.request.Command.TheVariants.{Bye, To}
 use Rattle.lf_proto.specs.declared.request.Order.TheVariants.{Open, Within}
+use Rattle.lf_proto.specs.declared.request.Action.{Action}
 use Rattle.lf_proto.specs.declared.request.Action.TheVariants.{Check, Where, Change as Changing}
+use Rattle.lf_proto.specs.declared.request.Change.{Change}
 use Rattle.lf_proto.specs.declared.request.Change.TheVariants.{Place as Placing}
 
 -- an orientation by its name (LEF/DEF 5.8, DEF COMPONENTS)
@@ -54,48 +59,72 @@ place_written x_text y_text orient_text = do
   orient ← orient_named orient_text
   place_at x y orient
 
--- open TEAM
-abbrev pub open_of : List (List ℕ) → Option (Command (List ℕ) Place)
-open_of (team ∷ []) = Some (To team Open)
-open_of _ = None
-
--- check TEAM N
-abbrev pub check_of : List (List ℕ) → Option (Command (List ℕ) Place)
-check_of (team ∷ number ∷ []) = do
-  session ← session_number number
-  Some (To team (Within session Check))
-check_of _ = None
-
--- where TEAM N CELL
-abbrev pub where_of : List (List ℕ) → Option (Command (List ℕ) Place)
-where_of (team ∷ number ∷ cell ∷ []) = do
-  session ← session_number number
-  Some (To team (Within session (Where cell)))
-where_of _ = None
-
--- place TEAM N CELL X Y O
-abbrev pub place_of : List (List ℕ) → Option (Command (List ℕ) Place)
-place_of (team ∷ number ∷ cell ∷ x ∷ y ∷ orient ∷ []) = do
-  session ← session_number number
-  place ← place_written x y orient
-  Some (To team (Within session (Changing (Placing cell place))))
+-- X Y O, and nothing more
+abbrev pub place_of : List (List ℕ) → Option Place
+place_of (x ∷ y ∷ orient ∷ []) = place_written x y orient
 place_of _ = None
+
+-- X Y, and nothing more
+abbrev pub target_of : List (List ℕ) → Option Point
+target_of (x_text ∷ y_text ∷ []) = do
+  x ← coordinate x_text
+  y ← coordinate y_text
+  Some (record { x = x; y = y })
+target_of _ = None
+
+-- ---- the verbs
 
 -- a verb by its name
 abbrev pub verb_named : List ℕ → Option Verb
 verb_named text =
     cond (bytes_eq text (codes "open")) (Some Opens)
-    (cond (bytes_eq text (codes "check")) (Some Checks)
-    (cond (bytes_eq text (codes "where")) (Some Asks)
-    (cond (bytes_eq text (codes "place")) (Some Places)
+    (cond (bytes_eq text (codes "check")) (Some (OfSession Checks))
+    (cond (bytes_eq text (codes "where")) (Some (OfSession Asks))
+    (cond (bytes_eq text (codes "place")) (Some (OfSession Places))
     None)))
+
+-- check TEAM N, behind N
+abbrev pub check_of : List (List ℕ) → Option (Action (List ℕ) Place)
+check_of [] = Some Check
+check_of _ = None
+
+-- where TEAM N CELL, behind N
+abbrev pub where_of : List (List ℕ) → Option (Action (List ℕ) Place)
+where_of (cell ∷ []) = Some (Where cell)
+where_of _ = None
+
+-- place TEAM N CELL X Y O, behind N
+abbrev pub placing_of : List (List ℕ) → Option (Action (List ℕ) Place)
+placing_of (cell ∷ fields) = do
+  place ← place_of fields
+  Some (Changing (Placing cell place))
+placing_of _ = None
+
+-- what a session asks by a verb and the fields behind its number
+abbrev pub action_by : SessionVerb → List (List ℕ) → Option (Action (List ℕ) Place)
+action_by Checks = check_of
+action_by Asks = where_of
+action_by Places = placing_of
+
+-- ---- the lines
+
+-- open TEAM, behind the verb
+abbrev pub open_of : List (List ℕ) → Option (Command (List ℕ) Place)
+open_of (team ∷ []) = Some (To team Open)
+open_of _ = None
+
+-- TEAM N and the verb's own fields: what the session of that number asks of that team
+abbrev pub within_of : SessionVerb → List (List ℕ) → Option (Command (List ℕ) Place)
+within_of verb (team ∷ number ∷ own) = do
+  session ← session_number number
+  action ← action_by verb own
+  Some (To team (Within session action))
+within_of verb _ = None
 
 -- what a verb asks, by the fields behind it
 abbrev pub asked_by : Verb → List (List ℕ) → Option (Command (List ℕ) Place)
 asked_by Opens = open_of
-asked_by Checks = check_of
-asked_by Asks = where_of
-asked_by Places = place_of
+asked_by (OfSession verb) = within_of verb
 
 -- the command of a line's fields: the verb, and what it asks
 abbrev pub command_in : List (List ℕ) → Option (Command (List ℕ) Place)
@@ -107,3 +136,28 @@ command_in (word ∷ arguments) = do
 -- the command that a line gives, if it is a request
 abbrev pub command_on : List ℕ → Option (Command (List ℕ) Place)
 command_on line = cond (list_all is_line_byte line) (command_in (fields line)) None
+
+-- ---- what a line can ask
+
+-- a place whose corner fits 32 bits
+pub record IsInRange (place : Place) : Type 0 where
+  pub x_in_range : place.x <ℤ pos (2 ^ 31)
+  pub y_in_range : place.y <ℤ pos (2 ^ 31)
+
+-- a change that a line can ask
+abbrev pub IsPlainChange : Change (List ℕ) Place → Type 0
+IsPlainChange (Placing cell place) = IsName cell × IsInRange place
+IsPlainChange _ = ⊥
+
+-- what a session can ask by a line
+abbrev pub IsPlainAction : Action (List ℕ) Place → Type 0
+IsPlainAction Check = Unit {0}
+IsPlainAction (Where cell) = IsName cell
+IsPlainAction (Changing change) = IsPlainChange change
+IsPlainAction _ = ⊥
+
+-- a request that a line can ask: open, check, where or place, its names of visible bytes and its numbers of 32 bits
+abbrev pub IsPlain : Command (List ℕ) Place → Type 0
+IsPlain Bye = ⊥
+IsPlain (To team Open) = IsName team
+IsPlain (To team (Within session action)) = IsName team × (session < 2 ^ 32) × IsPlainAction action

@@ -2,12 +2,13 @@
 use Rattle.std.specs.Prelude.{ℕ, List, ◌∷◌, decimal}
 use Rattle.std.specs.Fmt.{signed_decimal}
 use Rattle.lf_proto.specs.declared.text.Word.{Word}
-use Rattle.lf_proto.specs.declared.text.Word.TheVariants.{Text, Number, Signed}
+use Rattle.lf_proto.specs.declared.text.Word.TheVariants.{Text, Number, Length, Signed}
 
 -- the text of a word of a reply
 abbrev pub word_text : Word → List ℕ
 word_text (Text text) = text.now
 word_text (Number n) = decimal n
+word_text (Length n) = decimal n
 word_text (Signed z) = signed_decimal z
 
 -- a word with a space in front

@@ -2,9 +2,9 @@
 
 ghost use Rattle.std.specs.Prelude.{◌≡◌, MatchResult, None, Some, true, option_map};
 ghost use Rattle.std.specs.List.{list_all};
-ghost use Rattle.lf_proto.specs.Commands.{command_of};
+ghost use Rattle.lf_proto.specs.Commands.{action_of, command_of};
 ghost use Rattle.lf_proto.specs.Lines.{fields, is_line_byte};
-ghost use Rattle.lf_proto.specs.Requests.{check_of, command_in, command_on, open_of, orient_named, place_of, place_written, verb_named, where_of};
+ghost use Rattle.lf_proto.specs.Requests.{action_by, check_of, command_in, command_on, open_of, orient_named, place_of, place_written, placing_of, target_of, verb_named, where_of, within_of};
 ghost use Rattle.lf_proto.specs.Printed.{PassesBlanksAround, PassesBlanksBetween, ReadsBack};
 
 use crate::number::{coordinate_of, session_of};
@@ -12,6 +12,7 @@ use crate::request::{Action, Change, Command, Order, Request};
 use bstr::{ByteSlice, Fields};
 use lf_floorplan::Place;
 use lf_orient::Orient;
+use lf_units::Point;
 
 /// The line is no request.
 #[derive(Clone, Copy, Debug, PartialEq, Eq)]
@@ -21,6 +22,12 @@ pub struct BadRequest;
 #[derive(Clone, Copy)]
 enum Verb {
     Open,
+    OfSession(SessionVerb),
+}
+
+/// The first word of what a session asks.
+#[derive(Clone, Copy)]
+enum SessionVerb {
     Check,
     Where,
     Place,
@@ -32,9 +39,9 @@ fn verb_of(word: &[u8]) -> Option<Verb>
 {
     match word {
         b"open" => Some(Verb::Open),
-        b"check" => Some(Verb::Check),
-        b"where" => Some(Verb::Where),
-        b"place" => Some(Verb::Place),
+        b"check" => Some(Verb::OfSession(SessionVerb::Check)),
+        b"where" => Some(Verb::OfSession(SessionVerb::Where)),
+        b"place" => Some(Verb::OfSession(SessionVerb::Place)),
         _ => None,
     }
 }
@@ -66,12 +73,83 @@ fn read_place(x: &[u8], y: &[u8], orient: &[u8]) -> Option<Place>
     Some(Place::new(x, y, orient))
 }
 
-/// The request of `open TEAM`, without the verb.
-fn open_request<'a>(mut arguments: Fields<'a>) -> Option<Request<'a>>
-    ensures { option_map command_of result ≡ open_of arguments.entry }
+/// The place `X Y O` of the last fields.
+fn last_place(mut fields: Fields<'_>) -> Option<Place>
+    ensures { result ≡ place_of fields.entry }
 {
-    let team = arguments.next()?;
-    if arguments.next().is_some() {
+    let x = fields.next()?;
+    let y = fields.next()?;
+    let orient = fields.next()?;
+    if fields.next().is_some() {
+        return None;
+    }
+    read_place(x, y, orient)
+}
+
+/// The target `X Y` of the last fields.
+fn last_target(mut fields: Fields<'_>) -> Option<Point>
+    ensures { result ≡ target_of fields.entry }
+{
+    let x = fields.next()?;
+    let y = fields.next()?;
+    if fields.next().is_some() {
+        return None;
+    }
+    let x = coordinate_of(x)?;
+    let y = coordinate_of(y)?;
+    Some(Point {
+        x: i64::from(x),
+        y: i64::from(y),
+    })
+}
+
+/// What `check TEAM N` asks, by the fields behind N.
+fn check_action<'a>(mut fields: Fields<'a>) -> Option<Action<&'a [u8]>>
+    ensures { option_map action_of result ≡ check_of fields.entry }
+{
+    if fields.next().is_some() {
+        return None;
+    }
+    Some(Action::Check)
+}
+
+/// What `where TEAM N CELL` asks, by the fields behind N.
+fn where_action<'a>(mut fields: Fields<'a>) -> Option<Action<&'a [u8]>>
+    ensures { option_map action_of result ≡ where_of fields.entry }
+{
+    let cell = fields.next()?;
+    if fields.next().is_some() {
+        return None;
+    }
+    Some(Action::Where { cell })
+}
+
+/// What `place TEAM N CELL X Y O` asks, by the fields behind N.
+fn place_action<'a>(mut fields: Fields<'a>) -> Option<Action<&'a [u8]>>
+    ensures { option_map action_of result ≡ placing_of fields.entry }
+{
+    let cell = fields.next()?;
+    let place = last_place(fields)?;
+    Some(Action::Change(Change::Place { cell, place }))
+}
+
+/// What a session asks by a verb and the fields behind its number.
+fn action_in<'a>(verb: SessionVerb, fields: Fields<'a>) -> Option<Action<&'a [u8]>>
+    ensures { option_map action_of result ≡ action_by verb fields.entry }
+{
+    match verb {
+        SessionVerb::Check => check_action(fields),
+        SessionVerb::Where => where_action(fields),
+        SessionVerb::Place => place_action(fields),
+    }
+}
+
+/// The request of `open TEAM`, without the verb.
+fn open_request<'a>(mut fields: Fields<'a>) -> Option<Request<'a>>
+    ensures { option_map command_of result ≡ open_of fields.entry }
+{
+    let team = fields.next()?;
+    if fields.next().is_some() {
         return None;
     }
     Some(Command::To {
@@ -80,66 +158,16 @@ fn open_request<'a>(mut arguments: Fields<'a>) -> Option<Request<'a>>
     })
 }
 
-/// The request of `check TEAM N`, without the verb.
-fn check_request<'a>(mut arguments: Fields<'a>) -> Option<Request<'a>>
-    ensures { option_map command_of result ≡ check_of arguments.entry }
+/// The request of a session's verb: `TEAM N` and the verb's own fields, without the verb.
+fn session_request<'a>(verb: SessionVerb, mut fields: Fields<'a>) -> Option<Request<'a>>
+    ensures { option_map command_of result ≡ within_of verb fields.entry }
 {
-    let team = arguments.next()?;
-    let session = arguments.next()?;
-    if arguments.next().is_some() {
-        return None;
-    }
-    let session = session_of(session)?;
+    let team = fields.next()?;
+    let session = session_of(fields.next()?)?;
+    let action = action_in(verb, fields)?;
     Some(Command::To {
         team,
-        order: Order::Within {
-            session,
-            action: Action::Check,
-        },
-    })
-}
-
-/// The request of `where TEAM N CELL`, without the verb.
-fn where_request<'a>(mut arguments: Fields<'a>) -> Option<Request<'a>>
-    ensures { option_map command_of result ≡ where_of arguments.entry }
-{
-    let team = arguments.next()?;
-    let session = arguments.next()?;
-    let cell = arguments.next()?;
-    if arguments.next().is_some() {
-        return None;
-    }
-    let session = session_of(session)?;
-    Some(Command::To {
-        team,
-        order: Order::Within {
-            session,
-            action: Action::Where { cell },
-        },
-    })
-}
-
-/// The request of `place TEAM N CELL X Y O`, without the verb.
-fn place_request<'a>(mut arguments: Fields<'a>) -> Option<Request<'a>>
-    ensures { option_map command_of result ≡ place_of arguments.entry }
-{
-    let team = arguments.next()?;
-    let session = arguments.next()?;
-    let cell = arguments.next()?;
-    let x = arguments.next()?;
-    let y = arguments.next()?;
-    let orient = arguments.next()?;
-    if arguments.next().is_some() {
-        return None;
-    }
-    let session = session_of(session)?;
-    let place = read_place(x, y, orient)?;
-    Some(Command::To {
-        team,
-        order: Order::Within {
-            session,
-            action: Action::Change(Change::Place { cell, place }),
-        },
+        order: Order::Within { session, action },
     })
 }
 
@@ -149,9 +177,7 @@ fn request_in<'a>(mut fields: Fields<'a>) -> Option<Request<'a>>
 {
     match verb_of(fields.next()?)? {
         Verb::Open => open_request(fields),
-        Verb::Check => check_request(fields),
-        Verb::Where => where_request(fields),
-        Verb::Place => place_request(fields),
+        Verb::OfSession(verb) => session_request(verb, fields),
     }
 }
 

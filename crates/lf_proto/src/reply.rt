@@ -53,6 +53,8 @@ pub enum Reply {
     Tidied { revision: u32, moved: u32 },
     /// The report of the team's cells, as JSON.
     Report(Text),
+    /// The team's DEF text.
+    Def(Text),
     /// Nothing was done.
     Refused(Refusal),
 }

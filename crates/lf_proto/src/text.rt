@@ -2,7 +2,7 @@
 
 ghost use Rattle.std.specs.Prelude.{◌≡◌, ◌<◌, ◌≤◌, ◌+◌, ◌++◌, [], ◌∷◌, OnOk, OnErr, IsOk, codes, length, map, take, vec_len, vec_capacity};
 ghost use Rattle.std.specs.List.{flat_map};
-ghost use Rattle.lf_proto.specs.ReplyText.{illegal_words, orient_text, refusal_words, reply_text, line_text};
+ghost use Rattle.lf_proto.specs.ReplyText.{illegal_words, line_text, orient_text, refusal_words, reply_line, reply_text, text_behind};
 ghost use Rattle.lf_proto.specs.Words.{spaced, word_text};
 
 use crate::reply::{Refusal, Reply};
@@ -16,6 +16,7 @@ use std::alloc::AllocError;
 enum Word<'a> {
     Text(&'a [u8]),
     Number(u32),
+    Length(usize),
     Signed(i32),
 }
 
@@ -56,6 +57,7 @@ fn put_word(out: &mut Vec<u8>, word: &Word<'_>) -> Result<(), AllocError>
     match word {
         Word::Text(text) => put(out, text),
         Word::Number(number) => put(out, Buffer::new().format(*number).as_bytes()),
+        Word::Length(number) => put(out, Buffer::new().format(*number).as_bytes()),
         Word::Signed(number) => put(out, Buffer::new().format(*number).as_bytes()),
     }
 }
@@ -91,6 +93,7 @@ fn put_line(out: &mut Vec<u8>, first: &[u8], words: &[Word<'_>]) -> Result<(), A
     ensures ok { OnOk result (out.new.items ≡ out.old.items ++ line_text (first.now ∷ map word_text words.now)) }
     ensures kept { take (vec_len out.old) out.new.items ≡ out.old.items }
     ensures full { OnErr result (vec_capacity out.old < vec_len out.old + length (line_text (first.now ∷ map word_text words.now))) }
+    ensures capacity { vec_capacity out.old ≤ vec_capacity out.new }
 {
     put(out, first)?;
     put_words(out, words)?;
@@ -102,6 +105,7 @@ fn put_plain<'x>(out: &mut Vec<u8>, number: &'x [u8], name: &'x [u8]) -> Result<
     ensures ok { OnOk result (out.new.items ≡ out.old.items ++ line_text (codes "no" ∷ number.now ∷ name.now ∷ [])) }
     ensures kept { take (vec_len out.old) out.new.items ≡ out.old.items }
     ensures full { OnErr result (vec_capacity out.old < vec_len out.old + length (line_text (codes "no" ∷ number.now ∷ name.now ∷ []))) }
+    ensures capacity { vec_capacity out.old ≤ vec_capacity out.new }
 {
     put_line(out, b"no", &[Word::Text(number), Word::Text(name)])
 }
@@ -117,6 +121,7 @@ fn put_illegal<'x>(
     ensures ok { OnOk result (out.new.items ≡ out.old.items ++ line_text (codes "no" ∷ illegal_words rule other cell_name.now other_name.now)) }
     ensures kept { take (vec_len out.old) out.new.items ≡ out.old.items }
     ensures full { OnErr result (vec_capacity out.old < vec_len out.old + length (line_text (codes "no" ∷ illegal_words rule other cell_name.now other_name.now))) }
+    ensures capacity { vec_capacity out.old ≤ vec_capacity out.new }
 {
     let number = Word::Number(rule.number());
     match other {
@@ -154,6 +159,7 @@ fn put_refusal<'x>(
     ensures ok { OnOk result (out.new.items ≡ out.old.items ++ line_text (codes "no" ∷ refusal_words refusal.now cell_name.now other_name.now)) }
     ensures kept { take (vec_len out.old) out.new.items ≡ out.old.items }
     ensures full { OnErr result (vec_capacity out.old < vec_len out.old + length (line_text (codes "no" ∷ refusal_words refusal.now cell_name.now other_name.now))) }
+    ensures capacity { vec_capacity out.old ≤ vec_capacity out.new }
 {
     match refusal {
         Refusal::BadRequest => put_plain(out, b"1", b"BadRequest"),
@@ -198,15 +204,16 @@ fn put_refusal<'x>(
 }
 
 /// Appends the line of a reply; an `Err` leaves a front of it.
-fn put_reply(
+fn put_reply_line(
     reply: &Reply,
     cell_name: &[u8],
     other_name: &[u8],
     out: &mut Vec<u8>,
 ) -> Result<(), AllocError>
-    ensures ok { OnOk result (out.new.items ≡ out.old.items ++ reply_text reply.now cell_name.now other_name.now) }
+    ensures ok { OnOk result (out.new.items ≡ out.old.items ++ reply_line reply.now cell_name.now other_name.now) }
     ensures kept { take (vec_len out.old) out.new.items ≡ out.old.items }
-    ensures full { OnErr result (vec_capacity out.old < vec_len out.old + length (reply_text reply.now cell_name.now other_name.now)) }
+    ensures full { OnErr result (vec_capacity out.old < vec_len out.old + length (reply_line reply.now cell_name.now other_name.now)) }
+    ensures capacity { vec_capacity out.old ≤ vec_capacity out.new }
 {
     match reply {
         Reply::Done => put_line(out, b"ok", &[]),
@@ -244,11 +251,37 @@ fn put_reply(
             &[Word::Number(*revision), Word::Number(*moved)],
         ),
         Reply::Report(text) => put_line(out, b"ok", &[Word::Text(text.as_bytes())]),
+        Reply::Def(text) => put_line(out, b"ok", &[Word::Length(text.as_bytes().len())]),
         Reply::Refused(refusal) => put_refusal(refusal, cell_name, other_name, out),
     }
 }
 
-/// Appends the text of a reply, its line feed included, given the names of the cells that it is about.
+/// The text behind the line of a reply.
+fn text_behind(reply: &Reply) -> &[u8]
+    ensures { result.now ≡ text_behind reply.now }
+{
+    match reply {
+        Reply::Def(text) => text.as_bytes(),
+        _ => b"",
+    }
+}
+
+/// Appends the line of a reply and the text behind it; an `Err` leaves a front of it.
+fn put_reply(
+    reply: &Reply,
+    cell_name: &[u8],
+    other_name: &[u8],
+    out: &mut Vec<u8>,
+) -> Result<(), AllocError>
+    ensures ok { OnOk result (out.new.items ≡ out.old.items ++ reply_text reply.now cell_name.now other_name.now) }
+    ensures kept { take (vec_len out.old) out.new.items ≡ out.old.items }
+    ensures full { OnErr result (vec_capacity out.old < vec_len out.old + length (reply_text reply.now cell_name.now other_name.now)) }
+{
+    put_reply_line(reply, cell_name, other_name, out)?;
+    put(out, text_behind(reply))
+}
+
+/// Appends the text of a reply, its line with the line feed and what follows it, given the names of the cells that it is about.
 ///
 /// `cell_name` is the name of the reply's cell and `other_name` that of the other cell of an overlap; a reply
 /// without them leaves them out. Where memory is refused, `out` is as it was.

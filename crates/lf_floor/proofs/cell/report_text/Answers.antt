@@ -8,11 +8,11 @@ use Rattle.lf_floor.proofs.cell.report_text.Goals as goal
 
 pub report_on-requires-clause-listed : goal.report_on-requires-clause-listed
 report_on-requires-clause-listed c =
-    lent_listed c.args.frame.now c.args.number c.args.cells.now c.deref.result.now
-    (lent_are c.args.number c.args.cells.now c.deref.result.now c.in_ok-listed.listed.items c.deref.ensures.value (c.in_ok-listed.ensures {u = tt})) c.requires.sized c.requires.printed
+    lent_listed c.args.around.now.frame.now c.args.around.now.number c.args.cells.now c.deref.result.now
+    (lent_are c.args.around.now.number c.args.cells.now c.deref.result.now c.in_ok-listed.listed.items c.deref.ensures.value (c.in_ok-listed.ensures {u = tt})) c.requires.sized c.requires.printed
 
 pub returns : goal.returns
 returns c =
-    let are = lent_are c.args.number c.args.cells.now c.deref.result.now c.in_ok-listed.listed.items c.deref.ensures.value (c.in_ok-listed.ensures {u = tt}) in
+    let are = lent_are c.args.around.now.number c.args.cells.now c.deref.result.now c.in_ok-listed.listed.items c.deref.ensures.value (c.in_ok-listed.ensures {u = tt}) in
     IfOk-weaker c.report_json.result _ _
-    (λ text is l. is ∙ ap report_text (c.in_ok-report.ensures.report l ∙ ap (λ (cells : List (Listed (List ℕ))). report_of l c.args.frame.now cells) are)) c.report_json.ensures
+    (λ text is l. is ∙ ap report_text (c.in_ok-report.ensures.report l ∙ ap (λ (cells : List (Listed (List ℕ))). report_of l c.args.around.now.frame.now cells) are)) c.report_json.ensures

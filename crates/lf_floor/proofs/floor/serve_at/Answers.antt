@@ -4,8 +4,8 @@ use Rattle.std.proofs.lemmas.Option.{slice_get_read}
 use Rattle.std.proofs.lemmas.Result.{IfOk-weaker, on_err_weaker}
 use Rattle.lf_proto.specs.Commands.{order_of}
 use Rattle.lf_floor.specs.States.{TeamState}
-use Rattle.lf_floor.specs.Teams.{IsTeamOf}
-use Rattle.lf_floor.specs.Steps.{setting, ruled}
+use Rattle.lf_floor.specs.Teams.{IsTeamOf, setting}
+use Rattle.lf_floor.specs.Steps.{ruled}
 use Rattle.lf_floor.proofs.Kept.{team_kept}
 use Rattle.lf_floor.proofs.Serving.{kept_by, gives, stays_short}
 use Rattle.lf_floor.proofs.floor.serve_at.Goals as goal

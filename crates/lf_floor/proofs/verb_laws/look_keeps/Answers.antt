@@ -1,4 +1,4 @@
-use Rattle.lf_floor.proofs.VerbKept.{look_kept}
+use Rattle.lf_floor.proofs.Kept.{look_kept}
 use Rattle.lf_floor.proofs.verb_laws.look_keeps.Goals as goal
 
 pub returns : goal.returns

@@ -1,4 +1,4 @@
-use Rattle.lf_floor.proofs.VerbKept.{never_short}
+use Rattle.lf_floor.proofs.Kept.{never_short}
 use Rattle.lf_floor.proofs.verb_laws.never_out_of_memory.Goals as goal
 
 pub returns : goal.returns

@@ -1,4 +1,4 @@
-use Rattle.lf_floor.proofs.VerbKept.{committed_stay}
+use Rattle.lf_floor.proofs.Kept.{committed_stay}
 use Rattle.lf_floor.proofs.verb_laws.only_commit_commits.Goals as goal
 
 pub returns : goal.returns

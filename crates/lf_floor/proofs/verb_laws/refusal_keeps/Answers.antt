@@ -1,4 +1,4 @@
-use Rattle.lf_floor.proofs.VerbKept.{refusal_leaves}
+use Rattle.lf_floor.proofs.Kept.{refusal_leaves}
 use Rattle.lf_floor.proofs.verb_laws.refusal_keeps.Goals as goal
 
 pub returns : goal.returns

@@ -1,4 +1,6 @@
-use Rattle.lf_floor.specs.Verbs.{Within, Changing, Tidy}
+use Rattle.lf_proto.specs.declared.request.Order.TheVariants.{Within}
+use Rattle.lf_proto.specs.declared.request.Action.TheVariants.{Change as Changing}
+use Rattle.lf_proto.specs.declared.request.Change.TheVariants.{Tidy}
 use Rattle.lf_floor.proofs.VerbLegal.{verb_legal}
 use Rattle.lf_floor.proofs.verb_laws.tidy_makes_legal.Goals as goal
 

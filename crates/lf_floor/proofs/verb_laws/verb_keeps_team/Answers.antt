@@ -1,4 +1,4 @@
-use Rattle.lf_floor.proofs.VerbKept.{verb_keeps}
+use Rattle.lf_floor.proofs.Kept.{verb_keeps}
 use Rattle.lf_floor.proofs.verb_laws.verb_keeps_team.Goals as goal
 
 pub returns : goal.returns

@@ -1,7 +1,8 @@
-use Rattle.std.proofs.lemmas.Result.{IfOk-weaker, on_err_weaker}
+use Rattle.std.proofs.lemmas.Result.{IfOk-weaker}
 use Rattle.lf_proto.specs.Commands.{order_of}
 use Rattle.lf_floor.specs.Steps.{floor_of}
 use Rattle.lf_floor.proofs.Answering.{bye_answers, none_answers, some_answers, some_short}
+use Rattle.lf_floor.proofs.Serving.{on_err_both}
 use Rattle.lf_floor.proofs.floor.Floor.try_step.Goals as goal
 
 pub returns-in-Bye-clause-ok : goal.returns-in-Bye-clause-ok
@@ -21,4 +22,4 @@ pub returns-in-Some-clause-err : goal.returns-in-Some-clause-err
 returns-in-Some-clause-err c = λ l.
     let old = floor_of c.self.inside.frame c.self.inside.teams.items in
     let new = floor_of c.self.inside.frame c.serve_at.new.teams.items in
-    rw (← c.self.view_is, c.in-To.is) (on_err_weaker c.serve_at.result (λ short. some_short l old new c.in-To.team.now (order_of c.in-To.order) c.in-Some.number (c.in-Some.ensures {u = tt}).found short) (c.serve_at.ensures.err l))
+    rw (← c.self.view_is, c.in-To.is) (on_err_both c.serve_at.result (λ takes short. some_short l old new c.in-To.team.now (order_of c.in-To.order) c.in-Some.number (c.in-Some.ensures {u = tt}).found takes short) c.serve_at.ensures.takes (c.serve_at.ensures.err l))
