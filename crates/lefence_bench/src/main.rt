@@ -1,16 +1,35 @@
 //! Reads one LEF or DEF text: `lex FILE`, `lef FILE` or `def FILE`; or loads a design: `load LEF DEF`. What was read is
 //! counted on standard output, and the nanoseconds that it took, the files' own reading apart, go to standard error.
+//!
+//! No function owns more than one of the library, the document and the design: what a function must let go at each of
+//! its ends is proved end by end.
 #![tactic(auto)]
 
-use anyhow::{Result, bail};
-use lf_def::read_def;
-use lf_frame::{Limits, load};
+use lf_def::{DefDoc, read_def};
+use lf_frame::{Limits, Loaded, load};
 use lf_lef::{Library, read_lef};
 use lf_lex::{Lexer, LoadFault};
 use std::alloc::Global;
 use std::fs;
+use std::io;
 use std::rt::{Clock, Files};
 use std::time::Instant;
+
+/// Tells how long it took since then.
+fn tell_time<R: Clock + Eprint>(rt: &R, start: &Instant) -> io::Result<()> {
+    let taken = start.elapsed(rt)?;
+    eprintln!(rt; "{} ns", taken.as_nanos())
+}
+
+/// Tells why a text or a design was refused.
+fn tell_fault<R: Print>(rt: &R, fault: &LoadFault<'_>) -> io::Result<()> {
+    println!(rt; "{fault:?}")
+}
+
+/// Tells which words the program takes.
+fn tell_usage<R: Eprint>(rt: &R) -> io::Result<()> {
+    eprintln!(rt; "lex FILE, lef FILE, def FILE or load LEF DEF")
+}
 
 /// How many tokens the text has before its end or its first fault.
 fn count_tokens(text: &[u8]) -> u64 {
@@ -23,21 +42,35 @@ fn count_tokens(text: &[u8]) -> u64 {
     u64::MAX
 }
 
+fn lex<R: Clock + Print + Eprint>(rt: &R, text: &[u8]) -> io::Result<()> {
+    let start = Instant::now(rt)?;
+    let tokens = count_tokens(text);
+    tell_time(rt, &start)?;
+    println!(rt; "tokens {tokens}")
+}
+
 /// How many sites and macros the LEF text has.
-fn count_library<'a>(
-    alloc: Global,
-    text: &'a [u8],
-) -> std::result::Result<(usize, usize), LoadFault<'a>> {
+fn count_library<'a>(alloc: Global, text: &'a [u8]) -> Result<(usize, usize), LoadFault<'a>> {
     let mut library = Library::new(alloc);
     read_lef(&mut library, text)?;
     Ok((library.sites().len(), library.macros().len()))
+}
+
+fn lef<R: AllocGlobal + Clock + Print + Eprint>(rt: &R, text: &[u8]) -> io::Result<()> {
+    let start = Instant::now(rt)?;
+    let counts = count_library(rt.alloc(), text);
+    tell_time(rt, &start)?;
+    match counts {
+        Ok((sites, macros)) => println!(rt; "sites {sites} macros {macros}"),
+        Err(fault) => tell_fault(rt, &fault),
+    }
 }
 
 /// How many rows, components and groups the DEF text has.
 fn count_document<'a>(
     alloc: Global,
     text: &'a [u8],
-) -> std::result::Result<(usize, usize, usize), LoadFault<'a>> {
+) -> Result<(usize, usize, usize), LoadFault<'a>> {
     let document = read_def(alloc, text)?;
     Ok((
         document.rows.len(),
@@ -46,76 +79,95 @@ fn count_document<'a>(
     ))
 }
 
-fn read<R: Files + AllocGlobal + Clock + Print + Eprint>(
-    rt: &R,
-    task: &str,
-    file: &str,
-) -> Result<()> {
-    let text = fs::read(rt, file)?;
+fn def<R: AllocGlobal + Clock + Print + Eprint>(rt: &R, text: &[u8]) -> io::Result<()> {
     let start = Instant::now(rt)?;
-    match task {
-        "lex" => {
-            let tokens = count_tokens(&text);
-            let taken = start.elapsed(rt)?;
-            println!(rt; "tokens {tokens}")?;
-            eprintln!(rt; "{} ns", taken.as_nanos())?;
+    let counts = count_document(rt.alloc(), text);
+    tell_time(rt, &start)?;
+    match counts {
+        Ok((rows, components, groups)) => {
+            println!(rt; "rows {rows} components {components} groups {groups}")
         }
-        "lef" => {
-            let counts = count_library(rt.alloc(), &text);
-            let taken = start.elapsed(rt)?;
-            match counts {
-                Ok((sites, macros)) => println!(rt; "sites {sites} macros {macros}")?,
-                Err(fault) => println!(rt; "{fault:?}")?,
-            }
-            eprintln!(rt; "{} ns", taken.as_nanos())?;
-        }
-        "def" => {
-            let counts = count_document(rt.alloc(), &text);
-            let taken = start.elapsed(rt)?;
-            match counts {
-                Ok((rows, components, groups)) => println!(rt;
-                    "rows {rows} components {components} groups {groups}"
-                )?,
-                Err(fault) => println!(rt; "{fault:?}")?,
-            }
-            eprintln!(rt; "{} ns", taken.as_nanos())?;
-        }
-        _ => bail!("lex FILE, lef FILE, def FILE or load LEF DEF"),
+        Err(fault) => tell_fault(rt, &fault),
     }
-    Ok(())
 }
 
-/// How many rows, fences and cells the design of the two texts has; the nanoseconds are those of loading alone.
+/// How many rows, fences and cells the design has.
+fn counts_of(design: &Loaded) -> (usize, usize, usize) {
+    (
+        design.frame.rows.len(),
+        design.frame.teams.len(),
+        design.cells.len(),
+    )
+}
+
+/// How many rows, fences and cells the design of the library and the document has.
+fn count_design<'a>(
+    alloc: Global,
+    library: &'a Library,
+    document: &'a DefDoc,
+) -> Result<(usize, usize, usize), LoadFault<'a>> {
+    match load(alloc, library, document, Limits::standard()) {
+        Ok(design) => Ok(counts_of(&design)),
+        Err(fault) => Err(fault),
+    }
+}
+
+/// Loads the design of the library and the document; the nanoseconds are those of loading alone.
+fn load_document<R: AllocGlobal + Clock + Print + Eprint>(
+    rt: &R,
+    library: &Library,
+    document: &DefDoc,
+) -> io::Result<()> {
+    let start = Instant::now(rt)?;
+    let counts = count_design(rt.alloc(), library, document);
+    tell_time(rt, &start)?;
+    match counts {
+        Ok((rows, fences, cells)) => println!(rt; "rows {rows} fences {fences} cells {cells}"),
+        Err(fault) => tell_fault(rt, &fault),
+    }
+}
+
+/// Loads the design of the library and the DEF text.
+fn load_text<R: AllocGlobal + Clock + Print + Eprint>(
+    rt: &R,
+    library: &Library,
+    text: &[u8],
+) -> io::Result<()> {
+    match read_def(rt.alloc(), text) {
+        Ok(document) => load_document(rt, library, &document),
+        Err(fault) => tell_fault(rt, &fault),
+    }
+}
+
+/// Loads the design of the two texts.
 fn load_design<R: AllocGlobal + Clock + Print + Eprint>(
     rt: &R,
     lef: &[u8],
     def: &[u8],
-) -> Result<()> {
+) -> io::Result<()> {
     let mut library = Library::new(rt.alloc());
-    if let Err(fault) = read_lef(&mut library, lef) {
-        bail!("{fault:?}");
+    match read_lef(&mut library, lef) {
+        Ok(()) => load_text(rt, &library, def),
+        Err(fault) => tell_fault(rt, &fault),
     }
-    let document = match read_def(rt.alloc(), def) {
-        Ok(document) => document,
-        Err(fault) => bail!("{fault:?}"),
-    };
-    let start = Instant::now(rt)?;
-    let loaded = load(rt.alloc(), &library, &document, Limits::standard());
-    let taken = start.elapsed(rt)?;
-    match loaded {
-        Ok(design) => println!(rt;
-            "rows {} fences {} cells {}",
-            design.frame.rows.len(),
-            design.frame.teams.len(),
-            design.cells.len()
-        )?,
-        Err(fault) => println!(rt; "{fault:?}")?,
-    }
-    eprintln!(rt; "{} ns", taken.as_nanos())?;
-    Ok(())
 }
 
-fn main(rt: HostRuntime) -> Result<()> {
+/// Does the task on a file.
+fn read<R: Files + AllocGlobal + Clock + Print + Eprint>(
+    rt: &R,
+    task: &str,
+    file: &str,
+) -> io::Result<()> {
+    let text = fs::read(rt, file)?;
+    match task {
+        "lex" => lex(rt, &text),
+        "lef" => lef(rt, &text),
+        "def" => def(rt, &text),
+        _ => tell_usage(rt),
+    }
+}
+
+fn main(rt: HostRuntime) -> io::Result<()> {
     let words: Vec<String> = std::env::args(&rt)?.collect(rt.alloc())?;
     match words.as_slice() {
         [_, task, file] => read(&rt, task.as_str(), file.as_str()),
@@ -124,6 +176,6 @@ fn main(rt: HostRuntime) -> Result<()> {
             let def = fs::read(&rt, def.as_str())?;
             load_design(&rt, &lef, &def)
         }
-        _ => bail!("lex FILE, lef FILE, def FILE or load LEF DEF"),
+        _ => tell_usage(&rt),
     }
 }

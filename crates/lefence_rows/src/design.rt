@@ -1,7 +1,7 @@
 //! The design of a row: the built-in texts with some of their lines exchanged.
 
 use lf_app::{Fault, answer_lines, write_fault};
-use lf_def::{W_DEF, read_def};
+use lf_def::{DefDoc, W_DEF, read_def};
 use lf_floor::Floor;
 use lf_frame::{Limits, Loaded, load};
 use lf_lef::{Library, W_LEF, read_lef};
@@ -114,23 +114,69 @@ impl Design {
     /// lines.
     pub fn answer<W: Write>(&self, is_checked: bool, lines: &[u8], writer: &mut W) -> io::Result<()> {
         let mut library = Library::new(self.alloc);
-        if let Err(fault) = read_lef(&mut library, &self.lef) {
-            return put_fault(writer, fault);
+        match read_lef(&mut library, &self.lef) {
+            Ok(()) => self.answer_on(&library, is_checked, lines, writer),
+            Err(fault) => put_fault(writer, fault),
         }
-        let document = match read_def(self.alloc, &self.def) {
-            Ok(document) => document,
-            Err(fault) => return put_fault(writer, fault),
-        };
-        let loaded = match load(self.alloc, &library, &document, self.limits) {
-            Ok(loaded) => loaded,
-            Err(fault) => return put_fault(writer, fault),
-        };
-        writer.write_all(b"loaded\n")?;
-        if is_checked {
-            put_report(self.alloc, &loaded, writer)?;
-        }
-        put_replies(self.alloc, loaded, lines, writer)
     }
+
+    /// The same, given the library of the LEF text.
+    fn answer_on<W: Write>(
+        &self,
+        library: &Library,
+        is_checked: bool,
+        lines: &[u8],
+        writer: &mut W,
+    ) -> io::Result<()> {
+        match read_def(self.alloc, &self.def) {
+            Ok(document) => self.answer_over(library, &document, is_checked, lines, writer),
+            Err(fault) => put_fault(writer, fault),
+        }
+    }
+
+    /// The same, given the document of the DEF text too.
+    fn answer_over<W: Write>(
+        &self,
+        library: &Library,
+        document: &DefDoc,
+        is_checked: bool,
+        lines: &[u8],
+        writer: &mut W,
+    ) -> io::Result<()> {
+        match load(self.alloc, library, document, self.limits) {
+            Ok(loaded) => put_answers(self.alloc, loaded, is_checked, lines, writer),
+            Err(fault) => put_fault(writer, fault),
+        }
+    }
+}
+
+/// Writes `loaded`, the report where it is asked for, and the replies to the lines.
+fn put_answers<W: Write>(
+    alloc: Global,
+    loaded: Loaded,
+    is_checked: bool,
+    lines: &[u8],
+    writer: &mut W,
+) -> io::Result<()> {
+    let written = put_head(alloc, &loaded, is_checked, writer);
+    if written.is_err() {
+        return written;
+    }
+    put_replies(alloc, loaded, lines, writer)
+}
+
+/// Writes `loaded`, and the report where it is asked for.
+fn put_head<W: Write>(
+    alloc: Global,
+    loaded: &Loaded,
+    is_checked: bool,
+    writer: &mut W,
+) -> io::Result<()> {
+    writer.write_all(b"loaded\n")?;
+    if is_checked {
+        return put_report(alloc, loaded, writer);
+    }
+    Ok(())
 }
 
 /// Writes the report of the design as loaded.

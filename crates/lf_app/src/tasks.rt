@@ -11,7 +11,7 @@ use crate::command::Task;
 use crate::faults::{Fault, ending_fault, file_fault, memory_fault, status_of, write_fault};
 use crate::lines::answer_lines;
 use crate::reports::report_design;
-use lf_def::{W_DEF, read_def};
+use lf_def::{DefDoc, W_DEF, read_def};
 use lf_floor::Floor;
 use lf_frame::{Limits, Loaded, load};
 use lf_lef::{Library, W_LEF, read_lef};
@@ -45,6 +45,22 @@ fn add_lef<F: Write>(library: &mut Library, text: &[u8], faults: &mut F) -> Resu
     }
 }
 
+/// The design of a document over the library.
+fn load_document<F: Write>(
+    alloc: Global,
+    library: &Library,
+    document: &DefDoc,
+    faults: &mut F,
+) -> Result<Loaded, u8>
+    ensures ok { OnOk result (faults.new ≡ faults.old) }
+    ensures err { IfErr result IsFailure }
+{
+    match load(alloc, library, document, Limits::standard()) {
+        Ok(loaded) => Ok(loaded),
+        Err(fault) => Err(tell(faults, &Fault::Refused(fault))),
+    }
+}
+
 /// The design of a DEF text over the library.
 fn load_def<F: Write>(
     alloc: Global,
@@ -55,12 +71,8 @@ fn load_def<F: Write>(
     ensures ok { OnOk result (faults.new ≡ faults.old) }
     ensures err { IfErr result IsFailure }
 {
-    let document = match read_def(alloc, text) {
-        Ok(document) => document,
-        Err(fault) => return Err(tell(faults, &Fault::Refused(fault))),
-    };
-    match load(alloc, library, &document, Limits::standard()) {
-        Ok(loaded) => Ok(loaded),
+    match read_def(alloc, text) {
+        Ok(document) => load_document(alloc, library, &document, faults),
         Err(fault) => Err(tell(faults, &Fault::Refused(fault))),
     }
 }
@@ -163,6 +175,57 @@ fn check_design<W: Write, F: Write>(
     }
 }
 
+/// Answers the lines of the reader over the design that the program holds.
+fn demo<R: Read, W: Write, F: Write>(
+    alloc: Global,
+    reader: &mut R,
+    writer: &mut W,
+    faults: &mut F,
+) -> u8
+    ensures status { (result ≡ 0) ⊎ IsFailure result }
+    ensures done { result ≡ 0 → faults.new ≡ faults.old }
+{
+    match demo_design(alloc, faults) {
+        Ok(loaded) => answer_over(alloc, loaded, reader, writer, faults),
+        Err(status) => status,
+    }
+}
+
+/// Answers the lines of the reader over the design of these paths.
+fn replay<T: Files + AllocGlobal, R: Read, W: Write, F: Write>(
+    rt: &T,
+    def: &str,
+    lefs: &[&str],
+    reader: &mut R,
+    writer: &mut W,
+    faults: &mut F,
+) -> u8
+    ensures status { (result ≡ 0) ⊎ IsFailure result }
+    ensures done { result ≡ 0 → faults.new ≡ faults.old }
+{
+    match read_design(rt, def, lefs, faults) {
+        Ok(loaded) => answer_over(rt.alloc(), loaded, reader, writer, faults),
+        Err(status) => status,
+    }
+}
+
+/// Writes the report of the design of these paths.
+fn check<T: Files + AllocGlobal, W: Write, F: Write>(
+    rt: &T,
+    def: &str,
+    lefs: &[&str],
+    writer: &mut W,
+    faults: &mut F,
+) -> u8
+    ensures status { IsDone result ⊎ IsFailure result }
+    ensures done { IsDone result → faults.new ≡ faults.old }
+{
+    match read_design(rt, def, lefs, faults) {
+        Ok(loaded) => check_design(rt.alloc(), &loaded, writer, faults),
+        Err(status) => status,
+    }
+}
+
 /// Does the task and gives the exit status: 0 where it is done, 1 where a text or the design was refused, or memory
 /// was before the first line or for the report, 3 where a file, the reader or the writer failed, or memory for the
 /// lines was refused; 4 where a check is done and the design is not fully legal. A fault is written to `faults` as
@@ -182,22 +245,9 @@ pub fn perform<T: Files + AllocGlobal, R: Read, W: Write, F: Write>(
     ensures checked { result ≡ 4 → IsCheck task.now }
     ensures unread { IsCheck task.now → reader.new ≡ reader.old }
 {
-    let alloc = rt.alloc();
-    let design = match task {
-        Task::Demo => demo_design(alloc, faults),
-        Task::Replay { def, lefs } | Task::Check { def, lefs } => read_design(
-            rt,
-            def,
-            lefs.as_slice(),
-            faults,
-        ),
-    };
-    let loaded = match design {
-        Ok(loaded) => loaded,
-        Err(status) => return status,
-    };
     match task {
-        Task::Check { .. } => check_design(alloc, &loaded, writer, faults),
-        _ => answer_over(alloc, loaded, reader, writer, faults),
+        Task::Demo => demo(rt.alloc(), reader, writer, faults),
+        Task::Replay { def, lefs } => replay(rt, def, lefs.as_slice(), reader, writer, faults),
+        Task::Check { def, lefs } => check(rt, def, lefs.as_slice(), writer, faults),
     }
 }
