@@ -6,28 +6,50 @@ use std::alloc::{AllocError, Global};
 use std::io;
 use std::process::ExitCode;
 
+/// What the program can be asked, told behind the line of a usage fault.
+const USAGE: &str = "  lefence [demo]                answers the lines of standard input over the built-in design
+  lefence check DEF LEF...      writes a report of the design
+  lefence replay DEF LEF...     answers the lines of standard input over the design
+  (a path that begins with '-' stands behind '--'; docs/PROTOCOL.md says more)
+";
+
 /// The exit status where the words name no task, or memory for them was refused.
-fn usage_status(fault: UsageFault) -> u8 {
+fn usage_status(fault: &UsageFault) -> u8 {
     match fault {
         UsageFault::Usage => 2,
         UsageFault::OutOfMemory => 1,
     }
 }
 
-/// The words of the command line as texts.
-fn words_of(alloc: Global, words: &[String]) -> Result<Vec<&str>, AllocError> {
+/// The words of the command line. A word that is no text names no task.
+fn words(rt: &HostRuntime) -> Result<Vec<String>, UsageFault> {
+    let words = match std::env::args(rt) {
+        Ok(words) => words,
+        Err(error) if error.kind() == io::ErrorKind::OutOfMemory => {
+            return Err(UsageFault::OutOfMemory);
+        }
+        Err(_) => return Err(UsageFault::Usage),
+    };
+    words
+        .collect(rt.alloc())
+        .map_err(|_: AllocError| UsageFault::OutOfMemory)
+}
+
+/// The words, lent.
+fn lent(alloc: Global, words: &[String]) -> Result<Vec<&str>, UsageFault> {
     let mut texts = Vec::new(alloc);
     for word in words {
-        texts.push(word.as_str())?;
+        if texts.push(word.as_str()).is_err() {
+            return Err(UsageFault::OutOfMemory);
+        }
     }
     Ok(texts)
 }
 
 /// Does the task that the words name, and gives the exit status.
-fn run(rt: &HostRuntime, words: &[String]) -> Result<u8, UsageFault> {
-    let Ok(texts) = words_of(rt.alloc(), words) else {
-        return Err(UsageFault::OutOfMemory);
-    };
+fn run(rt: &HostRuntime) -> Result<u8, UsageFault> {
+    let words = words(rt)?;
+    let texts = lent(rt.alloc(), words.as_slice())?;
     let task = lf_app::command_of(rt.alloc(), texts.as_slice())?;
     let mut reader = rt.reader();
     let mut writer = io::writer(rt);
@@ -35,13 +57,20 @@ fn run(rt: &HostRuntime, words: &[String]) -> Result<u8, UsageFault> {
     Ok(lf_app::perform(rt, &task, &mut reader, &mut writer, &mut faults))
 }
 
-fn main(rt: HostRuntime) -> io::Result<ExitCode> {
-    let words: Vec<String> = std::env::args(&rt)?.collect(rt.alloc())?;
-    match run(&rt, words.as_slice()) {
-        Ok(status) => Ok(ExitCode::from(status)),
+/// Tells a usage fault, and what the program can be asked; that it cannot be written is no further fault.
+fn tell(rt: &HostRuntime, fault: &UsageFault) {
+    let _ = eprintln!(rt; "lefence: {fault}");
+    if matches!(fault, UsageFault::Usage) {
+        let _ = eprint!(rt; "{USAGE}");
+    }
+}
+
+fn main(rt: HostRuntime) -> ExitCode {
+    match run(&rt) {
+        Ok(status) => ExitCode::from(status),
         Err(fault) => {
-            let _ = eprintln!(rt; "lefence: {fault}");
-            Ok(ExitCode::from(usage_status(fault)))
+            tell(&rt, &fault);
+            ExitCode::from(usage_status(&fault))
         }
     }
 }
