@@ -50,7 +50,7 @@ pub outcome_plain : (t : Setting) (order : Order (List ℕ) Place) (s : TeamStat
 outcome_plain t order s = order_by t s (λ v o. is_short o.reply ≡ false) (plain t s) order
 
 -- the outcome leaves the team, if it is a refusal
-abbrev LeavesIfRefused : TeamState → Outcome → Type 0
+abbrev pub LeavesIfRefused : TeamState → Outcome → Type 0
 LeavesIfRefused s o = (refusal : Refusal) → o.reply ≡ Refused refusal → o.team ≡ s
 
 granted : (s : TeamState) (o : Outcome) → is_accepted o ≡ true → LeavesIfRefused s o
@@ -58,8 +58,8 @@ granted s o accepted refusal is = absurd (never (sym accepted ∙ ap is_granted 
   never : true ≡ false → ⊥
   never e = cc
 
-pub refusal_leaves : (t : Setting) (verb : Order (List ℕ) Place) (s : TeamState) → LeavesIfRefused s (outcome_of_verb t verb s)
-refusal_leaves t verb s = verb_by t s (λ v o. LeavesIfRefused s o) record {
+refused_leaves : (t : Setting) (s : TeamState) → Leaves t s (λ session. IsLeft t s) (λ v o. LeavesIfRefused s o)
+refused_leaves t s = record {
   refusal = λ v r plain refusal is. refl;
   opens = λ session e. granted s _ refl;
   closes = λ session. granted s _ refl;
@@ -67,15 +67,21 @@ refusal_leaves t verb s = verb_by t s (λ v o. LeavesIfRefused s o) record {
   checks = λ session text. granted s _ refl;
   tells = λ session name place. granted s _ refl;
   finds = λ session name target place. granted s _ refl;
-  places = λ session own name place may named e. granted s _ refl;
-  legalizes = λ session own name target place may named e. granted s _ refl;
-  tidies = λ session count members may e. granted s _ refl;
-  unplaces = λ session own name may named. granted s _ refl;
-  swaps = λ session first second name other p q may named named' at at' e e'. granted s _ refl;
-  undoes = λ session old entries may e. granted s _ refl;
-  commits = λ session may u b. granted s _ refl;
-  reverts = λ session may. granted s _ refl;
-} verb
+  places = λ session own name place left named e. granted s _ refl;
+  legalizes = λ session own name target place left named e. granted s _ refl;
+  tidies = λ session count members left e. granted s _ refl;
+  unplaces = λ session own name left named. granted s _ refl;
+  swaps = λ session first second name other p q left named named' at at' e e'. granted s _ refl;
+  undoes = λ session old entries left e. granted s _ refl;
+  commits = λ session left u b. granted s _ refl;
+  reverts = λ session left. granted s _ refl;
+}
+
+pub refusal_leaves : (t : Setting) (verb : Order (List ℕ) Place) (s : TeamState) → LeavesIfRefused s (outcome_of_verb t verb s)
+refusal_leaves t verb s = left_by t s (λ v o. LeavesIfRefused s o) (refused_leaves t s) verb
+
+pub order_refused : (t : Setting) (order : Order (List ℕ) Place) (s : TeamState) → LeavesIfRefused s (outcome_of t order s)
+order_refused t order s = order_by t s (λ v o. LeavesIfRefused s o) (refused_leaves t s) order
 
 -- ---- revisions
 

@@ -14,3 +14,4 @@ pub mod VerbLegal
 pub mod VerbRows
 pub mod Listing
 pub mod TakenIn
+pub mod Promises

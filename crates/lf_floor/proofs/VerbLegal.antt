@@ -18,9 +18,9 @@ use Rattle.lf_proto.specs.declared.request.Change.TheVariants.{Place as PlaceAt,
 use Rattle.lf_floor.specs.Outcomes.{Outcome, refused, moved, working_at}
 use Rattle.lf_floor.specs.Looks.{best_at}
 use Rattle.lf_floor.specs.Changes.{broken_where, exchanged}
-use Rattle.lf_floor.specs.Verbs.{outcome_of_verb}
+use Rattle.lf_floor.specs.Verbs.{outcome_of, outcome_of_verb}
 use Rattle.lf_floor.specs.VerbLaws.{HasLegal, AreLegal, is_accepted}
-use Rattle.lf_floor.proofs.Cases.{verb_by}
+use Rattle.lf_floor.proofs.Cases.{Leaves, IsLeft, order_by, left_by}
 use Rattle.lf_floor.proofs.Kept.{moved_part, exchanged_part, mac_at, same_length, sized_as, false_true}
 use Rattle.lf_floor.proofs.Standing.{named_there, named_alike, working_is, moved_here, moved_there, sized_at, unbroken, stands_moved, stands_where}
 use Rattle.lf_floor.proofs.Tidying.{tidied_stand, best_legal, committed_stand}
@@ -117,9 +117,8 @@ module _ (t : Setting) (s : TeamState) (known : IsTeamOf t.frame s) (in_range : 
         (stands_where t (exchanged s.cells first second) own place (sized_like (exchanged s.cells first second) (exchanged_part (λ c. c.mac) (λ c p. refl) s.cells first second)) stands none);
   }
 
-  -- what an accepted change makes legal
-  pub verb_legal : (verb : Order (List ℕ) Place) → Legal t verb (outcome_of_verb t verb s)
-  verb_legal verb = verb_by t s (λ v o. Legal t v o) record {
+  legal_leaves : Leaves t s (λ session. IsLeft t s) (λ v o. Legal t v o)
+  legal_leaves = record {
     refusal = λ v r plain. refused_legal t s v r;
     opens = λ session e. tt;
     closes = λ session. tt;
@@ -127,16 +126,23 @@ module _ (t : Setting) (s : TeamState) (known : IsTeamOf t.frame s) (in_range : 
     checks = λ session text. tt;
     tells = λ session name place. tt;
     finds = λ session name target place. tt;
-    places = λ session own name place may named e accepted. placed_legal own name place named e _ refl;
-    legalizes = λ session own name target place may named e accepted. legalized_legal own name target place named e _ refl;
-    tidies = λ session count members may e accepted. tidied_stand t s.cells known.sized in_range members count e;
-    unplaces = λ session own name may named accepted. tt;
-    swaps = λ session first second name other p q may named named' at at' e e' accepted.
+    places = λ session own name place left named e accepted. placed_legal own name place named e _ refl;
+    legalizes = λ session own name target place left named e accepted. legalized_legal own name target place named e _ refl;
+    tidies = λ session count members left e accepted. tidied_stand t s.cells known.sized in_range members count e;
+    unplaces = λ session own name left named accepted. tt;
+    swaps = λ session first second name other p q left named named' at at' e e' accepted.
         let here = first_stands s.cells first second p q at at' in (
           exchanged_legal first second first name here.0 named here.1 e _ refl,
           exchanged_legal first second second other p named' (second_stands s.cells first second p q at at') e' _ refl,
         );
-    undoes = λ session old entries may e accepted. tt;
-    commits = λ session may u b accepted. committed_stand t s.cells known.sized u b;
-    reverts = λ session may accepted. tt;
-  } verb
+    undoes = λ session old entries left e accepted. tt;
+    commits = λ session left u b accepted. committed_stand t s.cells known.sized u b;
+    reverts = λ session left accepted. tt;
+  }
+
+  -- what an accepted change makes legal
+  pub verb_legal : (verb : Order (List ℕ) Place) → Legal t verb (outcome_of_verb t verb s)
+  verb_legal verb = left_by t s (λ v o. Legal t v o) legal_leaves verb
+
+  pub order_legal : (order : Order (List ℕ) Place) → Legal t order (outcome_of t order s)
+  order_legal order = order_by t s (λ v o. Legal t v o) legal_leaves order

@@ -32,10 +32,18 @@ pub undo_row : UndoRow
 unfolding placed undone located
 undo_row t p q r room two first second third =
     rw (
-      more_left t 0 room (omega arith), first, two_kept t two _,
-      more_left t 1 room (omega arith), second, two_kept t two _,
-      more_left t 2 room (omega arith), third, two_kept t two _,
-      more_left t 3 room (omega arith), more_left t 4 room (omega arith), more_left t 5 room (omega arith)
+      more_left t 0 room (omega arith),
+      first,
+      two_kept t two _,
+      more_left t 1 room (omega arith),
+      second,
+      two_kept t two _,
+      more_left t 2 room (omega arith),
+      third,
+      two_kept t two _,
+      more_left t 3 room (omega arith),
+      more_left t 4 room (omega arith),
+      more_left t 5 room (omega arith),
     ) refl
 
 pub spent_row : SpentRow

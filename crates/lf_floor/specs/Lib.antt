@@ -5,9 +5,9 @@ pub mod Sessions
 pub mod Looks
 pub mod Changes
 pub mod Verbs
+pub mod VerbLaws
 pub mod Steps
 pub mod Runs
 pub mod Designs
 pub mod Laws
-pub mod VerbLaws
 pub mod VerbRows

@@ -6,13 +6,17 @@ use Rattle.lf_rules.specs.Legalizer.{Legalizer}
 use Rattle.lf_proto.specs.declared.request.Command.{Command}
 use Rattle.lf_proto.specs.declared.request.Command.TheVariants.{Bye, To}
 use Rattle.lf_proto.specs.declared.request.Order.{Order}
+use Rattle.lf_proto.specs.declared.request.Order.TheVariants.{Within}
+use Rattle.lf_proto.specs.declared.request.Action.TheVariants.{Change as Changing}
+use Rattle.lf_proto.specs.declared.request.Change.TheVariants.{Place as PlaceAt}
 use Rattle.lf_proto.specs.declared.reply.Reply.{Reply}
 use Rattle.lf_proto.specs.declared.reply.Reply.TheVariants.{Done, Refused}
 use Rattle.lf_proto.specs.declared.reply.Refusal.TheVariants.{NoTeam}
 use Rattle.lf_floor.specs.States.{TeamState, FloorState}
-use Rattle.lf_floor.specs.Teams.{setting, team_number}
+use Rattle.lf_floor.specs.Teams.{setting, team_number, state_of}
 use Rattle.lf_floor.specs.Outcomes.{Outcome, is_short, may_be_short}
 use Rattle.lf_floor.specs.Verbs.{outcome_of, takes_memory}
+use Rattle.lf_floor.specs.VerbLaws.{is_granted, HasLegal}
 
 -- the floor of that frame and these teams
 abbrev pub floor_of : Frame → List TeamState → FloorState
@@ -84,6 +88,26 @@ pub record RunsShort (l : Legalizer) (old : FloorState) (command : Command (List
 -- both are the answer's
 abbrev pub Step : Legalizer → FloorState → Command (List ℕ) Place → Reply → FloorState → Type 0
 Step l old command reply new = MatchBool (is_short reply) (RunsShort l old command new) (Answers l old command reply new)
+
+-- ---- what a caller can rely on
+
+-- the team of that name has a cell of that name, which is placed and team-legal
+pub record StandsIn (l : Legalizer) (floor : FloorState) (team name : List ℕ) : Type 0 where
+  pub number : ℕ
+  pub state : TeamState
+  pub named : team_number floor.frame team ≡ Some number
+  pub there : state_of floor team ≡ Some state
+  pub legal : HasLegal (setting l floor.frame number) name state
+
+-- after an accepted place the cell is team-legal
+abbrev pub PlacesLegally : Legalizer → Command (List ℕ) Place → Reply → FloorState → Type 0
+PlacesLegally l command reply new =
+    (team name : List ℕ) (session : ℕ) (place : Place)
+    → command ≡ To team (Within session (Changing (PlaceAt name place))) → is_granted reply ≡ true → StandsIn l new team name
+
+-- a refusal leaves the whole floor as it was
+abbrev pub KeepsIfRefused : Reply → FloorState → FloorState → Type 0
+KeepsIfRefused reply old new = is_granted reply ≡ false → new ≡ old
 
 -- the command is to the team of that name
 abbrev pub IsTo : List ℕ → Command (List ℕ) Place → Type 0

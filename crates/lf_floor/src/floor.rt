@@ -11,7 +11,7 @@ ghost use Rattle.lf_floor.specs.Outcomes.{working_at, name_at};
 ghost use Rattle.lf_floor.specs.Verbs.{takes_memory};
 ghost use Rattle.lf_floor.specs.Designs.{opening};
 ghost use Rattle.lf_floor.specs.Runs.{Run, IsIsolated};
-ghost use Rattle.lf_floor.specs.Steps.{Answers, Gives, StaysShort, RunsShort, Step, IsTo, answer_at, floor_of};
+ghost use Rattle.lf_floor.specs.Steps.{Answers, Gives, KeepsIfRefused, PlacesLegally, StaysShort, RunsShort, Step, IsTo, answer_at, floor_of};
 
 use crate::cell::{Cell, working};
 use crate::opening::opening_teams;
@@ -19,7 +19,7 @@ use crate::surroundings::Surroundings;
 use crate::team::Team;
 use lf_floorplan::{Frame, Loaded, Place};
 use lf_proto::{Command, Order, Refusal, Reply, Request, RequestList};
-use lf_rules::legalizer_is_there;
+use lf_rules::{legal_in_range, legalizer_is_there};
 use std::alloc::{AllocError, Global};
 use std::marker::Model;
 
@@ -165,6 +165,13 @@ impl Floor {
         Some(self.teams[number].cells())
     }
 
+    /// Each team is one of the frame: what the floor keeps in its type.
+    fn teams_are_of_the_frame(&self)
+        ensures { All (λ s. IsTeamOf self.now.frame s) self.now.teams }
+    {
+        let _ = &self.teams;
+    }
+
     /// Answers one command, where memory serves.
     fn try_step(&mut self, request: &Request) -> Result<Reply, AllocError>
         ensures ok { (l : Legalizer) → IfOk result (λ reply. Answers l self.old (command_of request.now) reply self.new) }
@@ -185,13 +192,18 @@ impl Floor {
     /// team changes.
     ///
     /// `NoTeam` comes before any refusal of a team. `OutOfMemory` stands only in the place of an
-    /// accepted change or of a broken rule, and then nothing has changed.
+    /// accepted change, a broken rule or a report. A refusal leaves the whole floor as it was, and
+    /// after an accepted place the cell is team-legal.
     pub fn step(&mut self, request: &Request) -> Reply
         ensures step { (l : Legalizer) → Step l self.old (command_of request.now) result self.new }
         ensures others { (team : List ℕ) → ¬ IsTo team (command_of request.now) → state_of self.new team ≡ state_of self.old team }
         ensures frame { self.new.frame ≡ self.old.frame }
+        ensures placed { (l : Legalizer) → PlacesLegally l (command_of request.now) result self.new }
+        ensures refused { KeepsIfRefused result self.old self.new }
     {
         legalizer_is_there();
+        legal_in_range();
+        self.teams_are_of_the_frame();
         match self.try_step(request) {
             Ok(reply) => reply,
             Err(_) => Reply::Refused(Refusal::OutOfMemory),

@@ -3,6 +3,7 @@ use Rattle.lf_proto.specs.Commands.{command_of}
 use Rattle.lf_floor.specs.States.{FloorState}
 use Rattle.lf_floor.specs.Teams.{state_of}
 use Rattle.lf_floor.proofs.Answering.{step_of_answer, others_kept, frame_kept}
+use Rattle.lf_floor.proofs.Promises.{places_legally, keeps_refused}
 use Rattle.lf_floor.proofs.floor.Floor.step.Goals as goal
 
 pub returns-in-Ok-clause-step : goal.returns-in-Ok-clause-step
@@ -23,3 +24,12 @@ returns-in-Err-clause-others c = λ team other. ap (λ (f : FloorState). state_o
 
 pub returns-in-Err-clause-frame : goal.returns-in-Err-clause-frame
 returns-in-Err-clause-frame c = ap (λ (f : FloorState). f.frame) (c.in-Err.ensures.err c.legalizer_is_there.ensures).short.kept
+
+pub returns-in-Ok-clause-placed : goal.returns-in-Ok-clause-placed
+returns-in-Ok-clause-placed c = λ l. places_legally l c.legal_in_range.ensures c.args.self.now c.try_step.new.self (command_of c.args.request.now) c.in-Ok.reply c.teams_are_of_the_frame.ensures (c.in-Ok.ensures.ok l)
+
+pub returns-in-Ok-clause-refused : goal.returns-in-Ok-clause-refused
+returns-in-Ok-clause-refused c = let l = c.legalizer_is_there.ensures in keeps_refused l c.args.self.now c.try_step.new.self (command_of c.args.request.now) c.in-Ok.reply (c.in-Ok.ensures.ok l)
+
+pub returns-in-Err-clause-refused : goal.returns-in-Err-clause-refused
+returns-in-Err-clause-refused c denied = (c.in-Err.ensures.err c.legalizer_is_there.ensures).short.kept
