@@ -33,6 +33,7 @@ pub fn is_added(names: &mut NameTable, name: &[u8]) -> Result<bool, AllocError>
     ensures new { IfOk result (λ added. IsTrue added → Contains names.old name.now → ⊥) }
     ensures added { IfOk result (λ added. IsTrue added → names.new ≡ names.old ++ name.now ∷ []) }
     ensures present { IfOk result (λ added. IsFalse added → Contains names.old name.now) }
+    ensures kept { IfOk result (λ added. IsFalse added → names.new ≡ names.old) }
 {
     match names.add(name)? {
         Added::New(_) => Ok(true),

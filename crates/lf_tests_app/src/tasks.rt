@@ -17,8 +17,9 @@ fn a_line_that_is_no_request_is_refused(rt: HostRuntime) -> Result<(), Fail> {
         rt.alloc(),
         b"open A\n\nwhere A 0\nplace A 0 a1 2147483648 0 N\nsync A 0\n\xff\x00\nopen A\r\n",
     )?;
-    for _ in 0..4097 {
-        input.push(b'x')?;
+    input.extend_from_slice(b"open A")?;
+    for _ in 0..4091 {
+        input.push(b' ')?;
     }
     input.extend_from_slice(b"\nopen A")?;
     for _ in 0..4090 {
@@ -189,6 +190,18 @@ fn lef_files_are_read_in_order_up_to_the_first_fault(rt: HostRuntime) -> Result<
     Ok(())
 }
 
+/// The built-in LEF text is no part of a replay.
+#[test]
+fn a_replay_reads_its_own_lef_files_alone(rt: HostRuntime) -> Result<(), Fail> {
+    let files = [
+        ("x.lef", Some(b"".as_slice())),
+        ("w.def", Some(W_DEF)),
+    ];
+    let fault = "lefence: 8 NoSite core\n";
+    assert!(rt; ends(rt.alloc(), files.as_slice(), ["x.lef"].as_slice(), 1, fault)?);
+    Ok(())
+}
+
 #[test]
 fn a_file_that_cannot_be_read_is_a_fault(rt: HostRuntime) -> Result<(), Fail> {
     let files = [("w.lef", Some(W_LEF)), ("folder", None)];
@@ -259,6 +272,40 @@ impl Write for Unflushed {
     fn flush(&mut self) -> io::Result<()> {
         Err(io::Error::from(io::ErrorKind::Other))
     }
+}
+
+/// A device that sends what it has taken only where it is flushed.
+#[derive(Drop)]
+struct Pending {
+    taken: Vec<u8>,
+    sent: Vec<u8>,
+}
+
+impl Write for Pending {
+    fn write(&mut self, bytes: &[u8]) -> io::Result<usize> {
+        self.taken.extend_from_slice(bytes)?;
+        Ok(bytes.len())
+    }
+
+    fn flush(&mut self) -> io::Result<()> {
+        self.sent.extend_from_slice(&self.taken)?;
+        self.taken.clear();
+        Ok(())
+    }
+}
+
+#[test]
+fn the_last_reply_is_flushed(rt: HostRuntime) -> Result<(), Fail> {
+    let mut writer = Pending {
+        taken: Vec::new(rt.alloc()),
+        sent: Vec::new(rt.alloc()),
+    };
+    let mut faults = Vec::new(rt.alloc());
+    let mut reader = b"open A\nopen A".as_slice();
+    let status = perform(&rt, &Task::Demo, &mut reader, &mut writer, &mut faults);
+    assert_eq!(rt; status, 0);
+    assert_eq!(rt; writer.sent.as_slice(), b"ok 0 0\nok 1 0\n".as_slice());
+    Ok(())
 }
 
 #[test]
