@@ -7,7 +7,7 @@ use Rattle.std.specs.Prelude.{◌≡◌, ℕ, zero, suc, ◌+◌, List, [], ◌�
 use Rattle.lf_floorplan.specs.declared.place.Place.{Place}
 use Rattle.lf_floorplan.specs.declared.limits.Limits.{Limits}
 use Rattle.lf_rules.specs.declared.rule.Broken.{Broken}
-use Rattle.lf_rules.specs.Reports.{report_of}
+use Rattle.lf_reports.specs.Reports.{report_of}
 use Rattle.lf_proto.specs.ReportText.{report_text}
 use Rattle.lf_proto.specs.declared.request.Order.{Order}
 use Rattle.lf_proto.specs.declared.request.Order.TheVariants.{Open, Within}
