@@ -7,7 +7,7 @@ use lf_frame::{Limits, Loaded, load};
 use lf_lef::{Library, W_LEF, read_lef};
 use lf_lex::LoadFault;
 use lf_proto::report_json;
-use lf_rules::check_all;
+use lf_reports::check_all;
 use std::alloc::{AllocError, Global};
 use std::io;
 use std::io::Write;

@@ -6,7 +6,7 @@ use Rattle.lf_floorplan.specs.declared.place.Place.{Place}
 use Rattle.lf_rules.specs.declared.report.Report.{Report}
 use Rattle.lf_rules.specs.FullyLegal.{IsFullyLegal, standing_at}
 use Rattle.lf_rules.specs.Legalizer.{Legalizer}
-use Rattle.lf_rules.specs.Reports.{listed_at, report_of}
+use Rattle.lf_reports.specs.Reports.{listed_at, report_of}
 use Rattle.lf_proto.specs.ReportText.{report_text}
 
 -- where the cells stand in the DEF text, in loading order; None where one is unplaced there

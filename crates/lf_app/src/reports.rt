@@ -11,7 +11,8 @@ ghost use Rattle.lf_app.specs.Faults.{IsReportFault};
 use crate::faults::{Fault, memory_fault};
 use lf_frame::{Cell, Loaded, Place};
 use lf_proto::{Text, report_json};
-use lf_rules::{Report, check_all};
+use lf_reports::check_all;
+use lf_rules::Report;
 use std::alloc::{AllocError, Global};
 use std::io::Write;
 

@@ -6,8 +6,8 @@ use Rattle.std.proofs.lemmas.List.Elements.{All-map}
 use Rattle.lf_floorplan.specs.declared.frame.Frame.{Frame}
 use Rattle.lf_floorplan.specs.Bounds.{IsName}
 use Rattle.lf_rules.specs.declared.report.Listed.{Listed}
-use Rattle.lf_rules.specs.Reports.{named, IsListed}
-use Rattle.lf_rules.proofs.CleanLemmas.{each_named}
+use Rattle.lf_reports.specs.Reports.{named, IsListed}
+use Rattle.lf_reports.proofs.CleanLemmas.{each_named}
 use Rattle.lf_floor.specs.declared.cell.Cell.{Cell}
 use Rattle.lf_floor.specs.Teams.{IsSizedCell, listed_of}
 

@@ -3,7 +3,7 @@ use Rattle.std.specs.Prelude.{ℕ, List, Option, Some, None, map, slice_get}
 use Rattle.lf_units.specs.declared.area.Point.{Point}
 use Rattle.lf_floorplan.specs.declared.place.Place.{Place}
 use Rattle.lf_rules.specs.Choice.{Spot, Lifted}
-use Rattle.lf_rules.specs.Reports.{report_of}
+use Rattle.lf_reports.specs.Reports.{report_of}
 use Rattle.lf_rules.specs.Team.{lifted_from}
 use Rattle.lf_proto.specs.Numbers.{◌>>=◌}
 use Rattle.lf_proto.specs.ReportText.{report_text}

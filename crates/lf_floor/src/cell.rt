@@ -4,7 +4,7 @@ ghost use Rattle.std.specs.Prelude.{◌≡◌, ◌<◌, ◌≤◌, ◌++◌, All
 ghost use Rattle.lf_floorplan.specs.Bounds.{IsName};
 ghost use Rattle.lf_floorplan.specs.Boxes.{IsSized, macro_of};
 ghost use Rattle.lf_rules.specs.Legalizer.{Legalizer};
-ghost use Rattle.lf_rules.specs.Reports.{named, report_of};
+ghost use Rattle.lf_reports.specs.Reports.{named, report_of};
 ghost use Rattle.lf_rules.specs.Team.{boxes_beside};
 ghost use Rattle.lf_proto.specs.ReportText.{report_text};
 ghost use Rattle.lf_floor.specs.Teams.{cell_named, listed_of, member_of, setting_in, IsSizedCell, box_if_placed, broken_at};
@@ -13,7 +13,8 @@ ghost use Rattle.lf_floor.specs.Outcomes.{moved, places_of, working_at};
 use crate::surroundings::Surroundings;
 use lf_floorplan::{Frame, Macro, Place};
 use lf_proto::{Text, report_json};
-use lf_rules::{Broken, Listed, Placed, box_of, first_broken, report_on, verdict_is_one};
+use lf_reports::report_on;
+use lf_rules::{Broken, Listed, Placed, box_of, first_broken, verdict_is_one};
 use lf_units::Name;
 use std::alloc::{AllocError, Global};
 

@@ -11,13 +11,6 @@ pub mod SiteLemmas
 pub mod Choosing
 pub mod Legalizers
 pub mod BesideLemmas
-pub mod NearLemmas
-pub mod AreaLemmas
-pub mod WindowLemmas
-pub mod MetLemmas
-pub mod VerdictLists
 pub mod TidyLemmas
 pub mod DesignLemmas
 pub mod KeptLemmas
-pub mod ReportLemmas
-pub mod CleanLemmas

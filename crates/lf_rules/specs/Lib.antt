@@ -5,5 +5,4 @@ pub mod Legalizer
 pub mod Team
 pub mod Tidy
 pub mod FullyLegal
-pub mod Nearby
 pub mod Reports

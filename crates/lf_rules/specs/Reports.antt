@@ -1,97 +1,9 @@
--- What a check tells: how many cells there are, how many of them are unplaced, and which break a rule where they stand.
-use Rattle.std.specs.Prelude.{◌≡◌, ◌↔◌, ℕ, ◌<◌, List, [], ◌∷◌, Option, None, All, is_none, count_by, map, filter_map, length, set, slice_get, slice_index_or, ◌⊎◌, Some, option_map, option_and_then}
-use Rattle.std.specs.List.{range_with_len}
+-- What a report tells of a design: that nothing is told against its cells, and by which names cells are told.
+use Rattle.std.specs.Prelude.{◌≡◌, []}
 use Rattle.std.specs.Option.{ForSome}
-use Rattle.std.specs.Borrow.{Bor}
-use Rattle.lf_floorplan.specs.declared.frame.Frame.{Frame}
-use Rattle.lf_floorplan.specs.declared.loaded.Cell.{Cell}
-use Rattle.lf_floorplan.specs.declared.place.Place.{Place}
 use Rattle.lf_floorplan.specs.Bounds.{IsName}
-use Rattle.lf_floorplan.specs.Boxes.{IsSized, macro_of}
-use Rattle.lf_rules.specs.declared.rule.Broken.{Broken}
-use Rattle.lf_rules.specs.declared.report.Listed.{Listed}
 use Rattle.lf_rules.specs.declared.report.Violation.{Violation}
 use Rattle.lf_rules.specs.declared.report.Report.{Report}
-use Rattle.lf_rules.specs.Legality.{Trial, trial_of}
-use Rattle.lf_rules.specs.Legalizer.{Legalizer}
-use Rattle.lf_rules.specs.Choice.{spot_of}
-use Rattle.lf_rules.specs.Team.{Member, boxes_beside}
-use Rattle.lf_rules.specs.FullyLegal.{Standing, IsFullyLegal}
-
--- the cell with its name as a list of bytes
-abbrev pub named : Listed (Bor (List ℕ)) → Listed (List ℕ)
-named c = record { name = c.name.now; team = c.team; mac = c.mac; place = c.place }
-
--- the cell as the rules see it beside others
-abbrev pub member_of : Listed (List ℕ) → Member
-member_of c = record { mac = c.mac; place = option_map spot_of c.place }
-
--- the cell as a fully legal design has it
-abbrev pub standing_of : Listed (List ℕ) → Standing
-standing_of c = record { team = c.team; mac = c.mac; place = option_map spot_of c.place }
-
--- the cell of that number, tried where it stands beside the other placed cells that are listed
-abbrev pub trial_among : Frame → List (Listed (List ℕ)) → ℕ → Listed (List ℕ) → Place → Trial
-trial_among f cells own c p = trial_of f c.team (macro_of f c.mac) p (boxes_beside f (map member_of cells) own)
-
--- the first rule that the cell breaks where it stands; an unplaced cell breaks none
-abbrev pub broken_among : Legalizer → Frame → List (Listed (List ℕ)) → ℕ → Listed (List ℕ) → Option Broken
-broken_among l f cells own c = option_and_then (λ p. l.first_broken (trial_among f cells own c p)) c.place
-
--- the verdict of that number: the first rule that is broken, or none
-abbrev pub verdict_at : List (Option Broken) → ℕ → Option Broken
-verdict_at verdicts own = slice_index_or verdicts own None
-
--- each cell's verdict is the first rule that it breaks where it stands
-pub record AreVerdicts (l : Legalizer) (f : Frame) (cells : List (Listed (List ℕ))) (verdicts : List (Option Broken)) : Type 0 where
-  pub count : length verdicts ≡ length cells
-  pub each : (own : ℕ) (c : Listed (List ℕ)) → slice_get cells own ≡ Some c → verdict_at verdicts own ≡ broken_among l f cells own c
-
--- some cells have their verdict, and the others none yet
-pub record AreSomeVerdicts (l : Legalizer) (f : Frame) (cells : List (Listed (List ℕ))) (verdicts : List (Option Broken)) : Type 0 where
-  pub count : length verdicts ≡ length cells
-  pub each : (own : ℕ) (c : Listed (List ℕ)) → slice_get cells own ≡ Some c → (verdict_at verdicts own ≡ None) ⊎ (verdict_at verdicts own ≡ broken_among l f cells own c)
-
--- the verdict stands at its number, where it says that a rule is broken; else nothing was changed
-abbrev pub IsPut : ℕ → Option Broken → List (Option Broken) → List (Option Broken) → Type 0
-IsPut own verdict old new = ((verdict ≡ None) × (new ≡ old)) ⊎ (new ≡ set old own verdict)
-
--- the cell of this number has its verdict now, and so has each cell that had it
-pub record PutsVerdict (l : Legalizer) (f : Frame) (cells : List (Listed (List ℕ))) (own : ℕ) (old new : List (Option Broken)) : Type 0 where
-  pub some : AreSomeVerdicts l f cells new
-  pub put : (c : Listed (List ℕ)) → slice_get cells own ≡ Some c → verdict_at new own ≡ broken_among l f cells own c
-  pub kept : (other : ℕ) (c : Listed (List ℕ)) → slice_get cells other ≡ Some c → verdict_at old other ≡ broken_among l f cells other c → verdict_at new other ≡ broken_among l f cells other c
-
--- the name of the cell of that number
-abbrev pub name_among : List (Listed (List ℕ)) → ℕ → Option (List ℕ)
-name_among cells own = option_map (λ c. c.name) (slice_get cells own)
-
--- the cell breaks this rule first, and for Overlap meets that other cell first
-abbrev pub violation_of : List (Listed (List ℕ)) → Listed (List ℕ) → Broken → Violation
-violation_of cells c b = record { cell = c.name; rule = b.rule; other = option_and_then (name_among cells) b.other }
-
--- the violation of this cell, where it is placed and breaks a rule
-abbrev pub violation_by : Legalizer → Frame → List (Listed (List ℕ)) → ℕ → Listed (List ℕ) → Option Violation
-violation_by l f cells own c = option_map (violation_of cells c) (broken_among l f cells own c)
-
--- the violation of the cell of that number
-abbrev pub violation_at : Legalizer → Frame → List (Listed (List ℕ)) → ℕ → Option Violation
-violation_at l f cells own = option_and_then (violation_by l f cells own) (slice_get cells own)
-
--- the violations of the listed cells, in their order
-abbrev pub violations_in : Legalizer → Frame → List (Listed (List ℕ)) → List Violation
-violations_in l f cells = filter_map (violation_at l f cells) (range_with_len 0 (length cells))
-
--- the report of a list of cells, in which overlap is between any two of them: of a team's cells for the team's report, of
--- the cells of all teams for the report of a design
-abbrev pub report_of : Legalizer → Frame → List (Listed (List ℕ)) → Report
-report_of l f cells = record { cells = length cells; unplaced = count_by (λ c. is_none c.place) cells; violations = violations_in l f cells }
-
--- the cell's macro is one of the frame's, of whole size, and its name is one
-pub record IsListed (f : Frame) (c : Listed (List ℕ)) : Type 0 where
-  pub known : c.mac < length f.macros
-  pub sized : IsSized f (macro_of f c.mac)
-  pub printed : IsName c.name
 
 -- the names that the violation tells are names of a text
 pub record IsTold (v : Violation) : Type 0 where
@@ -102,15 +14,3 @@ pub record IsTold (v : Violation) : Type 0 where
 pub record IsClean (r : Report) : Type 0 where
   pub all_placed : r.unplaced ≡ 0
   pub none_broken : r.violations ≡ []
-
--- a report is clean exactly where its cells make a fully legal design
-abbrev pub CleanIsLegal : Type 0
-CleanIsLegal =
-    (l : Legalizer) (f : Frame) (cells : List (Listed (List ℕ))) → All (IsListed f) cells →
-    IsClean (report_of l f cells) ↔ IsFullyLegal f (map standing_of cells)
-
--- the cells of a loaded design at these places, one for each cell in its order
-abbrev pub listed_at : List Cell → List (Option Place) → List (Listed (List ℕ))
-listed_at [] places = []
-listed_at (c ∷ cells) [] = record { name = c.name; team = c.team; mac = c.mac; place = None } ∷ listed_at cells []
-listed_at (c ∷ cells) (p ∷ places) = record { name = c.name; team = c.team; mac = c.mac; place = p } ∷ listed_at cells places

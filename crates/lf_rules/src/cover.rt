@@ -73,7 +73,7 @@ fn is_column_covered(rect: &Rect, rects: &[Rect], foot: &Point) -> bool
 }
 
 /// Whether the rectangles cover every point of the box.
-pub(crate) fn is_covered(rect: &Rect, rects: &[Rect]) -> bool
+pub fn is_covered(rect: &Rect, rects: &[Rect]) -> bool
     requires { rect.now.y1 <ℤ rect.now.y2 }
     ensures { IsTrue result ↔ ((x y : ℤ) → Covers rect.now x y → CoveredBy rects.now x y) }
 {

@@ -35,13 +35,7 @@ fn is_in_ground(frame: &Frame, team: usize, rect: &Rect) -> bool
 }
 
 /// Whether a cell of the macro may stand so on this bottom row.
-pub(crate) fn is_oriented(
-    frame: &Frame,
-    mac: &Macro,
-    orient: Orient,
-    height: u32,
-    bottom: &Row,
-) -> bool
+pub fn is_oriented(frame: &Frame, mac: &Macro, orient: Orient, height: u32, bottom: &Row) -> bool
     ensures { IsTrue result ↔ (IsTrue (is_allowed mac.now.symmetry orient) × (height % 2 ≡ 1 → EqualUnder frame.now.site.symmetry orient bottom.now.orient)) }
 {
     if !is_candidate(mac.symmetry, orient) {
@@ -51,7 +45,7 @@ pub(crate) fn is_oriented(
 }
 
 /// Whether a cell of even height has the bottom row's rail along its lower edge.
-pub(crate) fn is_on_rail(mac: &Macro, height: u32, bottom: &Row) -> bool
+pub fn is_on_rail(mac: &Macro, height: u32, bottom: &Row) -> bool
     ensures { IsTrue result ↔ (height % 2 ≡ 0 → rail_below bottom.now.orient ≡ Some mac.now.rail) }
 {
     height % 2 == 1 || row_rail(bottom.orient) == Some(mac.rail)

@@ -3,7 +3,6 @@
 ghost use Rattle.lf_rules.specs.Choice.{ChoiceIsOne, KeyOrders, KeysDiffer, LegalInRange, LegalIsUpright};
 ghost use Rattle.lf_rules.specs.FullyLegal.{TeamsMakeLegal};
 ghost use Rattle.lf_rules.specs.Legalizer.{Legalizer, VerdictIsOne, VerdictIsThere};
-ghost use Rattle.lf_rules.specs.Reports.{CleanIsLegal};
 ghost use Rattle.lf_rules.specs.Tidy.{TidiedIsLegal, TidiedKeepsCells};
 
 /// A trial has one verdict: one first broken rule with one other cell, or none.
@@ -59,9 +58,4 @@ pub fn tidied_keeps_cells()
 /// A design in which each team's cells are placed and team-legal is fully legal.
 pub fn teams_make_legal()
     ensures { TeamsMakeLegal }
-{}
-
-/// A report tells nothing against its cells exactly where they make a fully legal design.
-pub fn clean_is_legal()
-    ensures { CleanIsLegal }
 {}

@@ -4,24 +4,21 @@
 mod area;
 mod cover;
 mod first;
-mod frame_index;
 mod laws;
-mod near;
 mod report;
 mod rows;
 mod rule;
-mod search;
 mod size;
-mod window;
 
-pub use first::first_broken;
+pub use cover::is_covered;
+pub use first::{first_broken, is_on_rail, is_oriented};
 pub use laws::{
-    choice_is_one, clean_is_legal, key_is_total, keys_differ, legal_in_range, legal_is_upright,
-    legalizer_is_there, teams_make_legal, tidied_is_legal, tidied_keeps_cells, verdict_is_one,
-    verdict_is_there,
+    choice_is_one, key_is_total, keys_differ, legal_in_range, legal_is_upright, legalizer_is_there,
+    teams_make_legal, tidied_is_legal, tidied_keeps_cells, verdict_is_one, verdict_is_there,
 };
 pub use lf_floorplan::Place;
 pub use lf_rtree::Placed;
-pub use report::{Listed, Report, Violation, check_all, check_all_pairs, report_on};
+pub use report::{Listed, Report, Violation};
+pub use rows::{carries, height_in_sites, is_bottom_row};
 pub use rule::{Broken, Rule};
-pub use size::box_of;
+pub use size::{box_of, solid_box};

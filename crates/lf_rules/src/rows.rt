@@ -24,7 +24,7 @@ fn level(pitch: &Point, rect: &Rect, sites: u32) -> i64
 }
 
 /// How many core sites the box is high, where that is from 1 to 8.
-pub(crate) fn height_in_sites(frame: &Frame, rect: &Rect) -> Option<u32>
+pub fn height_in_sites(frame: &Frame, rect: &Rect) -> Option<u32>
     requires { IsSolid rect.now }
     ensures { MatchOption result ((k : ℕ) → IsSitesHigh frame.now rect.now k → ⊥) (λ k. IsSitesHigh frame.now rect.now k) }
 {
@@ -67,7 +67,7 @@ fn is_row_of_box(frame: &Frame, rect: &Rect, sites: u32, row: &Row) -> bool
 }
 
 /// Whether the row lies at the box's lower edge, under all of its width, and its grid holds the box's left edge.
-pub(crate) fn is_bottom_row(frame: &Frame, rect: &Rect, row: &Row) -> bool
+pub fn is_bottom_row(frame: &Frame, rect: &Rect, row: &Row) -> bool
     requires solid { IsSolid rect.now }
     requires known { Contains frame.now.rows row.now }
     requires heeded { IsHeeded frame.now.pitch row.now }
@@ -104,7 +104,7 @@ fn changed_rail(orient: Orient, times: u32) -> Option<Rail>
 }
 
 /// Whether the row carries the box so many site heights above its bottom row.
-pub(crate) fn carries(frame: &Frame, rect: &Rect, bottom: &Row, sites: u32, row: &Row) -> bool
+pub fn carries(frame: &Frame, rect: &Rect, bottom: &Row, sites: u32, row: &Row) -> bool
     requires solid { IsSolid rect.now }
     requires few { sites ≤ 8 }
     requires known { Contains frame.now.rows row.now }

@@ -48,7 +48,7 @@ fn size_in(frame: &Frame, mac: &Macro, orient: Orient) -> Point
 }
 
 /// The box of the macro with its lower left corner at the place.
-pub(crate) fn solid_box(frame: &Frame, mac: &Macro, place: &Place) -> Rect
+pub fn solid_box(frame: &Frame, mac: &Macro, place: &Place) -> Rect
     requires { IsSized frame.now mac.now }
     ensures is { result ≡ box_at (turned (size_of frame.now mac.now) place.now.orient) place.now.x place.now.y }
     ensures solid { IsSolid result }

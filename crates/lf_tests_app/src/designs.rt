@@ -4,7 +4,7 @@ use lf_def::{W_DEF, read_def};
 use lf_frame::{Limits, Loaded, Place, load};
 use lf_lef::{Library, W_LEF, read_lef};
 use lf_orient::Orient;
-use lf_rules::{Report, check_all, check_all_pairs};
+use lf_reports::{Report, check_all, check_all_pairs};
 use lf_units::Name;
 use std::alloc::{AllocError, Global};
 use std::test::Fail;

@@ -1,7 +1,7 @@
 use Rattle.std.proofs.Common.{◌≡◌, ◌∙◌, List, Option, ap, subst}
 use Rattle.std.specs.Prelude.{IfOk}
 use Rattle.lf_floorplan.specs.declared.place.Place.{Place}
-use Rattle.lf_rules.specs.Reports.{listed_at, report_of}
+use Rattle.lf_reports.specs.Reports.{listed_at, report_of}
 use Rattle.lf_app.specs.Checks.{def_places}
 use Rattle.lf_app.proofs.reports.design_report.Goals as goal
 

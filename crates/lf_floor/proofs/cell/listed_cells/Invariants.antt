@@ -1,5 +1,5 @@
 use Rattle.std.proofs.Common.{◌≡◌, map, take}
-use Rattle.lf_rules.specs.Reports.{named}
+use Rattle.lf_reports.specs.Reports.{named}
 use Rattle.lf_floor.specs.Teams.{listed_of}
 use Rattle.lf_floor.proofs.cell.listed_cells.Given as goal
 

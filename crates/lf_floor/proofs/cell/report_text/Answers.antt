@@ -1,7 +1,7 @@
 use Rattle.std.proofs.Common.{◌∙◌, ℕ, List, ap}
 use Rattle.std.proofs.lemmas.Result.{IfOk-weaker}
 use Rattle.lf_rules.specs.declared.report.Listed.{Listed}
-use Rattle.lf_rules.specs.Reports.{report_of}
+use Rattle.lf_reports.specs.Reports.{report_of}
 use Rattle.lf_proto.specs.ReportText.{report_text}
 use Rattle.lf_floor.proofs.Listing.{lent_are, lent_listed}
 use Rattle.lf_floor.proofs.cell.report_text.Goals as goal

@@ -1,0 +1,194 @@
+-- The rules on ground and obstacles, by what lies near the box.
+use Rattle.std.proofs.Common.{◌≡◌, inl, inr, ℕ, zero, suc, ℤ, ◌+◌, ◌<◌, Bool, true, false, IsTrue, List, [], ◌∷◌, length, map, get_or, slice_get, Some, None, refl, sym, ◌∙◌, ap, subst, arith, eqb}
+use Rattle.std.specs.Prelude.{All, Any, Contains, ◌↔◌}
+use Rattle.std.proofs.Math.ListN.{get_or-map}
+use Rattle.std.proofs.lemmas.List.{length-map, get_or_default}
+use Rattle.std.proofs.lemmas.Bool.Decides.{nat_tests}
+use Rattle.std.proofs.lemmas.Option.{slice_get_read, slice_get_within}
+use Rattle.std.proofs.lemmas.List.Sorted.{Contains-permutation, IsPermutation-sym}
+use Rattle.std.proofs.lemmas.List.Elements.{All-contains, Contains-get_or, Contains-append_left, Contains-append_right, Contains-append_cases}
+use Rattle.lf_units.specs.declared.area.Rect.{Rect}
+use Rattle.lf_units.specs.Area.{Covers, CoveredBy, SharesPoint}
+use Rattle.lf_rtree.specs.declared.placed.Placed.{Placed}
+use Rattle.lf_rtree.specs.Near.{AreNear}
+use Rattle.lf_floorplan.specs.declared.frame.Frame.{Frame}
+use Rattle.lf_floorplan.specs.declared.parts.Team.{Team}
+use Rattle.lf_floorplan.specs.Ground.{StaysInGround, IsClear}
+use Rattle.lf_reports.specs.declared.frame_index.FrameIndex.{FrameIndex}
+use Rattle.lf_reports.specs.Nearby.{numbered, fence_boxes, obstacle_boxes, rects_of, IsIndexOf}
+use Rattle.lf_reports.proofs.NearLemmas.{first_there, later_there}
+use Rattle.lf_rules.proofs.GroundLemmas as open_ground
+
+-- ---- what lists hold
+
+map_there : {A B : Type 0} (g : A → B) (xs : List A) (x : A) → Contains xs x → Contains (map g xs) (g x)
+map_there g xs x there =
+    let long = length-map xs g in
+    let within = there.1 in
+    (there.0, omega (arith, long, within), get_or-map g xs there.0 x ∙ ap g there.2)
+
+of_map : {A B : Type 0} (g : A → B) (xs : List A) (y : B) → Contains (map g xs) y → (x : A) × Contains xs x × (g x ≡ y)
+of_map g [] y (k, within, is) = absurd (omega arith)
+of_map g (x ∷ xs) y (zero, within, is) = (x, first_there x xs, is)
+of_map g (x ∷ xs) y (suc k, within, is) = let deeper = of_map g xs y (k, omega arith, is) in (deeper.0, later_there x deeper.0 xs deeper.1, deeper.2)
+
+any_of : {A : Type 0} (P : A → Type 0) (xs : List A) (x : A) → Contains xs x → P x → Any P xs
+any_of P xs x there holds = (there.0, x, there.1, there.2, holds)
+
+-- none is found where nothing shares a point, and nothing shares a point where none is found
+nothing_near : (boxes : List Placed) (box : Rect) (found : List Placed) → AreNear boxes box found → All (λ p. SharesPoint box p.rect → ⊥) boxes → found ≡ []
+nothing_near boxes box [] near none = refl
+nothing_near boxes box (p ∷ found) near none =
+    let first = near.only 0 p (omega arith) in
+    absurd (All-contains (λ q. SharesPoint box q.rect → ⊥) boxes p none first.0 first.1)
+
+none_there : (boxes : List Placed) (box : Rect) (found : List Placed) → AreNear boxes box found → found ≡ [] → (p : Placed) → Contains boxes p → SharesPoint box p.rect → ⊥
+none_there boxes box [] near is p there shares =
+    let at = All-contains (λ q. SharesPoint box q.rect → Contains [] q) boxes p near.each there shares in
+    let within = at.1 in
+    omega (arith, within)
+none_there boxes box (q ∷ found) near is p there shares = absurd cc
+
+-- ---- obstacles
+
+pub clear_near : (f : Frame) (i : FrameIndex) (box : Rect) (found : List Placed) → IsIndexOf f i → AreNear i.obstacles box found → (found ≡ []) ↔ IsClear f box
+clear_near f i box found index near = (
+  λ is k d within shares.
+      let r : Rect = get_or f.obstacles k d in
+      let there : Contains (obstacle_boxes f.obstacles) (numbered 0 r) = map_there (numbered 0) f.obstacles r (Contains-get_or f.obstacles k d within) in
+      none_there i.obstacles box found near is (numbered 0 r) (Contains-permutation (obstacle_boxes f.obstacles) i.obstacles (numbered 0 r) index.obstacles there) shares,
+  λ clear. nothing_near i.obstacles box found near (λ k d within shares.
+      let p : Placed = get_or i.obstacles k d in
+      let there : Contains (obstacle_boxes f.obstacles) p =
+      Contains-permutation i.obstacles (obstacle_boxes f.obstacles) p (IsPermutation-sym (obstacle_boxes f.obstacles) i.obstacles index.obstacles) (Contains-get_or i.obstacles k d within) in
+      let from = of_map (numbered 0) f.obstacles p there in
+      let same : from.0 ≡ p.rect = ap (λ (q : Placed). q.rect) from.2 in
+      All-contains (λ r. SharesPoint box r → ⊥) f.obstacles from.0 clear from.1 (subst (SharesPoint box) (sym same) shares)),
+)
+
+-- ---- fences
+
+fence_there : (n : ℕ) (teams : List Team) (t : ℕ) (team : Team) (r : Rect) → slice_get teams t ≡ Some team → Contains team.rects r → Contains (fence_boxes n teams) (numbered (n + t) r)
+fence_there n [] t team r is there = absurd cc
+fence_there n (x ∷ teams) zero team r is there =
+    let same : x ≡ team = cc in
+    let at : n ≡ n + 0 = omega arith in
+    let here : Contains x.rects r = subst (λ (y : Team). Contains y.rects r) (sym same) there in
+    subst (λ (m : ℕ). Contains (fence_boxes n (x ∷ teams)) (numbered m r)) at
+    (Contains-append_left (map (numbered n) x.rects) (fence_boxes (n + 1) teams) (numbered n r) (map_there (numbered n) x.rects r here))
+fence_there n (x ∷ teams) (suc t) team r is there =
+    let at : (n + 1) + t ≡ n + suc t = omega arith in
+    subst (λ (m : ℕ). Contains (fence_boxes n (x ∷ teams)) (numbered m r)) at
+    (Contains-append_right (map (numbered n) x.rects) (fence_boxes (n + 1) teams) (numbered ((n + 1) + t) r) (fence_there (n + 1) teams t team r is there))
+
+fence_listed : (teams : List Team) (t : ℕ) (team : Team) (r : Rect) → slice_get teams t ≡ Some team → Contains team.rects r → Contains (fence_boxes 0 teams) (numbered t r)
+fence_listed teams t team r is there =
+    let from : 0 + t ≡ t = omega arith in
+    subst (λ (m : ℕ). Contains (fence_boxes 0 teams) (numbered m r)) from (fence_there 0 teams t team r is there)
+
+-- a box of a fence: the fence's place, the fence, and the rectangle among its own
+record OfFence (n : ℕ) (teams : List Team) (p : Placed) : Type 0 where
+  place : ℕ
+  team : Team
+  number : p.own ≡ n + place
+  is : slice_get teams place ≡ Some team
+  there : Contains team.rects p.rect
+
+of_fence : (n : ℕ) (teams : List Team) (p : Placed) → Contains (fence_boxes n teams) p → OfFence n teams p
+of_fence n [] p (k, within, is) = absurd (omega arith)
+of_fence n (x ∷ teams) p there = elim (Contains-append_cases (map (numbered n) x.rects) (fence_boxes (n + 1) teams) p there) [
+  | inl here ↦
+      let from = of_map (numbered n) x.rects p here in
+      let same : from.0 ≡ p.rect = ap (λ (q : Placed). q.rect) from.2 in
+      let number : n ≡ p.own = ap (λ (q : Placed). q.own) from.2 in
+      record { place = 0; team = x; number = omega (arith, number); is = refl; there = subst (λ (r : Rect). Contains x.rects r) same from.1 }
+  | inr later ↦
+      let deeper = of_fence (n + 1) teams p later in
+      let number = deeper.number in
+      record { place = suc deeper.place; team = deeper.team; number = omega (arith, number); is = deeper.is; there = deeper.there }
+]
+
+-- a rectangle of those that bear the number
+in_rects : (near : List Placed) (t : ℕ) (p : Placed) → Contains near p → p.own ≡ t → Contains (rects_of near t) p.rect
+in_rects [] t p (k, within, is) own = absurd (omega arith)
+in_rects (q ∷ near) t p (zero, within, is) own = by (eqb q.own t) refl
+  where
+    by : (b : Bool) → eqb q.own t ≡ b → Contains (rects_of (q ∷ near) t) p.rect
+    by true e = rw e (subst (λ (r : Rect). Contains (q.rect ∷ rects_of near t) r) (ap (λ (s : Placed). s.rect) is) (first_there q.rect (rects_of near t)))
+    by false e = let same : q.own ≡ t = ap (λ (s : Placed). s.own) is ∙ own in absurd (grind (arith, nat_tests))
+in_rects (q ∷ near) t p (suc k, within, is) own = by (eqb q.own t) refl (in_rects near t p (k, omega arith, is) own)
+  where
+    by : (b : Bool) → eqb q.own t ≡ b → Contains (rects_of near t) p.rect → Contains (rects_of (q ∷ near) t) p.rect
+    by true e rest = rw e (later_there q.rect p.rect (rects_of near t) rest)
+    by false e rest = rw e rest
+
+of_rects : (near : List Placed) (t : ℕ) (r : Rect) → Contains (rects_of near t) r → (p : Placed) × Contains near p × (p.own ≡ t) × (p.rect ≡ r)
+of_rects [] t r (k, within, is) = absurd (omega arith)
+of_rects (q ∷ near) t r there = by (eqb q.own t) refl there (of_rects near t r)
+  where
+    more : (p : Placed) × Contains near p × (p.own ≡ t) × (p.rect ≡ r) → (p : Placed) × Contains (q ∷ near) p × (p.own ≡ t) × (p.rect ≡ r)
+    more found = (found.0, later_there q found.0 near found.1, found.2, found.3)
+
+    by : (b : Bool) → eqb q.own t ≡ b → Contains (rects_of (q ∷ near) t) r → (Contains (rects_of near t) r → (p : Placed) × Contains near p × (p.own ≡ t) × (p.rect ≡ r)) →
+        (p : Placed) × Contains (q ∷ near) p × (p.own ≡ t) × (p.rect ≡ r)
+    by true e there deeper = at (rw e at there)
+      where
+        at : Contains (q.rect ∷ rects_of near t) r → (p : Placed) × Contains (q ∷ near) p × (p.own ≡ t) × (p.rect ≡ r)
+        at (zero, within, is) = (q, first_there q near, grind (arith, nat_tests), is)
+        at (suc k, within, is) = more (deeper (k, omega arith, is))
+    by false e there deeper = more (deeper (rw e at there))
+
+-- what covers a point of the box, among the fence's rectangles near it and among all of them
+covered_forth : (f : Frame) (i : FrameIndex) (box : Rect) (near : List Placed) (t : ℕ) (team : Team) → IsIndexOf f i → AreNear i.fences box near → slice_get f.teams t ≡ Some team →
+    (x y : ℤ) → CoveredBy (rects_of near t) x y → CoveredBy team.rects x y
+covered_forth f i box near t team index found is x y (k, r, within, at, covers) =
+    let from = of_rects near t r (k, within, at) in
+    let p : Placed = from.0 in
+    let among : Contains i.fences p = (All-contains (λ q. Contains i.fences q × SharesPoint box q.rect) near p found.only from.1).0 in
+    let of = of_fence 0 f.teams p (Contains-permutation i.fences (fence_boxes 0 f.teams) p (IsPermutation-sym (fence_boxes 0 f.teams) i.fences index.fences) among) in
+    let number = of.number in
+    let own : p.own ≡ t = from.2 in
+    let place : of.place ≡ t = omega (arith, number, own) in
+    let both : Some of.team ≡ Some team = sym of.is ∙ ap (slice_get f.teams) place ∙ is in
+    let one : of.team ≡ team = cc in
+    any_of (λ s. Covers s x y) team.rects r (subst (λ (s : Rect). Contains team.rects s) from.3 (subst (λ (u : Team). Contains u.rects p.rect) one of.there)) covers
+
+covered_back : (f : Frame) (i : FrameIndex) (box : Rect) (near : List Placed) (t : ℕ) (team : Team) → IsIndexOf f i → AreNear i.fences box near → slice_get f.teams t ≡ Some team →
+    (x y : ℤ) → Covers box x y → CoveredBy team.rects x y → CoveredBy (rects_of near t) x y
+covered_back f i box near t team index found is x y in_box (k, r, within, at, covers) =
+    let p : Placed = numbered t r in
+    let there : Contains i.fences p = Contains-permutation (fence_boxes 0 f.teams) i.fences p index.fences (fence_listed f.teams t team r is (k, within, at)) in
+    let close : Contains near p = All-contains (λ q. SharesPoint box q.rect → Contains near q) i.fences p found.each there (record { x = x; y = y; in_first = in_box; in_second = covers }) in
+    any_of (λ s. Covers s x y) (rects_of near t) r (in_rects near t p close refl) covers
+
+pub stays_near : (f : Frame) (i : FrameIndex) (box : Rect) (near : List Placed) (t : ℕ) (team : Team) (stays : Bool) → IsIndexOf f i → AreNear i.fences box near → slice_get f.teams t ≡ Some team →
+    (IsTrue stays ↔ ((x y : ℤ) → Covers box x y → CoveredBy (rects_of near t) x y)) → IsTrue stays ↔ StaysInGround f t box
+stays_near f i box near t team stays index found is test = (
+  λ yes x y in_box. rw is (covered_forth f i box near t team index found is x y (test.0 yes x y in_box)),
+  λ ground. test.1 (λ x y in_box. covered_back f i box near t team index found is x y in_box (rw is at (ground x y in_box))),
+)
+
+clear_of_fences : (f : Frame) (i : FrameIndex) (box : Rect) (near : List Placed) → IsIndexOf f i → AreNear i.fences box near → (near ≡ []) ↔ open_ground.IsClear box f.teams
+clear_of_fences f i box near index found = (
+  λ is k d within j e inside shares.
+      let team : Team = get_or f.teams k d in
+      let r : Rect = get_or team.rects j e in
+      let at : slice_get f.teams k ≡ Some team = slice_get_read f.teams (length f.teams) k team refl within (get_or_default f.teams k d team within) in
+      let there : Contains i.fences (numbered k r) =
+      Contains-permutation (fence_boxes 0 f.teams) i.fences (numbered k r) index.fences (fence_listed f.teams k team r at (Contains-get_or team.rects j e inside)) in
+      none_there i.fences box near found is (numbered k r) there shares,
+  λ clear. nothing_near i.fences box near found (λ k d within shares.
+      let p : Placed = get_or i.fences k d in
+      let of = of_fence 0 f.teams p (Contains-permutation i.fences (fence_boxes 0 f.teams) p (IsPermutation-sym (fence_boxes 0 f.teams) i.fences index.fences) (Contains-get_or i.fences k d within)) in
+      let inside : of.place < length f.teams = slice_get_within f.teams of.place of.team of.is in
+      let rects_clear : All (λ r. SharesPoint box r → ⊥) of.team.rects = subst (λ (u : Team). All (λ r. SharesPoint box r → ⊥) u.rects) (Rattle.std.proofs.lemmas.Option.get_or_from_slice_get f.teams of.place of.team of.team of.is) (clear of.place of.team inside) in
+      All-contains (λ r. SharesPoint box r → ⊥) of.team.rects p.rect rects_clear of.there shares),
+)
+
+pub open_near : (f : Frame) (i : FrameIndex) (box : Rect) (near : List Placed) (t : ℕ) → IsIndexOf f i → AreNear i.fences box near → slice_get f.teams t ≡ None → t ≡ length f.teams →
+    (near ≡ []) ↔ StaysInGround f t box
+open_near f i box near t index found none ground =
+    let clear = clear_of_fences f i box near index found in (
+      λ is. open_ground.stays_in_open f t box none ground (open_ground.open_of_clear box f.teams (clear.0 is)),
+      λ stays. clear.1 (open_ground.clear_of_open box f.teams (open_ground.open_of_stays f t box none stays)),
+    )

@@ -1,0 +1,7 @@
+pub mod NearLemmas
+pub mod AreaLemmas
+pub mod WindowLemmas
+pub mod MetLemmas
+pub mod VerdictLists
+pub mod ReportLemmas
+pub mod CleanLemmas

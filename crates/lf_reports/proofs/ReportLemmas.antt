@@ -1,0 +1,61 @@
+-- What the loops of a report gather.
+use Rattle.std.proofs.Common.{◌≡◌, ℕ, zero, suc, ◌+◌, List, [], ◌∷◌, ◌++◌, not, eqb, map, filter, Option, Some, None, refl, ap, subst, sym, ◌∙◌, arith}
+use Rattle.std.specs.Prelude.{slice_get, filter_map, option_map, option_and_then}
+use Rattle.std.specs.List.{range_with_len, cons_option}
+use Rattle.std.specs.Borrow.{Bor}
+use Rattle.lf_floorplan.specs.declared.frame.Frame.{Frame}
+use Rattle.lf_floorplan.specs.declared.macros.Macro.{Macro}
+use Rattle.lf_floorplan.specs.declared.place.Place.{Place}
+use Rattle.lf_floorplan.specs.Boxes.{macro_of}
+use Rattle.lf_rules.specs.declared.rule.Broken.{Broken}
+use Rattle.lf_rtree.specs.declared.placed.Placed.{Placed}
+use Rattle.lf_rules.specs.declared.report.Listed.{Listed}
+use Rattle.lf_rules.specs.Legality.{trial_of}
+use Rattle.lf_rules.specs.Legalizer.{Legalizer, IsVerdict, VerdictIsOne}
+use Rattle.lf_rules.specs.Team.{boxes_from, boxes_beside}
+use Rattle.lf_reports.specs.Reports.{IsListed, named, member_of, trial_among, broken_among, violation_of, violation_by, violation_at}
+
+-- the boxes of the cells from that number on, but for the cell `own`
+abbrev pub beside_from : Frame → ℕ → ℕ → List (Listed (Bor (List ℕ))) → List Placed
+beside_from f own n cells = filter (λ p. not (eqb p.own own)) (boxes_from f n (map member_of (map named cells)))
+
+-- a verdict on the cell's trial is what every legalizer says
+pub broken_is : (l : Legalizer) (f : Frame) (cells : List (Listed (List ℕ))) (own : ℕ) (c : Listed (List ℕ)) (place : Place) (found : Option Broken) → VerdictIsOne → IsListed f c →
+    IsVerdict (trial_among f cells own c place) found → found ≡ l.first_broken (trial_among f cells own c place)
+broken_is l f cells own c place found one listed verdict =
+    one (trial_among f cells own c place) found (l.first_broken (trial_among f cells own c place)) verdict (l.finds_first_broken (trial_among f cells own c place) listed.sized)
+
+-- the trial of the macro and the boxes that the code has is the cell's
+pub trial_is : (f : Frame) (cells : List (Listed (List ℕ))) (own : ℕ) (c : Listed (List ℕ)) (mac : Macro) (place : Place) (others : List Placed) (found : Option Broken) → mac ≡ macro_of f c.mac →
+    others ≡ boxes_beside f (map member_of cells) own → IsVerdict (trial_of f c.team mac place others) found → IsVerdict (trial_among f cells own c place) found
+trial_is f cells own c mac place others found is beside verdict =
+    subst (λ (os : List Placed). IsVerdict (trial_of f c.team (macro_of f c.mac) place os) found) beside (subst (λ (m : Macro). IsVerdict (trial_of f c.team m place others) found) is verdict)
+
+-- what a number more adds to the list of what is found at each
+found_more : {Y : Type 0} (g : ℕ → Option Y) (a n : ℕ) → filter_map g (range_with_len a (suc n)) ≡ filter_map g (range_with_len a n) ++ cons_option (g (a + n)) []
+found_more {Y = Y} g a zero = ap (λ (m : ℕ). cons_option (g m) []) (omega arith)
+found_more {Y = Y} g a (suc n) =
+    ap (cons_option (g a)) (found_more g (a + 1) n ∙ ap (λ (m : ℕ). filter_map g (range_with_len (a + 1) n) ++ cons_option (g m) []) (omega arith))
+    ∙ onto (g a) (filter_map g (range_with_len (a + 1) n)) (cons_option (g (a + suc n)) [])
+  where
+    onto : (o : Option Y) (xs ys : List Y) → cons_option o (xs ++ ys) ≡ cons_option o xs ++ ys
+    onto None xs ys = refl
+    onto (Some y) xs ys = refl
+
+pub told_more : {Y : Type 0} (g : ℕ → Option Y) (n : ℕ) (old new : List Y) → new ≡ old ++ cons_option (g n) [] → old ≡ filter_map g (range_with_len 0 n) →
+    new ≡ filter_map g (range_with_len 0 (n + 1))
+told_more {Y = Y} g n old new is found =
+    let next : n + 1 ≡ suc n = omega arith in
+    let at : 0 + n ≡ n = omega arith in
+    is ∙ ap (λ (xs : List Y). xs ++ cons_option (g n) []) found
+    ∙ sym (ap (λ (k : ℕ). filter_map g (range_with_len 0 k)) next ∙ found_more g 0 n ∙ ap (λ (m : ℕ). filter_map g (range_with_len 0 n) ++ cons_option (g m) []) at)
+
+-- the cell of that number breaks this rule, or none
+pub told_at : (l : Legalizer) (f : Frame) (cells : List (Listed (List ℕ))) (own : ℕ) (c : Listed (List ℕ)) (o : Option Broken) → slice_get cells own ≡ Some c → o ≡ broken_among l f cells own c →
+    violation_at l f cells own ≡ option_map (violation_of cells c) o
+told_at l f cells own c o there is = ap (option_and_then (violation_by l f cells own)) there ∙ ap (option_map (violation_of cells c)) (sym is)
+
+-- where nothing is told nothing is added
+pub told_none : {Y : Type 0} (xs : List Y) (o : Option Y) → o ≡ None → xs ≡ xs ++ cons_option o []
+told_none {Y = Y} [] o e = sym (ap (λ (p : Option Y). cons_option p []) e)
+told_none {Y = Y} (x ∷ xs) o e = ap (λ (ys : List Y). x ∷ ys) (told_none xs o e)

@@ -1,0 +1,209 @@
+-- Verdicts that are found one by one, in the order of the cells' boxes.
+use Rattle.std.proofs.Common.{◌≡◌, ◌≢◌, ◌⊎◌, inl, inr, ℕ, zero, suc, ◌+◌, ◌<◌, List, [], ◌∷◌, ◌++◌, length, map, drop, get_or, set, slice_get, Option, None, Some, refl, sym, ◌∙◌, ap, subst, arith}
+use Rattle.std.specs.Prelude.{All, Contains, IsPermutation, option_and_then, option_map}
+use Rattle.std.proofs.lemmas.Grind.{get_or-set_at}
+use Rattle.std.proofs.Math.Seq.{drop-cons}
+use Rattle.std.proofs.lemmas.List.{append_assoc, map-append, get_or_default, get_or-set_other, length-set}
+use Rattle.std.proofs.lemmas.Option.{slice_get-map}
+use Rattle.std.proofs.lemmas.List.Elements.{All-nil, All-cons, All-head, All-tail}
+use Rattle.std.proofs.lemmas.List.Sorted.{All-permutation, Contains-permutation}
+use Rattle.std.specs.Borrow.{Bor}
+use Rattle.lf_rtree.specs.declared.placed.Placed.{Placed}
+use Rattle.lf_floorplan.specs.declared.frame.Frame.{Frame}
+use Rattle.lf_floorplan.specs.declared.place.Place.{Place}
+use Rattle.lf_rules.specs.declared.rule.Broken.{Broken}
+use Rattle.lf_rules.specs.declared.report.Listed.{Listed}
+use Rattle.lf_rules.specs.Choice.{Spot, spot_of}
+use Rattle.lf_rules.specs.Legalizer.{Legalizer}
+use Rattle.lf_rules.specs.Team.{Member, box_in, with_box, boxes_from}
+use Rattle.lf_reports.specs.Reports.{IsListed, member_of, named, trial_among, broken_among, verdict_at, AreVerdicts, AreSomeVerdicts, IsPut, PutsVerdict}
+use Rattle.lf_reports.proofs.NearLemmas.{first_there, later_there}
+
+-- ---- the numbers of boxes
+
+with_known : (f : Frame) (n m mac : ℕ) (place : Option Spot) (rest : List Placed) → n < m → All (λ p. p.own < m) rest → All (λ p. p.own < m) (with_box f n mac place rest)
+with_known f n m mac None rest below all = all
+with_known f n m mac (Some p) rest below all = All-cons (λ p. p.own < m) (record { own = n; rect = box_in f mac p }) rest below all
+
+boxes_known : (f : Frame) (n : ℕ) (cells : List Member) → All (λ p. p.own < n + length cells) (boxes_from f n cells)
+boxes_known f n [] = All-nil (λ p. p.own < n + 0)
+boxes_known f n (c ∷ cells) =
+    let long : (n + 1) + length cells ≡ n + length (c ∷ cells) = omega arith in
+    with_known f n (n + length (c ∷ cells)) c.mac c.place (boxes_from f (n + 1) cells) (omega arith)
+    (subst (λ (m : ℕ). All (λ p. p.own < m) (boxes_from f (n + 1) cells)) long (boxes_known f (n + 1) cells))
+
+-- each number of a box is that of a cell
+pub numbers_known : (f : Frame) (cells : List Member) (boxes : List Placed) → IsPermutation (boxes_from f 0 cells) boxes → All (λ p. p.own < length cells) boxes
+numbers_known f cells boxes same =
+    let from : 0 + length cells ≡ length cells = omega arith in
+    All-permutation (λ p. p.own < length cells) (boxes_from f 0 cells) boxes same (subst (λ (m : ℕ). All (λ p. p.own < m) (boxes_from f 0 cells)) from (boxes_known f 0 cells))
+
+behind_box : (f : Frame) (n mac : ℕ) (place : Option Spot) (rest : List Placed) (p : Placed) → Contains rest p → Contains (with_box f n mac place rest) p
+behind_box f n mac None rest p there = there
+behind_box f n mac (Some at) rest p there = later_there (record { own = n; rect = box_in f mac at }) p rest there
+
+box_there : (f : Frame) (n : ℕ) (cells : List Member) (k : ℕ) (m : Member) (p : Spot) → slice_get cells k ≡ Some m → m.place ≡ Some p → Contains (boxes_from f n cells) (record { own = n + k; rect = box_in f m.mac p })
+box_there f n [] k m p there at = absurd cc
+box_there f n (c ∷ cells) zero m p there at =
+    let same : c ≡ m = cc in
+    let placed : c.place ≡ Some p = ap (λ (x : Member). x.place) same ∙ at in
+    let number : n ≡ n + 0 = omega arith in
+    subst (λ (x : Member). Contains (boxes_from f n (c ∷ cells)) (record { own = n + 0; rect = box_in f x.mac p })) same
+    (subst (λ (i : ℕ). Contains (boxes_from f n (c ∷ cells)) (record { own = i; rect = box_in f c.mac p })) number
+    (subst (λ (o : Option Spot). Contains (with_box f n c.mac o (boxes_from f (n + 1) cells)) (record { own = n; rect = box_in f c.mac p })) (sym placed)
+    (first_there (record { own = n; rect = box_in f c.mac p }) (boxes_from f (n + 1) cells))))
+box_there f n (c ∷ cells) (suc k) m p there at =
+    let number : (n + 1) + k ≡ n + suc k = omega arith in
+    subst (λ (i : ℕ). Contains (boxes_from f n (c ∷ cells)) (record { own = i; rect = box_in f m.mac p })) number
+    (behind_box f n c.mac c.place (boxes_from f (n + 1) cells) (record { own = (n + 1) + k; rect = box_in f m.mac p }) (box_there f (n + 1) cells k m p there at))
+
+-- ---- a verdict more
+
+differ_or_not : (a b : ℕ) → (a ≡ b) ⊎ (a ≢ b)
+differ_or_not a b =
+    let cases : (a ≡ b) ⊎ ((a < b) ⊎ (b < a)) = grind arith in
+    elim cases [
+      | inl same ↦ inl same
+      | inr (inl less) ↦ inr (λ e. omega (arith, less, e))
+      | inr (inr more) ↦ inr (λ e. omega (arith, more, e))
+    ]
+
+pub puts : (l : Legalizer) (f : Frame) (cells : List (Listed (List ℕ))) (own : ℕ) (cell : Listed (List ℕ)) (v : Option Broken) (old : List (Option Broken)) → slice_get cells own ≡ Some cell →
+    v ≡ broken_among l f cells own cell → own < length old → AreSomeVerdicts l f cells old → PutsVerdict l f cells own old (set old own v)
+puts l f cells own cell v old there is within some = record {
+  some = record { count = length-set old own v ∙ some.count; each = λ other c at. either other c at (differ_or_not other own) };
+  put = λ c at. here own c refl at;
+  kept = λ other c at had. keep other c at had (differ_or_not other own);
+}
+  where
+    here : (other : ℕ) (c : Listed (List ℕ)) → other ≡ own → slice_get cells other ≡ Some c → verdict_at (set old own v) other ≡ broken_among l f cells other c
+    here other c same at =
+        let both : Some cell ≡ Some c = sym there ∙ ap (slice_get cells) (sym same) ∙ at in
+        let one : cell ≡ c = cc in
+        get_or-set_at old own other v None same within ∙ is ∙ ap (λ (d : Listed (List ℕ)). broken_among l f cells own d) one ∙ ap (λ (n : ℕ). broken_among l f cells n c) (sym same)
+
+    either : (other : ℕ) (c : Listed (List ℕ)) → slice_get cells other ≡ Some c → (other ≡ own) ⊎ (other ≢ own) →
+        (verdict_at (set old own v) other ≡ None) ⊎ (verdict_at (set old own v) other ≡ broken_among l f cells other c)
+    either other c at (inl same) = inr (here other c same at)
+    either other c at (inr differ) = subst (λ (o : Option Broken). (o ≡ None) ⊎ (o ≡ broken_among l f cells other c)) (sym (get_or-set_other old own other v None differ)) (some.each other c at)
+
+    keep : (other : ℕ) (c : Listed (List ℕ)) → slice_get cells other ≡ Some c → verdict_at old other ≡ broken_among l f cells other c → (other ≡ own) ⊎ (other ≢ own) →
+        verdict_at (set old own v) other ≡ broken_among l f cells other c
+    keep other c at had (inl same) = here other c same at
+    keep other c at had (inr differ) = get_or-set_other old own other v None differ ∙ had
+
+-- the same where the verdict is only set if a rule is broken
+pub puts_or_keeps : (l : Legalizer) (f : Frame) (cells : List (Listed (List ℕ))) (own : ℕ) (cell : Listed (List ℕ)) (v : Option Broken) (old new : List (Option Broken)) → slice_get cells own ≡ Some cell →
+    v ≡ broken_among l f cells own cell → own < length old → AreSomeVerdicts l f cells old → IsPut own v old new → PutsVerdict l f cells own old new
+puts_or_keeps l f cells own cell v old new there is within some (inr set_now) =
+    subst (λ (n : List (Option Broken)). PutsVerdict l f cells own old n) (sym set_now) (puts l f cells own cell v old there is within some)
+puts_or_keeps l f cells own cell v old new there is within some (inl (nothing, same)) =
+    subst (λ (n : List (Option Broken)). PutsVerdict l f cells own old n) (sym same) record {
+      some = some;
+      put = λ c at. right c at (some.each own c at);
+      kept = λ other c at had. had;
+    }
+  where
+    right : (c : Listed (List ℕ)) → slice_get cells own ≡ Some c → (verdict_at old own ≡ None) ⊎ (verdict_at old own ≡ broken_among l f cells own c) → verdict_at old own ≡ broken_among l f cells own c
+    right c at (inr had) = had
+    right c at (inl none) =
+        let both : Some cell ≡ Some c = sym there ∙ at in
+        let one : cell ≡ c = cc in
+        none ∙ sym nothing ∙ is ∙ ap (λ (d : Listed (List ℕ)). broken_among l f cells own d) one
+
+-- ---- the cells of the boxes
+
+-- the cell that was fetched for a box is the one of the box's number
+pub fetched_at : (cells fetched : List (Listed (List ℕ))) (boxes : List Placed) (k : ℕ) (d : Placed) (c : Listed (List ℕ)) → map Some fetched ≡ map (λ p. slice_get cells p.own) boxes → k < length boxes →
+    slice_get fetched k ≡ Some c → slice_get cells (get_or boxes k d).own ≡ Some c
+fetched_at cells [] [] k d c same within at = absurd (omega (arith, within))
+fetched_at cells [] (p ∷ boxes) k d c same within at = absurd cc
+fetched_at cells (x ∷ fetched) [] k d c same within at = absurd cc
+fetched_at cells (x ∷ fetched) (p ∷ boxes) zero d c same within at =
+    let first : Some x ≡ slice_get cells p.own = cc in
+    sym first ∙ at
+fetched_at cells (x ∷ fetched) (p ∷ boxes) (suc k) d c same within at =
+    let rest : map Some fetched ≡ map (λ p. slice_get cells p.own) boxes = cc in
+    fetched_at cells fetched boxes k d c rest (omega (arith, within)) at
+
+-- what is known of each listed cell is known of the one at a number
+pub listed_there : (f : Frame) (cells : List (Listed (Bor (List ℕ)))) (own : ℕ) (c : Listed (List ℕ)) → All (λ x. IsListed f (named x)) cells → slice_get (map named cells) own ≡ Some c → IsListed f c
+listed_there f [] own c all at = absurd cc
+listed_there f (x ∷ cells) zero c all at =
+    let same : named x ≡ c = cc in
+    subst (IsListed f) same (All-head (λ y. IsListed f (named y)) x cells all)
+listed_there f (x ∷ cells) (suc own) c all at = listed_there f cells own c (All-tail (λ y. IsListed f (named y)) x cells all) at
+
+-- one more cell was fetched
+pub fetched_more : (cells fetched : List (Listed (List ℕ))) (boxes : List Placed) (k : ℕ) (d : Placed) (c : Listed (List ℕ)) → k < length boxes → slice_get cells (get_or boxes k d).own ≡ Some c →
+    map Some fetched ++ map (λ p. slice_get cells p.own) (drop k boxes) ≡ map (λ p. slice_get cells p.own) boxes →
+    map Some (fetched ++ c ∷ []) ++ map (λ p. slice_get cells p.own) (drop (k + 1) boxes) ≡ map (λ p. slice_get cells p.own) boxes
+fetched_more cells fetched boxes k d c within there so_far =
+    let next : suc k ≡ k + 1 = omega arith in
+    let cut : drop k boxes ≡ get_or boxes k d ∷ drop (k + 1) boxes = subst (λ (n : ℕ). drop k boxes ≡ get_or boxes k d ∷ drop n boxes) next (drop-cons boxes k d within) in
+    let behind : List (Option (Listed (List ℕ))) = map (λ p. slice_get cells p.own) (drop (k + 1) boxes) in
+    let step : map (λ p. slice_get cells p.own) (drop k boxes) ≡ Some c ∷ behind =
+    ap (map (λ p. slice_get cells p.own)) cut ∙ ap (λ (o : Option (Listed (List ℕ))). o ∷ behind) there in
+    let grown : map Some (fetched ++ c ∷ []) ++ behind ≡ map Some fetched ++ Some c ∷ behind =
+    ap (λ (x : List (Option (Listed (List ℕ)))). x ++ behind) (map-append Some fetched (c ∷ [])) ∙ append_assoc (map Some fetched) (Some c ∷ []) behind in
+    grown ∙ ap (λ (x : List (Option (Listed (List ℕ)))). map Some fetched ++ x) (sym step) ∙ so_far
+
+-- ---- the verdicts of all boxes so far
+
+-- the cells of the first k boxes have their verdict, and the others have it or none yet
+pub record HaveVerdicts (l : Legalizer) (f : Frame) (cells : List (Listed (List ℕ))) (boxes : List Placed) (k : ℕ) (verdicts : List (Option Broken)) : Type 0 where
+  pub some : AreSomeVerdicts l f cells verdicts
+  pub done : (j : ℕ) (d : Placed) (c : Listed (List ℕ)) → j < k → slice_get cells (get_or boxes j d).own ≡ Some c →
+      verdict_at verdicts (get_or boxes j d).own ≡ broken_among l f cells (get_or boxes j d).own c
+
+pub one_more : (l : Legalizer) (f : Frame) (cells : List (Listed (List ℕ))) (boxes : List Placed) (k : ℕ) (e : Placed) (old new : List (Option Broken)) → k < length boxes →
+    HaveVerdicts l f cells boxes k old → PutsVerdict l f cells (get_or boxes k e).own old new → HaveVerdicts l f cells boxes (k + 1) new
+one_more l f cells boxes k e old new within have puts = record {
+  some = puts.some;
+  done = λ j d c below at.
+      let cases : (j < k) ⊎ (j ≡ k) = grind arith in
+      elim cases [
+        | inl less ↦ puts.kept (get_or boxes j d).own c at (have.done j d c less at)
+        | inr same ↦
+            let one : get_or boxes j d ≡ get_or boxes k e = subst (λ (m : ℕ). get_or boxes m d ≡ get_or boxes k e) (sym same) (get_or_default boxes k d e within) in
+            subst (λ (p : Placed). slice_get cells p.own ≡ Some c → verdict_at new p.own ≡ broken_among l f cells p.own c) (sym one) (puts.put c) at
+      ];
+}
+
+-- where all boxes are done, each cell has its verdict: an unplaced one breaks no rule
+pub all_done : (l : Legalizer) (f : Frame) (cells : List (Listed (List ℕ))) (boxes : List Placed) (verdicts : List (Option Broken)) → IsPermutation (boxes_from f 0 (map member_of cells)) boxes →
+    HaveVerdicts l f cells boxes (length boxes) verdicts → AreVerdicts l f cells verdicts
+all_done l f cells boxes verdicts same have = record { count = have.some.count; each = λ own c at. by own c at c.place refl }
+  where
+    by : (own : ℕ) (c : Listed (List ℕ)) → slice_get cells own ≡ Some c → (place : Option Place) → c.place ≡ place → verdict_at verdicts own ≡ broken_among l f cells own c
+    by own c at None unplaced =
+        let nothing : broken_among l f cells own c ≡ None = ap (λ (o : Option Place). option_and_then (λ p. l.first_broken (trial_among f cells own c p)) o) unplaced in
+        elim (have.some.each own c at) [
+          | inl none ↦ none ∙ sym nothing
+          | inr right ↦ right
+        ]
+    by own c at (Some p) placed =
+        let m : Member = member_of c in
+        let there : slice_get (map member_of cells) own ≡ Some m = slice_get-map member_of cells own ∙ ap (option_map member_of) at in
+        let stands : m.place ≡ Some (spot_of p) = ap (option_map spot_of) placed in
+        let number : 0 + own ≡ own = omega arith in
+        let box : Placed = record { own = own; rect = box_in f m.mac (spot_of p) } in
+        let listed : Contains (boxes_from f 0 (map member_of cells)) box =
+        subst (λ (i : ℕ). Contains (boxes_from f 0 (map member_of cells)) (record { own = i; rect = box_in f m.mac (spot_of p) })) number (box_there f 0 (map member_of cells) own m (spot_of p) there stands) in
+        let among : Contains boxes box = Contains-permutation (boxes_from f 0 (map member_of cells)) boxes box same listed in
+        subst (λ (q : Placed). slice_get cells q.own ≡ Some c → verdict_at verdicts q.own ≡ broken_among l f cells q.own c) among.2 (have.done among.0 box c among.1) at
+
+-- none has a verdict before the first box
+pub none_yet : (l : Legalizer) (f : Frame) (cells : List (Listed (List ℕ))) (boxes : List Placed) (verdicts : List (Option Broken)) → length verdicts ≡ length cells →
+    ((own : ℕ) → verdict_at verdicts own ≡ None) → HaveVerdicts l f cells boxes 0 verdicts
+none_yet l f cells boxes verdicts count none = record {
+  some = record { count = count; each = λ own c at. inl (none own) };
+  done = λ j d c below at. absurd (omega (arith, below));
+}
+
+-- one more place without a verdict
+pub none_more : (verdicts : List (Option Broken)) → ((own : ℕ) → verdict_at verdicts own ≡ None) → (own : ℕ) → verdict_at (verdicts ++ None ∷ []) own ≡ None
+none_more [] none zero = refl
+none_more [] none (suc own) = refl
+none_more (v ∷ verdicts) none zero = none 0
+none_more (v ∷ verdicts) none (suc own) = none_more verdicts (λ n. none (suc n)) own

@@ -1,0 +1,13 @@
+use Rattle.std.proofs.Common.{sym, subst}
+use Rattle.std.specs.Prelude.{IsPermutation}
+use Rattle.std.proofs.lemmas.List.Sorted.{IsPermutation-trans}
+use Rattle.lf_rules.specs.Team.{boxes_from}
+use Rattle.lf_reports.proofs.report.indexed.Goals as goal
+
+pub returns-clause-search : goal.returns-clause-search
+returns-clause-search c = λ cells same.
+    let all = boxes_from c.args.frame.now 0 cells in (
+      c.in_ok-index.ensures,
+      subst (IsPermutation all) (sym c.in_ok-boxes.ensures.tree) (IsPermutation-trans all c.args.boxes.now _ same c.in_ok-boxes.ensures.same),
+      c.in_ok-window.ensures c.args.frame.now c.in_ok-index.ensures,
+    )

@@ -1,0 +1,2 @@
+pub mod Nearby
+pub mod Reports

@@ -1,0 +1,13 @@
+//! Reports: which cells of a list break a rule where they stand, found by what lies near each.
+#![tactic(auto)]
+
+mod frame_index;
+mod laws;
+mod near;
+mod report;
+mod search;
+mod window;
+
+pub use laws::clean_is_legal;
+pub use lf_rules::{Listed, Report, Violation};
+pub use report::{check_all, check_all_pairs, report_on};

@@ -1,0 +1,477 @@
+//! Reports: how many cells there are, how many of them are unplaced, and which break a rule where they stand.
+
+ghost use Rattle.std.specs.Prelude.{◌≡◌, ◌↔◌, ◌<◌, ◌≤◌, ◌++◌, [], All, IfOk, OnOk, None, Some, ℕ, List, IsPermutation, is_none, slice_get, count_by, length, map, option_and_then};
+ghost use Rattle.std.specs.List.{cons_option};
+ghost use Rattle.lf_floorplan.specs.Boxes.{IsSized, macro_of};
+ghost use Rattle.lf_rules.specs.Legalizer.{IsVerdict, Legalizer};
+ghost use Rattle.lf_rules.specs.FullyLegal.{IsFullyLegal, standing_at};
+ghost use Rattle.lf_rules.specs.Reports.{IsClean, IsTold};
+ghost use Rattle.lf_reports.specs.Reports.{IsListed, broken_among, listed_at, member_of, name_among, named, report_of, standing_of, trial_among, AreSomeVerdicts, IsPut, AreVerdicts, PutsVerdict, verdict_at, violation_at, violation_of, violations_in};
+ghost use Rattle.lf_reports.specs.Nearby.{IsSearchOf};
+ghost use Rattle.lf_rules.specs.Team.{Member, boxes_beside, boxes_from, with_box};
+
+use crate::frame_index::index_of;
+use crate::search::{Search, broken_beside};
+use crate::window::Window;
+use lf_floorplan::{Cell, Frame, Loaded, Macro, Place, cell_is_sized};
+use lf_rtree::{Placed, RTree};
+use lf_rules::{
+    Broken, Listed, Report, Rule, Violation, box_of, first_broken, legalizer_is_there,
+    verdict_is_one,
+};
+use lf_units::{Name, Sequence};
+use std::alloc::{AllocError, Global};
+
+/// The macro of a cell.
+fn macro_in<'a>(frame: &'a Frame, cell: &Listed<&[u8]>) -> &'a Macro
+    requires { IsListed frame.now (named cell.now) }
+    ensures mac { result.now ≡ macro_of frame.now cell.now.mac }
+    ensures sized { IsSized frame.now result.now }
+{
+    &frame.macros.as_slice()[cell.mac]
+}
+
+/// Puts the box of the cell behind the others, where it is placed; `own` is the cell's number.
+fn push_box(
+    others: &mut Vec<Placed>,
+    frame: &Frame,
+    cell: &Listed<&[u8]>,
+    own: u32,
+) -> Result<(), AllocError>
+    requires { IsListed frame.now (named cell.now) }
+    ensures { OnOk result (others.new.items ≡ others.old.items ++ with_box frame.now own cell.now.mac (member_of (named cell.now)).place []) }
+{
+    if let Some(place) = cell.place {
+        others.push(Placed {
+            own,
+            rect: box_of(frame, macro_in(frame, cell), &place),
+        })?;
+    }
+    Ok(())
+}
+
+/// The boxes of the placed cells but the one of that number, in their order.
+fn boxes_but(
+    alloc: Global,
+    frame: &Frame,
+    cells: &[Listed<&[u8]>],
+    own: usize,
+) -> Result<Vec<Placed>, AllocError>
+    requires listed { All (λ c. IsListed frame.now (named c)) cells.now }
+    requires few { length cells.now ≤ 4000000 }
+    ensures { IfOk result (λ others. others.items ≡ boxes_beside frame.now (map member_of (map named cells.now)) own) }
+{
+    let mut others = Vec::new(alloc);
+    for (number, cell) in cells.iter().enumerate() {
+        if number != own {
+            push_box(&mut others, frame, cell, number as u32)?;
+        }
+    }
+    Ok(others)
+}
+
+/// The first rule that the cell of that number breaks at the place, beside the other placed cells.
+fn broken_at(
+    alloc: Global,
+    frame: &Frame,
+    search: &Search,
+    cells: &[Listed<&[u8]>],
+    own: usize,
+    cell: &Listed<&[u8]>,
+    place: &Place,
+) -> Result<Option<Broken>, AllocError>
+    requires listed { All (λ c. IsListed frame.now (named c)) cells.now }
+    requires few { length cells.now ≤ 4000000 }
+    requires this { IsListed frame.now (named cell.now) }
+    requires within { own < length cells.now }
+    requires search { IsSearchOf frame.now (map member_of (map named cells.now)) search.now }
+    ensures { IfOk result (λ broken. IsVerdict (trial_among frame.now (map named cells.now) own (named cell.now) place.now) broken) }
+{
+    let mac = macro_in(frame, cell);
+    match search {
+        Search::Plain => {
+            let others = boxes_but(alloc, frame, cells, own)?;
+            Ok(first_broken(frame, cell.team, mac, place, &others))
+        }
+        Search::Indexed(index, boxes, window) => broken_beside(
+            alloc, frame, index, boxes, window, cell.team, mac, place, own as u32,
+        ),
+    }
+}
+
+/// The first rule that the cell of that number breaks where it stands, beside the other placed cells.
+fn broken_in(
+    alloc: Global,
+    frame: &Frame,
+    search: &Search,
+    cells: &[Listed<&[u8]>],
+    own: usize,
+    cell: &Listed<&[u8]>,
+) -> Result<Option<Broken>, AllocError>
+    requires listed { All (λ c. IsListed frame.now (named c)) cells.now }
+    requires few { length cells.now ≤ 4000000 }
+    requires this { IsListed frame.now (named cell.now) }
+    requires within { own < length cells.now }
+    requires search { IsSearchOf frame.now (map member_of (map named cells.now)) search.now }
+    ensures { IfOk result (λ broken. (l : Legalizer) → broken ≡ broken_among l frame.now (map named cells.now) own (named cell.now)) }
+{
+    verdict_is_one();
+    let Some(place) = cell.place else {
+        return Ok(None);
+    };
+    let broken = broken_at(alloc, frame, search, cells, own, cell, &place)?;
+    Ok(broken)
+}
+
+/// A copy of the name of the cell of that number.
+fn name_in(alloc: Global, cells: &[Listed<&[u8]>], own: u32) -> Result<Option<Name>, AllocError>
+    ensures { IfOk result (λ name. name ≡ name_among (map named cells.now) own) }
+{
+    match cells.get(own as usize) {
+        Some(cell) => Ok(Some(Name::from_slice(alloc, cell.name)?)),
+        None => Ok(None),
+    }
+}
+
+/// A copy of the name of the other cell, where there is another.
+fn other_name(
+    alloc: Global,
+    cells: &[Listed<&[u8]>],
+    other: Option<u32>,
+) -> Result<Option<Name>, AllocError>
+    ensures { IfOk result (λ name. name ≡ option_and_then (name_among (map named cells.now)) other) }
+{
+    match other {
+        Some(own) => name_in(alloc, cells, own),
+        None => Ok(None),
+    }
+}
+
+/// The violation of a cell that breaks this rule first.
+fn violation_of(
+    alloc: Global,
+    cells: &[Listed<&[u8]>],
+    cell: &Listed<&[u8]>,
+    broken: Broken,
+) -> Result<Violation, AllocError>
+    ensures { IfOk result (λ violation. violation ≡ violation_of (map named cells.now) (named cell.now) broken) }
+{
+    let other = other_name(alloc, cells, broken.other)?;
+    Ok(Violation {
+        cell: Name::from_slice(alloc, cell.name)?,
+        rule: broken.rule,
+        other,
+    })
+}
+
+/// No verdict yet for each of so many cells.
+fn no_verdicts(alloc: Global, count: usize) -> Result<Vec<Option<Broken>>, AllocError>
+    ensures count { IfOk result (λ verdicts. length verdicts.items ≡ count) }
+    ensures none { IfOk result (λ verdicts. (own : ℕ) → verdict_at verdicts.items own ≡ None) }
+{
+    let mut verdicts = Vec::with_capacity(alloc, count)?;
+    for _ in 0..count {
+        verdicts.push(None)?;
+    }
+    Ok(verdicts)
+}
+
+/// Sets the verdict of that number, where it says that a rule is broken.
+fn put(verdicts: &mut Vec<Option<Broken>>, own: usize, verdict: Option<Broken>)
+    requires { own < length verdicts.old.items }
+    ensures { IsPut own verdict verdicts.old.items verdicts.new.items }
+{
+    match verdict {
+        Some(_) => verdicts[own] = verdict,
+        None => {}
+    }
+}
+
+/// Sets the verdict of the cell of that number.
+fn put_verdict(
+    alloc: Global,
+    frame: &Frame,
+    search: &Search,
+    cells: &[Listed<&[u8]>],
+    own: usize,
+    cell: &Listed<&[u8]>,
+    verdicts: &mut Vec<Option<Broken>>,
+) -> Result<(), AllocError>
+    requires listed { All (λ c. IsListed frame.now (named c)) cells.now }
+    requires few { length cells.now ≤ 4000000 }
+    requires this { IsListed frame.now (named cell.now) }
+    requires there { slice_get (map named cells.now) own ≡ Some (named cell.now) }
+    requires within { own < length cells.now }
+    requires search { IsSearchOf frame.now (map member_of (map named cells.now)) search.now }
+    requires count { length verdicts.old.items ≡ length cells.now }
+    ensures count { OnOk result (length verdicts.new.items ≡ length cells.now) }
+    ensures put { (l : Legalizer) → OnOk result (AreSomeVerdicts l frame.now (map named cells.now) verdicts.old.items → PutsVerdict l frame.now (map named cells.now) own verdicts.old.items verdicts.new.items) }
+{
+    let verdict = broken_in(alloc, frame, search, cells, own, cell)?;
+    put(verdicts, own, verdict);
+    Ok(())
+}
+
+/// The cells of these boxes, in the boxes' order. They are fetched in a pass of their own, in which one waits for
+/// the memory while the next are on their way.
+fn fetch<'a>(
+    alloc: Global,
+    cells: &[Listed<&'a [u8]>],
+    boxes: &[Placed],
+) -> Result<Vec<Listed<&'a [u8]>>, AllocError>
+    requires { All (λ p. p.own < length cells.now) boxes.now }
+    ensures { IfOk result (λ fetched. map Some (map named fetched.items) ≡ map (λ p. slice_get (map named cells.now) p.own) boxes.now) }
+{
+    let mut fetched = Vec::with_capacity(alloc, boxes.len())?;
+    for placed in boxes {
+        fetched.push(cells[placed.own as usize])?;
+    }
+    Ok(fetched)
+}
+
+/// The verdict of each cell, found in the order of these boxes of the placed cells: cells that lie side by side
+/// are looked at one after another.
+fn verdicts_in(
+    alloc: Global,
+    frame: &Frame,
+    search: &mut Search,
+    cells: &[Listed<&[u8]>],
+    boxes: &[Placed],
+) -> Result<Vec<Option<Broken>>, AllocError>
+    requires listed { All (λ c. IsListed frame.now (named c)) cells.now }
+    requires few { length cells.now ≤ 4000000 }
+    requires search { IsSearchOf frame.now (map member_of (map named cells.now)) search.old }
+    requires boxes { IsPermutation (boxes_from frame.now 0 (map member_of (map named cells.now))) boxes.now }
+    ensures count { IfOk result (λ verdicts. length verdicts.items ≡ length cells.now) }
+    ensures each { (l : Legalizer) → IfOk result (λ verdicts. AreVerdicts l frame.now (map named cells.now) verdicts.items) }
+{
+    let fetched = fetch(alloc, cells, boxes)?;
+    let mut verdicts = no_verdicts(alloc, cells.len())?;
+    for (number, placed) in boxes.iter().enumerate() {
+        search.move_to(boxes, number)?;
+        let own = placed.own as usize;
+        let cell = &fetched[number];
+        put_verdict(alloc, frame, search, cells, own, cell, &mut verdicts)?;
+    }
+    Ok(verdicts)
+}
+
+/// Puts the violation of the cell of that number behind the others, where it breaks a rule.
+fn push_violation(
+    alloc: Global,
+    cells: &[Listed<&[u8]>],
+    verdicts: &[Option<Broken>],
+    own: usize,
+    violations: &mut Vec<Violation>,
+) -> Result<(), AllocError>
+    requires within { own < length cells.now }
+    requires count { length verdicts.now ≡ length cells.now }
+    ensures { (l : Legalizer) (f : Frame) → AreVerdicts l f (map named cells.now) verdicts.now → OnOk result (violations.new.items ≡ violations.old.items ++ cons_option (violation_at l f (map named cells.now) own) []) }
+{
+    let cell = &cells[own];
+    match verdicts[own] {
+        Some(broken) => {
+            violations.push(violation_of(alloc, cells, cell, broken)?)?;
+            Ok(())
+        }
+        None => Ok(()),
+    }
+}
+
+/// The violations of the listed cells, in their order.
+fn violations_in(
+    alloc: Global,
+    cells: &[Listed<&[u8]>],
+    verdicts: &[Option<Broken>],
+) -> Result<Vec<Violation>, AllocError>
+    requires { length verdicts.now ≡ length cells.now }
+    ensures { (l : Legalizer) (f : Frame) → AreVerdicts l f (map named cells.now) verdicts.now → IfOk result (λ violations. violations.items ≡ violations_in l f (map named cells.now)) }
+{
+    let mut violations = Vec::new(alloc);
+    for own in 0..cells.len() {
+        push_violation(alloc, cells, verdicts, own, &mut violations)?;
+    }
+    Ok(violations)
+}
+
+/// How many of the cells are unplaced.
+fn unplaced_in(cells: &[Listed<&[u8]>]) -> usize
+    ensures { result ≡ count_by (λ c. is_none c.place) (map named cells.now) }
+{
+    cells.iter().filter(|cell| cell.place.is_none()).count()
+}
+
+/// The report of these cells, by this search and in the order of these boxes.
+fn report_by(
+    alloc: Global,
+    frame: &Frame,
+    search: &mut Search,
+    cells: &[Listed<&[u8]>],
+    boxes: &[Placed],
+) -> Result<Report, AllocError>
+    requires listed { All (λ c. IsListed frame.now (named c)) cells.now }
+    requires few { length cells.now ≤ 4000000 }
+    requires search { IsSearchOf frame.now (map member_of (map named cells.now)) search.old }
+    requires boxes { IsPermutation (boxes_from frame.now 0 (map member_of (map named cells.now))) boxes.now }
+    ensures report { (l : Legalizer) → IfOk result (λ report. report ≡ report_of l frame.now (map named cells.now)) }
+    ensures legal { IfOk result (λ report. IsClean report ↔ IsFullyLegal frame.now (map standing_of (map named cells.now))) }
+    ensures told { IfOk result (λ report. All IsTold report.violations) }
+{
+    legalizer_is_there();
+    let verdicts = verdicts_in(alloc, frame, search, cells, boxes)?;
+    let violations = violations_in(alloc, cells, &verdicts)?;
+    Ok(Report {
+        cells: cells.len(),
+        unplaced: unplaced_in(cells),
+        violations: Sequence::from_vec(violations),
+    })
+}
+
+/// The boxes of the placed cells, by the cells' numbers.
+fn boxes_in(
+    alloc: Global,
+    frame: &Frame,
+    cells: &[Listed<&[u8]>],
+) -> Result<Vec<Placed>, AllocError>
+    requires listed { All (λ c. IsListed frame.now (named c)) cells.now }
+    requires few { length cells.now ≤ 4000000 }
+    ensures { IfOk result (λ boxes. boxes.items ≡ boxes_from frame.now 0 (map member_of (map named cells.now))) }
+{
+    let mut boxes = Vec::with_capacity(alloc, cells.len())?;
+    for (number, cell) in cells.iter().enumerate() {
+        push_box(&mut boxes, frame, cell, number as u32)?;
+    }
+    Ok(boxes)
+}
+
+/// The search that finds what lies near a cell without a look at all of the frame and of the cells, whose boxes are
+/// put into the order in which they lie.
+fn indexed(alloc: Global, frame: &Frame, boxes: &mut [Placed]) -> Result<Search, AllocError>
+    ensures same { IsPermutation boxes.old boxes.new }
+    ensures search { (cells : List Member) → IsPermutation (boxes_from frame.now 0 cells) boxes.old → IfOk result (λ search. IsSearchOf frame.now cells search) }
+{
+    let boxes = RTree::build(alloc, boxes)?;
+    let index = index_of(alloc, frame)?;
+    let window = Window::new(alloc, &index)?;
+    Ok(Search::Indexed(index, boxes, window))
+}
+
+/// What the rules are tested against for each cell.
+#[derive(Clone, Copy)]
+enum Against {
+    /// All rows, fences and obstacles, and all other cells.
+    All,
+    /// What lies near the cell.
+    Near,
+}
+
+/// The report of these cells, in which overlap is between any two of them.
+fn report_against(
+    alloc: Global,
+    frame: &Frame,
+    cells: &[Listed<&[u8]>],
+    against: Against,
+) -> Result<Report, AllocError>
+    requires listed { All (λ c. IsListed frame.now (named c)) cells.now }
+    requires few { length cells.now ≤ 4000000 }
+    ensures report { (l : Legalizer) → IfOk result (λ report. report ≡ report_of l frame.now (map named cells.now)) }
+    ensures legal { IfOk result (λ report. IsClean report ↔ IsFullyLegal frame.now (map standing_of (map named cells.now))) }
+    ensures told { IfOk result (λ report. All IsTold report.violations) }
+{
+    let mut boxes = boxes_in(alloc, frame, cells)?;
+    match against {
+        Against::All => report_by(alloc, frame, &mut Search::Plain, cells, &boxes),
+        Against::Near => {
+            let mut search = indexed(alloc, frame, boxes.as_mut_slice())?;
+            report_by(alloc, frame, &mut search, cells, &boxes)
+        }
+    }
+}
+
+/// The report of these cells, in which overlap is between any two of them.
+///
+/// The report of a team is that of its own cells, and the report of a design that of the cells of all teams. A
+/// cell is compared only with what lies near it. `Err` where memory is refused.
+pub fn report_on(
+    alloc: Global,
+    frame: &Frame,
+    cells: &[Listed<&[u8]>],
+) -> Result<Report, AllocError>
+    requires listed { All (λ c. IsListed frame.now (named c)) cells.now }
+    requires few { length cells.now ≤ 4000000 }
+    ensures report { (l : Legalizer) → IfOk result (λ report. report ≡ report_of l frame.now (map named cells.now)) }
+    ensures legal { IfOk result (λ report. IsClean report ↔ IsFullyLegal frame.now (map standing_of (map named cells.now))) }
+    ensures told { IfOk result (λ report. All IsTold report.violations) }
+{
+    report_against(alloc, frame, cells, Against::Near)
+}
+
+/// The cells of a design at these places.
+fn listed_cells<'a>(
+    alloc: Global,
+    cells: &'a [Cell],
+    places: &[Option<Place>],
+) -> Result<Vec<Listed<&'a [u8]>>, AllocError>
+    requires { length places.now ≡ length cells.now }
+    ensures { IfOk result (λ listed. map named listed.items ≡ listed_at cells.now places.now) }
+{
+    let mut listed = Vec::with_capacity(alloc, cells.len())?;
+    for (own, cell) in cells.iter().enumerate() {
+        listed.push(Listed {
+            name: cell.name.as_bytes(),
+            team: cell.team,
+            mac: cell.mac,
+            place: places[own],
+        })?;
+    }
+    Ok(listed)
+}
+
+/// The report of a design whose movable cells stand at these places.
+fn check_against(
+    alloc: Global,
+    loaded: &Loaded,
+    places: &[Option<Place>],
+    against: Against,
+) -> Result<Report, AllocError>
+    requires { length places.now ≡ length loaded.now.cells }
+    ensures report { (l : Legalizer) → IfOk result (λ report. report ≡ report_of l loaded.now.frame (listed_at loaded.now.cells places.now)) }
+    ensures legal { IfOk result (λ report. IsClean report ↔ IsFullyLegal loaded.now.frame (standing_at loaded.now.cells places.now)) }
+    ensures told { IfOk result (λ report. All IsTold report.violations) }
+{
+    cell_is_sized();
+    let cells = listed_cells(alloc, loaded.cells.as_slice(), places)?;
+    report_against(alloc, &loaded.frame, &cells, against)
+}
+
+/// The report of a design whose movable cells stand at these places, one for each cell in loading order; overlap
+/// is between cells of any teams.
+///
+/// A cell is compared only with what lies near it. `Err` where memory is refused.
+pub fn check_all(
+    alloc: Global,
+    loaded: &Loaded,
+    places: &[Option<Place>],
+) -> Result<Report, AllocError>
+    requires { length places.now ≡ length loaded.now.cells }
+    ensures report { (l : Legalizer) → IfOk result (λ report. report ≡ report_of l loaded.now.frame (listed_at loaded.now.cells places.now)) }
+    ensures legal { IfOk result (λ report. IsClean report ↔ IsFullyLegal loaded.now.frame (standing_at loaded.now.cells places.now)) }
+    ensures told { IfOk result (λ report. All IsTold report.violations) }
+{
+    check_against(alloc, loaded, places, Against::Near)
+}
+
+/// The report of `check_all` by the plain search: each two cells are compared, and each cell with every row, fence
+/// and obstacle. `Err` where memory is refused.
+pub fn check_all_pairs(
+    alloc: Global,
+    loaded: &Loaded,
+    places: &[Option<Place>],
+) -> Result<Report, AllocError>
+    requires { length places.now ≡ length loaded.now.cells }
+    ensures report { (l : Legalizer) → IfOk result (λ report. report ≡ report_of l loaded.now.frame (listed_at loaded.now.cells places.now)) }
+    ensures legal { IfOk result (λ report. IsClean report ↔ IsFullyLegal loaded.now.frame (standing_at loaded.now.cells places.now)) }
+    ensures told { IfOk result (λ report. All IsTold report.violations) }
+{
+    check_against(alloc, loaded, places, Against::All)
+}

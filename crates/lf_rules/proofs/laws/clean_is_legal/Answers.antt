@@ -1,5 +1,0 @@
-use Rattle.lf_rules.proofs.CleanLemmas.{clean_is_legal}
-use Rattle.lf_rules.proofs.laws.clean_is_legal.Goals as goal
-
-pub returns : goal.returns
-returns c l f cells all = clean_is_legal l f cells all
