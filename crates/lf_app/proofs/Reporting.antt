@@ -28,7 +28,8 @@ pub record LooksOnly (s : TeamState) (order : Order (List ℕ) Place) (o : Outco
   pub kept : o.team ≡ s
   pub takes : takes_memory order ≡ true
 
-report_looks : (t : Setting) (order : Order (List ℕ) Place) (s : TeamState) → is_report (outcome_of t order s).reply ≡ true → LooksOnly s order (outcome_of t order s)
+report_looks : (t : Setting) (order : Order (List ℕ) Place) (s : TeamState) → is_report (outcome_of t order s).reply ≡ true
+    → LooksOnly s order (outcome_of t order s)
 report_looks t order s = order_by t s (λ v o. is_report o.reply ≡ true → LooksOnly s v o) (record {
   refusal = λ v r plain e. absurd (false≢true e);
   opens = λ session free e. absurd (false≢true e);

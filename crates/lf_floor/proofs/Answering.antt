@@ -58,7 +58,8 @@ unfolding answer_of
 answer_plain l floor Bye = refl
 answer_plain l floor (To name order) = at_plain l floor order (team_number floor.frame name)
 
-takes_some : (l : Legalizer) (old new : FloorState) (name : List ℕ) (order : Order (List ℕ) Place) → takes_memory order ≡ true → StaysShort (answer_of l old (To name order)) old new → RunsShort l old (To name order) new
+takes_some : (l : Legalizer) (old new : FloorState) (name : List ℕ) (order : Order (List ℕ) Place) → takes_memory order ≡ true
+    → StaysShort (answer_of l old (To name order)) old new → RunsShort l old (To name order) new
 takes_some l old new name order takes short = record {
   short = short;
   takes = λ none. false_true (sym none ∙ takes);

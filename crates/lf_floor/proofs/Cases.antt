@@ -188,17 +188,20 @@ module _ (t : Setting) (s : TeamState) (May : ℕ → Type 0) (P : Order (List �
 
   spent_by : (session : ℕ) (change : Change (List ℕ) Place) → (IsLeft t s → May session) → P (asking session change) (unless_spent t session change s)
   spent_by session change may = go (ltb s.revision t.frame.limits.revisions) refl where
-    go : (b : Bool) → ltb s.revision t.frame.limits.revisions ≡ b → P (asking session change) (cond b (outcome_of_change t session change s) (refused RevisionsSpent s))
+    go : (b : Bool) → ltb s.revision t.frame.limits.revisions ≡ b
+        → P (asking session change) (cond b (outcome_of_change t session change s) (refused RevisionsSpent s))
     go true left = change_by session (may (ltb-true s.revision t.frame.limits.revisions left)) change
     go false left = leaves.refusal _ RevisionsSpent refl
 
-  stale_by : (session seen : ℕ) (change : Change (List ℕ) Place) → (seen ≡ s.revision → IsLeft t s → May session) → P (asking session change) (unless_stale seen t session change s)
+  stale_by : (session seen : ℕ) (change : Change (List ℕ) Place) → (seen ≡ s.revision → IsLeft t s → May session)
+      → P (asking session change) (unless_stale seen t session change s)
   stale_by session seen change may = go (eqb seen s.revision) refl where
     go : (b : Bool) → eqb seen s.revision ≡ b → P (asking session change) (cond b (unless_spent t session change s) (refused (Stale s.revision) s))
     go true same = spent_by session change (may (eqb-true seen s.revision same))
     go false same = leaves.refusal _ (Stale s.revision) refl
 
-  session_by : (session seen : ℕ) (action : Action (List ℕ) Place) → (seen ≡ s.revision → IsLeft t s → May session) → P (Within session action) (outcome_within seen t session action s)
+  session_by : (session seen : ℕ) (action : Action (List ℕ) Place) → (seen ≡ s.revision → IsLeft t s → May session)
+      → P (Within session action) (outcome_within seen t session action s)
   unfolding closed synced
   session_by session seen Close may = leaves.closes session
   session_by session seen Sync may = leaves.syncs session
@@ -207,14 +210,16 @@ module _ (t : Setting) (s : TeamState) (May : ℕ → Type 0) (P : Order (List �
   session_by session seen (Find name target) may = found_by session name target
   session_by session seen (Changing change) may = stale_by session seen change may
 
-  slot_by : (session : ℕ) (action : Action (List ℕ) Place) (o : Option ℕ) → (o ≡ Some s.revision → IsLeft t s → May session) → P (Within session action) (outcome_by_slot o t session action s)
+  slot_by : (session : ℕ) (action : Action (List ℕ) Place) (o : Option ℕ) → (o ≡ Some s.revision → IsLeft t s → May session)
+      → P (Within session action) (outcome_by_slot o t session action s)
   slot_by session action None may = leaves.refusal _ NoSession refl
   slot_by session action (Some seen) may = session_by session seen action (λ same. may (ap (λ (n : ℕ). Some n) same))
 
   -- what holds of each of these holds of what a verb comes to
   pub verb_so : ((session : ℕ) → MayChange t session s → May session) → (order : Order (List ℕ) Place) → P order (outcome_of_verb t order s)
   verb_so may Open = opened_by
-  verb_so may (Within session action) = slot_by session action (seen_at s.slots session) (λ has_seen left. may session (record { seen = has_seen; left = left }))
+  verb_so may (Within session action) = slot_by session action (seen_at s.slots session)
+      (λ has_seen left. may session (record { seen = has_seen; left = left }))
 
   running_by : ((session : ℕ) → IsLeft t s → May session) → (order : Order (List ℕ) Place) → P order (outcome_running t order s)
   running_by may Open = opened_by
@@ -228,13 +233,16 @@ module _ (t : Setting) (s : TeamState) (May : ℕ → Type 0) (P : Order (List �
     go false = leaves.refusal order BadRequest refl
 
 -- of a verb that changes the session may
-pub verb_by : (t : Setting) (s : TeamState) (P : Order (List ℕ) Place → Outcome → Type 0) → Leaves t s (λ session. MayChange t session s) P → (order : Order (List ℕ) Place) → P order (outcome_of_verb t order s)
+pub verb_by : (t : Setting) (s : TeamState) (P : Order (List ℕ) Place → Outcome → Type 0) → Leaves t s (λ session. MayChange t session s) P
+    → (order : Order (List ℕ) Place) → P order (outcome_of_verb t order s)
 verb_by t s P leaves = verb_so t s (λ session. MayChange t session s) P leaves (λ session may. may)
 
 -- of an order that changes a revision is left
-pub order_by : (t : Setting) (s : TeamState) (P : Order (List ℕ) Place → Outcome → Type 0) → Leaves t s (λ session. IsLeft t s) P → (order : Order (List ℕ) Place) → P order (outcome_of t order s)
+pub order_by : (t : Setting) (s : TeamState) (P : Order (List ℕ) Place → Outcome → Type 0) → Leaves t s (λ session. IsLeft t s) P
+    → (order : Order (List ℕ) Place) → P order (outcome_of t order s)
 order_by t s P leaves = order_so t s (λ session. IsLeft t s) P leaves (λ session left. left)
 
 -- the same of a verb
-pub left_by : (t : Setting) (s : TeamState) (P : Order (List ℕ) Place → Outcome → Type 0) → Leaves t s (λ session. IsLeft t s) P → (order : Order (List ℕ) Place) → P order (outcome_of_verb t order s)
+pub left_by : (t : Setting) (s : TeamState) (P : Order (List ℕ) Place → Outcome → Type 0) → Leaves t s (λ session. IsLeft t s) P
+    → (order : Order (List ℕ) Place) → P order (outcome_of_verb t order s)
 left_by t s P leaves = verb_so t s (λ session. IsLeft t s) P leaves (λ session may. may.left)

@@ -249,7 +249,8 @@ record AreAlike (old new : List Cell) : Type 0 where
   names : map (λ c. c.name) new ≡ map (λ c. c.name) old
 
 -- a change to cells that are alike, with entries that are whole and few
-changed_team : (t : Setting) (s : TeamState) (session : ℕ) (cells : List Cell) (entries : List (List (Option Place))) → IsTeamOf t.frame s → IsLeft t s → AreAlike s.cells cells
+changed_team : (t : Setting) (s : TeamState) (session : ℕ) (cells : List Cell) (entries : List (List (Option Place))) → IsTeamOf t.frame s → IsLeft t s
+    → AreAlike s.cells cells
     → All (λ places. length places ≡ length s.cells) entries → length entries ≤ t.frame.limits.undo → IsTeamOf t.frame (changed session cells entries s).team
 changed_team t s session cells entries h left alike whole few =
     let long = same_length s.cells cells alike.macs in
@@ -268,7 +269,8 @@ changed_team t s session cells entries h left alike whole few =
     }
 
 -- the working places before the change are put in front of the entries
-recorded_team : (t : Setting) (s : TeamState) (session : ℕ) (cells : List Cell) → IsTeamOf t.frame s → IsLeft t s → AreAlike s.cells cells → IsTeamOf t.frame (recorded t session cells s).team
+recorded_team : (t : Setting) (s : TeamState) (session : ℕ) (cells : List Cell) → IsTeamOf t.frame s → IsLeft t s → AreAlike s.cells cells
+    → IsTeamOf t.frame (recorded t session cells s).team
 recorded_team t s session cells h left alike =
     let whole = λ (places : List (Option Place)). length places ≡ length s.cells in
     let newest : length (places_of s.cells) ≡ length s.cells = length-map s.cells (λ (c : Cell). c.working) in
@@ -277,7 +279,8 @@ recorded_team t s session cells h left alike =
     (omega (arith, length-take t.frame.limits.undo (places_of s.cells ∷ s.entries)))
 
 -- one slot is written, with a revision that is past
-with_slot_team : (t : Setting) (s : TeamState) (session : ℕ) (seen : Option ℕ) → IfSome seen (λ n. n ≤ s.revision) → IsTeamOf t.frame s → IsTeamOf t.frame (with_slot session seen s)
+with_slot_team : (t : Setting) (s : TeamState) (session : ℕ) (seen : Option ℕ) → IfSome seen (λ n. n ≤ s.revision) → IsTeamOf t.frame s
+    → IsTeamOf t.frame (with_slot session seen s)
 with_slot_team t s session seen past h = record {
   sized = h.sized;
   printed = h.printed;
@@ -291,16 +294,28 @@ with_slot_team t s session seen past h = record {
 }
 
 alike_moved : (cells : List Cell) (own : ℕ) (place : Option Place) → AreAlike cells (moved cells own place)
-alike_moved cells own place = record { macs = moved_part (λ c. c.mac) (λ c p. refl) cells own place; names = moved_part (λ c. c.name) (λ c p. refl) cells own place }
+alike_moved cells own place = record {
+  macs = moved_part (λ c. c.mac) (λ c p. refl) cells own place;
+  names = moved_part (λ c. c.name) (λ c p. refl) cells own place;
+}
 
 alike_restored : (places : List (Option Place)) (cells : List Cell) → AreAlike cells (restored places cells)
-alike_restored places cells = record { macs = restored_part (λ c. c.mac) (λ c p. refl) places cells; names = restored_part (λ c. c.name) (λ c p. refl) places cells }
+alike_restored places cells = record {
+  macs = restored_part (λ c. c.mac) (λ c p. refl) places cells;
+  names = restored_part (λ c. c.name) (λ c p. refl) places cells;
+}
 
 alike_exchanged : (cells : List Cell) (first second : ℕ) → AreAlike cells (exchanged cells first second)
-alike_exchanged cells first second = record { macs = exchanged_part (λ c. c.mac) (λ c p. refl) cells first second; names = exchanged_part (λ c. c.name) (λ c p. refl) cells first second }
+alike_exchanged cells first second = record {
+  macs = exchanged_part (λ c. c.mac) (λ c p. refl) cells first second;
+  names = exchanged_part (λ c. c.name) (λ c p. refl) cells first second;
+}
 
 alike_back : (cells : List Cell) → AreAlike cells (map back_to_committed cells)
-alike_back cells = record { macs = back_part (λ c. c.mac) (λ c p. refl) cells; names = back_part (λ c. c.name) (λ c p. refl) cells }
+alike_back cells = record {
+  macs = back_part (λ c. c.mac) (λ c p. refl) cells;
+  names = back_part (λ c. c.name) (λ c p. refl) cells;
+}
 
 -- the entries behind the newest one are whole and few
 older : (t : Setting) (s : TeamState) (old : List (Option Place)) (entries : List (List (Option Place))) → s.entries ≡ old ∷ entries → IsTeamOf t.frame s
@@ -323,8 +338,11 @@ stays_one t s h = record {
   tidies = λ session count members left e. recorded_team t s session _ h left (alike_restored (places_in members) s.cells);
   unplaces = λ session own name left named. recorded_team t s session _ h left (alike_moved s.cells own None);
   swaps = λ session first second name other p q left named named' at at' e e'. recorded_team t s session _ h left (alike_exchanged s.cells first second);
-  undoes = λ session old entries left e. let rest = older t s old entries e h in changed_team t s session _ entries h left (alike_restored old s.cells) rest.0 rest.1;
-  commits = λ session left u b. changed_team t s session _ s.entries h left (record { macs = committed_macs s.cells; names = committed_names s.cells }) h.whole_entries h.few_entries;
+  undoes = λ session old entries left e.
+      let rest = older t s old entries e h in
+      changed_team t s session _ entries h left (alike_restored old s.cells) rest.0 rest.1;
+  commits = λ session left u b. changed_team t s session _ s.entries h left
+      (record { macs = committed_macs s.cells; names = committed_names s.cells }) h.whole_entries h.few_entries;
   reverts = λ session left. recorded_team t s session _ h left (alike_back s.cells);
 }
 

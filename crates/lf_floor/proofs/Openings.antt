@@ -98,7 +98,8 @@ opened_team design number =
       printed = All-map (λ (c : Cell). IsName c.name) opening_cell own (All-filter (λ (c : LoadedCell). eqb c.team number) (λ (c : LoadedCell). IsName c.name) design.cells (λ i d within. (design.cells_known i d within).name_printed));
       names_differ =
           pairs_map (λ (c : Cell). c.name) (λ a b. a ≢ b) (map opening_cell own)
-          (pairs_map opening_cell (λ (a : Cell) (b : Cell). a.name ≢ b.name) own (AllPairs-filter (λ (a : LoadedCell) (b : LoadedCell). a.name ≢ b.name) (λ (c : LoadedCell). eqb c.team number) design.cells design.names_differ));
+          (pairs_map opening_cell (λ (a : Cell) (b : Cell). a.name ≢ b.name) own
+          (AllPairs-filter (λ (a : LoadedCell) (b : LoadedCell). a.name ≢ b.name) (λ (c : LoadedCell). eqb c.team number) design.cells design.names_differ));
       few_cells = rw (length-map own opening_cell) (omega (arith, few, design.few_cells));
       few_slots = rw (length-replicate {A = Option ℕ} design.frame.limits.sessions None) design.frame.limits.allowed.sessions_within.most;
       whole_entries = λ i d within. absurd (omega (arith, within));

@@ -165,7 +165,8 @@ revert_leads t session other s accepted may =
 -- ---- verbs that run
 
 -- what an open session asks does not ask what it has seen, unless it is a change
-seen_alike : (t : Setting) (session seen : ℕ) (action : Action (List ℕ) Place) (s : TeamState) → (IsChange action → seen ≡ s.revision) → outcome_within s.revision t session action s ≡ outcome_within seen t session action s
+seen_alike : (t : Setting) (session seen : ℕ) (action : Action (List ℕ) Place) (s : TeamState) → (IsChange action → seen ≡ s.revision)
+    → outcome_within s.revision t session action s ≡ outcome_within seen t session action s
 seen_alike t session seen Close s same = refl
 seen_alike t session seen Sync s same = refl
 seen_alike t session seen Check s same = refl
@@ -173,12 +174,14 @@ seen_alike t session seen (Where cell) s same = refl
 seen_alike t session seen (Find cell target) s same = refl
 seen_alike t session seen (Changing change) s same = ap (λ (n : ℕ). outcome_within n t session (Changing change) s) (sym (same tt))
 
-slot_alike : (t : Setting) (session : ℕ) (action : Action (List ℕ) Place) (s : TeamState) (o : Option ℕ) → (IsChange action → (seen : ℕ) → o ≡ Some seen → seen ≡ s.revision)
+slot_alike : (t : Setting) (session : ℕ) (action : Action (List ℕ) Place) (s : TeamState) (o : Option ℕ)
+    → (IsChange action → (seen : ℕ) → o ≡ Some seen → seen ≡ s.revision)
     → outcome_by_slot (never_stale s.revision o) t session action s ≡ outcome_by_slot o t session action s
 slot_alike t session action s None has_seen = refl
 slot_alike t session action s (Some seen) has_seen = seen_alike t session seen action s (λ is. has_seen is seen refl)
 
-has_seen_of : (session : ℕ) (action : Action (List ℕ) Place) (s : TeamState) → HasSeen (Within session action) s → IsChange action → (seen : ℕ) → seen_at s.slots session ≡ Some seen → seen ≡ s.revision
+has_seen_of : (session : ℕ) (action : Action (List ℕ) Place) (s : TeamState) → HasSeen (Within session action) s → IsChange action → (seen : ℕ)
+    → seen_at s.slots session ≡ Some seen → seen ≡ s.revision
 has_seen_of session Close s has_seen is = absurd is
 has_seen_of session Sync s has_seen is = absurd is
 has_seen_of session Check s has_seen is = absurd is
@@ -190,5 +193,6 @@ running_as_verb : (t : Setting) (order : Order (List ℕ) Place) (s : TeamState)
 running_as_verb t Open s has_seen = refl
 running_as_verb t (Within session action) s has_seen = slot_alike t session action s (seen_at s.slots session) (has_seen_of session action s has_seen)
 
-pub order_as_verb : (t : Setting) (order : Order (List ℕ) Place) (s : TeamState) → runs order ≡ true → HasSeen order s → outcome_of t order s ≡ outcome_of_verb t order s
+pub order_as_verb : (t : Setting) (order : Order (List ℕ) Place) (s : TeamState) → runs order ≡ true → HasSeen order s
+    → outcome_of t order s ≡ outcome_of_verb t order s
 order_as_verb t order s run has_seen = ap (λ (b : Bool). cond b (outcome_running t order s) (refused BadRequest s)) run ∙ running_as_verb t order s has_seen

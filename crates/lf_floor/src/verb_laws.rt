@@ -92,7 +92,7 @@ pub fn verb_keeps_team()
     ensures { VerbKeepsTeam }
 {}
 
-/// An order comes to what its verb comes to, where its session is not stale.
+/// An order that runs comes to what its verb comes to, where its session is not stale.
 pub fn order_is_verb()
     ensures { OrderIsVerb }
 {}

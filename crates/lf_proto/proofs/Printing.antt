@@ -183,7 +183,10 @@ orient_name FS = record { some = omega arith; visible = refl }
 orient_name FE = record { some = omega arith; visible = refl }
 
 place_names : (place : Place) → IsInRange place → AllNames (place_words place)
-place_names place range = (signed_name place.x place.x_in_def range.x_in_range, (signed_name place.y place.y_in_def range.y_in_range, (orient_name place.orient, tt)))
+place_names place range =
+    let x_is = signed_name place.x place.x_in_def range.x_in_range in
+    let y_is = signed_name place.y place.y_in_def range.y_in_range in
+    (x_is, (y_is, (orient_name place.orient, tt)))
 
 -- the verb and its own fields are names
 abbrev ActionNames : Action (List ℕ) Place → Type 0

@@ -26,10 +26,12 @@ pub returns-in-Err-clause-frame : goal.returns-in-Err-clause-frame
 returns-in-Err-clause-frame c = ap (λ (f : FloorState). f.frame) (c.in-Err.ensures.err c.legalizer_is_there.ensures).short.kept
 
 pub returns-in-Ok-clause-placed : goal.returns-in-Ok-clause-placed
-returns-in-Ok-clause-placed c = λ l. places_legally l c.legal_in_range.ensures c.args.self.now c.try_step.new.self (command_of c.args.request.now) c.in-Ok.reply c.teams_are_of_the_frame.ensures (c.in-Ok.ensures.ok l)
+returns-in-Ok-clause-placed c = λ l. places_legally l c.legal_in_range.ensures c.args.self.now c.try_step.new.self
+    (command_of c.args.request.now) c.in-Ok.reply c.teams_are_of_the_frame.ensures (c.in-Ok.ensures.ok l)
 
 pub returns-in-Ok-clause-refused : goal.returns-in-Ok-clause-refused
-returns-in-Ok-clause-refused c = let l = c.legalizer_is_there.ensures in keeps_refused l c.args.self.now c.try_step.new.self (command_of c.args.request.now) c.in-Ok.reply (c.in-Ok.ensures.ok l)
+returns-in-Ok-clause-refused c = let l = c.legalizer_is_there.ensures in keeps_refused l c.args.self.now c.try_step.new.self
+    (command_of c.args.request.now) c.in-Ok.reply (c.in-Ok.ensures.ok l)
 
 pub returns-in-Err-clause-refused : goal.returns-in-Err-clause-refused
 returns-in-Err-clause-refused c denied = (c.in-Err.ensures.err c.legalizer_is_there.ensures).short.kept

@@ -22,4 +22,6 @@ pub returns-in-Some-clause-err : goal.returns-in-Some-clause-err
 returns-in-Some-clause-err c = λ l.
     let old = floor_of c.self.inside.frame c.self.inside.teams.items in
     let new = floor_of c.self.inside.frame c.serve_at.new.teams.items in
-    rw (← c.self.view_is, c.in-To.is) (on_err_both c.serve_at.result (λ takes short. some_short l old new c.in-To.team.now (order_of c.in-To.order) c.in-Some.number (c.in-Some.ensures {u = tt}).found takes short) c.serve_at.ensures.takes (c.serve_at.ensures.err l))
+    rw (← c.self.view_is, c.in-To.is) (on_err_both c.serve_at.result
+    (λ takes short. some_short l old new c.in-To.team.now (order_of c.in-To.order) c.in-Some.number
+    (c.in-Some.ensures {u = tt}).found takes short) c.serve_at.ensures.takes (c.serve_at.ensures.err l))
