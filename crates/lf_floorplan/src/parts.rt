@@ -1,4 +1,4 @@
-//! The parts of a frame.
+//! Rows, fences and the header of a frame.
 
 use lf_orient::Orient;
 use lf_units::{Name, Rect, Sequence};

@@ -1,4 +1,4 @@
-//! The parts of a frame.
+//! The parts that a frame is put together from.
 
 use lf_floorplan::{Header, Limits, Macro, Row, Site, Team};
 use lf_units::{Rect, Sequence};

@@ -31,7 +31,7 @@ pub enum FaultNumber {
     VerticalRow,
     /// A row's step is not the width of its site.
     BadStep,
-    /// A row lies on its side or upside down.
+    /// A row is not N, S, FN or FS: it lies on its side.
     RowOrient,
     /// A row shares a point with an earlier one.
     RowsOverlap,
