@@ -21,15 +21,12 @@ pub struct Design {
     limits: Limits,
 }
 
-/// Puts a line behind the text, with a line feed for each `\n` in it.
+/// Puts a line behind the text, with a line feed for each `~` in it.
 fn push_line(text: &mut Vec<u8>, line: &[u8]) -> Result<(), AllocError> {
-    let mut rest = line;
-    while let Some(at) = rest.windows(2).position(|pair| pair == b"\\n".as_slice()) {
-        text.extend_from_slice(&rest[..at])?;
-        text.push(b'\n')?;
-        rest = &rest[at + 2..];
+    for byte in line {
+        text.push(if *byte == b'~' { b'\n' } else { *byte })?;
     }
-    text.extend_from_slice(rest)
+    Ok(())
 }
 
 /// The text with one of its lines, numbered from 1, exchanged for another.

@@ -11,11 +11,11 @@
 //! open A
 //! ```
 //!
-//! `lef` and `def` exchange a line of the design's texts for another, or for several with `\n` between them, and lines are
-//! numbered as they stand by then; `cut`
-//! keeps the first lines of a text alone; `limits` are those of rows, fences, components, sessions, undo entries and revisions; `check` asks for the report of the
-//! design. All other lines are requests. What is written of a row is the refusal of its design; or `loaded`, the report
-//! if it is asked for, and the replies.
+//! `lef` and `def` exchange a line of the design's texts for another, or for several with `~` between them, and lines are
+//! numbered as they stand by then; `cut` keeps the first lines of a text alone; `limits` are those of rows, fences,
+//! components, sessions, undo entries and revisions; `check` asks for the report of the design. All other lines are
+//! requests, but empty ones, which part rows. What is written of a row is the refusal of its design; or `loaded`, the
+//! report if it is asked for, and the replies.
 #![tactic(auto)]
 
 mod design;
