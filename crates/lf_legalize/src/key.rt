@@ -5,8 +5,8 @@ ghost use Rattle.std.specs.Int.RustNames.{unsigned_abs};
 ghost use Rattle.lf_rules.specs.Choice.{spot_of, Precedes};
 ghost use Rattle.lf_rules.specs.Choice.{distance as distance_of, rank as rank_of};
 
+use lf_floorplan::Place;
 use lf_orient::Orient;
-use lf_rules::Place;
 use lf_units::Point;
 
 /// How far the two numbers are apart.

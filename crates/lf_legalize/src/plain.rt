@@ -12,9 +12,9 @@ ghost use Rattle.lf_legalize.specs.Searches.{cell_of, LooksAt};
 
 use crate::key::precedes;
 use crate::search::Search;
-use lf_floorplan::{Frame, Macro, Row};
+use lf_floorplan::{Frame, Macro, Place, Row};
 use lf_orient::Orient;
-use lf_rules::{Place, Placed, first_broken};
+use lf_rules::{Placed, first_broken};
 use lf_units::Point;
 
 /// Whether the place is legal for the cell.
