@@ -1,0 +1,10 @@
+-- A cell whose best place is asked for.
+use Rattle.std.specs.Prelude.{ℕ, List}
+use Rattle.lf_floorplan.specs.declared.frame.Frame.{Frame}
+use Rattle.lf_floorplan.specs.declared.macros.Macro.{Macro}
+use Rattle.lf_rtree.specs.declared.placed.Placed.{Placed}
+use Rattle.lf_rules.specs.Choice.{Lifted}
+
+-- the cell of a team, by its macro, taken away from its place among the team's other placed cells
+abbrev pub lifted : Frame → ℕ → Macro → List Placed → Lifted
+lifted f team m others = record { frame = f; team = team; mac = m; others = others }

@@ -1,0 +1,59 @@
+//! The key by which places are compared: the distance from the target, then y, x and the rank of the orientation.
+
+ghost use Rattle.std.specs.Prelude.{◌≡◌, ◌↔◌, ◌<◌, ◌≤◌, ◌^◌, ◌-ℤ◌, IsTrue, ℤ};
+ghost use Rattle.std.specs.Int.RustNames.{unsigned_abs};
+ghost use Rattle.lf_rules.specs.Choice.{spot_of, Precedes};
+ghost use Rattle.lf_rules.specs.Choice.{distance as distance_of, rank as rank_of};
+
+use lf_floorplan::Place;
+use lf_orient::Orient;
+use lf_units::Point;
+
+/// How far the two numbers are apart.
+fn apart(a: i32, b: i64) -> u128
+    ensures value { result ≡ unsigned_abs (a -ℤ b) }
+    ensures small { result ≤ 2 ^ 64 }
+{
+    (i128::from(a) - i128::from(b)).unsigned_abs()
+}
+
+/// How far the place is from the target, along x and y together.
+fn distance(target: &Point, place: &Place) -> u128
+    ensures { result ≡ distance_of target.now (spot_of place.now) }
+{
+    apart(place.x, target.x) + apart(place.y, target.y)
+}
+
+/// Which of the places that differ in their orientation only comes first: the lesser number.
+fn rank(orient: Orient) -> u32
+    ensures { result ≡ rank_of orient }
+{
+    match orient {
+        Orient::N => 0,
+        Orient::S => 1,
+        Orient::FN => 2,
+        Orient::FS => 3,
+        _ => 4,
+    }
+}
+
+/// Whether the first place has the lesser key for the target.
+///
+/// The key is the distance |x - X| + |y - Y| from the target (X, Y), then y, then x, and last the
+/// orientation, in the order N, S, FN, FS. The target may be any point.
+pub fn precedes(target: &Point, first: &Place, second: &Place) -> bool
+    ensures { IsTrue result ↔ Precedes target.now (spot_of first.now) (spot_of second.now) }
+{
+    let near = distance(target, first);
+    let far = distance(target, second);
+    if near != far {
+        return near < far;
+    }
+    if first.y != second.y {
+        return first.y < second.y;
+    }
+    if first.x != second.x {
+        return first.x < second.x;
+    }
+    rank(first.orient) < rank(second.orient)
+}

@@ -1,0 +1,126 @@
+//! The plain search for the best place, which looks at every site of every row.
+
+ghost use Rattle.std.specs.Prelude.{◌≡◌, ◌↔◌, ◌+ℤ◌, ◌*ℤ◌, ◌<ℤ◌, ◌≤ℤ◌, ◌<◌, pos, IsTrue};
+ghost use Rattle.std.specs.Option.{option_map};
+ghost use Rattle.lf_floorplan.specs.Boxes.{IsSized};
+ghost use Rattle.lf_floorplan.specs.Rows.{IsHeeded};
+ghost use Rattle.lf_rules.specs.Choice.{spot_of, IsChoice, IsLegalAt};
+ghost use Rattle.lf_rules.specs.Legalizer.{Legalizer};
+ghost use Rattle.lf_rules.proofs.Looking.{IsAtSite, IsOnSites, spot_at};
+ghost use Rattle.lf_legalize.specs.Lifting.{lifted};
+ghost use Rattle.lf_legalize.specs.Searches.{cell_of, LooksAt};
+
+use crate::key::precedes;
+use crate::search::Search;
+use lf_floorplan::{Frame, Macro, Place, Row};
+use lf_orient::Orient;
+use lf_rules::{Placed, first_broken};
+use lf_units::Point;
+
+/// Whether the place is legal for the cell.
+fn is_legal(search: &Search<'_>, place: &Place) -> bool
+    ensures { IsTrue result ↔ IsLegalAt (cell_of search.now) (spot_of place.now) }
+{
+    first_broken(search.frame, search.team, search.mac, place, search.others).is_none()
+}
+
+/// The best place so far, after this one was looked at too.
+fn with_place(search: &Search<'_>, best: Option<Place>, place: Place) -> Option<Place>
+    ensures { LooksAt (λ p. p ≡ spot_of place) search.now best result }
+{
+    if !is_legal(search, &place) {
+        return best;
+    }
+    match best {
+        None => Some(place),
+        Some(old) => {
+            if precedes(search.target, &place, &old) {
+                Some(place)
+            } else {
+                Some(old)
+            }
+        }
+    }
+}
+
+/// How far the site lies from the row's left end.
+fn offset(row: &Row, pitch: &Point, site: u32) -> i64
+    requires heeded { IsHeeded pitch.now row.now }
+    requires wide { pos 0 <ℤ pitch.now.x }
+    requires within { site < row.now.sites }
+    ensures value { result ≡ pos site *ℤ pitch.now.x }
+    ensures low { pos 0 ≤ℤ result }
+    ensures high { result <ℤ (pos row.now.sites *ℤ pitch.now.x) }
+{
+    i64::from(site) * pitch.x
+}
+
+/// The place on this site of the row, in this orientation.
+fn place_at(row: &Row, pitch: &Point, site: u32, orient: Orient) -> Place
+    requires heeded { IsHeeded pitch.now row.now }
+    requires wide { pos 0 <ℤ pitch.now.x }
+    requires within { site < row.now.sites }
+    ensures { spot_of result ≡ spot_at pitch.now row.now site orient }
+{
+    let x = i64::from(row.x) + offset(row, pitch, site);
+    Place::new(x as i32, row.y, orient)
+}
+
+/// The best place so far, after those on this site of the row were looked at too.
+fn with_site(search: &Search<'_>, best: Option<Place>, row: &Row, site: u32) -> Option<Place>
+    requires heeded { IsHeeded search.now.frame.now.pitch row.now }
+    requires within { site < row.now.sites }
+    ensures { LooksAt (IsAtSite search.now.frame.now.pitch row.now site) search.now best result }
+{
+    let pitch = &search.frame.pitch;
+    let north = with_place(search, best, place_at(row, pitch, site, Orient::N));
+    let south = with_place(search, north, place_at(row, pitch, site, Orient::S));
+    let mirrored = with_place(search, south, place_at(row, pitch, site, Orient::FN));
+    with_place(search, mirrored, place_at(row, pitch, site, Orient::FS))
+}
+
+/// The best place so far, after those of this row were looked at too.
+fn with_row(search: &Search<'_>, best: Option<Place>, row: &Row) -> Option<Place>
+    requires { IsHeeded search.now.frame.now.pitch row.now }
+    ensures { LooksAt (IsOnSites search.now.frame.now.pitch row.now row.now.sites) search.now best result }
+{
+    let mut best = best;
+    for site in 0..row.sites {
+        best = with_site(search, best, row, site);
+    }
+    best
+}
+
+/// The best place of a cell for a target: of all places that are legal for it beside the team's other
+/// placed cells, the one of least key; none where no place is legal.
+///
+/// `team` is a fence's position in the frame, or the number of fences for the ground team. `others`
+/// are the team's other placed cells. The key is that of `precedes`; no two legal places have one
+/// key, so the best place is one. The target may be any point. It takes no memory.
+///
+/// It tries each orientation on every site of every row: the time grows as the number of sites times
+/// that of the rows, obstacles and other cells. It is what faster searches are held against.
+pub fn best_place(
+    frame: &Frame,
+    team: usize,
+    mac: &Macro,
+    others: &[Placed],
+    target: &Point,
+) -> Option<Place>
+    requires { IsSized frame.now mac.now }
+    ensures best { IsChoice (lifted frame.now team mac.now others.now) target.now (option_map spot_of result) }
+    ensures one { (l : Legalizer) → option_map spot_of result ≡ l.best_place (lifted frame.now team mac.now others.now) target.now }
+{
+    let search = Search {
+        frame,
+        team,
+        mac,
+        others,
+        target,
+    };
+    let mut best = None;
+    for row in frame.rows.as_slice() {
+        best = with_row(&search, best, row);
+    }
+    best
+}

@@ -1,0 +1,18 @@
+//! What is looked for.
+
+ghost use Rattle.lf_floorplan.specs.Boxes.{IsSized};
+
+use lf_floorplan::{Frame, Macro};
+use lf_rules::Placed;
+use lf_units::Point;
+
+/// A cell that was taken away from its place, and the target that its best place is looked for.
+#[derive(Clone, Copy)]
+pub(crate) struct Search<'a> {
+    pub frame: &'a Frame,
+    pub team: usize,
+    pub mac: &'a Macro,
+    pub others: &'a [Placed],
+    pub target: &'a Point,
+    pub ghost sized: { IsSized frame.now mac.now },
+}
