@@ -7,7 +7,8 @@ use std::io;
 use std::process::ExitCode;
 
 /// What the program can be asked, told behind the line of a usage fault.
-const USAGE: &str = "  lefence [demo]                answers the lines of standard input over the built-in design
+const USAGE: &str =
+    "  lefence [demo]                answers the lines of standard input over the built-in design
   lefence check DEF LEF...      writes a report of the design
   lefence replay DEF LEF...     answers the lines of standard input over the design
   (a path that begins with '-' stands behind '--'; docs/PROTOCOL.md says more)

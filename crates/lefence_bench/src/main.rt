@@ -10,10 +10,9 @@ use lf_frame::{Limits, Loaded, load};
 use lf_lef::{Library, read_lef};
 use lf_lex::{Lexer, LoadFault};
 use std::alloc::Global;
-use std::fs;
-use std::io;
 use std::rt::{Clock, Files};
 use std::time::Instant;
+use std::{fs, io};
 
 /// Tells how long it took since then.
 fn tell_time<R: Clock + Eprint>(rt: &R, start: &Instant) -> io::Result<()> {

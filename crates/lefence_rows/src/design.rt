@@ -109,7 +109,12 @@ impl Design {
 
     /// Writes what the design answers: its refusal, or `loaded`, its report where it is asked for, and the replies to the
     /// lines.
-    pub fn answer<W: Write>(&self, is_checked: bool, lines: &[u8], writer: &mut W) -> io::Result<()> {
+    pub fn answer<W: Write>(
+        &self,
+        is_checked: bool,
+        lines: &[u8],
+        writer: &mut W,
+    ) -> io::Result<()> {
         let mut library = Library::new(self.alloc);
         match read_lef(&mut library, &self.lef) {
             Ok(()) => self.answer_on(&library, is_checked, lines, writer),

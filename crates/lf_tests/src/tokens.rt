@@ -2,8 +2,8 @@
 
 use crate::changed::at_line;
 use lf_lex::{
-    FaultNumber, LexFault, Lexer, LoadFault, ReadError, TokenKind, end_name, keyword, name, next, to_end, to_semicolon,
-    to_word, token, word,
+    FaultNumber, LexFault, Lexer, LoadFault, ReadError, TokenKind, end_name, keyword, name, next,
+    to_end, to_semicolon, to_word, token, word,
 };
 use std::test::Fail;
 

@@ -1,11 +1,11 @@
 //! Requests, replies and the lines of a stream.
 
-use lf_proto::{
-    Action, Change, Command, Got, LineFramer, Order, Refusal, Reply, Request, RequestList, parse_line, reply_text,
-    report_json,
-};
 use lf_frame::Place;
 use lf_orient::Orient;
+use lf_proto::{
+    Action, Change, Command, Got, LineFramer, Order, Refusal, Reply, Request, RequestList,
+    parse_line, reply_text, report_json,
+};
 use lf_rules::{Report, Rule, Violation};
 use lf_units::{Name, Sequence};
 use std::alloc::{AllocError, Global};
@@ -223,4 +223,3 @@ fn writes_reports(rt: HostRuntime) -> Result<(), Fail> {
     assert!(rt; text.as_bytes() == expected.as_slice());
     Ok(())
 }
-

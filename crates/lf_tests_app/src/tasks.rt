@@ -193,10 +193,7 @@ fn lef_files_are_read_in_order_up_to_the_first_fault(rt: HostRuntime) -> Result<
 /// The built-in LEF text is no part of a replay.
 #[test]
 fn a_replay_reads_its_own_lef_files_alone(rt: HostRuntime) -> Result<(), Fail> {
-    let files = [
-        ("x.lef", Some(b"".as_slice())),
-        ("w.def", Some(W_DEF)),
-    ];
+    let files = [("x.lef", Some(b"".as_slice())), ("w.def", Some(W_DEF))];
     let fault = "lefence: 8 NoSite core\n";
     assert!(rt; ends(rt.alloc(), files.as_slice(), ["x.lef"].as_slice(), 1, fault)?);
     Ok(())
