@@ -4,6 +4,7 @@ use Rattle.std.specs.Prelude.{slice_get, bytes_eq}
 use Rattle.std.specs.List.{position_from}
 use Rattle.std.proofs.lemmas.Iterator.Adapters.{position_from-zero}
 use Rattle.std.proofs.lemmas.Option.{slice_get-get_or, slice_get_within, get_or_from_slice_get}
+use Rattle.std.proofs.lemmas.List.{length-map}
 use Rattle.std.proofs.lemmas.Slice.Eq.{bytes_eq-Decides}
 use Rattle.lf_names.specs.Names.{position_of}
 use Rattle.lf_names.proofs.Positions.{found_there, stands_there}
@@ -11,7 +12,7 @@ use Rattle.lf_cells.specs.declared.cell.Cell.{Cell}
 use Rattle.lf_cells.specs.declared.cell.CellId.{CellId}
 use Rattle.lf_cells.specs.declared.slots.Slot.{Slot}
 use Rattle.lf_cells.specs.declared.parts.Parts.{Parts}
-use Rattle.lf_cells.specs.Cells.{Cells, cells_of, cell_named, id_in, id_of}
+use Rattle.lf_cells.specs.Cells.{Cells, cells_of, cell_named, id_of}
 use Rattle.lf_cells.specs.Slots.{cell_in, labels, labels_in, AreIndexed, table_of}
 use Rattle.lf_cells.proofs.Lists.{map_at}
 
@@ -57,6 +58,13 @@ label_of : (p : Parts) (team k : ℕ) → slice_get (get_or (labels_in p.teams.i
 unfolding own_of
 label_of p team k = ap (λ (l : List ℕ). slice_get l k) (map_at labels p.teams.items team [])
 
+many_are : (p : Parts) (table : Cells) (team : ℕ) → table_of p ≡ table → length (cells_of table team) ≡ length (own_of p team)
+unfolding own_of
+many_are p table team view =
+    ap (λ (t : Cells). length (cells_of t team)) (sym view)
+    ∙ ap (λ (cells : List Cell). length cells) (map_at (λ (slots : List Slot). map (cell_in p.names) slots) p.teams.items team [])
+    ∙ length-map (get_or p.teams.items team []) (cell_in p.names)
+
 -- a cell of that name: its name's position is that of the name, and it is the owner
 pub record Bears (p : Parts) (name : List ℕ) (team k l : ℕ) : Type 0 where
   pub position : position_of p.names name ≡ Some l
@@ -76,14 +84,14 @@ refuted : (t : Bool) → (t ≡ true → ⊥) → t ≡ false
 refuted true fails = absurd (fails refl)
 refuted false fails = refl
 
-pub no_own : (p : Parts) (table : Cells) (name : List ℕ) (team : ℕ) → AreIndexed p → table_of p ≡ table → position_of p.names name ≡ None → id_in team (cell_named name (cells_of table team)) ≡ None
+pub no_own : (p : Parts) (table : Cells) (name : List ℕ) (team : ℕ) → AreIndexed p → table_of p ≡ table → position_of p.names name ≡ None → cell_named name (cells_of table team) ≡ None
 no_own p table name team indexed view absent =
     let none : search_from name 0 (map (cell_in p.names) (own_of p team)) ≡ None =
     none_from p.names (own_of p team) name 0 (λ k l there. refuted (bytes_eq (get_or p.names l []) name) (λ same. let b = bears p name team k l indexed there same in cc (b.position, absent))) in
-    ap (λ (o : Option ℕ). id_in team o) (named_is p table name team view ∙ none)
+    named_is p table name team view ∙ none
 
 pub other_own : (p : Parts) (table : Cells) (name : List ℕ) (team label : ℕ) (id : CellId) → AreIndexed p → table_of p ≡ table → position_of p.names name ≡ Some label → slice_get p.owners.items label ≡ Some id
-    → (id.team ≡ team → ⊥) → id_in team (cell_named name (cells_of table team)) ≡ None
+    → (id.team ≡ team → ⊥) → cell_named name (cells_of table team) ≡ None
 other_own p table name team label id indexed view found owner other =
     let none : search_from name 0 (map (cell_in p.names) (own_of p team)) ≡ None =
     none_from p.names (own_of p team) name 0 (λ k l there. refuted (bytes_eq (get_or p.names l []) name) (λ same.
@@ -92,10 +100,10 @@ other_own p table name team label id indexed view found owner other =
     let whose : slice_get p.owners.items label ≡ Some (id_of team k) = rw at at b.owner in
     let is : id ≡ id_of team k = cc (whose, owner) in
     other (ap (λ (i : CellId). i.team) is))) in
-    ap (λ (o : Option ℕ). id_in team o) (named_is p table name team view ∙ none)
+    named_is p table name team view ∙ none
 
 pub found_own : (p : Parts) (table : Cells) (name : List ℕ) (team label : ℕ) (id : CellId) → AreIndexed p → table_of p ≡ table → position_of p.names name ≡ Some label → slice_get p.owners.items label ≡ Some id
-    → id.team ≡ team → id_in team (cell_named name (cells_of table team)) ≡ Some id
+    → id.team ≡ team → cell_named name (cells_of table team) ≡ Some id.own
 found_own p table name team label id indexed view found owner own =
     let there : slice_get (labels (own_of p id.team)) id.own ≡ Some label = sym (label_of p id.team id.own) ∙ (indexed.index.owned id label).0 owner in
     let at : get_or p.names label [] ≡ name = get_or_from_slice_get p.names label name [] (stands_there p.names name label found) in
@@ -108,4 +116,11 @@ found_own p table name team label id indexed view found owner own =
     let is : id ≡ id_of id.team k = cc (whose, owner) in
     let place : id.own ≡ k = ap (λ (i : CellId). i.own) is in
     absurd (omega (arith, below, place)))) ∙ ap (λ (k : ℕ). Some k) (zero-add id.own) in
-    rw (← own) (ap (λ (o : Option ℕ). id_in id.team o) (named_is p table name id.team view ∙ first))
+    rw (← own) (named_is p table name id.team view ∙ first)
+
+-- the owner of a name stands among its team's cells
+pub found_within : (p : Parts) (table : Cells) (team label : ℕ) (id : CellId) → AreIndexed p → table_of p ≡ table → slice_get p.owners.items label ≡ Some id → id.team ≡ team → id.own < length (cells_of table team)
+found_within p table team label id indexed view owner own =
+    let there : slice_get (labels (own_of p id.team)) id.own ≡ Some label = sym (label_of p id.team id.own) ∙ (indexed.index.owned id label).0 owner in
+    let within : id.own < length (labels (own_of p id.team)) = slice_get_within (labels (own_of p id.team)) id.own label there in
+    rw (← own) (omega (arith, within, length-map (own_of p id.team) (λ (s : Slot). s.label), many_are p table id.team view))

@@ -6,7 +6,7 @@ use Rattle.lf_cells.specs.declared.cell.Cell.{Cell}
 use Rattle.lf_cells.specs.declared.cell.CellId.{CellId}
 use Rattle.lf_cells.specs.declared.slots.Slot.{Slot}
 use Rattle.lf_cells.specs.declared.parts.Parts.{Parts}
-use Rattle.lf_cells.specs.Cells.{Cells, cell_at, component_at, working_at, committed_at, cells_of}
+use Rattle.lf_cells.specs.Cells.{Cells, id_of, id_in, cell_at, component_at, working_at, committed_at, cells_of}
 use Rattle.lf_cells.specs.Slots.{cell_in, labels, labels_in, slot_at, label_at, AreIndexed, table_of}
 use Rattle.lf_cells.proofs.Lists.{map_at}
 
@@ -23,13 +23,29 @@ component_is p table id view =
     ∙ ap (λ (cs : List ℕ). slice_get cs id.own) (map_at (λ (slots : List Slot). map (λ (s : Slot). s.component) slots) p.teams.items id.team [])
     ∙ slice_get-map (λ (s : Slot). s.component) (get_or p.teams.items id.team []) id.own
 
+-- the cell owns its name
+pub owner_is : (p : Parts) (id : CellId) (s : Slot) → AreIndexed p → slot_at p.teams.items id ≡ Some s → slice_get p.owners.items s.label ≡ Some id
+owner_is p id s indexed there =
+    let label : label_at (labels_in p.teams.items) id ≡ Some s.label =
+    ap (λ (l : List ℕ). slice_get l id.own) (map_at labels p.teams.items id.team [])
+    ∙ slice_get-map (λ (x : Slot). x.label) (get_or p.teams.items id.team []) id.own
+    ∙ ap (option_map (λ (x : Slot). x.label)) there in
+    (indexed.index.owned id s.label).1 label
+
 -- the cell's name stands in the table of names
 pub name_there : (p : Parts) (id : CellId) (s : Slot) → AreIndexed p → slot_at p.teams.items id ≡ Some s → slice_get p.names s.label ≡ Some (get_or p.names s.label [])
 name_there p id s indexed there =
-    let label : label_at (labels_in p.teams.items) id ≡ Some s.label =
-    ap (λ (l : List ℕ). slice_get l id.own) (map_at labels p.teams.items id.team []) ∙ slice_get-map (λ (x : Slot). x.label) (get_or p.teams.items id.team []) id.own ∙ ap (option_map (λ (x : Slot). x.label)) there in
-    let within : s.label < length p.owners.items = slice_get_within p.owners.items s.label id ((indexed.index.owned id s.label).1 label) in
+    let within : s.label < length p.owners.items = slice_get_within p.owners.items s.label id (owner_is p id s indexed there) in
     slice_get-get_or p.names s.label [] (omega (arith, within, indexed.many))
+
+-- the id of a cell is that of its slot
+pub id_is : (p : Parts) (table : Cells) (team own : ℕ) (s : Slot) → table_of p ≡ table → slot_at p.teams.items (id_of team own) ≡ Some s → id_in (cells_of table team) team own ≡ Some (id_of team own)
+id_is p table team own s view there =
+    ap (option_map (λ (c : Cell). id_of team own)) (cell_is p table (id_of team own) view ∙ ap (option_map (cell_in p.names)) there)
+
+pub id_past : (p : Parts) (table : Cells) (team own : ℕ) → table_of p ≡ table → slot_at p.teams.items (id_of team own) ≡ None → id_in (cells_of table team) team own ≡ None
+id_past p table team own view there =
+    ap (option_map (λ (c : Cell). id_of team own)) (cell_is p table (id_of team own) view ∙ ap (option_map (cell_in p.names)) there)
 
 pub working_is : (p : Parts) (table : Cells) (id : CellId) (s : Option Slot) → table_of p ≡ table → s ≡ slot_at p.teams.items id → working_at (cells_of table id.team) id.own ≡ option_and_then (λ (x : Slot). x.working) s
 working_is p table id s view is = ap (λ (c : Option Cell). option_and_then (λ (x : Cell). x.working) c) (cell_is p table id view ∙ ap (option_map (cell_in p.names)) (sym is)) ∙ by s where

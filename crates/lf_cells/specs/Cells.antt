@@ -29,9 +29,9 @@ component_at table id = slice_get (components_of table id.team) id.own
 abbrev pub id_of : ℕ → ℕ → CellId
 id_of team own = record { team = team; own = own }
 
--- the id of the team's cell of that position, if there is one
-abbrev pub id_in : ℕ → Option ℕ → Option CellId
-id_in team own = option_map (id_of team) own
+-- the id of the cell of that position among the team's cells; None where there is no such cell
+abbrev pub id_in : List Cell → ℕ → ℕ → Option CellId
+id_in cells team own = option_map (λ c. id_of team own) (slice_get cells own)
 
 -- the position of the cell of that name among these; None where none of them has it, whoever else may
 abbrev pub cell_named : List ℕ → List Cell → Option ℕ

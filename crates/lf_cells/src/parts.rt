@@ -121,10 +121,10 @@ impl Parts {
         Ok(parts)
     }
 
-    /// The cell of that id, without its name.
-    pub(crate) fn slot(&self, id: CellId) -> Option<Slot>
-        ensures { result ≡ slot_at self.now.teams.items id }
+    /// The team's cell of that position, without its name.
+    pub(crate) fn slot(&self, team: usize, own: usize) -> Option<Slot>
+        ensures { result ≡ slot_at self.now.teams.items (id_of team own) }
     {
-        self.teams.get(id.team as usize)?.get(id.own as usize)
+        self.teams.get(team)?.get(own)
     }
 }

@@ -1,6 +1,6 @@
 //! The table of all teams' cells.
 
-ghost use Rattle.std.specs.Prelude.{◌≡◌, ◌+◌, [], IfOk, IfSome, length, map, option_map, slice_set};
+ghost use Rattle.std.specs.Prelude.{◌≡◌, ◌+◌, ◌<◌, [], IfOk, IfSome, length, map, option_map, slice_set};
 ghost use Rattle.lf_cells.specs.Cells.{cells_of, cell_named, cell_at, component_at, id_in, working_at, committed_at, moved, as_committed};
 ghost use Rattle.lf_cells.specs.Openings.{opening_cells, opening_components};
 
@@ -48,7 +48,9 @@ impl CellTable {
 
     /// The team's cell of that name; none for another team's cell, as for one that no team has.
     pub fn find_own(&self, team: usize, name: &[u8]) -> Option<CellId>
-        ensures { result ≡ id_in team (cell_named name.now (cells_of self.now team)) }
+        ensures own { option_map (λ id. id.own) result ≡ cell_named name.now (cells_of self.now team) }
+        ensures team { IfSome result (λ id. id.team ≡ team) }
+        ensures within { IfSome result (λ id. id.own < length (cells_of self.now team)) }
     {
         let label = self.parts.names.find(name)?;
         let id = self.parts.owners[label];
@@ -68,13 +70,22 @@ impl CellTable {
         }
     }
 
+    /// The id of the team's cell of that position, the first at 0; none where the team has no such
+    /// cell, or there is no such team.
+    pub fn id_at(&self, team: usize, own: usize) -> Option<CellId>
+        ensures { result ≡ id_in (cells_of self.now team) team own }
+    {
+        let slot = self.parts.slot(team, own)?;
+        Some(self.parts.owners[slot.label as usize])
+    }
+
     /// What no command changes of a cell; none where there is no such cell.
     pub fn cell(&self, id: CellId) -> Option<CellFacts<'_>>
         ensures name { option_map (λ facts. facts.name.now) result ≡ option_map (λ c. c.name) (cell_at self.now id) }
         ensures mac { option_map (λ facts. facts.mac) result ≡ option_map (λ c. c.mac) (cell_at self.now id) }
         ensures component { option_map (λ facts. facts.component) result ≡ component_at self.now id }
     {
-        let slot = self.parts.slot(id)?;
+        let slot = self.parts.slot(id.team as usize, id.own as usize)?;
         Some(CellFacts {
             name: self.parts.names.name_at(slot.label as usize)?,
             mac: slot.mac,
@@ -86,14 +97,16 @@ impl CellTable {
     pub fn working(&self, id: CellId) -> Option<Place>
         ensures { result ≡ working_at (cells_of self.now id.team) id.own }
     {
-        self.parts.slot(id)?.working
+        self.parts.slot(id.team as usize, id.own as usize)?.working
     }
 
     /// The committed place of a cell; none where it is unplaced, or there is no such cell.
     pub fn committed(&self, id: CellId) -> Option<Place>
         ensures { result ≡ committed_at (cells_of self.now id.team) id.own }
     {
-        self.parts.slot(id)?.committed
+        self.parts
+            .slot(id.team as usize, id.own as usize)?
+            .committed
     }
 
     /// Changes the working place of one cell and nothing else; where there is no such cell, nothing
