@@ -8,7 +8,8 @@ use Rattle.lf_cells.specs.Slots.{cell_in, cells_in, components_in, labels, label
 use Rattle.lf_cells.proofs.Lists.{same_seen, change_seen}
 
 -- a write to the field of one cell moves that cell
-pub moved_is : (slots : List Slot) (own : ℕ) (x : Slot) (place : Option Place) → x ≡ get_or slots own x → set slots own (record x { working = place }) ≡ moved_slots slots own place
+pub moved_is : (slots : List Slot) (own : ℕ) (x : Slot) (place : Option Place) → x ≡ get_or slots own x
+    → set slots own (record x { working = place }) ≡ moved_slots slots own place
 moved_is [] own x place is = refl
 moved_is (s ∷ ss) zero x place is = ap (λ (y : Slot). record y { working = place } ∷ ss) is
 moved_is (s ∷ ss) (suc own) x place is = ap (λ (r : List Slot). s ∷ r) (moved_is ss own x place is)
@@ -20,7 +21,8 @@ moved_past (s ∷ ss) (suc own) place past = ap (λ (r : List Slot). s ∷ r) (m
 
 -- ---- one team
 
-cells_moved : (names : List (List ℕ)) (slots : List Slot) (own : ℕ) (place : Option Place) → map (cell_in names) (moved_slots slots own place) ≡ moved (map (cell_in names) slots) own place
+cells_moved : (names : List (List ℕ)) (slots : List Slot) (own : ℕ) (place : Option Place)
+    → map (cell_in names) (moved_slots slots own place) ≡ moved (map (cell_in names) slots) own place
 cells_moved names [] own place = refl
 cells_moved names (s ∷ ss) zero place = refl
 cells_moved names (s ∷ ss) (suc own) place = ap (λ (r : List Cell). cell_in names s ∷ r) (cells_moved names ss own place)
@@ -55,25 +57,35 @@ components_committed (s ∷ ss) = ap (λ (r : List ℕ). s.component ∷ r) (com
 -- ---- all teams
 
 pub all_moved : (names : List (List ℕ)) (teams : List (List Slot)) (team own : ℕ) (place : Option Place)
-    → cells_in names (set teams team (moved_slots (get_or teams team []) own place)) ≡ set (cells_in names teams) team (moved (get_or (cells_in names teams) team []) own place)
+    → cells_in names (set teams team (moved_slots (get_or teams team []) own place))
+    ≡ set (cells_in names teams) team (moved (get_or (cells_in names teams) team []) own place)
 all_moved names teams team own place =
-    change_seen (λ (slots : List Slot). map (cell_in names) slots) (λ (cells : List Cell). moved cells own place) teams team [] (moved_slots (get_or teams team []) own place) (cells_moved names (get_or teams team []) own place)
+    change_seen (λ (slots : List Slot). map (cell_in names) slots) (λ (cells : List Cell). moved cells own place) teams team []
+    (moved_slots (get_or teams team []) own place) (cells_moved names (get_or teams team []) own place)
 
-pub labels_all_moved : (teams : List (List Slot)) (team own : ℕ) (place : Option Place) → labels_in (set teams team (moved_slots (get_or teams team []) own place)) ≡ labels_in teams
-labels_all_moved teams team own place = same_seen labels teams team [] (moved_slots (get_or teams team []) own place) (labels_moved (get_or teams team []) own place)
+pub labels_all_moved : (teams : List (List Slot)) (team own : ℕ) (place : Option Place)
+    → labels_in (set teams team (moved_slots (get_or teams team []) own place)) ≡ labels_in teams
+labels_all_moved teams team own place =
+    same_seen labels teams team [] (moved_slots (get_or teams team []) own place) (labels_moved (get_or teams team []) own place)
 
-pub components_all_moved : (teams : List (List Slot)) (team own : ℕ) (place : Option Place) → components_in (set teams team (moved_slots (get_or teams team []) own place)) ≡ components_in teams
+pub components_all_moved : (teams : List (List Slot)) (team own : ℕ) (place : Option Place)
+    → components_in (set teams team (moved_slots (get_or teams team []) own place)) ≡ components_in teams
 unfolding components_of
-components_all_moved teams team own place = same_seen components_of teams team [] (moved_slots (get_or teams team []) own place) (components_moved (get_or teams team []) own place)
+components_all_moved teams team own place =
+    same_seen components_of teams team [] (moved_slots (get_or teams team []) own place) (components_moved (get_or teams team []) own place)
 
 pub all_committed : (names : List (List ℕ)) (teams : List (List Slot)) (team : ℕ)
-    → cells_in names (set teams team (map committed_slot (get_or teams team []))) ≡ set (cells_in names teams) team (map as_committed (get_or (cells_in names teams) team []))
+    → cells_in names (set teams team (map committed_slot (get_or teams team [])))
+    ≡ set (cells_in names teams) team (map as_committed (get_or (cells_in names teams) team []))
 all_committed names teams team =
-    change_seen (λ (slots : List Slot). map (cell_in names) slots) (λ (cells : List Cell). map as_committed cells) teams team [] (map committed_slot (get_or teams team [])) (cells_committed names (get_or teams team []))
+    change_seen (λ (slots : List Slot). map (cell_in names) slots) (λ (cells : List Cell). map as_committed cells) teams team []
+    (map committed_slot (get_or teams team [])) (cells_committed names (get_or teams team []))
 
 pub labels_all_committed : (teams : List (List Slot)) (team : ℕ) → labels_in (set teams team (map committed_slot (get_or teams team []))) ≡ labels_in teams
 labels_all_committed teams team = same_seen labels teams team [] (map committed_slot (get_or teams team [])) (labels_committed (get_or teams team []))
 
-pub components_all_committed : (teams : List (List Slot)) (team : ℕ) → components_in (set teams team (map committed_slot (get_or teams team []))) ≡ components_in teams
+pub components_all_committed : (teams : List (List Slot)) (team : ℕ)
+    → components_in (set teams team (map committed_slot (get_or teams team []))) ≡ components_in teams
 unfolding components_of
-components_all_committed teams team = same_seen components_of teams team [] (map committed_slot (get_or teams team [])) (components_committed (get_or teams team []))
+components_all_committed teams team =
+    same_seen components_of teams team [] (map committed_slot (get_or teams team [])) (components_committed (get_or teams team []))

@@ -1,9 +1,11 @@
 -- A table that is filled cell by cell.
-use Rattle.std.proofs.Common.{◌≡◌, ◌≢◌, ℕ, zero, suc, ◌+◌, ◌<◌, ◌≤◌, Bool, true, false, cond, eqb, List, [], ◌∷◌, ◌++◌, length, map, take, get_or, set, replicate, Option, Some, None, refl, ap, ap₂, sym, ◌∙◌, add-zero, arith}
+use Rattle.std.proofs.Common.{◌≡◌, ◌≢◌, ℕ, zero, suc, ◌+◌, ◌<◌, ◌≤◌, Bool, true, false, cond, eqb, List, [], ◌∷◌, ◌++◌}
+use Rattle.std.proofs.Common.{length, map, take, get_or, set, replicate, Option, Some, None, refl, ap, ap₂, sym, ◌∙◌, add-zero, arith}
 use Rattle.std.specs.Prelude.{slice_get}
 use Rattle.std.proofs.lemmas.Grind.{common_steps}
 use Rattle.std.proofs.lemmas.Bool.{false≢true, eqb-true, eq-eqb}
-use Rattle.std.proofs.lemmas.List.{length-append, length-set, length-map, length-replicate, get_or-take, append-nil, get_or-set_same, get_or-set_other, map-set, map-append}
+use Rattle.std.proofs.lemmas.List.{length-append, length-set, length-map, length-replicate, get_or-take, append-nil}
+use Rattle.std.proofs.lemmas.List.{get_or-set_same, get_or-set_other, map-set, map-append}
 use Rattle.std.proofs.lemmas.Option.{slice_get_within, get_or_from_slice_get, none-some}
 use Rattle.lf_names.specs.Names.{position_of}
 use Rattle.lf_names.proofs.Positions.{stands_there}
@@ -21,7 +23,8 @@ use Rattle.lf_cells.proofs.Lists.{map_at, get_kept, get_last, IsOneOf, Earlier, 
 with_label : List (List ℕ) → ℕ → ℕ → List (List ℕ)
 with_label all team n = set all team (get_or all team [] ++ n ∷ [])
 
-label_kept : (all : List (List ℕ)) (team n other own label : ℕ) → slice_get (get_or all other []) own ≡ Some label → slice_get (get_or (with_label all team n) other []) own ≡ Some label
+label_kept : (all : List (List ℕ)) (team n other own label : ℕ) → slice_get (get_or all other []) own ≡ Some label
+    → slice_get (get_or (with_label all team n) other []) own ≡ Some label
 unfolding with_label
 label_kept [] team n other own label e = e
 label_kept (l ∷ ls) zero n zero own label e = get_kept l n own label e
@@ -40,7 +43,8 @@ data IsOldOrNew (all : List (List ℕ)) (team n other own label : ℕ) : Type 0 
   Old : slice_get (get_or all other []) own ≡ Some label → IsOldOrNew all team n other own label
   New : other ≡ team → own ≡ length (get_or all team []) → label ≡ n → IsOldOrNew all team n other own label
 
-old_or_new : (all : List (List ℕ)) (team n other own label : ℕ) → slice_get (get_or (with_label all team n) other []) own ≡ Some label → IsOldOrNew all team n other own label
+old_or_new : (all : List (List ℕ)) (team n other own label : ℕ) → slice_get (get_or (with_label all team n) other []) own ≡ Some label
+    → IsOldOrNew all team n other own label
 unfolding with_label
 old_or_new [] team n other own label e = Old e
 old_or_new (l ∷ ls) zero n zero own label e = by (one_of l n own label e) where
@@ -56,16 +60,22 @@ old_or_new (l ∷ ls) (suc team) n (suc other) own label e = by (old_or_new ls t
 
 index_more : (owners : List CellId) (all : List (List ℕ)) (team : ℕ) → team < length all → IsIndex owners all
     → IsIndex (owners ++ id_of team (length (get_or all team [])) ∷ []) (with_label all team (length owners))
-index_more owners all team within index = record { owned = λ id label. (λ e. there id label (one_of owners last label id e), λ e. back id label (old_or_new all team (length owners) id.team id.own label e)) }
+index_more owners all team within index =
+    record {
+      owned = λ id label.
+          (λ e. there id label (one_of owners last label id e), λ e. back id label (old_or_new all team (length owners) id.team id.own label e));
+    }
   where
     last : CellId
     last = id_of team (length (get_or all team []))
 
-    there : (id : CellId) (label : ℕ) → IsOneOf owners (id_of team (length (get_or all team []))) label id → label_at (with_label all team (length owners)) id ≡ Some label
+    there : (id : CellId) (label : ℕ) → IsOneOf owners (id_of team (length (get_or all team []))) label id
+        → label_at (with_label all team (length owners)) id ≡ Some label
     there id label (Earlier e) = label_kept all team (length owners) id.team id.own label ((index.owned id label).0 e)
     there id label (Last at same) = rw (at, ← same) (label_new all team (length owners) within)
 
-    back : (id : CellId) (label : ℕ) → IsOldOrNew all team (length owners) id.team id.own label → slice_get (owners ++ id_of team (length (get_or all team [])) ∷ []) label ≡ Some id
+    back : (id : CellId) (label : ℕ) → IsOldOrNew all team (length owners) id.team id.own label
+        → slice_get (owners ++ id_of team (length (get_or all team [])) ∷ []) label ≡ Some id
     back id label (Old e) = get_kept owners (id_of team (length (get_or all team []))) label id ((index.owned id label).1 e)
     back id label (New here at is) =
         let whole : id_of team (length (get_or all team [])) ≡ id = ap₂ id_of (sym here) (sym at) in
@@ -76,7 +86,8 @@ index_more owners all team within index = record { owned = λ id label. (λ e. t
 own_last : ℕ → ℕ → LoadedCell → List Slot
 own_last number label c = cond (eqb c.team number) (opening_slot label c ∷ []) []
 
-own_append : (number label : ℕ) (cells : List LoadedCell) (c : LoadedCell) → own_slots number label (cells ++ c ∷ []) ≡ own_slots number label cells ++ own_last number (label + length cells) c
+own_append : (number label : ℕ) (cells : List LoadedCell) (c : LoadedCell)
+    → own_slots number label (cells ++ c ∷ []) ≡ own_slots number label cells ++ own_last number (label + length cells) c
 unfolding own_last
 own_append number label [] c = rw add-zero refl
 own_append number label (x ∷ xs) c =
@@ -92,13 +103,15 @@ own_append number label (x ∷ xs) c =
 pub own_few : (number label : ℕ) (cells : List LoadedCell) → length (own_slots number label cells) ≤ length cells
 own_few number label [] = omega arith
 own_few number label (c ∷ cs) = go (eqb c.team number) (own_few number (label + 1) cs) where
-  go : (b : Bool) → length (own_slots number (label + 1) cs) ≤ length cs → length (cond b (opening_slot label c ∷ own_slots number (label + 1) cs) (own_slots number (label + 1) cs)) ≤ suc (length cs)
+  go : (b : Bool) → length (own_slots number (label + 1) cs) ≤ length cs
+      → length (cond b (opening_slot label c ∷ own_slots number (label + 1) cs) (own_slots number (label + 1) cs)) ≤ suc (length cs)
   go true e = omega (arith, e)
   go false e = omega (arith, e)
 
 -- ---- one more cell
 
-pub one_more : (cells : List LoadedCell) (k count : ℕ) (c : LoadedCell) (old new : Parts) → k < length cells → c ≡ get_or cells k c → c.team < length old.teams.items → AreTakenIn (take k cells) count old → TakesIn c old new
+pub one_more : (cells : List LoadedCell) (k count : ℕ) (c : LoadedCell) (old new : Parts) → k < length cells → c ≡ get_or cells k c
+    → c.team < length old.teams.items → AreTakenIn (take k cells) count old → TakesIn c old new
     → AreTakenIn (take (k + 1) cells) count new
 unfolding with_label own_last
 one_more cells k count c old new within is inside before one =
@@ -111,12 +124,6 @@ one_more cells k count c old new within is inside before one =
       each = λ number. own_each number (eqb c.team number) refl;
     })
   where
-    own : List Slot
-    own = get_or old.teams.items c.team []
-
-    last : Slot
-    last = opening_slot (length old.owners.items) c
-
     team_labels : get_or (labels_in old.teams.items) c.team [] ≡ labels (get_or old.teams.items c.team [])
     team_labels = map_at labels old.teams.items c.team []
 
@@ -124,12 +131,14 @@ one_more cells k count c old new within is inside before one =
     labels_after =
         ap labels_in one.teams ∙ map-set labels old.teams.items c.team (get_or old.teams.items c.team [] ++ opening_slot (length old.owners.items) c ∷ [])
         ∙ ap (λ (l : List ℕ). set (labels_in old.teams.items) c.team l)
-        (map-append (λ (s : Slot). s.label) (get_or old.teams.items c.team []) (opening_slot (length old.owners.items) c ∷ []) ∙ ap (λ (l : List ℕ). l ++ length old.owners.items ∷ []) (sym team_labels))
+        (map-append (λ (s : Slot). s.label) (get_or old.teams.items c.team []) (opening_slot (length old.owners.items) c ∷ [])
+        ∙ ap (λ (l : List ℕ). l ++ length old.owners.items ∷ []) (sym team_labels))
 
     owners_after : new.owners.items ≡ old.owners.items ++ id_of c.team (length (get_or (labels_in old.teams.items) c.team [])) ∷ []
     owners_after =
         one.owners
-        ∙ ap (λ (n : ℕ). old.owners.items ++ id_of c.team n ∷ []) (sym (ap (λ (l : List ℕ). length l) team_labels ∙ length-map (get_or old.teams.items c.team []) (λ (s : Slot). s.label)))
+        ∙ ap (λ (n : ℕ). old.owners.items ++ id_of c.team n ∷ [])
+        (sym (ap (λ (l : List ℕ). length l) team_labels ∙ length-map (get_or old.teams.items c.team []) (λ (s : Slot). s.label)))
 
     indexed : IsIndex new.owners.items (labels_in new.teams.items)
     indexed =
@@ -151,7 +160,8 @@ one_more cells k count c old new within is inside before one =
     own_each number true e =
         let same : number ≡ c.team = sym (eqb-true c.team number e) in
         let after : get_or new.teams.items c.team [] ≡ get_or old.teams.items c.team [] ++ opening_slot (length old.owners.items) c ∷ [] =
-        ap (λ (teams : List (List Slot)). get_or teams c.team []) one.teams ∙ get_or-set_same old.teams.items c.team (get_or old.teams.items c.team [] ++ opening_slot (length old.owners.items) c ∷ []) [] inside in
+        ap (λ (teams : List (List Slot)). get_or teams c.team []) one.teams
+        ∙ get_or-set_same old.teams.items c.team (get_or old.teams.items c.team [] ++ opening_slot (length old.owners.items) c ∷ []) [] inside in
         let behind : own_last number (length old.owners.items) c ≡ opening_slot (length old.owners.items) c ∷ [] = last_yes number e in
         rw same (after ∙ ap (λ (slots : List Slot). slots ++ opening_slot (length old.owners.items) c ∷ []) (before.each c.team))
         ∙ ap (λ (slots : List Slot). own_slots number 0 (take k cells) ++ slots) (sym behind) ∙ sym (last_own number)
@@ -159,7 +169,8 @@ one_more cells k count c old new within is inside before one =
         let apart : number ≢ c.team = λ same. false≢true (sym e ∙ eq-eqb c.team number (sym same)) in
         ap (λ (teams : List (List Slot)). get_or teams number []) one.teams
         ∙ get_or-set_other old.teams.items c.team number (get_or old.teams.items c.team [] ++ opening_slot (length old.owners.items) c ∷ []) [] apart
-        ∙ before.each number ∙ sym (append-nil (own_slots number 0 (take k cells))) ∙ ap (λ (slots : List Slot). own_slots number 0 (take k cells) ++ slots) (sym (last_no number e)) ∙ sym (last_own number)
+        ∙ before.each number ∙ sym (append-nil (own_slots number 0 (take k cells)))
+        ∙ ap (λ (slots : List Slot). own_slots number 0 (take k cells) ++ slots) (sym (last_no number e)) ∙ sym (last_own number)
 
 pub all_taken : (cells : List LoadedCell) (k count : ℕ) (p : Parts) → length cells ≤ k → AreTakenIn (take k cells) count p → AreTakenIn cells count p
 all_taken cells k count p past taken =
@@ -167,17 +178,20 @@ all_taken cells k count p past taken =
     rw whole at taken
 
 -- a cell's name is not one of those before it
-pub new_name : (cells : List LoadedCell) (k : ℕ) (c : LoadedCell) → CellsNamed cells → k < length cells → c ≡ get_or cells k c → position_of (map (λ x. x.name) (take k cells)) c.name ≡ None
+pub new_name : (cells : List LoadedCell) (k : ℕ) (c : LoadedCell) → CellsNamed cells → k < length cells → c ≡ get_or cells k c
+    → position_of (map (λ x. x.name) (take k cells)) c.name ≡ None
 new_name cells k c named within is = by (position_of (map (λ (x : LoadedCell). x.name) (take k cells)) c.name) refl where
   by : (o : Option ℕ) → position_of (map (λ (x : LoadedCell). x.name) (take k cells)) c.name ≡ o → o ≡ None
   by None e = refl
   by (Some at) e =
-      let there : slice_get (map (λ (x : LoadedCell). x.name) (take k cells)) at ≡ Some c.name = stands_there (map (λ (x : LoadedCell). x.name) (take k cells)) c.name at e in
+      let there : slice_get (map (λ (x : LoadedCell). x.name) (take k cells)) at ≡ Some c.name =
+      stands_there (map (λ (x : LoadedCell). x.name) (take k cells)) c.name at e in
       let many : length (map (λ (x : LoadedCell). x.name) (take k cells)) ≡ length (take k cells) = length-map (take k cells) (λ (x : LoadedCell). x.name) in
       let inside : at < length (take k cells) = omega (arith, many, slice_get_within (map (λ (x : LoadedCell). x.name) (take k cells)) at c.name there) in
       let below : at < k = grind (arith, common_steps) in
       let name : (get_or (take k cells) at c).name ≡ c.name =
-      sym (map_at (λ (x : LoadedCell). x.name) (take k cells) at c) ∙ get_or_from_slice_get (map (λ (x : LoadedCell). x.name) (take k cells)) at c.name c.name there in
+      sym (map_at (λ (x : LoadedCell). x.name) (take k cells) at c)
+      ∙ get_or_from_slice_get (map (λ (x : LoadedCell). x.name) (take k cells)) at c.name c.name there in
       let same : (get_or cells at c).name ≡ (get_or cells k c).name =
       ap (λ (x : LoadedCell). x.name) (sym (get_or-take k cells at c below)) ∙ name ∙ ap (λ (x : LoadedCell). x.name) is in
       absurd (named at k c below within same)

@@ -1,5 +1,6 @@
 -- A team's cell by its name: the owner of the name, where it is the team's.
-use Rattle.std.proofs.Common.{◌≡◌, ℕ, zero, suc, ◌+◌, ◌<◌, Bool, true, false, cond, List, [], ◌∷◌, length, map, get_or, Option, Some, None, refl, ap, sym, ◌∙◌, add-zero, zero-add, arith}
+use Rattle.std.proofs.Common.{◌≡◌, ℕ, zero, suc, ◌+◌, ◌<◌, Bool, true, false, cond, List, [], ◌∷◌, length}
+use Rattle.std.proofs.Common.{map, get_or, Option, Some, None, refl, ap, sym, ◌∙◌, add-zero, zero-add, arith}
 use Rattle.std.specs.Prelude.{slice_get, bytes_eq}
 use Rattle.std.specs.List.{position_from}
 use Rattle.std.proofs.lemmas.Iterator.Adapters.{position_from-zero}
@@ -20,7 +21,8 @@ use Rattle.lf_cells.proofs.Lists.{map_at}
 search_from : List ℕ → ℕ → List Cell → Option ℕ
 search_from name n cells = position_from (λ (c : Cell). bytes_eq c.name name) n cells
 
-first_from : (names : List (List ℕ)) (slots : List Slot) (name : List ℕ) (label own n : ℕ) → bytes_eq (get_or names label []) name ≡ true → slice_get (labels slots) own ≡ Some label
+first_from : (names : List (List ℕ)) (slots : List Slot) (name : List ℕ) (label own n : ℕ) → bytes_eq (get_or names label []) name ≡ true
+    → slice_get (labels slots) own ≡ Some label
     → ((k l : ℕ) → k < own → slice_get (labels slots) k ≡ Some l → bytes_eq (get_or names l []) name ≡ false)
     → search_from name n (map (cell_in names) slots) ≡ Some (n + own)
 unfolding search_from
@@ -35,7 +37,8 @@ first_from names (s ∷ ss) name label (suc own) n is at early =
     ∙ first_from names ss name label own (n + 1) is at (λ k l below there. early (suc k) l (omega (arith, below)) there)
     ∙ ap (λ (k : ℕ). Some k) shift
 
-none_from : (names : List (List ℕ)) (slots : List Slot) (name : List ℕ) (n : ℕ) → ((k l : ℕ) → slice_get (labels slots) k ≡ Some l → bytes_eq (get_or names l []) name ≡ false)
+none_from : (names : List (List ℕ)) (slots : List Slot) (name : List ℕ) (n : ℕ)
+    → ((k l : ℕ) → slice_get (labels slots) k ≡ Some l → bytes_eq (get_or names l []) name ≡ false)
     → search_from name n (map (cell_in names) slots) ≡ None
 unfolding search_from
 none_from names [] name n fails = refl
@@ -47,7 +50,8 @@ none_from names (s ∷ ss) name n fails =
 own_of : Parts → ℕ → List Slot
 own_of p team = get_or p.teams.items team []
 
-named_is : (p : Parts) (table : Cells) (name : List ℕ) (team : ℕ) → table_of p ≡ table → cell_named name (cells_of table team) ≡ search_from name 0 (map (cell_in p.names) (own_of p team))
+named_is : (p : Parts) (table : Cells) (name : List ℕ) (team : ℕ) → table_of p ≡ table
+    → cell_named name (cells_of table team) ≡ search_from name 0 (map (cell_in p.names) (own_of p team))
 unfolding search_from own_of
 named_is p table name team view =
     ap (λ (t : Cells). cell_named name (cells_of t team)) (sym view)
@@ -70,7 +74,8 @@ pub record Bears (p : Parts) (name : List ℕ) (team k l : ℕ) : Type 0 where
   pub position : position_of p.names name ≡ Some l
   pub owner : slice_get p.owners.items l ≡ Some (id_of team k)
 
-bears : (p : Parts) (name : List ℕ) (team k l : ℕ) → AreIndexed p → slice_get (labels (own_of p team)) k ≡ Some l → bytes_eq (get_or p.names l []) name ≡ true → Bears p name team k l
+bears : (p : Parts) (name : List ℕ) (team k l : ℕ) → AreIndexed p → slice_get (labels (own_of p team)) k ≡ Some l → bytes_eq (get_or p.names l []) name ≡ true
+    → Bears p name team k l
 bears p name team k l indexed there same =
     let owner : slice_get p.owners.items l ≡ Some (id_of team k) = (indexed.index.owned (id_of team k) l).1 (label_of p team k ∙ there) in
     let within : l < length p.owners.items = slice_get_within p.owners.items l (id_of team k) owner in
@@ -84,13 +89,16 @@ refuted : (t : Bool) → (t ≡ true → ⊥) → t ≡ false
 refuted true fails = absurd (fails refl)
 refuted false fails = refl
 
-pub no_own : (p : Parts) (table : Cells) (name : List ℕ) (team : ℕ) → AreIndexed p → table_of p ≡ table → position_of p.names name ≡ None → cell_named name (cells_of table team) ≡ None
+pub no_own : (p : Parts) (table : Cells) (name : List ℕ) (team : ℕ) → AreIndexed p → table_of p ≡ table → position_of p.names name ≡ None
+    → cell_named name (cells_of table team) ≡ None
 no_own p table name team indexed view absent =
     let none : search_from name 0 (map (cell_in p.names) (own_of p team)) ≡ None =
-    none_from p.names (own_of p team) name 0 (λ k l there. refuted (bytes_eq (get_or p.names l []) name) (λ same. let b = bears p name team k l indexed there same in cc (b.position, absent))) in
+    none_from p.names (own_of p team) name 0
+    (λ k l there. refuted (bytes_eq (get_or p.names l []) name) (λ same. let b = bears p name team k l indexed there same in cc (b.position, absent))) in
     named_is p table name team view ∙ none
 
-pub other_own : (p : Parts) (table : Cells) (name : List ℕ) (team label : ℕ) (id : CellId) → AreIndexed p → table_of p ≡ table → position_of p.names name ≡ Some label → slice_get p.owners.items label ≡ Some id
+pub other_own : (p : Parts) (table : Cells) (name : List ℕ) (team label : ℕ) (id : CellId) → AreIndexed p → table_of p ≡ table
+    → position_of p.names name ≡ Some label → slice_get p.owners.items label ≡ Some id
     → (id.team ≡ team → ⊥) → cell_named name (cells_of table team) ≡ None
 other_own p table name team label id indexed view found owner other =
     let none : search_from name 0 (map (cell_in p.names) (own_of p team)) ≡ None =
@@ -102,7 +110,8 @@ other_own p table name team label id indexed view found owner other =
     other (ap (λ (i : CellId). i.team) is))) in
     named_is p table name team view ∙ none
 
-pub found_own : (p : Parts) (table : Cells) (name : List ℕ) (team label : ℕ) (id : CellId) → AreIndexed p → table_of p ≡ table → position_of p.names name ≡ Some label → slice_get p.owners.items label ≡ Some id
+pub found_own : (p : Parts) (table : Cells) (name : List ℕ) (team label : ℕ) (id : CellId) → AreIndexed p → table_of p ≡ table
+    → position_of p.names name ≡ Some label → slice_get p.owners.items label ≡ Some id
     → id.team ≡ team → cell_named name (cells_of table team) ≡ Some id.own
 found_own p table name team label id indexed view found owner own =
     let there : slice_get (labels (own_of p id.team)) id.own ≡ Some label = sym (label_of p id.team id.own) ∙ (indexed.index.owned id label).0 owner in
@@ -119,7 +128,8 @@ found_own p table name team label id indexed view found owner own =
     rw (← own) (named_is p table name id.team view ∙ first)
 
 -- the owner of a name stands among its team's cells
-pub found_within : (p : Parts) (table : Cells) (team label : ℕ) (id : CellId) → AreIndexed p → table_of p ≡ table → slice_get p.owners.items label ≡ Some id → id.team ≡ team → id.own < length (cells_of table team)
+pub found_within : (p : Parts) (table : Cells) (team label : ℕ) (id : CellId) → AreIndexed p → table_of p ≡ table → slice_get p.owners.items label ≡ Some id
+    → id.team ≡ team → id.own < length (cells_of table team)
 found_within p table team label id indexed view owner own =
     let there : slice_get (labels (own_of p id.team)) id.own ≡ Some label = sym (label_of p id.team id.own) ∙ (indexed.index.owned id label).0 owner in
     let within : id.own < length (labels (own_of p id.team)) = slice_get_within (labels (own_of p id.team)) id.own label there in

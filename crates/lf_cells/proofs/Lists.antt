@@ -20,7 +20,8 @@ same_seen {X} {Y} f (a ∷ rest) zero d x e = ap (λ (b : Y). b ∷ map f rest) 
 same_seen {X} {Y} f (a ∷ rest) (suc i) d x e = ap (λ (bs : List Y). f a ∷ bs) (same_seen f rest i d x e)
 
 -- a change of one element that the map shows as another change
-pub change_seen : {X Y : Type 0} (f : X → Y) (h : Y → Y) (xs : List X) (i : ℕ) (d x : X) → f x ≡ h (f (get_or xs i d)) → map f (set xs i x) ≡ set (map f xs) i (h (get_or (map f xs) i (f d)))
+pub change_seen : {X Y : Type 0} (f : X → Y) (h : Y → Y) (xs : List X) (i : ℕ) (d x : X) → f x ≡ h (f (get_or xs i d))
+    → map f (set xs i x) ≡ set (map f xs) i (h (get_or (map f xs) i (f d)))
 change_seen f h [] i d x e = refl
 change_seen {X} {Y} f h (a ∷ rest) zero d x e = ap (λ (b : Y). b ∷ map f rest) e
 change_seen {X} {Y} f h (a ∷ rest) (suc i) d x e = ap (λ (bs : List Y). f a ∷ bs) (change_seen f h rest i d x e)

@@ -1,5 +1,6 @@
 -- How a table keeps its cells.
-use Rattle.std.specs.Prelude.{◌≡◌, ◌≢◌, ◌↔◌, ℕ, zero, suc, ◌+◌, ◌==◌, if◌then◌else◌, List, [], ◌∷◌, ◌++◌, Option, Some, map, length, slice_get, slice_set, slice_index_or, AllPairs}
+use Rattle.std.specs.Prelude.{◌≡◌, ◌≢◌, ◌↔◌, ℕ, zero, suc, ◌+◌, ◌==◌, if◌then◌else◌, List, []}
+use Rattle.std.specs.Prelude.{◌∷◌, ◌++◌, Option, Some, map, length, slice_get, slice_set, slice_index_or, AllPairs}
 use Rattle.lf_floorplan.specs.declared.place.Place.{Place}
 use Rattle.lf_floorplan.specs.declared.loaded.Cell.{Cell as LoadedCell}
 use Rattle.lf_cells.specs.declared.cell.Cell.{Cell}

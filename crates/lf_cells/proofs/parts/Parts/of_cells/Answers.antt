@@ -5,11 +5,14 @@ use Rattle.lf_cells.proofs.Filling.{none_yet, one_more, all_taken, own_few, new_
 use Rattle.lf_cells.proofs.parts.Parts.of_cells.Goals as goal
 
 pub loop-cell-init : goal.loop-cell-init
-loop-cell-init c = none_yet c.args.count (record { names = c.new.result; owners = c.new-2.result; teams = c.in_ok-empty_teams.field-0 }) c.new.ensures c.new-2.ensures.items (c.in_ok-empty_teams.ensures {u = tt})
+loop-cell-init c =
+    none_yet c.args.count (record { names = c.new.result; owners = c.new-2.result; teams = c.in_ok-empty_teams.field-0 }) c.new.ensures c.new-2.ensures.items
+    (c.in_ok-empty_teams.ensures {u = tt})
 
 pub take_in-requires-clause-team : goal.take_in-requires-clause-team
 take_in-requires-clause-team c =
-    let inside : (get_or c.args.cells.now c.loop-cell.cell-index c.cell-item.result).team < c.args.count = c.requires.known c.loop-cell.cell-index c.cell-item.result c.loop-cell-test.true in
+    let inside : (get_or c.args.cells.now c.loop-cell.cell-index c.cell-item.result).team < c.args.count =
+    c.requires.known c.loop-cell.cell-index c.cell-item.result c.loop-cell-test.true in
     let item : c.cell-item.result.team < c.args.count = rw (← c.cell-item.is) at inside in
     omega (arith, item, c.loop-cell.invariant.count_is)
 
@@ -24,7 +27,8 @@ take_in-requires-clause-few_cells c =
 pub take_in-requires-clause-few_own : goal.take_in-requires-clause-few_own
 take_in-requires-clause-few_own c =
     let part : length (take c.loop-cell.cell-index c.args.cells.now) ≤ length c.args.cells.now = grind (arith, common_steps) in
-    rw (c.loop-cell.invariant.each c.cell-item.result.team) (omega (arith, part, c.requires.few_cells, own_few c.cell-item.result.team 0 (take c.loop-cell.cell-index c.args.cells.now)))
+    rw (c.loop-cell.invariant.each c.cell-item.result.team)
+    (omega (arith, part, c.requires.few_cells, own_few c.cell-item.result.team 0 (take c.loop-cell.cell-index c.args.cells.now)))
 
 pub take_in-requires-clause-new : goal.take_in-requires-clause-new
 take_in-requires-clause-new c =
@@ -33,9 +37,11 @@ take_in-requires-clause-new c =
 
 pub loop-cell-preserved : goal.loop-cell-preserved
 loop-cell-preserved c =
-    let inside : (get_or c.args.cells.now c.loop-cell.cell-index c.cell-item.result).team < c.args.count = c.requires.known c.loop-cell.cell-index c.cell-item.result c.loop-cell-test.true in
+    let inside : (get_or c.args.cells.now c.loop-cell.cell-index c.cell-item.result).team < c.args.count =
+    c.requires.known c.loop-cell.cell-index c.cell-item.result c.loop-cell-test.true in
     let item : c.cell-item.result.team < c.args.count = rw (← c.cell-item.is) at inside in
-    one_more c.args.cells.now c.loop-cell.cell-index c.args.count c.cell-item.result c.loop-cell.parts c.take_in.new.self c.loop-cell-test.true c.cell-item.is (omega (arith, item, c.loop-cell.invariant.count_is)) c.loop-cell.invariant
+    one_more c.args.cells.now c.loop-cell.cell-index c.args.count c.cell-item.result c.loop-cell.parts c.take_in.new.self c.loop-cell-test.true c.cell-item.is
+    (omega (arith, item, c.loop-cell.invariant.count_is)) c.loop-cell.invariant
     (c.in_ok-take_in.ensures {u = tt})
 
 pub returns : goal.returns

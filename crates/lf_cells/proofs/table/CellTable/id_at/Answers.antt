@@ -26,5 +26,6 @@ returns c =
     let some : slot_at p.teams.items id ≡ Some c.in_ok-slot.slot = sym c.slot.ensures ∙ c.in_ok-slot.was {u = tt} in
     let owner : slice_get p.owners.items label ≡ Some id = owner_is p id c.in_ok-slot.slot c.self.invariant some in
     let within : label < length p.owners.items = slice_get_within p.owners.items label id owner in
-    let read : slice_get p.owners.items label ≡ Some c.index.result.now = slice_get_read p.owners.items (length p.owners.items) label c.index.result.now refl within c.index.ensures in
+    let read : slice_get p.owners.items label ≡ Some c.index.result.now =
+    slice_get_read p.owners.items (length p.owners.items) label c.index.result.now refl within c.index.ensures in
     sym read ∙ owner ∙ sym (id_is p c.args.self.now c.args.team c.args.own c.in_ok-slot.slot c.self.view_is some)
