@@ -1,0 +1,221 @@
+-- A table that is filled cell by cell.
+use Rattle.std.proofs.Common.{◌≡◌, ◌≢◌, ℕ, zero, suc, ◌+◌, ◌<◌, ◌≤◌, Bool, true, false, cond, eqb, List, [], ◌∷◌, ◌++◌}
+use Rattle.std.proofs.Common.{length, map, take, get_or, set, replicate, Option, Some, None, refl, ap, ap₂, sym, ◌∙◌, add-zero, arith}
+use Rattle.std.specs.Prelude.{slice_get}
+use Rattle.std.proofs.lemmas.Grind.{common_steps}
+use Rattle.std.proofs.lemmas.Bool.{false≢true, eqb-true, eq-eqb}
+use Rattle.std.proofs.lemmas.List.{length-append, length-set, length-map, length-replicate, get_or-take, append-nil}
+use Rattle.std.proofs.lemmas.List.{get_or-set_same, get_or-set_other, map-set, map-append}
+use Rattle.std.proofs.lemmas.Option.{slice_get_within, get_or_from_slice_get, none-some}
+use Rattle.lf_names.specs.Names.{position_of}
+use Rattle.lf_names.proofs.Positions.{stands_there}
+use Rattle.lf_floorplan.specs.declared.loaded.Cell.{Cell as LoadedCell}
+use Rattle.lf_floorplan.specs.Design.{CellsNamed}
+use Rattle.lf_cells.specs.declared.cell.CellId.{CellId}
+use Rattle.lf_cells.specs.declared.slots.Slot.{Slot}
+use Rattle.lf_cells.specs.declared.parts.Parts.{Parts}
+use Rattle.lf_cells.specs.Cells.{id_of}
+use Rattle.lf_cells.specs.Slots.{opening_slot, own_slots, labels, labels_in, label_at, IsIndex, TakesIn, AreTakenIn}
+use Rattle.lf_cells.proofs.Lists.{map_at, get_kept, get_last, IsOneOf, Earlier, Last, one_of}
+
+-- ---- one more position of a name, behind the others of its team
+
+with_label : List (List ℕ) → ℕ → ℕ → List (List ℕ)
+with_label all team n = set all team (get_or all team [] ++ n ∷ [])
+
+label_kept : (all : List (List ℕ)) (team n other own label : ℕ) → slice_get (get_or all other []) own ≡ Some label
+    → slice_get (get_or (with_label all team n) other []) own ≡ Some label
+unfolding with_label
+label_kept [] team n other own label e = e
+label_kept (l ∷ ls) zero n zero own label e = get_kept l n own label e
+label_kept (l ∷ ls) zero n (suc other) own label e = e
+label_kept (l ∷ ls) (suc team) n zero own label e = e
+label_kept (l ∷ ls) (suc team) n (suc other) own label e = label_kept ls team n other own label e
+
+label_new : (all : List (List ℕ)) (team n : ℕ) → team < length all → slice_get (get_or (with_label all team n) team []) (length (get_or all team [])) ≡ Some n
+unfolding with_label
+label_new [] team n within = absurd (omega (arith, within))
+label_new (l ∷ ls) zero n within = get_last l n
+label_new (l ∷ ls) (suc team) n within = label_new ls team n (omega (arith, within))
+
+-- the position is an earlier one, or the new one
+data IsOldOrNew (all : List (List ℕ)) (team n other own label : ℕ) : Type 0 where
+  Old : slice_get (get_or all other []) own ≡ Some label → IsOldOrNew all team n other own label
+  New : other ≡ team → own ≡ length (get_or all team []) → label ≡ n → IsOldOrNew all team n other own label
+
+old_or_new : (all : List (List ℕ)) (team n other own label : ℕ) → slice_get (get_or (with_label all team n) other []) own ≡ Some label
+    → IsOldOrNew all team n other own label
+unfolding with_label
+old_or_new [] team n other own label e = Old e
+old_or_new (l ∷ ls) zero n zero own label e = by (one_of l n own label e) where
+  by : IsOneOf l n own label → IsOldOrNew (l ∷ ls) zero n zero own label
+  by (Earlier before) = Old before
+  by (Last at same) = New refl at (sym same)
+old_or_new (l ∷ ls) zero n (suc other) own label e = Old e
+old_or_new (l ∷ ls) (suc team) n zero own label e = Old e
+old_or_new (l ∷ ls) (suc team) n (suc other) own label e = by (old_or_new ls team n other own label e) where
+  by : IsOldOrNew ls team n other own label → IsOldOrNew (l ∷ ls) (suc team) n (suc other) own label
+  by (Old before) = Old before
+  by (New here at is) = New (ap suc here) at is
+
+index_more : (owners : List CellId) (all : List (List ℕ)) (team : ℕ) → team < length all → IsIndex owners all
+    → IsIndex (owners ++ id_of team (length (get_or all team [])) ∷ []) (with_label all team (length owners))
+index_more owners all team within index =
+    record {
+      owned = λ id label.
+          (λ e. there id label (one_of owners last label id e), λ e. back id label (old_or_new all team (length owners) id.team id.own label e));
+    }
+  where
+    last : CellId
+    last = id_of team (length (get_or all team []))
+
+    there : (id : CellId) (label : ℕ) → IsOneOf owners (id_of team (length (get_or all team []))) label id
+        → label_at (with_label all team (length owners)) id ≡ Some label
+    there id label (Earlier e) = label_kept all team (length owners) id.team id.own label ((index.owned id label).0 e)
+    there id label (Last at same) = rw (at, ← same) (label_new all team (length owners) within)
+
+    back : (id : CellId) (label : ℕ) → IsOldOrNew all team (length owners) id.team id.own label
+        → slice_get (owners ++ id_of team (length (get_or all team [])) ∷ []) label ≡ Some id
+    back id label (Old e) = get_kept owners (id_of team (length (get_or all team []))) label id ((index.owned id label).1 e)
+    back id label (New here at is) =
+        let whole : id_of team (length (get_or all team [])) ≡ id = ap₂ id_of (sym here) (sym at) in
+        rw is (get_last owners (id_of team (length (get_or all team []))) ∙ ap (λ (i : CellId). Some i) whole)
+
+-- ---- a team's own cells
+
+own_last : ℕ → ℕ → LoadedCell → List Slot
+own_last number label c = cond (eqb c.team number) (opening_slot label c ∷ []) []
+
+own_append : (number label : ℕ) (cells : List LoadedCell) (c : LoadedCell)
+    → own_slots number label (cells ++ c ∷ []) ≡ own_slots number label cells ++ own_last number (label + length cells) c
+unfolding own_last
+own_append number label [] c = rw add-zero refl
+own_append number label (x ∷ xs) c =
+    let shift : label + 1 + length xs ≡ label + suc (length xs) = omega arith in
+    go (eqb x.team number) (own_append number (label + 1) xs c ∙ ap (λ (k : ℕ). own_slots number (label + 1) xs ++ own_last number k c) shift)
+  where
+    go : (b : Bool) → own_slots number (label + 1) (xs ++ c ∷ []) ≡ own_slots number (label + 1) xs ++ own_last number (label + suc (length xs)) c
+        → cond b (opening_slot label x ∷ own_slots number (label + 1) (xs ++ c ∷ [])) (own_slots number (label + 1) (xs ++ c ∷ []))
+        ≡ cond b (opening_slot label x ∷ own_slots number (label + 1) xs) (own_slots number (label + 1) xs) ++ own_last number (label + suc (length xs)) c
+    go true e = ap (λ (r : List Slot). opening_slot label x ∷ r) e
+    go false e = e
+
+pub own_few : (number label : ℕ) (cells : List LoadedCell) → length (own_slots number label cells) ≤ length cells
+own_few number label [] = omega arith
+own_few number label (c ∷ cs) = go (eqb c.team number) (own_few number (label + 1) cs) where
+  go : (b : Bool) → length (own_slots number (label + 1) cs) ≤ length cs
+      → length (cond b (opening_slot label c ∷ own_slots number (label + 1) cs) (own_slots number (label + 1) cs)) ≤ suc (length cs)
+  go true e = omega (arith, e)
+  go false e = omega (arith, e)
+
+-- ---- one more cell
+
+pub one_more : (cells : List LoadedCell) (k count : ℕ) (c : LoadedCell) (old new : Parts) → k < length cells → c ≡ get_or cells k c
+    → c.team < length old.teams.items → AreTakenIn (take k cells) count old → TakesIn c old new
+    → AreTakenIn (take (k + 1) cells) count new
+unfolding with_label own_last
+one_more cells k count c old new within is inside before one =
+    let front : take (k + 1) cells ≡ take k cells ++ c ∷ [] = grind (arith, common_steps) in
+    rw front (record {
+      names = one.names ∙ ap (λ (ns : List (List ℕ)). ns ++ c.name ∷ []) before.names ∙ sym (map-append (λ (x : LoadedCell). x.name) (take k cells) (c ∷ []));
+      many = rw (one.owners, length-append, length-append) (ap (λ (n : ℕ). n + 1) before.many);
+      index = indexed;
+      count_is = rw (one.teams, length-set) before.count_is;
+      each = λ number. own_each number (eqb c.team number) refl;
+    })
+  where
+    team_labels : get_or (labels_in old.teams.items) c.team [] ≡ labels (get_or old.teams.items c.team [])
+    team_labels = map_at labels old.teams.items c.team []
+
+    labels_after : labels_in new.teams.items ≡ with_label (labels_in old.teams.items) c.team (length old.owners.items)
+    labels_after =
+        ap labels_in one.teams ∙ map-set labels old.teams.items c.team (get_or old.teams.items c.team [] ++ opening_slot (length old.owners.items) c ∷ [])
+        ∙ ap (λ (l : List ℕ). set (labels_in old.teams.items) c.team l)
+        (map-append (λ (s : Slot). s.label) (get_or old.teams.items c.team []) (opening_slot (length old.owners.items) c ∷ [])
+        ∙ ap (λ (l : List ℕ). l ++ length old.owners.items ∷ []) (sym team_labels))
+
+    owners_after : new.owners.items ≡ old.owners.items ++ id_of c.team (length (get_or (labels_in old.teams.items) c.team [])) ∷ []
+    owners_after =
+        one.owners
+        ∙ ap (λ (n : ℕ). old.owners.items ++ id_of c.team n ∷ [])
+        (sym (ap (λ (l : List ℕ). length l) team_labels ∙ length-map (get_or old.teams.items c.team []) (λ (s : Slot). s.label)))
+
+    indexed : IsIndex new.owners.items (labels_in new.teams.items)
+    indexed =
+        let many : length (labels_in old.teams.items) ≡ length old.teams.items = length-map old.teams.items labels in
+        rw (labels_after, owners_after) (index_more old.owners.items (labels_in old.teams.items) c.team (omega (arith, inside, many)) before.index)
+
+    last_own : (number : ℕ) → own_slots number 0 (take k cells ++ c ∷ []) ≡ own_slots number 0 (take k cells) ++ own_last number (length old.owners.items) c
+    last_own number =
+        let label : 0 + length (take k cells) ≡ length old.owners.items = omega (arith, before.many) in
+        own_append number 0 (take k cells) c ∙ ap (λ (n : ℕ). own_slots number 0 (take k cells) ++ own_last number n c) label
+
+    last_yes : (number : ℕ) → eqb c.team number ≡ true → own_last number (length old.owners.items) c ≡ opening_slot (length old.owners.items) c ∷ []
+    last_yes number e = rw e refl
+
+    last_no : (number : ℕ) → eqb c.team number ≡ false → own_last number (length old.owners.items) c ≡ []
+    last_no number e = rw e refl
+
+    own_each : (number : ℕ) (b : Bool) → eqb c.team number ≡ b → get_or new.teams.items number [] ≡ own_slots number 0 (take k cells ++ c ∷ [])
+    own_each number true e =
+        let same : number ≡ c.team = sym (eqb-true c.team number e) in
+        let after : get_or new.teams.items c.team [] ≡ get_or old.teams.items c.team [] ++ opening_slot (length old.owners.items) c ∷ [] =
+        ap (λ (teams : List (List Slot)). get_or teams c.team []) one.teams
+        ∙ get_or-set_same old.teams.items c.team (get_or old.teams.items c.team [] ++ opening_slot (length old.owners.items) c ∷ []) [] inside in
+        let behind : own_last number (length old.owners.items) c ≡ opening_slot (length old.owners.items) c ∷ [] = last_yes number e in
+        rw same (after ∙ ap (λ (slots : List Slot). slots ++ opening_slot (length old.owners.items) c ∷ []) (before.each c.team))
+        ∙ ap (λ (slots : List Slot). own_slots number 0 (take k cells) ++ slots) (sym behind) ∙ sym (last_own number)
+    own_each number false e =
+        let apart : number ≢ c.team = λ same. false≢true (sym e ∙ eq-eqb c.team number (sym same)) in
+        ap (λ (teams : List (List Slot)). get_or teams number []) one.teams
+        ∙ get_or-set_other old.teams.items c.team number (get_or old.teams.items c.team [] ++ opening_slot (length old.owners.items) c ∷ []) [] apart
+        ∙ before.each number ∙ sym (append-nil (own_slots number 0 (take k cells)))
+        ∙ ap (λ (slots : List Slot). own_slots number 0 (take k cells) ++ slots) (sym (last_no number e)) ∙ sym (last_own number)
+
+pub all_taken : (cells : List LoadedCell) (k count : ℕ) (p : Parts) → length cells ≤ k → AreTakenIn (take k cells) count p → AreTakenIn cells count p
+all_taken cells k count p past taken =
+    let whole : take k cells ≡ cells = grind (arith, common_steps) in
+    rw whole at taken
+
+-- a cell's name is not one of those before it
+pub new_name : (cells : List LoadedCell) (k : ℕ) (c : LoadedCell) → CellsNamed cells → k < length cells → c ≡ get_or cells k c
+    → position_of (map (λ x. x.name) (take k cells)) c.name ≡ None
+new_name cells k c named within is = by (position_of (map (λ (x : LoadedCell). x.name) (take k cells)) c.name) refl where
+  by : (o : Option ℕ) → position_of (map (λ (x : LoadedCell). x.name) (take k cells)) c.name ≡ o → o ≡ None
+  by None e = refl
+  by (Some at) e =
+      let there : slice_get (map (λ (x : LoadedCell). x.name) (take k cells)) at ≡ Some c.name =
+      stands_there (map (λ (x : LoadedCell). x.name) (take k cells)) c.name at e in
+      let many : length (map (λ (x : LoadedCell). x.name) (take k cells)) ≡ length (take k cells) = length-map (take k cells) (λ (x : LoadedCell). x.name) in
+      let inside : at < length (take k cells) = omega (arith, many, slice_get_within (map (λ (x : LoadedCell). x.name) (take k cells)) at c.name there) in
+      let below : at < k = grind (arith, common_steps) in
+      let name : (get_or (take k cells) at c).name ≡ c.name =
+      sym (map_at (λ (x : LoadedCell). x.name) (take k cells) at c)
+      ∙ get_or_from_slice_get (map (λ (x : LoadedCell). x.name) (take k cells)) at c.name c.name there in
+      let same : (get_or cells at c).name ≡ (get_or cells k c).name =
+      ap (λ (x : LoadedCell). x.name) (sym (get_or-take k cells at c below)) ∙ name ∙ ap (λ (x : LoadedCell). x.name) is in
+      absurd (named at k c below within same)
+
+-- ---- no cell
+
+none_owned : (count : ℕ) (id : CellId) → label_at (labels_in (replicate count [])) id ≡ None
+none_owned count id = ap (λ (l : List ℕ). slice_get l id.own) (empty_at count id.team)
+  where
+    empty_at : (count team : ℕ) → get_or (labels_in (replicate count [])) team [] ≡ []
+    empty_at zero team = refl
+    empty_at (suc count) zero = refl
+    empty_at (suc count) (suc team) = empty_at count team
+
+pub none_yet : (count : ℕ) (p : Parts) → p.names ≡ [] → p.owners.items ≡ [] → p.teams.items ≡ replicate count [] → AreTakenIn [] count p
+none_yet count p names owners teams = record {
+  names = names;
+  many = ap (λ (ids : List CellId). length ids) owners;
+  index = rw (owners, teams) (record { owned = λ id label. (λ e. absurd (none-some id e), λ e. absurd (none-some label (sym (none_owned count id) ∙ e))) });
+  count_is = ap (λ (slots : List (List Slot)). length slots) teams ∙ length-replicate {A = List Slot} count [];
+  each = λ number. ap (λ (slots : List (List Slot)). get_or slots number []) teams ∙ empty_at count number;
+}
+  where
+    empty_at : (count team : ℕ) → get_or (replicate {A = List Slot} count []) team [] ≡ []
+    empty_at zero team = refl
+    empty_at (suc count) zero = refl
+    empty_at (suc count) (suc team) = empty_at count team

@@ -1,0 +1,6 @@
+pub mod Lists
+pub mod Changes
+pub mod Finding
+pub mod Filling
+pub mod Opened
+pub mod Looks

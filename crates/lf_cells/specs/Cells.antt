@@ -1,0 +1,56 @@
+-- The cells of all teams as contracts see them (LEF/DEF 5.8, DEF COMPONENTS).
+use Rattle.std.specs.Prelude.{ℕ, zero, suc, List, [], ◌∷◌, Option, position, bytes_eq, option_map, option_and_then, slice_get, slice_index_or}
+use Rattle.lf_floorplan.specs.declared.place.Place.{Place}
+use Rattle.lf_cells.specs.declared.cell.Cell.{Cell}
+use Rattle.lf_cells.specs.declared.cell.CellId.{CellId}
+
+-- for each team its cells in loading order, and the positions of their entries among all COMPONENTS of the DEF text
+pub record Cells : Type 0 where
+  pub cells : List (List Cell)
+  pub components : List (List ℕ)
+
+-- the cells of the team of that number; a team that is none has no cells
+abbrev pub cells_of : Cells → ℕ → List Cell
+cells_of table team = slice_index_or table.cells team []
+
+-- the positions of the entries of that team's cells
+abbrev pub components_of : Cells → ℕ → List ℕ
+components_of table team = slice_index_or table.components team []
+
+-- the cell that an id stands for
+abbrev pub cell_at : Cells → CellId → Option Cell
+cell_at table id = slice_get (cells_of table id.team) id.own
+
+-- the position of that cell's entry
+abbrev pub component_at : Cells → CellId → Option ℕ
+component_at table id = slice_get (components_of table id.team) id.own
+
+-- the id of the team's cell of that position
+abbrev pub id_of : ℕ → ℕ → CellId
+id_of team own = record { team = team; own = own }
+
+-- the id of the cell of that position among the team's cells; None where there is no such cell
+abbrev pub id_in : List Cell → ℕ → ℕ → Option CellId
+id_in cells team own = option_map (λ c. id_of team own) (slice_get cells own)
+
+-- the position of the cell of that name among these; None where none of them has it, whoever else may
+abbrev pub cell_named : List ℕ → List Cell → Option ℕ
+cell_named name cells = position (λ c. bytes_eq c.name name) cells
+
+-- the working place of the cell of that position; None where it is unplaced, or there is no such cell
+abbrev pub working_at : List Cell → ℕ → Option Place
+working_at cells own = option_and_then (λ c. c.working) (slice_get cells own)
+
+-- the committed place of the cell of that position; None where it is unplaced, or there is no such cell
+abbrev pub committed_at : List Cell → ℕ → Option Place
+committed_at cells own = option_and_then (λ c. c.committed) (slice_get cells own)
+
+-- the cells with the working place of one of them changed; what is committed stays
+abbrev pub moved : List Cell → ℕ → Option Place → List Cell
+moved [] own place = []
+moved (c ∷ cs) zero place = record c { working = place } ∷ cs
+moved (c ∷ cs) (suc own) place = c ∷ moved cs own place
+
+-- the working place of the cell is committed
+abbrev pub as_committed : Cell → Cell
+as_committed c = record c { committed = c.working }

@@ -1,0 +1,33 @@
+//! A cell, its id, and what no command changes of it.
+
+use lf_floorplan::Place;
+use lf_units::Name;
+
+/// A movable cell of a team (LEF/DEF 5.8, DEF COMPONENTS).
+#[derive(Drop)]
+pub struct Cell {
+    pub name: Name,
+    /// The position of its macro in the frame.
+    pub mac: usize,
+    /// Where the team has it now; none where it is unplaced.
+    pub working: Option<Place>,
+    /// Where the committed design has it; none where it is unplaced.
+    pub committed: Option<Place>,
+}
+
+/// A cell's team, and its position among the team's cells.
+#[derive(Clone, Copy, Debug, PartialEq, Eq)]
+pub struct CellId {
+    pub team: u32,
+    pub own: u32,
+}
+
+/// What no command changes of a cell.
+#[derive(Clone, Copy)]
+pub struct CellFacts<'a> {
+    pub name: &'a [u8],
+    /// The position of its macro in the frame.
+    pub mac: usize,
+    /// The position of its entry among all COMPONENTS of the DEF text.
+    pub component: usize,
+}

@@ -1,0 +1,130 @@
+//! The parts of a table, and how they are filled from a loaded design.
+
+ghost use Rattle.std.specs.Prelude.{◌≡◌, ◌≤◌, ◌<◌, ◌+◌, ◌++◌, ◌∷◌, [], All, None, OnOk, IfOk, length, map, replicate, slice_get, slice_index_or, slice_set};
+ghost use Rattle.lf_names.specs.Names.{position_of};
+ghost use Rattle.lf_floorplan.specs.Design.{CellsNamed};
+ghost use Rattle.lf_cells.specs.Slots.{moved_slots, committed_slot, slot_at, TakesIn, AreTakenIn};
+ghost use Rattle.lf_cells.specs.Cells.{id_of};
+
+use crate::cell::CellId;
+use crate::slots::{Slot, Slots};
+use lf_floorplan::{Cell as LoadedCell, Place};
+use lf_names::{Added, NameTable};
+use std::alloc::{AllocError, Global};
+
+/// The parts of a table.
+#[derive(Drop)]
+pub(crate) struct Parts {
+    /// The names of all cells, in loading order.
+    pub(crate) names: NameTable,
+    /// The cells that bear them.
+    pub(crate) owners: Vec<CellId>,
+    /// Each team's cells without their names.
+    pub(crate) teams: Vec<Slots>,
+}
+
+/// The id of the team's cell of that position.
+fn id_of(team: usize, own: usize) -> CellId
+    requires team { team ≤ 4000000 }
+    requires own { own ≤ 4000000 }
+    ensures { result ≡ id_of team own }
+{
+    CellId {
+        team: team as u32,
+        own: own as u32,
+    }
+}
+
+/// Adds a name that is not there yet.
+fn add_new(names: &mut NameTable, name: &[u8]) -> Result<(), AllocError>
+    requires { position_of names.old name.now ≡ None }
+    ensures { OnOk result (names.new ≡ names.old ++ name.now ∷ []) }
+{
+    match names.add(name)? {
+        Added::New(_) => Ok(()),
+        Added::Present(_) => unreachable!(),
+    }
+}
+
+/// Puts a cell behind the others of its team.
+fn push_cell(teams: &mut Vec<Slots>, team: usize, slot: Slot) -> Result<(), AllocError>
+    requires { team < length teams.old.items }
+    ensures { OnOk result (teams.new.items ≡ slice_set teams.old.items team (slice_index_or teams.old.items team [] ++ slot ∷ [])) }
+{
+    teams[team].push(slot)
+}
+
+/// Changes the working place of a cell of the team of that number, where it has the cell.
+pub(crate) fn move_cell(teams: &mut Vec<Slots>, team: usize, own: usize, place: Option<Place>)
+    requires { team < length teams.old.items }
+    ensures { teams.new.items ≡ slice_set teams.old.items team (moved_slots (slice_index_or teams.old.items team []) own place) }
+{
+    teams[team].set_working(own, place);
+}
+
+/// Makes the working places of the cells of the team of that number the committed ones.
+pub(crate) fn commit_cells(teams: &mut Vec<Slots>, team: usize)
+    requires { team < length teams.old.items }
+    ensures { teams.new.items ≡ slice_set teams.old.items team (map committed_slot (slice_index_or teams.old.items team [])) }
+{
+    teams[team].commit();
+}
+
+/// So many teams without cells.
+fn empty_teams(alloc: Global, count: usize) -> Result<Vec<Slots>, AllocError>
+    ensures { IfOk result (λ teams. teams.items ≡ replicate count []) }
+{
+    let mut teams = Vec::new(alloc);
+    for _ in 0..count {
+        teams.push(Slots::new(alloc))?;
+    }
+    Ok(teams)
+}
+
+impl Parts {
+    /// Puts the cell behind the others of its team.
+    fn take_in(&mut self, cell: &LoadedCell) -> Result<(), AllocError>
+        requires team { cell.now.team < length self.old.teams.items }
+        requires few_teams { length self.old.teams.items ≤ 4000000 }
+        requires few_cells { length self.old.owners.items ≤ 4000000 }
+        requires few_own { length (slice_index_or self.old.teams.items cell.now.team []) ≤ 4000000 }
+        requires new { position_of self.old.names cell.now.name ≡ None }
+        ensures { OnOk result (TakesIn cell.now self.old self.new) }
+    {
+        let label = self.owners.len() as u32;
+        let id = id_of(cell.team, self.teams[cell.team].len());
+        add_new(&mut self.names, cell.name.as_bytes())?;
+        self.owners.push(id)?;
+        push_cell(&mut self.teams, cell.team, Slot::opening(label, cell))
+    }
+
+    /// The parts of a table of these cells, for so many teams.
+    pub(crate) fn of_cells(
+        alloc: Global,
+        count: usize,
+        cells: &[LoadedCell],
+    ) -> Result<Parts, AllocError>
+        requires known { All (λ c. c.team < count) cells.now }
+        requires few_teams { count ≤ 4000000 }
+        requires few_cells { length cells.now ≤ 4000000 }
+        requires named { CellsNamed cells.now }
+        ensures { IfOk result (λ parts. AreTakenIn cells.now count parts) }
+    {
+        let mut parts = Parts {
+            names: NameTable::new(alloc),
+            owners: Vec::new(alloc),
+            teams: empty_teams(alloc, count)?,
+        };
+        for cell in cells {
+            parts.take_in(cell)?;
+        }
+        Ok(parts)
+    }
+
+    /// The team's cell of that position, without its name.
+    pub(crate) fn slot(&self, team: usize, own: usize) -> Option<Slot>
+        ensures { result ≡ slot_at self.now.teams.items (id_of team own) }
+    {
+        self.teams.get(team)?.get(own)
+    }
+}

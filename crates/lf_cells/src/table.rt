@@ -1,0 +1,133 @@
+//! The table of all teams' cells.
+
+ghost use Rattle.std.specs.Prelude.{◌≡◌, ◌+◌, ◌<◌, [], IfOk, IfSome, length, map, option_map, slice_set};
+ghost use Rattle.lf_cells.specs.Cells.{cells_of, cell_named, cell_at, component_at, id_in, working_at, committed_at, moved, as_committed};
+ghost use Rattle.lf_cells.specs.Openings.{opening_cells, opening_components};
+
+use crate::cell::{CellFacts, CellId};
+use crate::parts::{Parts, commit_cells, move_cell};
+use lf_floorplan::{Loaded, Place};
+use std::alloc::{AllocError, Global};
+use std::marker::Model;
+
+/// The cells of all teams of a loaded design. A team's number is its position among the fences of
+/// the frame, and last comes the ground team `-`.
+///
+/// Contracts see for each team the list of its cells in loading order, and the positions of their
+/// entries among all COMPONENTS of the DEF text. Only `build` takes memory.
+#[derive(Drop)]
+pub struct CellTable {
+    parts: Parts,
+}
+
+impl Model for CellTable {
+    ghost use Rattle.lf_cells.specs.Cells.{Cells};
+
+    ghost Value = { Cells };
+
+    ghost use Rattle.lf_cells.specs.Slots.{table_of, AreIndexed};
+
+    ghost view = { λ t. table_of t.parts };
+
+    ghost invariant = { λ t. AreIndexed t.parts };
+}
+
+impl CellTable {
+    /// The table of a design as it is loaded: each team has its own cells, in loading order, each
+    /// with its place in the DEF text as its working place and its committed place.
+    ///
+    /// `Err` where memory is refused.
+    pub fn build(alloc: Global, loaded: &Loaded) -> Result<CellTable, AllocError>
+        ensures cells { IfOk result (λ table. table.cells ≡ opening_cells loaded.now) }
+        ensures components { IfOk result (λ table. table.components ≡ opening_components loaded.now) }
+    {
+        let count = loaded.frame.teams.len() + 1;
+        let parts = Parts::of_cells(alloc, count, loaded.cells.as_slice())?;
+        Ok(CellTable { parts })
+    }
+
+    /// The team's cell of that name; none for another team's cell, as for one that no team has.
+    pub fn find_own(&self, team: usize, name: &[u8]) -> Option<CellId>
+        ensures own { option_map (λ id. id.own) result ≡ cell_named name.now (cells_of self.now team) }
+        ensures team { IfSome result (λ id. id.team ≡ team) }
+        ensures within { IfSome result (λ id. id.own < length (cells_of self.now team)) }
+    {
+        let label = self.parts.names.find(name)?;
+        let id = self.parts.owners[label];
+        if id.team as usize == team {
+            return Some(id);
+        }
+        None
+    }
+
+    /// How many cells the team has; none where there is no such team.
+    pub fn count_of(&self, team: usize) -> usize
+        ensures { result ≡ length (cells_of self.now team) }
+    {
+        match self.parts.teams.get(team) {
+            Some(slots) => slots.len(),
+            None => 0,
+        }
+    }
+
+    /// The id of the team's cell of that position, the first at 0; none where the team has no such
+    /// cell, or there is no such team.
+    pub fn id_at(&self, team: usize, own: usize) -> Option<CellId>
+        ensures { result ≡ id_in (cells_of self.now team) team own }
+    {
+        let slot = self.parts.slot(team, own)?;
+        Some(self.parts.owners[slot.label as usize])
+    }
+
+    /// What no command changes of a cell; none where there is no such cell.
+    pub fn cell(&self, id: CellId) -> Option<CellFacts<'_>>
+        ensures name { option_map (λ facts. facts.name.now) result ≡ option_map (λ c. c.name) (cell_at self.now id) }
+        ensures mac { option_map (λ facts. facts.mac) result ≡ option_map (λ c. c.mac) (cell_at self.now id) }
+        ensures component { option_map (λ facts. facts.component) result ≡ component_at self.now id }
+    {
+        let slot = self.parts.slot(id.team as usize, id.own as usize)?;
+        Some(CellFacts {
+            name: self.parts.names.name_at(slot.label as usize)?,
+            mac: slot.mac,
+            component: slot.component,
+        })
+    }
+
+    /// The working place of a cell; none where it is unplaced, or there is no such cell.
+    pub fn working(&self, id: CellId) -> Option<Place>
+        ensures { result ≡ working_at (cells_of self.now id.team) id.own }
+    {
+        self.parts.slot(id.team as usize, id.own as usize)?.working
+    }
+
+    /// The committed place of a cell; none where it is unplaced, or there is no such cell.
+    pub fn committed(&self, id: CellId) -> Option<Place>
+        ensures { result ≡ committed_at (cells_of self.now id.team) id.own }
+    {
+        self.parts
+            .slot(id.team as usize, id.own as usize)?
+            .committed
+    }
+
+    /// Changes the working place of one cell and nothing else; where there is no such cell, nothing
+    /// changes.
+    pub fn set_working(&mut self, id: CellId, place: Option<Place>)
+        ensures cells { self.new.cells ≡ slice_set self.old.cells id.team (moved (cells_of self.old id.team) id.own place) }
+        ensures components { self.new.components ≡ self.old.components }
+    {
+        let team = id.team as usize;
+        if team < self.parts.teams.len() {
+            move_cell(&mut self.parts.teams, team, id.own as usize, place);
+        }
+    }
+
+    /// Makes the working places of the team's cells their committed ones, and changes nothing else.
+    pub fn commit_team(&mut self, team: usize)
+        ensures cells { self.new.cells ≡ slice_set self.old.cells team (map as_committed (cells_of self.old team)) }
+        ensures components { self.new.components ≡ self.old.components }
+    {
+        if team < self.parts.teams.len() {
+            commit_cells(&mut self.parts.teams, team);
+        }
+    }
+}
