@@ -5,6 +5,7 @@ use lf_def::{DefDoc, W_DEF, read_def};
 use lf_floor::Floor;
 use lf_frame::{Limits, Loaded, load};
 use lf_lef::{Library, W_LEF, read_lef};
+use lf_legalize::PlainSeeker;
 use lf_lex::LoadFault;
 use lf_proto::report_json;
 use lf_reports::check_all;
@@ -202,7 +203,7 @@ fn put_replies<W: Write>(
     lines: &[u8],
     writer: &mut W,
 ) -> io::Result<()> {
-    let mut floor = Floor::start(alloc, loaded)?;
+    let mut floor = Floor::start(alloc, loaded, PlainSeeker)?;
     let mut reader = lines;
     let _ending = answer_lines(alloc, &mut floor, &mut reader, writer);
     Ok(())

@@ -3,10 +3,14 @@ use Rattle.std.specs.Prelude.{◌≡◌, ◌⊎◌, ℕ, List, [], ◌∷◌, �
 use Rattle.lf_lex.specs.declared.fault.FaultNumber.{FaultNumber}
 use Rattle.lf_lex.specs.declared.fault.FaultNumber.TheVariants as number
 use Rattle.lf_lex.specs.declared.fault.LoadFault.{LoadFault}
+use Rattle.lf_lex.specs.declared.fault.ReadError.TheVariants.{Memory}
+use Rattle.lf_lex.specs.Faults.{load_fault_of}
 use Rattle.lf_app.specs.declared.lines.Ending.{Ending}
 use Rattle.lf_app.specs.declared.lines.Ending.TheVariants as ending
 use Rattle.lf_app.specs.declared.faults.Fault.{Fault}
 use Rattle.lf_app.specs.declared.faults.Fault.TheVariants.{Refused, File, ReadFault, WriteFault, OutOfMemory, Output}
+use Rattle.lf_app.specs.declared.texts.Unread.{Unread}
+use Rattle.lf_app.specs.declared.texts.Unread.TheVariants as unread
 
 -- the number and the name of a refusal of reading or loading
 abbrev pub numbered : FaultNumber → List ℕ
@@ -82,6 +86,15 @@ IsFailure status = (status ≡ 1) ⊎ (status ≡ 3)
 abbrev pub IsDone : ℕ → Type 0
 IsDone status = (status ≡ 0) ⊎ (status ≡ 4)
 
+-- want of memory before the first line, or for a report
+abbrev pub no_memory : Fault
+no_memory = Refused (load_fault_of Memory)
+
+-- the fault of a file of which there is no text
+abbrev pub unread_fault : Unread → Fault
+unread_fault unread.File = File
+unread_fault unread.OutOfMemory = no_memory
+
 -- a report was not written: its text found no memory, or the writer failed
 abbrev pub IsReportFault : Fault → Type 0
-IsReportFault fault = (fault_text fault ≡ codes "24 OutOfMemory") ⊎ (fault ≡ Output)
+IsReportFault fault = (fault ≡ no_memory) ⊎ (fault ≡ Output)

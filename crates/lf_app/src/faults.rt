@@ -1,10 +1,12 @@
 //! What is told of a task that was not done, and its exit status.
 
-ghost use Rattle.std.specs.Prelude.{◌≡◌, OnOk, option_map, codes};
+ghost use Rattle.std.specs.Prelude.{◌≡◌, IsTrue, OnOk, option_map};
 ghost use Rattle.std.specs.Io.KnownBytes.{Appends};
-ghost use Rattle.lf_app.specs.Faults.{ending_fault, fault_line, fault_text, line_words, name_words, numbered, refusal_text, status_of};
+ghost use Rattle.lf_app.specs.Exits.{EndsWith};
+ghost use Rattle.lf_app.specs.Faults.{ending_fault, fault_line, fault_text, line_words, name_words, no_memory, numbered, refusal_text, status_of, unread_fault};
 
 use crate::lines::Ending;
+use crate::texts::Unread;
 use itoa::Buffer;
 use lf_lex::{FaultNumber, LoadFault};
 use std::io;
@@ -25,6 +27,15 @@ pub enum Fault<'a> {
     OutOfMemory,
     /// A report could not be written.
     Output,
+}
+
+/// How a task ended.
+#[derive(Clone, Copy, Debug, PartialEq, Eq)]
+pub struct Exit {
+    /// The exit status.
+    pub status: u8,
+    /// Whether the line of the fault was written whole; true where there was no fault.
+    pub is_told: bool,
 }
 
 /// The number and the name of a refusal of reading or loading.
@@ -124,9 +135,31 @@ pub fn status_of(fault: &Fault<'_>) -> u8
     }
 }
 
-/// The fault of want of memory before the first line.
+/// How a task that is done ends, with this status.
+pub(crate) fn done(status: u8) -> Exit
+    ensures status { result.status ≡ status }
+    ensures told { IsTrue result.is_told }
+{
+    Exit {
+        status,
+        is_told: true,
+    }
+}
+
+/// Tells a fault, and gives how the task ends with it; that it cannot be written is no further fault.
+pub(crate) fn tell<F: Write>(faults: &mut F, fault: &Fault<'_>) -> Exit
+    ensures { EndsWith fault.now (F.contents faults.old) (F.contents faults.new) result }
+{
+    let written = write_fault(faults, fault);
+    Exit {
+        status: status_of(fault),
+        is_told: written.is_ok(),
+    }
+}
+
+/// The fault of want of memory before the first line, or for a report.
 pub(crate) fn memory_fault<'a>() -> Fault<'a>
-    ensures { fault_text result ≡ codes "24 OutOfMemory" }
+    ensures { result ≡ no_memory }
 {
     Fault::Refused(LoadFault {
         number: FaultNumber::OutOfMemory,
@@ -135,12 +168,14 @@ pub(crate) fn memory_fault<'a>() -> Fault<'a>
     })
 }
 
-/// The fault of a file that could not be read.
-pub(crate) fn file_fault<'a>(error: &io::Error) -> Fault<'a> {
-    if error.kind() == io::ErrorKind::OutOfMemory {
-        return memory_fault();
+/// The fault of a file of which there is no text.
+pub(crate) fn unread_fault<'a>(unread: Unread) -> Fault<'a>
+    ensures { result ≡ unread_fault unread }
+{
+    match unread {
+        Unread::File => Fault::File,
+        Unread::OutOfMemory => memory_fault(),
     }
-    Fault::File
 }
 
 /// The fault of lines that did not end with the input; none where they did.

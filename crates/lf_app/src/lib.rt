@@ -2,12 +2,15 @@
 #![tactic(auto)]
 
 mod command;
+mod designs;
 mod faults;
 mod lines;
 mod reports;
 mod tasks;
+mod texts;
 
 pub use command::{Task, UsageFault, command_of};
-pub use faults::{Fault, status_of, write_fault};
+pub use faults::{Exit, Fault, status_of, write_fault};
 pub use lines::{Ending, answer_lines};
-pub use tasks::perform;
+pub use tasks::{perform, perform_over};
+pub use texts::{FileTexts, Texts, Unread};

@@ -6,6 +6,7 @@ ghost use Rattle.lf_proto.specs.Commands.{command_of};
 ghost use Rattle.lf_app.specs.Lines.{AnswersLine, Tells, cells_in, is_report, name_in, team_of, text_of};
 
 use lf_floor::Floor;
+use lf_legalize::PlainSeeker;
 use lf_proto::{Command, Got, LineFramer, Refusal, Reply, Request, parse_line, reply_text};
 use std::alloc::{AllocError, Global};
 use std::io::{Read, Write};
@@ -39,7 +40,7 @@ fn cells_in(reply: &Reply) -> (Option<u32>, Option<u32>)
 }
 
 /// The name of the team's cell of that position.
-fn name_in<'a>(floor: &'a Floor, team: &[u8], cell: Option<u32>) -> &'a [u8]
+fn name_in<'a>(floor: &'a Floor<PlainSeeker>, team: &[u8], cell: Option<u32>) -> &'a [u8]
     ensures { result.now ≡ name_in floor.now team.now cell }
 {
     match cell {
@@ -50,7 +51,7 @@ fn name_in<'a>(floor: &'a Floor, team: &[u8], cell: Option<u32>) -> &'a [u8]
 
 /// Puts the text of a reply to a command of the team behind the others.
 fn put_reply(
-    floor: &Floor,
+    floor: &Floor<PlainSeeker>,
     team: &[u8],
     reply: &Reply,
     text: &mut Vec<u8>,
@@ -76,7 +77,12 @@ fn is_report(reply: &Reply) -> bool
 
 /// Puts the text of a reply behind the others; a report that finds no memory is answered by that refusal, for which
 /// the buffer has room.
-fn put_told(floor: &Floor, team: &[u8], reply: &Reply, text: &mut Vec<u8>) -> Result<(), AllocError>
+fn put_told(
+    floor: &Floor<PlainSeeker>,
+    team: &[u8],
+    reply: &Reply,
+    text: &mut Vec<u8>,
+) -> Result<(), AllocError>
     ensures { OnOk result (Tells floor.now team.now reply.now text.old.items text.new.items) }
 {
     match put_reply(floor, team, reply, text) {
@@ -98,7 +104,11 @@ fn team_of<'a>(request: &Request<'a>) -> &'a [u8]
 }
 
 /// Puts the text that answers a line, given without its line end; a line over the limit is none.
-fn answer_line(floor: &mut Floor, line: Option<&[u8]>, text: &mut Vec<u8>) -> Result<(), AllocError>
+fn answer_line(
+    floor: &mut Floor<PlainSeeker>,
+    line: Option<&[u8]>,
+    text: &mut Vec<u8>,
+) -> Result<(), AllocError>
     ensures { (l : Legalizer) → OnOk result (AnswersLine l floor.old (option_map (λ bytes. bytes.now) line.entry) text.old.items text.new.items floor.new) }
 {
     let Some(bytes) = line else {
@@ -124,7 +134,7 @@ fn line_given(framer: &LineFramer, got: Got) -> Option<Option<&[u8]>> {
 
 /// Answers the line that the framer gave, if it gave one, and writes the reply.
 fn answer_given<W: Write>(
-    floor: &mut Floor,
+    floor: &mut Floor<PlainSeeker>,
     framer: &LineFramer,
     got: Got,
     writer: &mut W,
@@ -145,7 +155,7 @@ fn answer_given<W: Write>(
 
 /// Answers the lines that end in a piece of the input.
 fn answer_piece<W: Write>(
-    floor: &mut Floor,
+    floor: &mut Floor<PlainSeeker>,
     framer: &mut LineFramer,
     piece: &[u8],
     writer: &mut W,
@@ -166,7 +176,7 @@ fn answer_piece<W: Write>(
 /// bounded memory.
 pub fn answer_lines<R: Read, W: Write>(
     alloc: Global,
-    floor: &mut Floor,
+    floor: &mut Floor<PlainSeeker>,
     reader: &mut R,
     writer: &mut W,
 ) -> Ending {
@@ -184,7 +194,7 @@ pub fn answer_lines<R: Read, W: Write>(
 
 /// Answers the lines of the pieces that the reader gives.
 fn answer_pieces<R: Read, W: Write>(
-    floor: &mut Floor,
+    floor: &mut Floor<PlainSeeker>,
     framer: &mut LineFramer,
     reader: &mut R,
     writer: &mut W,

@@ -6,6 +6,7 @@ ghost use Rattle.lf_rules.specs.Legalizer.{Legalizer};
 ghost use Rattle.lf_rules.specs.Reports.{IsClean, IsTold};
 ghost use Rattle.lf_proto.specs.ReportText.{report_text};
 ghost use Rattle.lf_app.specs.Checks.{IsLegalDesign, def_places, design_report, report_line};
+ghost use Rattle.lf_app.specs.Exits.{IsEarly};
 ghost use Rattle.lf_app.specs.Faults.{IsReportFault};
 
 use crate::faults::{Fault, memory_fault};
@@ -62,7 +63,7 @@ fn report_line(alloc: Global, report: &Report) -> Result<Vec<u8>, AllocError>
 /// Writes the line in one piece and flushes.
 fn put_line<'f, W: Write>(writer: &mut W, line: &[u8]) -> Result<(), Fault<'f>>
     ensures ok { OnOk result (Appends (W.contents writer.old) (W.contents writer.new) line.now) }
-    ensures err { IfErr result IsReportFault }
+    ensures err { IfErr result (λ fault. fault ≡ Fault.Output) }
 {
     if writer.write_all(line).is_err() {
         return Err(Fault::Output);
@@ -85,6 +86,7 @@ pub(crate) fn report_design<'f, W: Write>(
     ensures text { (l : Legalizer) → OnOk result (Appends (W.contents writer.old) (W.contents writer.new) (report_line l loaded.now)) }
     ensures legal { IfOk result (λ legal. IsTrue legal ↔ IsLegalDesign loaded.now) }
     ensures err { IfErr result IsReportFault }
+    ensures unwritten { IfErr result (λ fault. IsEarly fault → writer.new ≡ writer.old) }
 {
     let Ok(report) = design_report(alloc, loaded) else {
         return Err(memory_fault());

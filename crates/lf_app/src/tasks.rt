@@ -1,22 +1,24 @@
 //! What the program does for a task.
 
-ghost use Rattle.std.specs.Prelude.{◌≡◌, ◌⊎◌, OnOk, IfErr};
-ghost use Rattle.std.specs.Io.KnownBytes.{Appends};
-ghost use Rattle.lf_rules.specs.Legalizer.{Legalizer};
-ghost use Rattle.lf_app.specs.Checks.{IsLegalDesign, report_line};
-ghost use Rattle.lf_app.specs.Command.{IsCheck};
-ghost use Rattle.lf_app.specs.Faults.{IsDone, IsFailure, status_of};
+ghost use Rattle.std.specs.Prelude.{◌≡◌, ◌⊎◌, map, ⊤, IfErr, IfOk, IsTrue, OnOk};
+ghost use Rattle.lf_app.specs.Command.{IsCheck, as_job, check, replay};
+ghost use Rattle.lf_floorplan.specs.declared.loaded.Loaded.{Loaded};
+ghost use Rattle.lf_app.specs.Designs.{IsTextDesign, IsTextFault};
+ghost use Rattle.lf_app.specs.Exits.{Ends, IsEarly, IsJobFault, IsLinesFault, IsOutcome, IsReported};
+ghost use Rattle.lf_app.specs.Faults.{IsDone, IsFailure, IsReportFault};
 
 use crate::command::Task;
-use crate::faults::{Fault, ending_fault, file_fault, memory_fault, status_of, write_fault};
+use crate::designs::{design_of_files, design_of_texts};
+use crate::faults::{Exit, done, ending_fault, memory_fault, tell};
 use crate::lines::answer_lines;
 use crate::reports::report_design;
-use lf_def::{DefDoc, W_DEF, read_def};
+use crate::texts::{FileTexts, Texts};
+use lf_def::W_DEF;
 use lf_floor::Floor;
-use lf_frame::{Limits, Loaded, load};
-use lf_lef::{Library, W_LEF, read_lef};
+use lf_frame::Loaded;
+use lf_lef::W_LEF;
+use lf_legalize::PlainSeeker;
 use std::alloc::Global;
-use std::fs;
 use std::io::{Read, Write};
 use std::rt::Files;
 
@@ -26,113 +28,23 @@ const DONE: u8 = 0;
 /// The exit status of a check that was done, of a design that is not fully legal.
 const ILLEGAL: u8 = 4;
 
-/// Tells a fault and gives its exit status; that it cannot be written is no further fault.
-fn tell<F: Write>(faults: &mut F, fault: &Fault<'_>) -> u8
-    ensures { result ≡ status_of fault.now }
-{
-    let _ = write_fault(faults, fault);
-    status_of(fault)
-}
-
-/// Reads one more LEF text into the library.
-fn add_lef<F: Write>(library: &mut Library, text: &[u8], faults: &mut F) -> Result<(), u8>
-    ensures ok { OnOk result (faults.new ≡ faults.old) }
-    ensures err { IfErr result IsFailure }
-{
-    match read_lef(library, text) {
-        Ok(()) => Ok(()),
-        Err(fault) => Err(tell(faults, &Fault::Refused(fault))),
-    }
-}
-
-/// The design of a document over the library.
-fn load_document<F: Write>(
+/// Answers the lines of the reader on the floor, and gives the exit status.
+fn answer_on<R: Read, W: Write, F: Write>(
     alloc: Global,
-    library: &Library,
-    document: &DefDoc,
+    floor: &mut Floor<PlainSeeker>,
+    reader: &mut R,
+    writer: &mut W,
     faults: &mut F,
-) -> Result<Loaded, u8>
-    ensures ok { OnOk result (faults.new ≡ faults.old) }
-    ensures err { IfErr result IsFailure }
+) -> Result<u8, Exit>
+    ensures ok { IfOk result (λ status. status ≡ 0) }
+    ensures kept { OnOk result (faults.new ≡ faults.old) }
+    ensures err { IfErr result (Ends (λ fault. IsLinesFault fault × (IsEarly fault → writer.new ≡ writer.old))
+        (F.contents faults.old) (F.contents faults.new)) }
 {
-    match load(alloc, library, document, Limits::standard()) {
-        Ok(loaded) => Ok(loaded),
-        Err(fault) => Err(tell(faults, &Fault::Refused(fault))),
+    match ending_fault(answer_lines(alloc, floor, reader, writer)) {
+        Some(fault) => Err(tell(faults, &fault)),
+        None => Ok(DONE),
     }
-}
-
-/// The design of a DEF text over the library.
-fn load_def<F: Write>(
-    alloc: Global,
-    library: &Library,
-    text: &[u8],
-    faults: &mut F,
-) -> Result<Loaded, u8>
-    ensures ok { OnOk result (faults.new ≡ faults.old) }
-    ensures err { IfErr result IsFailure }
-{
-    match read_def(alloc, text) {
-        Ok(document) => load_document(alloc, library, &document, faults),
-        Err(fault) => Err(tell(faults, &Fault::Refused(fault))),
-    }
-}
-
-/// The design that the program holds.
-fn demo_design<F: Write>(alloc: Global, faults: &mut F) -> Result<Loaded, u8>
-    ensures ok { OnOk result (faults.new ≡ faults.old) }
-    ensures err { IfErr result IsFailure }
-{
-    let mut library = Library::new(alloc);
-    add_lef(&mut library, W_LEF, faults)?;
-    load_def(alloc, &library, W_DEF, faults)
-}
-
-/// The bytes of a file.
-fn read_file<T: Files + AllocGlobal, F: Write>(
-    rt: &T,
-    path: &str,
-    faults: &mut F,
-) -> Result<Vec<u8>, u8>
-    ensures ok { OnOk result (faults.new ≡ faults.old) }
-    ensures err { IfErr result IsFailure }
-{
-    match fs::read(rt, path) {
-        Ok(text) => Ok(text),
-        Err(error) => Err(tell(faults, &file_fault(&error))),
-    }
-}
-
-/// Reads the LEF texts of the paths in order, each whole before the next file is opened.
-fn read_lefs<T: Files + AllocGlobal, F: Write>(
-    rt: &T,
-    library: &mut Library,
-    paths: &[&str],
-    faults: &mut F,
-) -> Result<(), u8>
-    ensures ok { OnOk result (faults.new ≡ faults.old) }
-    ensures err { IfErr result IsFailure }
-{
-    for path in paths {
-        let text = read_file(rt, path, faults)?;
-        add_lef(library, &text, faults)?;
-    }
-    Ok(())
-}
-
-/// The design of a DEF text and of LEF texts, given by paths.
-fn read_design<T: Files + AllocGlobal, F: Write>(
-    rt: &T,
-    def: &str,
-    lefs: &[&str],
-    faults: &mut F,
-) -> Result<Loaded, u8>
-    ensures ok { OnOk result (faults.new ≡ faults.old) }
-    ensures err { IfErr result IsFailure }
-{
-    let mut library = Library::new(rt.alloc());
-    read_lefs(rt, &mut library, lefs, faults)?;
-    let text = read_file(rt, def, faults)?;
-    load_def(rt.alloc(), &library, &text, faults)
 }
 
 /// Answers the lines of the reader over the design, and gives the exit status.
@@ -142,16 +54,15 @@ fn answer_over<R: Read, W: Write, F: Write>(
     reader: &mut R,
     writer: &mut W,
     faults: &mut F,
-) -> u8
-    ensures status { (result ≡ 0) ⊎ IsFailure result }
-    ensures done { result ≡ 0 → faults.new ≡ faults.old }
+) -> Result<u8, Exit>
+    ensures ok { IfOk result (λ status. status ≡ 0) }
+    ensures kept { OnOk result (faults.new ≡ faults.old) }
+    ensures err { IfErr result (Ends (λ fault. IsLinesFault fault × (IsEarly fault → writer.new ≡ writer.old))
+        (F.contents faults.old) (F.contents faults.new)) }
 {
-    let Ok(mut floor) = Floor::start(alloc, loaded) else {
-        return tell(faults, &memory_fault());
-    };
-    match ending_fault(answer_lines(alloc, &mut floor, reader, writer)) {
-        Some(fault) => tell(faults, &fault),
-        None => DONE,
+    match Floor::start(alloc, loaded, PlainSeeker) {
+        Ok(mut floor) => answer_on(alloc, &mut floor, reader, writer, faults),
+        Err(_) => Err(tell(faults, &memory_fault())),
     }
 }
 
@@ -161,17 +72,16 @@ fn check_design<W: Write, F: Write>(
     loaded: &Loaded,
     writer: &mut W,
     faults: &mut F,
-) -> u8
-    ensures status { IsDone result ⊎ IsFailure result }
-    ensures done { IsDone result → faults.new ≡ faults.old }
-    ensures text { (l : Legalizer) → IsDone result → Appends (W.contents writer.old) (W.contents writer.new) (report_line l loaded.now) }
-    ensures legal { result ≡ 0 → IsLegalDesign loaded.now }
-    ensures illegal { result ≡ 4 → ¬ IsLegalDesign loaded.now }
+) -> Result<u8, Exit>
+    ensures ok { IfOk result (IsReported loaded.now (W.contents writer.old) (W.contents writer.new)) }
+    ensures kept { OnOk result (faults.new ≡ faults.old) }
+    ensures err { IfErr result (Ends (λ fault. IsReportFault fault × (IsEarly fault → writer.new ≡ writer.old))
+        (F.contents faults.old) (F.contents faults.new)) }
 {
     match report_design(alloc, loaded, writer) {
-        Ok(true) => DONE,
-        Ok(false) => ILLEGAL,
-        Err(fault) => tell(faults, &fault),
+        Ok(true) => Ok(DONE),
+        Ok(false) => Ok(ILLEGAL),
+        Err(fault) => Err(tell(faults, &fault)),
     }
 }
 
@@ -181,58 +91,109 @@ fn demo<R: Read, W: Write, F: Write>(
     reader: &mut R,
     writer: &mut W,
     faults: &mut F,
-) -> u8
-    ensures status { (result ≡ 0) ⊎ IsFailure result }
-    ensures done { result ≡ 0 → faults.new ≡ faults.old }
+) -> Result<u8, Exit>
+    ensures ok { IfOk result (λ status. (loaded : Loaded) × IsTextDesign W_DEF.now W_LEF.now loaded × (status ≡ 0)) }
+    ensures kept { OnOk result (faults.new ≡ faults.old) }
+    ensures err { IfErr result (Ends (λ fault.
+        (IsTextFault W_DEF.now W_LEF.now fault ⊎ ((loaded : Loaded) × IsTextDesign W_DEF.now W_LEF.now loaded × IsLinesFault fault))
+        × (IsEarly fault → writer.new ≡ writer.old)) (F.contents faults.old) (F.contents faults.new)) }
 {
-    match demo_design(alloc, faults) {
-        Ok(loaded) => answer_over(alloc, loaded, reader, writer, faults),
-        Err(status) => status,
-    }
+    let loaded = design_of_texts(alloc, W_DEF, W_LEF, faults)?;
+    answer_over(alloc, loaded, reader, writer, faults)
 }
 
-/// Answers the lines of the reader over the design of these paths.
-fn replay<T: Files + AllocGlobal, R: Read, W: Write, F: Write>(
-    rt: &T,
+/// Answers the lines of the reader over the design of these files.
+fn replay<T: Texts, R: Read, W: Write, F: Write>(
+    alloc: Global,
+    texts: &T,
     def: &str,
     lefs: &[&str],
     reader: &mut R,
     writer: &mut W,
     faults: &mut F,
-) -> u8
-    ensures status { (result ≡ 0) ⊎ IsFailure result }
-    ensures done { result ≡ 0 → faults.new ≡ faults.old }
+) -> Result<u8, Exit>
+    ensures ok { IfOk result (IsOutcome (T.gives texts.now) (replay def.now (map (λ lef. lef.now) lefs.now)) (W.contents writer.old) (W.contents writer.new)) }
+    ensures kept { OnOk result (faults.new ≡ faults.old) }
+    ensures err { IfErr result (Ends (λ fault. IsJobFault (T.gives texts.now) (replay def.now (map (λ lef. lef.now) lefs.now)) fault
+        × (IsEarly fault → writer.new ≡ writer.old)) (F.contents faults.old) (F.contents faults.new)) }
 {
-    match read_design(rt, def, lefs, faults) {
-        Ok(loaded) => answer_over(rt.alloc(), loaded, reader, writer, faults),
-        Err(status) => status,
-    }
+    let loaded = design_of_files(alloc, texts, def, lefs, faults)?;
+    answer_over(alloc, loaded, reader, writer, faults)
 }
 
-/// Writes the report of the design of these paths.
-fn check<T: Files + AllocGlobal, W: Write, F: Write>(
-    rt: &T,
+/// Writes the report of the design of these files.
+fn check<T: Texts, W: Write, F: Write>(
+    alloc: Global,
+    texts: &T,
     def: &str,
     lefs: &[&str],
     writer: &mut W,
     faults: &mut F,
-) -> u8
-    ensures status { IsDone result ⊎ IsFailure result }
-    ensures done { IsDone result → faults.new ≡ faults.old }
+) -> Result<u8, Exit>
+    ensures ok { IfOk result (IsOutcome (T.gives texts.now) (check def.now (map (λ lef. lef.now) lefs.now)) (W.contents writer.old) (W.contents writer.new)) }
+    ensures kept { OnOk result (faults.new ≡ faults.old) }
+    ensures err { IfErr result (Ends (λ fault. IsJobFault (T.gives texts.now) (check def.now (map (λ lef. lef.now) lefs.now)) fault
+        × (IsEarly fault → writer.new ≡ writer.old)) (F.contents faults.old) (F.contents faults.new)) }
 {
-    match read_design(rt, def, lefs, faults) {
-        Ok(loaded) => check_design(rt.alloc(), &loaded, writer, faults),
-        Err(status) => status,
+    let loaded = design_of_files(alloc, texts, def, lefs, faults)?;
+    check_design(alloc, &loaded, writer, faults)
+}
+
+/// Does the task, and gives its exit status.
+fn outcome<T: Texts, R: Read, W: Write, F: Write>(
+    alloc: Global,
+    texts: &T,
+    task: &Task<'_>,
+    reader: &mut R,
+    writer: &mut W,
+    faults: &mut F,
+) -> Result<u8, Exit>
+    ensures ok { IfOk result (IsOutcome (T.gives texts.now) (as_job task.now) (W.contents writer.old) (W.contents writer.new)) }
+    ensures kept { OnOk result (faults.new ≡ faults.old) }
+    ensures err { IfErr result (Ends (λ fault. IsJobFault (T.gives texts.now) (as_job task.now) fault × (IsEarly fault → writer.new ≡ writer.old))
+        (F.contents faults.old) (F.contents faults.new)) }
+    ensures unread { IsCheck task.now → reader.new ≡ reader.old }
+{
+    match task {
+        Task::Demo => demo(alloc, reader, writer, faults),
+        Task::Replay { def, lefs } => {
+            replay(alloc, texts, def, lefs.as_slice(), reader, writer, faults)
+        }
+        Task::Check { def, lefs } => check(alloc, texts, def, lefs.as_slice(), writer, faults),
     }
 }
 
-/// Does the task and gives the exit status: 0 where it is done, 1 where a text or the design was refused, or memory
-/// was before the first line or for the report, 3 where a file, the reader or the writer failed, or memory for the
-/// lines was refused; 4 where a check is done and the design is not fully legal. A fault is written to `faults` as
+/// Does the task and gives how it ended: with status 0 where it is done, 1 where a text or the design was refused, or
+/// memory was before the first line or for the report, 3 where a file, the reader or the writer failed, or memory for
+/// the lines was refused; 4 where a check is done and the design is not fully legal. A fault is written to `faults` as
 /// a line of its own.
 ///
 /// The LEF files are read in the order of the words, then the DEF file, then the design is loaded, up to the first
 /// fault; only then is the first line read, or the report made. A check reads no line.
+pub fn perform_over<T: Texts, R: Read, W: Write, F: Write>(
+    alloc: Global,
+    texts: &T,
+    task: &Task<'_>,
+    reader: &mut R,
+    writer: &mut W,
+    faults: &mut F,
+) -> Exit
+    ensures status { IsDone result.status ⊎ IsFailure result.status }
+    ensures outcome { IsDone result.status → IsOutcome (T.gives texts.now) (as_job task.now) (W.contents writer.old) (W.contents writer.new) result.status }
+    ensures done { IsDone result.status → faults.new ≡ faults.old }
+    ensures told { IsDone result.status → IsTrue result.is_told }
+    ensures fault { IsFailure result.status → Ends (λ fault. IsJobFault (T.gives texts.now) (as_job task.now) fault × (IsEarly fault → writer.new ≡ writer.old))
+        (F.contents faults.old) (F.contents faults.new) result }
+    ensures checked { result.status ≡ 4 → IsCheck task.now }
+    ensures unread { IsCheck task.now → reader.new ≡ reader.old }
+{
+    match outcome(alloc, texts, task, reader, writer, faults) {
+        Ok(status) => done(status),
+        Err(exit) => exit,
+    }
+}
+
+/// Does the task over the files of a runtime, as `perform_over` does, and gives the exit status alone.
 pub fn perform<T: Files + AllocGlobal, R: Read, W: Write, F: Write>(
     rt: &T,
     task: &Task<'_>,
@@ -241,13 +202,12 @@ pub fn perform<T: Files + AllocGlobal, R: Read, W: Write, F: Write>(
     faults: &mut F,
 ) -> u8
     ensures status { IsDone result ⊎ IsFailure result }
+    ensures outcome { IsDone result → IsOutcome (λ path text. ⊤) (as_job task.now) (W.contents writer.old) (W.contents writer.new) result }
     ensures done { IsDone result → faults.new ≡ faults.old }
     ensures checked { result ≡ 4 → IsCheck task.now }
     ensures unread { IsCheck task.now → reader.new ≡ reader.old }
 {
-    match task {
-        Task::Demo => demo(rt.alloc(), reader, writer, faults),
-        Task::Replay { def, lefs } => replay(rt, def, lefs.as_slice(), reader, writer, faults),
-        Task::Check { def, lefs } => check(rt, def, lefs.as_slice(), writer, faults),
-    }
+    let texts = FileTexts::new(rt);
+    let exit = perform_over(rt.alloc(), &texts, task, reader, writer, faults);
+    exit.status
 }

@@ -6,7 +6,8 @@ use Rattle.lf_cells.specs.declared.cell.Cell.{Cell}
 use Rattle.lf_cells.specs.declared.cell.CellId.{CellId}
 use Rattle.lf_cells.specs.declared.slots.Slot.{Slot}
 use Rattle.lf_cells.specs.declared.parts.Parts.{Parts}
-use Rattle.lf_cells.specs.Cells.{Cells, id_of, id_in, cell_at, component_at, working_at, committed_at, cells_of}
+use Rattle.lf_cells.specs.declared.cell.Standing.{Standing}
+use Rattle.lf_cells.specs.Cells.{Cells, id_of, id_in, cell_at, component_at, standing_of, working_at, committed_at, cells_of}
 use Rattle.lf_cells.specs.Slots.{cell_in, labels, labels_in, slot_at, label_at, AreIndexed, table_of}
 use Rattle.lf_cells.proofs.Lists.{map_at}
 
@@ -65,5 +66,16 @@ committed_is p table id s view is =
     ap (λ (c : Option Cell). option_and_then (λ (x : Cell). x.committed) c) (cell_is p table id view ∙ ap (option_map (cell_in p.names)) (sym is))
     ∙ by s where
       by : (o : Option Slot) → option_and_then (λ (x : Cell). x.committed) (option_map (cell_in p.names) o) ≡ option_and_then (λ (x : Slot). x.committed) o
+      by None = refl
+      by (Some x) = refl
+
+abbrev slot_standing : Slot → Standing
+slot_standing s = record { mac = s.mac; working = s.working }
+
+pub standing_is : (p : Parts) (table : Cells) (id : CellId) (s : Option Slot) → table_of p ≡ table → s ≡ slot_at p.teams.items id
+    → option_map standing_of (slice_get (cells_of table id.team) id.own) ≡ option_map slot_standing s
+standing_is p table id s view is =
+    ap (λ (c : Option Cell). option_map standing_of c) (cell_is p table id view ∙ ap (option_map (cell_in p.names)) (sym is)) ∙ by s where
+      by : (o : Option Slot) → option_map standing_of (option_map (cell_in p.names) o) ≡ option_map slot_standing o
       by None = refl
       by (Some x) = refl

@@ -3,6 +3,7 @@ use Rattle.std.specs.Prelude.{ℕ, zero, suc, List, [], ◌∷◌, Option, posit
 use Rattle.lf_floorplan.specs.declared.place.Place.{Place}
 use Rattle.lf_cells.specs.declared.cell.Cell.{Cell}
 use Rattle.lf_cells.specs.declared.cell.CellId.{CellId}
+use Rattle.lf_cells.specs.declared.cell.Standing.{Standing}
 
 -- for each team its cells in loading order, and the positions of their entries among all COMPONENTS of the DEF text
 pub record Cells : Type 0 where
@@ -36,6 +37,10 @@ id_in cells team own = option_map (λ c. id_of team own) (slice_get cells own)
 -- the position of the cell of that name among these; None where none of them has it, whoever else may
 abbrev pub cell_named : List ℕ → List Cell → Option ℕ
 cell_named name cells = position (λ c. bytes_eq c.name name) cells
+
+-- how a cell stands: its macro, and its working place
+abbrev pub standing_of : Cell → Standing
+standing_of c = record { mac = c.mac; working = c.working }
 
 -- the working place of the cell of that position; None where it is unplaced, or there is no such cell
 abbrev pub working_at : List Cell → ℕ → Option Place

@@ -22,6 +22,15 @@ pub struct CellId {
     pub own: u32,
 }
 
+/// How a cell stands.
+#[derive(Clone, Copy)]
+pub struct Standing {
+    /// The position of its macro in the frame.
+    pub mac: usize,
+    /// Its working place; none where it is unplaced.
+    pub working: Option<Place>,
+}
+
 /// What no command changes of a cell.
 #[derive(Clone, Copy)]
 pub struct CellFacts<'a> {

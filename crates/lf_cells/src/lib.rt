@@ -7,5 +7,5 @@ mod parts;
 mod slots;
 mod table;
 
-pub use cell::{Cell, CellFacts, CellId};
+pub use cell::{Cell, CellFacts, CellId, Standing};
 pub use table::CellTable;

@@ -1,10 +1,10 @@
 //! The table of all teams' cells.
 
-ghost use Rattle.std.specs.Prelude.{◌≡◌, ◌+◌, ◌<◌, [], IfOk, IfSome, length, map, option_map, slice_set};
-ghost use Rattle.lf_cells.specs.Cells.{cells_of, cell_named, cell_at, component_at, id_in, working_at, committed_at, moved, as_committed};
+ghost use Rattle.std.specs.Prelude.{◌≡◌, ◌+◌, ◌<◌, [], IfOk, IfSome, length, map, option_map, slice_get, slice_set};
+ghost use Rattle.lf_cells.specs.Cells.{cells_of, cell_named, cell_at, component_at, id_in, standing_of, working_at, committed_at, moved, as_committed};
 ghost use Rattle.lf_cells.specs.Openings.{opening_cells, opening_components};
 
-use crate::cell::{CellFacts, CellId};
+use crate::cell::{CellFacts, CellId, Standing};
 use crate::parts::{Parts, commit_cells, move_cell};
 use lf_floorplan::{Loaded, Place};
 use std::alloc::{AllocError, Global};
@@ -90,6 +90,18 @@ impl CellTable {
             name: self.parts.names.name_at(slot.label as usize)?,
             mac: slot.mac,
             component: slot.component,
+        })
+    }
+
+    /// How the team's cell of that position stands, the first at 0; none where the team has no such
+    /// cell, or there is no such team.
+    pub fn standing(&self, team: usize, own: usize) -> Option<Standing>
+        ensures { result ≡ option_map standing_of (slice_get (cells_of self.now team) own) }
+    {
+        let slot = self.parts.slot(team, own)?;
+        Some(Standing {
+            mac: slot.mac,
+            working: slot.working,
         })
     }
 

@@ -17,10 +17,12 @@ use Rattle.lf_claims.specs.declared.name_map.NameMap.{NameMap}
 use Rattle.lf_claims.specs.NameMaps.{value_of}
 use Rattle.lf_claims.specs.Teams.{is_fence, fence_names, Claims, IsClaimed, IsUnclaimed, IsClaimedBy}
 use Rattle.lf_claims.specs.Refusals.{HasTwoFences}
-use Rattle.lf_claims.specs.Claims.{IsClaimOf, Tells, ClaimsBy, Numbers, bound_to, group_bounds, all_bounds}
-use Rattle.lf_claims.proofs.Named.{any_first, any_later, any_cases, none_of_nothing, fence_known, fence_borne}
-use Rattle.lf_claims.proofs.Tellings.{any_parts, any_left, any_right, any_mapped, any_map, one_bound_more}
+use Rattle.lf_claims.specs.Claims.{Tells, ClaimsBy, Numbers, bound_to, group_bounds, all_bounds}
+use Rattle.lf_claims.specs.ClaimTables.{IsClaimOf}
+use Rattle.lf_claims.proofs.Named.{fence_known, fence_borne}
+use Rattle.lf_claims.proofs.Tellings.{one_bound_more}
 use Rattle.lf_claims.proofs.MapLemmas.{one_at_place}
+use Rattle.lf_units.proofs.Any.{any_first, any_later, any_cases, none_of_nothing, any_parts, any_left, any_right, any_mapped, any_map}
 
 -- a fence of this number that claims the name
 pub record Claimant (regions : List Region) (groups : List Group) (name : List ℕ) (n : ℕ) : Type 0 where

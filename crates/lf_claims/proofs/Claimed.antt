@@ -1,11 +1,13 @@
 -- The claims of all components, by their numbers.
-use Rattle.std.proofs.Common.{◌≡◌, ◌≢◌, ℕ, ◌+◌, ◌<◌, ◌⊎◌, inl, inr, Bool, true, false, eqb, List, [], ◌∷◌, ◌++◌, length, take, get_or, set, Result, Ok, Err, slice_get, refl, sym, ◌∙◌, ap, subst, zero, suc, arith}
+use Rattle.std.proofs.Common.{◌≡◌, ◌≢◌, ℕ, zero, suc, ◌+◌, ◌<◌, ◌⊎◌, inl, inr, Bool, true, false, eqb, Result, Ok, Err, Some, refl, sym, ◌∙◌, ap, subst, arith}
+use Rattle.std.proofs.Common.{List, [], ◌∷◌, ◌++◌, length, take, get_or, set, slice_get}
 use Rattle.std.specs.Prelude.{unwrap_or, replicate, IfOk}
 use Rattle.std.proofs.lemmas.Bool.{eqb-true, eqb-false}
 use Rattle.std.proofs.lemmas.Grind.{common_steps}
 use Rattle.std.proofs.lemmas.List.{get_or_default}
+use Rattle.std.proofs.lemmas.Option.{slice_get_within, get_or_from_slice_get}
 use Rattle.std.proofs.lemmas.List.Elements.{Contains-append_left, Contains-push, Contains-push_cases}
-use Rattle.lf_names.specs.NameParts.{Labelled, IsMatch, AreMatches}
+use Rattle.lf_names.specs.Labels.{Labelled, IsMatch, AreMatches}
 use Rattle.lf_names.specs.declared.name_parts.Match.{Match}
 use Rattle.lf_def.specs.declared.regions.Region.{Region}
 use Rattle.lf_def.specs.declared.groups.Group.{Group}
@@ -15,7 +17,8 @@ use Rattle.lf_claims.specs.declared.claims.Claim.TheVariants.{Unclaimed}
 use Rattle.lf_claims.specs.declared.starred.Bound.{Bound}
 use Rattle.lf_claims.specs.declared.pattern_index.PatternIndex.{PatternIndex}
 use Rattle.lf_claims.specs.Tables.{numbered_names}
-use Rattle.lf_claims.specs.Claims.{IsClaimOf, joined, Tells, ClaimsBy, Labels, IsMatched, all_bounds, claim_at, Holds, AreTold, AreClaimsOf}
+use Rattle.lf_claims.specs.Claims.{joined, Tells, ClaimsBy, Labels, IsMatched, all_bounds, Holds, AreTold}
+use Rattle.lf_claims.specs.ClaimTables.{IsClaimOf, claim_at, AreClaimsOf}
 use Rattle.lf_claims.proofs.MapLemmas.{get_push, get_last, get_set, get_set_other}
 use Rattle.lf_claims.proofs.Numbered.{numbered_has, numbered_is}
 use Rattle.lf_claims.proofs.Tellings.{tells_joined, tells_same}
@@ -104,11 +107,13 @@ told_without_starred told starred components claims empty h k d within =
     (λ fence u. elim u [ inl s ↦ s | inr c ↦ absurd (omega (arith, c.2)) ]) (h k d within)
 
 -- what literal and tried patterns tell together, all patterns of the index do
-pub told_by_index : (index : PatternIndex) (bounds : List Bound) (components : List Component) (claims : List Claim) (h : Holds index bounds) → AreTold (λ name fence. Labels h.literals name fence ⊎ ClaimsBy h.starred name fence) components claims →
+pub told_by_index : (index : PatternIndex) (bounds : List Bound) (components : List Component) (claims : List Claim) (h : Holds index bounds) →
+    AreTold (λ name fence. Labels index.literals name fence ⊎ ClaimsBy h.starred name fence) components claims →
     AreTold (ClaimsBy bounds) components claims
 told_by_index index bounds components claims h told k d within =
     let name : List ℕ = (get_or components k d).name in
-    tells_same (λ fence. Labels h.literals name fence ⊎ ClaimsBy h.starred name fence) (ClaimsBy bounds name) (claim_at claims k) (h.back name) (h.forth name) (told k d within)
+    tells_same (λ fence. Labels index.literals name fence ⊎ ClaimsBy h.starred name fence) (ClaimsBy bounds name) (claim_at claims k) (h.back name)
+    (h.forth name) (told k d within)
 
 -- the claims of all groups
 pub claims_made : (regions : List Region) (groups : List Group) (components : List Component) (claims : List Claim) → AreTold (ClaimsBy (all_bounds regions groups)) components claims → AreClaimsOf regions groups components claims
@@ -118,6 +123,13 @@ claims_made regions groups components claims told k d within = claim_says region
 pub claim_there : (regions : List Region) (groups : List Group) (components : List Component) (claims : List Claim) (k : ℕ) (c : Component) → k < length components → c ≡ get_or components k c →
     AreClaimsOf regions groups components claims → IsClaimOf regions groups c.name (claim_at claims k)
 claim_there regions groups components claims k c within is all = subst (λ (e : Component). IsClaimOf regions groups e.name (claim_at claims k)) (sym is) (all k c within)
+
+-- the claim of the component of a number
+pub claim_known : (regions : List Region) (groups : List Group) (components : List Component) (claims : List Claim) (k : ℕ) (c : Component) →
+    slice_get components k ≡ Some c →
+    AreClaimsOf regions groups components claims → IsClaimOf regions groups c.name (claim_at claims k)
+claim_known regions groups components claims k c at =
+    claim_there regions groups components claims k c (slice_get_within components k c at) (sym (get_or_from_slice_get components k c c at))
 
 -- a claim that is read
 pub claim_read : (all lent : List Claim) (number : ℕ) (claim : Claim) → lent ≡ all → claim ≡ claim_at lent number → claim_at all number ≡ claim

@@ -1,26 +1,26 @@
 -- An index of patterns, when patterns are added to it.
-use Rattle.std.proofs.Common.{◌≡◌, ℕ, inl, inr, ◌↔◌, List, [], ◌∷◌, ◌++◌, refl, ap, append_assoc, arith}
+use Rattle.std.proofs.Common.{◌≡◌, ℕ, inl, inr, ◌↔◌, List, [], ◌∷◌, ◌++◌, refl, sym, subst, ap, append_assoc, arith}
 use Rattle.std.proofs.lemmas.List.{append-nil}
 use Rattle.std.proofs.lemmas.List.Elements.{Contains-append_left, Contains-push, Contains-push_cases}
+use Rattle.std.proofs.lemmas.List.Sorted.{IsPermutation-sym, Contains-permutation}
+use Rattle.std.specs.List.Sorted.{IsPermutation}
 use Rattle.lf_names.specs.Pattern.{Matches}
-use Rattle.lf_names.specs.NameParts.{Labelled, ArePartsOf}
+use Rattle.lf_names.specs.Labels.{Labelled}
 use Rattle.lf_claims.specs.declared.starred.Bound.{Bound}
 use Rattle.lf_claims.specs.declared.pattern_index.PatternIndex.{PatternIndex}
 use Rattle.lf_claims.specs.Claims.{ClaimsBy, Labels, HasStarred, Holds, Extends}
-use Rattle.lf_claims.proofs.Named.{none_of_nothing}
 use Rattle.lf_claims.proofs.Tellings.{claims_parts, claims_old, claims_new}
+use Rattle.lf_units.proofs.Any.{none_of_nothing}
 
 none_labelled : (name : List ℕ) (n : ℕ) → Labels [] name n → ⊥
 none_labelled name n h = omega (arith, h.1)
 
-pub holds_nothing : (index : PatternIndex) → ArePartsOf [] index.literals → HasStarred index.starred [] → Holds index []
-holds_nothing index kept none = record {
-  literals = [];
-  kept = kept;
+pub holds_nothing : (index : PatternIndex) → index.literals ≡ [] → HasStarred index.starred [] → Holds index []
+holds_nothing index empty none = record {
   starred = [];
   tried = none;
   forth = λ name n h. absurd (none_of_nothing (λ b. (b.fence ≡ n) × Matches b.pattern name) h);
-  back = λ name n h. elim h [ inl early ↦ absurd (none_labelled name n early) | inr late ↦ late ];
+  back = λ name n h. elim h [ inl early ↦ absurd (none_labelled name n (subst (λ literals. Labels literals name n) empty early)) | inr late ↦ late ];
 }
 
 -- a pattern as the name that it stands for
@@ -37,45 +37,48 @@ claimed_last bounds b name n own is =
     rw (← fence, ← same) (claims_new bounds b b.pattern own)
 
 -- a pattern that stands for its own bytes alone
-pub extends_literal : (old new : PatternIndex) (b : Bound) → ((name : List ℕ) → (Matches b.pattern name ↔ (name ≡ b.pattern))) → ((names : List Labelled) → ArePartsOf names old.literals → ArePartsOf (names ++ label_of b ∷ []) new.literals) → new.starred ≡ old.starred →
-    Extends old new (b ∷ [])
+pub extends_literal : (old new : PatternIndex) (b : Bound) → ((name : List ℕ) → (Matches b.pattern name ↔ (name ≡ b.pattern))) →
+    IsPermutation (old.literals ++ label_of b ∷ []) new.literals → new.starred ≡ old.starred → Extends old new (b ∷ [])
 extends_literal old new b own kept starred bounds h = record {
-  literals = h.literals ++ label_of b ∷ [];
-  kept = kept h.literals h.kept;
   starred = h.starred;
   tried = rw starred h.tried;
   forth = λ name n c. elim (claims_parts bounds b name n c) [
     | inl early ↦ elim (h.forth name n early) [
-      | inl one ↦ inl (Contains-append_left h.literals (label_of b ∷ []) (record { label = n; name = name }) one)
+      | inl one ↦ inl (put name n (Contains-append_left old.literals (label_of b ∷ []) (record { label = n; name = name }) one))
       | inr other ↦ inr other
     ]
-    | inr here ↦ inl (labelled_last h.literals b name n here.0 ((own name).0 here.1))
+    | inr here ↦ inl (put name n (labelled_last old.literals b name n here.0 ((own name).0 here.1)))
   ];
   back = λ name n c. elim c [
-    | inl one ↦ elim (Contains-push_cases h.literals (label_of b) (record { label = n; name = name }) one) [
+    | inl one ↦ elim (Contains-push_cases old.literals (label_of b) (record { label = n; name = name }) (was name n one)) [
       | inl early ↦ claims_old bounds b name n (h.back name n (inl early))
       | inr here ↦ claimed_last bounds b name n ((own b.pattern).1 refl) here
     ]
     | inr other ↦ claims_old bounds b name n (h.back name n (inr other))
   ];
 }
+  where
+    put : (name : List ℕ) (n : ℕ) → Labels (old.literals ++ label_of b ∷ []) name n → Labels new.literals name n
+    put name n there = Contains-permutation (old.literals ++ label_of b ∷ []) new.literals (record { label = n; name = name }) kept there
+
+    was : (name : List ℕ) (n : ℕ) → Labels new.literals name n → Labels (old.literals ++ label_of b ∷ []) name n
+    was name n there = Contains-permutation new.literals (old.literals ++ label_of b ∷ []) (record { label = n; name = name })
+        (IsPermutation-sym (old.literals ++ label_of b ∷ []) new.literals kept) there
 
 -- a pattern that is tried
 pub extends_starred : (old new : PatternIndex) (b : Bound) → new.literals ≡ old.literals → ((starred : List Bound) → HasStarred old.starred starred → HasStarred new.starred (starred ++ b ∷ [])) → Extends old new (b ∷ [])
 extends_starred old new b literals tried bounds h = record {
-  literals = h.literals;
-  kept = rw literals h.kept;
   starred = h.starred ++ b ∷ [];
   tried = tried h.starred h.tried;
   forth = λ name n c. elim (claims_parts bounds b name n c) [
     | inl early ↦ elim (h.forth name n early) [
-      | inl one ↦ inl one
+      | inl one ↦ inl (subst (λ ls. Labels ls name n) (sym literals) one)
       | inr other ↦ inr (claims_old h.starred b name n other)
     ]
     | inr here ↦ inr (rw (← here.0) (claims_new h.starred b name here.1))
   ];
   back = λ name n c. elim c [
-    | inl one ↦ claims_old bounds b name n (h.back name n (inl one))
+    | inl one ↦ claims_old bounds b name n (h.back name n (inl (subst (λ ls. Labels ls name n) literals one)))
     | inr other ↦ elim (claims_parts h.starred b name n other) [
       | inl early ↦ claims_old bounds b name n (h.back name n (inr early))
       | inr here ↦ rw (← here.0) (claims_new bounds b name here.1)

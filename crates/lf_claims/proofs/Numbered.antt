@@ -5,7 +5,7 @@ use Rattle.std.specs.List.{enumerate_from}
 use Rattle.std.proofs.lemmas.Grind.{common_steps}
 use Rattle.std.proofs.lemmas.List.{get_or-map, length-map}
 use Rattle.std.proofs.lemmas.List.FromFn.{length-enumerate_from, get_or-enumerate_from}
-use Rattle.lf_names.specs.NameParts.{Labelled, Differ}
+use Rattle.lf_names.specs.Labels.{Labelled, Differ}
 use Rattle.lf_def.specs.declared.components.Component.{Component}
 use Rattle.lf_claims.specs.Entries.{NoneBreaks}
 use Rattle.lf_claims.specs.Refusals.{BearsEarlierName}

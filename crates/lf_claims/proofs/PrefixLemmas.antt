@@ -19,15 +19,8 @@ use Rattle.lf_claims.specs.declared.starred.Bound.{Bound}
 use Rattle.lf_claims.specs.declared.starred.StarredPatterns.{StarredPatterns}
 use Rattle.lf_claims.specs.Claims.{merged, Tells, ClaimsBy, bounds_there, kept_under, ClaimsUnder, HasStarred, Keeps}
 use Rattle.lf_claims.proofs.MapLemmas.{new_there, new_others, old_there, old_others}
-use Rattle.lf_claims.proofs.Named.{any_first, none_of_nothing}
-use Rattle.lf_claims.proofs.Tellings.{any_parts, any_left, any_right, any_one, one_bound_more, claims_parts, claims_old, claims_new, tells_same, tells_merged}
-
--- an item of a list that has the property, and where it stands
-has_item : {A : Type 0} (P : A → Type 0) (xs : List A) (x : A) → Contains xs x → P x → Any P xs
-has_item P xs x there p = (there.0, x, there.1, there.2, p)
-
-any_more : {A : Type 0} (P Q : A → Type 0) (xs ys : List A) → ((x : A) → Contains xs x → Contains ys x) → ((x : A) → P x → Q x) → Any P xs → Any Q ys
-any_more P Q xs ys more forth h = has_item Q ys h.1 (more h.1 (h.0, h.2, h.3)) (forth h.1 h.4)
+use Rattle.lf_claims.proofs.Tellings.{one_bound_more, claims_parts, claims_old, claims_new, tells_same, tells_merged}
+use Rattle.lf_units.proofs.Any.{any_first, none_of_nothing, any_parts, any_left, any_right, any_one, has_item, any_more}
 
 -- parts become some bytes
 becomes_some : (parts : List Part) → (name : List ℕ) × Becomes parts name

@@ -1,6 +1,5 @@
 -- What a claim tells of a set of fences, when the set grows.
-use Rattle.std.proofs.Common.{◌≡◌, ℕ, ◌+◌, ◌<◌, ◌≤◌, ◌⊎◌, inl, inr, Bool, true, false, eqb, if◌then◌else◌, List, [], ◌∷◌, ◌++◌, length, map, take, get_or, refl, sym, ◌∙◌, arith}
-use Rattle.std.specs.Prelude.{Any}
+use Rattle.std.proofs.Common.{◌≡◌, ℕ, ◌+◌, ◌<◌, ◌≤◌, ◌⊎◌, inl, inr, Bool, true, false, eqb, if◌then◌else◌, List, [], ◌∷◌, ◌++◌, length, take, get_or, refl, sym, ◌∙◌, arith}
 use Rattle.std.proofs.lemmas.Bool.{eqb-true, eqb-false}
 use Rattle.std.proofs.lemmas.List.{take_all}
 use Rattle.std.proofs.lemmas.Grind.{common_steps}
@@ -9,43 +8,7 @@ use Rattle.lf_claims.specs.declared.claims.Claim.{Claim}
 use Rattle.lf_claims.specs.declared.claims.Claim.TheVariants.{Unclaimed, ByOne, ByTwo}
 use Rattle.lf_claims.specs.declared.starred.Bound.{Bound}
 use Rattle.lf_claims.specs.Claims.{joined, merged, Tells, ClaimsBy, StepsTo}
-use Rattle.lf_claims.proofs.Named.{any_first, any_later, any_cases, none_of_nothing}
-
--- an entry of a list that is put together
-pub any_parts : {A : Type 0} (P : A → Type 0) (xs ys : List A) → Any P (xs ++ ys) → Any P xs ⊎ Any P ys
-any_parts P [] ys h = inr h
-any_parts P (x ∷ xs) ys h = elim (any_cases P x (xs ++ ys) h) [
-  | inl own ↦ inl (any_first P x xs own)
-  | inr rest ↦ elim (any_parts P xs ys rest) [ inl early ↦ inl (any_later P x xs early) | inr late ↦ inr late ]
-]
-
-pub any_left : {A : Type 0} (P : A → Type 0) (xs ys : List A) → Any P xs → Any P (xs ++ ys)
-any_left P [] ys h = absurd (none_of_nothing P h)
-any_left P (x ∷ xs) ys h = elim (any_cases P x xs h) [
-  | inl own ↦ any_first P x (xs ++ ys) own
-  | inr rest ↦ any_later P x (xs ++ ys) (any_left P xs ys rest)
-]
-
-pub any_right : {A : Type 0} (P : A → Type 0) (xs ys : List A) → Any P ys → Any P (xs ++ ys)
-any_right P [] ys h = h
-any_right P (x ∷ xs) ys h = any_later P x (xs ++ ys) (any_right P xs ys h)
-
-pub any_one : {A : Type 0} (P : A → Type 0) (x : A) → Any P (x ∷ []) → P x
-any_one P x h = elim (any_cases P x [] h) [ inl own ↦ own | inr rest ↦ absurd (none_of_nothing P rest) ]
-
-pub any_mapped : {A B : Type 0} (f : A → B) (P : B → Type 0) (xs : List A) → Any P (map f xs) → Any (λ x. P (f x)) xs
-any_mapped f P [] h = absurd (none_of_nothing P h)
-any_mapped f P (x ∷ xs) h = elim (any_cases P (f x) (map f xs) h) [
-  | inl own ↦ any_first (λ y. P (f y)) x xs own
-  | inr rest ↦ any_later (λ y. P (f y)) x xs (any_mapped f P xs rest)
-]
-
-pub any_map : {A B : Type 0} (f : A → B) (P : B → Type 0) (xs : List A) → Any (λ x. P (f x)) xs → Any P (map f xs)
-any_map f P [] h = absurd (none_of_nothing (λ x. P (f x)) h)
-any_map f P (x ∷ xs) h = elim (any_cases (λ y. P (f y)) x xs h) [
-  | inl own ↦ any_first P (f x) (map f xs) own
-  | inr rest ↦ any_later P (f x) (map f xs) (any_map f P xs rest)
-]
+use Rattle.lf_units.proofs.Any.{any_first, any_parts, any_left, any_right, any_one}
 
 -- a set of fences and one fence more
 pub tells_joined : (S T : ℕ → Type 0) (claim : Claim) (n : ℕ) → ((m : ℕ) → S m → T m) → T n → ((m : ℕ) → T m → S m ⊎ (m ≡ n)) → Tells S claim → Tells T (joined claim n)

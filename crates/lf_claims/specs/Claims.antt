@@ -1,11 +1,12 @@
 -- Which fences claim a component, by the patterns of all groups (DEF GROUPS).
-use Rattle.std.specs.Prelude.{◌≡◌, ◌≢◌, ℕ, ◌<◌, ◌≤◌, ◌==◌, ◌⊎◌, if◌then◌else◌, List, [], ◌∷◌, ◌++◌, length, map, take, Option, None, Some, Any, unwrap_or, slice_get, slice_index_or, Contains, Vec}
+use Rattle.std.specs.Prelude.{◌≡◌, ◌≢◌, ℕ, ◌<◌, ◌≤◌, ◌==◌, ◌⊎◌, if◌then◌else◌, List, [], ◌∷◌, ◌++◌, length, map, take, Option, None, Some, Any, slice_get}
+use Rattle.std.specs.Prelude.{slice_index_or, Contains, Vec}
 use Rattle.std.specs.List.{flat_map}
 use Rattle.std.specs.Global.{Global}
 use Rattle.std.specs.Option.{option_and_then}
 use Rattle.lf_names.specs.Names.{position_of}
 use Rattle.lf_names.specs.Pattern.{prefix_of, Matches}
-use Rattle.lf_names.specs.NameParts.{Labelled, ArePartsOf}
+use Rattle.lf_names.specs.Labels.{Labelled}
 use Rattle.lf_names.specs.declared.name_parts.Match.{Match}
 use Rattle.lf_def.specs.declared.regions.Region.{Region}
 use Rattle.lf_def.specs.declared.groups.Group.{Group}
@@ -15,18 +16,12 @@ use Rattle.lf_claims.specs.declared.claims.Claim.TheVariants.{Unclaimed, ByOne, 
 use Rattle.lf_claims.specs.declared.starred.Bound.{Bound}
 use Rattle.lf_claims.specs.declared.starred.StarredPatterns.{StarredPatterns}
 use Rattle.lf_claims.specs.declared.pattern_index.PatternIndex.{PatternIndex}
-use Rattle.lf_claims.specs.declared.table.ClaimTable.{ClaimTable}
 use Rattle.lf_claims.specs.declared.name_map.NameMap.{NameMap}
 use Rattle.lf_claims.specs.NameMaps.{value_of, IsWhole}
-use Rattle.lf_claims.specs.Teams.{fences, fence_names, IsUnclaimed, IsClaimedBy}
-use Rattle.lf_claims.specs.Entries.{NoneBreaks, FirstIs}
-use Rattle.lf_claims.specs.Refusals.{HasTwoFences, BearsEarlierName}
-
--- what the claim says: no fence claims the name, one does, or two different ones do
-abbrev pub IsClaimOf : List Region → List Group → List ℕ → Claim → Type 0
-IsClaimOf regions groups name Unclaimed = IsUnclaimed regions groups name
-IsClaimOf regions groups name (ByOne team) = IsClaimedBy regions groups name team
-IsClaimOf regions groups name ByTwo = HasTwoFences regions groups name
+use Rattle.lf_claims.specs.Teams.{fence_names}
+use Rattle.lf_claims.specs.Entries.{NoneBreaks}
+use Rattle.lf_claims.specs.Refusals.{BearsEarlierName}
+use Rattle.lf_claims.specs.ClaimTables.{claim_at}
 
 -- the claim when this fence claims the name too
 abbrev pub joined : Claim → ℕ → Claim
@@ -75,10 +70,6 @@ group_bounds regions g = bound_to (option_and_then (position_of (fence_names reg
 abbrev pub all_bounds : List Region → List Group → List Bound
 all_bounds regions groups = flat_map (group_bounds regions) groups
 
--- the claim at a number
-abbrev pub claim_at : List Claim → ℕ → Claim
-claim_at claims number = unwrap_or (slice_get claims number) Unclaimed
-
 -- the patterns that stand at a place, where it is one
 abbrev pub bounds_there : Option (Vec Bound Global) → List Bound
 bounds_there None = []
@@ -108,12 +99,10 @@ pub record Keeps (old new : StarredPatterns) (prefix : List ℕ) (bound : Bound)
 
 -- the index holds these patterns: literal ones as names, labelled with the number of the fence, the others by their prefixes
 pub record Holds (index : PatternIndex) (bounds : List Bound) : Type 0 where
-  pub literals : List Labelled
-  pub kept : ArePartsOf literals index.literals
   pub starred : List Bound
   pub tried : HasStarred index.starred starred
-  pub forth : (name : List ℕ) (fence : ℕ) → ClaimsBy bounds name fence → Labels literals name fence ⊎ ClaimsBy starred name fence
-  pub back : (name : List ℕ) (fence : ℕ) → Labels literals name fence ⊎ ClaimsBy starred name fence → ClaimsBy bounds name fence
+  pub forth : (name : List ℕ) (fence : ℕ) → ClaimsBy bounds name fence → Labels index.literals name fence ⊎ ClaimsBy starred name fence
+  pub back : (name : List ℕ) (fence : ℕ) → Labels index.literals name fence ⊎ ClaimsBy starred name fence → ClaimsBy bounds name fence
 
 -- whatever patterns the old index holds, the new one holds these behind them
 abbrev pub Extends : PatternIndex → PatternIndex → List Bound → Type 0
@@ -136,13 +125,3 @@ AreTold claims components told = (k : ℕ) (d : Component) → k < length compon
 abbrev pub AreClaimsWhereDistinct : (List ℕ → ℕ → Type 0) → List Component → Option (Vec Claim Global) → Type 0
 AreClaimsWhereDistinct claims components (Some told) = NoneBreaks BearsEarlierName components × AreTold claims components told.items
 AreClaimsWhereDistinct claims components None = NoneBreaks BearsEarlierName components → ⊥
-
--- each component has the claim of its number
-abbrev pub AreClaimsOf : List Region → List Group → List Component → List Claim → Type 0
-AreClaimsOf regions groups components claims = (k : ℕ) (d : Component) → k < length components → IsClaimOf regions groups (slice_index_or components k d).name (claim_at claims k)
-
--- the table has the first component that bears an earlier one's name, the claims of all where there is none such, and the number of the ground
-pub record IsTableOf (regions : List Region) (groups : List Group) (components : List Component) (table : ClaimTable) : Type 0 where
-  pub second : FirstIs BearsEarlierName components table.second
-  pub claims : NoneBreaks BearsEarlierName components → AreClaimsOf regions groups components table.claims.items
-  pub ground : table.ground ≡ length (fences regions)

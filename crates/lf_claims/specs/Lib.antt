@@ -3,4 +3,5 @@ pub mod Teams
 pub mod Refusals
 pub mod NameMaps
 pub mod Tables
+pub mod ClaimTables
 pub mod Claims

@@ -2,7 +2,7 @@
 use Rattle.std.specs.Prelude.{ℕ, List, map}
 use Rattle.std.specs.List.{enumerate_from}
 use Rattle.lf_def.specs.declared.components.Component.{Component}
-use Rattle.lf_names.specs.NameParts.{Labelled}
+use Rattle.lf_names.specs.Labels.{Labelled}
 
 -- the names of components
 abbrev pub component_names : List Component → List (List ℕ)

@@ -1,7 +1,8 @@
 //! Claims of fences on names.
 
 ghost use Rattle.std.specs.Prelude.{◌≡◌, ◌<◌, ℕ, IfOk, length, slice_set};
-ghost use Rattle.lf_claims.specs.Claims.{joined as joined_claim, merged as merged_claim, Tells, claim_at, IsMatched};
+ghost use Rattle.lf_claims.specs.Claims.{joined as joined_claim, merged as merged_claim, Tells, IsMatched};
+ghost use Rattle.lf_claims.specs.ClaimTables.{claim_at};
 
 use lf_names::Match;
 use std::alloc::{AllocError, Global};

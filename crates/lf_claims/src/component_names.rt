@@ -1,7 +1,6 @@
 //! The names of components.
 
-ghost use Rattle.std.specs.Prelude.{[], ◌∷◌, ◌++◌, ◌≡◌, Contains, IsTrue, IsFalse, IfOk};
-ghost use Rattle.lf_names.specs.NameParts.{ArePartsOf};
+ghost use Rattle.std.specs.Prelude.{[], ◌∷◌, ◌++◌, ◌≡◌, Contains, IsTrue, IsFalse, IfOk, IsPermutation};
 ghost use Rattle.lf_claims.specs.Entries.{FirstIs};
 ghost use Rattle.lf_claims.specs.Refusals.{BearsEarlierName};
 ghost use Rattle.lf_claims.specs.Tables.{numbered_names};
@@ -16,7 +15,7 @@ pub(crate) fn parts_of_components(
     alloc: Global,
     components: &[Component],
 ) -> Result<NameParts, AllocError>
-    ensures { IfOk result (ArePartsOf (numbered_names components.now)) }
+    ensures { IfOk result (λ parts. IsPermutation (numbered_names components.now) parts) }
 {
     let mut parts = NameParts::new(alloc)?;
     for (number, component) in components.iter().enumerate() {

@@ -2,7 +2,7 @@
 
 ghost use Rattle.std.specs.Prelude.{◌≡◌, ◌↔◌, ◌⊎◌, ℕ, [], ◌∷◌, List, Some, IfOk, OnOk};
 ghost use Rattle.std.specs.Option.{option_and_then};
-ghost use Rattle.lf_names.specs.NameParts.{Labelled, ArePartsOf};
+ghost use Rattle.lf_names.specs.Labels.{Labelled};
 ghost use Rattle.lf_names.specs.Pattern.{Matches};
 ghost use Rattle.lf_def.specs.declared.regions.Region.{Region};
 ghost use Rattle.lf_claims.specs.Teams.{fence_names};
@@ -100,7 +100,7 @@ impl PatternIndex {
         alloc: Global,
         components: &[Component],
     ) -> Result<Option<Vec<Claim>>, AllocError>
-        ensures { (literals : List Labelled) → ArePartsOf literals self.now.literals → IfOk result (AreClaimsWhereDistinct (Labels literals) components.now) }
+        ensures { IfOk result (AreClaimsWhereDistinct (Labels self.now.literals) components.now) }
     {
         let names = parts_of_components(alloc, components)?;
         let Some(matches) = names.matches(alloc, &self.literals)? else {

@@ -1,13 +1,14 @@
 //! Which fences claim each component.
 
-ghost use Rattle.std.specs.Prelude.{◌≡◌, ◌↔◌, ℕ, [], List, IsTrue, IfOk, OnOk, length};
+ghost use Rattle.std.specs.Prelude.{◌≡◌, ◌↔◌, [], List, IsTrue, IfOk, OnOk, length};
 ghost use Rattle.lf_def.specs.declared.regions.Region.{Region};
 ghost use Rattle.lf_def.specs.declared.groups.Group.{Group};
 ghost use Rattle.lf_claims.specs.Entries.{FirstIs, NoneBreaks};
-ghost use Rattle.lf_claims.specs.Teams.{fences, fence_names, IsTeamOf};
-ghost use Rattle.lf_claims.specs.Refusals.{HasTwoFences, IsClaimedTwice, BearsEarlierName};
+ghost use Rattle.lf_claims.specs.Teams.{fences, fence_names};
+ghost use Rattle.lf_claims.specs.Refusals.{IsClaimedTwice, BearsEarlierName};
 ghost use Rattle.lf_claims.specs.NameMaps.{IsWhole};
-ghost use Rattle.lf_claims.specs.Claims.{IsClaimOf, claim_at, Numbers, NumbersOneMore, IsTableOf};
+ghost use Rattle.lf_claims.specs.ClaimTables.{IsClaimOf, IsTableOf, TellsSecondName, TellsTeam, claim_at};
+ghost use Rattle.lf_claims.specs.Claims.{Numbers, NumbersOneMore};
 
 use crate::claims::{Claim, claim_of};
 use crate::component_names::first_second_name;
@@ -17,13 +18,23 @@ use crate::pattern_index::index_of;
 use lf_def::{Component, Group, Region};
 use lf_units::Name;
 use std::alloc::{AllocError, Global};
+use std::marker::Model;
 
-/// What the names of all components tell: which of them is an earlier one's too, and which fences claim each.
+/// What the names of all components tell: which of them is an earlier one's too, and which fences claim each. A
+/// contract sees what it tells.
 #[derive(Drop)]
 pub struct ClaimTable {
     second: Option<usize>,
     claims: Vec<Claim>,
     ground: u32,
+}
+
+impl Model for ClaimTable {
+    ghost use Rattle.lf_claims.specs.ClaimTables.{Told};
+
+    ghost Value = { Told };
+
+    ghost view = { λ t. record { second = t.second; claims = t.claims.items; ground = t.ground } };
 }
 
 /// Puts the number of the fence under its name, unless an earlier fence bears it.
@@ -83,15 +94,15 @@ pub fn claim_table(
 impl ClaimTable {
     /// The first component that bears an earlier one's name.
     pub fn second_name(&self) -> Option<usize>
-        ensures { result ≡ self.now.second }
+        ensures { TellsSecondName self.now result }
     {
         self.second
     }
 
-    /// The team of the component of that number, which no two fences claim: the place of its fence among the
-    /// fences, or their number where no fence claims it.
+    /// The team of the component of that number, where names differ and no two fences claim it: the place of its fence
+    /// among the fences, or their number where no fence claims it.
     pub fn team_at(&self, number: usize) -> usize
-        ensures { (regions : List Region) (groups : List Group) (name : List ℕ) → IsClaimOf regions groups name (claim_at self.now.claims.items number) → (HasTwoFences regions groups name → ⊥) → self.now.ground ≡ length (fences regions) → IsTeamOf regions groups name result }
+        ensures { TellsTeam self.now number result }
     {
         match claim_of(&self.claims, number) {
             Claim::ByOne(team) => team as usize,
@@ -102,7 +113,7 @@ impl ClaimTable {
 
     /// Whether teams may move the component, which has this number, and groups of two different fences name it.
     fn is_claimed_twice(&self, number: usize, component: &Component) -> bool
-        ensures { (regions : List Region) (groups : List Group) → IsClaimOf regions groups component.now.name (claim_at self.now.claims.items number) → (IsTrue result ↔ IsClaimedTwice regions groups [] component.now) }
+        ensures { (regions : List Region) (groups : List Group) → IsClaimOf regions groups component.now.name (claim_at self.now.claims number) → (IsTrue result ↔ IsClaimedTwice regions groups [] component.now) }
     {
         match claim_of(&self.claims, number) {
             Claim::ByTwo => is_movable(component),

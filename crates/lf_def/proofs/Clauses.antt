@@ -1,5 +1,6 @@
 -- Which tokens a component is, and which of them its placement clause.
-use Rattle.std.proofs.Common.{◌≡◌, ◌⊎◌, ℕ, zero, suc, Bool, true, false, ◌&&◌, ◌||◌, cond, List, [], ◌∷◌, ◌++◌, ℤ, Option, Some, None, Result, Ok, Err, inl, inr, refl, sym, ap, ◌∙◌}
+use Rattle.std.proofs.Common.{◌≡◌, ◌⊎◌, ℕ, zero, suc, Bool, true, false, ◌&&◌, ◌||◌, cond, List, [], ◌∷◌, ◌++◌, ℤ, Option, Some, None, Result, Ok, Err, inl}
+use Rattle.std.proofs.Common.{inr, refl, sym, ap, ◌∙◌}
 use Rattle.std.specs.Prelude.{codes}
 use Rattle.std.specs.Str.{bytes_eq}
 use Rattle.std.proofs.lemmas.Slice.Eq.{bytes_eq-Decides}
@@ -20,9 +21,11 @@ use Rattle.lf_def.specs.declared.components.Placement.{Placement}
 use Rattle.lf_def.specs.declared.components.PlacementKind.{PlacementKind}
 use Rattle.lf_def.specs.declared.components.PlacementKind.TheVariants.{Fixed, Cover, Placed}
 use Rattle.lf_def.specs.Coordinates.{dbu_of, dbu, point_rest, orient_of}
-use Rattle.lf_def.specs.Components.{located_rest, placed, unplaced, is_placement_word, placement, only_placement, clause, up_to_stop, unplaced_point, component_part, component_from, component_token, no_component, component}
+use Rattle.lf_def.specs.Components.{located_rest, placed, unplaced, is_placement_word, placement, only_placement, clause, up_to_stop, unplaced_point}
+use Rattle.lf_def.specs.Components.{component_part, component_from, component_token, no_component, component}
 use Rattle.lf_def.specs.Laws.{IsPlace, LastEnds, ClauseAmong, HasClause, ComponentsStand}
 use Rattle.lf_def.proofs.Kept.{name_local}
+use Rattle.lf_lex.proofs.Splicing.{and_true}
 
 not_both : true ≡ false → ⊥
 not_both e = cc
@@ -32,11 +35,13 @@ pub bind_ok : {A B : Type 0} (o : Result A ReadFault) (k : A → Result B ReadFa
 bind_ok (Ok x) k y e = (x, refl, e)
 bind_ok (Err q) k y e = absurd cc
 
-first_ok : {B : Type 0} (ts : List Lexeme) (l : Lexed) (k : Taken Lexeme → Result B ReadFault) (y : B) → l ≡ behind ts l → (first_of ts l >>= k) ≡ Ok y → (t : Lexeme) × (n : Lexed) × (l ≡ with_token t n) × (k (left t n) ≡ Ok y)
+first_ok : {B : Type 0} (ts : List Lexeme) (l : Lexed) (k : Taken Lexeme → Result B ReadFault) (y : B) → l ≡ behind ts l → (first_of ts l >>= k) ≡ Ok y
+    → (t : Lexeme) × (n : Lexed) × (l ≡ with_token t n) × (k (left t n) ≡ Ok y)
 first_ok [] l k y w e = absurd cc
 first_ok (t ∷ ts) l k y w e = (t, behind ts l, w, e)
 
-pub token_ok : {B : Type 0} (l : Lexed) (k : Taken Lexeme → Result B ReadFault) (y : B) → (token l >>= k) ≡ Ok y → (t : Lexeme) × (n : Lexed) × (l ≡ with_token t n) × (k (left t n) ≡ Ok y)
+pub token_ok : {B : Type 0} (l : Lexed) (k : Taken Lexeme → Result B ReadFault) (y : B) → (token l >>= k) ≡ Ok y
+    → (t : Lexeme) × (n : Lexed) × (l ≡ with_token t n) × (k (left t n) ≡ Ok y)
 token_ok l k y e = first_ok l.tokens l k y refl e
 
 pub if_ok : {B : Type 0} (c : Bool) (x : Result B ReadFault) (q : ReadFault) (y : B) → cond c x (Err q) ≡ Ok y → (c ≡ true) × (x ≡ Ok y)
@@ -59,7 +64,8 @@ dbu_ok l m v e =
     let c = ok_is b.0 a.1 v m b.2 in
     (a.0, a.2 ∙ ap (λ (z : Lexed). with_token a.0 z) c.1)
 
-point_ok : (l m : Lexed) (p : Point) → point_rest l ≡ taken p m → (x : Lexeme) × (y : Lexeme) × (t : Lexeme) × (l ≡ with_tokens (x ∷ y ∷ t ∷ []) m) × (is (codes ")") t ≡ true)
+point_ok : (l m : Lexed) (p : Point) → point_rest l ≡ taken p m → (x : Lexeme) × (y : Lexeme) × (t : Lexeme) × (l ≡ with_tokens (x ∷ y ∷ t ∷ []) m)
+    × (is (codes ")") t ≡ true)
 unfolding point_rest
 point_ok l m p e =
     let a = bind_ok (dbu l) _ _ e in
@@ -68,8 +74,14 @@ point_ok l m p e =
     let b1 = dbu_ok a.0.rest b.0.rest b.0.value b.1 in
     let c = bind_ok (keyword (codes ")") b.0.rest) _ _ b.2 in
     let c1 = keyword_ok (codes ")") b.0.rest c.0.rest c.0.value c.1 in
-    let d = ok_is (record { x = a.0.value; y = b.0.value }) c.0.rest p m c.2 in
-    (a1.0, b1.0, c1.0, a1.1 ∙ ap (λ (z : Lexed). with_token a1.0 z) (b1.1 ∙ ap (λ (z : Lexed). with_token b1.0 z) (c1.1 ∙ ap (λ (z : Lexed). with_token c1.0 z) d.1)), c1.2)
+    let d = ok_is (record { x = a.0.value; y = b.0.value }) c.0.rest p m c.2 in (
+      a1.0,
+      b1.0,
+      c1.0,
+      a1.1 ∙ ap (λ (z : Lexed). with_token a1.0 z)
+          (b1.1 ∙ ap (λ (z : Lexed). with_token b1.0 z) (c1.1 ∙ ap (λ (z : Lexed). with_token c1.0 z) d.1)),
+      c1.2,
+    )
 
 -- the tokens of a place behind its first parenthesis
 pub record PlaceRun (l m : Lexed) (p : Located) : Type 0 where
@@ -110,7 +122,8 @@ pub record MoreRun (plus : ℕ) (t : Lexeme) (l m : Lexed) (p : Placement) : Typ
   pub start : p.start ≡ plus
   pub stop : LastEnds p.stop t more
 
-placed_ok : (kind : PlacementKind) (plus : ℕ) (t : Lexeme) (l m : Lexed) (p : Placement) → (is (codes "UNPLACED") t ≡ true → ⊥) → placed kind plus l ≡ taken p m → MoreRun plus t l m p
+placed_ok : (kind : PlacementKind) (plus : ℕ) (t : Lexeme) (l m : Lexed) (p : Placement) → (is (codes "UNPLACED") t ≡ true → ⊥) → placed kind plus l ≡ taken p m
+    → MoreRun plus t l m p
 unfolding placed
 placed_ok kind plus t l m p u e =
     let a = bind_ok (keyword (codes "(") l) _ _ e in
@@ -127,10 +140,19 @@ placed_ok kind plus t l m p u e =
       stop = r.stop ∙ ap (λ (z : Placement). z.stop) d.0;
     }
 
-unplaced_ok : (plus : ℕ) (t : Lexeme) (l m : Lexed) (p : Placement) → is (codes "UNPLACED") t ≡ true → ◌≡◌ {A = Result (Taken Placement) ReadFault} (taken (unplaced plus t) l) (taken p m) → MoreRun plus t l m p
+unplaced_ok : (plus : ℕ) (t : Lexeme) (l m : Lexed) (p : Placement) → is (codes "UNPLACED") t ≡ true
+    → ◌≡◌ {A = Result (Taken Placement) ReadFault} (taken (unplaced plus t) l) (taken p m) → MoreRun plus t l m p
 unplaced_ok plus t l m p u e =
     let d = ok_is (unplaced plus t) l p m e in
-    record { more = []; whole = d.1; more_is = inl (u, refl); bare = λ h. refl; start = sym (ap (λ (z : Placement). z.start) d.0); stop = ap (λ (z : Placement). z.stop) d.0 }
+    record {
+      more = [];
+      whole = d.1;
+      more_is = inl (u, refl);
+      bare = λ h. refl;
+      start = sym (ap (λ (z : Placement). z.start) d.0);
+      stop =
+          ap (λ (z : Placement). z.stop) d.0;
+    }
 
 text_is : (w : List ℕ) (t : Lexeme) → is w t ≡ true → t.text ≡ w
 text_is w t h = (bytes_eq-Decides t.text w).0 h
@@ -139,7 +161,8 @@ text_is w t h = (bytes_eq-Decides t.text w).0 h
 not_two : (v w : List ℕ) (t : Lexeme) → bytes_eq v w ≡ false → is v t ≡ true → is w t ≡ true → ⊥
 not_two v w t other h k = let e : bytes_eq v w ≡ true = rw (text_is v t h) at k in absurd (not_both (sym e ∙ other))
 
-kind_ok : (a b c d : Bool) (plus : ℕ) (t : Lexeme) (l m : Lexed) (p : Placement) → is (codes "FIXED") t ≡ a → is (codes "COVER") t ≡ b → is (codes "PLACED") t ≡ c → is (codes "UNPLACED") t ≡ d → (a || b || c || d) ≡ true
+kind_ok : (a b c d : Bool) (plus : ℕ) (t : Lexeme) (l m : Lexed) (p : Placement) → is (codes "FIXED") t ≡ a → is (codes "COVER") t ≡ b
+    → is (codes "PLACED") t ≡ c → is (codes "UNPLACED") t ≡ d → (a || b || c || d) ≡ true
     → cond a (placed Fixed plus l) (cond b (placed Cover plus l) (cond c (placed Placed plus l) (taken (unplaced plus t) l))) ≡ taken p m → MoreRun plus t l m p
 kind_ok true b c d plus t l m p x y z u w e = placed_ok Fixed plus t l m p (not_two (codes "FIXED") (codes "UNPLACED") t refl x) e
 kind_ok false true c d plus t l m p x y z u w e = placed_ok Cover plus t l m p (not_two (codes "COVER") (codes "UNPLACED") t refl y) e
@@ -149,9 +172,11 @@ kind_ok false false false false plus t l m p x y z u w e = absurd cc
 
 placement_ok : (plus : ℕ) (t : Lexeme) (l m : Lexed) (p : Placement) → is_placement_word t ≡ true → placement plus t l ≡ taken p m → MoreRun plus t l m p
 unfolding placement
-placement_ok plus t l m p w e = kind_ok (is (codes "FIXED") t) (is (codes "COVER") t) (is (codes "PLACED") t) (is (codes "UNPLACED") t) plus t l m p refl refl refl refl w e
+placement_ok plus t l m p w e = kind_ok (is (codes "FIXED") t) (is (codes "COVER") t) (is (codes "PLACED") t)
+    (is (codes "UNPLACED") t) plus t l m p refl refl refl refl w e
 
-only_ok : (first : Option Placement) (plus : ℕ) (t : Lexeme) (l m : Lexed) (p : Placement) → is_placement_word t ≡ true → only_placement first plus t l ≡ taken p m → MoreRun plus t l m p
+only_ok : (first : Option Placement) (plus : ℕ) (t : Lexeme) (l m : Lexed) (p : Placement) → is_placement_word t ≡ true
+    → only_placement first plus t l ≡ taken p m → MoreRun plus t l m p
 unfolding only_placement
 only_ok None plus t l m p w e = placement_ok plus t l m p w e
 only_ok (Some first) plus t l m p w e = absurd cc
@@ -191,7 +216,8 @@ wider r more (Some p) h =
       before = h.before;
       clause = h.clause;
       after = h.after ++ more;
-      whole = ap (λ (z : List Lexeme). z ++ more) h.whole ∙ append_assoc h.before (h.clause ++ h.after) more ∙ ap (λ (z : List Lexeme). h.before ++ z) (append_assoc h.clause h.after more);
+      whole = ap (λ (z : List Lexeme). z ++ more) h.whole ∙ append_assoc h.before (h.clause ++ h.after) more
+          ∙ ap (λ (z : List Lexeme). h.before ++ z) (append_assoc h.clause h.after more);
       is = h.is;
     }
 
@@ -241,7 +267,8 @@ separator_not_keyword : Separator ≡ Keyword → ⊥
 separator_not_keyword e = cc
 
 -- a token that is passed over
-passed : (r : List Lexeme) (l m n : Lexed) (s : ComponentParts) (u : Lexeme) → Known r s → (s.due ≡ Keyword → ⊥) → (s.due ≡ Separator → ⊥) → l ≡ with_token u n → n ≡ m → Step r l m s
+passed : (r : List Lexeme) (l m n : Lexed) (s : ComponentParts) (u : Lexeme) → Known r s → (s.due ≡ Keyword → ⊥) → (s.due ≡ Separator → ⊥) → l ≡ with_token u n
+    → n ≡ m → Step r l m s
 passed r l m n s u k no_keyword no_separator w e =
     record {
       run = u ∷ [];
@@ -258,7 +285,8 @@ clause_whole r front last u more e = ap (λ (z : List Lexeme). z ++ u ∷ more) 
 with_nil : (front back : List Lexeme) → front ++ back ≡ front ++ (back ++ [])
 with_nil front back = ap (λ (z : List Lexeme). front ++ z) (sym (append-nil back))
 
-placed_step : (r : List Lexeme) (l m n rest : Lexed) (s : ComponentParts) (u : Lexeme) (p : Placement) → EndsPlus r s.plus → is_placement_word u ≡ true → l ≡ with_token u n → MoreRun s.plus u n rest p → rest ≡ m → Step r l m (placed_state s u p)
+placed_step : (r : List Lexeme) (l m n rest : Lexed) (s : ComponentParts) (u : Lexeme) (p : Placement) → EndsPlus r s.plus → is_placement_word u ≡ true
+    → l ≡ with_token u n → MoreRun s.plus u n rest p → rest ≡ m → Step r l m (placed_state s u p)
 placed_step r l m n rest s u p ends w whole f e =
     let all = clause_whole r ends.front ends.last u f.more ends.whole in
     record {
@@ -270,15 +298,41 @@ placed_step r l m n rest s u p ends w whole f e =
           clause = ends.last ∷ u ∷ f.more;
           after = [];
           whole = all ∙ with_nil ends.front (ends.last ∷ u ∷ f.more);
-          is = record { plus = ends.last; word = u; more = f.more; tokens = refl; plus_is = ends.last_is; word_is = w; more_is = f.more_is; start = f.start ∙ ends.start; stop = f.stop };
+          is = record {
+            plus = ends.last;
+            word = u;
+            more = f.more;
+            tokens = refl;
+            plus_is = ends.last_is;
+            word_is = w;
+            more_is = f.more_is;
+            start = f.start
+                ∙ ends.start;
+            stop = f.stop;
+          };
         };
         plus = λ h. absurd (separator_not_keyword h);
-        bare = λ h x. record { front = ends.front; plus = ends.last; word = u; p = p; whole = all ∙ ap (λ (z : List Lexeme). ends.front ++ ends.last ∷ u ∷ z) (f.bare x); plus_is = ends.last_is; word_is = w; placement_is = refl; start = f.start ∙ ends.start };
+        bare = λ h x. record {
+          front = ends.front;
+          plus = ends.last;
+          word = u;
+          p = p;
+          whole = all
+              ∙ ap (λ (z : List Lexeme). ends.front ++ ends.last ∷ u ∷ z) (f.bare x);
+          plus_is = ends.last_is;
+          word_is = w;
+          placement_is = refl;
+          start = f.start
+              ∙ ends.start;
+        };
       };
     }
 
-clause_turn : (c : Bool) (r : List Lexeme) (l m n : Lexed) (s : ComponentParts) (u : Lexeme) (t : Turn ComponentParts) → Known r s → s.due ≡ Keyword → l ≡ with_token u n → is_placement_word u ≡ c
-    → cond {A = Result (Taken (Turn ComponentParts)) ReadFault} c (only_placement s.placement s.plus u n >>= λ p. taken (turn (placed_state s u p.value) true) p.rest) (taken (turn (record s { due = Rest }) true) n) ≡ taken t m → Turned r l m t
+clause_turn : (c : Bool) (r : List Lexeme) (l m n : Lexed) (s : ComponentParts) (u : Lexeme) (t : Turn ComponentParts) → Known r s → s.due ≡ Keyword
+    → l ≡ with_token u n → is_placement_word u ≡ c
+    → cond {A = Result (Taken (Turn ComponentParts)) ReadFault} c
+    (only_placement s.placement s.plus u n >>= λ p. taken (turn (placed_state s u p.value) true) p.rest)
+    (taken (turn (record s { due = Rest }) true) n) ≡ taken t m → Turned r l m t
 clause_turn true r l m n s u t k due w h e =
     let a = bind_ok (only_placement s.placement s.plus u n) _ _ e in
     let f = only_ok s.placement s.plus u n a.0.rest a.0.value h a.1 in
@@ -295,13 +349,16 @@ clause_turn false r l m n s u t k due w h e =
 abbrev point_state : ComponentParts → ℕ → ComponentParts
 point_state s stop = record s { placement = option_map (up_to_stop stop) s.placement; point = false }
 
-longer : (tokens : List Lexeme) (p : Option Placement) (q : Placement) (stop : ℕ) → p ≡ Some q → ClauseAmong tokens (record q { stop = stop }) → HasClause tokens (option_map (up_to_stop stop) p)
+longer : (tokens : List Lexeme) (p : Option Placement) (q : Placement) (stop : ℕ) → p ≡ Some q → ClauseAmong tokens (record q { stop = stop })
+    → HasClause tokens (option_map (up_to_stop stop) p)
 longer tokens p q stop e c = rw e c
 
-point_step : (r : List Lexeme) (l m n rest : Lexed) (s : ComponentParts) (u : Lexeme) (q : Located) → EndsBare r s.placement → s.due ≡ Separator → is (codes "(") u ≡ true → l ≡ with_token u n → PlaceRun n rest q → rest ≡ m → Step r l m (point_state s q.stop)
+point_step : (r : List Lexeme) (l m n rest : Lexed) (s : ComponentParts) (u : Lexeme) (q : Located) → EndsBare r s.placement → s.due ≡ Separator
+    → is (codes "(") u ≡ true → l ≡ with_token u n → PlaceRun n rest q → rest ≡ m → Step r l m (point_state s q.stop)
 point_step r l m n rest s u q b due o w f e =
     let run = u ∷ f.x ∷ f.y ∷ f.closing ∷ f.orient ∷ [] in
-    let all = ap (λ (z : List Lexeme). z ++ u ∷ f.x ∷ f.y ∷ f.closing ∷ f.orient ∷ []) b.whole ∙ append_assoc b.front (b.plus ∷ b.word ∷ []) (u ∷ f.x ∷ f.y ∷ f.closing ∷ f.orient ∷ []) in
+    let all = ap (λ (z : List Lexeme). z ++ u ∷ f.x ∷ f.y ∷ f.closing ∷ f.orient ∷ []) b.whole
+    ∙ append_assoc b.front (b.plus ∷ b.word ∷ []) (u ∷ f.x ∷ f.y ∷ f.closing ∷ f.orient ∷ []) in
     record {
       run = u ∷ f.x ∷ f.y ∷ f.closing ∷ f.orient ∷ [];
       whole = w ∙ ap (λ (z : Lexed). with_token u z) (f.whole ∙ ap (λ (z : Lexed). with_tokens (f.x ∷ f.y ∷ f.closing ∷ f.orient ∷ []) z) e);
@@ -311,27 +368,36 @@ point_step r l m n rest s u q b due o w f e =
           clause = b.plus ∷ b.word ∷ u ∷ f.x ∷ f.y ∷ f.closing ∷ f.orient ∷ [];
           after = [];
           whole = all ∙ with_nil b.front (b.plus ∷ b.word ∷ u ∷ f.x ∷ f.y ∷ f.closing ∷ f.orient ∷ []);
-          is = record { plus = b.plus; word = b.word; more = u ∷ f.x ∷ f.y ∷ f.closing ∷ f.orient ∷ []; tokens = refl; plus_is = b.plus_is; word_is = b.word_is; more_is = inr (o, f.closing_is, f.named); start = b.start; stop = f.stop };
+          is = record {
+            plus = b.plus;
+            word = b.word;
+            more = u ∷ f.x ∷ f.y ∷ f.closing ∷ f.orient ∷ [];
+            tokens = refl;
+            plus_is = b.plus_is;
+            word_is =
+                b.word_is;
+            more_is = inr (o, f.closing_is, f.named);
+            start = b.start;
+            stop = f.stop;
+          };
         });
         plus = λ h. absurd (separator_not_keyword (sym due ∙ h));
         bare = λ h x. absurd (not_either x);
       };
     }
 
-both_true : (a b : Bool) → (a && b) ≡ true → (a ≡ true) × (b ≡ true)
-both_true true b e = (refl, e)
-both_true false b e = absurd cc
-
-point_turn : (r : List Lexeme) (l m n : Lexed) (s : ComponentParts) (u : Lexeme) (t : Turn ComponentParts) → Known r s → s.due ≡ Separator → l ≡ with_token u n → (s.point && is (codes "(") u) ≡ true → unplaced_point s n ≡ taken t m → Turned r l m t
+point_turn : (r : List Lexeme) (l m n : Lexed) (s : ComponentParts) (u : Lexeme) (t : Turn ComponentParts) → Known r s → s.due ≡ Separator → l ≡ with_token u n
+    → (s.point && is (codes "(") u) ≡ true → unplaced_point s n ≡ taken t m → Turned r l m t
 unfolding unplaced_point
 point_turn r l m n s u t k due w h e =
-    let b = both_true s.point (is (codes "(") u) h in
+    let b = and_true s.point (is (codes "(") u) h in
     let a = bind_ok (located_rest n) _ _ e in
     let f = located_ok n a.0.rest a.0.value a.1 in
     let d = ok_is (turn (point_state s a.0.value.stop) true) a.0.rest t m a.2 in
     goes r l m (point_state s a.0.value.stop) t d.0 (point_step r l m n a.0.rest s u a.0.value (k.bare due b.0) due b.1 w f d.1)
 
-part_turn : (due : Due) (r : List Lexeme) (l m n : Lexed) (s : ComponentParts) (u : Lexeme) (t : Turn ComponentParts) → Known r s → s.due ≡ due → l ≡ with_token u n → component_part due s u n ≡ taken t m → Turned r l m t
+part_turn : (due : Due) (r : List Lexeme) (l m n : Lexed) (s : ComponentParts) (u : Lexeme) (t : Turn ComponentParts) → Known r s → s.due ≡ due
+    → l ≡ with_token u n → component_part due s u n ≡ taken t m → Turned r l m t
 unfolding component_part clause
 part_turn Item r l m n s u t k due w e =
     let d = ok_is (turn s true) n t m e in
@@ -344,17 +410,33 @@ part_turn Separator r l m n s u t k due w e =
     let a = if_ok (s.point && is (codes "(") u) _ _ _ e in
     point_turn r l m n s u t k due w a.0 a.1
 
-from_turn : (c d : Bool) (r : List Lexeme) (l m n : Lexed) (s : ComponentParts) (u : Lexeme) (t : Turn ComponentParts) → Known r s → l ≡ with_token u n → is (codes ";") u ≡ c → is (codes "+") u ≡ d
-    → cond {A = Result (Taken (Turn ComponentParts)) ReadFault} c (taken (turn (record s { semicolon = u.start }) false) n) (cond d (taken (turn (record s { due = Keyword; plus = u.start }) true) n) (component_part s.due s u n)) ≡ taken t m → Turned r l m t
+from_turn : (c d : Bool) (r : List Lexeme) (l m n : Lexed) (s : ComponentParts) (u : Lexeme) (t : Turn ComponentParts) → Known r s → l ≡ with_token u n
+    → is (codes ";") u ≡ c → is (codes "+") u ≡ d
+    → cond {A = Result (Taken (Turn ComponentParts)) ReadFault} c (taken (turn (record s { semicolon = u.start }) false) n)
+    (cond d (taken (turn (record s { due = Keyword; plus = u.start }) true) n) (component_part s.due s u n)) ≡ taken t m → Turned r l m t
 from_turn true d r l m n s u t k w x y e =
     let g = ok_is (turn (record s { semicolon = u.start }) false) n t m e in
-    ended r l m (record s { semicolon = u.start }) t g.0 (record { run = u ∷ []; whole = w ∙ ap (λ (z : Lexed). with_token u z) g.1; last = u; run_is = refl; last_is = x; semicolon = refl; clause = k.clause })
+    ended r l m (record s { semicolon = u.start }) t g.0 (record {
+      run = u ∷ [];
+      whole = w ∙ ap (λ (z : Lexed). with_token u z) g.1;
+      last = u;
+      run_is =
+          refl;
+      last_is = x;
+      semicolon = refl;
+      clause = k.clause;
+    })
 from_turn false true r l m n s u t k w x y e =
     let g = ok_is (turn (record s { due = Keyword; plus = u.start }) true) n t m e in
     goes r l m (record s { due = Keyword; plus = u.start }) t g.0 (record {
       run = u ∷ [];
       whole = w ∙ ap (λ (z : Lexed). with_token u z) g.1;
-      known = record { clause = wider r (u ∷ []) s.placement k.clause; plus = λ h. record { front = r; last = u; whole = refl; last_is = y; start = refl }; bare = λ h z. absurd (keyword_not_separator h) };
+      known = record {
+        clause = wider r (u ∷ []) s.placement k.clause;
+        plus =
+            λ h. record { front = r; last = u; whole = refl; last_is = y; start = refl };
+        bare = λ h z. absurd (keyword_not_separator h);
+      };
     })
 from_turn false false r l m n s u t k w x y e = part_turn s.due r l m n s u t k refl w e
 
@@ -375,7 +457,15 @@ record Ended (r : List Lexeme) (l m : Lexed) (s : ComponentParts) : Type 0 where
 
 last_turn : (r : List Lexeme) (l m n : Lexed) (s y : ComponentParts) → Last r l n s → s ≡ y → n ≡ m → Ended r l m y
 last_turn r l m n s y f e g =
-    rw (sym e) (record { front = []; last = f.last; whole = f.whole ∙ ap (λ (z : List Lexeme). with_tokens z n) f.run_is ∙ ap (λ (z : Lexed). with_token f.last z) g; last_is = f.last_is; semicolon = f.semicolon; clause = wider r [] s.placement f.clause })
+    rw (sym e) (record {
+      front = [];
+      last = f.last;
+      whole = f.whole ∙ ap (λ (z : List Lexeme). with_tokens z n) f.run_is
+          ∙ ap (λ (z : Lexed). with_token f.last z) g;
+      last_is = f.last_is;
+      semicolon = f.semicolon;
+      clause = wider r [] s.placement f.clause;
+    })
 
 more_turns : (r : List Lexeme) (l m n : Lexed) (s y : ComponentParts) → (f : Step r l n s) → Ended (r ++ f.run) n m y → Ended r l m y
 more_turns r l m n s y f g =
@@ -383,7 +473,8 @@ more_turns r l m n s y f g =
     record {
       front = f.run ++ g.front;
       last = g.last;
-      whole = f.whole ∙ ap (λ (z : Lexed). with_tokens f.run z) g.whole ∙ sym (with_both f.run (g.front ++ g.last ∷ []) m) ∙ ap (λ (z : List Lexeme). with_tokens z m) (sym (append_assoc f.run g.front (g.last ∷ [])));
+      whole = f.whole ∙ ap (λ (z : Lexed). with_tokens f.run z) g.whole ∙ sym (with_both f.run (g.front ++ g.last ∷ []) m)
+          ∙ ap (λ (z : List Lexeme). with_tokens z m) (sym (append_assoc f.run g.front (g.last ∷ [])));
       last_is = g.last_is;
       semicolon = g.semicolon;
       clause = rw there at g.clause;
@@ -400,12 +491,20 @@ unfolding statements
 all_turns zero r l m s y k e = absurd cc
 all_turns (suc n) r l m s y k e =
     let a = bind_ok (component_token s l) _ _ e in
-    turns_by n r l m y a.0.value a.0.rest (token_turn r l a.0.rest s a.0.value k a.1) (λ r' k' f. all_turns n r' a.0.rest m a.0.value.state y k' f) a.0.value.more refl a.2
+    turns_by n r l m y a.0.value a.0.rest (token_turn r l a.0.rest s a.0.value k a.1)
+    (λ r' k' f. all_turns n r' a.0.rest m a.0.value.state y k' f) a.0.value.more refl a.2
 
 -- the clause stands among more tokens too
 deeper : (more r : List Lexeme) (p : Option Placement) → HasClause r p → HasClause (more ++ r) p
 deeper more r None h = tt
-deeper more r (Some p) h = record { before = more ++ h.before; clause = h.clause; after = h.after; whole = ap (λ (z : List Lexeme). more ++ z) h.whole ∙ sym (append_assoc more h.before (h.clause ++ h.after)); is = h.is }
+deeper more r (Some p) h = record {
+  before = more ++ h.before;
+  clause = h.clause;
+  after = h.after;
+  whole = ap (λ (z : List Lexeme). more ++ z) h.whole
+      ∙ sym (append_assoc more h.before (h.clause ++ h.after));
+  is = h.is;
+}
 
 same_clause : (tokens : List Lexeme) (p q : Option Placement) → p ≡ q → HasClause tokens p → HasClause tokens q
 same_clause tokens p q h x = rw h at x
@@ -435,6 +534,7 @@ components_stand l m c e =
         whole = sym (append_assoc a1.run (b1.run ++ f.front) (f.last ∷ []) ∙ ap (λ (z : List Lexeme). a1.run ++ z) (append_assoc b1.run f.front (f.last ∷ [])));
         last_is = f.last_is;
         semicolon = sym (ap (λ (z : Component). z.semicolon) g.0) ∙ f.semicolon;
-        clause = same_clause _ _ _ (ap (λ (z : Component). z.placement) g.0) (deeper a1.run (b1.run ++ f.front) d.0.value.placement (deeper b1.run f.front d.0.value.placement f.clause));
+        clause = same_clause _ _ _ (ap (λ (z : Component). z.placement) g.0)
+            (deeper a1.run (b1.run ++ f.front) d.0.value.placement (deeper b1.run f.front d.0.value.placement f.clause));
       },
     )

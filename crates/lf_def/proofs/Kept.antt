@@ -1,12 +1,11 @@
 -- What stands behind a component, a statement or the end of the design plays no part in it.
-use Rattle.std.proofs.Common.{◌≡◌, ℕ, ◌-◌, ◌&&◌, List, ◌∷◌, ◌++◌, length, take, Option, Some, None, Result, refl, sym, ap, ◌∙◌, arith}
+use Rattle.std.proofs.Common.{◌≡◌, ℕ, ◌&&◌, List, ◌∷◌, ◌++◌, length, take, Option, Some, None, Result, refl, sym, ap, ◌∙◌}
 use Rattle.std.specs.Prelude.{codes, nat_lt}
 use Rattle.lf_lex.specs.declared.fault.ReadFault.{ReadFault}
-use Rattle.lf_lex.specs.Tokens.{Lexed, Lexeme, with_tokens, tokens_of, tokens_from, CutsAtTokens}
-use Rattle.lf_lex.specs.Reading.{Reader, Taken, token, behind, is, is_word, word, name, keyword, end_name, to_semicolon, block}
+use Rattle.lf_lex.specs.Tokens.{Lexed, Lexeme, with_tokens, tokens_of, tokens_from}
+use Rattle.lf_lex.specs.Reading.{Reader, Taken, token, behind, is, is_word, word, name, keyword, end_name, to_semicolon, block, value_of}
 use Rattle.lf_lex.proofs.Runs.{same_run}
 use Rattle.lf_lex.proofs.Following.{keyword_follows, end_name_follows, to_semicolon_follows}
-use Rattle.lf_lex.proofs.Cutting.{cut}
 use Rattle.lf_def.specs.declared.entries.Due.{Due}
 use Rattle.lf_def.specs.declared.entries.Due.TheVariants.{Item, Keyword, Rest, Separator}
 use Rattle.lf_def.specs.declared.components.Component.{Component}
@@ -22,12 +21,15 @@ use Rattle.lf_def.specs.Rows.{with_row}
 use Rattle.lf_def.specs.Regions.{regions}
 use Rattle.lf_def.specs.Groups.{groups}
 use Rattle.lf_def.specs.Blockages.{blockages}
-use Rattle.lf_def.specs.Components.{located_rest, placed, unplaced, is_placement_word, placement, only_placement, clause, unplaced_point, component_part, component_from, component_token, no_component, component, components}
-use Rattle.lf_def.specs.Document.{passed_from, end_design, body_statement, statement_from, statement, no_parts, value_of, document_from}
+use Rattle.lf_def.specs.Components.{located_rest, placed, unplaced, is_placement_word, placement, only_placement, clause, unplaced_point, component_part}
+use Rattle.lf_def.specs.Components.{component_from, component_token, no_component, component, components}
+use Rattle.lf_def.specs.Document.{passed_from, end_design, body_statement, statement_from, statement, no_parts, document_from}
 use Rattle.lf_def.specs.Laws.{EndsBefore}
 use Rattle.lf_def.proofs.Following.{point_rest_follows, header_follows, entry_from, entry_or_end_goes}
-use Rattle.lf_def.proofs.Places.{with_row_follows, regions_alike, groups_alike, blockages_alike, passed_follows, end_design_follows, component_follows, component_token_goes, statement_goes}
+use Rattle.lf_def.proofs.Places.{with_row_follows, regions_alike, groups_alike, blockages_alike, passed_follows, end_design_follows, component_follows}
+use Rattle.lf_def.proofs.Places.{component_token_goes, statement_goes}
 use Rattle.lf_def.proofs.Local.{Local, local_of, local_pure, local_fault, local_choose, local_given, local_bind, token_local, local_block}
+use Rattle.lf_lex.proofs.Cutting.{cut_tokens, split_tokens}
 
 word_local : Local word
 unfolding word
@@ -39,16 +41,20 @@ name_local = local_bind word _ word_local (λ t. local_choose (nat_lt 1024 (leng
 
 located_local : Local located_rest
 unfolding located_rest
-located_local = local_bind point_rest _ (local_of point_rest point_rest_follows) (λ p. local_bind token _ token_local (λ t. local_given (orient_of t) _ (λ o. local_pure _)))
+located_local = local_bind point_rest _ (local_of point_rest point_rest_follows)
+    (λ p. local_bind token _ token_local (λ t. local_given (orient_of t) _ (λ o. local_pure _)))
 
 placed_local : (kind : PlacementKind) (plus : ℕ) → Local (placed kind plus)
 unfolding placed
-placed_local kind plus = local_bind (keyword (codes "(")) _ (local_of (keyword (codes "(")) (keyword_follows (codes "("))) (λ s. local_bind located_rest _ located_local (λ p. local_pure _))
+placed_local kind plus = local_bind (keyword (codes "(")) _ (local_of (keyword (codes "(")) (keyword_follows (codes "(")))
+    (λ s. local_bind located_rest _ located_local (λ p. local_pure _))
 
 placement_local : (plus : ℕ) (t : Lexeme) → Local (placement plus t)
 unfolding placement
 placement_local plus t =
-    local_choose (is (codes "FIXED") t) _ _ (placed_local Fixed plus) (local_choose (is (codes "COVER") t) _ _ (placed_local Cover plus) (local_choose (is (codes "PLACED") t) _ _ (placed_local Placed plus) (local_pure (unplaced plus t))))
+    local_choose (is (codes "FIXED") t) _ _ (placed_local Fixed plus)
+    (local_choose (is (codes "COVER") t) _ _ (placed_local Cover plus)
+    (local_choose (is (codes "PLACED") t) _ _ (placed_local Placed plus) (local_pure (unplaced plus t))))
 
 only_local : (first : Option Placement) (plus : ℕ) (t : Lexeme) → Local (only_placement first plus t)
 unfolding only_placement
@@ -57,7 +63,8 @@ only_local (Some first) plus t = local_fault _
 
 clause_local : (s : ComponentParts) (t : Lexeme) → Local (clause s t)
 unfolding clause
-clause_local s t = local_choose (is_placement_word t) _ _ (local_bind (only_placement s.placement s.plus t) _ (only_local s.placement s.plus t) (λ p. local_pure _)) (local_pure _)
+clause_local s t = local_choose (is_placement_word t) _ _ (local_bind (only_placement s.placement s.plus t) _ (only_local s.placement s.plus t)
+    (λ p. local_pure _)) (local_pure _)
 
 point_local : (s : ComponentParts) → Local (unplaced_point s)
 unfolding unplaced_point
@@ -82,7 +89,8 @@ pub component_local : Local component
 unfolding component
 component_local =
     local_bind name _ name_local (λ n. local_bind name _ name_local (λ k.
-    local_bind (block component_token no_component) _ (local_block component_token component_token_local component_token_goes no_component) (λ p. local_pure _)))
+    local_bind (block component_token no_component) _ (local_block component_token component_token_local component_token_goes no_component)
+    (λ p. local_pure _)))
 
 entry_local : {A : Type 0} (due : List ℕ) (entry : Reader A) → Local entry → (s : List A) (t : Lexeme) → Local (entry_from due entry s t)
 unfolding entry_from
@@ -98,23 +106,28 @@ components_local : (s : List Component) → Local (components s)
 unfolding section
 components_local s =
     local_bind to_semicolon _ (local_of to_semicolon to_semicolon_follows) (λ x.
-    local_block (entry_or_end (codes "COMPONENTS") component) (entry_or_end_local (codes "COMPONENTS") component component_local) (entry_or_end_goes _ (codes "COMPONENTS") component component_follows) s)
+    local_block (entry_or_end (codes "COMPONENTS") component) (entry_or_end_local (codes "COMPONENTS") component component_local)
+    (entry_or_end_goes _ (codes "COMPONENTS") component component_follows) s)
 
 body_local : (s : DocParts) (t : Lexeme) → Local (body_statement s t)
 unfolding body_statement
 body_local s t =
     local_choose (is (codes "ROW") t) _ _ (local_bind (with_row s.rows) _ (local_of (with_row s.rows) (with_row_follows s.rows)) (λ x. local_pure _))
-    (local_choose (is (codes "REGIONS") t) _ _ (local_bind (regions s.regions) _ (local_of (regions s.regions) (regions_alike s.regions s.regions refl)) (λ x. local_pure _))
-    (local_choose (is (codes "GROUPS") t) _ _ (local_bind (groups s.groups) _ (local_of (groups s.groups) (groups_alike s.groups s.groups refl)) (λ x. local_pure _))
+    (local_choose (is (codes "REGIONS") t) _ _ (local_bind (regions s.regions) _ (local_of (regions s.regions) (regions_alike s.regions s.regions refl))
+    (λ x. local_pure _))
+    (local_choose (is (codes "GROUPS") t) _ _ (local_bind (groups s.groups) _ (local_of (groups s.groups) (groups_alike s.groups s.groups refl))
+    (λ x. local_pure _))
     (local_choose (is (codes "COMPONENTS") t) _ _ (local_bind (components s.components) _ (components_local s.components) (λ x. local_pure _))
-    (local_choose (is (codes "BLOCKAGES") t) _ _ (local_bind (blockages s.blockages) _ (local_of (blockages s.blockages) (blockages_alike s.blockages s.blockages refl)) (λ x. local_pure _))
+    (local_choose (is (codes "BLOCKAGES") t) _ _ (local_bind (blockages s.blockages) _
+    (local_of (blockages s.blockages) (blockages_alike s.blockages s.blockages refl)) (λ x. local_pure _))
     (local_bind (passed_from t) _ (local_of (passed_from t) (passed_follows t t refl)) (λ x. local_pure _))))))
 
 statement_from_local : (s : DocParts) (t : Lexeme) → Local (statement_from s t)
 unfolding statement_from
 statement_from_local s t =
     local_choose (is (codes "END") t) _ _ (local_bind (end_design s) _ (local_of (end_design s) (end_design_follows s)) (λ x. local_pure _))
-    (local_choose (is_header t) _ _ (local_bind (header_statement s.header t) _ (local_of (header_statement s.header t) (header_follows s.header t t refl)) (λ x. local_pure _))
+    (local_choose (is_header t) _ _ (local_bind (header_statement s.header t) _ (local_of (header_statement s.header t) (header_follows s.header t t refl))
+    (λ x. local_pure _))
     (local_bind (body_statement s t) _ (body_local s t) (λ x. local_pure _)))
 
 pub statement_local : (s : DocParts) → Local (statement s)
@@ -126,12 +139,6 @@ statements_local s = local_block statement statement_local statement_goes s
 
 -- What stands behind END DESIGN.
 
-split_tokens : (l : Lexed) (read rest : List Lexeme) → l.tokens ≡ read ++ rest → l ≡ with_tokens read (behind rest l)
-split_tokens l read rest e = ap (λ (z : List Lexeme). behind z l) e
-
-cut_tokens : (text : List ℕ) → CutsAtTokens text
-cut_tokens text new before t after e = let whole : t.start - 0 ≡ t.start = omega arith in rw whole at (cut new 0 0 1 text before after t e)
-
 pub ends_before : (text : List ℕ) → EndsBefore text
 ends_before text read t after parts e h bytes =
     let rest = behind (t ∷ after) (tokens_of text) in
@@ -142,5 +149,6 @@ ends_before text read t after parts e h bytes =
     let cut = cut_tokens text bytes read t after e in
     let again = r.still new in
     let there : tokens_of (take t.start text ++ bytes) ≡ with_tokens r.run new = cut ∙ ap (λ (z : List Lexeme). with_tokens z new) front in
-    let one = ap (λ (z : Lexed). document_from (value_of (block statement no_parts z))) there ∙ ap (λ (z : Result (Taken DocParts) ReadFault). document_from (value_of z)) again in
+    let one = ap (λ (z : Lexed). document_from (value_of (block statement no_parts z))) there
+    ∙ ap (λ (z : Result (Taken DocParts) ReadFault). document_from (value_of z)) again in
     one ∙ sym (ap (λ (z : Result (Taken DocParts) ReadFault). document_from (value_of z)) h)

@@ -1,16 +1,14 @@
-pub mod Back
 pub mod Clauses
-pub mod Faults
 pub mod Following
 pub mod Kept
 pub mod Local
 pub mod Places
 pub mod PrintedBehind
 pub mod PrintedBlockages
+pub mod PrintedClauses
 pub mod PrintedEntries
 pub mod PrintedLists
 pub mod PrintedNumbers
-pub mod PrintedPassed
 pub mod PrintedPlaces
 pub mod PrintedSections
 pub mod PrintedTexts

@@ -1,12 +1,10 @@
 -- Printed rows, regions, groups, components and blockages read back.
-use Rattle.std.proofs.Common.{◌≡◌, ◌≢◌, ℕ, ◌≤◌, Bool, true, false, ◌&&◌, List, [], ◌∷◌, ◌++◌, ℤ, pos, ◌≤ℤ◌, length, Option, Some, None, Result, Ok, refl, ap, ◌∙◌, arith}
+use Rattle.std.proofs.Common.{◌≡◌, ℕ, ◌≤◌, true, ◌&&◌, List, [], ◌∷◌, ◌++◌, ℤ, pos, ◌≤ℤ◌, Option, Some, None, Result, Ok, refl, ap, ◌∙◌, arith}
 use Rattle.std.proofs.lemmas.List.{append-nil}
-use Rattle.std.specs.Prelude.{codes, not, nat_lt, nat_le, IfSome}
+use Rattle.std.specs.Prelude.{codes, nat_le, IfSome}
 use Rattle.std.specs.Int.{int_min, int_max}
-use Rattle.std.specs.Str.{bytes_eq}
 use Rattle.std.proofs.lemmas.Bool.Decides.{nat_tests}
 use Rattle.std.proofs.lemmas.Int.{ints, clamps}
-use Rattle.std.proofs.lemmas.Slice.Eq.{bytes_eq-Decides}
 use Rattle.lf_units.specs.declared.area.Point.{Point}
 use Rattle.lf_units.specs.declared.area.Rect.{Rect}
 use Rattle.lf_units.specs.Number.{fixed_of}
@@ -15,55 +13,32 @@ use Rattle.lf_orient.specs.declared.Orient.TheVariants.{N, W, S, E, FN, FW, FS, 
 use Rattle.lf_lex.specs.declared.fault.ReadFault.{ReadFault}
 use Rattle.lf_lex.specs.Tokens.{Lexeme, Plain, plain}
 use Rattle.lf_lex.specs.Splices.{word_of}
-use Rattle.lf_lex.specs.Reading.{◌>>=◌, Reader, Taken, token, is, is_word, kind_is_word, word, keyword, name}
+use Rattle.lf_lex.specs.Reading.{◌>>=◌, Reader, Taken, taken, token, is, keyword, name, or_bad_number}
 use Rattle.lf_lex.proofs.Runs.{same, left}
+use Rattle.lf_lex.proofs.BackWords.{short_name_back, is_at, keyword_back, no_more}
 use Rattle.lf_def.specs.declared.rows.Row.{Row}
 use Rattle.lf_def.specs.declared.rows.Sites.{Sites}
-use Rattle.lf_def.specs.Coordinates.{or_bad_number, dbu_of, dbu, up_to, count, point_rest, point, rect_between, rect_rest, rect, orient_of}
+use Rattle.lf_def.specs.Coordinates.{dbu_of, dbu, up_to, count, point_rest, point, rect_between, rect_rest, rect, orient_of}
 use Rattle.lf_def.specs.Rows.{row_end, step, sites, sites_from, row}
 use Rattle.lf_def.specs.Ranges.{IsCoordinate, HasCoordinates, IsCount, IsRow, IsRect}
-use Rattle.lf_def.specs.Printed.{WritesNumbers, IsWord, orient_word, rect_words, step_words, row_words, IsPrintedRow}
-use Rattle.lf_def.proofs.Back.{Back, back_pure, back_bind, back_first, back_yes, back_no, back_given, token_with}
-
--- a token with the bytes of a word is what the word is
-pub is_at : (due w : List ℕ) (t : Lexeme) → plain t ≡ word_of w → is due t ≡ bytes_eq w due
-is_at due w t e = ap (λ (p : Plain). bytes_eq p.text due) e
-
-pub not_eq : (a b : List ℕ) → a ≢ b → bytes_eq a b ≡ false
-not_eq a b h = by_test (bytes_eq a b) refl
-  where
-    by_test : (c : Bool) → bytes_eq a b ≡ c → bytes_eq a b ≡ false
-    by_test true e = absurd (h ((bytes_eq-Decides a b).0 e))
-    by_test false e = e
-
-pub keyword_back : (due : List ℕ) → bytes_eq due due ≡ true → Back same (keyword due) (due ∷ []) tt
-unfolding keyword
-keyword_back due own = back_first same _ due [] tt (λ t e. back_yes same (is due t) _ _ [] tt (is_at due due t e ∙ own) (back_pure same tt tt refl))
-
-pub word_test : (b : Bool) → b ≡ false → (true && not b) ≡ true
-word_test b e = rw e refl
-
-pub word_back : (n : List ℕ) → n ≢ codes ";" → Back plain word (n ∷ []) (token_with n)
-unfolding word
-word_back n other =
-    back_first plain _ n [] (token_with n) (λ t e. back_yes plain (is_word t) _ _ [] (token_with n)
-    (ap (λ (p : Plain). kind_is_word p.kind && not (bytes_eq p.text (codes ";"))) e ∙ word_test (bytes_eq n (codes ";")) (not_eq n (codes ";") other)) (back_pure plain (token_with n) t e))
-
-pub short_test : (n : ℕ) → n ≤ 1024 → nat_lt 1024 n ≡ false
-short_test n h = grind (arith, nat_tests)
+use Rattle.lf_def.specs.Printed.{WritesNumbers, IsWord, ReadsBack, orient_word, rect_words, step_words, row_words, IsPrintedRow}
+use Rattle.lf_lex.proofs.Back.{Back, back_pure, back_bind, back_first, back_yes, back_no, back_given, token_with}
+use Rattle.lf_def.proofs.Following.{point_at}
 
 pub name_back : (n : List ℕ) → IsWord n → Back plain name (n ∷ []) (token_with n)
-unfolding name
-name_back n h =
-    back_bind plain plain word _ (n ∷ []) [] (token_with n) (token_with n) (word_back n h.other) (λ t e.
-    back_no plain (nat_lt 1024 (length t.text)) _ _ [] (token_with n) (ap (λ (p : Plain). nat_lt 1024 (length p.text)) e ∙ short_test (length n) h.name.short) (back_pure plain (token_with n) t e))
+name_back n h = short_name_back n h.other h.name.short
+
+-- where no places are left out it is the value itself
+pub reads_back : {A : Type 0} (reader : Reader A) (ws : List (List ℕ)) (x : A) → Back same reader ws x → ReadsBack reader ws x
+reads_back reader ws x f p e l = let a = f p e in a.takes l ∙ ap (λ (z : _). taken z l) a.alike
 
 pub dbu_at : (print : ℤ → List ℕ) → WritesNumbers print → (x : ℤ) → IsCoordinate x → (t : Lexeme) → plain t ≡ word_of (print x) → dbu_of t ≡ Ok x
 dbu_at print writes x h t e = ap (λ (p : Plain). or_bad_number (fixed_of p.text 0 2147483647) t.line) e ∙ rw (writes x h) refl
 
 pub dbu_back : (print : ℤ → List ℕ) → WritesNumbers print → (x : ℤ) → IsCoordinate x → Back same dbu (print x ∷ []) x
 unfolding dbu
-dbu_back print writes x h = back_first same _ (print x) [] x (λ t e. back_given same (dbu_of t) _ x [] x (dbu_at print writes x h t e) (back_pure same x x refl))
+dbu_back print writes x h = back_first same _ (print x) [] x (λ t e. back_given same (dbu_of t) _ x [] x (dbu_at print writes x h t e)
+    (back_pure same x x refl))
 
 count_test : (most n : ℕ) → 1 ≤ n → n ≤ most → (nat_le 1 n && nat_le n most) ≡ true
 count_test most n h k = grind (arith, nat_tests)
@@ -74,26 +49,29 @@ up_to_is most n line h = rw (count_test most n h.some h.few) refl
 count_coordinate : (n : ℕ) → n ≤ 2147483647 → IsCoordinate (pos n)
 count_coordinate n h = record { low = omega (arith, ints); high = omega (arith, ints) }
 
-pub count_back : (print : ℤ → List ℕ) → WritesNumbers print → (most : ℕ) → most ≤ 2147483647 → (n : ℕ) → IsCount most n → Back same (count most) (print (pos n) ∷ []) n
+pub count_back : (print : ℤ → List ℕ) → WritesNumbers print → (most : ℕ) → most ≤ 2147483647 → (n : ℕ) → IsCount most n
+    → Back same (count most) (print (pos n) ∷ []) n
 unfolding count
 count_back print writes most within n h =
-    back_first same _ (print (pos n)) [] n (λ t e. back_given same (dbu_of t) _ (pos n) [] n (dbu_at print writes (pos n) (count_coordinate n (omega (arith, h.few, within))) t e)
+    back_first same _ (print (pos n)) [] n (λ t e. back_given same (dbu_of t) _ (pos n) [] n
+    (dbu_at print writes (pos n) (count_coordinate n (omega (arith, h.few, within))) t e)
     (back_given same (up_to most (pos n) t.line) _ n [] n (up_to_is most n t.line h) (back_pure same n n refl)))
 
-abbrev point_at : ℤ → ℤ → Point
-point_at x y = record { x = x; y = y }
-
-pub point_rest_back : (print : ℤ → List ℕ) → WritesNumbers print → (x y : ℤ) → IsCoordinate x → IsCoordinate y → Back same point_rest (print x ∷ print y ∷ codes ")" ∷ []) (point_at x y)
+pub point_rest_back : (print : ℤ → List ℕ) → WritesNumbers print → (x y : ℤ) → IsCoordinate x → IsCoordinate y
+    → Back same point_rest (print x ∷ print y ∷ codes ")" ∷ []) (point_at x y)
 unfolding point_rest
 point_rest_back print writes x y hx hy =
     back_bind same same dbu _ (print x ∷ []) (print y ∷ codes ")" ∷ []) x (point_at x y) (dbu_back print writes x hx) (λ x' ex.
     back_bind same same dbu _ (print y ∷ []) (codes ")" ∷ []) y (point_at x y) (dbu_back print writes y hy) (λ y' ey.
-    back_bind same same (keyword (codes ")")) _ (codes ")" ∷ []) [] tt (point_at x y) (keyword_back (codes ")") refl) (λ s es. back_pure same (point_at x y) (point_at x' y') (rw (ex, ey) refl))))
+    back_bind same same (keyword (codes ")")) _ (codes ")" ∷ []) [] tt (point_at x y) (keyword_back (codes ")") refl)
+    (λ s es. back_pure same (point_at x y) (point_at x' y') (rw (ex, ey) refl))))
 
-point_back : (print : ℤ → List ℕ) → WritesNumbers print → (x y : ℤ) → IsCoordinate x → IsCoordinate y → Back same point (codes "(" ∷ print x ∷ print y ∷ codes ")" ∷ []) (point_at x y)
+point_back : (print : ℤ → List ℕ) → WritesNumbers print → (x y : ℤ) → IsCoordinate x → IsCoordinate y
+    → Back same point (codes "(" ∷ print x ∷ print y ∷ codes ")" ∷ []) (point_at x y)
 unfolding point
 point_back print writes x y hx hy =
-    back_bind same same (keyword (codes "(")) _ (codes "(" ∷ []) (print x ∷ print y ∷ codes ")" ∷ []) tt (point_at x y) (keyword_back (codes "(") refl) (λ s es. point_rest_back print writes x y hx hy)
+    back_bind same same (keyword (codes "(")) _ (codes "(" ∷ []) (print x ∷ print y ∷ codes ")" ∷ []) tt (point_at x y) (keyword_back (codes "(") refl)
+    (λ s es. point_rest_back print writes x y hx hy)
 
 lesser : (a b : ℤ) → a ≤ℤ b → int_min a b ≡ a
 lesser a b h = omega (arith, ints, clamps)
@@ -104,16 +82,21 @@ greater a b h = omega (arith, ints, clamps)
 corners : (r : Rect) (p q : Point) → IsRect r → p ≡ point_at r.x1 r.y1 → q ≡ point_at r.x2 r.y2 → rect_between p q ≡ r
 corners r p q h e f = rw (e, f, lesser r.x1 r.x2 h.across, lesser r.y1 r.y2 h.up, greater r.x1 r.x2 h.across, greater r.y1 r.y2 h.up) refl
 
-pub rect_rest_back : (print : ℤ → List ℕ) → WritesNumbers print → (r : Rect) → IsRect r → Back same rect_rest (print r.x1 ∷ print r.y1 ∷ codes ")" ∷ codes "(" ∷ print r.x2 ∷ print r.y2 ∷ codes ")" ∷ []) r
+pub rect_rest_back : (print : ℤ → List ℕ) → WritesNumbers print → (r : Rect) → IsRect r
+    → Back same rect_rest (print r.x1 ∷ print r.y1 ∷ codes ")" ∷ codes "(" ∷ print r.x2 ∷ print r.y2 ∷ codes ")" ∷ []) r
 unfolding rect_rest
 rect_rest_back print writes r h =
-    back_bind same same point_rest _ (print r.x1 ∷ print r.y1 ∷ codes ")" ∷ []) (codes "(" ∷ print r.x2 ∷ print r.y2 ∷ codes ")" ∷ []) (point_at r.x1 r.y1) r (point_rest_back print writes r.x1 r.y1 h.x1 h.y1) (λ p ep.
-    back_bind same same point _ (codes "(" ∷ print r.x2 ∷ print r.y2 ∷ codes ")" ∷ []) [] (point_at r.x2 r.y2) r (point_back print writes r.x2 r.y2 h.x2 h.y2) (λ q eq. back_pure same r (rect_between p q) (corners r p q h ep eq)))
+    back_bind same same point_rest _ (print r.x1 ∷ print r.y1 ∷ codes ")" ∷ []) (codes "(" ∷ print r.x2 ∷ print r.y2 ∷ codes ")" ∷ []) (point_at r.x1 r.y1) r
+    (point_rest_back print writes r.x1 r.y1 h.x1 h.y1) (λ p ep.
+    back_bind same same point _ (codes "(" ∷ print r.x2 ∷ print r.y2 ∷ codes ")" ∷ []) [] (point_at r.x2 r.y2) r (point_back print writes r.x2 r.y2 h.x2 h.y2)
+    (λ q eq. back_pure same r (rect_between p q) (corners r p q h ep eq)))
 
 pub rect_back : (print : ℤ → List ℕ) → WritesNumbers print → (r : Rect) → IsRect r → Back same rect (rect_words print r []) r
 unfolding rect
 rect_back print writes r h =
-    back_bind same same (keyword (codes "(")) _ (codes "(" ∷ []) (print r.x1 ∷ print r.y1 ∷ codes ")" ∷ codes "(" ∷ print r.x2 ∷ print r.y2 ∷ codes ")" ∷ []) tt r (keyword_back (codes "(") refl) (λ s es. rect_rest_back print writes r h)
+    back_bind same same (keyword (codes "(")) _ (codes "(" ∷ [])
+    (print r.x1 ∷ print r.y1 ∷ codes ")" ∷ codes "(" ∷ print r.x2 ∷ print r.y2 ∷ codes ")" ∷ []) tt r (keyword_back (codes "(") refl)
+    (λ s es. rect_rest_back print writes r h)
 
 pub orient_at : (o : Orient) (t : Lexeme) → plain t ≡ word_of (orient_word o) → orient_of t ≡ Ok o
 orient_at N t e = ap (λ (p : Plain). orient_of (record t { text = p.text })) e
@@ -132,30 +115,41 @@ unfolding row_end
 end_back t e = back_yes same (is (codes ";") t) _ _ [] tt (is_at (codes ";") (codes ";") t e) (back_pure same tt tt refl)
 
 -- the words of a step behind the first of them
-step_back : (print : ℤ → List ℕ) → WritesNumbers print → (s : Option Point) → IfSome s (λ p. HasCoordinates p) → (k : Taken Lexeme → Result (Taken Sites) ReadFault) (y : Sites)
+step_back : (print : ℤ → List ℕ) → WritesNumbers print → (s : Option Point) → IfSome s (λ p. HasCoordinates p)
+    → (k : Taken Lexeme → Result (Taken Sites) ReadFault) (y : Sites)
     → ((t : Lexeme) (ws : List (List ℕ)) → Back same (step t) ws s → Back same (λ l. k (left t l)) ws y) → Back same (λ l. token l >>= k) (step_words print s) y
 unfolding step
 step_back print writes None h k y next =
     back_first same k (codes ";") [] y (λ t e. next t [] (back_no same (is (codes "STEP") t) _ _ [] None (is_at (codes "STEP") (codes ";") t e)
     (back_bind same same (row_end t) _ [] [] tt None (end_back t e) (λ s es. back_pure same None None refl))))
 step_back print writes (Some p) h k y next =
-    back_first same k (codes "STEP") (print p.x ∷ print p.y ∷ codes ";" ∷ []) y (λ t e. next t (print p.x ∷ print p.y ∷ codes ";" ∷ []) (back_yes same (is (codes "STEP") t) _ _ (print p.x ∷ print p.y ∷ codes ";" ∷ []) (Some p) (is_at (codes "STEP") (codes "STEP") t e)
+    back_first same k (codes "STEP") (print p.x ∷ print p.y ∷ codes ";" ∷ []) y
+    (λ t e. next t (print p.x ∷ print p.y ∷ codes ";" ∷ [])
+    (back_yes same (is (codes "STEP") t) _ _ (print p.x ∷ print p.y ∷ codes ";" ∷ []) (Some p) (is_at (codes "STEP") (codes "STEP") t e)
     (back_bind same same dbu _ (print p.x ∷ []) (print p.y ∷ codes ";" ∷ []) p.x (Some p) (dbu_back print writes p.x h.x) (λ x' ex.
     back_bind same same dbu _ (print p.y ∷ []) (codes ";" ∷ []) p.y (Some p) (dbu_back print writes p.y h.y) (λ y' ey.
-    back_first same _ (codes ";") [] (Some p) (λ u eu. back_bind same same (row_end u) _ [] [] tt (Some p) (end_back u eu) (λ s es. back_pure same (Some p) (Some (point_at x' y')) (rw (ex, ey) refl))))))))
+    back_first same _ (codes ";") [] (Some p) (λ u eu. back_bind same same (row_end u) _ [] [] tt (Some p) (end_back u eu)
+    (λ s es. back_pure same (Some p) (Some (point_at x' y')) (rw (ex, ey) refl))))))))
 
 abbrev sites_of : Row → Sites
 sites_of r = record { x = r.sites_x; y = r.sites_y; step = r.step }
 
-sites_back : (print : ℤ → List ℕ) → WritesNumbers print → (r : Row) → IsRow r → Back same sites (print (pos r.sites_x) ∷ codes "BY" ∷ print (pos r.sites_y) ∷ step_words print r.step) (sites_of r)
+sites_back : (print : ℤ → List ℕ) → WritesNumbers print → (r : Row) → IsRow r
+    → Back same sites (print (pos r.sites_x) ∷ codes "BY" ∷ print (pos r.sites_y) ∷ step_words print r.step) (sites_of r)
 unfolding sites
 sites_back print writes r h =
-    back_bind same same (count 2147483647) _ (print (pos r.sites_x) ∷ []) (codes "BY" ∷ print (pos r.sites_y) ∷ step_words print r.step) r.sites_x (sites_of r) (count_back print writes 2147483647 (omega arith) r.sites_x h.sites_x) (λ x ex.
-    back_bind same same (keyword (codes "BY")) _ (codes "BY" ∷ []) (print (pos r.sites_y) ∷ step_words print r.step) tt (sites_of r) (keyword_back (codes "BY") refl) (λ b eb.
-    back_bind same same (count 2147483647) _ (print (pos r.sites_y) ∷ []) (step_words print r.step) r.sites_y (sites_of r) (count_back print writes 2147483647 (omega arith) r.sites_y h.sites_y) (λ y ey.
-    step_back print writes r.step h.step _ (sites_of r) (λ t ws f. append_nil_back ws (back_bind same same (step t) _ ws [] r.step (sites_of r) f (λ s es. back_pure same (sites_of r) (record { x = x; y = y; step = s }) (sites_alike ex ey es)))))))
+    back_bind same same (count 2147483647) _ (print (pos r.sites_x) ∷ []) (codes "BY" ∷ print (pos r.sites_y) ∷ step_words print r.step) r.sites_x (sites_of r)
+    (count_back print writes 2147483647 (omega arith) r.sites_x h.sites_x) (λ x ex.
+    back_bind same same (keyword (codes "BY")) _ (codes "BY" ∷ []) (print (pos r.sites_y) ∷ step_words print r.step) tt (sites_of r)
+    (keyword_back (codes "BY") refl) (λ b eb.
+    back_bind same same (count 2147483647) _ (print (pos r.sites_y) ∷ []) (step_words print r.step) r.sites_y (sites_of r)
+    (count_back print writes 2147483647 (omega arith) r.sites_y h.sites_y) (λ y ey.
+    step_back print writes r.step h.step _ (sites_of r) (λ t ws f.
+    append_nil_back ws (back_bind same same (step t) _ ws [] r.step (sites_of r) f
+    (λ s es. back_pure same (sites_of r) (record { x = x; y = y; step = s }) (sites_alike ex ey es)))))))
   where
-    sites_alike : {x x' y y' : ℕ} {s s' : Option Point} → x' ≡ x → y' ≡ y → s' ≡ s → ◌≡◌ {A = Sites} (record { x = x'; y = y'; step = s' }) (record { x = x; y = y; step = s })
+    sites_alike : {x x' y y' : ℕ} {s s' : Option Point} → x' ≡ x → y' ≡ y → s' ≡ s
+        → ◌≡◌ {A = Sites} (record { x = x'; y = y'; step = s' }) (record { x = x; y = y; step = s })
     sites_alike e f g = rw (e, f, g) refl
 
     append_nil_back : {A : Type 0} {q : Reader A} {y : A} (ws : List (List ℕ)) → Back same q (ws ++ []) y → Back same q ws y
@@ -171,9 +165,6 @@ row_alike : (r : Row) (n i : Lexeme) (x y : ℤ) (s : Sites) → plain n ≡ wor
     → ◌≡◌ {A = Row} (record { name = n.text; site = i.text; x = x; y = y; orient = r.orient; sites_x = s.x; sites_y = s.y; step = s.step }) r
 row_alike r n i x y s a b c d e = rw (ap (λ (p : Plain). p.text) a, ap (λ (p : Plain). p.text) b, c, d, e) refl
 
-pub no_more : {A B : Type 0} (bare : A → B) (q : Reader A) (y : A) (ws : List (List ℕ)) → Back bare q (ws ++ []) y → Back bare q ws y
-no_more bare q y ws f = rw (append-nil ws) at f
-
 pub row_back : (print : ℤ → List ℕ) → WritesNumbers print → (r : Row) → IsPrintedRow r → Back same row (row_words print r) r
 unfolding row sites_from
 row_back print writes r h =
@@ -181,8 +172,10 @@ row_back print writes r h =
     back_bind plain same name _ (r.site ∷ []) (print r.x ∷ print r.y ∷ from_orient print r) (token_with r.site) r (name_back r.site h.site) (λ i ei.
     back_bind same same dbu _ (print r.x ∷ []) (print r.y ∷ from_orient print r) r.x r (dbu_back print writes r.x h.row.x) (λ x ex.
     back_bind same same dbu _ (print r.y ∷ []) (from_orient print r) r.y r (dbu_back print writes r.y h.row.y) (λ y ey.
-    back_first same _ (orient_word r.orient) (codes "DO" ∷ from_count print r) r (λ t et. back_given same (orient_of t) _ r.orient (codes "DO" ∷ from_count print r) r (orient_at r.orient t et)
+    back_first same _ (orient_word r.orient) (codes "DO" ∷ from_count print r) r
+    (λ t et. back_given same (orient_of t) _ r.orient (codes "DO" ∷ from_count print r) r (orient_at r.orient t et)
     (back_first same _ (codes "DO") (from_count print r) r (λ u eu.
     no_more same _ r (from_count print r) (back_bind same same (sites_from u) _ (from_count print r) [] (sites_of r) r
     (back_yes same (is (codes "DO") u) _ _ (from_count print r) (sites_of r) (is_at (codes "DO") (codes "DO") u eu) (sites_back print writes r h.row)) (λ s es.
-    back_pure same r (record { name = n.text; site = i.text; x = x; y = y; orient = r.orient; sites_x = s.x; sites_y = s.y; step = s.step }) (row_alike r n i x y s en ei ex ey es))))))))))
+    back_pure same r (record { name = n.text; site = i.text; x = x; y = y; orient = r.orient; sites_x = s.x; sites_y = s.y; step = s.step })
+    (row_alike r n i x y s en ei ex ey es))))))))))

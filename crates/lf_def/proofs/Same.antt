@@ -2,16 +2,24 @@
 use Rattle.std.proofs.Common.{◌≡◌, ℕ, List, map, Result, Ok, Err, refl, sym, ap, ◌∙◌}
 use Rattle.lf_lex.specs.declared.fault.ReadFault.{ReadFault}
 use Rattle.lf_lex.specs.Tokens.{Lexed, Lexeme, plain, with_tokens, tokens_of}
-use Rattle.lf_lex.specs.Reading.{Taken, taken, behind, block}
+use Rattle.lf_lex.specs.Reading.{Taken, taken, behind, block, value_of}
 use Rattle.lf_lex.proofs.Runs.{split_alike}
 use Rattle.lf_def.specs.declared.parts.DocParts.{DocParts}
 use Rattle.lf_def.specs.Header.{header_of}
-use Rattle.lf_def.specs.Document.{Document, document_from, value_of, statement, no_parts}
+use Rattle.lf_def.specs.Document.{Document, document_from, statement, no_parts}
 use Rattle.lf_def.specs.Laws.{SaysTheSame, document_without_places, ComponentReadsAlike}
 use Rattle.lf_def.proofs.Places.{bare_doc, statements_follow, component_follows}
 
 abbrev pub document_at : DocParts → Document
-document_at s = record { header = header_of s.header; rows = s.rows; regions = s.regions; groups = s.groups; components = s.components; blockages = s.blockages }
+document_at s = record {
+  header = header_of s.header;
+  rows = s.rows;
+  regions = s.regions;
+  groups = s.groups;
+  components = s.components;
+  blockages =
+      s.blockages;
+}
 
 -- where reading a text gives a document, its statements were read
 pub record Said (r : Result (Taken DocParts) ReadFault) (d : Document) : Type 0 where
@@ -39,7 +47,8 @@ says_the_same a b tokens d e =
     let again = r.again c.front c.front_alike in
     let rest = behind c.back (tokens_of b) in
     let there : tokens_of b ≡ with_tokens c.front rest = ap (λ (z : List Lexeme). behind z (tokens_of b)) c.whole in
-    let one = ap (λ (z : Lexed). document_from (value_of (block statement no_parts z))) there ∙ ap (λ (z : Result (Taken DocParts) ReadFault). document_from (value_of z)) (again.takes rest) in
+    let one = ap (λ (z : Lexed). document_from (value_of (block statement no_parts z))) there
+    ∙ ap (λ (z : Result (Taken DocParts) ReadFault). document_from (value_of z)) (again.takes rest) in
     (document_at again.value, one, bare_alike s.parts again.value again.alike ∙ ap document_without_places s.gives)
 
 pub component_reads_alike : ComponentReadsAlike

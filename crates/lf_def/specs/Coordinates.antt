@@ -1,20 +1,15 @@
 -- Coordinates, points, rectangles, counts and orientations of DEF. Coordinates are whole database units.
-use Rattle.std.specs.Prelude.{ℕ, nat_le, ◌&&◌, ℤ, pos, negsuc, Result, Ok, Err, codes, if◌then◌else◌}
+use Rattle.std.specs.Prelude.{ℕ, nat_le, ◌&&◌, ℤ, pos, negsuc, Result, Ok, codes, if◌then◌else◌}
 use Rattle.std.specs.Int.{int_min, int_max}
 use Rattle.lf_units.specs.declared.area.Point.{Point}
 use Rattle.lf_units.specs.declared.area.Rect.{Rect}
-use Rattle.lf_units.specs.declared.number.NumberFault.{NumberFault}
 use Rattle.lf_units.specs.Number.{fixed_of}
 use Rattle.lf_orient.specs.declared.Orient.{Orient}
 use Rattle.lf_orient.specs.declared.Orient.TheVariants.{N, W, S, E, FN, FW, FS, FE}
 use Rattle.lf_lex.specs.declared.fault.FaultNumber.TheVariants.{BadNumber, Unexpected}
 use Rattle.lf_lex.specs.declared.fault.ReadFault.{ReadFault}
 use Rattle.lf_lex.specs.Tokens.{Lexeme}
-use Rattle.lf_lex.specs.Reading.{◌>>=◌, Reader, taken, fault_at, token, is, keyword}
-
-abbrev pub or_bad_number : Result ℤ NumberFault → ℕ → Result ℤ ReadFault
-or_bad_number (Ok x) line = Ok x
-or_bad_number (Err e) line = fault_at BadNumber line
+use Rattle.lf_lex.specs.Reading.{◌>>=◌, Reader, taken, fault_at, token, is, keyword, or_bad_number}
 
 -- the whole number that the token writes, from -2147483647 to 2147483647
 abbrev pub dbu_of : Lexeme → Result ℤ ReadFault

@@ -6,7 +6,8 @@ use Rattle.lf_lex.specs.declared.fault.LoadFault.{LoadFault}
 use Rattle.lf_lex.specs.declared.fault.ReadError.TheVariants.{Memory, Fault}
 use Rattle.lf_lex.specs.Faults.{load_fault_of}
 use Rattle.lf_lex.specs.Tokens.{Lexeme, tokens_of}
-use Rattle.lf_lex.specs.Reading.{◌>>=◌, Reader, Statement, Taken, Turn, taken, goes_on, ends, fault_at, token, is, kind_is_word, to_semicolon, to_end, to_word, block}
+use Rattle.lf_lex.specs.Reading.{◌>>=◌, Reader, Statement, Turn, taken, goes_on, ends, fault_at, token, is, kind_is_word, to_semicolon, to_end, to_word, block}
+use Rattle.lf_lex.specs.Reading.{value_of}
 use Rattle.lf_def.specs.declared.header.Header.{Header}
 use Rattle.lf_def.specs.declared.rows.Row.{Row}
 use Rattle.lf_def.specs.declared.regions.Region.{Region}
@@ -30,16 +31,19 @@ pub record Document : Type 0 where
   pub components : List Component
   pub blockages : List Blockage
 
--- sections that are passed over to END and their keyword (DEF PROPERTYDEFINITIONS, VIAS, STYLES, NONDEFAULTRULES, PINS, PINPROPERTIES, SLOTS, FILLS, SPECIALNETS, NETS, SCANCHAINS)
+-- sections that are passed over to END and their keyword (DEF PROPERTYDEFINITIONS, VIAS, STYLES, NONDEFAULTRULES, PINS, PINPROPERTIES, SLOTS, FILLS,
+-- SPECIALNETS, NETS, SCANCHAINS)
 abbrev pub is_passed_section : Lexeme → Bool
 is_passed_section t =
-    is (codes "PROPERTYDEFINITIONS") t || is (codes "VIAS") t || is (codes "STYLES") t || is (codes "NONDEFAULTRULES") t || is (codes "PINS") t || is (codes "PINPROPERTIES") t
+    is (codes "PROPERTYDEFINITIONS") t || is (codes "VIAS") t || is (codes "STYLES") t || is (codes "NONDEFAULTRULES") t || is (codes "PINS") t || is
+    (codes "PINPROPERTIES") t
     || is (codes "SLOTS") t || is (codes "FILLS") t || is (codes "SPECIALNETS") t || is (codes "NETS") t || is (codes "SCANCHAINS") t
 
 -- statements that are passed over to their semicolon (DEF TRACKS, GCELLGRID, HISTORY, TECHNOLOGY, DIEAREA, COMPONENTMASKSHIFT, NAMESCASESENSITIVE)
 abbrev pub is_passed_statement : Lexeme → Bool
 is_passed_statement t =
-    is (codes "TRACKS") t || is (codes "GCELLGRID") t || is (codes "HISTORY") t || is (codes "TECHNOLOGY") t || is (codes "DIEAREA") t || is (codes "COMPONENTMASKSHIFT") t || is (codes "NAMESCASESENSITIVE") t
+    is (codes "TRACKS") t || is (codes "GCELLGRID") t || is (codes "HISTORY") t || is (codes "TECHNOLOGY") t || is (codes "DIEAREA") t || is
+    (codes "COMPONENTMASKSHIFT") t || is (codes "NAMESCASESENSITIVE") t
 
 -- a statement that says nothing of placement, of which the first token was read; any other word begins no statement
 unfoldable pub passed_from : Lexeme → Reader (Unit {0})
@@ -84,17 +88,21 @@ statement parts l = do
 abbrev pub no_parts : DocParts
 no_parts = record { header = no_header; rows = []; regions = []; groups = []; components = []; blockages = [] }
 
-abbrev pub value_of : {A : Type 0} → Result (Taken A) ReadFault → Result A ReadFault
-value_of (Ok x) = Ok x.value
-value_of (Err e) = Err e
-
 -- what the statements of a text up to END DESIGN say, or the first fault
 abbrev pub parts_of : List ℕ → Result DocParts ReadFault
 parts_of text = value_of (block statement no_parts (tokens_of text))
 
 abbrev pub document_from : Result DocParts ReadFault → Result Document ReadFault
 document_from (Ok parts) =
-    Ok (record { header = header_of parts.header; rows = parts.rows; regions = parts.regions; groups = parts.groups; components = parts.components; blockages = parts.blockages })
+    Ok (record {
+      header = header_of parts.header;
+      rows = parts.rows;
+      regions = parts.regions;
+      groups = parts.groups;
+      components = parts.components;
+      blockages =
+          parts.blockages;
+    })
 document_from (Err e) = Err e
 
 -- The document that a text is, or the text's first fault.

@@ -8,6 +8,7 @@ pub mod Groups
 pub mod Header
 pub mod Laws
 pub mod Printed
+pub mod PrintedComponents
 pub mod PrintedTexts
 pub mod Ranges
 pub mod Regions

@@ -2,6 +2,7 @@
 use Rattle.std.specs.Prelude.{◌≡◌, ◌≢◌, ℕ, List, [], ◌∷◌, ◌++◌, All, Contains, IsSome, map, ℤ, pos, Some, Ok, codes}
 use Rattle.lf_lex.specs.declared.tokens.TokenKind.TheVariants.{Quoted}
 use Rattle.lf_lex.specs.Tokens.{Plain, plain, tokens_of}
+use Rattle.lf_lex.specs.Passing.{HaveNowhere}
 use Rattle.lf_lex.specs.Reading.{first_stands}
 use Rattle.lf_lex.specs.Splices.{word_of}
 use Rattle.lf_def.specs.declared.rows.Row.{Row}
@@ -14,18 +15,22 @@ use Rattle.lf_def.specs.Header.{no_header, header_of}
 use Rattle.lf_def.specs.Document.{Document, document_of, no_parts}
 use Rattle.lf_def.specs.Laws.{without_places}
 use Rattle.lf_def.specs.Ranges.{IsCount}
-use Rattle.lf_def.specs.Printed.{IsWord, row_words, IsPrintedRow, region_words, IsPrintedRegion, group_words, IsPrintedGroup, component_words, IsPrintedComponent, blockage_words, IsPrintedBlockage, section_words}
+use Rattle.lf_def.specs.Printed.{IsWord, row_words, IsPrintedRow, region_words, IsPrintedRegion, group_words, IsPrintedGroup, component_words}
+use Rattle.lf_def.specs.Printed.{IsPrintedComponent, blockage_words, IsPrintedBlockage, section_words}
+use Rattle.lf_def.specs.PrintedComponents.{PrintedComponent, IsPrintedEntry, components_tokens, component_of}
 
 -- Statements that are passed over.
 
 -- the keywords of statements that are passed over to their semicolon
 abbrev pub statement_keywords : List (List ℕ)
-statement_keywords = codes "TRACKS" ∷ codes "GCELLGRID" ∷ codes "HISTORY" ∷ codes "TECHNOLOGY" ∷ codes "DIEAREA" ∷ codes "COMPONENTMASKSHIFT" ∷ codes "NAMESCASESENSITIVE" ∷ []
+statement_keywords = codes "TRACKS" ∷ codes "GCELLGRID" ∷ codes "HISTORY" ∷ codes "TECHNOLOGY" ∷ codes "DIEAREA" ∷ codes "COMPONENTMASKSHIFT" ∷ codes
+    "NAMESCASESENSITIVE" ∷ []
 
 -- the keywords of sections that are passed over to END and their keyword
 abbrev pub section_keywords : List (List ℕ)
 section_keywords =
-    codes "PROPERTYDEFINITIONS" ∷ codes "VIAS" ∷ codes "STYLES" ∷ codes "NONDEFAULTRULES" ∷ codes "PINS" ∷ codes "PINPROPERTIES" ∷ codes "SLOTS" ∷ codes "FILLS" ∷ codes "SPECIALNETS" ∷ codes "NETS" ∷ codes "SCANCHAINS" ∷ []
+    codes "PROPERTYDEFINITIONS" ∷ codes "VIAS" ∷ codes "STYLES" ∷ codes "NONDEFAULTRULES" ∷ codes "PINS" ∷ codes "PINPROPERTIES" ∷ codes "SLOTS" ∷ codes
+    "FILLS" ∷ codes "SPECIALNETS" ∷ codes "NETS" ∷ codes "SCANCHAINS" ∷ []
 
 -- a statement that says nothing of placement: its keyword, and the words and quoted texts up to its end
 pub data Passed : Type 0 where
@@ -40,13 +45,6 @@ abbrev pub passed_tokens : Passed → List Plain
 passed_tokens (to_its_semicolon keyword between) = word_of keyword ∷ (between ++ word_of (codes ";") ∷ [])
 passed_tokens (to_its_end keyword between) = word_of keyword ∷ (between ++ word_of (codes "END") ∷ word_of keyword ∷ [])
 passed_tokens (extension between) = word_of (codes "BEGINEXT") ∷ (between ++ word_of (codes "ENDEXT") ∷ [])
-
-abbrev pub text_of : Plain → List ℕ
-text_of t = t.text
-
--- nowhere among these tokens do those words stand, one directly behind the other
-abbrev pub HaveNowhere : List (List ℕ) → List Plain → Type 0
-HaveNowhere words tokens = (before after : List (List ℕ)) → map text_of tokens ≢ before ++ (words ++ after)
 
 -- the keyword is one of those, and the statement does not end before its end
 abbrev pub IsPassed : Passed → Type 0
@@ -68,6 +66,7 @@ pub data Part : Type 0 where
   regions_section : List ℕ → List Region → Part
   groups_section : List ℕ → List Group → Part
   components_section : List ℕ → List Component → Part
+  components_with_others : List ℕ → List PrintedComponent → Part
   blockages_section : List ℕ → List Blockage → Part
 
 -- a quoted text, with its marks
@@ -89,6 +88,7 @@ part_tokens print (one_row r) = map word_of (codes "ROW" ∷ row_words print r)
 part_tokens print (regions_section count rs) = map word_of (codes "REGIONS" ∷ section_words (codes "REGIONS") count (region_words print) rs)
 part_tokens print (groups_section count gs) = map word_of (codes "GROUPS" ∷ section_words (codes "GROUPS") count group_words gs)
 part_tokens print (components_section count cs) = map word_of (codes "COMPONENTS" ∷ section_words (codes "COMPONENTS") count (component_words print) cs)
+part_tokens print (components_with_others count ps) = word_of (codes "COMPONENTS") ∷ components_tokens print count ps
 part_tokens print (blockages_section count bs) = map word_of (codes "BLOCKAGES" ∷ section_words (codes "BLOCKAGES") count (blockage_words print) bs)
 
 -- the parts one behind the other, and END DESIGN
@@ -108,6 +108,7 @@ IsPrintedPart (one_row r) = IsPrintedRow r
 IsPrintedPart (regions_section count rs) = (count ≢ codes ";") × All IsPrintedRegion rs
 IsPrintedPart (groups_section count gs) = (count ≢ codes ";") × All IsPrintedGroup gs
 IsPrintedPart (components_section count cs) = (count ≢ codes ";") × All IsPrintedComponent cs
+IsPrintedPart (components_with_others count ps) = (count ≢ codes ";") × All IsPrintedEntry ps
 IsPrintedPart (blockages_section count bs) = (count ≢ codes ";") × All IsPrintedBlockage bs
 
 -- what a part adds: of each statement of the header the first stands, and each list grows at its end
@@ -122,6 +123,7 @@ with_part d (one_row r) = record d { rows = d.rows ++ r ∷ [] }
 with_part d (regions_section count rs) = record d { regions = d.regions ++ rs }
 with_part d (groups_section count gs) = record d { groups = d.groups ++ gs }
 with_part d (components_section count cs) = record d { components = d.components ++ cs }
+with_part d (components_with_others count ps) = record d { components = d.components ++ map component_of ps }
 with_part d (blockages_section count bs) = record d { blockages = d.blockages ++ bs }
 
 abbrev pub with_parts : DocParts → List Part → DocParts
@@ -130,7 +132,15 @@ with_parts d (p ∷ ps) = with_parts (with_part d p) ps
 
 -- the document of these parts
 abbrev pub document_with : DocParts → Document
-document_with d = record { header = header_of d.header; rows = d.rows; regions = d.regions; groups = d.groups; components = d.components; blockages = d.blockages }
+document_with d = record {
+  header = header_of d.header;
+  rows = d.rows;
+  regions = d.regions;
+  groups = d.groups;
+  components = d.components;
+  blockages =
+      d.blockages;
+}
 
 abbrev pub printed_document : List Part → Document
 printed_document parts = document_with (with_parts no_parts parts)
@@ -143,11 +153,13 @@ BeginsWith text tokens = (rest : List Plain) × (map plain (tokens_of text).toke
 
 -- the text says this, but for where its components stand
 abbrev pub SaysPlacesApart : List ℕ → Document → Type 0
-SaysPlacesApart text d = (read : List Component) × (document_of text ≡ Ok (record d { components = read })) × (map without_places read ≡ map without_places d.components)
+SaysPlacesApart text d = (read : List Component) × (document_of text ≡ Ok (record d { components = read }))
+    × (map without_places read ≡ map without_places d.components)
 
 -- Any text that begins with these parts, DESIGN among them, and END DESIGN says what they say.
 abbrev pub PartsReadBack : (ℤ → List ℕ) → List Part → Type 0
-PartsReadBack print parts = All IsPrintedPart parts → IsSome (with_parts no_parts parts).header.design → (text : List ℕ) → BeginsWith text (text_tokens print parts) → SaysPlacesApart text (printed_document parts)
+PartsReadBack print parts = All IsPrintedPart parts → IsSome (with_parts no_parts parts).header.design → (text : List ℕ)
+    → BeginsWith text (text_tokens print parts) → SaysPlacesApart text (printed_document parts)
 
 -- a design of that name, and nothing else
 abbrev pub design_named : List ℕ → Document
@@ -165,4 +177,5 @@ ReadsBackInTexts print parts said = (before between : List Passed) (n : List ℕ
 -- the same for components, but for where they stand
 abbrev pub ComponentsReadBackInTexts : (ℤ → List ℕ) → List ℕ → List Component → Type 0
 ComponentsReadBackInTexts print count cs = (before between : List Passed) (n : List ℕ) → All IsPassed before → All IsPassed between → IsWord n
-    → (text : List ℕ) → BeginsWith text (text_tokens print (behind_passed before n between (components_section count cs ∷ []))) → SaysPlacesApart text (record (design_named n) { components = cs })
+    → (text : List ℕ) → BeginsWith text (text_tokens print (behind_passed before n between (components_section count cs ∷ [])))
+    → SaysPlacesApart text (record (design_named n) { components = cs })

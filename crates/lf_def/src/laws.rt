@@ -19,6 +19,8 @@ ghost use Rattle.lf_def.specs.declared.groups.Group.{Group};
 ghost use Rattle.lf_def.specs.declared.components.Component.{Component};
 ghost use Rattle.lf_def.specs.declared.blockages.Blockage.{Blockage};
 ghost use Rattle.lf_def.specs.Printed.{WritesNumbers, ReadsBack, row_words, IsPrintedRow, region_words, IsPrintedRegion, group_words, IsPrintedGroup, component_words, IsPrintedComponent, ComponentReadsBack, blockage_words, IsPrintedBlockage, ComponentsReadBack, section_words};
+ghost use Rattle.lf_def.specs.PrintedComponents.{PrintedComponent, IsPrintedEntry, component_of};
+ghost use Rattle.lf_def.specs.PrintedComponents.{entry_tokens, components_tokens, EntryReadsBack, EntriesReadBack};
 ghost use Rattle.lf_def.specs.PrintedTexts.{Part, one_row, regions_section, groups_section, blockages_section, BeginsWith, PartsReadBack, ReadsBackInTexts, ComponentsReadBackInTexts};
 ghost use Rattle.lf_def.specs.Laws.{ComponentReadsAlike, SaysTheSame, EndsBefore, ComponentsStand, ComponentsRise};
 
@@ -58,12 +60,16 @@ pub fn nothing_behind_end_design_counts()
 {}
 
 /// A printed row, region, group, component or blockage reads back as what it is, however its numbers are
-/// written and whatever stands behind it; a component but for where it stands.
+/// written and whatever stands behind it; a component but for where it stands, also where words, quoted texts
+/// and clauses that are passed over stand in its entry, or a point behind UNPLACED.
 pub fn printed_entries_read_back()
     ensures row { (print : ℤ → List ℕ) → WritesNumbers print → (r : Row) → IsPrintedRow r → ReadsBack row (row_words print r) r }
     ensures region { (print : ℤ → List ℕ) → WritesNumbers print → (r : Region) → IsPrintedRegion r → ReadsBack region (region_words print r) r }
     ensures group { (g : Group) → IsPrintedGroup g → ReadsBack group (group_words g) g }
     ensures component { (print : ℤ → List ℕ) → WritesNumbers print → (c : Component) → IsPrintedComponent c → ComponentReadsBack (component_words print c) c }
+    ensures component_with_others { (print : ℤ → List ℕ) → WritesNumbers print
+        → (p : PrintedComponent) → IsPrintedEntry p
+        → EntryReadsBack (entry_tokens print p) p.component }
     ensures blockage { (print : ℤ → List ℕ) → WritesNumbers print → (b : Blockage) → IsPrintedBlockage b → ReadsBack blockage (blockage_words print b) (Some b) }
 {}
 
@@ -86,6 +92,10 @@ pub fn printed_sections_read_back()
     ensures regions { (print : ℤ → List ℕ) → WritesNumbers print → (count : List ℕ) → count ≢ codes ";" → (new known : List Region) → All IsPrintedRegion new → ReadsBack (regions known) (section_words (codes "REGIONS") count (region_words print) new) (known ++ new) }
     ensures groups { (count : List ℕ) → count ≢ codes ";" → (new known : List Group) → All IsPrintedGroup new → ReadsBack (groups known) (section_words (codes "GROUPS") count group_words new) (known ++ new) }
     ensures components { (print : ℤ → List ℕ) → WritesNumbers print → (count : List ℕ) → count ≢ codes ";" → (new known : List Component) → All IsPrintedComponent new → ComponentsReadBack (components known) (section_words (codes "COMPONENTS") count (component_words print) new) (known ++ new) }
+    ensures components_with_others { (print : ℤ → List ℕ) → WritesNumbers print
+        → (count : List ℕ) → count ≢ codes ";" → (new : List PrintedComponent) (known : List Component)
+        → All IsPrintedEntry new → EntriesReadBack (components known)
+        (components_tokens print count new) (known ++ map component_of new) }
     ensures blockages { (print : ℤ → List ℕ) → WritesNumbers print → (count : List ℕ) → count ≢ codes ";" → (new known : List Blockage) → All IsPrintedBlockage new → ReadsBack (blockages known) (section_words (codes "BLOCKAGES") count (blockage_words print) new) (known ++ new) }
 {}
 

@@ -1,5 +1,5 @@
 -- The boxes of a team's placed cells, and the first broken rule beside them.
-use Rattle.std.proofs.Common.{◌≡◌, ℕ, List, not, eqb, map, filter, Option, Some, ap, sym, ◌∙◌}
+use Rattle.std.proofs.Common.{◌≡◌, ℕ, List, map, Option, Some, ap, sym, ◌∙◌}
 use Rattle.std.specs.Prelude.{slice_get}
 use Rattle.lf_floorplan.specs.declared.frame.Frame.{Frame}
 use Rattle.lf_floorplan.specs.declared.macros.Macro.{Macro}
@@ -9,13 +9,10 @@ use Rattle.lf_rtree.specs.declared.placed.Placed.{Placed}
 use Rattle.lf_floorplan.specs.Boxes.{IsSized, macro_of}
 use Rattle.lf_rules.specs.Legality.{trial_of}
 use Rattle.lf_rules.specs.Legalizer.{Legalizer, IsVerdict, VerdictIsOne}
-use Rattle.lf_rules.specs.Team.{boxes_from, boxes_beside}
-use Rattle.lf_floor.specs.declared.cell.Cell.{Cell}
-use Rattle.lf_floor.specs.Teams.{member_of, setting, broken_at, broken_by}
-
--- the boxes of the cells from that position on, but for the cell `own`
-abbrev pub beside_from : Frame → ℕ → ℕ → List Cell → List Placed
-beside_from f own n cells = filter (λ p. not (eqb p.own own)) (boxes_from f n (map member_of cells))
+use Rattle.lf_rules.specs.Team.{boxes_beside}
+use Rattle.lf_cells.specs.declared.cell.Cell.{Cell}
+use Rattle.lf_floor.specs.Teams.{setting, broken_at, broken_by}
+use Rattle.lf_legalize.specs.Members.{member_of}
 
 -- a verdict on the cell's trial is what every legalizer says
 pub broken_is : (l : Legalizer) (f : Frame) (team : ℕ) (cells : List Cell) (own : ℕ) (c : Cell) (mac : Macro) (place : Place) (others : List Placed) (found : Option Broken)

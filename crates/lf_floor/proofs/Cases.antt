@@ -11,17 +11,19 @@ use Rattle.lf_proto.specs.declared.reply.Reply.TheVariants.{Done, Revision, At, 
 use Rattle.lf_proto.specs.declared.reply.Refusal.{Refusal}
 use Rattle.lf_proto.specs.declared.reply.Refusal.TheVariants.{BadRequest, NoSession, Stale, NoCell, Unplaced, Illegal, NoPlace, NothingToUndo, RevisionsSpent, SessionsFull}
 use Rattle.lf_floor.specs.States.{TeamState}
-use Rattle.lf_floor.specs.Teams.{Setting, cell_named, member_of, broken_at}
+use Rattle.lf_floor.specs.Teams.{Setting, broken_at}
+use Rattle.lf_cells.specs.Cells.{cell_named, moved, working_at, as_committed}
+use Rattle.lf_legalize.specs.Members.{member_of}
 use Rattle.lf_proto.specs.declared.request.Order.{Order}
 use Rattle.lf_proto.specs.declared.request.Order.TheVariants.{Open, Within}
 use Rattle.lf_proto.specs.declared.request.Action.{Action}
 use Rattle.lf_proto.specs.declared.request.Action.TheVariants.{Close, Sync, Check, Where, Find, Change as Changing}
 use Rattle.lf_proto.specs.declared.request.Change.{Change}
 use Rattle.lf_proto.specs.declared.request.Change.TheVariants.{Place as PlaceAt, Legalize, Tidy, Unplace, Swap, Undo, Commit, Revert}
-use Rattle.lf_floor.specs.Outcomes.{Outcome, is_short, refused, changed, moved, working_at, recorded, telling}
+use Rattle.lf_floor.specs.Outcomes.{Outcome, is_short, refused, changed, recorded, telling}
 use Rattle.lf_floor.specs.Sessions.{with_slot, seen_at, opened, opened_at, closed, synced}
 use Rattle.lf_floor.specs.Looks.{checked, located, located_own, located_at, best_at, found, found_own, found_at}
-use Rattle.lf_floor.specs.Changes.{placed, placed_own, placed_unless, unplaced, unplaced_own, unplaced_from, legalized, legalized_own, legalized_at, restored, places_in, tidied_by, tidied_team, broken_where, exchanged, swapped_unless, swapped_from, swapped_own, swapped, back_to_committed, reverted, undone_by, undone, first_unplaced, BrokenCell, broken_cells, as_committed, committed_unless, committed}
+use Rattle.lf_floor.specs.Changes.{placed, placed_own, placed_unless, unplaced, unplaced_own, unplaced_from, legalized, legalized_own, legalized_at, restored, places_in, tidied_by, tidied_team, broken_where, exchanged, swapped_unless, swapped_from, swapped_own, swapped, back_to_committed, reverted, undone_by, undone, first_unplaced, BrokenCell, broken_cells, committed_unless, committed}
 use Rattle.lf_floor.specs.Verbs.{outcome_of_change, unless_spent, unless_stale, outcome_within, outcome_by_slot, outcome_of_verb, runs, never_stale, outcome_running, outcome_of}
 use Rattle.lf_floor.specs.VerbLaws.{MayChange}
 

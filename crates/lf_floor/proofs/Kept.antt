@@ -8,15 +8,17 @@ use Rattle.lf_floorplan.specs.declared.place.Place.{Place}
 use Rattle.lf_proto.specs.declared.reply.Reply.{Reply}
 use Rattle.lf_proto.specs.declared.reply.Reply.TheVariants.{Refused}
 use Rattle.lf_proto.specs.declared.reply.Refusal.{Refusal}
-use Rattle.lf_floor.specs.declared.cell.Cell.{Cell}
+use Rattle.lf_cells.specs.declared.cell.Cell.{Cell}
 use Rattle.lf_floor.specs.States.{TeamState}
-use Rattle.lf_floor.specs.Teams.{Setting, IsSizedCell, IsTeamOf}
+use Rattle.lf_floor.specs.Teams.{Setting, IsTeamOf}
+use Rattle.lf_legalize.specs.Members.{IsSizedCell}
 use Rattle.lf_proto.specs.declared.request.Order.{Order}
 use Rattle.lf_proto.specs.declared.request.Order.TheVariants.{Open, Within}
 use Rattle.lf_proto.specs.declared.request.Action.TheVariants.{Close, Sync, Check, Where, Find, Change as Changing}
-use Rattle.lf_floor.specs.Outcomes.{Outcome, is_short, refused, places_of, changed, with_entry, recorded, moved, working_at}
+use Rattle.lf_floor.specs.Outcomes.{Outcome, is_short, refused, places_of, changed, with_entry, recorded}
+use Rattle.lf_cells.specs.Cells.{moved, working_at, as_committed}
 use Rattle.lf_floor.specs.Sessions.{with_slot, seen_at}
-use Rattle.lf_floor.specs.Changes.{restored, exchanged, back_to_committed, as_committed, places_in}
+use Rattle.lf_floor.specs.Changes.{restored, exchanged, back_to_committed, places_in}
 use Rattle.lf_floor.specs.Verbs.{outcome_of, outcome_of_verb}
 use Rattle.lf_floor.specs.VerbLaws.{MayChange, CountsOne, KeepsCells, is_accepted, is_granted, is_change, is_commit, committed_places, told_revision}
 use Rattle.lf_floor.proofs.Cases.{Leaves, IsLeft, verb_by, order_by, left_by}

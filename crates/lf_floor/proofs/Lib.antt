@@ -1,5 +1,4 @@
 pub mod Boxes
-pub mod Cells
 pub mod Names
 pub mod Cases
 pub mod Kept
@@ -13,5 +12,7 @@ pub mod Tidying
 pub mod VerbLegal
 pub mod VerbRows
 pub mod Listing
-pub mod TakenIn
 pub mod Promises
+pub mod Seeking
+pub mod Tables
+pub mod Sending

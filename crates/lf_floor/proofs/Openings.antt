@@ -14,10 +14,12 @@ use Rattle.lf_floorplan.specs.Boxes.{macro_of, no_macro}
 use Rattle.lf_floorplan.specs.Design.{IsCell}
 use Rattle.lf_floorplan.specs.Fences.{ground_name}
 use Rattle.lf_floorplan.specs.Bounds.{IsName}
-use Rattle.lf_floor.specs.declared.cell.Cell.{Cell}
+use Rattle.lf_cells.specs.declared.cell.Cell.{Cell}
 use Rattle.lf_floor.specs.States.{TeamState}
-use Rattle.lf_floor.specs.Teams.{team_names, team_number, state_at, state_of, IsSizedCell, IsTeamOf}
-use Rattle.lf_floor.specs.Designs.{opening_cell, opening_team, opening_teams, opening, own_cells, AgreeFor}
+use Rattle.lf_floor.specs.Teams.{team_names, team_number, state_at, state_of, IsTeamOf}
+use Rattle.lf_legalize.specs.Members.{IsSizedCell}
+use Rattle.lf_floor.specs.Designs.{opening_team, opening_teams, opening, AgreeFor}
+use Rattle.lf_cells.specs.Openings.{opening_cell, own_cells}
 
 slice_get_some : {X : Type 0} (xs : List X) (i : ℕ) → i < length xs → (x : X) × (slice_get xs i ≡ Some x)
 slice_get_some [] i within = absurd (omega arith)

@@ -1,8 +1,9 @@
 -- What the outcome of the team at one position is to the floor.
-use Rattle.std.proofs.Common.{◌≡◌, ℕ, List, get_or, Option, Some, Result, Ok, Err, ap, sym, ◌∙◌, subst}
+use Rattle.std.proofs.Common.{◌≡◌, ℕ, List, Option, Some, Result, Ok, Err, ap, sym, ◌∙◌, subst}
 use Rattle.std.specs.Prelude.{IfOk, OnErr, slice_get, slice_set}
 use Rattle.std.specs.declared.alloc.AllocError.{AllocError}
 use Rattle.std.proofs.lemmas.List.{set-get_or}
+use Rattle.std.proofs.lemmas.Option.{get_or_from_slice_get}
 use Rattle.lf_floorplan.specs.declared.frame.Frame.{Frame}
 use Rattle.lf_floorplan.specs.declared.place.Place.{Place}
 use Rattle.lf_rules.specs.Legalizer.{Legalizer}
@@ -28,12 +29,14 @@ gives l f teams number order s new reply there reaches =
     }
 
 pub stays_short : (l : Legalizer) (f : Frame) (teams : List TeamState) (number : ℕ) (order : Order (List ℕ) Place) (s new : TeamState)
-    → slice_get teams number ≡ Some s → s ≡ get_or teams number s → RunsOut (ruled l f number order s) s new
+    → slice_get teams number ≡ Some s → RunsOut (ruled l f number order s) s new
     → StaysShort (answer_by (slice_get teams number) l (floor_of f teams) number order) (floor_of f teams) (floor_of f (slice_set teams number new))
-stays_short l f teams number order s new there read out =
+stays_short l f teams number order s new there out =
     let P : Option TeamState → Type 0 = λ o. StaysShort (answer_by o l (floor_of f teams) number order) (floor_of f teams) (floor_of f (slice_set teams number new)) in
     subst P (sym there) record {
-      kept = ap (λ (t : TeamState). floor_of f (slice_set teams number t)) (out.kept ∙ read) ∙ ap (floor_of f) (set-get_or teams number s);
+      kept =
+          ap (λ (t : TeamState). floor_of f (slice_set teams number t)) (out.kept ∙ sym (get_or_from_slice_get teams number s s there))
+          ∙ ap (floor_of f) (set-get_or teams number s);
       may = out.may;
     }
 

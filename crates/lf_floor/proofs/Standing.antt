@@ -16,9 +16,10 @@ use Rattle.lf_rules.specs.Legalizer.{IsVerdict}
 use Rattle.lf_rules.specs.Team.{Member, with_box, boxes_from, boxes_beside, lifted_from, StandsLegal}
 use Rattle.lf_proto.specs.Requests.{in_def}
 use Rattle.lf_proto.proofs.Places.{place_at-some}
-use Rattle.lf_floor.specs.declared.cell.Cell.{Cell}
-use Rattle.lf_floor.specs.Teams.{Setting, IsSizedCell, cell_named, member_of, trial_of_cell, broken_at, broken_by}
-use Rattle.lf_floor.specs.Outcomes.{moved, working_at}
+use Rattle.lf_cells.specs.declared.cell.Cell.{Cell}
+use Rattle.lf_floor.specs.Teams.{Setting, trial_of_cell, broken_at, broken_by}
+use Rattle.lf_legalize.specs.Members.{IsSizedCell, member_of}
+use Rattle.lf_cells.specs.Cells.{cell_named, moved, working_at}
 use Rattle.lf_floor.specs.Looks.{place_of_spot, lifted_cell}
 use Rattle.lf_floor.specs.Changes.{broken_where}
 

@@ -15,11 +15,12 @@ use Rattle.lf_rules.specs.Legalizer.{Legalizer}
 use Rattle.lf_rules.specs.Team.{Member, lifted_from, StandsLegal}
 use Rattle.lf_rules.specs.Tidy.{Tidied, Going, Stuck, target_of, sent_to, tidied_to, tidied_own, tidy_cell, tidied_from, tidied}
 use Rattle.lf_rules.proofs.TidyLemmas.{tidied_legal}
-use Rattle.lf_floor.specs.declared.cell.Cell.{Cell}
-use Rattle.lf_floor.specs.Teams.{Setting, IsSizedCell, member_of}
-use Rattle.lf_floor.specs.Outcomes.{working_at}
+use Rattle.lf_cells.specs.declared.cell.Cell.{Cell}
+use Rattle.lf_floor.specs.Teams.{Setting}
+use Rattle.lf_legalize.specs.Members.{IsSizedCell, member_of}
+use Rattle.lf_cells.specs.Cells.{working_at, as_committed}
 use Rattle.lf_floor.specs.Looks.{place_of_spot, lifted_cell, best_at}
-use Rattle.lf_floor.specs.Changes.{restored, places_in, broken_where, as_committed, first_unplaced, BrokenCell, broken_cells}
+use Rattle.lf_floor.specs.Changes.{restored, places_in, broken_where, first_unplaced, BrokenCell, broken_cells}
 use Rattle.lf_floor.proofs.Standing.{some_one, member_there, place_is, sized_at, stands_where}
 
 none_some : {X : Type 0} {x : X} → None ≡ Some x → ⊥

@@ -12,12 +12,14 @@ use Rattle.lf_proto.specs.declared.request.Change.TheVariants.{Tidy, Undo, Commi
 use Rattle.lf_floor.specs.Outcomes.{Outcome, refused, with_entry, places_of, recorded}
 use Rattle.lf_floor.specs.Verbs.{outcome_of, outcome_of_change, unless_spent, outcome_by_slot, outcome_of_verb, runs, never_stale, outcome_running, outcome_within}
 use Rattle.lf_floor.specs.Sessions.{seen_at}
-use Rattle.lf_floor.specs.Changes.{restored, places_in, reverted, undone, undone_by, tidied_by, tidied_team, back_to_committed, as_committed}
+use Rattle.lf_floor.specs.Changes.{restored, places_in, reverted, undone, undone_by, tidied_by, tidied_team, back_to_committed}
+use Rattle.lf_cells.specs.Cells.{as_committed}
 use Rattle.lf_proto.specs.declared.reply.Refusal.{Refusal}
 use Rattle.lf_proto.specs.declared.reply.Refusal.TheVariants.{BadRequest, NoPlace, RevisionsSpent, Stale}
-use Rattle.lf_floor.specs.declared.cell.Cell.{Cell}
+use Rattle.lf_cells.specs.declared.cell.Cell.{Cell}
 use Rattle.lf_floor.specs.States.{TeamState}
-use Rattle.lf_floor.specs.Teams.{Setting, member_of}
+use Rattle.lf_floor.specs.Teams.{Setting}
+use Rattle.lf_legalize.specs.Members.{member_of}
 use Rattle.lf_floor.specs.VerbLaws.{MayChange, Leads, HasSeen, is_accepted, is_recorded, is_commit, outcome_of_asking}
 use Rattle.lf_floor.proofs.Cases.{verb_by, asking}
 use Rattle.lf_floor.proofs.Kept.{moved_part, restored_part, exchanged_part, back_part, same_length, false_true}

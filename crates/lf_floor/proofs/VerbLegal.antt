@@ -7,15 +7,17 @@ use Rattle.lf_floorplan.specs.declared.place.Place.{Place}
 use Rattle.lf_rules.specs.Choice.{LegalInRange}
 use Rattle.lf_rules.specs.Team.{StandsLegal}
 use Rattle.lf_proto.specs.declared.reply.Refusal.{Refusal}
-use Rattle.lf_floor.specs.declared.cell.Cell.{Cell}
+use Rattle.lf_cells.specs.declared.cell.Cell.{Cell}
 use Rattle.lf_floor.specs.States.{TeamState}
-use Rattle.lf_floor.specs.Teams.{Setting, IsSizedCell, IsTeamOf, cell_named, member_of, broken_at}
+use Rattle.lf_floor.specs.Teams.{Setting, IsTeamOf, broken_at}
+use Rattle.lf_legalize.specs.Members.{IsSizedCell, member_of}
+use Rattle.lf_cells.specs.Cells.{cell_named, moved, working_at}
 use Rattle.lf_proto.specs.declared.request.Order.{Order}
 use Rattle.lf_proto.specs.declared.request.Order.TheVariants.{Open, Within}
 use Rattle.lf_proto.specs.declared.request.Action.TheVariants.{Close, Sync, Check, Where, Find, Change as Changing}
 use Rattle.lf_proto.specs.declared.request.Change.{Change}
 use Rattle.lf_proto.specs.declared.request.Change.TheVariants.{Place as PlaceAt, Legalize, Tidy, Swap, Commit}
-use Rattle.lf_floor.specs.Outcomes.{Outcome, refused, moved, working_at}
+use Rattle.lf_floor.specs.Outcomes.{Outcome, refused}
 use Rattle.lf_floor.specs.Looks.{best_at}
 use Rattle.lf_floor.specs.Changes.{broken_where, exchanged}
 use Rattle.lf_floor.specs.Verbs.{outcome_of, outcome_of_verb}

@@ -10,10 +10,12 @@ use Rattle.lf_rules.specs.Tidy.{Tidied, Going, Stuck, tidied}
 use Rattle.lf_proto.specs.Numbers.{◌>>=◌}
 use Rattle.lf_proto.specs.declared.reply.Reply.TheVariants.{Legalized, Tidied as TidyDone}
 use Rattle.lf_proto.specs.declared.reply.Refusal.TheVariants.{NoCell, Unplaced, Illegal, NoPlace, NothingToUndo}
-use Rattle.lf_floor.specs.declared.cell.Cell.{Cell}
+use Rattle.lf_cells.specs.declared.cell.Cell.{Cell}
 use Rattle.lf_floor.specs.States.{TeamState}
-use Rattle.lf_floor.specs.Teams.{Setting, cell_named, member_of, broken_at}
-use Rattle.lf_floor.specs.Outcomes.{Outcome, refused, changed, with_entry, recorded, telling, moved, working_at}
+use Rattle.lf_floor.specs.Teams.{Setting, broken_at}
+use Rattle.lf_cells.specs.Cells.{cell_named, moved, working_at, as_committed}
+use Rattle.lf_legalize.specs.Members.{member_of}
+use Rattle.lf_floor.specs.Outcomes.{Outcome, refused, changed, with_entry, recorded, telling}
 use Rattle.lf_floor.specs.Looks.{place_of_spot, best_at}
 
 -- ---- changes that can be undone
@@ -151,10 +153,6 @@ pub record BrokenCell : Type 0 where
 abbrev pub broken_cells : Setting → List Cell → List BrokenCell
 broken_cells t cells =
     filter_map (λ own. option_map (λ broken. record { own = own; broken = broken }) (broken_where t cells own)) (range_with_len 0 (length cells))
-
--- the working place of the cell is committed
-abbrev pub as_committed : Cell → Cell
-as_committed c = record c { committed = c.working }
 
 -- the first unplaced cell, else the first that breaks a rule, else the places are committed
 abbrev pub committed_unless : Option ℕ → List BrokenCell → ℕ → TeamState → Outcome

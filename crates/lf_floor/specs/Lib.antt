@@ -1,5 +1,7 @@
 pub mod States
 pub mod Teams
+pub mod Tables
+pub mod Tidying
 pub mod Outcomes
 pub mod Sessions
 pub mod Looks

@@ -10,10 +10,12 @@ use Rattle.lf_proto.specs.ReportText.{report_text}
 use Rattle.lf_proto.specs.Requests.{place_at}
 use Rattle.lf_proto.specs.declared.reply.Reply.TheVariants.{At, Report}
 use Rattle.lf_proto.specs.declared.reply.Refusal.TheVariants.{NoCell, Unplaced, NoPlace}
-use Rattle.lf_floor.specs.declared.cell.Cell.{Cell}
+use Rattle.lf_cells.specs.declared.cell.Cell.{Cell}
 use Rattle.lf_floor.specs.States.{TeamState}
-use Rattle.lf_floor.specs.Teams.{Setting, cell_named, listed_of, member_of}
-use Rattle.lf_floor.specs.Outcomes.{Outcome, refused, working_at}
+use Rattle.lf_floor.specs.Teams.{Setting, listed_of}
+use Rattle.lf_cells.specs.Cells.{cell_named, working_at}
+use Rattle.lf_legalize.specs.Members.{member_of}
+use Rattle.lf_floor.specs.Outcomes.{Outcome, refused}
 
 -- the cell stands at this place, or nowhere
 abbrev pub located_at : Option Place → ℕ → TeamState → Outcome

@@ -1,12 +1,12 @@
 -- What an order to a team comes to: the reply, and the team afterwards; and what a change makes of a team.
-use Rattle.std.specs.Prelude.{◌≡◌, ℕ, zero, suc, ◌+◌, List, [], ◌∷◌, Option, Some, Bool, true, false, map, take, slice_set, slice_get, option_and_then, option_map}
+use Rattle.std.specs.Prelude.{◌≡◌, ℕ, ◌+◌, List, ◌∷◌, Option, Some, Bool, true, false, map, take, slice_set, slice_get, option_map}
 use Rattle.lf_floorplan.specs.declared.place.Place.{Place}
 use Rattle.lf_floorplan.specs.declared.limits.Limits.{Limits}
 use Rattle.lf_proto.specs.declared.reply.Reply.{Reply}
 use Rattle.lf_proto.specs.declared.reply.Reply.TheVariants.{Revision, At, Legalized, Tidied as TidyDone, Report, Refused}
 use Rattle.lf_proto.specs.declared.reply.Refusal.{Refusal}
 use Rattle.lf_proto.specs.declared.reply.Refusal.TheVariants.{Illegal, NoPlace, OutOfMemory}
-use Rattle.lf_floor.specs.declared.cell.Cell.{Cell}
+use Rattle.lf_cells.specs.declared.cell.Cell.{Cell}
 use Rattle.lf_floor.specs.States.{TeamState}
 use Rattle.lf_floor.specs.Teams.{Setting}
 
@@ -54,16 +54,6 @@ pub record RunsOut (outcome : Outcome) (old new : TeamState) : Type 0 where
 -- the working places, in loading order
 abbrev pub places_of : List Cell → List (Option Place)
 places_of cells = map (λ c. c.working) cells
-
--- the cells with the working place of one of them changed; what is committed stays
-abbrev pub moved : List Cell → ℕ → Option Place → List Cell
-moved [] own place = []
-moved (c ∷ cs) zero place = record c { working = place } ∷ cs
-moved (c ∷ cs) (suc own) place = c ∷ moved cs own place
-
--- the working place of the cell of that position; None where it is unplaced, or there is no such cell
-abbrev pub working_at : List Cell → ℕ → Option Place
-working_at cells own = option_and_then (λ c. c.working) (slice_get cells own)
 
 -- the name of the cell of that position; None where there is no such cell
 abbrev pub name_at : List Cell → ℕ → Option (List ℕ)

@@ -2,7 +2,7 @@
 use Rattle.std.specs.Prelude.{ℕ, List, Option}
 use Rattle.lf_floorplan.specs.declared.frame.Frame.{Frame}
 use Rattle.lf_floorplan.specs.declared.place.Place.{Place}
-use Rattle.lf_floor.specs.declared.cell.Cell.{Cell}
+use Rattle.lf_cells.specs.declared.cell.Cell.{Cell}
 
 -- a team: its cells in loading order; its revision, which is how many changes it has made; the working places before each
 -- change that can be undone, the newest first; and for each session slot the revision that its session has seen, None
@@ -12,6 +12,16 @@ pub record TeamState : Type 0 where
   pub revision : ℕ
   pub entries : List (List (Option Place))
   pub slots : List (Option ℕ)
+
+-- what a team keeps beside its cells: its revision, its undo entries and its session slots
+pub record Ledger : Type 0 where
+  pub revision : ℕ
+  pub entries : List (List (Option Place))
+  pub slots : List (Option ℕ)
+
+-- the team of these cells and this ledger
+abbrev pub team_with : List Cell → Ledger → TeamState
+team_with cells ledger = record { cells = cells; revision = ledger.revision; entries = ledger.entries; slots = ledger.slots }
 
 -- a floor: its frame, and a state for each team: the fence teams in the frame's order, and last the team of the ground
 -- outside all fences

@@ -1,5 +1,6 @@
 -- What one command does to the floor of all teams.
 use Rattle.std.specs.Prelude.{◌≡◌, ℕ, List, Option, Some, None, true, false, MatchBool, slice_get, slice_set}
+use Rattle.lf_units.specs.declared.area.Point.{Point}
 use Rattle.lf_floorplan.specs.declared.frame.Frame.{Frame}
 use Rattle.lf_floorplan.specs.declared.place.Place.{Place}
 use Rattle.lf_rules.specs.Legalizer.{Legalizer}
@@ -8,7 +9,7 @@ use Rattle.lf_proto.specs.declared.request.Command.TheVariants.{Bye, To}
 use Rattle.lf_proto.specs.declared.request.Order.{Order}
 use Rattle.lf_proto.specs.declared.request.Order.TheVariants.{Within}
 use Rattle.lf_proto.specs.declared.request.Action.TheVariants.{Change as Changing}
-use Rattle.lf_proto.specs.declared.request.Change.TheVariants.{Place as PlaceAt}
+use Rattle.lf_proto.specs.declared.request.Change.TheVariants.{Place as PlaceAt, Legalize, Tidy}
 use Rattle.lf_proto.specs.declared.reply.Reply.{Reply}
 use Rattle.lf_proto.specs.declared.reply.Reply.TheVariants.{Done, Refused}
 use Rattle.lf_proto.specs.declared.reply.Refusal.TheVariants.{NoTeam}
@@ -16,7 +17,7 @@ use Rattle.lf_floor.specs.States.{TeamState, FloorState}
 use Rattle.lf_floor.specs.Teams.{setting, team_number, state_of}
 use Rattle.lf_floor.specs.Outcomes.{Outcome, is_short, may_be_short}
 use Rattle.lf_floor.specs.Verbs.{outcome_of, takes_memory}
-use Rattle.lf_floor.specs.VerbLaws.{is_granted, HasLegal}
+use Rattle.lf_floor.specs.VerbLaws.{is_granted, AreLegal, HasLegal}
 
 -- the floor of that frame and these teams
 abbrev pub floor_of : Frame → List TeamState → FloorState
@@ -104,6 +105,25 @@ abbrev pub PlacesLegally : Legalizer → Command (List ℕ) Place → Reply → 
 PlacesLegally l command reply new =
     (team name : List ℕ) (session : ℕ) (place : Place)
     → command ≡ To team (Within session (Changing (PlaceAt name place))) → is_granted reply ≡ true → StandsIn l new team name
+
+-- after an accepted legalize the cell is team-legal
+abbrev pub LegalizesLegally : Legalizer → Command (List ℕ) Place → Reply → FloorState → Type 0
+LegalizesLegally l command reply new =
+    (team name : List ℕ) (session : ℕ) (target : Point)
+    → command ≡ To team (Within session (Changing (Legalize name target))) → is_granted reply ≡ true → StandsIn l new team name
+
+-- the team of that name has all its cells placed and team-legal
+pub record AllStandIn (l : Legalizer) (floor : FloorState) (team : List ℕ) : Type 0 where
+  pub number : ℕ
+  pub state : TeamState
+  pub named : team_number floor.frame team ≡ Some number
+  pub there : state_of floor team ≡ Some state
+  pub legal : AreLegal (setting l floor.frame number) state
+
+-- after an accepted tidy every cell of the team is placed and team-legal
+abbrev pub TidiesLegally : Legalizer → Command (List ℕ) Place → Reply → FloorState → Type 0
+TidiesLegally l command reply new =
+    (team : List ℕ) (session : ℕ) → command ≡ To team (Within session (Changing Tidy)) → is_granted reply ≡ true → AllStandIn l new team
 
 -- a refusal leaves the whole floor as it was
 abbrev pub KeepsIfRefused : Reply → FloorState → FloorState → Type 0

@@ -1,18 +1,17 @@
 -- Teams and cells by their names, and a team's cells beside each other (LEF/DEF 5.8, DEF REGIONS, GROUPS and COMPONENTS).
-use Rattle.std.specs.Prelude.{◌≡◌, ◌≢◌, ℕ, ◌<◌, ◌≤◌, List, [], ◌∷◌, ◌++◌, length, map, position, bytes_eq, All, AllPairs, IfSome, Option, Some, None, slice_get, option_map}
+use Rattle.std.specs.Prelude.{◌≡◌, ◌≢◌, ℕ, ◌≤◌, List, [], ◌∷◌, ◌++◌, length, map, position, bytes_eq, All, AllPairs, IfSome, Option, Some, None, slice_get}
 use Rattle.lf_floorplan.specs.declared.frame.Frame.{Frame}
 use Rattle.lf_floorplan.specs.declared.place.Place.{Place}
 use Rattle.lf_rules.specs.declared.rule.Broken.{Broken}
 use Rattle.lf_floorplan.specs.Bounds.{IsName}
-use Rattle.lf_floorplan.specs.Boxes.{IsSized, macro_of}
+use Rattle.lf_floorplan.specs.Boxes.{macro_of}
 use Rattle.lf_floorplan.specs.Fences.{ground_name}
 use Rattle.lf_rules.specs.Legality.{Trial, trial_of}
 use Rattle.lf_rules.specs.Legalizer.{Legalizer}
-use Rattle.lf_rules.specs.Choice.{spot_of}
-use Rattle.lf_rtree.specs.declared.placed.Placed.{Placed}
 use Rattle.lf_rules.specs.declared.report.Listed.{Listed}
-use Rattle.lf_rules.specs.Team.{Member, with_box, boxes_beside}
-use Rattle.lf_floor.specs.declared.cell.Cell.{Cell}
+use Rattle.lf_rules.specs.Team.{boxes_beside}
+use Rattle.lf_cells.specs.declared.cell.Cell.{Cell}
+use Rattle.lf_legalize.specs.Members.{IsSizedCell, member_of}
 use Rattle.lf_floor.specs.declared.surroundings.Surroundings.{Surroundings}
 use Rattle.lf_floor.specs.States.{FloorState, TeamState}
 
@@ -33,26 +32,9 @@ state_at teams (Some number) = slice_get teams number
 abbrev pub state_of : FloorState → List ℕ → Option TeamState
 state_of floor name = state_at floor.teams (team_number floor.frame name)
 
--- the position of the cell of that name among these; None where none of them has it, whoever else may
-abbrev pub cell_named : List ℕ → List Cell → Option ℕ
-cell_named name cells = position (λ c. bytes_eq c.name name) cells
-
--- the macro and the working place of a cell, as the rules see it
-abbrev pub member_of : Cell → Member
-member_of c = record { mac = c.mac; place = option_map spot_of c.working }
-
 -- the cell as the report of its team lists it
 abbrev pub listed_of : ℕ → Cell → Listed (List ℕ)
 listed_of number c = record { name = c.name; team = number; mac = c.mac; place = c.working }
-
--- the box of a cell of that position, where it is placed
-abbrev pub box_if_placed : Frame → Cell → ℕ → List Placed
-box_if_placed f c own = with_box f own c.mac (option_map spot_of c.working) []
-
--- the cell's macro is one of the frame's, of whole size
-pub record IsSizedCell (f : Frame) (c : Cell) : Type 0 where
-  pub known : c.mac < length f.macros
-  pub sized : IsSized f (macro_of f c.mac)
 
 -- a team of the frame: the macros of its cells are the frame's, of whole size, their names are names of a text and differ, and
 -- cells, slots, undo entries and revisions are no more than a design may have; an undo entry has a place for each cell, and no
@@ -79,7 +61,7 @@ abbrev pub setting : Legalizer → Frame → ℕ → Setting
 setting l f number = record { legalizer = l; frame = f; number = number }
 
 -- the setting that a team's surroundings are, with a legalizer
-abbrev pub setting_in : Legalizer → Surroundings → Setting
+abbrev pub setting_in : {S : Type 0} → Legalizer → Surroundings S → Setting
 setting_in l around = setting l around.frame.now around.number
 
 -- the cell of that position, tried at a place beside the team's other placed cells

@@ -14,9 +14,11 @@ use Rattle.lf_proto.specs.declared.reply.Reply.{Reply}
 use Rattle.lf_proto.specs.declared.reply.Reply.TheVariants.{Revision, Legalized, Tidied as TidyDone, Refused}
 use Rattle.lf_proto.specs.declared.reply.Refusal.{Refusal}
 use Rattle.lf_proto.specs.declared.reply.Refusal.TheVariants.{NoPlace}
-use Rattle.lf_floor.specs.declared.cell.Cell.{Cell}
+use Rattle.lf_cells.specs.declared.cell.Cell.{Cell}
 use Rattle.lf_floor.specs.States.{TeamState}
-use Rattle.lf_floor.specs.Teams.{Setting, IsTeamOf, cell_named, member_of}
+use Rattle.lf_floor.specs.Teams.{Setting, IsTeamOf}
+use Rattle.lf_cells.specs.Cells.{cell_named}
+use Rattle.lf_legalize.specs.Members.{member_of}
 use Rattle.lf_floor.specs.Outcomes.{Outcome, is_short, refused, places_of}
 use Rattle.lf_floor.specs.Sessions.{seen_at}
 use Rattle.lf_floor.specs.Looks.{lifted_cell, best_at}

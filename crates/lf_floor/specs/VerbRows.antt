@@ -12,9 +12,10 @@ use Rattle.lf_proto.specs.declared.request.Change.TheVariants.{Place as PlaceAt,
 use Rattle.lf_proto.specs.declared.reply.Reply.{Reply}
 use Rattle.lf_proto.specs.declared.reply.Reply.TheVariants.{Done, Opened, Revision, At, Legalized, Tidied as TidyDone, Refused}
 use Rattle.lf_proto.specs.declared.reply.Refusal.TheVariants.{NoSession, Stale, NoCell, Unplaced, Illegal, NoPlace, NothingToUndo, SessionsFull, RevisionsSpent}
-use Rattle.lf_floor.specs.declared.cell.Cell.{Cell}
+use Rattle.lf_cells.specs.declared.cell.Cell.{Cell}
 use Rattle.lf_floor.specs.States.{TeamState}
-use Rattle.lf_floor.specs.Teams.{Setting, member_of, broken_at}
+use Rattle.lf_floor.specs.Teams.{Setting, broken_at}
+use Rattle.lf_legalize.specs.Members.{member_of}
 use Rattle.lf_floor.specs.Looks.{best_at}
 use Rattle.lf_floor.specs.Changes.{broken_where, exchanged, broken_cells}
 use Rattle.lf_floor.specs.Verbs.{outcome_of_verb}

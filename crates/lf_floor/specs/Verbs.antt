@@ -67,6 +67,8 @@ outcome_of_verb t (Within session verb) s = outcome_by_slot (seen_at s.slots ses
 -- the changes that run
 abbrev pub runs_change : Change (List ℕ) Place → Bool
 runs_change (PlaceAt name place) = true
+runs_change (Legalize name target) = true
+runs_change Tidy = true
 runs_change (Unplace name) = true
 runs_change _ = false
 
@@ -74,6 +76,7 @@ runs_change _ = false
 abbrev pub runs_action : Action (List ℕ) Place → Bool
 runs_action Check = true
 runs_action (Where name) = true
+runs_action (Find name target) = true
 runs_action (Changing change) = runs_change change
 runs_action _ = false
 

@@ -1,175 +1,134 @@
-//! A team's own cells.
+//! A team's own cells in the table of all.
 
-ghost use Rattle.std.specs.Prelude.{◌≡◌, ◌<◌, ◌≤◌, ◌++◌, All, length, IfOk, IfSome, OnOk, map};
+ghost use Rattle.std.specs.Prelude.{◌≡◌, ◌≤◌, All, length, IfOk, map, option_map, slice_get};
 ghost use Rattle.lf_floorplan.specs.Bounds.{IsName};
-ghost use Rattle.lf_floorplan.specs.Boxes.{IsSized, macro_of};
 ghost use Rattle.lf_rules.specs.Legalizer.{Legalizer};
+ghost use Rattle.lf_cells.specs.Cells.{cells_of};
+ghost use Rattle.lf_rules.specs.Choice.{spot_of};
+ghost use Rattle.lf_legalize.specs.Members.{IsSizedCell, best_of};
 ghost use Rattle.lf_reports.specs.Reports.{named, report_of};
-ghost use Rattle.lf_rules.specs.Team.{boxes_beside};
 ghost use Rattle.lf_proto.specs.ReportText.{report_text};
-ghost use Rattle.lf_floor.specs.Teams.{cell_named, listed_of, member_of, setting_in, IsSizedCell, box_if_placed, broken_at};
-ghost use Rattle.lf_floor.specs.Outcomes.{moved, places_of, working_at};
+ghost use Rattle.lf_floor.specs.Teams.{listed_of, setting_in, broken_at};
+ghost use Rattle.lf_floor.specs.Looks.{best_at};
+ghost use Rattle.lf_floor.specs.Outcomes.{places_of};
 
 use crate::surroundings::Surroundings;
-use lf_floorplan::{Frame, Macro, Place};
+use lf_cells::{CellId, CellTable};
+use lf_floorplan::Place;
+use lf_legalize::{Seeker, boxes_beside};
 use lf_proto::{Text, report_json};
 use lf_reports::report_on;
-use lf_rules::{Broken, Listed, Placed, box_of, first_broken, verdict_is_one};
-use lf_units::Name;
+use lf_rules::{Broken, Listed, first_broken, verdict_is_one};
+use lf_units::Point;
 use std::alloc::{AllocError, Global};
 
-/// A movable cell of a team (LEF/DEF 5.8, DEF COMPONENTS).
-#[derive(Drop)]
-pub struct Cell {
-    pub name: Name,
-    /// The position of its macro in the frame.
-    pub mac: usize,
-    /// Where the team has it now; none where it is unplaced.
-    pub working: Option<Place>,
-    /// Where the committed design has it; none where it is unplaced.
-    pub committed: Option<Place>,
-}
-
-/// The position of the team's cell of that name; none for another team's cell, as for one that no
-/// team has.
-pub(crate) fn cell_named(cells: &[Cell], name: &[u8]) -> Option<usize>
-    ensures found { result ≡ cell_named name.now cells.now }
-    ensures within { IfSome result (λ own. own < length cells.now) }
-{
-    cells.iter().position(|cell| cell.name.is(name))
-}
-
-/// The macro of a cell.
-fn macro_of<'a>(frame: &'a Frame, cell: &Cell) -> &'a Macro
-    requires { IsSizedCell frame.now cell.now }
-    ensures mac { result.now ≡ macro_of frame.now cell.now.mac }
-    ensures sized { IsSized frame.now result.now }
-{
-    &frame.macros.as_slice()[cell.mac]
-}
-
-/// Puts the box of the cell behind the others, where it is placed; `own` is the cell's position.
-fn push_box(
-    others: &mut Vec<Placed>,
-    frame: &Frame,
-    cell: &Cell,
-    own: u32,
-) -> Result<(), AllocError>
-    requires { IsSizedCell frame.now cell.now }
-    ensures { OnOk result (others.new.items ≡ others.old.items ++ box_if_placed frame.now cell.now own) }
-{
-    if let Some(place) = cell.working {
-        others.push(Placed {
-            own,
-            rect: box_of(frame, macro_of(frame, cell), &place),
-        })?;
-    }
-    Ok(())
-}
-
-/// The boxes of the team's placed cells but the one of that position, in loading order.
-fn others_of(
-    alloc: Global,
-    frame: &Frame,
-    cells: &[Cell],
-    own: usize,
-) -> Result<Vec<Placed>, AllocError>
-    requires sized { All (IsSizedCell frame.now) cells.now }
-    requires few { length cells.now ≤ 4000000 }
-    ensures { IfOk result (λ others. others.items ≡ boxes_beside frame.now (map member_of cells.now) own) }
-{
-    let mut others = Vec::new(alloc);
-    for (number, cell) in cells.iter().enumerate() {
-        if number != own {
-            push_box(&mut others, frame, cell, number as u32)?;
-        }
-    }
-    Ok(others)
-}
-
-/// The first rule that the cell of that position breaks at the place, beside the others of its
-/// team.
+/// The first rule that the team's cell of that position breaks at the place, beside the others of
+/// its team; none where the team has no such cell.
 ///
 /// `Err` where memory for the others' boxes is refused.
-pub(crate) fn broken_at(
-    around: &Surroundings<'_>,
-    cells: &[Cell],
+pub(crate) fn broken_at<S>(
+    around: &Surroundings<'_, S>,
+    cells: &CellTable,
     own: usize,
     place: &Place,
 ) -> Result<Option<Broken>, AllocError>
-    requires within { own < length cells.now }
-    requires sized { All (IsSizedCell around.now.frame.now) cells.now }
-    requires few { length cells.now ≤ 4000000 }
-    ensures { IfOk result (λ broken. (l : Legalizer) → broken ≡ broken_at (setting_in l around.now) cells.now own place.now) }
+    requires sized { All (IsSizedCell around.now.frame.now) (cells_of cells.now around.now.number) }
+    requires few { length (cells_of cells.now around.now.number) ≤ 4000000 }
+    ensures { IfOk result (λ broken. (l : Legalizer) → broken ≡ broken_at (setting_in l around.now) (cells_of cells.now around.now.number) own place.now) }
 {
     verdict_is_one();
+    let Some(standing) = cells.standing(around.number, own) else {
+        return Ok(None);
+    };
     let frame = around.frame;
-    let others = others_of(around.alloc, frame, cells, own)?;
-    Ok(first_broken(
-        frame,
-        around.number,
-        macro_of(frame, &cells[own]),
-        place,
-        &others,
-    ))
+    let mac = &frame.macros.as_slice()[standing.mac];
+    let others = boxes_beside(around.alloc, frame, cells, around.number, own)?;
+    Ok(first_broken(frame, around.number, mac, place, &others))
+}
+
+/// The best place for a target of the team's cell of that id; none where it has none.
+///
+/// `Err` where memory is refused.
+pub(crate) fn best_place<S: Seeker>(
+    around: &Surroundings<'_, S>,
+    cells: &CellTable,
+    id: CellId,
+    target: &Point,
+) -> Result<Option<Place>, AllocError>
+    requires team { id.team ≡ around.now.number }
+    requires sized { All (IsSizedCell around.now.frame.now) (cells_of cells.now around.now.number) }
+    requires few { length (cells_of cells.now around.now.number) ≤ 4000000 }
+    ensures best { (l : Legalizer) → IfOk result (λ found. found ≡ best_at (setting_in l around.now) (cells_of cells.now around.now.number) id.own target.now) }
+    ensures spot { (l : Legalizer) → IfOk result (λ found. option_map spot_of found ≡ best_of l around.now.frame.now around.now.number (cells_of cells.now around.now.number) id.own target.now) }
+{
+    around
+        .seeker
+        .seek(around.alloc, around.frame, cells, id, target)
+}
+
+/// The team's cell of that position, as its report lists it; none where the team has no such cell.
+fn listed(cells: &CellTable, number: usize, own: usize) -> Option<Listed<&[u8]>>
+    ensures { option_map named result ≡ option_map (listed_of number) (slice_get (cells_of cells.now number) own) }
+{
+    let id = cells.id_at(number, own)?;
+    let facts = cells.cell(id)?;
+    Some(Listed {
+        name: facts.name,
+        team: number,
+        mac: facts.mac,
+        place: cells.working(id),
+    })
 }
 
 /// The cells of the team of that number, as its report lists them.
-fn listed_cells<'a>(
+fn listed_cells(
     alloc: Global,
     number: usize,
-    cells: &'a [Cell],
-) -> Result<Vec<Listed<&'a [u8]>>, AllocError>
-    ensures { IfOk result (λ listed. map named listed.items ≡ map (listed_of number) cells.now) }
+    cells: &CellTable,
+) -> Result<Vec<Listed<&[u8]>>, AllocError>
+    ensures { IfOk result (λ listed. map named listed.items ≡ map (listed_of number) (cells_of cells.now number)) }
 {
-    let mut listed = Vec::new(alloc);
-    for cell in cells {
-        listed.push(Listed {
-            name: cell.name.as_bytes(),
-            team: number,
-            mac: cell.mac,
-            place: cell.working,
-        })?;
+    let mut all = Vec::new(alloc);
+    for own in 0..cells.count_of(number) {
+        let Some(cell) = listed(cells, number, own) else {
+            unreachable!();
+        };
+        all.push(cell)?;
     }
-    Ok(listed)
+    Ok(all)
 }
 
 /// The text of the report of the team's cells at their working places.
 ///
 /// `Err` where memory is refused.
-pub(crate) fn report_text(around: &Surroundings<'_>, cells: &[Cell]) -> Result<Text, AllocError>
-    requires sized { All (IsSizedCell around.now.frame.now) cells.now }
-    requires printed { All (λ c. IsName c.name) cells.now }
-    requires few { length cells.now ≤ 4000000 }
-    ensures { IfOk result (λ text. (l : Legalizer) → text ≡ report_text (report_of l around.now.frame.now (map (listed_of around.now.number) cells.now))) }
+pub(crate) fn report_text<S>(
+    around: &Surroundings<'_, S>,
+    cells: &CellTable,
+) -> Result<Text, AllocError>
+    requires sized { All (IsSizedCell around.now.frame.now) (cells_of cells.now around.now.number) }
+    requires printed { All (λ c. IsName c.name) (cells_of cells.now around.now.number) }
+    requires few { length (cells_of cells.now around.now.number) ≤ 4000000 }
+    ensures { IfOk result (λ text. (l : Legalizer) → text ≡ report_text (report_of l around.now.frame.now (map (listed_of around.now.number) (cells_of cells.now around.now.number)))) }
 {
     let listed = listed_cells(around.alloc, around.number, cells)?;
     let report = report_on(around.alloc, around.frame, &listed)?;
     report_json(around.alloc, &report)
 }
 
-/// The working place of the cell of that position; none where it is unplaced, or there is no such
-/// cell.
-pub(crate) fn working(cells: &[Cell], own: usize) -> Option<Place>
-    ensures { result ≡ working_at cells.now own }
+/// A copy of the team's working places, in loading order.
+pub(crate) fn places(
+    alloc: Global,
+    number: usize,
+    cells: &CellTable,
+) -> Result<Vec<Option<Place>>, AllocError>
+    ensures { IfOk result (λ places. places.items ≡ places_of (cells_of cells.now number)) }
 {
-    match cells.get(own) {
-        Some(cell) => cell.working,
-        None => None,
+    let mut places = Vec::new(alloc);
+    for own in 0..cells.count_of(number) {
+        let Some(standing) = cells.standing(number, own) else {
+            unreachable!();
+        };
+        places.push(standing.working)?;
     }
-}
-
-/// Changes the working place of the cell of that position; its committed place stays.
-pub(crate) fn put(cells: &mut [Cell], own: usize, place: Option<Place>)
-    requires { own < length cells.old }
-    ensures { cells.new ≡ moved cells.old own place }
-{
-    cells[own].working = place;
-}
-
-/// A copy of the working places, in loading order.
-pub(crate) fn places(alloc: Global, cells: &[Cell]) -> Result<Vec<Option<Place>>, AllocError>
-    ensures { IfOk result (λ places. places.items ≡ places_of cells.now) }
-{
-    cells.iter().map(|cell| cell.working).collect(alloc)
+    Ok(places)
 }

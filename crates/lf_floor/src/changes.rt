@@ -1,112 +1,167 @@
-//! Changes: what `place` and `unplace` do.
+//! Changes of one cell: what `place`, `legalize` and `unplace` do.
 
-ghost use Rattle.std.specs.Prelude.{Some, ◌≡◌, ◌<◌, ◌≤◌, IfOk, OnOk, OnErr, length};
+ghost use Rattle.std.specs.Prelude.{Some, ◌≡◌, ◌<◌, ◌≤◌, ◌+◌, IfOk, OnOk, OnErr, length};
 ghost use Rattle.lf_rules.specs.Legalizer.{Legalizer};
+ghost use Rattle.lf_cells.specs.Cells.{cells_of, moved};
 ghost use Rattle.lf_floor.specs.Teams.{IsTeamOf, setting_in};
+ghost use Rattle.lf_floor.specs.Tables.{OthersStay, team_in};
 ghost use Rattle.lf_floor.specs.Outcomes.{Reaches, RunsOut, changed, with_entry};
-ghost use Rattle.lf_floor.specs.Changes.{placed, unplaced, unplaced_own};
+ghost use Rattle.lf_floor.specs.Changes.{legalized, placed, unplaced};
 
-use crate::cell::{broken_at, cell_named, places, put, working};
-use crate::entries::{Entry, remember_entry};
-use crate::sessions::set_slot;
+use crate::cell::{best_place, broken_at, places};
+use crate::ledger::{Entry, Ledger};
 use crate::surroundings::Surroundings;
-use crate::team::Team;
+use lf_cells::{CellId, CellTable};
 use lf_floorplan::Place;
+use lf_legalize::Seeker;
 use lf_proto::{Refusal, Reply};
+use lf_units::Point;
 use std::alloc::AllocError;
 
-impl Team {
+/// Changes the working place of one cell of the team of that number, and nothing else.
+pub(crate) fn put(cells: &mut CellTable, id: CellId, place: Option<Place>)
+    ensures own { cells_of cells.new id.team ≡ moved (cells_of cells.old id.team) id.own place }
+    ensures others { OthersStay id.team cells.old cells.new }
+{
+    cells.set_working(id, place);
+}
+
+impl Ledger {
     /// Puts the present working places in front of the undo entries.
-    fn remember(&mut self, around: &Surroundings<'_>) -> Result<(), AllocError>
-        ensures ok { OnOk result (self.new ≡ record self.old { entries = with_entry around.now.frame.now.limits self.old }) }
+    fn remember<S>(
+        &mut self,
+        around: &Surroundings<'_, S>,
+        cells: &CellTable,
+    ) -> Result<(), AllocError>
+        ensures ok { OnOk result (self.new ≡ record self.old { entries = with_entry around.now.frame.now.limits (team_in around.now cells.now self.old) }) }
         ensures err { OnErr result (self.new ≡ self.old) }
     {
-        let places = places(around.alloc, &self.cells)?;
-        remember_entry(
-            &mut self.entries,
-            Entry { places },
-            around.frame.limits.undo as usize,
-        )
+        let places = places(around.alloc, around.number, cells)?;
+        self.push_entry(Entry { places })?;
+        self.cut_entries(around.frame.limits.undo as usize);
+        Ok(())
     }
 
-    /// Counts one more change, which the session has then seen.
-    fn count_change(&mut self, session: u32) -> Reply
-        requires { self.old.revision < u32.MAX }
-        ensures { Reaches (changed session self.old.cells self.old.entries self.old) result self.new }
+    /// Changes the working place of a cell, as a change that the session makes and that can be
+    /// undone.
+    fn change_place<S>(
+        &mut self,
+        around: &Surroundings<'_, S>,
+        cells: &mut CellTable,
+        session: u32,
+        id: CellId,
+        place: Option<Place>,
+    ) -> Result<(), AllocError>
+        requires team { id.team ≡ around.now.number }
+        requires left { self.old.revision < u32.MAX }
+        ensures ok { OnOk result (team_in around.now cells.new self.new
+            ≡ (changed session (moved (cells_of cells.old id.team) id.own place)
+            (with_entry around.now.frame.now.limits (team_in around.now cells.old self.old)) (team_in around.now cells.old self.old)).team) }
+        ensures revision { OnOk result (self.new.revision ≡ self.old.revision + 1) }
+        ensures err { OnErr result (team_in around.now cells.new self.new ≡ team_in around.now cells.old self.old) }
+        ensures others { OthersStay around.now.number cells.old cells.new }
     {
-        self.revision += 1;
-        set_slot(&mut self.slots, session as usize, Some(self.revision));
-        Reply::Revision(self.revision)
+        self.remember(around, cells)?;
+        put(cells, id, place);
+        self.count_change(session);
+        Ok(())
     }
 
     /// Puts a cell at a place: `NoCell` where the team has none of that name, else `Illegal` where
     /// the place breaks a rule.
     #[tactic(auto, unfolding(crate::specs::Changes::placed))]
-    pub(crate) fn place(
+    pub(crate) fn place<S>(
         &mut self,
-        around: &Surroundings<'_>,
+        around: &Surroundings<'_, S>,
+        cells: &mut CellTable,
         session: u32,
         name: &[u8],
         place: &Place,
     ) -> Result<Reply, AllocError>
         requires left { self.old.revision < u32.MAX }
-        requires team { IsTeamOf around.now.frame.now self.old }
-        ensures ok { (l : Legalizer) → IfOk result (λ reply. Reaches (placed (setting_in l around.now) session name.now place.now self.old) reply self.new) }
-        ensures err { (l : Legalizer) → OnErr result (RunsOut (placed (setting_in l around.now) session name.now place.now self.old) self.old self.new) }
+        requires team { IsTeamOf around.now.frame.now (team_in around.now cells.old self.old) }
+        ensures ok { (l : Legalizer) → IfOk result (λ reply. Reaches
+            (placed (setting_in l around.now) session name.now place.now (team_in around.now cells.old self.old))
+            reply (team_in around.now cells.new self.new)) }
+        ensures err { (l : Legalizer) → OnErr result (RunsOut
+            (placed (setting_in l around.now) session name.now place.now (team_in around.now cells.old self.old))
+            (team_in around.now cells.old self.old) (team_in around.now cells.new self.new)) }
+        ensures others { OthersStay around.now.number cells.old cells.new }
     {
-        let Some(own) = cell_named(&self.cells, name) else {
+        let Some(id) = cells.find_own(around.number, name) else {
             return Ok(Reply::Refused(Refusal::NoCell));
         };
-        if let Some(broken) = broken_at(around, &self.cells, own, place)? {
+        if let Some(broken) = broken_at(around, cells, id.own as usize, place)? {
             return Ok(Reply::Refused(Refusal::Illegal {
                 rule: broken.rule,
-                cell: own as u32,
+                cell: id.own,
                 other: broken.other,
             }));
         }
-        self.remember(around)?;
-        put(&mut self.cells, own, Some(*place));
-        Ok(self.count_change(session))
+        self.change_place(around, cells, session, id, Some(*place))?;
+        Ok(Reply::Revision(self.revision))
     }
 
-    /// Takes the cell of that position from its place; `Unplaced` where it has none.
-    fn unplace_own(
+    /// Puts a cell at its best place for a target: `NoCell` where the team has none of that name,
+    /// else `NoPlace` where no place is team-legal.
+    #[tactic(auto, unfolding(crate::specs::Changes::legalized))]
+    pub(crate) fn legalize<S: Seeker>(
         &mut self,
-        around: &Surroundings<'_>,
+        around: &Surroundings<'_, S>,
+        cells: &mut CellTable,
         session: u32,
-        own: usize,
+        name: &[u8],
+        target: &Point,
     ) -> Result<Reply, AllocError>
         requires left { self.old.revision < u32.MAX }
-        requires few { length self.old.cells ≤ 4000000 }
-        requires within { own < length self.old.cells }
-        ensures ok { IfOk result (λ reply. Reaches (unplaced_own (Some own) around.now.frame.now.limits session self.old) reply self.new) }
-        ensures err { OnErr result (RunsOut (unplaced_own (Some own) around.now.frame.now.limits session self.old) self.old self.new) }
+        requires team { IsTeamOf around.now.frame.now (team_in around.now cells.old self.old) }
+        ensures ok { (l : Legalizer) → IfOk result (λ reply. Reaches
+            (legalized (setting_in l around.now) session name.now target.now (team_in around.now cells.old self.old))
+            reply (team_in around.now cells.new self.new)) }
+        ensures err { (l : Legalizer) → OnErr result (RunsOut
+            (legalized (setting_in l around.now) session name.now target.now (team_in around.now cells.old self.old))
+            (team_in around.now cells.old self.old) (team_in around.now cells.new self.new)) }
+        ensures others { OthersStay around.now.number cells.old cells.new }
     {
-        if working(&self.cells, own).is_none() {
-            return Ok(Reply::Refused(Refusal::Unplaced { cell: own as u32 }));
-        }
-        self.remember(around)?;
-        put(&mut self.cells, own, None);
-        Ok(self.count_change(session))
+        let Some(id) = cells.find_own(around.number, name) else {
+            return Ok(Reply::Refused(Refusal::NoCell));
+        };
+        let Some(place) = best_place(around, cells, id, target)? else {
+            return Ok(Reply::Refused(Refusal::NoPlace { cell: id.own }));
+        };
+        self.change_place(around, cells, session, id, Some(place))?;
+        Ok(Reply::Legalized {
+            revision: self.revision,
+            place,
+        })
     }
 
     /// Takes a cell from its place: `NoCell` where the team has none of that name, else `Unplaced`
     /// where it stands nowhere.
     #[tactic(auto, unfolding(crate::specs::Changes::unplaced))]
-    pub(crate) fn unplace(
+    pub(crate) fn unplace<S>(
         &mut self,
-        around: &Surroundings<'_>,
+        around: &Surroundings<'_, S>,
+        cells: &mut CellTable,
         session: u32,
         name: &[u8],
     ) -> Result<Reply, AllocError>
         requires left { self.old.revision < u32.MAX }
-        requires team { IsTeamOf around.now.frame.now self.old }
-        ensures ok { IfOk result (λ reply. Reaches (unplaced around.now.frame.now.limits session name.now self.old) reply self.new) }
-        ensures err { OnErr result (RunsOut (unplaced around.now.frame.now.limits session name.now self.old) self.old self.new) }
+        ensures ok { IfOk result (λ reply. Reaches
+            (unplaced around.now.frame.now.limits session name.now (team_in around.now cells.old self.old))
+            reply (team_in around.now cells.new self.new)) }
+        ensures err { OnErr result (RunsOut
+            (unplaced around.now.frame.now.limits session name.now (team_in around.now cells.old self.old))
+            (team_in around.now cells.old self.old) (team_in around.now cells.new self.new)) }
+        ensures others { OthersStay around.now.number cells.old cells.new }
     {
-        let Some(own) = cell_named(&self.cells, name) else {
+        let Some(id) = cells.find_own(around.number, name) else {
             return Ok(Reply::Refused(Refusal::NoCell));
         };
-        self.unplace_own(around, session, own)
+        if cells.working(id).is_none() {
+            return Ok(Reply::Refused(Refusal::Unplaced { cell: id.own }));
+        }
+        self.change_place(around, cells, session, id, None)?;
+        Ok(Reply::Revision(self.revision))
     }
 }

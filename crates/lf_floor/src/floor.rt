@@ -1,23 +1,27 @@
 //! The floor of all teams.
 
-ghost use Rattle.std.specs.Prelude.{◌≡◌, ◌<◌, ◌≤◌, ◌+◌, ◌++◌, ◌∷◌, [], bytes_eq, position, ℕ, List, All, IfOk, IfSome, OnOk, OnErr, Some, option_and_then, option_map, true, length, slice_get, vec_len, vec_capacity};
+ghost use Rattle.std.specs.Prelude.{◌≡◌, ◌<◌, ◌≤◌, ◌+◌, ◌++◌, ◌∷◌, [], bytes_eq, position, ℕ, List, All};
+ghost use Rattle.std.specs.Prelude.{IfOk, IfSome, OnOk, OnErr, Some, option_and_then, option_map, replicate, true, length, vec_len, vec_capacity};
 ghost use Rattle.lf_floorplan.specs.Bounds.{IsName};
 ghost use Rattle.lf_floorplan.specs.Fences.{ground_name};
 ghost use Rattle.lf_rules.specs.Legalizer.{Legalizer};
 ghost use Rattle.lf_proto.specs.Commands.{command_of, order_of};
 ghost use Rattle.lf_floor.specs.States.{TeamState};
+ghost use Rattle.lf_floor.specs.Tables.{empty_ledger, teams_in};
 ghost use Rattle.lf_floor.specs.Teams.{IsTeamOf, team_number, state_of};
-ghost use Rattle.lf_floor.specs.Outcomes.{working_at, name_at};
+ghost use Rattle.lf_floor.specs.Outcomes.{name_at};
+ghost use Rattle.lf_cells.specs.Cells.{working_at};
 ghost use Rattle.lf_floor.specs.Verbs.{takes_memory};
 ghost use Rattle.lf_floor.specs.Designs.{opening};
 ghost use Rattle.lf_floor.specs.Runs.{Run, IsIsolated};
-ghost use Rattle.lf_floor.specs.Steps.{Answers, Gives, KeepsIfRefused, PlacesLegally, StaysShort, RunsShort, Step, IsTo, answer_at, floor_of};
+ghost use Rattle.lf_floor.specs.Steps.{Answers, Gives, KeepsIfRefused, LegalizesLegally, PlacesLegally, TidiesLegally};
+ghost use Rattle.lf_floor.specs.Steps.{StaysShort, RunsShort, Step, IsTo, answer_at, floor_of};
 
-use crate::cell::{Cell, working};
-use crate::opening::opening_teams;
+use crate::ledger::Ledger;
 use crate::surroundings::Surroundings;
-use crate::team::Team;
+use lf_cells::CellTable;
 use lf_floorplan::{Frame, Loaded, Place};
+use lf_legalize::Seeker;
 use lf_proto::{Command, Order, Refusal, Reply, Request, RequestList};
 use lf_rules::{legal_in_range, legalizer_is_there};
 use std::alloc::{AllocError, Global};
@@ -26,24 +30,28 @@ use std::marker::Model;
 /// The teams of a design in their common frame: the fence teams in the frame's order, and last `-`,
 /// the team of the ground outside all fences.
 ///
-/// Contracts see the frame and each team's state.
+/// Contracts see the frame and each team's state: who seeks best places plays no part in what is
+/// answered.
 #[derive(Drop)]
-pub struct Floor {
+pub struct Floor<S> {
     alloc: Global,
     frame: Frame,
-    teams: Vec<Team>,
+    seeker: S,
+    cells: CellTable,
+    ledgers: Vec<Ledger>,
 }
 
-impl Model for Floor {
+impl<S> Model for Floor<S> {
     ghost use Rattle.std.specs.Prelude.{◌≡◌, ◌+◌, All, length};
     ghost use Rattle.lf_floor.specs.States.{FloorState};
+    ghost use Rattle.lf_floor.specs.Tables.{teams_in};
     ghost use Rattle.lf_floor.specs.Teams.{IsTeamOf};
 
     ghost Value = { FloorState };
 
-    ghost view = { λ f. record { frame = f.frame; teams = f.teams.items } };
+    ghost view = { λ f. record { frame = f.frame; teams = teams_in f.cells f.ledgers.items } };
 
-    ghost invariant = { λ f. (length f.teams.items ≡ length f.frame.teams + 1) × All (λ t. IsTeamOf f.frame t) f.teams.items };
+    ghost invariant = { λ f. (length f.ledgers.items ≡ length f.frame.teams + 1) × All (λ t. IsTeamOf f.frame t) (teams_in f.cells f.ledgers.items) };
 }
 
 /// Whether this is the name of the team outside all fences.
@@ -82,29 +90,38 @@ fn fence_named(frame: &Frame, name: &[u8]) -> Option<usize>
         .position(|team| team.name.is(name))
 }
 
-/// Answers an order to the team of that number, where memory serves.
-fn serve_at(
-    alloc: Global,
-    frame: &Frame,
-    teams: &mut Vec<Team>,
-    number: usize,
+/// Answers an order to the team of these surroundings, where memory serves.
+fn serve_at<S: Seeker>(
+    around: &Surroundings<'_, S>,
+    cells: &mut CellTable,
+    ledgers: &mut Vec<Ledger>,
     order: &Order<&[u8]>,
 ) -> Result<Reply, AllocError>
-    requires within { number < length teams.old.items }
-    requires teams { All (λ t. IsTeamOf frame.now t) teams.old.items }
-    ensures ok { (l : Legalizer) → IfOk result (λ reply. Gives (answer_at (Some number) l (floor_of frame.now teams.old.items) (order_of order.now)) reply (floor_of frame.now teams.new.items)) }
-    ensures err { (l : Legalizer) → OnErr result (StaysShort (answer_at (Some number) l (floor_of frame.now teams.old.items) (order_of order.now)) (floor_of frame.now teams.old.items) (floor_of frame.now teams.new.items)) }
+    requires within { around.now.number < length ledgers.old.items }
+    requires teams { All (λ t. IsTeamOf around.now.frame.now t) (teams_in cells.old ledgers.old.items) }
+    ensures ok { (l : Legalizer) → IfOk result (λ reply. Gives
+        (answer_at (Some around.now.number) l (floor_of around.now.frame.now (teams_in cells.old ledgers.old.items)) (order_of order.now))
+        reply (floor_of around.now.frame.now (teams_in cells.new ledgers.new.items))) }
+    ensures err { (l : Legalizer) → OnErr result (StaysShort
+        (answer_at (Some around.now.number) l (floor_of around.now.frame.now (teams_in cells.old ledgers.old.items)) (order_of order.now))
+        (floor_of around.now.frame.now (teams_in cells.old ledgers.old.items)) (floor_of around.now.frame.now (teams_in cells.new ledgers.new.items))) }
     ensures takes { OnErr result (takes_memory (order_of order.now) ≡ true) }
-    ensures len { length teams.new.items ≡ length teams.old.items }
-    ensures teams { All (λ t. IsTeamOf frame.now t) teams.new.items }
+    ensures len { length ledgers.new.items ≡ length ledgers.old.items }
+    ensures teams { All (λ t. IsTeamOf around.now.frame.now t) (teams_in cells.new ledgers.new.items) }
 {
     legalizer_is_there();
-    let around = Surroundings {
-        alloc,
-        frame,
-        number,
-    };
-    teams[number].serve(&around, order)
+    ledgers[around.number].serve(around, cells, order)
+}
+
+/// A ledger for each team, in which nothing stands.
+fn empty_ledgers(alloc: Global, count: usize, sessions: usize) -> Result<Vec<Ledger>, AllocError>
+    ensures { IfOk result (λ ledgers. ledgers.items ≡ replicate count (empty_ledger sessions)) }
+{
+    let mut ledgers = Vec::new(alloc);
+    for _ in 0..count {
+        ledgers.push(Ledger::opening(alloc, sessions)?)?;
+    }
+    Ok(ledgers)
 }
 
 /// Puts a reply behind the others, where there is room.
@@ -119,20 +136,26 @@ fn push_within(replies: &mut Vec<Reply>, reply: Reply)
     }
 }
 
-impl Floor {
+impl<S: Drop> Floor<S> {
     /// The floor of a design as it is loaded: each team has its own cells at their places in the
-    /// DEF text, at revision 0, with nothing to undo and no session open.
+    /// DEF text, at revision 0, with nothing to undo and no session open. `seeker` will look for
+    /// best places.
     ///
-    /// `Err` where memory is refused; the design is then gone.
-    pub fn start(alloc: Global, loaded: Loaded) -> Result<Floor, AllocError>
+    /// `Err` where memory is refused; the design and the seeker are then gone.
+    pub fn start(alloc: Global, loaded: Loaded, seeker: S) -> Result<Floor<S>, AllocError>
         ensures { IfOk result (λ floor. floor ≡ opening loaded) }
     {
-        let teams = opening_teams(alloc, &loaded)?;
+        let count = loaded.frame.teams.len() + 1;
+        let sessions = loaded.frame.limits.sessions as usize;
+        let ledgers = empty_ledgers(alloc, count, sessions)?;
+        let cells = CellTable::build(alloc, &loaded)?;
         let Loaded { frame, cells: _ } = loaded;
         Ok(Floor {
             alloc,
             frame,
-            teams,
+            seeker,
+            cells,
+            ledgers,
         })
     }
 
@@ -142,7 +165,8 @@ impl Floor {
     pub fn place_of(&self, team: &[u8], own: usize) -> Option<Place>
         ensures { result ≡ option_and_then (λ s. working_at s.cells own) (state_of self.now team.now) }
     {
-        working(self.cells_of(team)?, own)
+        let number = team_named(&self.frame, team)?;
+        self.cells.standing(number, own)?.working
     }
 
     /// The name of the team's cell of that position in loading order, the first at 0: replies name
@@ -153,25 +177,20 @@ impl Floor {
         ensures name { option_map (λ name. name.now) result ≡ option_and_then (λ s. name_at s.cells own) (state_of self.now team.now) }
         ensures printed { IfSome result (λ name. IsName name.now) }
     {
-        Some(self.cells_of(team)?.get(own)?.name.as_bytes())
-    }
-
-    /// The cells of the team of that name, in loading order.
-    fn cells_of(&self, team: &[u8]) -> Option<&[Cell]>
-        ensures cells { option_map (λ cells. cells.now) result ≡ option_map (λ s. s.cells) (state_of self.now team.now) }
-        ensures printed { IfSome result (λ cells. All (λ c. IsName c.name) cells.now) }
-    {
         let number = team_named(&self.frame, team)?;
-        Some(self.teams[number].cells())
+        let id = self.cells.id_at(number, own)?;
+        Some(self.cells.cell(id)?.name)
     }
 
     /// Each team is one of the frame: what the floor keeps in its type.
     fn teams_are_of_the_frame(&self)
         ensures { All (λ s. IsTeamOf self.now.frame s) self.now.teams }
     {
-        let _ = &self.teams;
+        let _ = &self.ledgers;
     }
+}
 
+impl<S: Seeker + Drop> Floor<S> {
     /// Answers one command, where memory serves.
     fn try_step(&mut self, request: &Request) -> Result<Reply, AllocError>
         ensures ok { (l : Legalizer) → IfOk result (λ reply. Answers l self.old (command_of request.now) reply self.new) }
@@ -183,7 +202,13 @@ impl Floor {
                 let Some(number) = team_named(&self.frame, team) else {
                     return Ok(Reply::Refused(Refusal::NoTeam));
                 };
-                serve_at(self.alloc, &self.frame, &mut self.teams, number, order)
+                let around = Surroundings {
+                    alloc: self.alloc,
+                    frame: &self.frame,
+                    seeker: &self.seeker,
+                    number,
+                };
+                serve_at(&around, &mut self.cells, &mut self.ledgers, order)
             }
         }
     }
@@ -192,13 +217,16 @@ impl Floor {
     /// team changes.
     ///
     /// `NoTeam` comes before any refusal of a team. `OutOfMemory` stands only in the place of an
-    /// accepted change, a broken rule or a report. A refusal leaves the whole floor as it was, and
-    /// after an accepted place the cell is team-legal.
+    /// accepted change, a broken rule, a best place, the want of one, or a report. A refusal leaves
+    /// the whole floor as it was; after an accepted place or legalize the cell is team-legal, and
+    /// after an accepted tidy every cell of the team is.
     pub fn step(&mut self, request: &Request) -> Reply
         ensures step { (l : Legalizer) → Step l self.old (command_of request.now) result self.new }
         ensures others { (team : List ℕ) → ¬ IsTo team (command_of request.now) → state_of self.new team ≡ state_of self.old team }
         ensures frame { self.new.frame ≡ self.old.frame }
         ensures placed { (l : Legalizer) → PlacesLegally l (command_of request.now) result self.new }
+        ensures legalized { (l : Legalizer) → LegalizesLegally l (command_of request.now) result self.new }
+        ensures tidied { (l : Legalizer) → TidiesLegally l (command_of request.now) result self.new }
         ensures refused { KeepsIfRefused result self.old self.new }
     {
         legalizer_is_there();

@@ -7,18 +7,16 @@ pub use lf_proto as proto;
 
 mod cell;
 mod changes;
-mod entries;
 mod floor;
 mod laws;
+mod ledger;
 mod looks;
-mod opening;
 mod sessions;
 mod surroundings;
-mod team;
+mod tidy;
 mod verb_laws;
 mod verbs;
 
-pub use cell::Cell;
 pub use floor::Floor;
 pub use laws::{other_designs_do_not_matter, others_do_not_matter};
 pub use verb_laws::{

@@ -1,11 +1,13 @@
 //! Sessions: the slots of a team, for each the revision that its session has seen, none where it is free; and
 //! what `open` does.
 
-ghost use Rattle.std.specs.Prelude.{◌≡◌, ◌<◌, ◌≤◌, IfSome, length, position, is_none, slice_set};
+ghost use Rattle.std.specs.Prelude.{List, ◌≡◌, ◌<◌, ◌≤◌, IfSome, length, position, is_none, slice_set};
+ghost use Rattle.lf_cells.specs.declared.cell.Cell.{Cell};
+ghost use Rattle.lf_floor.specs.States.{team_with};
 ghost use Rattle.lf_floor.specs.Outcomes.{Reaches};
 ghost use Rattle.lf_floor.specs.Sessions.{opened, seen_at};
 
-use crate::team::Team;
+use crate::ledger::Ledger;
 use lf_proto::{Refusal, Reply};
 
 /// The least free session slot; none where all are taken.
@@ -35,12 +37,12 @@ pub(crate) fn set_slot(slots: &mut [Option<u32>], session: usize, seen: Option<u
     }
 }
 
-impl Team {
+impl Ledger {
     /// Takes the least free session slot; `SessionsFull` where there is none.
     #[tactic(auto, unfolding(crate::specs::Sessions::opened))]
     pub(crate) fn open(&mut self) -> Reply
         requires { length self.old.slots ≤ 64 }
-        ensures { Reaches (opened self.old) result self.new }
+        ensures { (cells : List Cell) → Reaches (opened (team_with cells self.old)) result (team_with cells self.new) }
     {
         match free_slot(&self.slots) {
             Some(session) => {

@@ -3,11 +3,13 @@
 use lf_floorplan::Frame;
 use std::alloc::Global;
 
-/// What surrounds a team while it answers: what gives memory, the common frame, and the team's number there.
-/// With a legalizer it is the setting that contracts speak of.
-#[derive(Clone, Copy)]
-pub(crate) struct Surroundings<'a> {
+/// What surrounds a team while it answers: what gives memory, the common frame, who finds best
+/// places, and the team's number in the frame. With a legalizer it is the setting that contracts
+/// speak of.
+#[derive_where(Clone, Copy)]
+pub(crate) struct Surroundings<'a, S> {
     pub(crate) alloc: Global,
     pub(crate) frame: &'a Frame,
+    pub(crate) seeker: &'a S,
     pub(crate) number: usize,
 }

@@ -43,16 +43,16 @@ pub record IsDefRect (r : Rect) : Type 0 where
   pub across : IsDefRange r.x1 r.x2
   pub up : IsDefRange r.y1 r.y2
 
--- the range of an obstacle, which may reach past the largest coordinate by the largest size of a macro
-pub record IsObstacleRange (lo hi : ℤ) : Type 0 where
+-- a range that begins at a coordinate that a DEF text can hold, and may reach past the largest one by the largest size of a macro
+pub record IsNearDefRange (lo hi : ℤ) : Type 0 where
   pub from : IsDefNumber lo
   pub to : hi ≤ℤ pos 22147483647
   pub in_order : lo ≤ℤ hi
 
--- an obstacle: a blockage, or the box of a FIXED component
-pub record IsObstacle (r : Rect) : Type 0 where
-  pub across : IsObstacleRange r.x1 r.x2
-  pub up : IsObstacleRange r.y1 r.y2
+-- a rectangle whose lower left corner a DEF text can hold, and which reaches past the largest coordinate by at most the largest size of a macro
+pub record IsNearDefRect (r : Rect) : Type 0 where
+  pub across : IsNearDefRange r.x1 r.x2
+  pub up : IsNearDefRange r.y1 r.y2
 
 -- a byte that can stand in a word of a text
 pub record IsPrinted (byte : ℕ) : Type 0 where

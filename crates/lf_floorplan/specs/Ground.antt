@@ -3,6 +3,7 @@ use Rattle.std.specs.Prelude.{◌≡◌, ◌≢◌, ℕ, ℤ, ◌≤◌, All, le
 use Rattle.lf_units.specs.declared.area.Rect.{Rect}
 use Rattle.lf_units.specs.Area.{Covers, SharesPoint, CoveredBy}
 use Rattle.lf_floorplan.specs.declared.frame.Frame.{Frame}
+use Rattle.lf_floorplan.specs.Bounds.{IsNearDefRect}
 
 -- a team by its number: a fence, or the ground team, whose number is the number of fences
 abbrev pub IsTeam : Frame → ℕ → Type 0
@@ -32,3 +33,7 @@ pub record PointHasOneTeam : Type 0 where
 -- boxes that stay in the grounds of different teams share no point
 abbrev pub TeamsStayApart : Type 0
 TeamsStayApart = (f : Frame) (s t : ℕ) (a b : Rect) → s ≢ t → StaysInGround f s a → StaysInGround f t b → SharesPoint a b → ⊥
+
+-- an obstacle has its lower left corner in the range of DEF coordinates, and reaches past the largest by at most the largest size of a macro
+abbrev pub ObstaclesStayNear : Type 0
+ObstaclesStayNear = (f : Frame) → All IsNearDefRect f.obstacles

@@ -1,6 +1,8 @@
 pub mod Bounds
 pub mod Rows
 pub mod Fences
+pub mod Sizes
+pub mod Obstacles
 pub mod Boxes
 pub mod Ground
 pub mod Standing

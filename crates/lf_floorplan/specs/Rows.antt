@@ -8,7 +8,7 @@ use Rattle.lf_orient.specs.Orientation.{rail_below}
 use Rattle.lf_floorplan.specs.Bounds.{IsDefNumber}
 use Rattle.lf_floorplan.specs.declared.parts.Row.{Row}
 
--- a site's size in database units: whole, above 0 both ways, and within the largest length of LEF
+-- the size of a site or a macro in database units: whole, above 0 both ways, and within the largest length of LEF
 pub record IsPitch (units : ℕ) (size pitch : Point) : Type 0 where
   pub across : IsLength units size.x pitch.x
   pub up : IsLength units size.y pitch.y

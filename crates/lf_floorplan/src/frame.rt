@@ -1,7 +1,8 @@
 //! The frame, with what loading has made sure of.
 
 ghost use Rattle.std.specs.Prelude.{◌≡◌, ℕ, ◌<◌, ◌≤◌, All, length};
-ghost use Rattle.lf_floorplan.specs.Bounds.{IsWithin, IsLefSize, IsObstacle};
+ghost use Rattle.lf_floorplan.specs.Bounds.{IsWithin, IsLefSize};
+ghost use Rattle.lf_floorplan.specs.Obstacles.{IsObstacle};
 ghost use Rattle.lf_floorplan.specs.Rows.{IsPitch, IsHeeded, RowsApart};
 ghost use Rattle.lf_floorplan.specs.Fences.{IsFence, FencesNamed, FencesApart};
 
@@ -43,6 +44,6 @@ pub struct Frame {
     pub ghost fences_whole: { All IsFence teams },
     pub ghost fences_named: { FencesNamed teams },
     pub ghost fences_apart: { FencesApart teams },
-    pub ghost obstacles_in_range: { All IsObstacle obstacles },
+    pub ghost obstacles_in_range: { All (IsObstacle header.units macros) obstacles },
     pub ghost macros_in_lef: { All (λ m. IsLefSize m.size × IsLefSize m.origin) macros },
 }

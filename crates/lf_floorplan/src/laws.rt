@@ -1,8 +1,8 @@
 //! Laws on the definitions of boxes, ground and rows.
 
-ghost use Rattle.lf_floorplan.specs.Boxes.{TurnsBack};
+ghost use Rattle.lf_floorplan.specs.Sizes.{TurnsBack};
 ghost use Rattle.lf_floorplan.specs.Design.{CellIsSized};
-ghost use Rattle.lf_floorplan.specs.Ground.{PointHasOneTeam, TeamsStayApart};
+ghost use Rattle.lf_floorplan.specs.Ground.{ObstaclesStayNear, PointHasOneTeam, TeamsStayApart};
 ghost use Rattle.lf_floorplan.specs.Standing.{StandingIsOne};
 
 /// A size that is turned twice alike is what it was.
@@ -18,6 +18,12 @@ pub fn point_has_one_team()
 /// Boxes that stay in the grounds of different teams share no point.
 pub fn teams_stay_apart()
     ensures { TeamsStayApart }
+{}
+
+/// Each obstacle has its lower left corner in the range of DEF coordinates, and reaches past the largest of them by at
+/// most the largest size of a macro.
+pub fn obstacles_stay_near()
+    ensures { ObstaclesStayNear }
 {}
 
 /// A box has one height in sites and one bottom row.

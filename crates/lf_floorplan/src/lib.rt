@@ -12,11 +12,13 @@ mod measure;
 mod parts;
 mod place;
 mod sites;
+mod sizes;
 
 pub use design::{is_sized, mac_at};
 pub use frame::Frame;
 pub use laws::{
-    cell_is_sized, point_has_one_team, size_turns_back, standing_is_one, teams_stay_apart,
+    cell_is_sized, obstacles_stay_near, point_has_one_team, size_turns_back, standing_is_one,
+    teams_stay_apart,
 };
 pub use limits::Limits;
 pub use loaded::{Cell, Loaded};
@@ -24,3 +26,4 @@ pub use macros::Macro;
 pub use parts::{Header, Row, Team};
 pub use place::Place;
 pub use sites::Site;
+pub use sizes::{macro_box, size_in_units};

@@ -17,7 +17,8 @@ use Rattle.lf_def.specs.declared.components.Component.{Component}
 use Rattle.lf_def.specs.declared.components.Placement.{Placement}
 use Rattle.lf_def.specs.declared.components.PlacementKind.TheVariants.{Fixed, Cover, Placed, Unplaced}
 use Rattle.lf_claims.specs.Teams.{is_fixed, is_cover, is_movable}
-use Rattle.lf_refusals.specs.Loading.{macro_named, has_size, IsWholeSize, size_in_dbu, at_place}
+use Rattle.lf_refusals.specs.Loading.{macro_named, has_size, IsWholeSize, at_place}
+use Rattle.lf_floorplan.specs.Sizes.{size_in_dbu}
 use Rattle.lf_refusals.specs.Refusals.{HasNoSize, HasPartUnits}
 use Rattle.lf_refusals.specs.Findings.{Inputs, units_in, core_in, Finding, OfCore, WhereWhole, OfPitch, CoreHasPartUnits, IsAccepted}
 use Rattle.lf_frame.specs.Loads.{IsSizedIn, FixedIsSized, AreInRange}
@@ -56,7 +57,7 @@ core_whole i core is a not_whole =
     let found : CoreHasPartUnits i core None = of_core i core (CoreHasPartUnits i) is (first_nothing (a NotWhole)).0 in
     none-some core.name (found.part not_whole)
 
-pub pitch_there : {P : Type 0} (Q : Point → Type 0) (found : Option Point) → MatchOption found (P → ⊥) Q → ((P → ⊥) → ⊥) → IsSome found
+pub pitch_there : {A P : Type 0} (Q : A → Type 0) (found : Option A) → MatchOption found (P → ⊥) Q → ((P → ⊥) → ⊥) → IsSome found
 pitch_there Q None none whole = absurd (whole none)
 pitch_there Q (Some p) some whole = refl
 

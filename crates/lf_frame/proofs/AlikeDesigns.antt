@@ -16,7 +16,7 @@ use Rattle.lf_floorplan.specs.declared.frame.Frame.{Frame}
 use Rattle.lf_floorplan.specs.declared.loaded.Cell.{Cell}
 use Rattle.lf_floorplan.specs.declared.loaded.Loaded.{Loaded}
 use Rattle.lf_claims.specs.Teams.{is_movable, IsTeamOf}
-use Rattle.lf_refusals.specs.Loading.{size_in_dbu}
+use Rattle.lf_floorplan.specs.Sizes.{size_in_dbu}
 use Rattle.lf_claims.specs.Refusals.{BearsEarlierName, IsClaimedTwice}
 use Rattle.lf_refusals.specs.Refusals.{HasBadStep, MeetsEarlierRow, HasNoMacro, HasNoSize, HasPartUnits, IsComponentTooMany, EndsTooFar}
 use Rattle.lf_refusals.specs.Findings.{Inputs, units_in, core_in, Finding, NameOfFirst, InTurn, OfCore, WhereWhole, OfPitch, CoreHasPartUnits, Finds}

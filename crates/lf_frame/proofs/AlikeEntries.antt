@@ -18,7 +18,7 @@ use Rattle.lf_claims.specs.Refusals.{BearsEarlierName, HasTwoFences, IsClaimedTw
 use Rattle.lf_refusals.specs.Refusals.{HasNoMacro, HasNoSize, HasPartUnits, IsComponentTooMany}
 use Rattle.lf_refusals.specs.Findings.{NameOfFirst}
 use Rattle.lf_frame.specs.Loads.{location}
-use Rattle.lf_claims.proofs.Named.{name_of_any, any_of_name}
+use Rattle.lf_units.proofs.Any.{name_of_any, any_of_name}
 
 -- they are the same component, but for where it stands
 abbrev pub Same : Component → Component → Type 0

@@ -1,9 +1,12 @@
 -- The parts of an accepted design make a frame.
-use Rattle.std.proofs.Common.{◌≡◌, ◌≢◌, ℕ, ℤ, pos, ◌<ℤ◌, ◌≤ℤ◌, ◌⊎◌, inl, inr, ◌≤◌, length, Bool, true, false, List, map, get_or, Option, None, Some, refl, arith}
-use Rattle.std.specs.Prelude.{All, AllPairs, Any, IsSome, IfSome, filter, filter_map, flat_map, cond, ◌||◌}
+use Rattle.std.proofs.Common.{◌≡◌, ◌≢◌, ℕ, ℤ, pos, ◌<ℤ◌, ◌≤ℤ◌, ◌⊎◌, inl, inr, ◌<◌, ◌≤◌, length, Bool, true, false, List, map, get_or, Option, None, Some}
+use Rattle.std.proofs.Common.{refl, arith}
+use Rattle.std.specs.Prelude.{All, AllPairs, Any, Contains, IsSome, IfSome, filter, filter_map, flat_map, cond, ◌||◌}
 use Rattle.std.specs.Str.{bytes_eq}
 use Rattle.std.proofs.lemmas.Bool.{false≢true}
+use Rattle.std.proofs.lemmas.Grind.{merely}
 use Rattle.std.proofs.lemmas.Int.{ints}
+use Rattle.std.proofs.lemmas.Option.{slice_get_within, get_or_from_slice_get}
 use Rattle.std.proofs.lemmas.List.Elements.{All-nil, All-append, All-weaker}
 use Rattle.lf_units.specs.declared.area.Point.{Point}
 use Rattle.lf_units.specs.declared.area.Rect.{Rect}
@@ -13,7 +16,8 @@ use Rattle.lf_orient.specs.Orientation.{rail_below}
 use Rattle.lf_lex.specs.declared.fault.FaultNumber.TheVariants.{RowOrient, RowsOverlap, SecondRegion, TeamName, FencesOverlap, TooMany}
 use Rattle.lf_floorplan.specs.declared.sites.Site.{Site}
 use Rattle.lf_floorplan.specs.declared.macros.Macro.{Macro}
-use Rattle.lf_lef.specs.Contents.{Contents, IsMacro}
+use Rattle.lf_names.specs.Names.{position_of}
+use Rattle.lf_lef.specs.Contents.{Contents, macro_names, IsMacro}
 use Rattle.lf_lef.specs.Lengths.{IsInRange, HasRange}
 use Rattle.lf_def.specs.declared.rows.Row.{Row}
 use Rattle.lf_def.specs.declared.regions.Region.{Region}
@@ -22,20 +26,19 @@ use Rattle.lf_def.specs.declared.components.Location.{Location}
 use Rattle.lf_def.specs.declared.components.Placement.{Placement}
 use Rattle.lf_def.specs.declared.blockages.Blockage.{Blockage}
 use Rattle.lf_def.specs.Ranges.{IsCoordinate, IsRect, IsRow, IsRegion, IsComponent, IsBlockage, IsLocation, IsPlacement}
-use Rattle.lf_frame.specs.declared.assembled.Parts.{Parts}
-use Rattle.lf_floorplan.specs.Bounds.{IsDefNumber, IsLefLength, IsLefSize, IsDefRect, IsObstacle}
-use Rattle.lf_floorplan.specs.Rows.{row_area, IsHeeded, RowsApart}
+use Rattle.lf_floorplan.specs.Bounds.{IsDefNumber, IsLefLength, IsLefSize, IsDefRect}
+use Rattle.lf_floorplan.specs.Obstacles.{IsMacroBox, IsObstacle}
+use Rattle.lf_floorplan.specs.Rows.{row_area, IsPitch, IsHeeded, RowsApart}
 use Rattle.lf_floorplan.specs.Fences.{IsFence, AreApart, FencesNamed, FencesApart}
-use Rattle.lf_floorplan.specs.Boxes.{turned, box_at}
-use Rattle.lf_frame.specs.Premise.{MakeFrame}
+use Rattle.lf_floorplan.specs.Sizes.{turned, box_at, size_in_dbu}
 use Rattle.lf_claims.specs.Entries.{NoneBreaks}
 use Rattle.lf_claims.specs.Teams.{is_fence, fences, is_fixed}
-use Rattle.lf_refusals.specs.Loading.{is_heeded, frame_row, macro_named, size_in_dbu, has_size, IsWholeSize}
-use Rattle.lf_refusals.specs.Refusals.{IsTurned, MeetsEarlierRow, EndsTooFar, BearsEarlierFence, BearsGroundName, SharePoint, MeetsEarlierFence, IsRowTooMany, IsFenceTooMany}
+use Rattle.lf_refusals.specs.Loading.{at_place, is_heeded, frame_row, macro_named, has_size, IsWholeSize}
+use Rattle.lf_refusals.specs.Refusals.{IsTurned, MeetsEarlierRow, EndsTooFar, BearsEarlierFence, BearsGroundName, SharePoint, MeetsEarlierFence, IsRowTooMany}
+use Rattle.lf_refusals.specs.Refusals.{IsFenceTooMany}
 use Rattle.lf_refusals.specs.Findings.{Inputs, units_in, core_in, NameOfFirst, IsAccepted}
-use Rattle.lf_frame.specs.Loads.{frame_team, location, IsSizedIn, FixedIsSized, fixed_box, blocked, obstacles_in, AreInRange, ArePartsOf}
+use Rattle.lf_frame.specs.Loads.{frame_team, location, IsSizedIn, FixedIsSized, fixed_box, blocked, obstacles_in, AreInRange}
 use Rattle.lf_refusals.proofs.Gathered.{none_of_name, pairs_from_none, all_kept, pairs_kept, few_kept, all_filter_map, all_flat_map}
-use Rattle.lf_frame.proofs.SizeBounds.{IsSmall, small_pitch, turned_small}
 use Rattle.lf_refusals.proofs.CoreLemmas.{pitch_of_core, core_heeded}
 use Rattle.lf_frame.proofs.Accepted.{of_core, of_pitch, first_nothing, fixed_sized}
 
@@ -101,51 +104,61 @@ fences_apart regions none =
     pairs_kept AreApart frame_team is_fence regions
     (λ i j d below within a b. record { no_point = λ x y in_a in_b. pairs_from_none is_fence (λ e r. SharePoint e.rects r.rects) regions none i j d below within a b (record { x = x; y = y; in_first = in_a; in_second = in_b }) })
 
-fixed_at : (units : ℕ) (m : Macro) (at : Location) → IsLocation at → IsSizedIn units m → IsObstacle (box_at (turned (size_in_dbu units m.size) at.orient) at.x at.y)
-fixed_at units m at range sized =
-    let small : IsSmall (turned (size_in_dbu units m.size) at.orient) = turned_small (size_in_dbu units m.size) at.orient (small_pitch units m.size (size_in_dbu units m.size) sized.whole) in
-    let x = def_number at.x range.0 in
-    let y = def_number at.y range.1 in
-    record {
-      across = record { from = x; to = omega (arith, ints, small.x_small, x.most); in_order = omega (arith, ints, small.wide) };
-      up = record { from = y; to = omega (arith, ints, small.y_small, y.most); in_order = omega (arith, ints, small.high) };
-    }
+fixed_at : (units : ℕ) (macros : List Macro) (m : Macro) (at : Location) → IsLocation at → Contains macros m → IsSizedIn units m →
+    IsMacroBox units macros (box_at (turned (size_in_dbu units m.size) at.orient) at.x at.y)
+fixed_at units macros m at range known sized = record {
+  mac = m;
+  known = known;
+  whole = sized.whole;
+  orient = at.orient;
+  x_in_def = def_number at.x range.0;
+  y_in_def = def_number at.y range.1;
+  box = refl;
+}
 
-fixed_obstacle : (library : Contents) (units : ℕ) (c : Component) → IsComponent c → FixedIsSized library units c → IfSome (fixed_box library units c) IsObstacle
+-- the macro of a name is one of the library's
+macro_known : (library : Contents) (name : List ℕ) (m : Macro) → macro_named library name ≡ Some m → Contains library.macros m
+macro_known library name m is = by (position_of (macro_names library.macros) name) is
+  where
+    by : (at : Option ℕ) → at_place library.macros at ≡ Some m → Contains library.macros m
+    by None e = absurd (cc)
+    by (Some at) e = (at, slice_get_within library.macros at m e, get_or_from_slice_get library.macros at m m e)
+
+fixed_obstacle : (library : Contents) (units : ℕ) (c : Component) → IsComponent c → FixedIsSized library units c →
+    IfSome (fixed_box library units c) (IsObstacle units library.macros)
 fixed_obstacle library units c range sized = by (is_fixed c) refl
   where
     found : (at : Option Location) (mac : Option Macro) → IfSome at (λ p. IsLocation p) → IfSome mac (IsSizedIn units) →
-        IfSome (Rattle.std.specs.Option.option_and_then (λ p. Rattle.std.specs.Prelude.option_map (λ m. box_at (turned (size_in_dbu units m.size) p.orient) p.x p.y) mac) at) IsObstacle
-    found None mac at_range mac_sized = tt
-    found (Some p) None at_range mac_sized = tt
-    found (Some p) (Some m) at_range mac_sized = fixed_at units m p at_range mac_sized
+        ((m : Macro) → mac ≡ Some m → Contains library.macros m) →
+        IfSome (Rattle.std.specs.Option.option_and_then (λ p. Rattle.std.specs.Prelude.option_map
+        (λ m. box_at (turned (size_in_dbu units m.size) p.orient) p.x p.y) mac) at) (IsObstacle units library.macros)
+    found None mac at_range mac_sized known = tt
+    found (Some p) None at_range mac_sized known = tt
+    found (Some p) (Some m) at_range mac_sized known = merely (inr (fixed_at units library.macros m p at_range (known m refl) mac_sized))
 
     placed : (p : Option Placement) → IfSome p (λ q. IsPlacement q) → IfSome (Rattle.std.specs.Option.option_and_then (λ (q : Placement). q.place) p) (λ at. IsLocation at)
     placed None placement = tt
     placed (Some q) placement = placement
 
-    by : (t : Bool) → is_fixed c ≡ t → IfSome (fixed_box library units c) IsObstacle
+    by : (t : Bool) → is_fixed c ≡ t → IfSome (fixed_box library units c) (IsObstacle units library.macros)
     by false is = rw is tt
-    by true is = rw is (found (location c) (macro_named library c.mac) (placed c.placement range.placement) (sized is))
+    by true is = rw is (found (location c) (macro_named library c.mac) (placed c.placement range.placement) (sized is) (macro_known library c.mac))
 
-rect_obstacle : (r : Rect) → IsRect r → IsObstacle r
-rect_obstacle r c = record {
-  across = record { from = def_number r.x1 c.x1; to = omega (arith, ints, c.x2.high); in_order = c.across };
-  up = record { from = def_number r.y1 c.y1; to = omega (arith, ints, c.y2.high); in_order = c.up };
-}
-
-blocked_obstacles : (b : Blockage) → IsBlockage b → All IsObstacle (blocked b)
-blocked_obstacles b range = by (b.soft || b.partial) refl
+blocked_obstacles : (units : ℕ) (macros : List Macro) (b : Blockage) → IsBlockage b → All (IsObstacle units macros) (blocked b)
+blocked_obstacles units macros b range = by (b.soft || b.partial) refl
   where
-    by : (t : Bool) → (b.soft || b.partial) ≡ t → All IsObstacle (blocked b)
-    by true is = rw is (All-nil IsObstacle)
-    by false is = rw is (All-weaker IsRect IsObstacle rect_obstacle b.rects range.rects)
+    by : (t : Bool) → (b.soft || b.partial) ≡ t → All (IsObstacle units macros) (blocked b)
+    by true is = rw is (All-nil (IsObstacle units macros))
+    by false is = rw is (All-weaker IsRect (IsObstacle units macros) (λ r rect. merely (inl (def_rect r rect))) b.rects range.rects)
 
-obstacles_in_range : (i : Inputs) → AreInRange i → IsAccepted i → All IsObstacle (obstacles_in i)
+obstacles_in_range : (i : Inputs) → AreInRange i → IsAccepted i → All (IsObstacle (units_in i) i.library.macros) (obstacles_in i)
 obstacles_in_range i range a =
-    All-append IsObstacle (filter_map (fixed_box i.library (units_in i)) i.document.components) (flat_map blocked i.document.blockages)
-    (all_filter_map IsObstacle (fixed_box i.library (units_in i)) i.document.components (λ k d within. fixed_obstacle i.library (units_in i) (get_or i.document.components k d) (range.components k d within) (fixed_sized i range a k d within)))
-    (all_flat_map IsObstacle blocked i.document.blockages (λ k d within. blocked_obstacles (get_or i.document.blockages k d) (range.blockages k d within)))
+    let Obstacle : Rect → Type 0 = IsObstacle (units_in i) i.library.macros in
+    All-append Obstacle (filter_map (fixed_box i.library (units_in i)) i.document.components) (flat_map blocked i.document.blockages)
+    (all_filter_map Obstacle (fixed_box i.library (units_in i)) i.document.components
+    (λ k d within. fixed_obstacle i.library (units_in i) (get_or i.document.components k d) (range.components k d within) (fixed_sized i range a k d within)))
+    (all_flat_map Obstacle blocked i.document.blockages (λ k d within. blocked_obstacles (units_in i) i.library.macros (get_or i.document.blockages k d)
+    (range.blockages k d within)))
 
 macros_in_lef : (macros : List Macro) → All IsMacro macros → All (λ m. IsLefSize m.size × IsLefSize m.origin) macros
 macros_in_lef macros range = All-weaker IsMacro (λ m. IsLefSize m.size × IsLefSize m.origin) (λ m is. (lef_size m.size is.size, lef_size m.origin is.origin)) macros range
@@ -169,24 +182,38 @@ few_fences i a =
     let behind_rows = (first_nothing (a TooMany)).1 in
     few_kept frame_team is_fence i.limits.fences i.document.regions (none_of_name {breaks = IsFenceTooMany i.limits.fences} (first_nothing behind_rows).0)
 
-pub frame_made : (i : Inputs) (core : Site) (p : Parts) (pitch : Point) → AreInRange i → IsAccepted i → core_in i ≡ Some core → HasRange core.size → has_size core.size ≡ true →
-    IsWholeSize (units_in i) core.size → pitch ≡ size_in_dbu (units_in i) core.size → ArePartsOf i core p → MakeFrame p pitch
-frame_made i core p pitch range a is site sized whole pitch_is parts =
+-- what a frame keeps of the rows that are heeded, the fences, the obstacles and the macros of an accepted design with this core site
+pub record IsFrameKept (i : Inputs) (core : Site) : Type 0 where
+  pub site_in_lef : IsLefSize core.size
+  pub pitch_whole : IsPitch (units_in i) core.size (size_in_dbu (units_in i) core.size)
+  pub has_row : 0 < length (map frame_row (filter (is_heeded core) i.document.rows))
+  pub few_rows : length (map frame_row (filter (is_heeded core) i.document.rows)) ≤ i.limits.rows
+  pub rows_heeded : All (λ r. IsHeeded (size_in_dbu (units_in i) core.size) r) (map frame_row (filter (is_heeded core) i.document.rows))
+  pub rows_apart : RowsApart (size_in_dbu (units_in i) core.size) (map frame_row (filter (is_heeded core) i.document.rows))
+  pub few_fences : length (map frame_team (fences i.document.regions)) ≤ i.limits.fences
+  pub fences_whole : All IsFence (map frame_team (fences i.document.regions))
+  pub fences_named : FencesNamed (map frame_team (fences i.document.regions))
+  pub fences_apart : FencesApart (map frame_team (fences i.document.regions))
+  pub obstacles_in_range : All (IsObstacle (units_in i) i.library.macros) (obstacles_in i)
+  pub macros_in_lef : All (λ m. IsLefSize m.size × IsLefSize m.origin) i.library.macros
+
+pub frame_kept : (i : Inputs) (core : Site) → AreInRange i → IsAccepted i → core_in i ≡ Some core → HasRange core.size → has_size core.size ≡ true →
+    IsWholeSize (units_in i) core.size → IsFrameKept i core
+frame_kept i core range a is site sized whole =
     let at : Point = size_in_dbu (units_in i) core.size in
     let turned = none_of_name (of_core i core (λ s. NameOfFirst (λ r. r.name) (IsTurned s) i.document.rows) is (a RowOrient)) in
     let meeting = none_of_name (of_pitch i core (λ s pitch. NameOfFirst (λ r. r.name) (MeetsEarlierRow s pitch) i.document.rows) is whole (a RowsOverlap)) in
-    rw pitch_is (record {
-      units_in_range = rw parts.header range.units;
-      site_in_lef = rw parts.site (lef_size core.size site);
-      pitch_whole = rw (parts.header, parts.site) (pitch_of_core (units_in i) core.size range.units.least range.units.most site sized whole);
-      has_row = rw parts.rows (core_heeded i.library i.document.rows core is);
-      few_rows = rw (parts.rows, parts.limits) (few_rows i core is a);
-      rows_heeded = rw parts.rows (rows_heeded core at i.document.rows range.rows turned (near_rows i core is whole a));
-      rows_apart = rw parts.rows (rows_apart core at i.document.rows meeting);
-      few_fences = rw (parts.teams, parts.limits) (few_fences i a);
-      fences_whole = rw parts.teams (fences_whole i.document.regions range.regions (none_of_name (a TeamName)));
-      fences_named = rw parts.teams (fences_named i.document.regions (none_of_name (a SecondRegion)));
-      fences_apart = rw parts.teams (fences_apart i.document.regions (none_of_name (a FencesOverlap)));
-      obstacles_in_range = rw parts.obstacles (obstacles_in_range i range a);
-      macros_in_lef = rw parts.macros (macros_in_lef i.library.macros range.macros);
-    })
+    record {
+      site_in_lef = lef_size core.size site;
+      pitch_whole = pitch_of_core (units_in i) core.size range.units.least range.units.most site sized whole;
+      has_row = core_heeded i.library i.document.rows core is;
+      few_rows = few_rows i core is a;
+      rows_heeded = rows_heeded core at i.document.rows range.rows turned (near_rows i core is whole a);
+      rows_apart = rows_apart core at i.document.rows meeting;
+      few_fences = few_fences i a;
+      fences_whole = fences_whole i.document.regions range.regions (none_of_name (a TeamName));
+      fences_named = fences_named i.document.regions (none_of_name (a SecondRegion));
+      fences_apart = fences_apart i.document.regions (none_of_name (a FencesOverlap));
+      obstacles_in_range = obstacles_in_range i range a;
+      macros_in_lef = macros_in_lef i.library.macros range.macros;
+    }

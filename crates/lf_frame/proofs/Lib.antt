@@ -1,4 +1,3 @@
-pub mod SizeBounds
 pub mod Accepted
 pub mod FrameMade
 pub mod CellsMade

@@ -1,3 +1,2 @@
-pub mod Premise
 pub mod Loads
 pub mod Alike

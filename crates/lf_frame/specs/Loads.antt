@@ -5,7 +5,6 @@ use Rattle.std.specs.Option.{option_and_then}
 use Rattle.lf_units.specs.declared.area.Rect.{Rect}
 use Rattle.lf_names.specs.Names.{position_of}
 use Rattle.lf_floorplan.specs.declared.macros.Macro.{Macro}
-use Rattle.lf_floorplan.specs.declared.sites.Site.{Site}
 use Rattle.lf_lef.specs.Contents.{Contents, macro_names, IsSite, IsMacro}
 use Rattle.lf_def.specs.declared.regions.Region.{Region}
 use Rattle.lf_def.specs.declared.components.Component.{Component}
@@ -16,14 +15,13 @@ use Rattle.lf_floorplan.specs.declared.place.Place.{Place}
 use Rattle.lf_floorplan.specs.declared.parts.Header.{Header}
 use Rattle.lf_floorplan.specs.declared.parts.Team.{Team}
 use Rattle.lf_floorplan.specs.declared.frame.Frame.{Frame}
-use Rattle.lf_frame.specs.declared.assembled.Parts.{Parts}
 use Rattle.lf_floorplan.specs.declared.loaded.Cell.{Cell}
 use Rattle.lf_floorplan.specs.declared.loaded.Loaded.{Loaded}
 use Rattle.lf_floorplan.specs.Bounds.{IsWithin}
 use Rattle.lf_floorplan.specs.Rows.{IsPitch}
-use Rattle.lf_floorplan.specs.Boxes.{turned, box_at}
+use Rattle.lf_floorplan.specs.Sizes.{turned, box_at, size_in_dbu}
 use Rattle.lf_claims.specs.Teams.{fences, is_fixed, is_movable, IsTeamOf}
-use Rattle.lf_refusals.specs.Loading.{macro_named, size_in_dbu, is_heeded, frame_row}
+use Rattle.lf_refusals.specs.Loading.{macro_named, is_heeded, frame_row}
 use Rattle.lf_claims.specs.Refusals.{HasTwoFences}
 use Rattle.lf_refusals.specs.Findings.{Inputs, units_in, core_in, IsAccepted}
 
@@ -77,16 +75,6 @@ pub record AreInRange (i : Inputs) : Type 0 where
   pub regions : All IsRegion i.document.regions
   pub components : All IsComponent i.document.components
   pub blockages : All IsBlockage i.document.blockages
-
--- the parts of the frame, where this is the core site
-pub record ArePartsOf (i : Inputs) (core : Site) (p : Parts) : Type 0 where
-  pub site : p.site ≡ core
-  pub rows : p.rows ≡ map frame_row (filter (is_heeded core) i.document.rows)
-  pub teams : p.teams ≡ map frame_team (fences i.document.regions)
-  pub obstacles : p.obstacles ≡ obstacles_in i
-  pub macros : p.macros ≡ i.library.macros
-  pub header : p.header ≡ header_in i
-  pub limits : p.limits ≡ i.limits
 
 -- the frame of what is loaded
 pub record IsFrameOf (i : Inputs) (f : Frame) : Type 0 where

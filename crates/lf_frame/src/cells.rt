@@ -4,29 +4,21 @@ ghost use Rattle.std.specs.Prelude.{◌≡◌, true, IfOk, IsSome, All, option_m
 ghost use Rattle.std.specs.List.{AllZip};
 ghost use Rattle.lf_names.specs.Names.{position_of};
 ghost use Rattle.lf_lef.specs.Contents.{macro_names};
-ghost use Rattle.lf_def.specs.Ranges.{IsComponent, IsLocation};
+ghost use Rattle.lf_def.specs.Ranges.{IsComponent};
 ghost use Rattle.lf_claims.specs.Teams.{is_movable as is_movable_component, IsTeamOf};
 ghost use Rattle.lf_claims.specs.Entries.{NoneBreaks};
 ghost use Rattle.lf_claims.specs.Refusals.{BearsEarlierName};
-ghost use Rattle.lf_claims.specs.Claims.{IsTableOf};
+ghost use Rattle.lf_claims.specs.ClaimTables.{IsTableOf};
 ghost use Rattle.lf_refusals.specs.Findings.{inputs};
 ghost use Rattle.lf_frame.specs.Loads.{location as location_of, as_location, movables, CanBeCell, IsCellOf};
 
-use crate::copies::location;
+use crate::copies::{location, place_at};
 use lf_claims::{ClaimTable, is_movable};
-use lf_def::{Component, DefDoc, Location};
+use lf_def::{Component, DefDoc};
 use lf_floorplan::{Cell, Limits, Place};
 use lf_lef::Library;
 use lf_units::{Name, Sequence};
 use std::alloc::{AllocError, Global};
-
-/// A place of the document.
-fn place_at(at: &Location) -> Place
-    requires { IsLocation at.now }
-    ensures { as_location result ≡ at.now }
-{
-    Place::new(at.x, at.y, at.orient)
-}
 
 /// Where the component stands.
 fn place_of(component: &Component) -> Option<Place>

@@ -1,20 +1,18 @@
 //! What a frame takes over from the library and the document.
 
-ghost use Rattle.std.specs.Prelude.{◌≡◌, ℕ, ◌≤◌, ◌++◌, ◌∷◌, [], true, false, Some, None, IfOk, IfSome, OnOk, OnErr, All, map, filter, filter_map, flat_map, unwrap_or, option_map};
-ghost use Rattle.lf_lef.specs.Lengths.{HasRange};
+ghost use Rattle.std.specs.Prelude.{◌≡◌, ℕ, ◌++◌, ◌∷◌, [], true, false, Some, None, IfOk, IfSome, OnOk, OnErr, All, map, filter, filter_map, flat_map, unwrap_or, option_map};
 ghost use Rattle.lf_def.specs.Ranges.{IsCoordinate, IsRow, IsComponent, IsLocation};
-ghost use Rattle.lf_floorplan.specs.Boxes.{turned, box_at};
+ghost use Rattle.lf_floorplan.specs.Sizes.{turned, box_at, size_in_dbu};
 ghost use Rattle.lf_claims.specs.Teams.{fences};
-ghost use Rattle.lf_refusals.specs.Loading.{is_heeded as is_heeded_row, frame_row as frame_row_of, size_in_dbu};
-ghost use Rattle.lf_frame.specs.Loads.{IsSizedIn, FixedIsSized, frame_team as frame_team_of, location as location_of, fixed_box as fixed_box_of, blocked};
+ghost use Rattle.lf_refusals.specs.Loading.{is_heeded as is_heeded_row, frame_row as frame_row_of};
+ghost use Rattle.lf_frame.specs.Loads.{IsSizedIn, FixedIsSized, frame_team as frame_team_of, location as location_of, as_location, fixed_box as fixed_box_of, blocked};
 
 use lf_claims::{is_fence, is_fixed};
 use lf_def::{Blockage, Component, Header as DefHeader, Location, Region, Row as DefRow};
-use lf_floorplan::{Header, Macro, Row, Site, Team};
+use lf_floorplan::{Header, Macro, Place, Row, Site, Team, macro_box};
 use lf_lef::Library;
-use lf_orient::Orient;
-use lf_refusals::{is_heeded, macro_named, size_in_units};
-use lf_units::{Name, Point, Rect, Sequence};
+use lf_refusals::{is_heeded, macro_named};
+use lf_units::{Name, Rect, Sequence};
 use std::alloc::{AllocError, Global};
 
 fn copy_name(alloc: Global, name: &Name) -> Result<Name, AllocError>
@@ -155,40 +153,26 @@ pub(crate) fn location(component: &Component) -> Option<Location>
     }
 }
 
-/// A size with width and height exchanged for E, W, FE and FW.
-fn turned_size(size: Point, orient: Orient) -> Point
-    ensures { result ≡ turned size orient }
+/// A place of the document.
+pub(crate) fn place_at(at: &Location) -> Place
+    requires { IsLocation at.now }
+    ensures { as_location result ≡ at.now }
 {
-    match orient {
-        Orient::E | Orient::W | Orient::FE | Orient::FW => Point {
-            x: size.y,
-            y: size.x,
-        },
-        Orient::N | Orient::S | Orient::FN | Orient::FS => size,
-    }
+    Place::new(at.x, at.y, at.orient)
 }
 
 /// The box of the macro at the location.
 fn box_of(mac: &Macro, at: &Location, units: u32) -> Rect
-    requires most { units ≤ 20000 }
-    requires range { HasRange mac.now.size }
+    requires range { IsLocation at.now }
     requires sized { IsSizedIn units mac.now }
     ensures { result ≡ box_at (turned (size_in_dbu units mac.now.size) at.now.orient) at.now.x at.now.y }
 {
-    let size = turned_size(size_in_units(&mac.size, units), at.orient);
-    let x = i64::from(at.x);
-    let y = i64::from(at.y);
-    Rect {
-        x1: x,
-        y1: y,
-        x2: x + size.x,
-        y2: y + size.y,
-    }
+    macro_box(&mac.size, units, &place_at(at))
 }
 
 /// The box of a FIXED component.
 fn fixed_box(library: &Library, component: &Component, units: u32) -> Option<Rect>
-    requires most { units ≤ 20000 }
+    requires range { IsComponent component.now }
     requires sized { FixedIsSized library.now units component.now }
     ensures { result ≡ fixed_box_of library.now units component.now }
 {
@@ -211,7 +195,7 @@ pub(crate) fn fixed_boxes(
     components: &[Component],
     units: u32,
 ) -> Result<Sequence<Rect>, AllocError>
-    requires most { units ≤ 20000 }
+    requires range { All IsComponent components.now }
     requires sized { All (FixedIsSized library.now units) components.now }
     ensures { IfOk result (λ boxes. boxes ≡ filter_map (fixed_box_of library.now units) components.now) }
 {

@@ -1,7 +1,6 @@
 //! Loading a design: the frame, what every team sees and no command changes, and the movable cells.
 #![tactic(auto)]
 
-mod assembled;
 mod cells;
 mod copies;
 mod laws;
@@ -10,6 +9,7 @@ mod loading;
 pub use laws::positions_play_no_part;
 pub use lf_floorplan::{
     Cell, Frame, Header, Limits, Loaded, Macro, Place, Row, Site, Team, cell_is_sized, is_sized,
-    mac_at, point_has_one_team, size_turns_back, standing_is_one, teams_stay_apart,
+    mac_at, obstacles_stay_near, point_has_one_team, size_turns_back, standing_is_one,
+    teams_stay_apart,
 };
 pub use loading::load;

@@ -1,26 +1,24 @@
 //! Loading: a design from the library of the LEF texts and the document of the DEF text.
 
-ghost use Rattle.std.specs.Prelude.{◌≡◌, ◌≤◌, ◌++◌, ◌⊎◌, IfOk, IfErr, All, filter_map, flat_map};
+ghost use Rattle.std.specs.Prelude.{◌≡◌, ◌++◌, ◌⊎◌, IfOk, IfErr, All, filter_map, flat_map};
 ghost use Rattle.lf_lex.specs.declared.fault.ReadError.TheVariants.{Memory};
 ghost use Rattle.lf_lex.specs.Faults.{load_fault_of};
-ghost use Rattle.lf_frame.specs.Premise.{MakeFrame};
 ghost use Rattle.lf_floorplan.specs.Design.{MakeDesign};
-ghost use Rattle.lf_claims.specs.Claims.{IsTableOf};
+ghost use Rattle.lf_claims.specs.ClaimTables.{IsTableOf};
 ghost use Rattle.lf_refusals.specs.Findings.{inputs, units_in, IsAccepted, IsFault};
-ghost use Rattle.lf_frame.specs.Loads.{fixed_box, blocked, FixedIsSized, AreInRange, ArePartsOf, IsFrameOf, IsLoadedFrom};
+ghost use Rattle.lf_frame.specs.Loads.{fixed_box, blocked, FixedIsSized, AreInRange, IsFrameOf, IsLoadedFrom};
 
-use crate::assembled::Parts;
 use crate::cells::movable_cells;
 use crate::copies::{
     copy_header, copy_macros, copy_site, fence_teams, fixed_boxes, heeded_rows, push_blockages,
 };
 use lf_claims::{ClaimTable, claim_table};
 use lf_def::DefDoc;
-use lf_floorplan::{Cell, Frame, Limits, Loaded, Site};
+use lf_floorplan::{Cell, Frame, Limits, Loaded};
 use lf_lef::Library;
 use lf_lex::{LoadFault, ReadError};
 use lf_refusals::{core_pitch, first_refusal, sized_core_site, units_of};
-use lf_units::{Point, Rect, Sequence};
+use lf_units::{Rect, Sequence};
 use std::alloc::{AllocError, Global};
 
 /// What the library and the document keep in their types.
@@ -39,59 +37,12 @@ fn obstacles_of(
     document: &DefDoc,
     units: u32,
 ) -> Result<Sequence<Rect>, AllocError>
-    requires most { units ≤ 20000 }
     requires sized { All (FixedIsSized library.now units) document.now.components }
     ensures { IfOk result (λ obstacles. obstacles ≡ filter_map (fixed_box library.now units) document.now.components ++ flat_map blocked document.now.blockages) }
 {
     let mut obstacles = fixed_boxes(alloc, library, document.components.as_slice(), units)?;
     push_blockages(document.blockages.as_slice(), &mut obstacles)?;
     Ok(obstacles)
-}
-
-/// The parts of the frame.
-fn parts_of(
-    alloc: Global,
-    library: &Library,
-    document: &DefDoc,
-    limits: &Limits,
-    core: &Site,
-) -> Result<Parts, AllocError>
-    requires sized { All (FixedIsSized library.now (units_in (inputs library.now document.now limits.now))) document.now.components }
-    ensures { IfOk result (λ parts. ArePartsOf (inputs library.now document.now limits.now) core.now parts) }
-{
-    let units = units_of(document);
-    Ok(Parts {
-        site: copy_site(alloc, core)?,
-        rows: heeded_rows(alloc, document.rows.as_slice(), core)?,
-        teams: fence_teams(alloc, document.regions.as_slice())?,
-        obstacles: obstacles_of(alloc, library, document, units)?,
-        macros: copy_macros(alloc, library.macros())?,
-        header: copy_header(alloc, &document.header, units)?,
-        limits: *limits,
-    })
-}
-
-/// The frame of these parts, whose core site has this size in database units.
-fn frame_from(parts: Parts, pitch: Point) -> Frame
-    requires { MakeFrame parts pitch }
-    ensures site { result.site ≡ parts.site }
-    ensures rows { result.rows ≡ parts.rows }
-    ensures teams { result.teams ≡ parts.teams }
-    ensures obstacles { result.obstacles ≡ parts.obstacles }
-    ensures macros { result.macros ≡ parts.macros }
-    ensures header { result.header ≡ parts.header }
-    ensures limits { result.limits ≡ parts.limits }
-{
-    Frame {
-        site: parts.site,
-        pitch,
-        rows: parts.rows,
-        teams: parts.teams,
-        obstacles: parts.obstacles,
-        macros: parts.macros,
-        header: parts.header,
-        limits: parts.limits,
-    }
 }
 
 /// The frame of a library and a document in which no refusal finds anything.
@@ -106,9 +57,18 @@ fn frame_of(
 {
     ranges_kept(library, document, limits);
     let core = sized_core_site(library, document.rows.as_slice()).unwrap();
-    let pitch = core_pitch(core, units_of(document)).unwrap();
-    let parts = parts_of(alloc, library, document, limits, core)?;
-    Ok(frame_from(parts, pitch))
+    let units = units_of(document);
+    let pitch = core_pitch(core, units).unwrap();
+    Ok(Frame {
+        site: copy_site(alloc, core)?,
+        pitch: pitch.size,
+        rows: heeded_rows(alloc, document.rows.as_slice(), core)?,
+        teams: fence_teams(alloc, document.regions.as_slice())?,
+        obstacles: obstacles_of(alloc, library, document, units)?,
+        macros: copy_macros(alloc, library.macros())?,
+        header: copy_header(alloc, &document.header, units)?,
+        limits: *limits,
+    })
 }
 
 /// The design of this frame and these cells.

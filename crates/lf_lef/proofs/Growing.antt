@@ -1,13 +1,8 @@
 -- A library that grows begins with what it was.
-use Rattle.std.proofs.Common.{◌≡◌, ◌≤◌, List, length, take, Result, refl, sym, ap, ◌∙◌, arith}
+use Rattle.std.proofs.Common.{◌≡◌, ◌≤◌, List, length, take, sym, ap, ◌∙◌, arith}
 use Rattle.std.proofs.lemmas.List.{length-take, take-take}
 use Rattle.std.proofs.Math.Seq.{take-length}
-use Rattle.lf_lex.specs.declared.fault.ReadFault.{ReadFault}
-use Rattle.lf_lex.specs.declared.fault.ReadError.{ReadError}
-use Rattle.lf_lex.specs.declared.fault.ReadError.TheVariants.{Memory, Fault}
-use Rattle.lf_lex.specs.Reading.{Taken, Fails}
 use Rattle.lf_lef.specs.Contents.{Contents, BeginsWith}
-use Rattle.lf_lef.specs.Library.{value_of}
 
 pub same_contents : (c : Contents) → BeginsWith c c
 same_contents c = record { sites = take-length c.sites; macros = take-length c.macros }
@@ -20,7 +15,3 @@ through a b c e f = sym (take-take (length a) (length b) c (shorter a b e)) ∙ 
 
 pub grown_twice : (a b c : Contents) → BeginsWith a b → BeginsWith b c → BeginsWith a c
 grown_twice a b c e f = record { sites = through a.sites b.sites c.sites e.sites f.sites; macros = through a.macros b.macros c.macros e.macros f.macros }
-
-pub fails_too : {A : Type 0} (e : ReadError) (r : Result (Taken A) ReadFault) → Fails e r → Fails e (value_of r)
-fails_too Memory r h = tt
-fails_too (Fault f) r h = rw h refl

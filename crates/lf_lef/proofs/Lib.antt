@@ -1,7 +1,10 @@
 pub mod Following
 pub mod Growing
 pub mod Lists
-pub mod Printing
+pub mod PrintedLibrary
+pub mod PrintedLengths
+pub mod PrintedMacros
+pub mod PrintedSites
 pub mod Ranges
 pub mod Standing
 pub mod Whole

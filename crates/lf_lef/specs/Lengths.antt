@@ -1,12 +1,10 @@
 -- Lengths and points of LEF, in millionths of a micron.
-use Rattle.std.specs.Prelude.{ℕ, ◌^◌, ℤ, pos, negsuc, ◌≤ℤ◌, Result, Ok, Err, codes, if◌then◌else◌}
+use Rattle.std.specs.Prelude.{◌^◌, ℤ, pos, negsuc, ◌≤ℤ◌, Result, codes, if◌then◌else◌}
 use Rattle.lf_units.specs.declared.area.Point.{Point}
-use Rattle.lf_units.specs.declared.number.NumberFault.{NumberFault}
 use Rattle.lf_units.specs.Number.{fixed_of}
-use Rattle.lf_lex.specs.declared.fault.FaultNumber.TheVariants.{BadNumber}
 use Rattle.lf_lex.specs.declared.fault.ReadFault.{ReadFault}
 use Rattle.lf_lex.specs.Tokens.{Lexeme}
-use Rattle.lf_lex.specs.Reading.{◌>>=◌, Reader, taken, fault_at, token, is, keyword}
+use Rattle.lf_lex.specs.Reading.{◌>>=◌, Reader, taken, token, is, keyword, or_bad_number}
 
 -- a length lies between -1,000,000 and 1,000,000 microns
 pub record IsInRange (length : ℤ) : Type 0 where
@@ -17,10 +15,6 @@ pub record IsInRange (length : ℤ) : Type 0 where
 pub record HasRange (p : Point) : Type 0 where
   pub x : IsInRange p.x
   pub y : IsInRange p.y
-
-abbrev pub or_bad_number : Result ℤ NumberFault → ℕ → Result ℤ ReadFault
-or_bad_number (Ok x) line = Ok x
-or_bad_number (Err e) line = fault_at BadNumber line
 
 -- the length that the token writes; six decimals of a micron are kept
 abbrev pub micros_of : Lexeme → Result ℤ ReadFault
@@ -36,7 +30,8 @@ micros l = do
 -- a point, of which the first token was read: x y, or ( x y )
 unfoldable pub point_from : Lexeme → Reader Point
 point_from t l =
-    if is (codes "(") t then (micros l >>= λ x. micros x.rest >>= λ y. keyword (codes ")") y.rest >>= λ stop. taken (record { x = x.value; y = y.value }) stop.rest)
+    if is (codes "(") t then (micros l >>= λ x. micros x.rest >>= λ y. keyword (codes ")") y.rest >>= λ stop.
+    taken (record { x = x.value; y = y.value }) stop.rest)
     else (micros_of t >>= λ x. micros l >>= λ y. taken (record { x = x; y = y.value }) y.rest)
 
 -- a point

@@ -6,4 +6,6 @@ pub mod MacroRange
 pub mod Macros
 pub mod Pins
 pub mod Printed
+pub mod PrintedMacros
+pub mod PrintedSites
 pub mod Sites

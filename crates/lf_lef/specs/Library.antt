@@ -7,7 +7,8 @@ use Rattle.lf_lex.specs.declared.fault.LoadFault.{LoadFault}
 use Rattle.lf_lex.specs.declared.fault.ReadError.TheVariants.{Memory, Fault}
 use Rattle.lf_lex.specs.Faults.{load_fault_of}
 use Rattle.lf_lex.specs.Tokens.{Lexeme, tokens_of}
-use Rattle.lf_lex.specs.Reading.{◌>>=◌, Reader, Statement, Taken, Turn, taken, goes_on, ends, fault_at, next, is, name, end_name, to_semicolon, to_end, to_word, block}
+use Rattle.lf_lex.specs.Reading.{◌>>=◌, Reader, Statement, Turn, taken, goes_on, ends, fault_at, next, is, name, end_name, to_semicolon, to_end, to_word, block}
+use Rattle.lf_lex.specs.Reading.{value_of}
 use Rattle.lf_lef.specs.Contents.{Contents, site_names, macro_names}
 use Rattle.lf_lef.specs.Sites.{site_parts, site_of}
 use Rattle.lf_lef.specs.Macros.{macro_parts, macro_of}
@@ -44,7 +45,8 @@ is_named t = is (codes "LAYER") t || is (codes "VIA") t || is (codes "VIARULE") 
 
 -- what is passed over to END and its keyword (LEF UNITS, PROPERTYDEFINITIONS, SPACING and groups of older texts)
 abbrev pub is_group : Lexeme → Bool
-is_group t = is (codes "UNITS") t || is (codes "PROPERTYDEFINITIONS") t || is (codes "SPACING") t || is (codes "IRDROP") t || is (codes "NOISETABLE") t || is (codes "CORRECTIONTABLE") t
+is_group t = is (codes "UNITS") t || is (codes "PROPERTYDEFINITIONS") t || is (codes "SPACING") t || is (codes "IRDROP") t || is (codes "NOISETABLE") t || is
+    (codes "CORRECTIONTABLE") t
 
 -- the name, and all up to END and that name
 unfoldable pub to_named_end : Reader (Unit {0})
@@ -82,10 +84,6 @@ statement c l = do
 -- what a library holds after a text, and what is left behind its END LIBRARY
 abbrev pub library : Contents → Reader Contents
 library c l = block statement c l
-
-abbrev pub value_of : {A : Type 0} → Result (Taken A) ReadFault → Result A ReadFault
-value_of (Ok x) = Ok x.value
-value_of (Err e) = Err e
 
 -- What a library holds after a text is read into it, or the text's first fault.
 abbrev pub library_after : Contents → List ℕ → Result Contents ReadFault

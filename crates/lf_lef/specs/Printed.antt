@@ -1,20 +1,21 @@
 -- LEF statements as they are printed, word by word; any white space and comments may stand between the words.
-use Rattle.std.specs.Prelude.{◌≡◌, ◌≢◌, ℕ, ◌^◌, ◌≤◌, ◌<◌, List, [], ◌∷◌, ◌++◌, length, map, ℤ, None, Some, Ok, codes, if◌then◌else◌}
+use Rattle.std.specs.Prelude.{◌≡◌, ◌≢◌, ℕ, ◌^◌, ◌≤◌, ◌<◌, List, [], ◌∷◌, ◌++◌, length, map, All, ℤ, None, Some, Ok, codes, if◌then◌else◌}
 use Rattle.std.specs.Str.{bytes_eq}
 use Rattle.lf_units.specs.Number.{fixed_of}
 use Rattle.lf_orient.specs.declared.Symmetry.{Symmetry}
 use Rattle.lf_names.specs.Names.{position_of}
-use Rattle.lf_lex.specs.Tokens.{Lexed, Lexeme, plain, with_tokens}
+use Rattle.lf_lex.specs.Tokens.{Lexed, Lexeme, Plain, plain, with_tokens}
 use Rattle.lf_lex.specs.Splices.{word_of}
+use Rattle.lf_lex.specs.Passing.{HaveNowhere}
 use Rattle.lf_floorplan.specs.declared.sites.Site.{Site}
 use Rattle.lf_floorplan.specs.declared.macros.Macro.{Macro}
 use Rattle.lf_lef.specs.Contents.{Contents, site_names, macro_names}
 use Rattle.lf_lef.specs.Pins.{rail_of, reach_of, use_named}
 use Rattle.lf_lef.specs.Library.{library}
 
--- the tokens are these words, wherever they stand
-abbrev pub Spells : List Lexeme → List (List ℕ) → Type 0
-Spells tokens words = map plain tokens ≡ map word_of words
+-- the tokens are these, wherever they stand
+abbrev pub Spells : List Lexeme → List Plain → Type 0
+Spells tokens printed = map plain tokens ≡ printed
 
 -- the word writes the length
 abbrev pub Writes : List ℕ → ℤ → Type 0
@@ -101,83 +102,73 @@ group_word ir_drop = codes "IRDROP"
 group_word noise_table = codes "NOISETABLE"
 group_word correction_table = codes "CORRECTIONTABLE"
 
--- a statement that says nothing of sites and macros
+-- words and quoted texts, and a semicolon
+abbrev pub with_semicolon : List Plain → List Plain
+with_semicolon tokens = tokens ++ word_of (codes ";") ∷ []
+
+-- The statement is passed over up to its semicolon: it has no other, and begins with none of the words that begin
+-- a statement that is read otherwise. A semicolon alone is one too.
+abbrev pub IsPassedOver : List (List ℕ) → List Plain → Type 0
+IsPassedOver others [] = Unit {0}
+IsPassedOver others (t ∷ ts) = All (λ word. t.text ≢ word) others × HaveNowhere (codes ";" ∷ []) (t ∷ ts)
+
+-- a statement that says nothing of sites and macros, with any words and quoted texts
 pub data Passed : Type 0 where
-  -- a semicolon alone
-  empty : Passed
-  -- a first word, and all up to a semicolon
-  plain_statement : List ℕ → List (List ℕ) → Passed
+  -- all up to a semicolon
+  plain_statement : List Plain → Passed
   -- a keyword and a name, what stands in between, END and the name
-  named : NamedGroup → List ℕ → List (List ℕ) → Passed
+  named : NamedGroup → List ℕ → List Plain → Passed
   -- a keyword, what stands in between, END and the keyword
-  grouped : Group → List (List ℕ) → Passed
+  grouped : Group → List Plain → Passed
   -- BEGINEXT, what stands in between, ENDEXT
-  extension : List (List ℕ) → Passed
+  extension : List Plain → Passed
 
-abbrev pub passed_words : Passed → List (List ℕ)
-passed_words empty = codes ";" ∷ []
-passed_words (plain_statement w ws) = w ∷ ws
-passed_words (named keyword name between) = named_word keyword ∷ name ∷ (between ++ end_words name)
-passed_words (grouped keyword between) = group_word keyword ∷ (between ++ end_words (group_word keyword))
-passed_words (extension between) = codes "BEGINEXT" ∷ (between ++ codes "ENDEXT" ∷ [])
+abbrev pub passed_tokens : Passed → List Plain
+passed_tokens (plain_statement tokens) = with_semicolon tokens
+passed_tokens (named keyword name between) = word_of (named_word keyword) ∷ word_of name ∷ (between ++ map word_of (end_words name))
+passed_tokens (grouped keyword between) = word_of (group_word keyword) ∷ (between ++ map word_of (end_words (group_word keyword)))
+passed_tokens (extension between) = word_of (codes "BEGINEXT") ∷ (between ++ word_of (codes "ENDEXT") ∷ [])
 
--- a word that begins none of the statements that are read otherwise
-abbrev pub IsOther : List ℕ → Type 0
-IsOther w =
-    (w ≢ codes "END") × (w ≢ codes "SITE") × (w ≢ codes "MACRO")
-    × (w ≢ codes "LAYER") × (w ≢ codes "VIA") × (w ≢ codes "VIARULE") × (w ≢ codes "NONDEFAULTRULE") × (w ≢ codes "ARRAY")
-    × (w ≢ codes "UNITS") × (w ≢ codes "PROPERTYDEFINITIONS") × (w ≢ codes "SPACING") × (w ≢ codes "IRDROP") × (w ≢ codes "NOISETABLE") × (w ≢ codes "CORRECTIONTABLE")
-    × (w ≢ codes "BEGINEXT") × (w ≢ codes ";")
+-- the words that begin a statement which is not passed over up to a semicolon
+abbrev pub other_statements : List (List ℕ)
+other_statements =
+    codes "END" ∷ codes "SITE" ∷ codes "MACRO" ∷ codes "LAYER" ∷ codes "VIA" ∷ codes "VIARULE" ∷ codes "NONDEFAULTRULE" ∷ codes "ARRAY"
+    ∷ codes "UNITS" ∷ codes "PROPERTYDEFINITIONS" ∷ codes "SPACING" ∷ codes "IRDROP" ∷ codes "NOISETABLE" ∷ codes "CORRECTIONTABLE" ∷ codes "BEGINEXT" ∷ []
 
--- words of which the last, and no other, is a semicolon
-abbrev pub EndAtSemicolon : List (List ℕ) → Type 0
-EndAtSemicolon [] = ⊥
-EndAtSemicolon (w ∷ []) = w ≡ codes ";"
-EndAtSemicolon (w ∷ (v ∷ ws)) = (w ≢ codes ";") × EndAtSemicolon (v ∷ ws)
-
--- none of the words is this one
-abbrev pub HaveNo : List ℕ → List (List ℕ) → Type 0
-HaveNo word [] = Unit {0}
-HaveNo word (w ∷ ws) = (w ≢ word) × HaveNo word ws
-
--- the statement ends with its last word and not before
+-- the statement ends with its last word and not before: END and the name stand nowhere one directly behind the other before that
 abbrev pub IsWhole : Passed → Type 0
-IsWhole empty = Unit {0}
-IsWhole (plain_statement w ws) = IsOther w × EndAtSemicolon ws
-IsWhole (named keyword name between) = IsPrintable name × HaveNo (codes "END") between
-IsWhole (grouped keyword between) = HaveNo (codes "END") between
-IsWhole (extension between) = HaveNo (codes "ENDEXT") between
+IsWhole (plain_statement tokens) = IsPassedOver other_statements tokens
+IsWhole (named keyword name between) = IsPrintable name × HaveNowhere (codes "END" ∷ name ∷ []) (between ++ word_of (codes "END") ∷ [])
+IsWhole (grouped keyword between) = HaveNowhere (codes "END" ∷ group_word keyword ∷ []) between
+IsWhole (extension between) = HaveNowhere (codes "ENDEXT" ∷ []) between
 
--- each of the statements is whole
-abbrev pub AreWhole : List Passed → Type 0
-AreWhole [] = Unit {0}
-AreWhole (p ∷ ps) = IsWhole p × AreWhole ps
-
--- the words of the statements, one behind the other, and then these
-abbrev pub words_behind : List Passed → List (List ℕ) → List (List ℕ)
-words_behind [] words = words
-words_behind (p ∷ ps) words = passed_words p ++ words_behind ps words
+-- the statements one behind the other, and then these tokens
+abbrev pub tokens_behind : List Passed → List Plain → List Plain
+tokens_behind [] tokens = tokens
+tokens_behind (p ∷ ps) tokens = passed_tokens p ++ tokens_behind ps tokens
 
 -- What is read.
 
 -- statements that are passed over play no part, whatever stands behind
 abbrev pub PassesOver : Contents → Type 0
-PassesOver c = (passed : List Passed) (tokens : List Lexeme) (behind : Lexed) → AreWhole passed → Spells tokens (words_behind passed []) → library c (with_tokens tokens behind) ≡ library c behind
+PassesOver c = (passed : List Passed) (tokens : List Lexeme) (behind : Lexed) → All IsWhole passed → Spells tokens (tokens_behind passed [])
+    → library c (with_tokens tokens behind) ≡ library c behind
 
 -- a printed site of a name that is new is read back, behind statements that are passed over and whatever stands behind it
 abbrev pub ReadsSite : Contents → Site → Type 0
 ReadsSite c s = (passed : List Passed) (class w h : List ℕ) (tokens : List Lexeme) (behind : Lexed)
-    → AreWhole passed → IsPrintable s.name → class ≢ codes ";" → bytes_eq class (codes "CORE") ≡ s.core → Writes w s.size.x → Writes h s.size.y
+    → All IsWhole passed → IsPrintable s.name → class ≢ codes ";" → bytes_eq class (codes "CORE") ≡ s.core → Writes w s.size.x → Writes h s.size.y
     → position_of (site_names c.sites) s.name ≡ None → length c.sites < 1000000
-    → Spells tokens (words_behind passed (site_words s.name class s.symmetry w h))
+    → Spells tokens (tokens_behind passed (map word_of (site_words s.name class s.symmetry w h)))
     → library c (with_tokens tokens behind) ≡ library (record c { sites = c.sites ++ s ∷ [] }) behind
 
 -- a printed macro of a name that is new is read back with the rail that its pin gives it, behind statements that are passed over and whatever stands behind it
 abbrev pub ReadsMacro : Contents → Macro → Type 0
 ReadsMacro c m = (passed : List Passed) (x y w h pin use_word x1 y1 x2 y2 : List ℕ) (low high left right : ℤ) (tokens : List Lexeme) (behind : Lexed)
-    → AreWhole passed → IsPrintable m.name → IsPrintable pin → use_word ≢ codes ";" → Writes x m.origin.x → Writes y m.origin.y → Writes w m.size.x → Writes h m.size.y
+    → All IsWhole passed → IsPrintable m.name → IsPrintable pin → use_word ≢ codes ";" → Writes x m.origin.x → Writes y m.origin.y → Writes w m.size.x
+    → Writes h m.size.y
     → Writes x1 left → Writes y1 low → Writes x2 right → Writes y2 high
     → m.rail ≡ rail_of m.origin.y (record { supply = Some (use_named use_word); reaches = reach_of low high ∷ [] } ∷ [])
     → position_of (macro_names c.macros) m.name ≡ None → length c.macros < 1000000
-    → Spells tokens (words_behind passed (macro_words m.name x y w h m.symmetry (pin_words pin use_word x1 y1 x2 y2)))
+    → Spells tokens (tokens_behind passed (map word_of (macro_words m.name x y w h m.symmetry (pin_words pin use_word x1 y1 x2 y2))))
     → library c (with_tokens tokens behind) ≡ library (record c { macros = c.macros ++ m ∷ [] }) behind

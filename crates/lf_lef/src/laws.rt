@@ -15,6 +15,8 @@ ghost use Rattle.lf_lef.specs.Library.{statement, library};
 ghost use Rattle.lf_floorplan.specs.declared.sites.Site.{Site};
 ghost use Rattle.lf_floorplan.specs.declared.macros.Macro.{Macro};
 ghost use Rattle.lf_lef.specs.Printed.{PassesOver, ReadsSite, ReadsMacro};
+ghost use Rattle.lf_lef.specs.PrintedMacros.{MacroStatement, ReadsMacroOf};
+ghost use Rattle.lf_lef.specs.PrintedSites.{SiteStatement, ReadsSiteOf};
 ghost use Rattle.lf_lef.specs.Macros.{passed_statement, macro_statement, macro_parts};
 
 /// Each statement behind which more follow takes a token, so every block comes to its END or to a fault.
@@ -58,12 +60,19 @@ pub fn passed_over_statements_play_no_part()
     ensures { (c : Contents) → PassesOver c }
 {}
 
-/// A printed SITE is read back, alone and behind any statements that are passed over.
+/// A printed SITE is read back, alone and behind any statements that are passed over: with a CLASS, a
+/// SYMMETRY and a SIZE, and with any statements in any order.
 pub fn a_printed_site_is_read_back()
-    ensures { (c : Contents) (s : Site) → ReadsSite c s }
+    ensures three_statements { (c : Contents) (s : Site) → ReadsSite c s }
+    ensures any_statements { (c : Contents) (s : Site) (statements : List SiteStatement)
+        → ReadsSiteOf c s statements }
 {}
 
-/// A printed MACRO with one PIN is read back, alone and behind any statements that are passed over.
+/// A printed MACRO is read back, alone and behind any statements that are passed over: with one PIN, and
+/// with any statements in any order: any number of PIN and PORT, RECT with MASK and ITERATE, OBS, DENSITY,
+/// TIMING and others, which are passed over with whatever words and quoted texts they hold.
 pub fn a_printed_macro_is_read_back()
-    ensures { (c : Contents) (m : Macro) → ReadsMacro c m }
+    ensures one_pin { (c : Contents) (m : Macro) → ReadsMacro c m }
+    ensures any_statements { (c : Contents) (m : Macro) (statements : List MacroStatement)
+        → ReadsMacroOf c m statements }
 {}

@@ -1,2 +1,4 @@
 pub mod Lifting
+pub mod Members
+pub mod Others
 pub mod Searches

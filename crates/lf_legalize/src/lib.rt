@@ -2,8 +2,14 @@
 #![tactic(auto)]
 
 mod key;
+mod others;
 mod plain;
 mod search;
+mod seeker;
+mod target;
 
 pub use key::precedes;
+pub use others::boxes_beside;
 pub use plain::best_place;
+pub use seeker::{PlainSeeker, Seeker};
+pub use target::anchor;

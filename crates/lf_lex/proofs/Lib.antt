@@ -1,3 +1,5 @@
+pub mod Back
+pub mod BackWords
 pub mod Cutting
 pub mod Following
 pub mod Runs

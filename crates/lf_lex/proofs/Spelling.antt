@@ -1,18 +1,21 @@
 -- The kind of a token follows from its text.
-use Rattle.std.proofs.Common.{◌≡◌, ◌==◌, ℕ, zero, suc, ◌+◌, ◌-◌, ◌<◌, Bool, true, false, cond, List, [], ◌∷◌, length, take, drop, get_or, Option, Some, None, refl, sym, arith}
+use Rattle.std.proofs.Common.{◌≡◌, ◌==◌, ℕ, zero, suc, ◌+◌, ◌-◌, ◌<◌, Bool, true, false, cond, List, [], ◌∷◌, length, take, drop, get_or, refl, sym, arith}
 use Rattle.std.specs.Prelude.{All}
 use Rattle.std.specs.Option.{option_map_or}
 use Rattle.std.specs.List.{list_all}
 use Rattle.std.proofs.lemmas.List.Elements.{All-nil, All-cons}
 use Rattle.lf_lex.specs.declared.tokens.TokenKind.TheVariants.{Word, Quoted}
 use Rattle.lf_lex.specs.declared.tokens.LexFault.TheVariants.{BadToken, UnexpectedEnd}
-use Rattle.lf_lex.specs.Tokens.{Lexed, is_white, is_line_feed, is_word_byte, line_feeds, comment_len, word_len, quoted_len, with_token, token_at, stopped, tokens_from, kind_of, IsSpelled}
+use Rattle.lf_lex.specs.Tokens.{Lexed, is_white, is_line_feed, is_word_byte, line_feeds, comment_len, word_len, quoted_len, with_token, token_at, stopped}
+use Rattle.lf_lex.specs.Tokens.{tokens_from, kind_of, IsSpelled}
 use Rattle.lf_lex.proofs.Scanning.{first_and_rest, not_equal}
+use Rattle.lf_lex.proofs.Slices.{option_of}
 
 first_bytes : (text word : List ℕ) (at n : ℕ) → at < length text → word ≡ take (suc n) (drop at text) → (rest : List ℕ) × (word ≡ get_or text at 0 ∷ rest)
 first_bytes text word at n lt e = (take n (drop (at + 1) text), rw (e, first_and_rest text at lt) refl)
 
-first_of_slice : (text word : List ℕ) (at stop : ℕ) → at < length text → at < stop → word ≡ take (stop - at) (drop at text) → (rest : List ℕ) × (word ≡ get_or text at 0 ∷ rest)
+first_of_slice : (text word : List ℕ) (at stop : ℕ) → at < length text → at < stop → word ≡ take (stop - at) (drop at text)
+    → (rest : List ℕ) × (word ≡ get_or text at 0 ∷ rest)
 first_of_slice text word at stop lt le e =
     let n : stop - at ≡ suc (stop - (at + 1)) = omega arith in
     first_bytes text word at (stop - (at + 1)) lt (rw n at e)
@@ -26,14 +29,16 @@ quoted_spelled text word at stop line lt le quote e =
     let f = first_of_slice text word at stop lt le e in
     record { kind = sym (kind_of_first word f.0 (get_or text at 0) true f.1 (rw quote refl)); bytes = λ h. absurd cc }
 
-pub word_spelled : (text word : List ℕ) (at stop line : ℕ) → at < length text → at < stop → (get_or text at 0 ≡ 34 → ⊥) → word ≡ take (stop - at) (drop at text) → list_all is_word_byte word ≡ true
+pub word_spelled : (text word : List ℕ) (at stop line : ℕ) → at < length text → at < stop → (get_or text at 0 ≡ 34 → ⊥) → word ≡ take (stop - at) (drop at text)
+    → list_all is_word_byte word ≡ true
     → IsSpelled (record { text = word; kind = Word; start = at; stop = stop; line = line })
 word_spelled text word at stop line lt le no_quote e bytes =
     let f = first_of_slice text word at stop lt le e in
     record { kind = sym (kind_of_first word f.0 (get_or text at 0) false f.1 (not_equal _ _ no_quote)); bytes = λ _. bytes }
 
 -- a claim on a choice of five, which knows the tests for a quoted text and a word
-choice_of : (P : Lexed → Type 0) (a b c d e : Bool) (w x y z t u : Lexed) → P w → P x → P y → (d ≡ true → P z) → (d ≡ false → e ≡ true → P t) → P u → P (cond a w (cond b x (cond c y (cond d z (cond e t u)))))
+choice_of : (P : Lexed → Type 0) (a b c d e : Bool) (w x y z t u : Lexed) → P w → P x → P y → (d ≡ true → P z) → (d ≡ false → e ≡ true → P t) → P u
+    → P (cond a w (cond b x (cond c y (cond d z (cond e t u)))))
 choice_of P true b c d e w x y z t u o p q r k l = o
 choice_of P false true c d e w x y z t u o p q r k l = p
 choice_of P false false true d e w x y z t u o p q r k l = q
@@ -41,14 +46,11 @@ choice_of P false false false true e w x y z t u o p q r k l = r refl
 choice_of P false false false false true w x y z t u o p q r k l = k refl refl
 choice_of P false false false false false w x y z t u o p q r k l = l
 
-option_of : (P : Lexed → Type 0) (f : ℕ → Lexed) (o : Option ℕ) (d : Lexed) → ((n : ℕ) → P (f n)) → P d → P (option_map_or f o d)
-option_of P f None d p q = q
-option_of P f (Some n) d p q = p n
-
 quoted_at : (at line b more : ℕ) (bytes : List ℕ) → (b == 34) ≡ true → IsSpelled (token_at Quoted at line b bytes more)
 quoted_at at line b more bytes h = record { kind = rw h refl; bytes = λ k. absurd cc }
 
-word_at : (at line b more : ℕ) (bytes : List ℕ) → (b == 34) ≡ false → list_all is_word_byte (b ∷ take more bytes) ≡ true → IsSpelled (token_at Word at line b bytes more)
+word_at : (at line b more : ℕ) (bytes : List ℕ) → (b == 34) ≡ false → list_all is_word_byte (b ∷ take more bytes) ≡ true
+    → IsSpelled (token_at Word at line b bytes more)
 word_at at line b more bytes h e = record { kind = rw h refl; bytes = λ _. e }
 
 pub spelled_from : (before at line : ℕ) (bytes : List ℕ) → All IsSpelled (tokens_from before at line bytes).tokens
@@ -61,8 +63,10 @@ spelled_from zero at line (b ∷ bytes) =
     choice_of (λ x. All IsSpelled x.tokens) (is_line_feed b) (is_white b) (b == 35) (b == 34) (list_all is_word_byte (b ∷ take (word_len bytes) bytes))
     (tokens_from 0 (at + 1) (line + 1) bytes) (tokens_from 0 (at + 1) line bytes) (tokens_from (comment_len bytes) (at + 1) line bytes)
     (option_map_or quoted (quoted_len false bytes) (stopped (UnexpectedEnd (line + line_feeds bytes)) (line + line_feeds bytes)))
-    (with_token (token_at Word at line b bytes (word_len bytes)) (tokens_from (word_len bytes) (at + 1) line bytes)) (stopped (BadToken line) (line + line_feeds bytes))
+    (with_token (token_at Word at line b bytes (word_len bytes)) (tokens_from (word_len bytes) (at + 1) line bytes))
+    (stopped (BadToken line) (line + line_feeds bytes))
     (rest 0 (line + 1)) (rest 0 line) (rest (comment_len bytes) line)
     (λ h. option_of (λ x. All IsSpelled x.tokens) quoted (quoted_len false bytes) (stopped (UnexpectedEnd (line + line_feeds bytes)) (line + line_feeds bytes))
     (λ n. All-cons IsSpelled (token_at Quoted at line b bytes n) _ (quoted_at at line b n bytes h) (rest n line)) (All-nil IsSpelled))
-    (λ h e. All-cons IsSpelled (token_at Word at line b bytes (word_len bytes)) _ (word_at at line b (word_len bytes) bytes h e) (rest (word_len bytes) line)) (All-nil IsSpelled)
+    (λ h e. All-cons IsSpelled (token_at Word at line b bytes (word_len bytes)) _ (word_at at line b (word_len bytes) bytes h e) (rest (word_len bytes) line))
+    (All-nil IsSpelled)

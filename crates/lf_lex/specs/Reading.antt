@@ -1,5 +1,6 @@
 -- Reading a list of tokens from its front: a value and the tokens behind it, or the first fault with its line.
-use Rattle.std.specs.Prelude.{◌≡◌, ℕ, zero, suc, ◌<◌, ◌≤◌, nat_lt, Bool, true, false, ◌&&◌, not, List, [], ◌∷◌, length, Option, Some, None, Result, Ok, Err, codes, if◌then◌else◌}
+use Rattle.std.specs.Prelude.{◌≡◌, ℕ, zero, suc, ◌<◌, ◌≤◌, nat_lt, Bool, true, false, ◌&&◌, not, List, [], ◌∷◌, length, Option, Some, None, Result, Ok, Err}
+use Rattle.std.specs.Prelude.{codes, if◌then◌else◌}
 use Rattle.std.specs.Str.{bytes_eq}
 use Rattle.std.specs.List.{list_all}
 use Rattle.lf_lex.specs.declared.tokens.TokenKind.{TokenKind}
@@ -7,7 +8,7 @@ use Rattle.lf_lex.specs.declared.tokens.TokenKind.TheVariants.{Word, Quoted}
 use Rattle.lf_lex.specs.declared.tokens.LexFault.{LexFault}
 use Rattle.lf_lex.specs.declared.tokens.LexFault.TheVariants as lex
 use Rattle.lf_lex.specs.declared.fault.FaultNumber.{FaultNumber}
-use Rattle.lf_lex.specs.declared.fault.FaultNumber.TheVariants.{BadToken, UnexpectedEnd, Unexpected, WrongEnd, TooMany}
+use Rattle.lf_lex.specs.declared.fault.FaultNumber.TheVariants.{BadToken, UnexpectedEnd, Unexpected, BadNumber, WrongEnd, TooMany}
 use Rattle.lf_lex.specs.declared.fault.ReadFault.{ReadFault}
 use Rattle.lf_lex.specs.declared.fault.ReadError.{ReadError}
 use Rattle.lf_lex.specs.declared.fault.ReadError.TheVariants.{Memory, Fault}
@@ -34,6 +35,16 @@ taken x rest = Ok (record { value = x; rest = rest })
 -- the fault of that number at a line
 abbrev pub fault_at : {A : Type 0} → FaultNumber → ℕ → Result A ReadFault
 fault_at number line = Err (record { number = number; line = line })
+
+-- the number that was read, else BadNumber at the line
+abbrev pub or_bad_number : {A E : Type 0} → Result A E → ℕ → Result A ReadFault
+or_bad_number (Ok x) line = Ok x
+or_bad_number (Err e) line = fault_at BadNumber line
+
+-- the value alone
+abbrev pub value_of : {A : Type 0} → Result (Taken A) ReadFault → Result A ReadFault
+value_of (Ok x) = Ok x.value
+value_of (Err e) = Err e
 
 -- the error of a function that met the fault
 abbrev pub error_at : FaultNumber → ℕ → ReadError
@@ -198,6 +209,11 @@ abbrev pub Fails : {A : Type 0} → ReadError → Result A ReadFault → Type 0
 Fails Memory reading = Unit {0}
 Fails (Fault f) reading = reading ≡ Err f
 
+-- the error is a fault of the text: what takes no memory never answers want of it
+abbrev pub IsFault : ReadError → Type 0
+IsFault Memory = ⊥
+IsFault (Fault f) = Unit {0}
+
 -- A function answered what reading gives, its value seen by view, unless memory ran out; and at least one token was taken.
 abbrev pub Reads : {X Y : Type 0} → (X → Y) → Result X ReadError → Reader Y → Lexed → Lexed → Type 0
 Reads view (Ok x) reader old new = (reader old ≡ taken (view x) new) × (length new.tokens < length old.tokens)
@@ -210,7 +226,8 @@ ReadsOn view (Err e) reader old new = Fails e (reader old)
 
 -- the same for a statement that may be the end of the text: where more follow, a token was taken
 abbrev pub ReadsTurn : {S : Type 0} → (Bool → Turn S) → Result Bool ReadError → Reader (Turn S) → Lexed → Lexed → Type 0
-ReadsTurn view (Ok more) reader old new = (reader old ≡ taken (view more) new) × (length new.tokens ≤ length old.tokens) × (more ≡ true → length new.tokens < length old.tokens)
+ReadsTurn view (Ok more) reader old new = (reader old ≡ taken (view more) new) × (length new.tokens ≤ length old.tokens)
+    × (more ≡ true → length new.tokens < length old.tokens)
 ReadsTurn view (Err e) reader old new = Fails e (reader old)
 
 -- a turn of a block, given whether more follow

@@ -1,12 +1,12 @@
 //! The words by which LEF and DEF are read, token by token.
 
-ghost use Rattle.std.specs.Prelude.{◌≡◌, ◌<◌, ◌≤◌, length, true, false, IfOk, MatchResult, OnSome};
+ghost use Rattle.std.specs.Prelude.{◌≡◌, ◌<◌, ◌≤◌, length, true, false, IfOk, IfErr, MatchResult, OnSome};
 ghost use Rattle.std.specs.Option.{option_map};
 ghost use Rattle.std.specs.List.{list_all};
 ghost use Rattle.lf_lex.specs.Tokens.{lexeme, is_word_byte, IsSpelled};
 ghost use Rattle.lf_lex.specs.declared.fault.FaultNumber.TheVariants.{Unexpected};
 ghost use Rattle.lf_lex.specs.Reading as reading;
-ghost use Rattle.lf_lex.specs.Reading.{Reads, Fails, IsName, turn, taken};
+ghost use Rattle.lf_lex.specs.Reading.{Reads, Fails, IsFault, IsName, turn, taken};
 
 use crate::fault::{FaultNumber, ReadError, ReadFault};
 use crate::lexer::Lexer;
@@ -38,6 +38,7 @@ fn unexpected(found: &Token) -> ReadError
 /// The next token; UnexpectedEnd at the end of the text.
 pub fn token<'a>(lexer: &mut Lexer<'a>) -> Result<Token<'a>, ReadError>
     ensures read { Reads lexeme result reading.token lexer.old lexer.new }
+    ensures fault { IfErr result IsFault }
     ensures spelled { IfOk result (λ t. IsSpelled (lexeme t)) }
 {
     match lexer.next_token() {
@@ -49,10 +50,11 @@ pub fn token<'a>(lexer: &mut Lexer<'a>) -> Result<Token<'a>, ReadError>
 
 /// The next token, or None at the end of the text.
 pub fn next<'a>(lexer: &mut Lexer<'a>) -> Result<Option<Token<'a>>, ReadError>
-    ensures { MatchResult result
+    ensures read { MatchResult result
         (λ t. (reading.next lexer.old ≡ taken (option_map lexeme t) lexer.new) × OnSome t
         (length lexer.new.tokens < length lexer.old.tokens)) (λ e. Fails e
         (reading.next lexer.old)) }
+    ensures fault { IfErr result IsFault }
 {
     match lexer.next_token() {
         Ok(token) => Ok(token),
@@ -87,7 +89,8 @@ pub fn is_word(token: &Token) -> bool
 /// Past the token that is due, else Unexpected.
 #[tactic(auto, unfolding(crate::specs::Reading::keyword))]
 pub fn keyword(lexer: &mut Lexer, due: &[u8]) -> Result<(), ReadError>
-    ensures { Reads (λ x. x) result (reading.keyword due.now) lexer.old lexer.new }
+    ensures read { Reads (λ x. x) result (reading.keyword due.now) lexer.old lexer.new }
+    ensures fault { IfErr result IsFault }
 {
     let given = token(lexer)?;
     if is(due, &given) {
@@ -101,6 +104,7 @@ pub fn keyword(lexer: &mut Lexer, due: &[u8]) -> Result<(), ReadError>
 #[tactic(auto, unfolding(crate::specs::Reading::word))]
 pub fn word<'a>(lexer: &mut Lexer<'a>) -> Result<Token<'a>, ReadError>
     ensures read { Reads lexeme result reading.word lexer.old lexer.new }
+    ensures fault { IfErr result IsFault }
     ensures printable { IfOk result (λ t. list_all is_word_byte (lexeme t).text ≡ true) }
 {
     let word = token(lexer)?;
@@ -115,6 +119,7 @@ pub fn word<'a>(lexer: &mut Lexer<'a>) -> Result<Token<'a>, ReadError>
 #[tactic(auto, unfolding(crate::specs::Reading::name))]
 pub fn name<'a>(lexer: &mut Lexer<'a>) -> Result<Token<'a>, ReadError>
     ensures read { Reads lexeme result reading.name lexer.old lexer.new }
+    ensures fault { IfErr result IsFault }
     ensures name { IfOk result (λ t. IsName (lexeme t).text) }
 {
     let name = word(lexer)?;
@@ -128,7 +133,8 @@ pub fn name<'a>(lexer: &mut Lexer<'a>) -> Result<Token<'a>, ReadError>
 /// Past the name that is due behind an END: WrongEnd for another word, Unexpected for a quoted text.
 #[tactic(auto, unfolding(crate::specs::Reading::end_name))]
 pub fn end_name(lexer: &mut Lexer, due: &[u8]) -> Result<(), ReadError>
-    ensures { Reads (λ x. x) result (reading.end_name due.now) lexer.old lexer.new }
+    ensures read { Reads (λ x. x) result (reading.end_name due.now) lexer.old lexer.new }
+    ensures fault { IfErr result IsFault }
 {
     let name = token(lexer)?;
     if !is_any_word(&name) {
@@ -143,7 +149,8 @@ pub fn end_name(lexer: &mut Lexer, due: &[u8]) -> Result<(), ReadError>
 
 #[tactic(auto, unfolding(crate::specs::Reading::passed_token))]
 fn passed_token(lexer: &mut Lexer) -> Result<bool, ReadError>
-    ensures { Reads (turn tt) result (reading.passed_token tt) lexer.old lexer.new }
+    ensures read { Reads (turn tt) result (reading.passed_token tt) lexer.old lexer.new }
+    ensures fault { IfErr result IsFault }
 {
     let token = token(lexer)?;
     Ok(!is(b";", &token))
@@ -151,7 +158,8 @@ fn passed_token(lexer: &mut Lexer) -> Result<bool, ReadError>
 
 /// Past the next `;`.
 pub fn to_semicolon(lexer: &mut Lexer) -> Result<(), ReadError>
-    ensures { Reads (λ x. x) result reading.to_semicolon lexer.old lexer.new }
+    ensures read { Reads (λ x. x) result reading.to_semicolon lexer.old lexer.new }
+    ensures fault { IfErr result IsFault }
 {
     while passed_token(lexer)? {}
     Ok(())
@@ -159,8 +167,9 @@ pub fn to_semicolon(lexer: &mut Lexer) -> Result<(), ReadError>
 
 #[tactic(auto, unfolding(crate::specs::Reading::passed_to_end))]
 fn passed_to_end(lexer: &mut Lexer, due: &[u8], behind_end: &mut bool) -> Result<bool, ReadError>
-    ensures { Reads (turn behind_end.new) result
+    ensures read { Reads (turn behind_end.new) result
         (reading.passed_to_end due.now behind_end.old) lexer.old lexer.new }
+    ensures fault { IfErr result IsFault }
 {
     let token = token(lexer)?;
     if *behind_end && is(due, &token) {
@@ -171,8 +180,9 @@ fn passed_to_end(lexer: &mut Lexer, due: &[u8], behind_end: &mut bool) -> Result
 }
 
 fn up_to_end(lexer: &mut Lexer, due: &[u8]) -> Result<bool, ReadError>
-    ensures { Reads (λ x. x) result
+    ensures read { Reads (λ x. x) result
         (reading.block (reading.passed_to_end due.now) false) lexer.old lexer.new }
+    ensures fault { IfErr result IsFault }
 {
     let mut behind_end = false;
     while passed_to_end(lexer, due, &mut behind_end)? {}
@@ -182,7 +192,8 @@ fn up_to_end(lexer: &mut Lexer, due: &[u8]) -> Result<bool, ReadError>
 /// Past the next END that stands directly before the name, and past that name.
 #[tactic(auto, unfolding(crate::specs::Reading::to_end))]
 pub fn to_end(lexer: &mut Lexer, due: &[u8]) -> Result<(), ReadError>
-    ensures { Reads (λ x. x) result (reading.to_end due.now) lexer.old lexer.new }
+    ensures read { Reads (λ x. x) result (reading.to_end due.now) lexer.old lexer.new }
+    ensures fault { IfErr result IsFault }
 {
     up_to_end(lexer, due)?;
     Ok(())
@@ -190,7 +201,8 @@ pub fn to_end(lexer: &mut Lexer, due: &[u8]) -> Result<(), ReadError>
 
 #[tactic(auto, unfolding(crate::specs::Reading::passed_to_word))]
 fn passed_to_word(lexer: &mut Lexer, due: &[u8]) -> Result<bool, ReadError>
-    ensures { Reads (turn tt) result (reading.passed_to_word due.now tt) lexer.old lexer.new }
+    ensures read { Reads (turn tt) result (reading.passed_to_word due.now tt) lexer.old lexer.new }
+    ensures fault { IfErr result IsFault }
 {
     let token = token(lexer)?;
     Ok(!is(due, &token))
@@ -198,7 +210,8 @@ fn passed_to_word(lexer: &mut Lexer, due: &[u8]) -> Result<bool, ReadError>
 
 /// Past the next such word.
 pub fn to_word(lexer: &mut Lexer, due: &[u8]) -> Result<(), ReadError>
-    ensures { Reads (λ x. x) result (reading.to_word due.now) lexer.old lexer.new }
+    ensures read { Reads (λ x. x) result (reading.to_word due.now) lexer.old lexer.new }
+    ensures fault { IfErr result IsFault }
 {
     while passed_to_word(lexer, due)? {}
     Ok(())

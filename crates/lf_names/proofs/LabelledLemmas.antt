@@ -9,7 +9,8 @@ use Rattle.std.proofs.lemmas.Option.{get_or_from_slice_get, slice_get_within}
 use Rattle.std.specs.Option.{option_to_list}
 use Rattle.std.specs.Prelude.{None, Some}
 use Rattle.lf_names.specs.Names.{position_of}
-use Rattle.lf_names.specs.NameParts.{Labelled, Keeps, Differ, joined, entry_of, match_of, matches_of}
+use Rattle.lf_names.specs.Labels.{Labelled, Differ, match_of, matches_of}
+use Rattle.lf_names.specs.NameParts.{Keeps, joined, entry_of}
 use Rattle.lf_names.specs.declared.name_parts.Entry.{Entry}
 use Rattle.lf_names.specs.declared.name_parts.Match.{Match}
 use Rattle.lf_names.specs.declared.name_parts.LabelledNames.{LabelledNames}

@@ -6,3 +6,5 @@ pub mod KeySets
 pub mod LabelledLemmas
 pub mod Gathered
 pub mod PartLemmas
+pub mod PartViews
+pub mod Shuffled

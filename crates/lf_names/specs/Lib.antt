@@ -2,4 +2,5 @@ pub mod Names
 pub mod Adds
 pub mod Pattern
 pub mod Places
+pub mod Labels
 pub mod NameParts

@@ -1,13 +1,15 @@
 //! Labelled names in parts, each of which is looked up by itself.
 
-ghost use Rattle.std.specs.Prelude.{◌≡◌, ◌↔◌, ◌<◌, ◌++◌, ◌∷◌, ℕ, List, [], IfOk, IfSome, IfNone, IsTrue, OnOk, map, take, drop};
+ghost use Rattle.std.specs.Prelude.{◌≡◌, ◌↔◌, ◌<◌, ◌++◌, ◌∷◌, ℕ, List, [], IfOk, IfSome, IfNone, IsTrue, OnOk, OnErr, map, take, drop};
 ghost use Rattle.std.specs.List.Sorted.{IsPermutation};
 ghost use Rattle.std.specs.Option.{option_map, option_to_list};
-ghost use Rattle.lf_names.specs.NameParts.{part_of as name_part, part_count, Labelled, Keeps, ArePartsOf, Differ, AreMatches, label_in, labels_of, matches_of};
+ghost use Rattle.lf_names.specs.Labels.{Labelled, Differ, AreMatches, label_in, labels_of, matches_of};
+ghost use Rattle.lf_names.specs.NameParts.{part_of as name_part, part_count, Keeps, ArePartsOf};
 
 use crate::lent::LentNames;
 use crate::table::Added;
 use std::alloc::{AllocError, Global};
+use std::marker::Model;
 
 /// How many parts there are: so many that the table of one part of a million names is small enough to stay close to
 /// the processor.
@@ -39,10 +41,22 @@ pub struct Match {
 
 /// A list of labelled names in parts, of which each has copies of its names. Equal names are in one part, so that
 /// names are looked up part by part, in tables that are small. That is quicker than one large table where there are
-/// many names.
+/// many names. A contract sees the list of the names with their labels, in an order of its own.
 #[derive(Drop)]
 pub struct NameParts {
     parts: Vec<LabelledNames>,
+}
+
+impl Model for NameParts {
+    ghost use Rattle.std.specs.Prelude.{List};
+    ghost use Rattle.lf_names.specs.Labels.{Labelled};
+    ghost use Rattle.lf_names.specs.NameParts.{AreParted, names_of_parts};
+
+    ghost Value = { List Labelled };
+
+    ghost view = { λ p. names_of_parts p.parts.items };
+
+    ghost invariant = { λ p. AreParted p.parts.items };
 }
 
 /// The part of a name. The hash is not that of the tables, so that the names of a part do not crowd in its table.
@@ -76,13 +90,19 @@ impl LabelledNames {
         }
     }
 
-    /// Puts a name with its label behind the others. After an `Err` the names are of no use.
+    /// Puts a name with its label behind the others. An `Err`, for want of memory or for a name of more bytes than 32
+    /// bits count, leaves the names as they are.
     fn push(&mut self, label: u32, name: &[u8]) -> Result<(), AllocError>
-        ensures { (names : List Labelled) → Keeps self.old names → OnOk result (Keeps self.new (names ++ record { label = label; name = name.now } ∷ [])) }
+        ensures ok { (names : List Labelled) → Keeps self.old names → OnOk result (Keeps self.new (names ++ record { label = label; name = name.now } ∷ [])) }
+        ensures err { (names : List Labelled) → Keeps self.old names → OnErr result (Keeps self.new names) }
     {
         let len = u32::try_from(name.len()).ok().ok_or(AllocError)?;
+        let before = self.bytes.len();
         self.bytes.extend_from_slice(name)?;
-        self.entries.push(Entry { label, len })?;
+        if self.entries.push(Entry { label, len }).is_err() {
+            self.bytes.truncate(before);
+            return Err(AllocError);
+        }
         Ok(())
     }
 }
@@ -160,27 +180,69 @@ fn match_part(
     Ok(true)
 }
 
+/// The parts of no name.
+fn empty_parts(alloc: Global) -> Result<Vec<LabelledNames>, AllocError>
+    ensures { IfOk result (λ parts. ArePartsOf [] parts.items) }
+{
+    let mut parts = Vec::with_capacity(alloc, PARTS)?;
+    for _ in 0..PARTS {
+        parts.push(LabelledNames::new(alloc))?;
+    }
+    Ok(parts)
+}
+
+/// Puts the name behind the others of its part.
+fn push_in_part(parts: &mut Vec<LabelledNames>, label: u32, name: &[u8]) -> Result<(), AllocError>
+    ensures ok { (names : List Labelled) → ArePartsOf names parts.old.items → OnOk result (ArePartsOf (names ++ record { label = label; name = name.now } ∷ []) parts.new.items) }
+    ensures err { (names : List Labelled) → ArePartsOf names parts.old.items → OnErr result (ArePartsOf names parts.new.items) }
+{
+    let Some(part) = parts.get_mut(part_of(name)) else {
+        return Ok(());
+    };
+    part.push(label, name)?;
+    Ok(())
+}
+
+/// The matches of all parts, one part behind the other; none where names of one part do not differ.
+fn match_parts(
+    alloc: Global,
+    own: &[LabelledNames],
+    asked: &[LabelledNames],
+) -> Result<Option<Vec<Match>>, AllocError>
+    ensures differ { (names questions : List Labelled) → ArePartsOf names own.now → ArePartsOf questions asked.now → IfOk result (λ answer. IfSome answer (λ matches. Differ names)) }
+    ensures matches { (names questions : List Labelled) → ArePartsOf names own.now → ArePartsOf questions asked.now → IfOk result (λ answer. IfSome answer (λ matches. AreMatches names questions matches.items)) }
+    ensures many { (names questions : List Labelled) → ArePartsOf names own.now → ArePartsOf questions asked.now → IfOk result (λ answer. IfSome answer (λ matches. IsPermutation (matches_of names questions) matches.items)) }
+    ensures none { (names questions : List Labelled) → ArePartsOf names own.now → ArePartsOf questions asked.now → IfOk result (λ answer. IfNone answer (Differ names → ⊥)) }
+{
+    let mut matches = Vec::new(alloc);
+    for (part, names) in own.iter().enumerate() {
+        let Some(questions) = asked.get(part) else {
+            return Ok(None);
+        };
+        if !match_part(alloc, names, questions, &mut matches)? {
+            return Ok(None);
+        }
+    }
+    Ok(Some(matches))
+}
+
 impl NameParts {
     /// The parts of no name.
     pub fn new(alloc: Global) -> Result<Self, AllocError>
-        ensures { IfOk result (ArePartsOf []) }
+        ensures { IfOk result (λ parts. parts ≡ []) }
     {
-        let mut parts = Vec::with_capacity(alloc, PARTS)?;
-        for _ in 0..PARTS {
-            parts.push(LabelledNames::new(alloc))?;
-        }
-        Ok(NameParts { parts })
+        Ok(NameParts {
+            parts: empty_parts(alloc)?,
+        })
     }
 
-    /// Puts the name behind the others, in its part. After an `Err`, for want of memory or for a name of more bytes
-    /// than 32 bits count, the parts are of no use.
+    /// Puts the name with its label among the others, in its part. An `Err` is for want of memory or for a name of more
+    /// bytes than 32 bits count.
     pub fn push(&mut self, label: u32, name: &[u8]) -> Result<(), AllocError>
-        ensures { (names : List Labelled) → ArePartsOf names self.old → OnOk result (ArePartsOf (names ++ record { label = label; name = name.now } ∷ []) self.new) }
+        ensures ok { OnOk result (IsPermutation (self.old ++ record { label = label; name = name.now } ∷ []) self.new) }
+        ensures err { OnErr result (self.new ≡ self.old) }
     {
-        let Some(part) = self.parts.get_mut(part_of(name)) else {
-            return Ok(());
-        };
-        part.push(label, name)?;
+        push_in_part(&mut self.parts, label, name)?;
         Ok(())
     }
 
@@ -191,20 +253,11 @@ impl NameParts {
         alloc: Global,
         asked: &NameParts,
     ) -> Result<Option<Vec<Match>>, AllocError>
-        ensures differ { (names questions : List Labelled) → ArePartsOf names self.now → ArePartsOf questions asked.now → IfOk result (λ answer. IfSome answer (λ matches. Differ names)) }
-        ensures matches { (names questions : List Labelled) → ArePartsOf names self.now → ArePartsOf questions asked.now → IfOk result (λ answer. IfSome answer (λ matches. AreMatches names questions matches.items)) }
-        ensures many { (names questions : List Labelled) → ArePartsOf names self.now → ArePartsOf questions asked.now → IfOk result (λ answer. IfSome answer (λ matches. IsPermutation (matches_of names questions) matches.items)) }
-        ensures none { (names questions : List Labelled) → ArePartsOf names self.now → ArePartsOf questions asked.now → IfOk result (λ answer. IfNone answer (Differ names → ⊥)) }
+        ensures differ { IfOk result (λ answer. IfSome answer (λ matches. Differ self.now)) }
+        ensures matches { IfOk result (λ answer. IfSome answer (λ matches. AreMatches self.now asked.now matches.items)) }
+        ensures many { IfOk result (λ answer. IfSome answer (λ matches. IsPermutation (matches_of self.now asked.now) matches.items)) }
+        ensures none { IfOk result (λ answer. IfNone answer (Differ self.now → ⊥)) }
     {
-        let mut matches = Vec::new(alloc);
-        for (part, names) in self.parts.iter().enumerate() {
-            let Some(questions) = asked.parts.get(part) else {
-                return Ok(None);
-            };
-            if !match_part(alloc, names, questions, &mut matches)? {
-                return Ok(None);
-            }
-        }
-        Ok(Some(matches))
+        match_parts(alloc, &self.parts, &asked.parts)
     }
 }

@@ -1,9 +1,10 @@
--- A place is the one at its corner.
-use Rattle.std.proofs.Common.{◌≡◌, ℕ, List, Bool, true, false, ℤ, negsuc, Some, ◌<ℤ◌, ap, refl}
+-- A place is the one at its corner, and a target the point that its coordinates write.
+use Rattle.std.proofs.Common.{◌≡◌, ℕ, List, [], ◌∷◌, Bool, true, false, ℤ, negsuc, Some, ◌<ℤ◌, ap, refl}
 use Rattle.std.proofs.Math.Dec.{T, T_prop}
 use Rattle.std.specs.Int.Signed.{lt_z, lt_z_yes}
+use Rattle.lf_units.specs.declared.area.Point.{Point}
 use Rattle.lf_floorplan.specs.declared.place.Place.{Place}
-use Rattle.lf_proto.specs.Requests.{shown, in_def, place_at, place_written, orient_named}
+use Rattle.lf_proto.specs.Requests.{shown, in_def, place_at, place_written, orient_named, target_of}
 use Rattle.lf_proto.specs.Numbers.{coordinate}
 
 -- a test that succeeds shows its fact, of which there is one proof at most
@@ -25,3 +26,7 @@ place_at-some p = rw (in_def-some p.x p.x_in_def, in_def-some p.y p.y_in_def) re
 -- three words write the place that has what each of them writes
 pub place_written-some : (x y orient : List ℕ) (p : Place) → coordinate x ≡ Some p.x → coordinate y ≡ Some p.y → orient_named orient ≡ Some p.orient → place_written x y orient ≡ Some p
 place_written-some x y orient p x_is y_is orient_is = rw (x_is, y_is, orient_is) (place_at-some p)
+
+-- two words write the target that has what each of them writes
+pub target_of-some : (x y : List ℕ) (t : Point) → coordinate x ≡ Some t.x → coordinate y ≡ Some t.y → target_of (x ∷ y ∷ []) ≡ Some t
+target_of-some x y t x_is y_is = rw (x_is, y_is) refl

@@ -9,17 +9,18 @@ use Rattle.std.specs.Char.{is_ascii_digit}
 use Rattle.std.specs.Fmt.{decimal, signed_decimal}
 use Rattle.std.specs.List.{slice_split, onto_first, list_all, join_with_byte}
 use Rattle.std.specs.Prelude.{slice_index}
+use Rattle.lf_units.specs.declared.area.Point.{Point}
 use Rattle.lf_orient.specs.declared.Orient.{Orient}
 use Rattle.lf_orient.specs.declared.Orient.TheVariants.{N, W, S, E, FN, FW, FS, FE}
 use Rattle.lf_floorplan.specs.declared.place.Place.{Place}
 use Rattle.lf_proto.proofs.Blanks.{fields-blank, line_bytes-blank}
 use Rattle.lf_proto.proofs.Digits.{all_digits, is_digit_at, Digits}
-use Rattle.lf_proto.proofs.Places.{place_written-some}
+use Rattle.lf_proto.proofs.Places.{place_written-some, target_of-some}
 use Rattle.lf_proto.specs.Lines.{is_blank, is_line_byte, fields, is_visible, IsName}
 use Rattle.lf_proto.specs.Numbers.{◌>>=◌, digits, below, session_number, negative, positive, coordinate}
-use Rattle.lf_proto.specs.Printed.{action_words, printed_fields, printed, ReadsBack}
+use Rattle.lf_proto.specs.Printed.{target_words, action_words, printed_fields, printed, ReadsBack}
 use Rattle.lf_proto.specs.ReplyText.{orient_text, place_words}
-use Rattle.lf_proto.specs.Requests.{command_in, orient_named, place_written, IsInRange, IsPlainAction, IsPlain}
+use Rattle.lf_proto.specs.Requests.{command_in, orient_named, place_written, target_of, IsInRange, IsTarget, IsPlainAction, IsPlain}
 use Rattle.lf_proto.specs.declared.request.Command.{Command}
 use Rattle.lf_proto.specs.declared.request.Command.TheVariants.{Bye, To}
 use Rattle.lf_proto.specs.declared.request.Order.TheVariants.{Open, Within}
@@ -89,6 +90,12 @@ place_written-printed p range =
     (coordinate-signed_decimal p.y p.y_in_def range.y_in_range)
     (orient_named-text p.orient)
 
+target_of-printed : (t : Point) → IsTarget t → target_of (target_words t) ≡ Some t
+target_of-printed t range =
+    target_of-some (signed_decimal t.x) (signed_decimal t.y) t
+    (coordinate-signed_decimal t.x range.x_in_range.low range.x_in_range.high)
+    (coordinate-signed_decimal t.y range.y_in_range.low range.y_in_range.high)
+
 -- the fields of what a session asks, behind the verb's name
 abbrev ReadsWithin : List ℕ → ℕ → Action (List ℕ) Place → Type 0
 ReadsWithin team session action = command_in (printed_fields (To team (Within session action))) ≡ Some (To team (Within session action))
@@ -96,14 +103,18 @@ ReadsWithin team session action = command_in (printed_fields (To team (Within se
 action-printed : (team : List ℕ) (session : ℕ) (action : Action (List ℕ) Place) → session < 2 ^ 32 → IsPlainAction action → ReadsWithin team session action
 action-printed team session Check small plain = ap (λ o. o >>= (λ n. Some (To team (Within n Check)))) (session_number-decimal session small)
 action-printed team session (Where cell) small plain = ap (λ o. o >>= (λ n. Some (To team (Within n (Where cell))))) (session_number-decimal session small)
+action-printed team session (Find cell target) small (cell_is, range) =
+    rw (session_number-decimal session small, target_of-printed target range) refl
 action-printed team session (Changing (Placing cell place)) small (cell_is, range) =
     rw (session_number-decimal session small, place_written-printed place range) refl
+action-printed team session (Changing (Legalize cell target)) small (cell_is, range) =
+    rw (session_number-decimal session small, target_of-printed target range) refl
+action-printed team session (Changing Tidy) small plain =
+    ap (λ o. o >>= (λ n. Some (To team (Within n (Changing Tidy))))) (session_number-decimal session small)
+action-printed team session (Changing (Unplace cell)) small plain =
+    ap (λ o. o >>= (λ n. Some (To team (Within n (Changing (Unplace cell)))))) (session_number-decimal session small)
 action-printed team session Close small plain = absurd plain
 action-printed team session Sync small plain = absurd plain
-action-printed team session (Find cell target) small plain = absurd plain
-action-printed team session (Changing (Legalize cell target)) small plain = absurd plain
-action-printed team session (Changing Tidy) small plain = absurd plain
-action-printed team session (Changing (Unplace cell)) small plain = absurd plain
 action-printed team session (Changing (Swap first second)) small plain = absurd plain
 action-printed team session (Changing Undo) small plain = absurd plain
 action-printed team session (Changing Commit) small plain = absurd plain
@@ -188,6 +199,12 @@ place_names place range =
     let y_is = signed_name place.y place.y_in_def range.y_in_range in
     (x_is, (y_is, (orient_name place.orient, tt)))
 
+target_names : (target : Point) → IsTarget target → AllNames (target_words target)
+target_names target range =
+    let x_is = signed_name target.x range.x_in_range.low range.x_in_range.high in
+    let y_is = signed_name target.y range.y_in_range.low range.y_in_range.high in
+    (x_is, (y_is, tt))
+
 -- the verb and its own fields are names
 abbrev ActionNames : Action (List ℕ) Place → Type 0
 ActionNames action = IsName (action_words action).0 × AllNames (action_words action).1
@@ -195,13 +212,13 @@ ActionNames action = IsName (action_words action).0 × AllNames (action_words ac
 action_names : (action : Action (List ℕ) Place) → IsPlainAction action → ActionNames action
 action_names Check plain = (record { some = omega arith; visible = refl }, tt)
 action_names (Where cell) cell_is = (record { some = omega arith; visible = refl }, (cell_is, tt))
+action_names (Find cell target) (cell_is, range) = (record { some = omega arith; visible = refl }, (cell_is, target_names target range))
 action_names (Changing (Placing cell place)) (cell_is, range) = (record { some = omega arith; visible = refl }, (cell_is, place_names place range))
+action_names (Changing (Legalize cell target)) (cell_is, range) = (record { some = omega arith; visible = refl }, (cell_is, target_names target range))
+action_names (Changing Tidy) plain = (record { some = omega arith; visible = refl }, tt)
+action_names (Changing (Unplace cell)) cell_is = (record { some = omega arith; visible = refl }, (cell_is, tt))
 action_names Close plain = absurd plain
 action_names Sync plain = absurd plain
-action_names (Find cell target) plain = absurd plain
-action_names (Changing (Legalize cell target)) plain = absurd plain
-action_names (Changing Tidy) plain = absurd plain
-action_names (Changing (Unplace cell)) plain = absurd plain
 action_names (Changing (Swap first second)) plain = absurd plain
 action_names (Changing Undo) plain = absurd plain
 action_names (Changing Commit) plain = absurd plain

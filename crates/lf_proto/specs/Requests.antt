@@ -13,14 +13,15 @@ use Rattle.lf_proto.specs.Numbers.{◌>>=◌, session_number, coordinate}
 use Rattle.lf_proto.specs.declared.line.Verb.{Verb}
 use Rattle.lf_proto.specs.declared.line.Verb.TheVariants.{Open as Opens, OfSession}
 use Rattle.lf_proto.specs.declared.line.SessionVerb.{SessionVerb}
-use Rattle.lf_proto.specs.declared.line.SessionVerb.TheVariants.{Check as Checks, Where as Asks, Place as Places}
+use Rattle.lf_proto.specs.declared.line.SessionVerb.TheVariants.{Check as Checks, Where as Asks, Find as Finds}
+use Rattle.lf_proto.specs.declared.line.SessionVerb.TheVariants.{Place as Places, Legalize as Legalizes, Tidy as Tidies, Unplace as Unplaces}
 use Rattle.lf_proto.specs.declared.request.Command.{Command}
 use Rattle.lf_proto.specs.declared.request.Command.TheVariants.{Bye, To}
 use Rattle.lf_proto.specs.declared.request.Order.TheVariants.{Open, Within}
 use Rattle.lf_proto.specs.declared.request.Action.{Action}
-use Rattle.lf_proto.specs.declared.request.Action.TheVariants.{Check, Where, Change as Changing}
+use Rattle.lf_proto.specs.declared.request.Action.TheVariants.{Check, Where, Find, Change as Changing}
 use Rattle.lf_proto.specs.declared.request.Change.{Change}
-use Rattle.lf_proto.specs.declared.request.Change.TheVariants.{Place as Placing}
+use Rattle.lf_proto.specs.declared.request.Change.TheVariants.{Place as Placing, Legalize, Tidy, Unplace}
 
 -- an orientation by its name (LEF/DEF 5.8, DEF COMPONENTS)
 abbrev pub orient_named : List ℕ → Option Orient
@@ -80,8 +81,12 @@ verb_named text =
     cond (bytes_eq text (codes "open")) (Some Opens)
     (cond (bytes_eq text (codes "check")) (Some (OfSession Checks))
     (cond (bytes_eq text (codes "where")) (Some (OfSession Asks))
+    (cond (bytes_eq text (codes "find")) (Some (OfSession Finds))
     (cond (bytes_eq text (codes "place")) (Some (OfSession Places))
-    None)))
+    (cond (bytes_eq text (codes "legalize")) (Some (OfSession Legalizes))
+    (cond (bytes_eq text (codes "tidy")) (Some (OfSession Tidies))
+    (cond (bytes_eq text (codes "unplace")) (Some (OfSession Unplaces))
+    None)))))))
 
 -- check TEAM N, behind N
 abbrev pub check_of : List (List ℕ) → Option (Action (List ℕ) Place)
@@ -93,6 +98,13 @@ abbrev pub where_of : List (List ℕ) → Option (Action (List ℕ) Place)
 where_of (cell ∷ []) = Some (Where cell)
 where_of _ = None
 
+-- find TEAM N CELL X Y, behind N
+abbrev pub find_of : List (List ℕ) → Option (Action (List ℕ) Place)
+find_of (cell ∷ fields) = do
+  target ← target_of fields
+  Some (Find cell target)
+find_of _ = None
+
 -- place TEAM N CELL X Y O, behind N
 abbrev pub placing_of : List (List ℕ) → Option (Action (List ℕ) Place)
 placing_of (cell ∷ fields) = do
@@ -100,11 +112,32 @@ placing_of (cell ∷ fields) = do
   Some (Changing (Placing cell place))
 placing_of _ = None
 
+-- legalize TEAM N CELL X Y, behind N
+abbrev pub legalize_of : List (List ℕ) → Option (Action (List ℕ) Place)
+legalize_of (cell ∷ fields) = do
+  target ← target_of fields
+  Some (Changing (Legalize cell target))
+legalize_of _ = None
+
+-- tidy TEAM N, behind N
+abbrev pub tidy_of : List (List ℕ) → Option (Action (List ℕ) Place)
+tidy_of [] = Some (Changing Tidy)
+tidy_of _ = None
+
+-- unplace TEAM N CELL, behind N
+abbrev pub unplace_of : List (List ℕ) → Option (Action (List ℕ) Place)
+unplace_of (cell ∷ []) = Some (Changing (Unplace cell))
+unplace_of _ = None
+
 -- what a session asks by a verb and the fields behind its number
 abbrev pub action_by : SessionVerb → List (List ℕ) → Option (Action (List ℕ) Place)
 action_by Checks = check_of
 action_by Asks = where_of
+action_by Finds = find_of
 action_by Places = placing_of
+action_by Legalizes = legalize_of
+action_by Tidies = tidy_of
+action_by Unplaces = unplace_of
 
 -- ---- the lines
 
@@ -144,19 +177,34 @@ pub record IsInRange (place : Place) : Type 0 where
   pub x_in_range : place.x <ℤ pos (2 ^ 31)
   pub y_in_range : place.y <ℤ pos (2 ^ 31)
 
+-- a coordinate that a line can write: from -2147483647 to 2147483647
+pub record IsCoordinate (z : ℤ) : Type 0 where
+  pub low : negsuc 2147483647 <ℤ z
+  pub high : z <ℤ pos (2 ^ 31)
+
+-- a target that a line can write
+pub record IsTarget (target : Point) : Type 0 where
+  pub x_in_range : IsCoordinate target.x
+  pub y_in_range : IsCoordinate target.y
+
 -- a change that a line can ask
 abbrev pub IsPlainChange : Change (List ℕ) Place → Type 0
 IsPlainChange (Placing cell place) = IsName cell × IsInRange place
+IsPlainChange (Legalize cell target) = IsName cell × IsTarget target
+IsPlainChange Tidy = Unit {0}
+IsPlainChange (Unplace cell) = IsName cell
 IsPlainChange _ = ⊥
 
 -- what a session can ask by a line
 abbrev pub IsPlainAction : Action (List ℕ) Place → Type 0
 IsPlainAction Check = Unit {0}
 IsPlainAction (Where cell) = IsName cell
+IsPlainAction (Find cell target) = IsName cell × IsTarget target
 IsPlainAction (Changing change) = IsPlainChange change
 IsPlainAction _ = ⊥
 
--- a request that a line can ask: open, check, where or place, its names of visible bytes and its numbers of 32 bits
+-- a request that a line can ask: open, check, where, find, place, legalize, tidy or unplace, its names of visible bytes and its numbers
+-- of 32 bits
 abbrev pub IsPlain : Command (List ℕ) Place → Type 0
 IsPlain Bye = ⊥
 IsPlain (To team Open) = IsName team

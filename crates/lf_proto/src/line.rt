@@ -4,7 +4,8 @@ ghost use Rattle.std.specs.Prelude.{◌≡◌, MatchResult, None, Some, true, op
 ghost use Rattle.std.specs.List.{list_all};
 ghost use Rattle.lf_proto.specs.Commands.{action_of, command_of};
 ghost use Rattle.lf_proto.specs.Lines.{fields, is_line_byte};
-ghost use Rattle.lf_proto.specs.Requests.{action_by, check_of, command_in, command_on, open_of, orient_named, place_of, place_written, placing_of, target_of, verb_named, where_of, within_of};
+ghost use Rattle.lf_proto.specs.Requests.{command_in, command_on, orient_named, place_of, place_written, target_of, verb_named};
+ghost use Rattle.lf_proto.specs.Requests.{action_by, check_of, find_of, legalize_of, open_of, placing_of, tidy_of, unplace_of, where_of, within_of};
 ghost use Rattle.lf_proto.specs.Printed.{PassesBlanksAround, PassesBlanksBetween, ReadsBack};
 
 use crate::number::{coordinate_of, session_of};
@@ -30,7 +31,11 @@ enum Verb {
 enum SessionVerb {
     Check,
     Where,
+    Find,
     Place,
+    Legalize,
+    Tidy,
+    Unplace,
 }
 
 /// The verb of that name.
@@ -41,7 +46,11 @@ fn verb_of(word: &[u8]) -> Option<Verb>
         b"open" => Some(Verb::Open),
         b"check" => Some(Verb::OfSession(SessionVerb::Check)),
         b"where" => Some(Verb::OfSession(SessionVerb::Where)),
+        b"find" => Some(Verb::OfSession(SessionVerb::Find)),
         b"place" => Some(Verb::OfSession(SessionVerb::Place)),
+        b"legalize" => Some(Verb::OfSession(SessionVerb::Legalize)),
+        b"tidy" => Some(Verb::OfSession(SessionVerb::Tidy)),
+        b"unplace" => Some(Verb::OfSession(SessionVerb::Unplace)),
         _ => None,
     }
 }
@@ -124,6 +133,15 @@ fn where_action<'a>(mut fields: Fields<'a>) -> Option<Action<&'a [u8]>>
     Some(Action::Where { cell })
 }
 
+/// What `find TEAM N CELL X Y` asks, by the fields behind N.
+fn find_action<'a>(mut fields: Fields<'a>) -> Option<Action<&'a [u8]>>
+    ensures { option_map action_of result ≡ find_of fields.entry }
+{
+    let cell = fields.next()?;
+    let target = last_target(fields)?;
+    Some(Action::Find { cell, target })
+}
+
 /// What `place TEAM N CELL X Y O` asks, by the fields behind N.
 fn place_action<'a>(mut fields: Fields<'a>) -> Option<Action<&'a [u8]>>
     ensures { option_map action_of result ≡ placing_of fields.entry }
@@ -133,6 +151,36 @@ fn place_action<'a>(mut fields: Fields<'a>) -> Option<Action<&'a [u8]>>
     Some(Action::Change(Change::Place { cell, place }))
 }
 
+/// What `legalize TEAM N CELL X Y` asks, by the fields behind N.
+fn legalize_action<'a>(mut fields: Fields<'a>) -> Option<Action<&'a [u8]>>
+    ensures { option_map action_of result ≡ legalize_of fields.entry }
+{
+    let cell = fields.next()?;
+    let target = last_target(fields)?;
+    Some(Action::Change(Change::Legalize { cell, target }))
+}
+
+/// What `tidy TEAM N` asks, by the fields behind N.
+fn tidy_action<'a>(mut fields: Fields<'a>) -> Option<Action<&'a [u8]>>
+    ensures { option_map action_of result ≡ tidy_of fields.entry }
+{
+    if fields.next().is_some() {
+        return None;
+    }
+    Some(Action::Change(Change::Tidy))
+}
+
+/// What `unplace TEAM N CELL` asks, by the fields behind N.
+fn unplace_action<'a>(mut fields: Fields<'a>) -> Option<Action<&'a [u8]>>
+    ensures { option_map action_of result ≡ unplace_of fields.entry }
+{
+    let cell = fields.next()?;
+    if fields.next().is_some() {
+        return None;
+    }
+    Some(Action::Change(Change::Unplace { cell }))
+}
+
 /// What a session asks by a verb and the fields behind its number.
 fn action_in<'a>(verb: SessionVerb, fields: Fields<'a>) -> Option<Action<&'a [u8]>>
     ensures { option_map action_of result ≡ action_by verb fields.entry }
@@ -140,7 +188,11 @@ fn action_in<'a>(verb: SessionVerb, fields: Fields<'a>) -> Option<Action<&'a [u8
     match verb {
         SessionVerb::Check => check_action(fields),
         SessionVerb::Where => where_action(fields),
+        SessionVerb::Find => find_action(fields),
         SessionVerb::Place => place_action(fields),
+        SessionVerb::Legalize => legalize_action(fields),
+        SessionVerb::Tidy => tidy_action(fields),
+        SessionVerb::Unplace => unplace_action(fields),
     }
 }
 

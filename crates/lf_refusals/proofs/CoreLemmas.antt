@@ -19,7 +19,8 @@ use Rattle.lf_floorplan.specs.declared.sites.Site.{Site}
 use Rattle.lf_lef.specs.Contents.{Contents, site_names}
 use Rattle.lf_lef.specs.Lengths.{HasRange}
 use Rattle.lf_def.specs.declared.rows.Row.{Row}
-use Rattle.lf_refusals.specs.Loading.{at_place, is_heeded, frame_row, site_named, has_size, is_core, core_site, size_in_dbu, IsWholeSize}
+use Rattle.lf_refusals.specs.Loading.{at_place, is_heeded, frame_row, site_named, has_size, is_core, core_site, IsWholeSize}
+use Rattle.lf_floorplan.specs.Sizes.{size_in_dbu}
 use Rattle.lf_floorplan.specs.Rows.{IsPitch}
 use Rattle.lf_floorplan.proofs.LengthLemmas.{small_length}
 

@@ -23,10 +23,6 @@ rects_of_point first second p = (
   (p.in_second.0, p.in_second.1, p.in_second.2, p.in_second.3, record { x = p.x; y = p.y; in_first = p.in_first.4; in_second = p.in_second.4 }),
 )
 
--- an element that is read at a place
-pub any_here : {A : Type 0} (P : A → Type 0) (xs : List A) (k : ℕ) (d : A) → k < length xs → P (get_or xs k d) → Any P xs
-any_here P xs k d within p = (k, get_or xs k d, within, get_or_default xs k (get_or xs k d) d within, p)
-
 -- one more element that has not P
 pub none_next : {A : Type 0} (P : A → Type 0) (xs : List A) (n : ℕ) (e : A) → n < length xs → (P (get_or xs n e) → ⊥) →
     ((k : ℕ) (d : A) → k < n → P (get_or xs k d) → ⊥) → (k : ℕ) (d : A) → k < n + 1 → P (get_or xs k d) → ⊥

@@ -10,10 +10,10 @@ use Rattle.lf_names.specs.declared.table.Added.TheVariants.{New, Present}
 use Rattle.lf_names.proofs.Positions.{stands_there}
 use Rattle.lf_def.specs.declared.regions.Region.{Region}
 use Rattle.lf_def.specs.declared.groups.Group.{Group}
-use Rattle.lf_refusals.proofs.RectLemmas.{any_here}
 use Rattle.lf_refusals.specs.Tables.{HoldSameNames, region_names, IsOutside}
 use Rattle.lf_refusals.specs.Refusals.{HasNoRegion}
-use Rattle.lf_claims.proofs.Named.{name_of_any, any_of_name, take_one_more}
+use Rattle.lf_claims.proofs.Named.{take_one_more}
+use Rattle.lf_units.proofs.Any.{name_of_any, any_of_name, any_here}
 
 -- a table with one name more
 pub same_more : (names after others : List (List ℕ)) (name : List ℕ) (added : Added) → Adds names name added after → HoldSameNames names others → HoldSameNames after (others ++ name ∷ [])

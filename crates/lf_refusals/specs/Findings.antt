@@ -13,7 +13,8 @@ use Rattle.lf_def.specs.declared.document.DefDoc.{DefDoc}
 use Rattle.lf_def.specs.Contents.{contents}
 use Rattle.lf_floorplan.specs.declared.limits.Limits.{Limits}
 use Rattle.lf_claims.specs.Entries.{FirstIs}
-use Rattle.lf_refusals.specs.Loading.{at_place, core_site, size_in_dbu, IsWholeSize}
+use Rattle.lf_refusals.specs.Loading.{at_place, core_site, IsWholeSize}
+use Rattle.lf_floorplan.specs.Sizes.{size_in_dbu}
 use Rattle.lf_claims.specs.Refusals.{BearsEarlierName, IsClaimedTwice}
 use Rattle.lf_refusals.specs.Refusals.{HasNoSite, IsVertical, HasBadStep, IsTurned, MeetsEarlierRow, HasNoMacro, HasNoSize, HasPartUnits, BearsEarlierFence, HasNoRegion, BearsGroundName, MeetsEarlierFence, IsRowTooMany, IsFenceTooMany, IsComponentTooMany, EndsTooFar}
 

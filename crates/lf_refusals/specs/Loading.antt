@@ -30,10 +30,6 @@ macro_named library name = at_place library.macros (position_of (macro_names lib
 abbrev pub has_size : Point → Bool
 has_size size = int_lt (pos 0) size.x && int_lt (pos 0) size.y
 
--- a size in database units
-abbrev pub size_in_dbu : ℕ → Point → Point
-size_in_dbu units size = record { x = in_dbu units size.x; y = in_dbu units size.y }
-
 -- both lengths of a size are whole in database units
 pub record IsWholeSize (units : ℕ) (size : Point) : Type 0 where
   pub across : IsLength units size.x (in_dbu units size.x)

@@ -4,10 +4,11 @@ ghost use Rattle.std.specs.Prelude.{◌≡◌, ◌↔◌, ◌<ℤ◌, ◌≤ℤ�
 ghost use Rattle.std.specs.Option.{option_copied};
 ghost use Rattle.lf_lex.specs.declared.fault.FaultNumber.TheVariants.{NoUnits, NoSite, NoRows, VerticalRow, BadStep, RowOrient, RowsOverlap, NoMacro, NoSize, NotWhole, SecondName, SecondRegion, NoRegion, TeamName, FencesOverlap, TwoFences, TooMany};
 ghost use Rattle.lf_lef.specs.Lengths.{HasRange};
-ghost use Rattle.lf_refusals.specs.Loading.{at_place, size_in_dbu, IsWholeSize, has_size};
+ghost use Rattle.lf_refusals.specs.Loading.{at_place, IsWholeSize, has_size};
+ghost use Rattle.lf_floorplan.specs.Sizes.{size_in_dbu};
 ghost use Rattle.lf_claims.specs.Entries.{NoneBreaks};
 ghost use Rattle.lf_floorplan.specs.Rows.{IsPitch};
-ghost use Rattle.lf_claims.specs.Claims.{IsTableOf};
+ghost use Rattle.lf_claims.specs.ClaimTables.{IsTableOf};
 ghost use Rattle.lf_refusals.specs.Findings.{inputs, units_in, core_in, region_name, Finds, OfCore, OfPitch, CoreHasPartUnits, NameOfFirst};
 ghost use Rattle.lf_claims.specs.Refusals.{BearsEarlierName};
 ghost use Rattle.lf_refusals.specs.Refusals.{IsRowTooMany, IsFenceTooMany, IsComponentTooMany, EndsTooFar, AreMacroFaults};

@@ -11,6 +11,6 @@ mod sweep;
 
 pub use component_refusals::macro_named;
 pub use findings::units_of;
-pub use pitch::{core_pitch, size_in_units, sized_core_site};
+pub use pitch::{Pitch, core_pitch, sized_core_site};
 pub use refusal::first_refusal;
 pub use row_refusals::is_heeded;

@@ -7,7 +7,7 @@ ghost use Rattle.lf_lex.specs.declared.fault.FaultNumber.TheVariants.{TwoFences}
 ghost use Rattle.lf_claims.specs.Entries.{NoneBreaks};
 ghost use Rattle.lf_claims.specs.Refusals.{BearsEarlierName};
 ghost use Rattle.lf_refusals.specs.Refusals.{AreMacroFaults};
-ghost use Rattle.lf_claims.specs.Claims.{IsTableOf};
+ghost use Rattle.lf_claims.specs.ClaimTables.{IsTableOf};
 ghost use Rattle.lf_refusals.specs.Findings.{inputs, units_in, Finds, number_of, IsAccepted, IsFault};
 
 use crate::component_refusals::{MacroFaults, macro_faults};

@@ -12,12 +12,12 @@ ghost use Rattle.lf_refusals.specs.Sweep.{piece_of, row_pieces as row_pieces_of,
 ghost use Rattle.lf_refusals.specs.Refusals.{HasNoSite, IsVertical, HasBadStep, IsTurned, MeetsEarlierRow, IsRowTooMany, EndsTooFar};
 
 use crate::component_refusals::has_size;
+use crate::pitch::Pitch;
 use crate::sweep::{Piece, none_clash};
 use lf_def::Row;
 use lf_floorplan::Site;
 use lf_lef::Library;
 use lf_orient::row_rail;
-use lf_units::Point;
 use std::alloc::{AllocError, Global};
 
 /// The site of that name.
@@ -102,18 +102,18 @@ pub(crate) fn first_vertical(rows: &[Row], core: &Site) -> Option<usize>
 }
 
 /// Whether the row is heeded, has several sites, and steps by another length than the site's width.
-fn has_bad_step(row: &Row, core: &Site, pitch: &Point) -> bool
-    ensures { IsTrue result ↔ HasBadStep core.now pitch.now [] row.now }
+fn has_bad_step(row: &Row, core: &Site, pitch: &Pitch) -> bool
+    ensures { IsTrue result ↔ HasBadStep core.now pitch.now.size [] row.now }
 {
     match row.step {
-        Some(step) => is_heeded(row, core) && 1 < row.sites_x && step.x != pitch.x,
+        Some(step) => is_heeded(row, core) && 1 < row.sites_x && step.x != pitch.size.x,
         None => false,
     }
 }
 
 /// The first heeded row of several sites that steps by another length than the site's width.
-pub(crate) fn first_bad_step(rows: &[Row], core: &Site, pitch: &Point) -> Option<usize>
-    ensures { FirstIs (HasBadStep core.now pitch.now) rows.now result }
+pub(crate) fn first_bad_step(rows: &[Row], core: &Site, pitch: &Pitch) -> Option<usize>
+    ensures { FirstIs (HasBadStep core.now pitch.now.size) rows.now result }
 {
     for (number, row) in rows.iter().enumerate() {
         if has_bad_step(row, core, pitch) {
@@ -159,53 +159,41 @@ pub(crate) fn first_row_too_many(rows: &[Row], core: &Site, limit: usize) -> Opt
 }
 
 /// The width of all sites of a row, which may pass 64 bits.
-fn full_width(row: &Row, pitch: &Point) -> i128
-    requires wide { pos 0 <ℤ pitch.now.x }
-    requires narrow { pitch.now.x ≤ℤ pos 20000000000 }
-    ensures { result ≡ pos row.now.sites_x *ℤ pitch.now.x }
+fn full_width(row: &Row, pitch: &Pitch) -> i128
+    ensures { result ≡ pos row.now.sites_x *ℤ pitch.now.size.x }
 {
-    i128::from(row.sites_x) * i128::from(pitch.x)
+    i128::from(row.sites_x) * i128::from(pitch.size.x)
 }
 
 /// The x at which the row ends, which may pass 64 bits.
-fn right_edge(row: &Row, pitch: &Point) -> i128
-    requires wide { pos 0 <ℤ pitch.now.x }
-    requires narrow { pitch.now.x ≤ℤ pos 20000000000 }
+fn right_edge(row: &Row, pitch: &Pitch) -> i128
     requires row { IsRow row.now }
-    ensures { result ≡ (row_area pitch.now (frame_row row.now)).x2 }
+    ensures { result ≡ (row_area pitch.now.size (frame_row row.now)).x2 }
 {
     i128::from(row.x) + full_width(row, pitch)
 }
 
 /// Whether the row's upper edge is no higher than the other's lower one.
-fn is_below(row: &Row, other: &Row, pitch: &Point) -> bool
-    requires high { pos 0 <ℤ pitch.now.y }
-    requires low { pitch.now.y ≤ℤ pos 20000000000 }
+fn is_below(row: &Row, other: &Row, pitch: &Pitch) -> bool
     requires row { IsRow row.now }
-    ensures { IsTrue result ↔ ((row.now.y +ℤ pitch.now.y) ≤ℤ other.now.y) }
+    ensures { IsTrue result ↔ ((row.now.y +ℤ pitch.now.size.y) ≤ℤ other.now.y) }
 {
-    row.y + pitch.y <= other.y
+    row.y + pitch.size.y <= other.y
 }
 
 /// Whether the row ends before the other begins.
-fn ends_before(row: &Row, other: &Row, pitch: &Point) -> bool
-    requires wide { pos 0 <ℤ pitch.now.x }
-    requires narrow { pitch.now.x ≤ℤ pos 20000000000 }
+fn ends_before(row: &Row, other: &Row, pitch: &Pitch) -> bool
     requires row { IsRow row.now }
-    ensures { IsTrue result ↔ ((row_area pitch.now (frame_row row.now)).x2 ≤ℤ other.now.x) }
+    ensures { IsTrue result ↔ ((row_area pitch.now.size (frame_row row.now)).x2 ≤ℤ other.now.x) }
 {
     right_edge(row, pitch) <= i128::from(other.x)
 }
 
 /// Whether the two rows share a point.
-fn do_rows_meet(first: &Row, second: &Row, pitch: &Point) -> bool
-    requires wide { pos 0 <ℤ pitch.now.x }
-    requires narrow { pitch.now.x ≤ℤ pos 20000000000 }
-    requires high { pos 0 <ℤ pitch.now.y }
-    requires low { pitch.now.y ≤ℤ pos 20000000000 }
+fn do_rows_meet(first: &Row, second: &Row, pitch: &Pitch) -> bool
     requires first { IsRow first.now }
     requires second { IsRow second.now }
-    ensures { IsTrue result ↔ SharesPoint (row_area pitch.now (frame_row first.now)) (row_area pitch.now (frame_row second.now)) }
+    ensures { IsTrue result ↔ SharesPoint (row_area pitch.now.size (frame_row first.now)) (row_area pitch.now.size (frame_row second.now)) }
 {
     if is_below(second, first, pitch) {
         return false;
@@ -220,14 +208,10 @@ fn do_rows_meet(first: &Row, second: &Row, pitch: &Point) -> bool
 }
 
 /// Whether a heeded row of the list shares a point with this one.
-fn meets_one_of(row: &Row, earlier: &[Row], core: &Site, pitch: &Point) -> bool
-    requires wide { pos 0 <ℤ pitch.now.x }
-    requires narrow { pitch.now.x ≤ℤ pos 20000000000 }
-    requires high { pos 0 <ℤ pitch.now.y }
-    requires low { pitch.now.y ≤ℤ pos 20000000000 }
+fn meets_one_of(row: &Row, earlier: &[Row], core: &Site, pitch: &Pitch) -> bool
     requires row { IsRow row.now }
     requires each { All IsRow earlier.now }
-    ensures { IsTrue result ↔ Any (λ e. (is_heeded_row core.now e ≡ true) × SharesPoint (row_area pitch.now (frame_row e)) (row_area pitch.now (frame_row row.now))) earlier.now }
+    ensures { IsTrue result ↔ Any (λ e. (is_heeded_row core.now e ≡ true) × SharesPoint (row_area pitch.now.size (frame_row e)) (row_area pitch.now.size (frame_row row.now))) earlier.now }
 {
     for other in earlier {
         if is_heeded(other, core) && do_rows_meet(other, row, pitch) {
@@ -238,13 +222,9 @@ fn meets_one_of(row: &Row, earlier: &[Row], core: &Site, pitch: &Point) -> bool
 }
 
 /// The first heeded row that shares a point with an earlier one, by a look at each two rows.
-fn row_overlap_by_pairs(rows: &[Row], core: &Site, pitch: &Point) -> Option<usize>
-    requires wide { pos 0 <ℤ pitch.now.x }
-    requires narrow { pitch.now.x ≤ℤ pos 20000000000 }
-    requires high { pos 0 <ℤ pitch.now.y }
-    requires low { pitch.now.y ≤ℤ pos 20000000000 }
+fn row_overlap_by_pairs(rows: &[Row], core: &Site, pitch: &Pitch) -> Option<usize>
     requires each { All IsRow rows.now }
-    ensures { FirstIs (MeetsEarlierRow core.now pitch.now) rows.now result }
+    ensures { FirstIs (MeetsEarlierRow core.now pitch.now.size) rows.now result }
 {
     for (number, row) in rows.iter().enumerate() {
         if is_heeded(row, core) && meets_one_of(row, &rows[..number], core, pitch) {
@@ -255,20 +235,16 @@ fn row_overlap_by_pairs(rows: &[Row], core: &Site, pitch: &Point) -> Option<usiz
 }
 
 /// The row as a piece of a sweep.
-fn row_piece(number: usize, row: &Row, pitch: &Point) -> Piece
-    requires wide { pos 0 <ℤ pitch.now.x }
-    requires narrow { pitch.now.x ≤ℤ pos 20000000000 }
-    requires high { pos 0 <ℤ pitch.now.y }
-    requires low { pitch.now.y ≤ℤ pos 20000000000 }
+fn row_piece(number: usize, row: &Row, pitch: &Pitch) -> Piece
     requires row { IsRow row.now }
-    ensures { result ≡ piece_of number (row_area pitch.now (frame_row row.now)) }
+    ensures { result ≡ piece_of number (row_area pitch.now.size (frame_row row.now)) }
 {
     Piece {
         entry: number,
         left: row.x,
         right: right_edge(row, pitch),
         bottom: row.y,
-        top: row.y + pitch.y,
+        top: row.y + pitch.size.y,
     }
 }
 
@@ -278,14 +254,10 @@ fn push_row(
     number: usize,
     row: &Row,
     core: &Site,
-    pitch: &Point,
+    pitch: &Pitch,
 ) -> Result<(), AllocError>
-    requires wide { pos 0 <ℤ pitch.now.x }
-    requires narrow { pitch.now.x ≤ℤ pos 20000000000 }
-    requires high { pos 0 <ℤ pitch.now.y }
-    requires low { pitch.now.y ≤ℤ pos 20000000000 }
     requires row { IsRow row.now }
-    ensures { OnOk result (pieces.new.items ≡ pieces.old.items ++ row_pieces_of core.now pitch.now number row.now) }
+    ensures { OnOk result (pieces.new.items ≡ pieces.old.items ++ row_pieces_of core.now pitch.now.size number row.now) }
 {
     if is_heeded(row, core) {
         pieces.push(row_piece(number, row, pitch))?;
@@ -298,14 +270,10 @@ fn row_pieces(
     alloc: Global,
     rows: &[Row],
     core: &Site,
-    pitch: &Point,
+    pitch: &Pitch,
 ) -> Result<Vec<Piece>, AllocError>
-    requires wide { pos 0 <ℤ pitch.now.x }
-    requires narrow { pitch.now.x ≤ℤ pos 20000000000 }
-    requires high { pos 0 <ℤ pitch.now.y }
-    requires low { pitch.now.y ≤ℤ pos 20000000000 }
     requires each { All IsRow rows.now }
-    ensures { IfOk result (λ pieces. HoldPieces (row_pieces_of core.now pitch.now) rows.now pieces.items) }
+    ensures { IfOk result (λ pieces. HoldPieces (row_pieces_of core.now pitch.now.size) rows.now pieces.items) }
 {
     let mut pieces = Vec::new(alloc);
     for (number, row) in rows.iter().enumerate() {
@@ -320,14 +288,10 @@ pub(crate) fn first_row_overlap(
     alloc: Global,
     rows: &[Row],
     core: &Site,
-    pitch: &Point,
+    pitch: &Pitch,
 ) -> Result<Option<usize>, AllocError>
-    requires wide { pos 0 <ℤ pitch.now.x }
-    requires narrow { pitch.now.x ≤ℤ pos 20000000000 }
-    requires high { pos 0 <ℤ pitch.now.y }
-    requires low { pitch.now.y ≤ℤ pos 20000000000 }
     requires each { All IsRow rows.now }
-    ensures { IfOk result (λ found. FirstIs (MeetsEarlierRow core.now pitch.now) rows.now found) }
+    ensures { IfOk result (λ found. FirstIs (MeetsEarlierRow core.now pitch.now.size) rows.now found) }
 {
     let mut pieces = row_pieces(alloc, rows, core, pitch)?;
     if none_clash(&mut pieces) {
@@ -337,21 +301,17 @@ pub(crate) fn first_row_overlap(
 }
 
 /// Whether the row is heeded and ends past the largest coordinate.
-fn ends_too_far(row: &Row, core: &Site, pitch: &Point) -> bool
-    requires wide { pos 0 <ℤ pitch.now.x }
-    requires narrow { pitch.now.x ≤ℤ pos 20000000000 }
+fn ends_too_far(row: &Row, core: &Site, pitch: &Pitch) -> bool
     requires row { IsRow row.now }
-    ensures { IsTrue result ↔ EndsTooFar core.now pitch.now [] row.now }
+    ensures { IsTrue result ↔ EndsTooFar core.now pitch.now.size [] row.now }
 {
     is_heeded(row, core) && 2_147_483_647 < right_edge(row, pitch)
 }
 
 /// The first heeded row that ends past the largest coordinate.
-pub(crate) fn first_too_far(rows: &[Row], core: &Site, pitch: &Point) -> Option<usize>
-    requires wide { pos 0 <ℤ pitch.now.x }
-    requires narrow { pitch.now.x ≤ℤ pos 20000000000 }
+pub(crate) fn first_too_far(rows: &[Row], core: &Site, pitch: &Pitch) -> Option<usize>
     requires each { All IsRow rows.now }
-    ensures { FirstIs (EndsTooFar core.now pitch.now) rows.now result }
+    ensures { FirstIs (EndsTooFar core.now pitch.now.size) rows.now result }
 {
     for (number, row) in rows.iter().enumerate() {
         if ends_too_far(row, core, pitch) {

@@ -1,6 +1,6 @@
 -- The rules on ground and obstacles, by what lies near the box.
 use Rattle.std.proofs.Common.{◌≡◌, inl, inr, ℕ, zero, suc, ℤ, ◌+◌, ◌<◌, Bool, true, false, IsTrue, List, [], ◌∷◌, length, map, get_or, slice_get, Some, None, refl, sym, ◌∙◌, ap, subst, arith, eqb}
-use Rattle.std.specs.Prelude.{All, Any, Contains, ◌↔◌}
+use Rattle.std.specs.Prelude.{All, Contains, ◌↔◌}
 use Rattle.std.proofs.Math.ListN.{get_or-map}
 use Rattle.std.proofs.lemmas.List.{length-map, get_or_default}
 use Rattle.std.proofs.lemmas.Bool.Decides.{nat_tests}
@@ -11,6 +11,7 @@ use Rattle.lf_units.specs.declared.area.Rect.{Rect}
 use Rattle.lf_units.specs.Area.{Covers, CoveredBy, SharesPoint}
 use Rattle.lf_rtree.specs.declared.placed.Placed.{Placed}
 use Rattle.lf_rtree.specs.Near.{AreNear}
+use Rattle.lf_rtree.proofs.Nears.{each_near, only_near}
 use Rattle.lf_floorplan.specs.declared.frame.Frame.{Frame}
 use Rattle.lf_floorplan.specs.declared.parts.Team.{Team}
 use Rattle.lf_floorplan.specs.Ground.{StaysInGround, IsClear}
@@ -18,6 +19,7 @@ use Rattle.lf_reports.specs.declared.frame_index.FrameIndex.{FrameIndex}
 use Rattle.lf_reports.specs.Nearby.{numbered, fence_boxes, obstacle_boxes, rects_of, IsIndexOf}
 use Rattle.lf_reports.proofs.NearLemmas.{first_there, later_there}
 use Rattle.lf_rules.proofs.GroundLemmas as open_ground
+use Rattle.lf_units.proofs.Any.{has_item}
 
 -- ---- what lists hold
 
@@ -32,19 +34,16 @@ of_map g [] y (k, within, is) = absurd (omega arith)
 of_map g (x ∷ xs) y (zero, within, is) = (x, first_there x xs, is)
 of_map g (x ∷ xs) y (suc k, within, is) = let deeper = of_map g xs y (k, omega arith, is) in (deeper.0, later_there x deeper.0 xs deeper.1, deeper.2)
 
-any_of : {A : Type 0} (P : A → Type 0) (xs : List A) (x : A) → Contains xs x → P x → Any P xs
-any_of P xs x there holds = (there.0, x, there.1, there.2, holds)
-
 -- none is found where nothing shares a point, and nothing shares a point where none is found
 nothing_near : (boxes : List Placed) (box : Rect) (found : List Placed) → AreNear boxes box found → All (λ p. SharesPoint box p.rect → ⊥) boxes → found ≡ []
 nothing_near boxes box [] near none = refl
 nothing_near boxes box (p ∷ found) near none =
-    let first = near.only 0 p (omega arith) in
+    let first = only_near boxes box (p ∷ found) near 0 p (omega arith) in
     absurd (All-contains (λ q. SharesPoint box q.rect → ⊥) boxes p none first.0 first.1)
 
 none_there : (boxes : List Placed) (box : Rect) (found : List Placed) → AreNear boxes box found → found ≡ [] → (p : Placed) → Contains boxes p → SharesPoint box p.rect → ⊥
 none_there boxes box [] near is p there shares =
-    let at = All-contains (λ q. SharesPoint box q.rect → Contains [] q) boxes p near.each there shares in
+    let at = All-contains (λ q. SharesPoint box q.rect → Contains [] q) boxes p (each_near boxes box [] near) there shares in
     let within = at.1 in
     omega (arith, within)
 none_there boxes box (q ∷ found) near is p there shares = absurd cc
@@ -144,22 +143,23 @@ covered_forth : (f : Frame) (i : FrameIndex) (box : Rect) (near : List Placed) (
 covered_forth f i box near t team index found is x y (k, r, within, at, covers) =
     let from = of_rects near t r (k, within, at) in
     let p : Placed = from.0 in
-    let among : Contains i.fences p = (All-contains (λ q. Contains i.fences q × SharesPoint box q.rect) near p found.only from.1).0 in
+    let among : Contains i.fences p = (All-contains (λ q. Contains i.fences q × SharesPoint box q.rect) near p (only_near i.fences box near found) from.1).0 in
     let of = of_fence 0 f.teams p (Contains-permutation i.fences (fence_boxes 0 f.teams) p (IsPermutation-sym (fence_boxes 0 f.teams) i.fences index.fences) among) in
     let number = of.number in
     let own : p.own ≡ t = from.2 in
     let place : of.place ≡ t = omega (arith, number, own) in
     let both : Some of.team ≡ Some team = sym of.is ∙ ap (slice_get f.teams) place ∙ is in
     let one : of.team ≡ team = cc in
-    any_of (λ s. Covers s x y) team.rects r (subst (λ (s : Rect). Contains team.rects s) from.3 (subst (λ (u : Team). Contains u.rects p.rect) one of.there)) covers
+    has_item (λ s. Covers s x y) team.rects r (subst (λ (s : Rect). Contains team.rects s) from.3 (subst (λ (u : Team). Contains u.rects p.rect) one of.there)) covers
 
 covered_back : (f : Frame) (i : FrameIndex) (box : Rect) (near : List Placed) (t : ℕ) (team : Team) → IsIndexOf f i → AreNear i.fences box near → slice_get f.teams t ≡ Some team →
     (x y : ℤ) → Covers box x y → CoveredBy team.rects x y → CoveredBy (rects_of near t) x y
 covered_back f i box near t team index found is x y in_box (k, r, within, at, covers) =
     let p : Placed = numbered t r in
     let there : Contains i.fences p = Contains-permutation (fence_boxes 0 f.teams) i.fences p index.fences (fence_listed f.teams t team r is (k, within, at)) in
-    let close : Contains near p = All-contains (λ q. SharesPoint box q.rect → Contains near q) i.fences p found.each there (record { x = x; y = y; in_first = in_box; in_second = covers }) in
-    any_of (λ s. Covers s x y) (rects_of near t) r (in_rects near t p close refl) covers
+    let close : Contains near p = All-contains (λ q. SharesPoint box q.rect → Contains near q) i.fences p (each_near i.fences box near found) there
+    (record { x = x; y = y; in_first = in_box; in_second = covers }) in
+    has_item (λ s. Covers s x y) (rects_of near t) r (in_rects near t p close refl) covers
 
 pub stays_near : (f : Frame) (i : FrameIndex) (box : Rect) (near : List Placed) (t : ℕ) (team : Team) (stays : Bool) → IsIndexOf f i → AreNear i.fences box near → slice_get f.teams t ≡ Some team →
     (IsTrue stays ↔ ((x y : ℤ) → Covers box x y → CoveredBy (rects_of near t) x y)) → IsTrue stays ↔ StaysInGround f t box

@@ -12,6 +12,7 @@ use Rattle.lf_units.specs.declared.area.Rect.{Rect}
 use Rattle.lf_units.specs.Area.{SharesPoint}
 use Rattle.lf_rtree.specs.declared.placed.Placed.{Placed}
 use Rattle.lf_rtree.specs.Near.{AreNear}
+use Rattle.lf_rtree.proofs.Nears.{each_near, only_near}
 use Rattle.lf_floorplan.specs.declared.frame.Frame.{Frame}
 use Rattle.lf_floorplan.specs.declared.parts.Row.{Row}
 use Rattle.lf_floorplan.specs.Rows.{row_area}
@@ -48,7 +49,7 @@ rows_known pitch n (r ∷ rows) =
 pub rows_are_near : (f : Frame) (i : FrameIndex) (box : Rect) (found : List Placed) → IsIndexOf f i → AreNear i.rows box found → AreRowsNear f box found
 rows_are_near f i box found index near = record {
   known = λ k d within.
-      let among : Contains i.rows (get_or found k d) = (near.only k d within).0 in
+      let among : Contains i.rows (get_or found k d) = (only_near i.rows box found near k d within).0 in
       let from : 0 + length f.rows ≡ length f.rows = omega arith in
       let below : All (λ p. p.own < length f.rows) (row_boxes f.pitch 0 f.rows) = subst (λ (m : ℕ). All (λ p. p.own < m) (row_boxes f.pitch 0 f.rows)) from (rows_known f.pitch 0 f.rows) in
       All-contains (λ p. p.own < length f.rows) (row_boxes f.pitch 0 f.rows) (get_or found k d) below
@@ -58,7 +59,7 @@ rows_are_near f i box found index near = record {
       let from : 0 + k ≡ k = omega arith in
       let listed : Contains (row_boxes f.pitch 0 f.rows) p = subst (λ (m : ℕ). Contains (row_boxes f.pitch 0 f.rows) (numbered m (row_area f.pitch (get_or f.rows k d)))) from (row_there f.pitch 0 f.rows k d within) in
       let among : Contains i.rows p = Contains-permutation (row_boxes f.pitch 0 f.rows) i.rows p index.rows listed in
-      let there : Contains found p = All-contains (λ q. SharesPoint box q.rect → Contains found q) i.rows p near.each among shares in
+      let there : Contains found p = All-contains (λ q. SharesPoint box q.rect → Contains found q) i.rows p (each_near i.rows box found near) among shares in
       (there.0, p, there.1, there.2, refl);
 }
 

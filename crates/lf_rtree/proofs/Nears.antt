@@ -1,8 +1,10 @@
 -- The boxes near a rectangle from those of a list's parts.
 use Rattle.std.proofs.Common.{◌≡◌, ℕ, ◌+◌, ◌-◌, ◌<◌, List, [], ◌∷◌, ◌++◌, length, get_or, take, drop, sym, ap, subst, ◌∙◌, append_assoc, append-nil}
-use Rattle.std.specs.Prelude.{All, Contains}
+use Rattle.std.specs.Prelude.{All, Contains, IsPermutation}
 use Rattle.std.proofs.lemmas.List.{map-append, take_more}
-use Rattle.std.proofs.lemmas.List.Elements.{All-append, All-weaker, All-nil, All-cons, Contains-append_left, Contains-append_right}
+use Rattle.std.proofs.lemmas.List.Elements.{All-append, All-weaker, All-nil, All-cons, All-contains_itself, Contains-append_left, Contains-get_or}
+use Rattle.std.proofs.lemmas.List.Sorted.{IsPermutation-refl, IsPermutation-sym, IsPermutation-trans, All-permutation, Contains-permutation}
+use Rattle.std.proofs.lemmas.List.Sorted.{IsPermutation-append, IsPermutation-append_left, IsPermutation-append_right, IsPermutation-append_comm}
 use Rattle.lf_units.specs.Area.{SharesPoint}
 use Rattle.lf_units.specs.declared.area.Rect.{Rect}
 use Rattle.lf_rtree.specs.Near.{AreNear}
@@ -13,21 +15,65 @@ use Rattle.lf_rtree.specs.declared.bound.Node.{Node}
 use Rattle.lf_rtree.proofs.Lists.{parted, rest_from}
 use Rattle.lf_rtree.proofs.Bounds.{shares_with_bound}
 
+-- lists that are parted, one behind the other, are parted so
+parted_along : (xs ys found others more rest : List Placed) → IsPermutation xs (found ++ others) → IsPermutation ys (more ++ rest) →
+    IsPermutation (xs ++ ys) ((found ++ more) ++ (others ++ rest))
+parted_along xs ys found others more rest first second =
+    let all : List Placed = found ++ (others ++ (more ++ rest)) in
+    let middle : IsPermutation ((others ++ more) ++ rest) (more ++ (others ++ rest)) =
+    subst (IsPermutation ((others ++ more) ++ rest)) (append_assoc more others rest)
+    (IsPermutation-append_left rest (others ++ more) (more ++ others) (IsPermutation-append_comm others more)) in
+    let behind : IsPermutation (others ++ (more ++ rest)) (more ++ (others ++ rest)) = subst (λ zs. IsPermutation zs (more ++ (others ++ rest)))
+    (append_assoc others more rest) middle in
+    let both : IsPermutation (xs ++ ys) all = subst (IsPermutation (xs ++ ys)) (append_assoc found others (more ++ rest))
+    (IsPermutation-append xs (found ++ others) ys (more ++ rest) first second) in
+    let last : IsPermutation all ((found ++ more) ++ (others ++ rest)) =
+    subst (IsPermutation all) (sym (append_assoc found more (others ++ rest)))
+    (IsPermutation-append_right found (others ++ (more ++ rest)) (more ++ (others ++ rest)) behind) in
+    IsPermutation-trans (xs ++ ys) all ((found ++ more) ++ (others ++ rest)) both last
+
 -- what is near of two lists is near of both, one behind the other
-near_along : (xs ys : List Placed) (rect : Rect) (front back : List Placed) → AreNear xs rect front → AreNear ys rect back → AreNear (xs ++ ys) rect (front ++ back)
-near_along xs ys rect front back first second =
-    let Found : List Placed → Placed → Type 0 = λ zs p. SharesPoint rect p.rect → Contains zs p in
-    let Near : List Placed → Placed → Type 0 = λ zs p. Contains zs p × SharesPoint rect p.rect in
-    record {
-      each =
-          All-append (Found (front ++ back)) xs ys
-          (All-weaker (Found front) (Found (front ++ back)) (λ p found shares. Contains-append_left front back p (found shares)) xs first.each)
-          (All-weaker (Found back) (Found (front ++ back)) (λ p found shares. Contains-append_right front back p (found shares)) ys second.each);
-      only =
-          All-append (Near (xs ++ ys)) front back
-          (All-weaker (Near xs) (Near (xs ++ ys)) (λ p near. (Contains-append_left xs ys p near.0, near.1)) front first.only)
-          (All-weaker (Near ys) (Near (xs ++ ys)) (λ p near. (Contains-append_right xs ys p near.0, near.1)) back second.only);
-    }
+pub near_along : (xs ys : List Placed) (rect : Rect) (front back : List Placed) → AreNear xs rect front → AreNear ys rect back →
+    AreNear (xs ++ ys) rect (front ++ back)
+near_along xs ys rect front back first second = record {
+  others = first.others ++ second.others;
+  parted = parted_along xs ys front first.others back second.others first.parted second.parted;
+  near = All-append (λ p. SharesPoint rect p.rect) front back first.near second.near;
+  far = All-append (λ p. SharesPoint rect p.rect → ⊥) first.others second.others first.far second.far;
+}
+
+-- of boxes that share no point with the rectangle none is near
+pub none_near : (xs : List Placed) (rect : Rect) → All (λ p. SharesPoint rect p.rect → ⊥) xs → AreNear xs rect []
+none_near xs rect far = record { others = xs; parted = IsPermutation-refl xs; near = All-nil (λ p. SharesPoint rect p.rect); far = far }
+
+-- one box that shares none, and one that does
+pub far_box : (p : Placed) (rect : Rect) → (SharesPoint rect p.rect → ⊥) → AreNear (p ∷ []) rect []
+far_box p rect apart = let Apart : Placed → Type 0 = λ q. SharesPoint rect q.rect → ⊥ in none_near (p ∷ []) rect (All-cons Apart p [] apart (All-nil Apart))
+
+pub near_box : (p : Placed) (rect : Rect) → SharesPoint rect p.rect → AreNear (p ∷ []) rect (p ∷ [])
+near_box p rect shares = record {
+  others = [];
+  parted = subst (IsPermutation (p ∷ [])) (sym (append-nil (p ∷ []))) (IsPermutation-refl (p ∷ []));
+  near = All-cons (λ q. SharesPoint rect q.rect) p [] shares (All-nil (λ q. SharesPoint rect q.rect));
+  far = All-nil (λ q. SharesPoint rect q.rect → ⊥);
+}
+
+-- each near box is found, and only those. A caller's proof may cite these
+pub each_near : (boxes : List Placed) (rect : Rect) (found : List Placed) → AreNear boxes rect found →
+    All (λ p. SharesPoint rect p.rect → Contains found p) boxes
+each_near boxes rect found are =
+    let Found : Placed → Type 0 = λ p. SharesPoint rect p.rect → Contains found p in
+    All-permutation Found (found ++ are.others) boxes (IsPermutation-sym boxes (found ++ are.others) are.parted)
+    (All-append Found found are.others (All-weaker (Contains found) Found (λ p there shares. there) found (All-contains_itself found))
+    (All-weaker (λ p. SharesPoint rect p.rect → ⊥) Found (λ p apart shares. absurd (apart shares)) are.others are.far))
+
+pub only_near : (boxes : List Placed) (rect : Rect) (found : List Placed) → AreNear boxes rect found →
+    All (λ p. Contains boxes p × SharesPoint rect p.rect) found
+only_near boxes rect found are k d within = (
+  Contains-permutation (found ++ are.others) boxes (get_or found k d) (IsPermutation-sym boxes (found ++ are.others) are.parted)
+      (Contains-append_left found are.others (get_or found k d) (Contains-get_or found k d within)),
+  are.near k d within,
+)
 
 -- found of one list and then of another, they are found of both
 adds_along : (xs ys : List Placed) (rect : Rect) (old middle new : List Placed) → AddsNear xs rect old middle → AddsNear ys rect middle new →
@@ -40,19 +86,14 @@ adds_along xs ys rect old middle new first second = record {
 
 -- of boxes that share no point with the rectangle none is found
 adds_none : (xs : List Placed) (rect : Rect) (old : List Placed) → All (λ p. SharesPoint rect p.rect → ⊥) xs → AddsNear xs rect old old
-adds_none xs rect old far = record {
-  found = [];
-  is = sym (append-nil old);
-  near = record {
-    each = All-weaker (λ p. SharesPoint rect p.rect → ⊥) (λ p. SharesPoint rect p.rect → Contains [] p) (λ p apart shares. absurd (apart shares)) xs far;
-    only = All-nil (λ p. Contains xs p × SharesPoint rect p.rect);
-  };
-}
+adds_none xs rect old far = record { found = []; is = sym (append-nil old); near = none_near xs rect far }
 
--- one box that shares no point with the rectangle
+-- one box that shares no point with the rectangle, and one that does
 pub adds_no_box : (p : Placed) (rect : Rect) (old : List Placed) → (SharesPoint rect p.rect → ⊥) → AddsNear (p ∷ []) rect old old
-adds_no_box p rect old apart =
-    let Apart : Placed → Type 0 = λ q. SharesPoint rect q.rect → ⊥ in adds_none (p ∷ []) rect old (All-cons Apart p [] apart (All-nil Apart))
+adds_no_box p rect old apart = record { found = []; is = sym (append-nil old); near = far_box p rect apart }
+
+pub adds_box : (p : Placed) (rect : Rect) (old new : List Placed) → new ≡ old ++ p ∷ [] → SharesPoint rect p.rect → AddsNear (p ∷ []) rect old new
+adds_box p rect old new is shares = record { found = p ∷ []; is = is; near = near_box p rect shares }
 
 -- boxes within a bound that is apart from the rectangle
 pub adds_nothing : (bound : Bound) (boxes : List Placed) (rect : Rect) (old : List Placed) → All (IsBound bound) boxes →

@@ -48,8 +48,8 @@ impl RTree {
         Ok(RTree { nodes, depth })
     }
 
-    /// Puts the boxes that share a point with this rectangle into `found`, in place of what it
-    /// holds. Where memory runs out, `found` holds some of them.
+    /// Puts the boxes that share a point with this rectangle into `found`, each once, in place of what
+    /// it holds. Where memory runs out, `found` holds some of them.
     pub fn find_near(&self, rect: &Rect, found: &mut Vec<Placed>) -> Result<(), AllocError>
         ensures { OnOk result (AreNear self.now rect.now found.new.items) }
     {

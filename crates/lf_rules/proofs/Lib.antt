@@ -1,5 +1,4 @@
 pub mod GroundLemmas
-pub mod SizeLemmas
 pub mod CoverLemmas
 pub mod RuleLemmas
 pub mod Deciding

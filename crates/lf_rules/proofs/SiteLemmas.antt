@@ -10,10 +10,11 @@ use Rattle.lf_orient.specs.declared.Symmetry.{Symmetry}
 use Rattle.lf_orient.specs.Orientation.{is_allowed}
 use Rattle.lf_floorplan.specs.declared.parts.Row.{Row}
 use Rattle.lf_rules.specs.declared.rule.Rule.TheVariants.{Row as RowRule, Orient as OrientRule}
-use Rattle.lf_floorplan.specs.Boxes.{IsSized, size_of, turned}
+use Rattle.lf_floorplan.specs.Boxes.{IsSized, size_of}
+use Rattle.lf_floorplan.specs.Sizes.{turned}
 use Rattle.lf_rules.specs.Legality.{Holds}
 use Rattle.lf_rules.specs.Choice.{Spot, Lifted, IsLegalAt, IsChoice, IsUpright, trial_at, rank}
-use Rattle.lf_rules.proofs.SizeLemmas.{IsModest, turned-modest, sized-modest}
+use Rattle.lf_floorplan.proofs.SizeBounds.{IsSmall, small_pitch, turned_small, sized_pitch}
 use Rattle.lf_rules.proofs.Looking.{LooksAt, IsAtSite, IsOnSites, IsOnRows, spot_at, onward}
 use Rattle.lf_rules.proofs.Order.{same_spot, compared}
 
@@ -126,7 +127,7 @@ stands cell p sized legal =
     let held : Holds (trial_at cell p) RowRule = legal RowRule in
     let row = held.0 in
     let bottom = held.1 in
-    let modest : IsModest (turned (size_of cell.frame cell.mac) p.orient) = turned-modest _ _ (sized-modest _ _ sized) in
+    let small : IsSmall (turned (size_of cell.frame cell.mac) p.orient) = turned_small _ _ (small_pitch _ _ _ (sized_pitch _ _ sized)) in
     let level = bottom.at_bottom.at_level in
     let grid = bottom.on_grid in
     record {
@@ -136,7 +137,8 @@ stands cell p sized legal =
       there = slice_get_read cell.frame.rows (length cell.frame.rows) bottom.heeded.0 row refl bottom.heeded.1 (sym bottom.heeded.2);
       on_sites = record {
         site = bottom.site;
-        within = site_within cell.frame.pitch.x p.x row.x (turned (size_of cell.frame cell.mac) p.orient).x bottom.site row.sites cell.frame.pitch_whole.wide modest.wide grid bottom.at_bottom.right;
+        within = site_within cell.frame.pitch.x p.x row.x (turned (size_of cell.frame cell.mac) p.orient).x bottom.site row.sites cell.frame.pitch_whole.wide
+            small.wide grid bottom.at_bottom.right;
         at_site = record { x_is = omega (arith, ints, grid); y_is = omega (arith, ints, level) };
       };
     }

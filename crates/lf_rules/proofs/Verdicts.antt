@@ -14,10 +14,11 @@ use Rattle.lf_rules.specs.declared.rule.Rule.TheVariants.{Height, Row as RowRule
 use Rattle.lf_rtree.specs.declared.placed.Placed.{Placed}
 use Rattle.lf_rules.specs.declared.rule.Broken.{Broken}
 use Rattle.lf_rules.specs.Legality.{IsFirstMet, Trial, IsFirstBroken, Holds, box_of}
-use Rattle.lf_floorplan.specs.Boxes.{IsSized, size_of, turned}
+use Rattle.lf_floorplan.specs.Boxes.{IsSized, size_of}
+use Rattle.lf_floorplan.specs.Sizes.{turned}
 use Rattle.lf_floorplan.specs.Standing.{Carries}
 use Rattle.lf_rules.specs.Legalizer.{IsVerdict}
-use Rattle.lf_rules.proofs.SizeLemmas.{IsModest, turned-modest, sized-modest}
+use Rattle.lf_floorplan.proofs.SizeBounds.{IsSmall, small_pitch, turned_small, sized_pitch}
 use Rattle.lf_rules.proofs.RuleLemmas.{Found, OnRows, on_rows, by_number, row_broken, stand_broken, orient_broken, rail_broken, fence_broken, obstacle_broken, overlap_broken, all_hold}
 use Rattle.lf_rules.proofs.Deciding.{Settles, both, either, implied, turned_round, each, each_below, some_height, some_bottom, some_carrying, same_rail, shares, all_in_ground, same_count}
 
@@ -104,12 +105,12 @@ on_found t k r found = elim (each_below (λ j. (s : Row) × Carries t.frame (box
 
 pub verdict_there : (t : Trial) → IsSized t.frame t.mac → Verdict t
 verdict_there t sized =
-    let modest : IsModest (turned (size_of t.frame t.mac) t.orient) = turned-modest _ _ (sized-modest _ _ sized) in
+    let small : IsSmall (turned (size_of t.frame t.mac) t.orient) = turned_small _ _ (small_pitch _ _ _ (sized_pitch _ _ sized)) in
     elim (some_height t.frame (box_of t)) [
       | inr n ↦ (Some record { rule = Height; other = None }, height_broken t n)
       | inl h ↦ elim (some_bottom t.frame (box_of t)) [
         | inr n ↦ (Some record { rule = RowRule; other = None }, row_broken t (box_of t) refl h.0 h.1 (λ r b. n (r, b)))
-        | inl b ↦ on_found t h.0 b.0 record { box_is = refl; wide = wider t.x _ modest.wide; tall = h.1; bottom = b.1 }
+        | inl b ↦ on_found t h.0 b.0 record { box_is = refl; wide = wider t.x _ small.wide; tall = h.1; bottom = b.1 }
       ]
     ]
   where

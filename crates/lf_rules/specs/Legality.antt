@@ -8,7 +8,8 @@ use Rattle.lf_floorplan.specs.declared.frame.Frame.{Frame}
 use Rattle.lf_floorplan.specs.declared.macros.Macro.{Macro}
 use Rattle.lf_floorplan.specs.declared.parts.Row.{Row}
 use Rattle.lf_floorplan.specs.declared.place.Place.{Place}
-use Rattle.lf_floorplan.specs.Boxes.{size_of, turned, box_at}
+use Rattle.lf_floorplan.specs.Boxes.{size_of}
+use Rattle.lf_floorplan.specs.Sizes.{turned, box_at}
 use Rattle.lf_floorplan.specs.Ground.{StaysInGround, IsClear}
 use Rattle.lf_floorplan.specs.Standing.{IsSitesHigh, IsBottomRow, HasHeight, HasBottomRow, IsCarried}
 use Rattle.lf_rules.specs.declared.rule.Rule.{Rule}

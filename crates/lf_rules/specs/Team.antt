@@ -2,7 +2,8 @@
 use Rattle.std.specs.Prelude.{◌≡◌, ◌==◌, ℕ, ◌+◌, List, [], ◌∷◌, filter, not, Option, Some, None, slice_get, MatchOption}
 use Rattle.lf_units.specs.declared.area.Rect.{Rect}
 use Rattle.lf_floorplan.specs.declared.frame.Frame.{Frame}
-use Rattle.lf_floorplan.specs.Boxes.{size_of, turned, box_at, macro_of}
+use Rattle.lf_floorplan.specs.Boxes.{size_of, macro_of}
+use Rattle.lf_floorplan.specs.Sizes.{turned, box_at}
 use Rattle.lf_rtree.specs.declared.placed.Placed.{Placed}
 use Rattle.lf_rules.specs.Choice.{Spot, Lifted, IsLegalAt}
 

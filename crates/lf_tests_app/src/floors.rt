@@ -4,16 +4,21 @@ use crate::designs::{design_of, with_line};
 use lf_def::W_DEF;
 use lf_floor::Floor;
 use lf_frame::{Limits, Place};
+use lf_legalize::PlainSeeker;
 use lf_orient::Orient;
 use lf_proto::{Action, Change, Command, Order, Reply, Request, RequestList, reply_text};
 use std::alloc::{AllocError, Global};
 use std::test::Fail;
 
 /// The floor of the built-in design with a1 and b1 at the lower left corners of their fences.
-fn floor(alloc: Global) -> Result<Floor, Fail> {
+fn floor(alloc: Global) -> Result<Floor<PlainSeeker>, Fail> {
     let def = with_line(alloc, W_DEF, 15, b"- a1 INV + PLACED ( 0 0 ) N ;")?;
     let def = with_line(alloc, &def, 18, b"- b1 INV + PLACED ( 6000 0 ) N ;")?;
-    Ok(Floor::start(alloc, design_of(alloc, &def, Limits::standard())?)?)
+    Ok(Floor::start(
+        alloc,
+        design_of(alloc, &def, Limits::standard())?,
+        PlainSeeker,
+    )?)
 }
 
 /// The request of the first session of a team to unplace a cell.
@@ -48,7 +53,7 @@ fn text_of(alloc: Global, replies: &[Reply]) -> Result<Vec<u8>, AllocError> {
 }
 
 /// Whether a1 has its place, and b1 none.
-fn is_b1_gone(floor: &Floor) -> bool {
+fn is_b1_gone(floor: &Floor<PlainSeeker>) -> bool {
     if floor.place_of(b"B", 0).is_some() {
         return false;
     }
@@ -56,7 +61,7 @@ fn is_b1_gone(floor: &Floor) -> bool {
 }
 
 /// Whether a2 is the second cell of A, and no team has a second cell outside the fences.
-fn are_cells_named(floor: &Floor) -> bool {
+fn are_cells_named(floor: &Floor<PlainSeeker>) -> bool {
     if floor.name_of(b"-", 1).is_some() {
         return false;
     }
@@ -64,13 +69,13 @@ fn are_cells_named(floor: &Floor) -> bool {
 }
 
 /// The replies to the requests, in one text.
-fn ran(alloc: Global, floor: &mut Floor) -> Result<Vec<u8>, AllocError> {
+fn ran(alloc: Global, floor: &mut Floor<PlainSeeker>) -> Result<Vec<u8>, AllocError> {
     let replies = floor.run(&requests(alloc)?)?;
     text_of(alloc, &replies)
 }
 
 /// Whether the requests are answered by these replies, and then b1 alone has left its place.
-fn runs(alloc: Global, mut floor: Floor, replies: &[u8]) -> Result<bool, AllocError> {
+fn runs(alloc: Global, mut floor: Floor<PlainSeeker>, replies: &[u8]) -> Result<bool, AllocError> {
     if ran(alloc, &mut floor)?.as_slice() != replies {
         return Ok(false);
     }

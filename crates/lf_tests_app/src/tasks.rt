@@ -2,7 +2,7 @@
 
 use crate::designs::with_line;
 use crate::shelf::Shelf;
-use lf_app::{Task, UsageFault, command_of, perform};
+use lf_app::{Exit, FileTexts, Task, UsageFault, command_of, perform, perform_over};
 use lf_def::W_DEF;
 use lf_lef::W_LEF;
 use lf_units::Sequence;
@@ -10,6 +10,25 @@ use std::alloc::{AllocError, Global};
 use std::io;
 use std::io::{Read, Write};
 use std::test::Fail;
+
+/// Does the demo over a reader and a writer.
+fn demo<R: Read, W: Write, F: Write>(
+    rt: &HostRuntime,
+    reader: &mut R,
+    writer: &mut W,
+    faults: &mut F,
+) -> Exit {
+    let texts = FileTexts::new(rt);
+    perform_over(rt.alloc(), &texts, &Task::Demo, reader, writer, faults)
+}
+
+/// The end of a task with this status, of which all was told.
+fn told(status: u8) -> Exit {
+    Exit {
+        status,
+        is_told: true,
+    }
+}
 
 #[test]
 fn a_line_that_is_no_request_is_refused(rt: HostRuntime) -> Result<(), Fail> {
@@ -28,8 +47,8 @@ fn a_line_that_is_no_request_is_refused(rt: HostRuntime) -> Result<(), Fail> {
     let mut reader = input.as_slice();
     let mut written = Vec::new(rt.alloc());
     let mut faults = Vec::new(rt.alloc());
-    let status = perform(&rt, &Task::Demo, &mut reader, &mut written, &mut faults);
-    assert_eq!(rt; status, 0);
+    let exit = demo(&rt, &mut reader, &mut written, &mut faults);
+    assert_eq!(rt; exit, told(0));
     let expected = "ok 0 0\nno 1 BadRequest\nno 1 BadRequest\nno 1 BadRequest\nno 1 BadRequest\n\
         no 1 BadRequest\nok 1 0\nno 1 BadRequest\nok 2 0\n";
     assert_eq!(rt; written.as_slice(), expected.as_bytes());
@@ -60,21 +79,32 @@ impl Write for Failing {
 fn a_device_that_fails_ends_the_demo(rt: HostRuntime) -> Result<(), Fail> {
     let mut written = Vec::new(rt.alloc());
     let mut faults = Vec::new(rt.alloc());
-    let status = perform(&rt, &Task::Demo, &mut Failing, &mut written, &mut faults);
-    assert_eq!(rt; status, 3);
+    let exit = demo(&rt, &mut Failing, &mut written, &mut faults);
+    assert_eq!(rt; exit, told(3));
     assert_eq!(rt; faults.as_slice(), b"lefence: ReadFault\n".as_slice());
     let mut faults = Vec::new(rt.alloc());
     let mut reader = b"open A\n".as_slice();
-    let status = perform(&rt, &Task::Demo, &mut reader, &mut Failing, &mut faults);
-    assert_eq!(rt; status, 3);
+    let exit = demo(&rt, &mut reader, &mut Failing, &mut faults);
+    assert_eq!(rt; exit, told(3));
     assert_eq!(rt; faults.as_slice(), b"lefence: WriteFault\n".as_slice());
     Ok(())
 }
 
-/// What a task does: its exit status, what it writes and what it tells of faults.
+#[test]
+fn a_fault_that_cannot_be_told_is_no_further_fault(rt: HostRuntime) {
+    let mut written = Vec::new(rt.alloc());
+    let exit = demo(&rt, &mut Failing, &mut written, &mut Failing);
+    let untold = Exit {
+        status: 3,
+        is_told: false,
+    };
+    assert_eq!(rt; exit, untold);
+}
+
+/// What a task does: how it ends, what it writes and what it tells of faults.
 #[derive(Drop)]
 struct Run {
-    status: u8,
+    exit: Exit,
     written: Vec<u8>,
     faults: Vec<u8>,
 }
@@ -85,9 +115,10 @@ fn done(alloc: Global, files: &[(&str, Option<&[u8]>)], task: &Task<'_>, input: 
     let mut reader = input.as_bytes();
     let mut written = Vec::new(alloc);
     let mut faults = Vec::new(alloc);
-    let status = perform(&shelf, task, &mut reader, &mut written, &mut faults);
+    let texts = FileTexts::new(&shelf);
+    let exit = perform_over(alloc, &texts, task, &mut reader, &mut written, &mut faults);
     Run {
-        status,
+        exit,
         written,
         faults,
     }
@@ -126,7 +157,11 @@ fn checked(alloc: Global, def: &[u8]) -> Result<Run, AllocError> {
 /// Whether the check of this DEF text ends with this status and writes this report.
 fn reports(alloc: Global, def: &[u8], status: u8, report: &str) -> Result<bool, AllocError> {
     let run = checked(alloc, def)?;
-    Ok(run.status == status && run.faults.is_empty() && run.written.as_slice() == report.as_bytes())
+    Ok(
+        run.exit == told(status)
+            && run.faults.is_empty()
+            && run.written.as_slice() == report.as_bytes(),
+    )
 }
 
 /// Whether a replay over these files ends with this status and this line of a fault, and writes nothing.
@@ -138,7 +173,11 @@ fn ends(
     fault: &str,
 ) -> Result<bool, AllocError> {
     let run = replayed(alloc, files, lefs, "open A\n")?;
-    Ok(run.status == status && run.written.is_empty() && run.faults.as_slice() == fault.as_bytes())
+    Ok(
+        run.exit == told(status)
+            && run.written.is_empty()
+            && run.faults.as_slice() == fault.as_bytes(),
+    )
 }
 
 #[test]
@@ -146,7 +185,7 @@ fn a_design_of_files_is_replayed(rt: HostRuntime) -> Result<(), Fail> {
     let files = [("w.lef", Some(W_LEF)), ("w.def", Some(W_DEF))];
     let input = "open A\nplace A 0 a1 0 0 N\nwhere A 0 a1\n";
     let run = replayed(rt.alloc(), files.as_slice(), ["w.lef"].as_slice(), input)?;
-    assert_eq!(rt; run.status, 0);
+    assert_eq!(rt; run.exit, told(0));
     assert_eq!(rt; run.faults.as_slice(), b"".as_slice());
     assert_eq!(rt;
         run.written.as_slice(),
@@ -245,14 +284,14 @@ fn a_check_that_cannot_be_made_is_a_fault(rt: HostRuntime) -> Result<(), Fail> {
     let fence = b"- B ( 3999 0 ) ( 10000 8000 ) + TYPE FENCE ;";
     let def = with_line(rt.alloc(), W_DEF, 12, fence)?;
     let run = checked(rt.alloc(), &def)?;
-    assert_eq!(rt; (run.status, run.written.is_empty()), (1, true));
+    assert_eq!(rt; (run.exit.status, run.written.is_empty()), (1, true));
     assert_eq!(rt;
         run.faults.as_slice(),
         b"lefence: 21 FencesOverlap B\n".as_slice()
     );
     let files = [("w.lef", Some(W_LEF))];
     let run = done(rt.alloc(), files.as_slice(), &check_of_w(rt.alloc())?, "");
-    assert_eq!(rt; (run.status, run.written.is_empty()), (3, true));
+    assert_eq!(rt; (run.exit.status, run.written.is_empty()), (3, true));
     assert_eq!(rt; run.faults.as_slice(), b"lefence: File\n".as_slice());
     Ok(())
 }
@@ -271,37 +310,61 @@ impl Write for Unflushed {
     }
 }
 
-/// A device that sends what it has taken only where it is flushed.
+/// A device that keeps what it takes, with a bar for each time that it is flushed.
 #[derive(Drop)]
-struct Pending {
+struct Log {
     taken: Vec<u8>,
-    sent: Vec<u8>,
 }
 
-impl Write for Pending {
+impl Write for Log {
     fn write(&mut self, bytes: &[u8]) -> io::Result<usize> {
         self.taken.extend_from_slice(bytes)?;
         Ok(bytes.len())
     }
 
     fn flush(&mut self) -> io::Result<()> {
-        self.sent.extend_from_slice(&self.taken)?;
-        self.taken.clear();
+        self.taken.push(b'|')?;
         Ok(())
     }
 }
 
+/// A device that gives these bytes and then fails.
+#[derive(Drop)]
+struct Cut<'a> {
+    bytes: &'a [u8],
+}
+
+impl<'a> Read for Cut<'a> {
+    fn read(&mut self, buffer: &mut [u8]) -> io::Result<usize> {
+        if self.bytes.is_empty() {
+            return Err(io::Error::from(io::ErrorKind::Other));
+        }
+        self.bytes.read(buffer)
+    }
+}
+
 #[test]
-fn the_last_reply_is_flushed(rt: HostRuntime) -> Result<(), Fail> {
-    let mut writer = Pending {
-        taken: Vec::new(rt.alloc()),
-        sent: Vec::new(rt.alloc()),
-    };
+fn each_reply_is_flushed(rt: HostRuntime) -> Result<(), Fail> {
     let mut faults = Vec::new(rt.alloc());
-    let mut reader = b"open A\nopen A".as_slice();
-    let status = perform(&rt, &Task::Demo, &mut reader, &mut writer, &mut faults);
-    assert_eq!(rt; status, 0);
-    assert_eq!(rt; writer.sent.as_slice(), b"ok 0 0\nok 1 0\n".as_slice());
+    let mut log = Log {
+        taken: Vec::new(rt.alloc()),
+    };
+    let mut reader = b"open A\nopen A\nopen A".as_slice();
+    let exit = demo(&rt, &mut reader, &mut log, &mut faults);
+    assert_eq!(rt; exit, told(0));
+    assert_eq!(rt;
+        log.taken.as_slice(),
+        b"ok 0 0\n|ok 1 0\n|ok 2 0\n|".as_slice()
+    );
+    let mut log = Log {
+        taken: Vec::new(rt.alloc()),
+    };
+    let mut reader = Cut {
+        bytes: b"open A\nopen A",
+    };
+    let exit = demo(&rt, &mut reader, &mut log, &mut faults);
+    assert_eq!(rt; exit, told(3));
+    assert_eq!(rt; log.taken.as_slice(), b"ok 0 0\n|".as_slice());
     Ok(())
 }
 
@@ -312,10 +375,18 @@ fn a_report_that_cannot_be_written_is_a_fault(rt: HostRuntime) -> Result<(), Fai
         alloc: rt.alloc(),
         files: files.as_slice(),
     };
+    let texts = FileTexts::new(&shelf);
     let task = check_of_w(rt.alloc())?;
     let mut faults = Vec::new(rt.alloc());
-    let status = perform(&shelf, &task, &mut Failing, &mut Failing, &mut faults);
-    assert_eq!(rt; status, 3);
+    let exit = perform_over(
+        rt.alloc(),
+        &texts,
+        &task,
+        &mut Failing,
+        &mut Failing,
+        &mut faults,
+    );
+    assert_eq!(rt; exit, told(3));
     assert_eq!(rt; faults.as_slice(), b"lefence: Output\n".as_slice());
     let mut faults = Vec::new(rt.alloc());
     let status = perform(&shelf, &task, &mut Failing, &mut Unflushed, &mut faults);

@@ -1,3 +1,5 @@
+pub mod Any
+pub mod Bounds
 pub mod Digits
 pub mod Edges
 pub mod Pairs

@@ -1,4 +1,5 @@
-use Rattle.std.proofs.Common.{◌≡◌, take, arith}
+use Rattle.std.proofs.Common.{◌≡◌, ◌∷◌, ◌++◌, [], take, arith}
+use Rattle.std.proofs.lemmas.List.Sorted.{IsPermutation-append_left, IsPermutation-trans}
 use Rattle.lf_claims.specs.Tables.{numbered_names}
 use Rattle.lf_claims.proofs.Numbered.{numbered_more}
 use Rattle.lf_claims.proofs.Tellings.{all_bounds_seen}
@@ -11,7 +12,11 @@ loop-number-preserved c =
     let item = c.index-components-number.result in
     let more = numbered_more components n item c.loop-number-test.true c.index-components-number.is in
     let label : c.in-Ok.label ≡ n = (rw c.in-Ok.is at c.try_from.ensures).1 in
-    rw (← more) (rw (c.as_bytes.ensures, label) at (c.in_ok-push.ensures (numbered_names (take n components)) c.loop-number.invariant))
+    let pushed = rw (c.as_bytes.ensures, label) at c.in_ok-push.ensures.ok in
+    let before = IsPermutation-append_left (record { label = n; name = item.name } ∷ []) (numbered_names (take n components)) c.loop-number.parts
+    c.loop-number.invariant in
+    rw (← more) (IsPermutation-trans (numbered_names (take n components) ++ record { label = n; name = item.name } ∷ [])
+    (c.loop-number.parts ++ record { label = n; name = item.name } ∷ []) c.push.new.self before pushed)
 
 pub returns : goal.returns
 returns c = rw (all_bounds_seen c.args.components.now c.loop-number.number (omega arith)) at c.loop-number.invariant

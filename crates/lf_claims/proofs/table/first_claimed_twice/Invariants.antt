@@ -3,7 +3,7 @@ use Rattle.lf_def.specs.declared.regions.Region.{Region}
 use Rattle.lf_def.specs.declared.groups.Group.{Group}
 use Rattle.lf_claims.specs.Entries.{NoneBreaks}
 use Rattle.lf_claims.specs.Refusals.{IsClaimedTwice, BearsEarlierName}
-use Rattle.lf_claims.specs.Claims.{IsTableOf}
+use Rattle.lf_claims.specs.ClaimTables.{IsTableOf}
 use Rattle.lf_claims.proofs.Firsts.{NoneBelow}
 use Rattle.lf_claims.proofs.table.first_claimed_twice.Given as goal
 

@@ -2,7 +2,7 @@ use Rattle.std.proofs.Common.{◌≡◌, refl}
 use Rattle.lf_units.specs.declared.area.Point.{Point}
 use Rattle.lf_orient.specs.declared.Orient.{Orient}
 use Rattle.lf_orient.specs.declared.Orient.TheVariants.{N, W, S, E, FN, FW, FS, FE}
-use Rattle.lf_floorplan.specs.Boxes.{turned}
+use Rattle.lf_floorplan.specs.Sizes.{turned}
 use Rattle.lf_floorplan.proofs.laws.size_turns_back.Goals as goal
 
 back : (size : Point) (o : Orient) → turned (turned size o) o ≡ size

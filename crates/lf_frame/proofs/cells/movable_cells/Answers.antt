@@ -1,8 +1,8 @@
-use Rattle.std.proofs.Common.{◌≡◌, ◌<◌, ◌≤◌, length, get_or, arith, ap, List, sym, ◌∙◌}
+use Rattle.std.proofs.Common.{◌≡◌, ◌<◌, ◌≤◌, length, get_or, arith, ap, List, refl, sym, ◌∙◌}
 use Rattle.lf_def.specs.declared.components.Component.{Component}
 use Rattle.lf_refusals.specs.Findings.{Inputs, inputs}
 use Rattle.lf_frame.specs.Loads.{CanBeCell}
-use Rattle.lf_claims.proofs.Claimed.{claim_there}
+use Rattle.std.proofs.lemmas.Option.{slice_get_read}
 use Rattle.lf_frame.proofs.CellsMade.{cell_more, none_more, all_made}
 use Rattle.lf_frame.proofs.cells.movable_cells.Goals.{then-is_movable+in_ok-cell_of+in_ok-push, else-is_movable}
 use Rattle.lf_frame.proofs.cells.movable_cells.Goals as goal
@@ -25,10 +25,12 @@ cell_of-requires-clause-team c =
     let same : c.as_slice-component-items.result.now ≡ c.args.document.now.components = c.as_slice-component-items.ensures in
     let within : c.loop-number.number < length c.args.document.now.components = rw same at c.loop-number-test.true in
     let is : c.component-item.result ≡ get_or c.args.document.now.components c.loop-number.number c.component-item.result = rw same at c.component-item.is in
-    let claim = claim_there c.args.document.now.regions c.args.document.now.groups c.args.document.now.components c.args.claims.now.claims.items c.loop-number.number c.component-item.result within is (c.requires.claims.claims c.requires.differ) in
+    let at = slice_get_read c.args.document.now.components (length c.args.document.now.components) c.loop-number.number c.component-item.result refl within
+    is in
     let able : CanBeCell (inputs c.args.library.now c.args.document.now c.args.limits.now) c.component-item.result =
     rw (← is) at (c.requires.able c.loop-number.number c.component-item.result within) (sym c.is_movable.ensures ∙ c.if-is_movable.true) in
-    c.team_at-team.ensures c.args.document.now.regions c.args.document.now.groups c.component-item.result.name claim able.once c.requires.claims.ground
+    c.team_at-team.ensures c.args.document.now.regions c.args.document.now.groups c.args.document.now.components c.requires.claims c.requires.differ
+    c.component-item.result at able.once
 
 pub returns : goal.returns
 returns c =

@@ -1,7 +1,8 @@
 use Rattle.std.proofs.Common.{◌≡◌, Some, sym}
+use Rattle.lf_floorplan.specs.declared.sites.Site.{Site}
 use Rattle.lf_refusals.specs.Findings.{Inputs, inputs, core_in}
 use Rattle.lf_frame.proofs.Accepted.{core_there, lent_there, core_whole, pitch_there, fixed_sized}
-use Rattle.lf_frame.proofs.FrameMade.{frame_made}
+use Rattle.lf_frame.proofs.FrameMade.{frame_kept}
 use Rattle.lf_frame.proofs.loading.frame_of.Goals as goal
 
 pub unwrap-core-requires : goal.unwrap-core-requires
@@ -13,18 +14,40 @@ pub unwrap-pitch-requires : goal.unwrap-pitch-requires
 unwrap-pitch-requires c =
     let i : Inputs = inputs c.args.library.now c.args.document.now c.args.limits.now in
     let core_is : Some c.unwrap-core.result.now ≡ core_in i = rw c.unwrap-core.ensures at (rw c.as_slice.ensures at c.sized_core_site.ensures.core) in
-    let found = rw c.units_of.ensures.units at c.core_pitch.ensures in
+    let found = rw c.units_of-units.ensures.units at c.core_pitch.ensures in
     pitch_there _ c.core_pitch.result found (core_whole i c.unwrap-core.result.now (sym core_is) c.requires)
 
-pub parts_of-requires : goal.parts_of-requires
-parts_of-requires c =
+pub obstacles_of-requires : goal.obstacles_of-requires
+obstacles_of-requires c =
     let i : Inputs = inputs c.args.library.now c.args.document.now c.args.limits.now in
-    record { sized = fixed_sized i c.ranges_kept.ensures c.requires }
+    record { sized = rw c.units_of-units.ensures.units (fixed_sized i c.ranges_kept.ensures c.requires) }
 
-pub frame_from-requires : goal.frame_from-requires
-frame_from-requires c =
+pub invariant_of-result : goal.invariant_of-result
+invariant_of-result c =
     let i : Inputs = inputs c.args.library.now c.args.document.now c.args.limits.now in
-    let core_is : Some c.unwrap-core.result.now ≡ core_in i = rw c.unwrap-core.ensures at (rw c.as_slice.ensures at c.sized_core_site.ensures.core) in
-    let found = rw c.unwrap-pitch.ensures at (rw c.units_of.ensures.units at c.core_pitch.ensures) in
-    frame_made i c.unwrap-core.result.now c.in_ok-parts.parts c.unwrap-pitch.result c.ranges_kept.ensures c.requires (sym core_is)
-    (rw c.unwrap-core.ensures at c.sized_core_site.ensures.range) (rw c.unwrap-core.ensures at c.sized_core_site.ensures.sized) found.0 found.1 c.in_ok-parts.ensures
+    let core : Site = c.unwrap-core.result.now in
+    let core_is : Some core ≡ core_in i = rw c.unwrap-core.ensures at (rw c.as_slice.ensures at c.sized_core_site.ensures.core) in
+    let found = rw c.unwrap-pitch.ensures at (rw c.units_of-units.ensures.units at c.core_pitch.ensures) in
+    let kept = frame_kept i core c.ranges_kept.ensures c.requires (sym core_is) (rw c.unwrap-core.ensures at c.sized_core_site.ensures.range)
+    (rw c.unwrap-core.ensures at c.sized_core_site.ensures.sized) found.0 in
+    let site = c.in_ok-copy_site.ensures {u = tt} in
+    let rows = rw c.as_slice-2.ensures at (c.in_ok-heeded_rows.ensures {u = tt}) in
+    let teams = rw c.as_slice-3.ensures at (c.in_ok-fence_teams.ensures {u = tt}) in
+    let obstacles = rw c.units_of-units.ensures.units at (c.in_ok-obstacles_of.ensures {u = tt}) in
+    let macros = rw c.macros.ensures.macros at (c.in_ok-copy_macros.ensures {u = tt}) in
+    let header = rw c.units_of-units.ensures.units at (c.in_ok-copy_header.ensures {u = tt}) in
+    record {
+      units_in_range = rw header c.ranges_kept.ensures.units;
+      site_in_lef = rw site kept.site_in_lef;
+      pitch_whole = rw (header, site, found.1) kept.pitch_whole;
+      has_row = rw rows kept.has_row;
+      few_rows = rw rows kept.few_rows;
+      rows_heeded = rw (found.1, rows) kept.rows_heeded;
+      rows_apart = rw (found.1, rows) kept.rows_apart;
+      few_fences = rw teams kept.few_fences;
+      fences_whole = rw teams kept.fences_whole;
+      fences_named = rw teams kept.fences_named;
+      fences_apart = rw teams kept.fences_apart;
+      obstacles_in_range = rw (obstacles, header, macros) kept.obstacles_in_range;
+      macros_in_lef = rw macros kept.macros_in_lef;
+    }

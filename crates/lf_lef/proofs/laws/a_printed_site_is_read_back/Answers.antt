@@ -1,5 +1,5 @@
-use Rattle.lf_lef.proofs.Printing.{reads_site}
+use Rattle.lf_lef.proofs.PrintedLibrary.{reads_site, reads_site_of}
 use Rattle.lf_lef.proofs.laws.a_printed_site_is_read_back.Goals as goal
 
 pub returns : goal.returns
-returns c = reads_site
+returns c = record { three_statements = reads_site; any_statements = reads_site_of }

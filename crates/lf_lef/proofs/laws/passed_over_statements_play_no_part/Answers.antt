@@ -1,4 +1,4 @@
-use Rattle.lf_lef.proofs.Printing.{passes_over}
+use Rattle.lf_lef.proofs.PrintedLibrary.{passes_over}
 use Rattle.lf_lef.proofs.laws.passed_over_statements_play_no_part.Goals as goal
 
 pub returns : goal.returns

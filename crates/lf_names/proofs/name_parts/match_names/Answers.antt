@@ -1,6 +1,6 @@
 use Rattle.std.proofs.Common.{◌∙◌, ◌+◌, ◌++◌, ap, drop}
 use Rattle.std.specs.Option.{option_map, option_to_list}
-use Rattle.lf_names.specs.NameParts.{label_in, labels_of, matches_of}
+use Rattle.lf_names.specs.Labels.{label_in, labels_of, matches_of}
 use Rattle.lf_names.specs.declared.name_parts.Entry.{Entry}
 use Rattle.lf_names.proofs.LabelledLemmas.{read, cut_front, cut_back, matched_more}
 use Rattle.lf_names.proofs.name_parts.match_names.Goals as goal

@@ -1,5 +1,6 @@
 use Rattle.std.proofs.Common.{◌≡◌, ◌++◌, List, map, drop}
-use Rattle.lf_names.specs.NameParts.{Labelled, Keeps, joined, matches_of}
+use Rattle.lf_names.specs.Labels.{Labelled, matches_of}
+use Rattle.lf_names.specs.NameParts.{Keeps, joined}
 use Rattle.lf_names.proofs.name_parts.match_names.Given as goal
 
 abbrev pub invariant-loop-entry : goal.invariant-loop-entry

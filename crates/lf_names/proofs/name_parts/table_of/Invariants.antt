@@ -1,5 +1,6 @@
 use Rattle.std.proofs.Common.{◌≡◌, ◌≢◌, List, AllPairs, map, take, drop}
-use Rattle.lf_names.specs.NameParts.{Labelled, Keeps, joined}
+use Rattle.lf_names.specs.Labels.{Labelled}
+use Rattle.lf_names.specs.NameParts.{Keeps, joined}
 use Rattle.lf_names.proofs.name_parts.table_of.Given as goal
 
 abbrev pub invariant-loop-entry : goal.invariant-loop-entry

@@ -1,8 +1,9 @@
 use Rattle.std.proofs.Common.{refl, arith}
 use Rattle.std.specs.Prelude.{Any}
 use Rattle.lf_units.specs.Area.{SharesPoint}
-use Rattle.lf_refusals.proofs.RectLemmas.{any_here, none_next}
+use Rattle.lf_refusals.proofs.RectLemmas.{none_next}
 use Rattle.lf_refusals.proofs.fence_refusals.do_rects_meet.Goals as goal
+use Rattle.lf_units.proofs.Any.{any_here}
 
 pub returns-then-meets_rect : goal.returns-then-meets_rect
 returns-then-meets_rect c = (

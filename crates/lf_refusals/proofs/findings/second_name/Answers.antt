@@ -2,7 +2,7 @@ use Rattle.lf_refusals.proofs.findings.second_name.Goals as goal
 
 pub returns : goal.returns
 returns c = record {
-  place = c.args.claims.now.second;
-  first = c.requires.second;
-  name = rw (c.as_slice.ensures, c.second_name.ensures) at c.component_name.ensures;
+  place = c.second_name.result;
+  first = c.second_name.ensures c.args.document.now.regions c.args.document.now.groups c.args.document.now.components c.requires;
+  name = rw c.as_slice.ensures at c.component_name.ensures;
 }

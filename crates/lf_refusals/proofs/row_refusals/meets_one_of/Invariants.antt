@@ -8,4 +8,5 @@ use Rattle.lf_refusals.proofs.row_refusals.meets_one_of.Given as goal
 abbrev pub invariant-loop-other : goal.invariant-loop-other
 invariant-loop-other l =
     (k : ℕ) (d : Row) → k < l.other-index →
-    (is_heeded l.core (get_or l.earlier k d) ≡ true) × SharesPoint (row_area l.pitch (frame_row (get_or l.earlier k d))) (row_area l.pitch (frame_row l.row)) → ⊥
+    (is_heeded l.core (get_or l.earlier k d) ≡ true) × SharesPoint (row_area l.pitch.size (frame_row (get_or l.earlier k d)))
+    (row_area l.pitch.size (frame_row l.row)) → ⊥

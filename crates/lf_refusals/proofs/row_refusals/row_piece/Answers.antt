@@ -10,5 +10,6 @@ returns c =
     let fits : SFits w128 c.right_edge.result = search rules in
     let right : to_z w128 (of_z w128 c.right_edge.result) ≡ c.right_edge.result = to_z-of_z w128 c.right_edge.result fits in
     let bottom : to_z w64 (of_z w64 row.y) ≡ row.y = omega (arith, ints) in
-    let top : to_z w64 (of_z w64 (to_z w64 (of_z w64 row.y) +ℤ to_z w64 (of_z w64 c.args.pitch.now.y))) ≡ row.y +ℤ c.args.pitch.now.y = omega (arith, ints) in
+    let top : to_z w64 (of_z w64 (to_z w64 (of_z w64 row.y) +ℤ to_z w64 (of_z w64 c.args.pitch.now.size.y))) ≡ row.y +ℤ c.args.pitch.now.size.y =
+    omega (arith, ints) in
     cc

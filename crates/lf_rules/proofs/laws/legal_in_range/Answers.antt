@@ -4,8 +4,9 @@ use Rattle.lf_floorplan.specs.declared.parts.Row.{Row}
 use Rattle.lf_floorplan.specs.Rows.{IsHeeded}
 use Rattle.lf_rules.specs.declared.rule.Rule.TheVariants.{Row as RowRule}
 use Rattle.lf_rules.specs.Legality.{Holds}
-use Rattle.lf_floorplan.specs.Boxes.{size_of, turned}
-use Rattle.lf_rules.proofs.SizeLemmas.{IsModest, turned-modest, sized-modest}
+use Rattle.lf_floorplan.specs.Boxes.{size_of}
+use Rattle.lf_floorplan.specs.Sizes.{turned}
+use Rattle.lf_floorplan.proofs.SizeBounds.{IsSmall, small_pitch, turned_small, sized_pitch}
 use Rattle.lf_rules.proofs.laws.legal_in_range.Goals as goal
 
 pub returns : goal.returns
@@ -14,10 +15,10 @@ returns c t sized legal =
     let row = found.0 in
     let bottom = found.1 in
     let heeded : IsHeeded t.frame.pitch row = subst (λ (r : Row). IsHeeded t.frame.pitch r) bottom.heeded.2 (t.frame.rows_heeded bottom.heeded.0 row bottom.heeded.1) in
-    let modest : IsModest (turned (size_of t.frame t.mac) t.orient) = turned-modest _ _ (sized-modest _ _ sized) in
+    let small : IsSmall (turned (size_of t.frame t.mac) t.orient) = turned_small _ _ (small_pitch _ _ _ (sized_pitch _ _ sized)) in
     let left = bottom.at_bottom.left in
     let right = bottom.at_bottom.right in
     let level = bottom.at_bottom.at_level in (
-      record { above = omega (arith, ints, left, heeded.x_in_def.above); most = omega (arith, ints, right, heeded.ends, modest.wide) },
+      record { above = omega (arith, ints, left, heeded.x_in_def.above); most = omega (arith, ints, right, heeded.ends, small.wide) },
       record { above = omega (arith, ints, level, heeded.y_in_def.above); most = omega (arith, ints, level, heeded.y_in_def.most) },
     )

@@ -1,32 +1,27 @@
-use Rattle.std.proofs.Common.{arith}
+use Rattle.std.proofs.Common.{ap, arith}
 use Rattle.std.proofs.lemmas.Int.{ints}
-use Rattle.lf_units.proofs.Same.{same_rect}
-use Rattle.lf_rules.proofs.SizeLemmas.{IsModest, turned-modest, sized-modest}
+use Rattle.lf_units.specs.declared.area.Rect.{Rect}
+use Rattle.lf_floorplan.specs.Sizes.{size_in_dbu, turned}
+use Rattle.lf_floorplan.proofs.SizeBounds.{IsSmall, small_pitch, turned_small, sized_pitch}
 use Rattle.lf_rules.proofs.size.solid_box.Goals as goal
 
-pub overflow_add-result : goal.overflow_add-result
-overflow_add-result c =
-    let modest : IsModest c.size_in-size.result = rw c.size_in-size.ensures (turned-modest _ _ (sized-modest _ _ c.requires)) in
-    omega (arith, ints)
-
-pub overflow_add-result-2 : goal.overflow_add-result-2
-overflow_add-result-2 c =
-    let modest : IsModest c.size_in-size.result = rw c.size_in-size.ensures (turned-modest _ _ (sized-modest _ _ c.requires)) in
-    omega (arith, ints)
-
-pub returns-clause-is : goal.returns-clause-is
-returns-clause-is c =
-    let modest : IsModest c.size_in-size.result = rw c.size_in-size.ensures (turned-modest _ _ (sized-modest _ _ c.requires)) in
-    rw (← c.size_in-size.ensures) (same_rect _ _ (omega (arith, ints)) (omega (arith, ints)) (omega (arith, ints)) (omega (arith, ints)))
+pub macro_box-requires : goal.macro_box-requires
+macro_box-requires c = record { whole = sized_pitch c.args.frame.now c.args.mac.now c.requires }
 
 pub returns-clause-solid : goal.returns-clause-solid
 returns-clause-solid c =
-    let modest : IsModest c.size_in-size.result = rw c.size_in-size.ensures (turned-modest _ _ (sized-modest _ _ c.requires)) in
+    let small : IsSmall (turned (size_in_dbu c.args.frame.now.header.units c.args.mac.now.size) c.args.place.now.orient) =
+    turned_small _ _ (small_pitch _ _ _ (sized_pitch c.args.frame.now c.args.mac.now c.requires)) in
+    let left = ap (λ (r : Rect). r.x1) c.macro_box.ensures.is in
+    let bottom = ap (λ (r : Rect). r.y1) c.macro_box.ensures.is in
+    let right = ap (λ (r : Rect). r.x2) c.macro_box.ensures.is in
+    let top = ap (λ (r : Rect). r.y2) c.macro_box.ensures.is in
+    let near = c.macro_box.ensures.near in
     record {
-      wide = omega (arith, ints);
-      high = omega (arith, ints);
-      x_low = omega (arith, ints);
-      y_low = omega (arith, ints);
-      x_high = omega (arith, ints);
-      y_high = omega (arith, ints);
+      wide = omega (arith, ints, left, right, small.wide);
+      high = omega (arith, ints, bottom, top, small.high);
+      x_low = near.across.from.above;
+      y_low = near.up.from.above;
+      x_high = omega (arith, ints, near.across.to);
+      y_high = omega (arith, ints, near.up.to);
     }

@@ -1,6 +1,7 @@
 use Rattle.std.proofs.Common.{◌≡◌, ◌⊎◌, [], ◌∷◌, ◌++◌, subst, sym, arith}
 use Rattle.std.proofs.lemmas.List.{length_push}
-use Rattle.lf_claims.specs.Claims.{ClaimsBy, Labels, Tells, claim_at}
+use Rattle.lf_claims.specs.Claims.{ClaimsBy, Labels, Tells}
+use Rattle.lf_claims.specs.ClaimTables.{claim_at}
 use Rattle.lf_claims.proofs.Claimed.{told_more}
 use Rattle.lf_claims.proofs.Tellings.{tells_merged}
 use Rattle.lf_claims.proofs.pattern_index.PatternIndex.with_starred.Goals as goal

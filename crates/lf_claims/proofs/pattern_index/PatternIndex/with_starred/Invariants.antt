@@ -1,5 +1,5 @@
 use Rattle.std.proofs.Common.{◌≡◌, ◌⊎◌, List, length}
-use Rattle.lf_names.specs.NameParts.{Labelled}
+use Rattle.lf_names.specs.Labels.{Labelled}
 use Rattle.lf_claims.specs.declared.starred.Bound.{Bound}
 use Rattle.lf_claims.specs.Claims.{ClaimsBy, Labels, HasStarred, AreTold}
 use Rattle.lf_claims.proofs.Claimed.{ToldBelow}

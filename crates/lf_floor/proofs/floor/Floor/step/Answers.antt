@@ -3,35 +3,43 @@ use Rattle.lf_proto.specs.Commands.{command_of}
 use Rattle.lf_floor.specs.States.{FloorState}
 use Rattle.lf_floor.specs.Teams.{state_of}
 use Rattle.lf_floor.proofs.Answering.{step_of_answer, others_kept, frame_kept}
-use Rattle.lf_floor.proofs.Promises.{places_legally, keeps_refused}
+use Rattle.lf_floor.proofs.Promises.{places_legally, legalizes_legally, tidies_legally, keeps_refused}
 use Rattle.lf_floor.proofs.floor.Floor.step.Goals as goal
 
 pub returns-in-Ok-clause-step : goal.returns-in-Ok-clause-step
-returns-in-Ok-clause-step c = λ l. step_of_answer l c.args.self.now c.try_step.new.self (command_of c.args.request.now) c.in-Ok.reply (c.in-Ok.ensures.ok l)
+returns-in-Ok-clause-step g c = λ l. step_of_answer l c.args.self.now c.try_step.new.self (command_of c.args.request.now) c.in-Ok.reply (c.in-Ok.ensures.ok l)
 
 pub returns-in-Ok-clause-others : goal.returns-in-Ok-clause-others
-returns-in-Ok-clause-others c = λ team other.
+returns-in-Ok-clause-others g c = λ team other.
     let l = c.legalizer_is_there.ensures in
     ap (λ (f : FloorState). state_of f team) (c.in-Ok.ensures.ok l).floor_is ∙ others_kept l c.args.self.now (command_of c.args.request.now) team other
 
 pub returns-in-Ok-clause-frame : goal.returns-in-Ok-clause-frame
-returns-in-Ok-clause-frame c =
+returns-in-Ok-clause-frame g c =
     let l = c.legalizer_is_there.ensures in
     ap (λ (f : FloorState). f.frame) (c.in-Ok.ensures.ok l).floor_is ∙ frame_kept l c.args.self.now (command_of c.args.request.now)
 
 pub returns-in-Err-clause-others : goal.returns-in-Err-clause-others
-returns-in-Err-clause-others c = λ team other. ap (λ (f : FloorState). state_of f team) (c.in-Err.ensures.err c.legalizer_is_there.ensures).short.kept
+returns-in-Err-clause-others g c = λ team other. ap (λ (f : FloorState). state_of f team) (c.in-Err.ensures.err c.legalizer_is_there.ensures).short.kept
 
 pub returns-in-Err-clause-frame : goal.returns-in-Err-clause-frame
-returns-in-Err-clause-frame c = ap (λ (f : FloorState). f.frame) (c.in-Err.ensures.err c.legalizer_is_there.ensures).short.kept
+returns-in-Err-clause-frame g c = ap (λ (f : FloorState). f.frame) (c.in-Err.ensures.err c.legalizer_is_there.ensures).short.kept
 
 pub returns-in-Ok-clause-placed : goal.returns-in-Ok-clause-placed
-returns-in-Ok-clause-placed c = λ l. places_legally l c.legal_in_range.ensures c.args.self.now c.try_step.new.self
+returns-in-Ok-clause-placed g c = λ l. places_legally l c.legal_in_range.ensures c.args.self.now c.try_step.new.self
+    (command_of c.args.request.now) c.in-Ok.reply c.teams_are_of_the_frame.ensures (c.in-Ok.ensures.ok l)
+
+pub returns-in-Ok-clause-legalized : goal.returns-in-Ok-clause-legalized
+returns-in-Ok-clause-legalized g c = λ l. legalizes_legally l c.legal_in_range.ensures c.args.self.now c.try_step.new.self
+    (command_of c.args.request.now) c.in-Ok.reply c.teams_are_of_the_frame.ensures (c.in-Ok.ensures.ok l)
+
+pub returns-in-Ok-clause-tidied : goal.returns-in-Ok-clause-tidied
+returns-in-Ok-clause-tidied g c = λ l. tidies_legally l c.legal_in_range.ensures c.args.self.now c.try_step.new.self
     (command_of c.args.request.now) c.in-Ok.reply c.teams_are_of_the_frame.ensures (c.in-Ok.ensures.ok l)
 
 pub returns-in-Ok-clause-refused : goal.returns-in-Ok-clause-refused
-returns-in-Ok-clause-refused c = let l = c.legalizer_is_there.ensures in keeps_refused l c.args.self.now c.try_step.new.self
+returns-in-Ok-clause-refused g c = let l = c.legalizer_is_there.ensures in keeps_refused l c.args.self.now c.try_step.new.self
     (command_of c.args.request.now) c.in-Ok.reply (c.in-Ok.ensures.ok l)
 
 pub returns-in-Err-clause-refused : goal.returns-in-Err-clause-refused
-returns-in-Err-clause-refused c denied = (c.in-Err.ensures.err c.legalizer_is_there.ensures).short.kept
+returns-in-Err-clause-refused g c denied = (c.in-Err.ensures.err c.legalizer_is_there.ensures).short.kept

@@ -1,20 +1,29 @@
-use Rattle.std.proofs.Common.{◌≡◌, ◌<◌, ◌∙◌, ap, sym, get_or, set, subst, arith}
-use Rattle.std.specs.Prelude.{vec_len}
-use Rattle.lf_names.specs.NameParts.{Keeps, part_of, part_count}
-use Rattle.lf_names.proofs.PartLemmas.{pushed}
+use Rattle.std.proofs.Common.{◌∷◌, ◌++◌, [], ◌∙◌, subst}
+use Rattle.std.specs.List.Sorted.{IsPermutation}
+use Rattle.lf_names.specs.NameParts.{names_of_parts}
+use Rattle.lf_names.proofs.PartViews.{view_kept, view_same, view_permuted}
+use Rattle.std.proofs.lemmas.Result.{err_from_is_err_and}
 use Rattle.lf_names.proofs.name_parts.NameParts.push.Goals as goal
 
-pub returns : goal.returns
-returns c = λ names before.
-    let old = c.args.self.now in
-    let part = c.in-Some.part.now in
-    let place = c.part_of.ensures.part in
-    let part_is : part ≡ get_or old.parts.items (part_of c.args.name.now) part = c.in-Some.ensures.value ∙ ap (λ k. get_or old.parts.items k part) place in
-    pushed names (record { label = c.args.label; name = c.args.name.now }) old _ part c.push.new.self before (λ own keeps. c.in_ok-push.ensures own (subst (λ s. Keeps s own) (sym part_is) keeps)) (ap (λ k. set old.parts.items k c.push.new.self) place)
+pub invariant_of-self : goal.invariant_of-self
+invariant_of-self c = view_kept (names_of_parts c.self.inside.parts.items) c.push_in_part.new.parts.items
+    (c.in_err-push_in_part.ensures.err (names_of_parts c.self.inside.parts.items) c.self.invariant)
 
-pub returns-in_default : goal.returns-in_default
-returns-in_default c = λ names before.
-    let within : c.part_of.result < part_count = c.part_of.ensures.within in
-    let below : c.part_of.result < vec_len c.args.self.now.parts = omega (arith, before.many, c.args.self.now.parts.ok) in
-    let absent = (c.in_default.ensures {u = tt}).variant.1 below in
-    absurd (cc)
+pub returns-in_err-push_in_part-clause-err : goal.returns-in_err-push_in_part-clause-err
+returns-in_err-push_in_part-clause-err c =
+    let p = err_from_is_err_and c.from_residual.result c.from_residual.ensures.1 in
+    rw p.1 (
+    view_same (names_of_parts c.self.inside.parts.items) c.self.inside.parts.items c.push_in_part.new.parts.items c.self.invariant
+    (c.in_err-push_in_part.ensures.err (names_of_parts c.self.inside.parts.items) c.self.invariant) ∙ c.self.view_is)
+
+pub invariant_of-self-2 : goal.invariant_of-self-2
+invariant_of-self-2 c =
+    view_kept (names_of_parts c.self.inside.parts.items ++ record { label = c.args.label; name = c.args.name.now } ∷ []) c.push_in_part.new.parts.items
+    (c.in_ok-push_in_part.ensures.ok (names_of_parts c.self.inside.parts.items) c.self.invariant)
+
+pub returns-clause-ok : goal.returns-clause-ok
+returns-clause-ok c =
+    subst (λ names. IsPermutation (names ++ record { label = c.args.label; name = c.args.name.now } ∷ []) (names_of_parts c.push_in_part.new.parts.items))
+    c.self.view_is
+    (view_permuted (names_of_parts c.self.inside.parts.items ++ record { label = c.args.label; name = c.args.name.now } ∷ []) c.push_in_part.new.parts.items
+    (c.in_ok-push_in_part.ensures.ok (names_of_parts c.self.inside.parts.items) c.self.invariant))

@@ -1,0 +1,48 @@
+-- Designs of files, step by step: what a fault is told as, and LEF files one after the other.
+use Rattle.std.proofs.Common.{◌≡◌, ◌⊎◌, inl, inr, ℕ, ◌+◌, ◌<◌, List, ◌∷◌, length, map, drop, slice_index_or, ap, subst, ◌∙◌}
+use Rattle.std.specs.Borrow.{Bor}
+use Rattle.std.proofs.Math.Numerals.{suc-eq-add-one}
+use Rattle.std.proofs.Math.Seq.{drop-cons}
+use Rattle.lf_lex.specs.declared.fault.LoadFault.{LoadFault}
+use Rattle.lf_lex.specs.declared.fault.ReadError.TheVariants.{Memory}
+use Rattle.lf_lex.specs.Faults.{load_fault_of}
+use Rattle.lf_lef.specs.Contents.{Contents}
+use Rattle.lf_def.specs.Document.{Document}
+use Rattle.lf_floorplan.specs.declared.limits.Limits.{Limits}
+use Rattle.lf_refusals.specs.Findings.{IsFault}
+use Rattle.lf_app.specs.declared.faults.Fault.{Fault}
+use Rattle.lf_app.specs.Designs.{Adds, AreStandard, Gives, IsFaultIn, IsLibraryFault, IsLibraryOf}
+
+-- what loading answers within the standard limits
+pub loading : (library : Contents) (document : Document) (limits : Limits) (refusal : LoadFault) → AreStandard limits
+    → (refusal ≡ load_fault_of Memory) ⊎ IsFault (record { library = library; document = document; limits = limits }) refusal
+    → (refusal ≡ load_fault_of Memory) ⊎ IsFaultIn library document refusal
+loading library document limits refusal standard (inl memory) = inl memory
+loading library document limits refusal standard (inr fault) = inr (limits, standard, fault)
+
+abbrev Path : Type 0
+Path = Bor (List ℕ)
+
+abbrev written : List Path → List (List ℕ)
+written = map (λ path. path.now)
+
+-- the paths that are left take the library to where all of them take the first one
+pub record GoesOn (gives : Gives) (first now : Contents) (all left : List (List ℕ)) : Type 0 where
+  pub library : (new : Contents) → IsLibraryOf gives now left new → IsLibraryOf gives first all new
+  pub fault : (fault : Fault) → IsLibraryFault gives now left fault → IsLibraryFault gives first all fault
+
+-- the paths from one on are that one and those behind it
+ahead : (paths : List Path) (i : ℕ) (d : Path) → i < length paths → written (drop i paths) ≡ (slice_index_or paths i d).now ∷ written (drop (i + 1) paths)
+ahead paths i d lt = ap written (drop-cons paths i d lt ∙ ap (λ n. slice_index_or paths i d ∷ drop n paths) (suc-eq-add-one i))
+
+-- and so they do behind one more of them
+pub one_more : (gives : Gives) (first now next : Contents) (paths : List Path) (i : ℕ) (d : Path) → i < length paths
+    → GoesOn gives first now (written paths) (written (drop i paths)) → Adds gives (slice_index_or paths i d).now now next
+    → GoesOn gives first next (written paths) (written (drop (i + 1) paths))
+one_more gives first now next paths i d lt on adds =
+    let here : GoesOn gives first now (written paths) ((slice_index_or paths i d).now ∷ written (drop (i + 1) paths)) =
+    subst (λ (left : List (List ℕ)). GoesOn gives first now (written paths) left) (ahead paths i d lt) on in
+    record {
+      library = λ new rest. here.library new (next, adds, rest);
+      fault = λ fault rest. here.fault fault (inr (next, adds, rest));
+    }

@@ -1,0 +1,55 @@
+-- Tasks over a design that is loaded.
+use Rattle.std.proofs.Common.{◌≡◌, ◌⊎◌, arith, inl, inr, ℕ, List, Option}
+use Rattle.std.specs.Prelude.{IfErr, IfOk, Result}
+use Rattle.std.proofs.lemmas.Result.{IfErr-weaker, IfOk-weaker}
+use Rattle.lf_floorplan.specs.declared.loaded.Loaded.{Loaded}
+use Rattle.lf_app.specs.declared.faults.Exit.{Exit}
+use Rattle.lf_app.specs.declared.faults.Fault.{Fault}
+use Rattle.lf_app.specs.declared.faults.Fault.TheVariants.{Refused, File, ReadFault, WriteFault, OutOfMemory, Output}
+use Rattle.lf_app.specs.declared.command.Task.{Task}
+use Rattle.lf_app.specs.declared.command.Task.TheVariants.{Demo, Replay, Check}
+use Rattle.lf_app.specs.Command.{IsCheck, Job, as_job, check, demo, replay}
+use Rattle.lf_app.specs.Designs.{Gives}
+use Rattle.lf_app.specs.Exits.{Ends, IsOutcome}
+use Rattle.lf_app.specs.Faults.{IsDone, IsFailure}
+
+-- what comes behind loading is what comes of a task over a design
+module _ (IsDesign : Loaded → Type 0) (loaded : Loaded) (design : IsDesign loaded) (r : Result ℕ Exit) where
+  pub comes_of : (Comes : Loaded → ℕ → Type 0) → IfOk r (Comes loaded) → IfOk r (λ status. (l : Loaded) × IsDesign l × Comes l status)
+  comes_of Comes = IfOk-weaker r (Comes loaded) (λ status. (l : Loaded) × IsDesign l × Comes l status) (λ status is. (loaded, design, is))
+
+  -- and a fault behind loading is one of the whole task
+  pub fails : (no_design why early : Fault → Type 0) (kept : Type 0) (old new : Option (List ℕ))
+      → IfErr r (Ends (λ fault. why fault × (early fault → kept)) old new)
+      → IfErr r (Ends (λ fault. (no_design fault ⊎ ((l : Loaded) × IsDesign l × why fault)) × (early fault → kept)) old new)
+  fails no_design why early kept old new = IfErr-weaker r (Ends (λ fault. why fault × (early fault → kept)) old new)
+      (Ends (λ fault. (no_design fault ⊎ ((l : Loaded) × IsDesign l × why fault)) × (early fault → kept)) old new)
+      (λ exit ends. (ends.0, (inr (loaded, design, ends.1.0), ends.1.1), ends.2))
+
+-- the status of a fault is one of a task that was not done
+pub failing : (why : Fault → Type 0) (old new : Option (List ℕ)) (exit : Exit) → Ends why old new exit → IsFailure exit.status
+failing why old new exit (Refused refusal, is, ends) = inl ends.status
+failing why old new exit (File, is, ends) = inr ends.status
+failing why old new exit (ReadFault, is, ends) = inr ends.status
+failing why old new exit (WriteFault, is, ends) = inr ends.status
+failing why old new exit (OutOfMemory, is, ends) = inr ends.status
+failing why old new exit (Output, is, ends) = inr ends.status
+
+-- no task is done and not done
+pub not_both : (status : ℕ) → IsDone status → IsFailure status → ⊥
+not_both status (inl is) (inl fails) = omega (arith, is, fails)
+not_both status (inl is) (inr fails) = omega (arith, is, fails)
+not_both status (inr is) (inl fails) = omega (arith, is, fails)
+not_both status (inr is) (inr fails) = omega (arith, is, fails)
+
+-- the status of what a job has come to is one of a task that was done
+pub succeeds : (gives : Gives) (job : Job) (old new : Option (List ℕ)) (status : ℕ) → IsOutcome gives job old new status → IsDone status
+succeeds gives demo old new status is = inl is.2
+succeeds gives (replay def lefs) old new status is = inl is.2
+succeeds gives (check def lefs) old new status is = is.2.done
+
+-- 4 is the status of a check alone
+pub checked : (gives : Gives) (task : Task) (old new : Option (List ℕ)) (status : ℕ) → IsOutcome gives (as_job task) old new status → status ≡ 4 → IsCheck task
+checked gives Demo old new status is four = let zero : status ≡ 0 = is.2 in absurd (omega (arith, zero, four))
+checked gives (Replay def lefs) old new status is four = let zero : status ≡ 0 = is.2 in absurd (omega (arith, zero, four))
+checked gives (Check def lefs) old new status is four = tt

@@ -1,0 +1,19 @@
+use Rattle.std.proofs.Common.{◌≡◌, map}
+use Rattle.lf_app.specs.Designs.{IsDesignFault, IsDesignOf}
+use Rattle.lf_app.specs.Exits.{IsEarly, IsReported}
+use Rattle.lf_app.specs.Faults.{IsReportFault}
+use Rattle.lf_app.proofs.TaskSteps.{comes_of, fails}
+use Rattle.lf_app.proofs.tasks.check.Goals as goal
+
+pub returns-clause-ok : goal.returns-clause-ok
+returns-clause-ok g c =
+    let design = IsDesignOf (g.T.Texts.gives c.args.texts.now) c.args.def.now (map (λ lef. lef.now) c.args.lefs.now) in
+    comes_of design c.in_ok-loaded.loaded c.in_ok-loaded.ensures.ok c.check_design.result
+    (λ l. IsReported l (g.W.Write.contents c.args.writer.now) (g.W.Write.contents c.check_design.new.writer)) c.check_design.ensures.ok
+
+pub returns-clause-err : goal.returns-clause-err
+returns-clause-err g c =
+    let design = IsDesignOf (g.T.Texts.gives c.args.texts.now) c.args.def.now (map (λ lef. lef.now) c.args.lefs.now) in
+    let no_design = IsDesignFault (g.T.Texts.gives c.args.texts.now) c.args.def.now (map (λ lef. lef.now) c.args.lefs.now) in
+    fails design c.in_ok-loaded.loaded c.in_ok-loaded.ensures.ok c.check_design.result
+    no_design IsReportFault IsEarly (c.check_design.new.writer ≡ c.args.writer.now) _ _ (rw c.in_ok-loaded.ensures.kept at c.check_design.ensures.err)

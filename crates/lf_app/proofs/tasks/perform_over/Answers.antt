@@ -1,0 +1,41 @@
+use Rattle.std.proofs.Common.{◌≡◌, ℕ, inl, inr, subst, sym}
+use Rattle.lf_app.specs.Command.{as_job}
+use Rattle.lf_app.specs.Exits.{IsEarly, IsJobFault, IsOutcome}
+use Rattle.lf_app.specs.Faults.{IsDone, IsFailure}
+use Rattle.lf_app.proofs.TaskSteps.{checked, failing, not_both, succeeds}
+use Rattle.lf_app.proofs.tasks.perform_over.Goals as goal
+
+pub returns-in-Ok : goal.returns-in-Ok
+returns-in-Ok g c =
+    let gives = g.T.Texts.gives c.args.texts.now in
+    let old = g.W.Write.contents c.args.writer.now in
+    let new = g.W.Write.contents c.outcome.new.writer in
+    let status = c.done.result.status in
+    let is : IsOutcome gives (as_job c.args.task.now) old new status =
+    subst (λ (n : ℕ). IsOutcome gives (as_job c.args.task.now) old new n) (sym c.done.ensures.status) c.in-Ok.ensures.ok in
+    let succeeded : IsDone status = succeeds gives (as_job c.args.task.now) old new status is in
+    record {
+      status = inl succeeded;
+      outcome = λ _. is;
+      done = λ _. c.in-Ok.ensures.kept;
+      told = λ _. c.done.ensures.told;
+      fault = λ failed. absurd (not_both status succeeded failed);
+      checked = checked gives c.args.task.now old new status is;
+      unread = c.in-Ok.ensures.unread;
+    }
+
+pub returns-in-Err : goal.returns-in-Err
+returns-in-Err g c =
+    let status = c.in-Err.exit.status in
+    let failed : IsFailure status =
+    failing (λ fault. IsJobFault (g.T.Texts.gives c.args.texts.now) (as_job c.args.task.now) fault × (IsEarly fault → c.outcome.new.writer ≡ c.args.writer.now))
+    (g.F.Write.contents c.args.faults.now) (g.F.Write.contents c.outcome.new.faults) c.in-Err.exit c.in-Err.ensures.err in
+    record {
+      status = inr failed;
+      outcome = λ succeeded. absurd (not_both status succeeded failed);
+      done = λ succeeded. absurd (not_both status succeeded failed);
+      told = λ succeeded. absurd (not_both status succeeded failed);
+      fault = λ _. c.in-Err.ensures.err;
+      checked = λ four. absurd (not_both status (inr four) failed);
+      unread = c.in-Err.ensures.unread;
+    }

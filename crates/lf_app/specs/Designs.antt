@@ -1,0 +1,112 @@
+-- The design of files: what is loaded from their texts, and why nothing is.
+use Rattle.std.specs.Prelude.{◌≡◌, ◌⊎◌, ℕ, List, [], ◌∷◌, Option, Some, None, Ok}
+use Rattle.lf_lex.specs.declared.fault.LoadFault.{LoadFault}
+use Rattle.lf_lex.specs.declared.fault.ReadError.TheVariants.{Memory}
+use Rattle.lf_lex.specs.Faults.{load_fault_of}
+use Rattle.lf_lef.specs.Contents.{Contents}
+use Rattle.lf_lef.specs.Library as lef
+use Rattle.lf_def.specs.Document as def
+use Rattle.lf_floorplan.specs.declared.limits.Limits.{Limits}
+use Rattle.lf_floorplan.specs.declared.loaded.Loaded.{Loaded}
+use Rattle.lf_refusals.specs.Findings.{IsFault}
+use Rattle.lf_frame.specs.Loads.{IsLoadedFrom}
+use Rattle.lf_app.specs.declared.faults.Fault.{Fault}
+use Rattle.lf_app.specs.declared.faults.Fault.TheVariants.{Refused, File}
+
+-- what reading the file of a path may come to: its text, or None where it cannot be read
+abbrev pub Gives : Type 1
+Gives = List ℕ → Option (List ℕ) → Type 0
+
+-- the library without sites and macros
+abbrev pub no_library : Contents
+no_library = record { sites = []; macros = [] }
+
+-- the file of the path is read, and its LEF text makes the new library of the old one
+pub record Adds (gives : Gives) (path : List ℕ) (old new : Contents) : Type 0 where
+  pub text : List ℕ
+  pub given : gives path (Some text)
+  pub read : lef.library_after old text ≡ Ok new
+
+-- the LEF texts of these files, read one after the other in the order of the paths, make the new library of the old one
+abbrev pub IsLibraryOf : Gives → Contents → List (List ℕ) → Contents → Type 0
+IsLibraryOf gives old [] new = new ≡ old
+IsLibraryOf gives old (path ∷ paths) new = (next : Contents) × Adds gives path old next × IsLibraryOf gives next paths new
+
+-- the limits where none are given
+pub record AreStandard (limits : Limits) : Type 0 where
+  pub rows : limits.rows ≡ 65535
+  pub fences : limits.fences ≡ 1024
+  pub components : limits.components ≡ 4000000
+  pub sessions : limits.sessions ≡ 8
+  pub undo : limits.undo ≡ 64
+  pub revisions : limits.revisions ≡ 4000000000
+
+-- what is loaded from the library, the document and the standard limits
+abbrev pub IsLoadedIn : Contents → def.Document → Loaded → Type 0
+IsLoadedIn library document loaded =
+    (limits : Limits) × AreStandard limits × IsLoadedFrom (record { library = library; document = document; limits = limits }) loaded
+
+-- why nothing is loaded from them
+abbrev pub IsFaultIn : Contents → def.Document → LoadFault → Type 0
+IsFaultIn library document refusal =
+    (limits : Limits) × AreStandard limits × IsFault (record { library = library; document = document; limits = limits }) refusal
+
+-- the design of a DEF text over the library
+abbrev pub IsDesignIn : Contents → List ℕ → Loaded → Type 0
+IsDesignIn library text loaded = (document : def.Document) × (def.document_of text ≡ Ok document) × IsLoadedIn library document loaded
+
+-- the file of the path is read, and the design is that of its DEF text over the library
+pub record IsFileDesign (gives : Gives) (path : List ℕ) (library : Contents) (loaded : Loaded) : Type 0 where
+  pub text : List ℕ
+  pub given : gives path (Some text)
+  pub design : IsDesignIn library text loaded
+
+-- the design of a DEF file over the library of LEF files
+abbrev pub IsDesignOf : Gives → List ℕ → List (List ℕ) → Loaded → Type 0
+IsDesignOf gives path lefs loaded = (library : Contents) × IsLibraryOf gives no_library lefs library × IsFileDesign gives path library loaded
+
+-- the design of a DEF text over a LEF text
+abbrev pub IsTextDesign : List ℕ → List ℕ → Loaded → Type 0
+IsTextDesign text lef_text loaded = (library : Contents) × (lef.library_after no_library lef_text ≡ Ok library) × IsDesignIn library text loaded
+
+-- why a LEF text is refused over the library: its first fault with its line, or want of memory
+abbrev pub IsLefRefusal : Contents → List ℕ → LoadFault → Type 0
+IsLefRefusal library text refusal = lef.Refuses refusal (lef.library_after library text)
+
+-- why there is no design of a DEF text over the library: its first fault with its line, what loading finds, or want of memory
+abbrev pub IsDefRefusal : Contents → List ℕ → LoadFault → Type 0
+IsDefRefusal library text refusal =
+    def.Refuses refusal (def.document_of text) ⊎ ((document : def.Document) × (def.document_of text ≡ Ok document) × IsFaultIn library document refusal)
+
+-- the fault is a refusal of this kind
+abbrev pub IsRefused : (LoadFault → Type 0) → Fault → Type 0
+IsRefused why (Refused refusal) = why refusal
+IsRefused why _ = ⊥
+
+-- why there is no text of a file: it cannot be read, or want of memory
+abbrev pub IsUnread : Gives → List ℕ → Fault → Type 0
+IsUnread gives path (Refused refusal) = refusal ≡ load_fault_of Memory
+IsUnread gives path File = gives path None
+IsUnread gives path _ = ⊥
+
+-- why a file does not serve: there is no text of it, or its text is refused for this reason
+abbrev pub IsFileFault : Gives → List ℕ → (List ℕ → LoadFault → Type 0) → Fault → Type 0
+IsFileFault gives path why fault = IsUnread gives path fault ⊎ ((text : List ℕ) × gives path (Some text) × IsRefused (why text) fault)
+
+-- why there is no library of these LEF files: the fault of the first of them that has one, over the library of those before it
+abbrev pub IsLibraryFault : Gives → Contents → List (List ℕ) → Fault → Type 0
+IsLibraryFault gives old [] fault = ⊥
+IsLibraryFault gives old (path ∷ paths) fault =
+    IsFileFault gives path (IsLefRefusal old) fault ⊎ ((next : Contents) × Adds gives path old next × IsLibraryFault gives next paths fault)
+
+-- why there is no design of a DEF file over LEF files: the fault of the LEF files, and where they have none, that of the DEF file
+abbrev pub IsDesignFault : Gives → List ℕ → List (List ℕ) → Fault → Type 0
+IsDesignFault gives path lefs fault =
+    IsLibraryFault gives no_library lefs fault
+    ⊎ ((library : Contents) × IsLibraryOf gives no_library lefs library × IsFileFault gives path (IsDefRefusal library) fault)
+
+-- why there is no design of a DEF text over a LEF text: the refusal of the LEF text, and where it has none, that of the DEF text
+abbrev pub IsTextFault : List ℕ → List ℕ → Fault → Type 0
+IsTextFault text lef_text fault =
+    IsRefused (IsLefRefusal no_library lef_text) fault
+    ⊎ ((library : Contents) × (lef.library_after no_library lef_text ≡ Ok library) × IsRefused (IsDefRefusal library text) fault)

@@ -1,0 +1,56 @@
+//! Where the texts of a design are read from.
+
+ghost use Rattle.std.specs.Prelude.{◌≡◌, ℕ, List, Option, Some, None, ⊤, IfOk, IfErr};
+
+use std::rt::Files;
+use std::{fs, io};
+
+/// Why there is no text of a file.
+#[derive(Clone, Copy, Debug, PartialEq, Eq)]
+pub enum Unread {
+    /// The file cannot be read.
+    File,
+    /// A growth of memory was refused.
+    OutOfMemory,
+}
+
+/// Where texts are read from, by the paths of their files.
+pub trait Texts {
+    // What reading the file of a path may come to: its text, or None where it cannot be read.
+    ghost gives: { Self → List ℕ → Option (List ℕ) → Type 0 } = { λ _ _ _. ⊤ };
+
+    /// The whole text of the file of that path.
+    fn text(&self, path: &str) -> Result<Vec<u8>, Unread>
+        ensures ok { IfOk result (λ text. gives self.now path.now (Some text.items)) }
+        ensures err { IfErr result (λ unread. unread ≡ Unread.File → gives self.now path.now None) };
+}
+
+/// The files of a runtime. Contracts know nothing of what they hold.
+#[derive(Clone, Copy)]
+pub struct FileTexts<'a, T> {
+    files: &'a T,
+}
+
+impl<'a, T> FileTexts<'a, T> {
+    /// The texts of these files.
+    pub fn new(files: &'a T) -> Self {
+        FileTexts { files }
+    }
+}
+
+/// Why there is no text of a file that was not read: a folder is no file that can be read.
+fn unread_of(error: &io::Error) -> Unread {
+    if error.kind() == io::ErrorKind::OutOfMemory {
+        return Unread::OutOfMemory;
+    }
+    Unread::File
+}
+
+impl<'a, T: Files + AllocGlobal> Texts for FileTexts<'a, T> {
+    fn text(&self, path: &str) -> Result<Vec<u8>, Unread> {
+        match fs::read(self.files, path) {
+            Ok(text) => Ok(text),
+            Err(error) => Err(unread_of(&error)),
+        }
+    }
+}

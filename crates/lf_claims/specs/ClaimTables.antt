@@ -1,0 +1,49 @@
+-- What a table of claims tells, and when it is the table of components, by the groups and the regions of a document (DEF REGIONS, GROUPS, COMPONENTS).
+use Rattle.std.specs.Prelude.{◌≡◌, ℕ, ◌<◌, List, length, Option, Some, unwrap_or, slice_get, slice_index_or}
+use Rattle.lf_def.specs.declared.regions.Region.{Region}
+use Rattle.lf_def.specs.declared.groups.Group.{Group}
+use Rattle.lf_def.specs.declared.components.Component.{Component}
+use Rattle.lf_claims.specs.declared.claims.Claim.{Claim}
+use Rattle.lf_claims.specs.declared.claims.Claim.TheVariants.{Unclaimed, ByOne, ByTwo}
+use Rattle.lf_claims.specs.Teams.{fences, IsUnclaimed, IsClaimedBy, IsTeamOf}
+use Rattle.lf_claims.specs.Entries.{NoneBreaks, FirstIs}
+use Rattle.lf_claims.specs.Refusals.{HasTwoFences, BearsEarlierName}
+
+-- what a table tells: the component that bears an earlier one's name, the claims of the components by their numbers, and the number of the ground
+pub record Told : Type 0 where
+  pub second : Option ℕ
+  pub claims : List Claim
+  pub ground : ℕ
+
+-- what the claim says: no fence claims the name, one does, or two different ones do
+abbrev pub IsClaimOf : List Region → List Group → List ℕ → Claim → Type 0
+IsClaimOf regions groups name Unclaimed = IsUnclaimed regions groups name
+IsClaimOf regions groups name (ByOne team) = IsClaimedBy regions groups name team
+IsClaimOf regions groups name ByTwo = HasTwoFences regions groups name
+
+-- the claim at a number
+abbrev pub claim_at : List Claim → ℕ → Claim
+claim_at claims number = unwrap_or (slice_get claims number) Unclaimed
+
+-- each component has the claim of its number
+abbrev pub AreClaimsOf : List Region → List Group → List Component → List Claim → Type 0
+AreClaimsOf regions groups components claims = (k : ℕ) (d : Component) → k < length components → IsClaimOf regions groups (slice_index_or components k d).name
+    (claim_at claims k)
+
+-- the table has the first component that bears an earlier one's name, the claims of all where there is none such, and the number of the ground
+pub record IsTableOf (regions : List Region) (groups : List Group) (components : List Component) (table : Told) : Type 0 where
+  pub second : FirstIs BearsEarlierName components table.second
+  pub claims : NoneBreaks BearsEarlierName components → AreClaimsOf regions groups components table.claims
+  pub ground : table.ground ≡ length (fences regions)
+
+-- whatever components the table is of, the found one is the first of them that bears an earlier one's name
+abbrev pub TellsSecondName : Told → Option ℕ → Type 0
+TellsSecondName table found = (regions : List Region) (groups : List Group) (components : List Component) → IsTableOf regions groups components table →
+    FirstIs BearsEarlierName components found
+
+-- whatever components the table is of, where their names differ the team is that of the component of this number, unless two fences claim it
+abbrev pub TellsTeam : Told → ℕ → ℕ → Type 0
+TellsTeam table number team =
+    (regions : List Region) (groups : List Group) (components : List Component) → IsTableOf regions groups components table → NoneBreaks BearsEarlierName
+    components →
+    (c : Component) → slice_get components number ≡ Some c → (HasTwoFences regions groups c.name → ⊥) → IsTeamOf regions groups c.name team

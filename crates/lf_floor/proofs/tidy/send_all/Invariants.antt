@@ -1,0 +1,19 @@
+use Rattle.std.proofs.Common.{◌≡◌, ◌≤◌, ◌-◌, map}
+use Rattle.lf_rules.specs.Legalizer.{Legalizer}
+use Rattle.lf_rules.specs.Tidy.{Going, tidied, tidied_from}
+use Rattle.lf_cells.specs.Cells.{cells_of}
+use Rattle.lf_legalize.specs.Members.{member_of}
+use Rattle.lf_floor.specs.Tables.{OthersStay}
+use Rattle.lf_floor.specs.Tidying.{SameButPlaces}
+use Rattle.lf_floor.proofs.tidy.send_all.Given as goal
+
+-- tidying goes on from the cells so far, which differ from the old ones in their working places alone
+abbrev pub invariant-loop-own : goal.invariant-loop-own
+invariant-loop-own g l = record {
+  going : (j : Legalizer)
+      → tidied_from j l.around.frame.now l.around.number l.own (l.own-end - l.own) (Going (map member_of (cells_of l.cells l.around.number)) l.moved)
+      ≡ tidied j l.around.frame.now l.around.number (map member_of (cells_of l.initial.cells l.around.number));
+  same : SameButPlaces (cells_of l.initial.cells l.around.number) (cells_of l.cells l.around.number);
+  others : OthersStay l.around.number l.initial.cells l.cells;
+  few : l.moved ≤ l.own;
+}

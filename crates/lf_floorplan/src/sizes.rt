@@ -1,0 +1,65 @@
+//! Sizes in database units, and the boxes of macros.
+
+ghost use Rattle.std.specs.Prelude.{◌≡◌, pos, ◌<ℤ◌, ◌≤ℤ◌};
+ghost use Rattle.lf_units.specs.Length.{IsLength, in_dbu};
+ghost use Rattle.lf_floorplan.specs.Bounds.{IsNearDefRect};
+ghost use Rattle.lf_floorplan.specs.Rows.{IsPitch};
+ghost use Rattle.lf_floorplan.specs.Sizes.{size_in_dbu, turned, box_at};
+
+use crate::place::Place;
+use lf_orient::Orient;
+use lf_units::{Point, Rect};
+
+/// Millionths of a micron in one micron.
+const MICRON: i64 = 1_000_000;
+
+/// A length of LEF in database units.
+fn length_in_units(micros: i64, units: u32) -> i64
+    requires whole { IsLength units micros (in_dbu units micros) }
+    requires positive { pos 0 <ℤ in_dbu units micros }
+    requires small { in_dbu units micros ≤ℤ pos 20000000000 }
+    ensures { result ≡ in_dbu units micros }
+{
+    micros * i64::from(units) / MICRON
+}
+
+/// A size of LEF, in millionths of a micron, as one in database units.
+pub fn size_in_units(size: &Point, units: u32) -> Point
+    requires whole { IsPitch units size.now (size_in_dbu units size.now) }
+    ensures { result ≡ size_in_dbu units size.now }
+{
+    let across = length_in_units(size.x, units);
+    let up = length_in_units(size.y, units);
+    Point { x: across, y: up }
+}
+
+/// A size with width and height exchanged for E, W, FE and FW.
+fn turned_size(size: Point, orient: Orient) -> Point
+    ensures { result ≡ turned size orient }
+{
+    match orient {
+        Orient::E | Orient::W | Orient::FE | Orient::FW => Point {
+            x: size.y,
+            y: size.x,
+        },
+        Orient::N | Orient::S | Orient::FN | Orient::FS => size,
+    }
+}
+
+/// The box of a macro of this size, in millionths of a micron, at the place, in database units (LEF MACRO SIZE, DEF
+/// COMPONENTS).
+pub fn macro_box(size: &Point, units: u32, place: &Place) -> Rect
+    requires whole { IsPitch units size.now (size_in_dbu units size.now) }
+    ensures near { IsNearDefRect result }
+    ensures is { result ≡ box_at (turned (size_in_dbu units size.now) place.now.orient) place.now.x place.now.y }
+{
+    let size = turned_size(size_in_units(size, units), place.orient);
+    let x = i64::from(place.x);
+    let y = i64::from(place.y);
+    Rect {
+        x1: x,
+        y1: y,
+        x2: x + size.x,
+        y2: y + size.y,
+    }
+}

@@ -1,0 +1,70 @@
+-- Printed LEF sites: statements in any order, with whatever is passed over among them.
+use Rattle.std.specs.Prelude.{◌≡◌, ◌≢◌, ℕ, ◌<◌, List, [], ◌∷◌, ◌++◌, length, map, All, None, codes}
+use Rattle.std.specs.Str.{bytes_eq}
+use Rattle.lf_names.specs.Names.{position_of}
+use Rattle.lf_lex.specs.Tokens.{Lexed, Lexeme, Plain, with_tokens}
+use Rattle.lf_lex.specs.Reading.{first_stands}
+use Rattle.lf_lex.specs.Splices.{word_of}
+use Rattle.lf_floorplan.specs.declared.sites.Site.{Site}
+use Rattle.lf_lef.specs.declared.sites.SiteParts.{SiteParts}
+use Rattle.lf_lef.specs.Contents.{Contents, site_names}
+use Rattle.lf_lef.specs.Sites.{no_symmetry, no_site_parts, site_of}
+use Rattle.lf_lef.specs.Library.{library}
+use Rattle.lf_lef.specs.Printed.{Spells, IsPrintable, class_words, end_words, with_semicolon, IsPassedOver, Passed, IsWhole, tokens_behind}
+use Rattle.lf_lef.specs.PrintedMacros.{PrintedLength, IsPrintedLength, SymmetryWord, symmetry_tokens, with_symmetries}
+
+-- a statement of a SITE
+pub data SiteStatement : Type 0 where
+  -- CLASS class ;
+  site_class : List ℕ → SiteStatement
+  -- SYMMETRY {X | Y | R90} .. ;
+  site_symmetry : List SymmetryWord → SiteStatement
+  -- SIZE w BY h ;
+  site_size : PrintedLength → PrintedLength → SiteStatement
+  -- any other, up to its semicolon
+  site_passed : List Plain → SiteStatement
+
+abbrev pub site_statement_tokens : SiteStatement → List Plain
+site_statement_tokens (site_class class) = map word_of (class_words class)
+site_statement_tokens (site_symmetry words) = word_of (codes "SYMMETRY") ∷ symmetry_tokens words
+site_statement_tokens (site_size w h) = map word_of (codes "SIZE" ∷ w.word ∷ codes "BY" ∷ h.word ∷ codes ";" ∷ [])
+site_statement_tokens (site_passed tokens) = with_semicolon tokens
+
+abbrev pub IsSiteStatement : SiteStatement → Type 0
+IsSiteStatement (site_class class) = class ≢ codes ";"
+IsSiteStatement (site_symmetry words) = Unit {0}
+IsSiteStatement (site_size w h) = IsPrintedLength w × IsPrintedLength h
+IsSiteStatement (site_passed tokens) = IsPassedOver (codes "END" ∷ codes "CLASS" ∷ codes "SYMMETRY" ∷ codes "SIZE" ∷ []) tokens
+
+-- the statements one behind the other, and END name
+abbrev pub site_body_tokens : List ℕ → List SiteStatement → List Plain
+site_body_tokens name [] = map word_of (end_words name)
+site_body_tokens name (s ∷ ss) = site_statement_tokens s ++ site_body_tokens name ss
+
+-- SITE name, its statements, END name
+abbrev pub site_tokens : List ℕ → List SiteStatement → List Plain
+site_tokens name statements = word_of (codes "SITE") ∷ word_of name ∷ site_body_tokens name statements
+
+-- the first CLASS, SYMMETRY and SIZE stand, and what is passed over plays no part
+abbrev pub with_site_statement : SiteParts → SiteStatement → SiteParts
+with_site_statement parts (site_class class) = record parts { core = first_stands parts.core (bytes_eq class (codes "CORE")) }
+with_site_statement parts (site_symmetry words) = record parts { symmetry = first_stands parts.symmetry (with_symmetries no_symmetry words) }
+with_site_statement parts (site_size w h) = record parts { size = first_stands parts.size (record { x = w.length; y = h.length }) }
+with_site_statement parts (site_passed tokens) = parts
+
+abbrev pub with_site_statements : SiteParts → List SiteStatement → SiteParts
+with_site_statements parts [] = parts
+with_site_statements parts (s ∷ ss) = with_site_statements (with_site_statement parts s) ss
+
+-- the site that the statements say
+abbrev pub said_site : List ℕ → List SiteStatement → Site
+said_site name statements = site_of name (with_site_statements no_site_parts statements)
+
+-- A site that is printed by any such statements, and whose name is new, is read back, behind statements that are
+-- passed over and whatever stands behind it.
+abbrev pub ReadsSiteOf : Contents → Site → List SiteStatement → Type 0
+ReadsSiteOf c s statements = (passed : List Passed) (tokens : List Lexeme) (behind : Lexed)
+    → All IsWhole passed → IsPrintable s.name → All IsSiteStatement statements → said_site s.name statements ≡ s
+    → position_of (site_names c.sites) s.name ≡ None → length c.sites < 1000000
+    → Spells tokens (tokens_behind passed (site_tokens s.name statements))
+    → library c (with_tokens tokens behind) ≡ library (record c { sites = c.sites ++ s ∷ [] }) behind

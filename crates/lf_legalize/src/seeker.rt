@@ -1,0 +1,61 @@
+//! Who looks for the best place of a cell of a table.
+
+ghost use Rattle.std.specs.Prelude.{◌≡◌, ◌≤◌, All, IfOk, length};
+ghost use Rattle.std.specs.Option.{option_map};
+ghost use Rattle.lf_rules.specs.Choice.{spot_of};
+ghost use Rattle.lf_rules.specs.Legalizer.{Legalizer};
+ghost use Rattle.lf_cells.specs.Cells.{cells_of};
+ghost use Rattle.lf_legalize.specs.Members.{IsSizedCell, best_of};
+
+use crate::others::boxes_beside;
+use crate::plain::best_place;
+use lf_cells::{CellId, CellTable};
+use lf_floorplan::{Frame, Place};
+use lf_units::Point;
+use std::alloc::{AllocError, Global};
+
+/// Finds best places. All seekers give the same answers: they differ in what they look at and in how
+/// long it takes them.
+pub trait Seeker {
+    /// The best place of a cell for a target: the cell is taken away from its place, and of all
+    /// places that are team-legal beside the team's other placed cells it is the one of least key.
+    ///
+    /// None where no place is team-legal, or there is no such cell. `Err` where memory is refused.
+    /// The target may be any point, in database units.
+    fn seek(
+        &self,
+        alloc: Global,
+        frame: &Frame,
+        cells: &CellTable,
+        cell: CellId,
+        target: &Point,
+    ) -> Result<Option<Place>, AllocError>
+        requires sized { All (IsSizedCell frame.now) (cells_of cells.now cell.team) }
+        requires few { length (cells_of cells.now cell.team) ≤ 4000000 }
+        ensures best { (l : Legalizer) → IfOk result (λ found. option_map spot_of found ≡ best_of l frame.now cell.team (cells_of cells.now cell.team) cell.own target.now) };
+}
+
+/// Tries each orientation on every site of every row, without tricks: it is what the definition of
+/// the best place describes, and what faster seekers are held against.
+#[derive(Clone, Copy, Debug)]
+pub struct PlainSeeker;
+
+impl Seeker for PlainSeeker {
+    fn seek(
+        &self,
+        alloc: Global,
+        frame: &Frame,
+        cells: &CellTable,
+        cell: CellId,
+        target: &Point,
+    ) -> Result<Option<Place>, AllocError> {
+        let team = cell.team as usize;
+        let own = cell.own as usize;
+        let Some(standing) = cells.standing(team, own) else {
+            return Ok(None);
+        };
+        let others = boxes_beside(alloc, frame, cells, team, own)?;
+        let mac = &frame.macros.as_slice()[standing.mac];
+        Ok(best_place(frame, team, mac, &others, target))
+    }
+}
