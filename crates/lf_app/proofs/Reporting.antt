@@ -14,13 +14,13 @@ use Rattle.lf_proto.specs.declared.request.Command.{Command}
 use Rattle.lf_proto.specs.declared.request.Command.TheVariants.{Bye, To}
 use Rattle.lf_proto.specs.declared.request.Order.{Order}
 use Rattle.lf_proto.specs.Requests.{command_on}
-use Rattle.lf_floor.specs.States.{FloorState, TeamState}
-use Rattle.lf_floor.specs.Steps.{Answers, Gives, RunsShort, Step, answer_at, answer_by, answer_of}
-use Rattle.lf_floor.specs.Teams.{Setting, setting, team_number}
-use Rattle.lf_floor.specs.Outcomes.{Outcome, is_short, may_be_short}
-use Rattle.lf_floor.specs.Verbs.{outcome_of, takes_memory}
-use Rattle.lf_floor.proofs.Answering.{some_short}
-use Rattle.lf_floor.proofs.Cases.{order_by}
+use Rattle.lf_teams.specs.States.{FloorState, TeamState}
+use Rattle.lf_teams.specs.Steps.{Answers, Gives, RunsShort, Step, answer_at, answer_by, answer_of}
+use Rattle.lf_teams.specs.Teams.{Setting, setting, team_number}
+use Rattle.lf_teams.specs.Outcomes.{Outcome, is_short, may_be_short}
+use Rattle.lf_teams.specs.Verbs.{outcome_of, takes_memory}
+use Rattle.lf_teams.proofs.Answering.{some_short}
+use Rattle.lf_teams.proofs.Cases.{order_by}
 use Rattle.lf_app.specs.Lines.{AnswersLine, RefusesLine, StandsIn, StepsOn, Tells, is_report, team_of, text_of}
 
 -- an outcome that is a report leaves the team as it was, and the order takes memory

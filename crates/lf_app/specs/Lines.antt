@@ -9,10 +9,10 @@ use Rattle.lf_proto.specs.declared.reply.Reply.TheVariants.{Report, Refused}
 use Rattle.lf_proto.specs.declared.reply.Refusal.TheVariants.{BadRequest, Unplaced, NoPlace, Illegal, OutOfMemory}
 use Rattle.lf_proto.specs.ReplyText.{reply_text}
 use Rattle.lf_proto.specs.Requests.{command_on}
-use Rattle.lf_floor.specs.States.{FloorState}
-use Rattle.lf_floor.specs.Teams.{state_of}
-use Rattle.lf_floor.specs.Outcomes.{name_at}
-use Rattle.lf_floor.specs.Steps.{Step}
+use Rattle.lf_teams.specs.States.{FloorState}
+use Rattle.lf_teams.specs.Teams.{state_of}
+use Rattle.lf_teams.specs.Outcomes.{name_at}
+use Rattle.lf_teams.specs.Steps.{Step}
 
 -- the positions of the cells that a reply names: the cell, and the other one
 abbrev pub cells_in : Reply → Option ℕ × Option ℕ

@@ -9,7 +9,7 @@ use Rattle.lf_rules.specs.declared.report.Listed.{Listed}
 use Rattle.lf_reports.specs.Reports.{named, IsListed}
 use Rattle.lf_reports.proofs.CleanLemmas.{each_named}
 use Rattle.lf_cells.specs.declared.cell.Cell.{Cell}
-use Rattle.lf_floor.specs.Teams.{listed_of}
+use Rattle.lf_teams.specs.Teams.{listed_of}
 use Rattle.lf_legalize.specs.Members.{IsSizedCell}
 
 all_listed : (f : Frame) (number : ℕ) (cells : List Cell) → All (IsSizedCell f) cells → All (λ c. IsName c.name) cells → All (IsListed f) (map (listed_of number) cells)

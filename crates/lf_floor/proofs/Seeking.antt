@@ -14,10 +14,10 @@ use Rattle.lf_cells.specs.declared.cell.CellFacts.{CellFacts}
 use Rattle.lf_cells.specs.Cells.{Cells, cell_at, cells_of, id_in, id_of, standing_of}
 use Rattle.lf_legalize.specs.Members.{best_of}
 use Rattle.lf_floorplan.specs.Bounds.{IsName}
-use Rattle.lf_floor.specs.Outcomes.{name_at}
-use Rattle.lf_floor.specs.Teams.{Setting}
-use Rattle.lf_floor.proofs.Standing.{some_one}
-use Rattle.lf_floor.specs.Looks.{place_of_spot, lifted_cell, best_at}
+use Rattle.lf_teams.specs.Outcomes.{name_at}
+use Rattle.lf_teams.specs.Teams.{Setting}
+use Rattle.lf_teams.proofs.Standing.{some_one}
+use Rattle.lf_teams.specs.Looks.{place_of_spot, lifted_cell, best_at}
 
 pub back : (q : Place) → place_of_spot (spot_of q) ≡ Some q
 back q = place_at-some q

@@ -21,16 +21,16 @@ use Rattle.lf_legalize.specs.Members.{IsSizedCell, member_of, best_of}
 use Rattle.lf_floor.specs.declared.tidy.Tidy.TheVariants.{Done, Stopped}
 use Rattle.lf_floor.specs.declared.tidy.Tidy.{Tidy}
 use Rattle.lf_proto.specs.declared.reply.Reply.TheVariants.{Refused}
-use Rattle.lf_floor.specs.States.{Ledger, TeamState, team_with}
-use Rattle.lf_floor.specs.Outcomes.{Reaches, RunsOut, places_of, refused, recorded, telling, may_be_short}
+use Rattle.lf_teams.specs.States.{Ledger, TeamState, team_with}
+use Rattle.lf_teams.specs.Outcomes.{Reaches, RunsOut, places_of, refused, recorded, telling, may_be_short}
 use Rattle.lf_floor.specs.Tables.{OthersStay, own_team}
-use Rattle.lf_floor.specs.Teams.{Setting, broken_at, broken_by}
-use Rattle.lf_floor.specs.Looks.{lifted_cell, place_of_spot}
-use Rattle.lf_floor.specs.Changes.{restored, places_in, tidied_by, tidied_team}
+use Rattle.lf_teams.specs.Teams.{Setting, broken_at, broken_by}
+use Rattle.lf_teams.specs.Looks.{lifted_cell, place_of_spot}
+use Rattle.lf_teams.specs.Changes.{restored, places_in, tidied_by, tidied_team}
 use Rattle.lf_floor.specs.declared.tidy.Sent.{Sent}
 use Rattle.lf_floor.specs.Tidying.{SameButPlaces, Sends, Tidies, sent_as, taken_up, target_at}
 use Rattle.lf_floor.proofs.Seeking.{back}
-use Rattle.lf_floor.proofs.Standing.{some_one}
+use Rattle.lf_teams.proofs.Standing.{some_one}
 
 -- ---- putting back
 

@@ -9,11 +9,11 @@ use Rattle.lf_cells.specs.declared.cell.Cell.{Cell}
 use Rattle.lf_cells.specs.Cells.{Cells, cells_of}
 use Rattle.lf_cells.specs.Openings.{own_cells, opening_cells}
 use Rattle.lf_floorplan.specs.declared.frame.Frame.{Frame}
-use Rattle.lf_floor.specs.States.{Ledger, TeamState, FloorState, team_with}
-use Rattle.lf_floor.specs.Steps.{floor_of}
-use Rattle.lf_floor.specs.Teams.{team_number, state_at, state_of, IsTeamOf}
+use Rattle.lf_teams.specs.States.{Ledger, TeamState, FloorState, team_with}
+use Rattle.lf_teams.specs.Steps.{floor_of}
+use Rattle.lf_teams.specs.Teams.{team_number, state_at, state_of, IsTeamOf}
 use Rattle.lf_floor.specs.Tables.{OthersStay, empty_ledger, own_team, teams_from, teams_in}
-use Rattle.lf_floor.specs.Designs.{opening_team, opening_teams}
+use Rattle.lf_teams.specs.Designs.{opening_team, opening_teams}
 
 -- ---- one team among all
 

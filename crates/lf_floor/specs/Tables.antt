@@ -2,7 +2,7 @@
 use Rattle.std.specs.Prelude.{◌≡◌, ◌≢◌, ℕ, ◌+◌, List, [], ◌∷◌, replicate, None}
 use Rattle.lf_cells.specs.Cells.{Cells, cells_of}
 use Rattle.lf_floor.specs.declared.surroundings.Surroundings.{Surroundings}
-use Rattle.lf_floor.specs.States.{Ledger, TeamState, team_with}
+use Rattle.lf_teams.specs.States.{Ledger, TeamState, team_with}
 
 -- the team of that number: its cells in the table, and its ledger
 abbrev pub own_team : ℕ → Cells → Ledger → TeamState

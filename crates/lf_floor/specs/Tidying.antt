@@ -10,8 +10,8 @@ use Rattle.lf_floor.specs.declared.tidy.Sent.{Sent}
 use Rattle.lf_floor.specs.declared.tidy.Sent.TheVariants.{Stays, Goes, Nowhere}
 use Rattle.lf_floor.specs.declared.tidy.Tidy.{Tidy}
 use Rattle.lf_floor.specs.declared.tidy.Tidy.TheVariants.{Done, Stopped}
-use Rattle.lf_floor.specs.Teams.{Setting}
-use Rattle.lf_floor.specs.Looks.{lifted_cell}
+use Rattle.lf_teams.specs.Teams.{Setting}
+use Rattle.lf_teams.specs.Looks.{lifted_cell}
 
 -- where the cell of that position is tidied to; None where it stays
 abbrev pub target_at : Setting → List Cell → ℕ → Option Point

@@ -8,9 +8,9 @@ ghost use Rattle.lf_rules.specs.Choice.{spot_of};
 ghost use Rattle.lf_legalize.specs.Members.{IsSizedCell, best_of};
 ghost use Rattle.lf_reports.specs.Reports.{named, report_of};
 ghost use Rattle.lf_proto.specs.ReportText.{report_text};
-ghost use Rattle.lf_floor.specs.Teams.{listed_of, setting_in, broken_at};
-ghost use Rattle.lf_floor.specs.Looks.{best_at};
-ghost use Rattle.lf_floor.specs.Outcomes.{places_of};
+ghost use Rattle.lf_teams.specs.Teams.{listed_of, setting_in, broken_at};
+ghost use Rattle.lf_teams.specs.Looks.{best_at};
+ghost use Rattle.lf_teams.specs.Outcomes.{places_of};
 
 use crate::surroundings::Surroundings;
 use lf_cells::{CellId, CellTable};

@@ -3,10 +3,10 @@
 ghost use Rattle.std.specs.Prelude.{Some, ◌≡◌, ◌<◌, ◌≤◌, ◌+◌, IfOk, OnOk, OnErr, length};
 ghost use Rattle.lf_rules.specs.Legalizer.{Legalizer};
 ghost use Rattle.lf_cells.specs.Cells.{cells_of, moved};
-ghost use Rattle.lf_floor.specs.Teams.{IsTeamOf, setting_in};
+ghost use Rattle.lf_teams.specs.Teams.{IsTeamOf, setting_in};
 ghost use Rattle.lf_floor.specs.Tables.{OthersStay, team_in};
-ghost use Rattle.lf_floor.specs.Outcomes.{Reaches, RunsOut, changed, with_entry};
-ghost use Rattle.lf_floor.specs.Changes.{legalized, placed, unplaced};
+ghost use Rattle.lf_teams.specs.Outcomes.{Reaches, RunsOut, changed, with_entry};
+ghost use Rattle.lf_teams.specs.Changes.{legalized, placed, unplaced};
 
 use crate::cell::{best_place, broken_at, places};
 use crate::ledger::{Entry, Ledger};

@@ -6,16 +6,16 @@ ghost use Rattle.lf_floorplan.specs.Bounds.{IsName};
 ghost use Rattle.lf_floorplan.specs.Fences.{ground_name};
 ghost use Rattle.lf_rules.specs.Legalizer.{Legalizer};
 ghost use Rattle.lf_proto.specs.Commands.{command_of, order_of};
-ghost use Rattle.lf_floor.specs.States.{TeamState};
+ghost use Rattle.lf_teams.specs.States.{TeamState};
 ghost use Rattle.lf_floor.specs.Tables.{empty_ledger, teams_in};
-ghost use Rattle.lf_floor.specs.Teams.{IsTeamOf, team_number, state_of};
-ghost use Rattle.lf_floor.specs.Outcomes.{name_at};
+ghost use Rattle.lf_teams.specs.Teams.{IsTeamOf, team_number, state_of};
+ghost use Rattle.lf_teams.specs.Outcomes.{name_at};
 ghost use Rattle.lf_cells.specs.Cells.{working_at};
-ghost use Rattle.lf_floor.specs.Verbs.{takes_memory};
-ghost use Rattle.lf_floor.specs.Designs.{opening};
-ghost use Rattle.lf_floor.specs.Runs.{Run, IsIsolated};
-ghost use Rattle.lf_floor.specs.Steps.{Answers, Gives, KeepsIfRefused, LegalizesLegally, PlacesLegally, TidiesLegally};
-ghost use Rattle.lf_floor.specs.Steps.{StaysShort, RunsShort, Step, IsTo, answer_at, floor_of};
+ghost use Rattle.lf_teams.specs.Verbs.{takes_memory};
+ghost use Rattle.lf_teams.specs.Designs.{opening};
+ghost use Rattle.lf_teams.specs.Runs.{Run, IsIsolated};
+ghost use Rattle.lf_teams.specs.Steps.{Answers, Gives, KeepsIfRefused, LegalizesLegally, PlacesLegally, TidiesLegally};
+ghost use Rattle.lf_teams.specs.Steps.{StaysShort, RunsShort, Step, IsTo, answer_at, floor_of};
 
 use crate::ledger::Ledger;
 use crate::surroundings::Surroundings;
@@ -43,9 +43,9 @@ pub struct Floor<S> {
 
 impl<S> Model for Floor<S> {
     ghost use Rattle.std.specs.Prelude.{◌≡◌, ◌+◌, All, length};
-    ghost use Rattle.lf_floor.specs.States.{FloorState};
+    ghost use Rattle.lf_teams.specs.States.{FloorState};
     ghost use Rattle.lf_floor.specs.Tables.{teams_in};
-    ghost use Rattle.lf_floor.specs.Teams.{IsTeamOf};
+    ghost use Rattle.lf_teams.specs.Teams.{IsTeamOf};
 
     ghost Value = { FloorState };
 

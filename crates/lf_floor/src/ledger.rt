@@ -32,7 +32,7 @@ pub(crate) struct Ledger {
 }
 
 impl Model for Ledger {
-    ghost use Rattle.lf_floor.specs.States.{Ledger};
+    ghost use Rattle.lf_teams.specs.States.{Ledger};
 
     ghost Value = { Ledger };
 

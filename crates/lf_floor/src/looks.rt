@@ -2,10 +2,10 @@
 
 ghost use Rattle.std.specs.Prelude.{IfOk, OnErr};
 ghost use Rattle.lf_rules.specs.Legalizer.{Legalizer};
-ghost use Rattle.lf_floor.specs.Teams.{IsTeamOf, setting_in};
+ghost use Rattle.lf_teams.specs.Teams.{IsTeamOf, setting_in};
 ghost use Rattle.lf_floor.specs.Tables.{own_team, team_in};
-ghost use Rattle.lf_floor.specs.Outcomes.{Reaches, RunsOut};
-ghost use Rattle.lf_floor.specs.Looks.{checked, found, located};
+ghost use Rattle.lf_teams.specs.Outcomes.{Reaches, RunsOut};
+ghost use Rattle.lf_teams.specs.Looks.{checked, found, located};
 
 use crate::cell::{best_place, report_text};
 use crate::ledger::Ledger;

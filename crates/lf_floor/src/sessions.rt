@@ -3,9 +3,9 @@
 
 ghost use Rattle.std.specs.Prelude.{List, ◌≡◌, ◌<◌, ◌≤◌, IfSome, length, position, is_none, slice_set};
 ghost use Rattle.lf_cells.specs.declared.cell.Cell.{Cell};
-ghost use Rattle.lf_floor.specs.States.{team_with};
-ghost use Rattle.lf_floor.specs.Outcomes.{Reaches};
-ghost use Rattle.lf_floor.specs.Sessions.{opened, seen_at};
+ghost use Rattle.lf_teams.specs.States.{team_with};
+ghost use Rattle.lf_teams.specs.Outcomes.{Reaches};
+ghost use Rattle.lf_teams.specs.Sessions.{opened, seen_at};
 
 use crate::ledger::Ledger;
 use lf_proto::{Refusal, Reply};

@@ -4,10 +4,10 @@ ghost use Rattle.std.specs.Prelude.{◌≡◌, ◌<◌, ◌≤◌, [], All, IfOk
 ghost use Rattle.lf_rules.specs.Legalizer.{Legalizer};
 ghost use Rattle.lf_cells.specs.Cells.{cells_of, moved};
 ghost use Rattle.lf_legalize.specs.Members.{IsSizedCell};
-ghost use Rattle.lf_floor.specs.Teams.{IsTeamOf, setting_in};
+ghost use Rattle.lf_teams.specs.Teams.{IsTeamOf, setting_in};
 ghost use Rattle.lf_floor.specs.Tables.{OthersStay, team_in};
-ghost use Rattle.lf_floor.specs.Outcomes.{Reaches, RunsOut};
-ghost use Rattle.lf_floor.specs.Changes.{restored, tidied_team};
+ghost use Rattle.lf_teams.specs.Outcomes.{Reaches, RunsOut};
+ghost use Rattle.lf_teams.specs.Changes.{restored, tidied_team};
 ghost use Rattle.lf_floor.specs.Tidying.{SameButPlaces, Sends, Tidies, target_at};
 
 use crate::cell::{best_place, broken_at, places};

@@ -4,10 +4,10 @@ ghost use Rattle.std.specs.Prelude.{◌≡◌, ◌<◌, IfOk, OnErr, true};
 ghost use Rattle.lf_rules.specs.Legalizer.{Legalizer};
 ghost use Rattle.lf_proto.specs.declared.request.Order.TheVariants.{Within};
 ghost use Rattle.lf_proto.specs.Commands.{change_of, action_of, order_of};
-ghost use Rattle.lf_floor.specs.Teams.{IsTeamOf, setting_in};
+ghost use Rattle.lf_teams.specs.Teams.{IsTeamOf, setting_in};
 ghost use Rattle.lf_floor.specs.Tables.{OthersStay, team_in};
-ghost use Rattle.lf_floor.specs.Outcomes.{Reaches, RunsOut};
-ghost use Rattle.lf_floor.specs.Verbs.{outcome_of, outcome_of_change, outcome_running, outcome_within, runs, runs_action, runs_change, takes_memory, unless_spent};
+ghost use Rattle.lf_teams.specs.Outcomes.{Reaches, RunsOut};
+ghost use Rattle.lf_teams.specs.Verbs.{outcome_of, outcome_of_change, outcome_running, outcome_within, runs, runs_action, runs_change, takes_memory, unless_spent};
 
 use crate::ledger::Ledger;
 use crate::sessions::seen;

@@ -4,7 +4,7 @@ use Rattle.std.proofs.lemmas.List.{map-append}
 use Rattle.lf_rules.specs.declared.report.Listed.{Listed}
 use Rattle.lf_cells.specs.Cells.{cells_of}
 use Rattle.lf_reports.specs.Reports.{named}
-use Rattle.lf_floor.specs.Teams.{listed_of}
+use Rattle.lf_teams.specs.Teams.{listed_of}
 use Rattle.lf_floor.proofs.Seeking.{one_more_told}
 use Rattle.lf_floor.proofs.cell.listed_cells.Goals as goal
 

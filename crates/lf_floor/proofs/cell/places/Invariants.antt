@@ -1,6 +1,6 @@
 use Rattle.std.proofs.Common.{◌≡◌, take}
 use Rattle.lf_cells.specs.Cells.{cells_of}
-use Rattle.lf_floor.specs.Outcomes.{places_of}
+use Rattle.lf_teams.specs.Outcomes.{places_of}
 use Rattle.lf_floor.proofs.cell.places.Given as goal
 
 -- the places so far are those of the team's cells so far

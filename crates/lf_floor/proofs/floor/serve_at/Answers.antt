@@ -3,12 +3,12 @@ use Rattle.std.proofs.lemmas.List.Elements.{All-set}
 use Rattle.std.proofs.lemmas.Option.{slice_get_read}
 use Rattle.std.proofs.lemmas.Result.{IfOk-weaker, on_err_weaker}
 use Rattle.lf_proto.specs.Commands.{order_of}
-use Rattle.lf_floor.specs.States.{TeamState}
-use Rattle.lf_floor.specs.Steps.{ruled}
+use Rattle.lf_teams.specs.States.{TeamState}
+use Rattle.lf_teams.specs.Steps.{ruled}
 use Rattle.lf_floor.specs.Tables.{own_team, teams_in}
-use Rattle.lf_floor.specs.Teams.{IsTeamOf, setting}
-use Rattle.lf_floor.proofs.Kept.{team_kept}
-use Rattle.lf_floor.proofs.Serving.{kept_by, gives, stays_short}
+use Rattle.lf_teams.specs.Teams.{IsTeamOf, setting}
+use Rattle.lf_teams.proofs.Kept.{verb_keeps}
+use Rattle.lf_teams.proofs.Serving.{kept_by, gives, stays_short}
 use Rattle.lf_floor.proofs.Tables.{each_team, one_changed, team_there}
 use Rattle.lf_floor.proofs.floor.serve_at.Goals as goal
 
@@ -58,5 +58,5 @@ returns-clause-teams g c =
     rw (one_changed old c.serve.new.cells ledgers number c.serve.new.self c.serve.ensures.others)
     (All-set (λ (t : TeamState). IsTeamOf f t) (teams_in old ledgers) number new
     (kept_by (λ (t : TeamState). IsTeamOf f t) (ruled l f number order s) s new c.serve.result (c.serve.ensures.ok l) (c.serve.ensures.err l) before
-    (team_kept (setting l f number) order s before))
+    (verb_keeps (setting l f number) order s before))
     c.requires.teams)

@@ -1,5 +1,5 @@
 use Rattle.std.proofs.Common.{sym}
-use Rattle.lf_floor.proofs.Names.{fence_is, outside_is, unknown_is}
+use Rattle.lf_teams.proofs.Names.{fence_is, outside_is, unknown_is}
 use Rattle.lf_floor.proofs.floor.team_named.Goals as goal
 
 pub returns-in-Some-clause-found : goal.returns-in-Some-clause-found

@@ -1,6 +1,6 @@
 use Rattle.std.proofs.Common.{◌≡◌, drop}
 use Rattle.lf_cells.specs.Cells.{cells_of}
-use Rattle.lf_floor.specs.Changes.{restored}
+use Rattle.lf_teams.specs.Changes.{restored}
 use Rattle.lf_floor.specs.Tables.{OthersStay}
 use Rattle.lf_floor.proofs.Sending.{put_from}
 use Rattle.lf_floor.proofs.tidy.put_back.Given as goal

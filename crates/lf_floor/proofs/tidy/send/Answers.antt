@@ -5,7 +5,7 @@ use Rattle.lf_floorplan.specs.declared.place.Place.{Place}
 use Rattle.lf_cells.specs.declared.cell.Cell.{Cell}
 use Rattle.lf_cells.specs.declared.cell.CellId.{CellId}
 use Rattle.lf_cells.specs.Cells.{cells_of}
-use Rattle.lf_floor.specs.Teams.{setting_in}
+use Rattle.lf_teams.specs.Teams.{setting_in}
 use Rattle.lf_floor.proofs.Seeking.{id_there}
 use Rattle.lf_floor.proofs.Sending.{none_sent, one_sent, one_stays, same_moved, sent_by}
 use Rattle.lf_floor.proofs.tidy.send.Goals as goal

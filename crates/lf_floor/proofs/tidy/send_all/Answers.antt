@@ -3,7 +3,7 @@ use Rattle.lf_rules.specs.Tidy.{Going, Stuck}
 use Rattle.lf_cells.specs.Cells.{cells_of}
 use Rattle.lf_legalize.specs.Members.{member_of}
 use Rattle.lf_floor.specs.declared.tidy.Sent.{Sent}
-use Rattle.lf_floor.specs.Teams.{setting_in}
+use Rattle.lf_teams.specs.Teams.{setting_in}
 use Rattle.lf_floor.specs.Tidying.{sent_as}
 use Rattle.lf_floor.proofs.Sending.{all_to_go, on_going, others_stay, others_through, sized_same, stuck_stays}
 use Rattle.lf_floor.proofs.tidy.send_all.Goals.{in-Stays, in-Goes}

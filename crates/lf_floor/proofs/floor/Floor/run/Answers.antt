@@ -1,6 +1,6 @@
 use Rattle.std.proofs.Common.{arith, sym}
 use Rattle.lf_proto.specs.Commands.{command_of}
-use Rattle.lf_floor.proofs.Isolation.{run_more, run_all, isolated_from_run}
+use Rattle.lf_teams.proofs.Isolation.{run_more, run_all, isolated_from_run}
 use Rattle.lf_floor.proofs.floor.Floor.run.Goals as goal
 
 pub loop-i-preserved : goal.loop-i-preserved

@@ -1,11 +1,11 @@
 use Rattle.std.proofs.Common.{ap, sym, subst, List, length, ◌+◌}
 use Rattle.std.specs.Prelude.{All, replicate}
 use Rattle.std.proofs.lemmas.List.{length-replicate}
-use Rattle.lf_floor.specs.States.{Ledger, TeamState}
-use Rattle.lf_floor.specs.Steps.{floor_of}
+use Rattle.lf_teams.specs.States.{Ledger, TeamState}
+use Rattle.lf_teams.specs.Steps.{floor_of}
 use Rattle.lf_floor.specs.Tables.{empty_ledger}
-use Rattle.lf_floor.specs.Teams.{IsTeamOf}
-use Rattle.lf_floor.proofs.Openings.{opening_whole}
+use Rattle.lf_teams.specs.Teams.{IsTeamOf}
+use Rattle.lf_teams.proofs.Openings.{opening_whole}
 use Rattle.lf_floor.proofs.Tables.{opened_teams}
 use Rattle.lf_floor.proofs.floor.Floor.start.Goals as goal
 

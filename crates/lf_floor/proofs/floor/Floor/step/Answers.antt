@@ -1,9 +1,9 @@
 use Rattle.std.proofs.Common.{ap, ◌∙◌}
 use Rattle.lf_proto.specs.Commands.{command_of}
-use Rattle.lf_floor.specs.States.{FloorState}
-use Rattle.lf_floor.specs.Teams.{state_of}
-use Rattle.lf_floor.proofs.Answering.{step_of_answer, others_kept, frame_kept}
-use Rattle.lf_floor.proofs.Promises.{places_legally, legalizes_legally, tidies_legally, keeps_refused}
+use Rattle.lf_teams.specs.States.{FloorState}
+use Rattle.lf_teams.specs.Teams.{state_of}
+use Rattle.lf_teams.proofs.Answering.{step_of_answer, others_kept, frame_kept}
+use Rattle.lf_teams.proofs.Promises.{places_legally, legalizes_legally, tidies_legally, keeps_refused}
 use Rattle.lf_floor.proofs.floor.Floor.step.Goals as goal
 
 pub returns-in-Ok-clause-step : goal.returns-in-Ok-clause-step

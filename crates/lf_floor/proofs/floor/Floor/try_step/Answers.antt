@@ -1,9 +1,9 @@
 use Rattle.std.proofs.lemmas.Result.{IfOk-weaker}
 use Rattle.lf_proto.specs.Commands.{order_of}
-use Rattle.lf_floor.specs.Steps.{floor_of}
+use Rattle.lf_teams.specs.Steps.{floor_of}
 use Rattle.lf_floor.specs.Tables.{teams_in}
-use Rattle.lf_floor.proofs.Answering.{bye_answers, none_answers, some_answers, some_short}
-use Rattle.lf_floor.proofs.Serving.{on_err_both}
+use Rattle.lf_teams.proofs.Answering.{bye_answers, none_answers, some_answers, some_short}
+use Rattle.lf_teams.proofs.Serving.{on_err_both}
 use Rattle.lf_floor.proofs.floor.Floor.try_step.Goals as goal
 
 pub returns-in-Bye-clause-ok : goal.returns-in-Bye-clause-ok

@@ -2,11 +2,11 @@ use Rattle.std.proofs.Common.{sym, ◌∙◌, ◌∷◌, ap, subst, List, Option
 use Rattle.lf_floorplan.specs.declared.place.Place.{Place}
 use Rattle.lf_proto.specs.declared.reply.Reply.TheVariants.{Tidied}
 use Rattle.lf_cells.specs.Cells.{cells_of}
-use Rattle.lf_floor.specs.States.{Ledger}
-use Rattle.lf_floor.specs.Changes.{tidied_team}
-use Rattle.lf_floor.specs.Outcomes.{Reaches, places_of}
+use Rattle.lf_teams.specs.States.{Ledger}
+use Rattle.lf_teams.specs.Changes.{tidied_team}
+use Rattle.lf_teams.specs.Outcomes.{Reaches, places_of}
 use Rattle.lf_floor.specs.Tables.{own_team}
-use Rattle.lf_floor.specs.Teams.{setting_in}
+use Rattle.lf_teams.specs.Teams.{setting_in}
 use Rattle.lf_floor.proofs.Sending.{cells_back, done_reaches, ledger_back, ledger_on, short_reaches, stopped_reaches}
 use Rattle.lf_floor.proofs.ledger.Ledger.tidy.Goals as goal
 

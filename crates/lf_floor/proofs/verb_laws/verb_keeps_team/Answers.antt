@@ -1,5 +1,0 @@
-use Rattle.lf_floor.proofs.Kept.{verb_keeps}
-use Rattle.lf_floor.proofs.verb_laws.verb_keeps_team.Goals as goal
-
-pub returns : goal.returns
-returns c t verb s known = verb_keeps t verb s known

@@ -1,0 +1,14 @@
+pub mod Boxes
+pub mod Names
+pub mod Cases
+pub mod Kept
+pub mod Serving
+pub mod Answering
+pub mod Isolation
+pub mod Openings
+pub mod VerbBack
+pub mod Standing
+pub mod Tidying
+pub mod VerbLegal
+pub mod VerbRows
+pub mod Promises

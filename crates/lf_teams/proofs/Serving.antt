@@ -1,0 +1,46 @@
+-- What the outcome of the team at one position is to the floor.
+use Rattle.std.proofs.Common.{◌≡◌, ℕ, List, Option, Some, Result, Ok, Err, ap, sym, ◌∙◌, subst}
+use Rattle.std.specs.Prelude.{IfOk, OnErr, slice_get, slice_set}
+use Rattle.std.specs.declared.alloc.AllocError.{AllocError}
+use Rattle.std.proofs.lemmas.List.{set-get_or}
+use Rattle.std.proofs.lemmas.Option.{get_or_from_slice_get}
+use Rattle.lf_floorplan.specs.declared.frame.Frame.{Frame}
+use Rattle.lf_floorplan.specs.declared.place.Place.{Place}
+use Rattle.lf_rules.specs.Legalizer.{Legalizer}
+use Rattle.lf_proto.specs.declared.request.Order.{Order}
+use Rattle.lf_teams.specs.Outcomes.{Outcome, Reaches, RunsOut}
+use Rattle.lf_proto.specs.declared.reply.Reply.{Reply}
+use Rattle.lf_teams.specs.States.{TeamState}
+use Rattle.lf_teams.specs.Steps.{ruled, answer_by, Gives, StaysShort, floor_of}
+
+-- whatever holds of the team before and of its outcome holds of the team afterwards
+pub kept_by : (P : TeamState → Type 0) (o : Outcome) (old new : TeamState) (result : Result Reply AllocError) → IfOk result (λ reply. Reaches o reply new) → OnErr result (RunsOut o old new) → P old → P o.team → P new
+kept_by P o old new (Ok reply) ok err before after = subst P (sym ok.team_is) after
+kept_by P o old new (Err e) ok err before after = subst P (sym err.kept) before
+
+pub gives : (l : Legalizer) (f : Frame) (teams : List TeamState) (number : ℕ) (order : Order (List ℕ) Place) (s new : TeamState) (reply : Reply)
+    → slice_get teams number ≡ Some s → Reaches (ruled l f number order s) reply new
+    → Gives (answer_by (slice_get teams number) l (floor_of f teams) number order) reply (floor_of f (slice_set teams number new))
+gives l f teams number order s new reply there reaches =
+    let P : Option TeamState → Type 0 = λ o. Gives (answer_by o l (floor_of f teams) number order) reply (floor_of f (slice_set teams number new)) in
+    subst P (sym there) record {
+      reply_is = reaches.reply_is;
+      floor_is = ap (λ (t : TeamState). floor_of f (slice_set teams number t)) reaches.team_is;
+    }
+
+pub stays_short : (l : Legalizer) (f : Frame) (teams : List TeamState) (number : ℕ) (order : Order (List ℕ) Place) (s new : TeamState)
+    → slice_get teams number ≡ Some s → RunsOut (ruled l f number order s) s new
+    → StaysShort (answer_by (slice_get teams number) l (floor_of f teams) number order) (floor_of f teams) (floor_of f (slice_set teams number new))
+stays_short l f teams number order s new there out =
+    let P : Option TeamState → Type 0 = λ o. StaysShort (answer_by o l (floor_of f teams) number order) (floor_of f teams) (floor_of f (slice_set teams number new)) in
+    subst P (sym there) record {
+      kept =
+          ap (λ (t : TeamState). floor_of f (slice_set teams number t)) (out.kept ∙ sym (get_or_from_slice_get teams number s s there))
+          ∙ ap (floor_of f) (set-get_or teams number s);
+      may = out.may;
+    }
+
+-- two things that hold where memory is refused hold together
+pub on_err_both : {T E A B C : Type 0} (result : Result T E) → (A → B → C) → OnErr result A → OnErr result B → OnErr result C
+on_err_both (Ok x) both a b = tt
+on_err_both (Err e) both a b = both a b

@@ -1,0 +1,165 @@
+-- What undo and revert bring back.
+use Rattle.std.proofs.Common.{◌≡◌, ℕ, zero, suc, ◌<◌, ◌≤◌, List, [], ◌∷◌, Bool, true, cond, map, take, length, Option, Some, None, refl, ap, sym, ◌∙◌, subst, arith}
+use Rattle.std.proofs.lemmas.Bool.{eq-eqb, lt-ltb}
+use Rattle.lf_floorplan.specs.declared.place.Place.{Place}
+use Rattle.lf_rules.specs.Tidy.{Tidied, Stuck, tidied}
+use Rattle.lf_proto.specs.declared.request.Order.{Order}
+use Rattle.lf_proto.specs.declared.request.Order.TheVariants.{Open, Within}
+use Rattle.lf_proto.specs.declared.request.Action.{Action}
+use Rattle.lf_proto.specs.declared.request.Action.TheVariants.{Close, Sync, Check, Where, Find, Change as Changing}
+use Rattle.lf_proto.specs.declared.request.Change.{Change}
+use Rattle.lf_proto.specs.declared.request.Change.TheVariants.{Tidy, Undo, Commit, Revert}
+use Rattle.lf_teams.specs.Outcomes.{Outcome, refused, with_entry, places_of, recorded}
+use Rattle.lf_teams.specs.Verbs.{outcome_of, outcome_of_change, unless_spent, outcome_by_slot, outcome_of, outcome_within}
+use Rattle.lf_teams.specs.Sessions.{seen_at}
+use Rattle.lf_teams.specs.Changes.{restored, places_in, reverted, undone, undone_by, tidied_by, tidied_team, back_to_committed}
+use Rattle.lf_cells.specs.Cells.{as_committed}
+use Rattle.lf_proto.specs.declared.reply.Refusal.{Refusal}
+use Rattle.lf_proto.specs.declared.reply.Refusal.TheVariants.{BadRequest, NoPlace, RevisionsSpent, Stale}
+use Rattle.lf_cells.specs.declared.cell.Cell.{Cell}
+use Rattle.lf_teams.specs.States.{TeamState}
+use Rattle.lf_teams.specs.Teams.{Setting}
+use Rattle.lf_legalize.specs.Members.{member_of}
+use Rattle.lf_teams.specs.VerbLaws.{MayChange, Leads, is_accepted, is_recorded, is_commit, outcome_of_asking}
+use Rattle.lf_teams.proofs.Cases.{verb_by, asking}
+use Rattle.lf_teams.proofs.Kept.{moved_part, restored_part, exchanged_part, back_part, same_length, false_true}
+
+-- it is a change
+abbrev IsChange : Action (List ℕ) Place → Type 0
+IsChange (Changing change) = Unit {0}
+IsChange _ = ⊥
+
+-- ---- a session that may change
+
+slot_is : (t : Setting) (session : ℕ) (change : Change (List ℕ) Place) (s : TeamState) (o : Option ℕ) → o ≡ Some s.revision → s.revision < t.frame.limits.revisions
+    → outcome_by_slot o t session (Changing change) s ≡ outcome_of_change t session change s
+slot_is t session change s None seen left = absurd cc
+slot_is t session change s (Some n) seen left =
+    let same : n ≡ s.revision = some_one seen in
+    ap (λ (b : Bool). cond b (unless_spent t session change s) (refused (Stale s.revision) s)) (eq-eqb n s.revision same)
+    ∙ ap (λ (b : Bool). cond b (outcome_of_change t session change s) (refused RevisionsSpent s)) (lt-ltb s.revision t.frame.limits.revisions left)
+  where
+    some_one : {a b : ℕ} → Some a ≡ Some b → a ≡ b
+    some_one e = cc
+
+-- what a change comes to that a session asks which may
+pub may_is : (t : Setting) (session : ℕ) (change : Change (List ℕ) Place) (s : TeamState) → MayChange t session s
+    → outcome_of_asking t session change s ≡ outcome_of_change t session change s
+may_is t session change s may = slot_is t session change s (seen_at s.slots session) may.seen may.left
+
+pub stuck_is : (t : Setting) (session stuck : ℕ) (s : TeamState) → MayChange t session s → tidied t.legalizer t.frame t.number (map member_of s.cells) ≡ Stuck stuck
+    → outcome_of_asking t session Tidy s ≡ refused (NoPlace stuck) s
+unfolding tidied_team
+stuck_is t session stuck s may is = may_is t session Tidy s may ∙ ap (λ (d : Tidied). tidied_by d t session s) is
+
+-- ---- undo
+
+take_first : {X : Type 0} (n : ℕ) (x : X) (xs : List X) → 1 ≤ n → (rest : List X) × (take n (x ∷ xs) ≡ x ∷ rest)
+take_first zero x xs some = absurd (omega arith)
+take_first (suc n) x xs some = (take n xs, refl)
+
+restored_places : (old new : List Cell) → length new ≡ length old → places_of (restored (places_of old) new) ≡ places_of old
+restored_places [] [] same = refl
+restored_places [] (c ∷ cs) same = absurd (omega (arith, same))
+restored_places (b ∷ bs) [] same = absurd (omega (arith, same))
+restored_places (b ∷ bs) (c ∷ cs) same =
+    let rest : length cs ≡ length bs = omega (arith, same) in
+    ap (λ (places : List (Option Place)). b.working ∷ places) (restored_places bs cs rest)
+
+-- the working places before are the newest entry, and there are as many cells
+pub record IsRecorded (t : Setting) (s new : TeamState) : Type 0 where
+  pub entries : new.entries ≡ with_entry t.frame.limits s
+  pub many : length new.cells ≡ length s.cells
+
+abbrev Records : Setting → TeamState → Order (List ℕ) Place → Outcome → Type 0
+Records t s (Within session (Changing change)) o = is_recorded change ≡ true → is_accepted o ≡ true → IsRecorded t s o.team
+Records t s _ o = Unit {0}
+
+refused_records : (t : Setting) (s : TeamState) (verb : Order (List ℕ) Place) (r : Refusal) → Records t s verb (refused r s)
+refused_records t s Open r = tt
+refused_records t s (Within session Close) r = tt
+refused_records t s (Within session Sync) r = tt
+refused_records t s (Within session Check) r = tt
+refused_records t s (Within session (Where name)) r = tt
+refused_records t s (Within session (Find name target)) r = tt
+refused_records t s (Within session (Changing change)) r = λ recorded denied. absurd (false_true denied)
+
+records : (t : Setting) (session : ℕ) (s : TeamState) (cells : List Cell) → map (λ c. c.mac) cells ≡ map (λ c. c.mac) s.cells → IsRecorded t s (recorded t session cells s).team
+records t session s cells same = record { entries = refl; many = same_length s.cells cells same }
+
+pub change_recorded : (t : Setting) (verb : Order (List ℕ) Place) (s : TeamState) → Records t s verb (outcome_of t verb s)
+change_recorded t verb s = verb_by t s (λ v o. Records t s v o) record {
+  refusal = λ v r plain. refused_records t s v r;
+  opens = λ session e. tt;
+  closes = λ session. tt;
+  syncs = λ session. tt;
+  checks = λ session text. tt;
+  tells = λ session name place. tt;
+  finds = λ session name target place. tt;
+  places = λ session own name place may named e is accepted. records t session s _ (moved_part (λ c. c.mac) (λ c p. refl) s.cells own (Some place));
+  legalizes = λ session own name target place may named e is accepted. records t session s _ (moved_part (λ c. c.mac) (λ c p. refl) s.cells own (Some place));
+  tidies = λ session count members may e is accepted. records t session s _ (restored_part (λ c. c.mac) (λ c p. refl) (places_in members) s.cells);
+  unplaces = λ session own name may named is accepted. records t session s _ (moved_part (λ c. c.mac) (λ c p. refl) s.cells own None);
+  swaps = λ session first second name other p q may named named' at at' e e' is accepted. records t session s _ (exchanged_part (λ c. c.mac) (λ c p. refl) s.cells first second);
+  undoes = λ session old entries may e is. absurd (false_true is);
+  commits = λ session may u b is. absurd (false_true is);
+  reverts = λ session may is accepted. records t session s _ (back_part (λ c. c.mac) (λ c p. refl) s.cells);
+} verb
+
+undone_leads : (t : Setting) (other : ℕ) (s new : TeamState) → IsRecorded t s new → Leads (undone other new) (places_of s.cells)
+unfolding undone
+undone_leads t other s new is =
+    let first = take_first t.frame.limits.undo (places_of s.cells) s.entries t.frame.limits.allowed.undo_within.least in
+    let entries : new.entries ≡ places_of s.cells ∷ first.0 = is.entries ∙ first.1 in
+    let P : List (List (Option Place)) → Type 0 = λ e. Leads (undone_by e other new) (places_of s.cells) in
+    subst P (sym entries) record { told = refl; places_are = restored_places s.cells new.cells is.many }
+
+pub undo_leads : (t : Setting) (session other : ℕ) (change : Change (List ℕ) Place) (s : TeamState) → is_recorded change ≡ true → is_accepted (outcome_of_asking t session change s) ≡ true
+    → MayChange t other (outcome_of_asking t session change s).team → Leads (outcome_of_asking t other Undo (outcome_of_asking t session change s).team) (places_of s.cells)
+undo_leads t session other change s is accepted may =
+    let after = (outcome_of_asking t session change s).team in
+    let P : Outcome → Type 0 = λ o. Leads o (places_of s.cells) in
+    subst P (sym (may_is t other Undo after may)) (undone_leads t other s after (change_recorded t (asking session change) s is accepted))
+
+-- ---- revert after a commit
+
+-- going back to the places just committed moves nothing
+back_committed : (cells : List Cell) → places_of (map back_to_committed (map as_committed cells)) ≡ places_of cells
+back_committed [] = refl
+back_committed (c ∷ cs) = ap (λ (places : List (Option Place)). c.working ∷ places) (back_committed cs)
+
+abbrev Commits : TeamState → Order (List ℕ) Place → Outcome → Type 0
+Commits s verb o = is_commit verb ≡ true → is_accepted o ≡ true → o.team.cells ≡ map as_committed s.cells
+
+pub commit_copies : (t : Setting) (verb : Order (List ℕ) Place) (s : TeamState) → Commits s verb (outcome_of t verb s)
+commit_copies t verb s = verb_by t s (λ v o. Commits s v o) record {
+  refusal = λ v r plain is denied. absurd (false_true denied);
+  opens = λ session e is. absurd (false_true is);
+  closes = λ session is. absurd (false_true is);
+  syncs = λ session is. absurd (false_true is);
+  checks = λ session text is. absurd (false_true is);
+  tells = λ session name place is. absurd (false_true is);
+  finds = λ session name target place is. absurd (false_true is);
+  places = λ session own name place may named e is. absurd (false_true is);
+  legalizes = λ session own name target place may named e is. absurd (false_true is);
+  tidies = λ session count members may e is. absurd (false_true is);
+  unplaces = λ session own name may named is. absurd (false_true is);
+  swaps = λ session first second name other p q may named named' at at' e e' is. absurd (false_true is);
+  undoes = λ session old entries may e is. absurd (false_true is);
+  commits = λ session may u b is accepted. refl;
+  reverts = λ session may is. absurd (false_true is);
+} verb
+
+reverted_leads : (t : Setting) (other : ℕ) (s new : TeamState) → new.cells ≡ map as_committed s.cells → Leads (reverted t other new) (places_of s.cells)
+unfolding reverted
+reverted_leads t other s new is = record {
+  told = refl;
+  places_are = ap (λ (cells : List Cell). places_of (map back_to_committed cells)) is ∙ back_committed s.cells;
+}
+
+pub revert_leads : (t : Setting) (session other : ℕ) (s : TeamState) → is_accepted (outcome_of_asking t session Commit s) ≡ true
+    → MayChange t other (outcome_of_asking t session Commit s).team → Leads (outcome_of_asking t other Revert (outcome_of_asking t session Commit s).team) (places_of s.cells)
+revert_leads t session other s accepted may =
+    let after = (outcome_of_asking t session Commit s).team in
+    let P : Outcome → Type 0 = λ o. Leads o (places_of s.cells) in
+    subst P (sym (may_is t other Revert after may)) (reverted_leads t other s after (commit_copies t (asking session Commit) s refl accepted))

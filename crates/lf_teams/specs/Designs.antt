@@ -1,0 +1,26 @@
+-- The floor with which a loaded design begins.
+use Rattle.std.specs.Prelude.{◌≡◌, ℕ, zero, suc, ◌+◌, List, [], ◌∷◌, Some, None, length, replicate}
+use Rattle.lf_floorplan.specs.declared.loaded.Loaded.{Loaded}
+use Rattle.lf_cells.specs.Openings.{own_cells}
+use Rattle.lf_teams.specs.States.{TeamState, FloorState}
+use Rattle.lf_teams.specs.Teams.{team_number}
+
+-- a team that nobody has asked anything: no change, no undo entry, and every slot free
+abbrev pub opening_team : Loaded → ℕ → TeamState
+opening_team design number = record { cells = own_cells number design.cells; revision = 0; entries = []; slots = replicate design.frame.limits.sessions None }
+
+-- so many teams, from that number on
+abbrev pub opening_teams : Loaded → ℕ → ℕ → List TeamState
+opening_teams design number zero = []
+opening_teams design number (suc more) = opening_team design number ∷ opening_teams design (number + 1) more
+
+-- the floor as it is loaded: the fence teams in the frame's order, and last the team of the ground
+abbrev pub opening : Loaded → FloorState
+opening design = record { frame = design.frame; teams = opening_teams design 0 (length design.frame.teams + 1) }
+
+-- two designs agree for a team: they have one frame, in which the name is a team's, and the team has the same cells in both
+pub record AgreeFor (team : List ℕ) (a b : Loaded) : Type 0 where
+  pub frames : a.frame ≡ b.frame
+  pub number : ℕ
+  pub named : team_number a.frame team ≡ Some number
+  pub cells : own_cells number a.cells ≡ own_cells number b.cells

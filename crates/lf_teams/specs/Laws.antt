@@ -1,0 +1,30 @@
+-- Laws over runs: what other teams have and ask plays no part.
+use Rattle.std.specs.Prelude.{◌≡◌, ℕ, List, Some}
+use Rattle.lf_floorplan.specs.declared.loaded.Loaded.{Loaded}
+use Rattle.lf_floorplan.specs.declared.place.Place.{Place}
+use Rattle.lf_rules.specs.Legalizer.{Legalizer}
+use Rattle.lf_proto.specs.declared.request.Command.{Command}
+use Rattle.lf_proto.specs.declared.reply.Reply.{Reply}
+use Rattle.lf_teams.specs.States.{TeamState, FloorState}
+use Rattle.lf_teams.specs.Teams.{state_of}
+use Rattle.lf_teams.specs.Designs.{AgreeFor, opening}
+use Rattle.lf_teams.specs.Runs.{Run, asked, told}
+
+-- in two runs on floors of one frame, a team that begins in the same state and asks the same is told the same and ends in
+-- the same state, whatever the other teams have and ask; what was answered OutOfMemory counts as not asked
+abbrev pub OthersDoNotMatter : Type 0
+OthersDoNotMatter =
+    (l : Legalizer) (team : List ℕ) (a a' b b' : FloorState) (commands others : List (Command (List ℕ) Place)) (replies answers : List Reply) (s : TeamState)
+    → Run l a commands replies a' → Run l b others answers b'
+    → a.frame ≡ b.frame → state_of a team ≡ Some s → state_of b team ≡ Some s
+    → asked team commands replies ≡ asked team others answers
+    → (told team commands replies ≡ told team others answers) × (state_of a' team ≡ state_of b' team)
+
+-- the same from two loaded designs that agree for the team: what they have of other teams' cells plays no part
+abbrev pub OtherDesignsDoNotMatter : Type 0
+OtherDesignsDoNotMatter =
+    (l : Legalizer) (team : List ℕ) (a b : Loaded) (a' b' : FloorState) (commands others : List (Command (List ℕ) Place)) (replies answers : List Reply)
+    → AgreeFor team a b
+    → Run l (opening a) commands replies a' → Run l (opening b) others answers b'
+    → asked team commands replies ≡ asked team others answers
+    → (told team commands replies ≡ told team others answers) × (state_of a' team ≡ state_of b' team)

@@ -1,0 +1,13 @@
+pub mod States
+pub mod Teams
+pub mod Outcomes
+pub mod Sessions
+pub mod Looks
+pub mod Changes
+pub mod Verbs
+pub mod VerbLaws
+pub mod Steps
+pub mod Runs
+pub mod Designs
+pub mod Laws
+pub mod VerbRows

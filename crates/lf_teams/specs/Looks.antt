@@ -1,0 +1,67 @@
+-- Questions, which change nothing: what where, check and find come to.
+use Rattle.std.specs.Prelude.{ℕ, List, Option, Some, None, map, slice_get}
+use Rattle.lf_units.specs.declared.area.Point.{Point}
+use Rattle.lf_floorplan.specs.declared.place.Place.{Place}
+use Rattle.lf_rules.specs.Choice.{Spot, Lifted}
+use Rattle.lf_reports.specs.Reports.{report_of}
+use Rattle.lf_rules.specs.Team.{lifted_from}
+use Rattle.lf_proto.specs.Numbers.{◌>>=◌}
+use Rattle.lf_proto.specs.ReportText.{report_text}
+use Rattle.lf_proto.specs.Requests.{place_at}
+use Rattle.lf_proto.specs.declared.reply.Reply.TheVariants.{At, Report}
+use Rattle.lf_proto.specs.declared.reply.Refusal.TheVariants.{NoCell, Unplaced, NoPlace}
+use Rattle.lf_cells.specs.declared.cell.Cell.{Cell}
+use Rattle.lf_teams.specs.States.{TeamState}
+use Rattle.lf_teams.specs.Teams.{Setting, listed_of}
+use Rattle.lf_cells.specs.Cells.{cell_named, working_at}
+use Rattle.lf_legalize.specs.Members.{member_of}
+use Rattle.lf_teams.specs.Outcomes.{Outcome, refused}
+
+-- the cell stands at this place, or nowhere
+abbrev pub located_at : Option Place → ℕ → TeamState → Outcome
+located_at None own s = refused (Unplaced own) s
+located_at (Some place) own s = record { reply = At place; team = s }
+
+-- the cell is the one of this position, or none of the team's
+abbrev pub located_own : Option ℕ → TeamState → Outcome
+located_own None s = refused NoCell s
+located_own (Some own) s = located_at (working_at s.cells own) own s
+
+-- where: the working place of the team's cell of that name
+unfoldable pub located : List ℕ → TeamState → Outcome
+located name s = located_own (cell_named name s.cells) s
+
+-- check: the report of the team's cells at their working places
+unfoldable pub checked : Setting → TeamState → Outcome
+checked t s = record { reply = Report (report_text (report_of t.legalizer t.frame (map (listed_of t.number) s.cells))); team = s }
+
+-- ---- the best place of a cell
+
+-- a place over whole numbers as one of the program, where a DEF text can hold its corner; it can hold that of a legal place
+abbrev pub place_of_spot : Spot → Option Place
+place_of_spot p = place_at p.x p.y p.orient
+
+-- the cell of that position, taken away from its place among its team's cells
+abbrev pub lifted_cell : Setting → List Cell → ℕ → Cell → Lifted
+lifted_cell t cells own c = lifted_from t.frame t.number (map member_of cells) own c.mac
+
+-- the best place for a target of the cell of that position
+abbrev pub best_at : Setting → List Cell → ℕ → Point → Option Place
+best_at t cells own target = do
+  c ← slice_get cells own
+  best ← t.legalizer.best_place (lifted_cell t cells own c) target
+  place_of_spot best
+
+-- the cell has this best place, or none
+abbrev pub found_at : Option Place → ℕ → TeamState → Outcome
+found_at None own s = refused (NoPlace own) s
+found_at (Some place) own s = record { reply = At place; team = s }
+
+-- the cell is the one of this position, or none of the team's
+abbrev pub found_own : Option ℕ → Setting → Point → TeamState → Outcome
+found_own None t target s = refused NoCell s
+found_own (Some own) t target s = found_at (best_at t s.cells own target) own s
+
+-- find: the best place of the cell for the target
+unfoldable pub found : Setting → List ℕ → Point → TeamState → Outcome
+found t name target s = found_own (cell_named name s.cells) t target s

@@ -1,0 +1,31 @@
+-- Sessions: the slots of a team, and what open, close and sync come to.
+use Rattle.std.specs.Prelude.{ℕ, List, Option, Some, None, position, is_none, slice_set, slice_index_or}
+use Rattle.lf_proto.specs.declared.reply.Reply.TheVariants.{Done, Opened, Revision}
+use Rattle.lf_proto.specs.declared.reply.Refusal.TheVariants.{SessionsFull}
+use Rattle.lf_teams.specs.States.{TeamState}
+use Rattle.lf_teams.specs.Outcomes.{Outcome, refused}
+
+-- the revision that a session has seen; None where the slot is free, or there is none of that number
+abbrev pub seen_at : List (Option ℕ) → ℕ → Option ℕ
+seen_at slots session = slice_index_or slots session None
+
+-- the team with the session's slot changed
+abbrev pub with_slot : ℕ → Option ℕ → TeamState → TeamState
+with_slot session seen s = record s { slots = slice_set s.slots session seen }
+
+-- the session takes this slot, or all slots are taken
+abbrev pub opened_at : Option ℕ → TeamState → Outcome
+opened_at None s = refused SessionsFull s
+opened_at (Some session) s = record { reply = Opened session s.revision; team = with_slot session (Some s.revision) s }
+
+-- open: the least free slot is taken, and its session has seen the present revision
+unfoldable pub opened : TeamState → Outcome
+opened s = opened_at (position is_none s.slots) s
+
+-- close: the session's slot is free
+unfoldable pub closed : ℕ → TeamState → Outcome
+closed session s = record { reply = Done; team = with_slot session None s }
+
+-- sync: the session has seen the present revision
+unfoldable pub synced : ℕ → TeamState → Outcome
+synced session s = record { reply = Revision s.revision; team = with_slot session (Some s.revision) s }

@@ -1,0 +1,20 @@
+-- What contracts see of a team and of a floor.
+use Rattle.std.specs.Prelude.{ℕ, List, Option}
+use Rattle.lf_floorplan.specs.declared.frame.Frame.{Frame}
+use Rattle.lf_floorplan.specs.declared.place.Place.{Place}
+use Rattle.lf_cells.specs.declared.cell.Cell.{Cell}
+
+-- a team: its cells in loading order; its revision, which is how many changes it has made; the working places before each
+-- change that can be undone, the newest first; and for each session slot the revision that its session has seen, None
+-- where the slot is free
+pub record TeamState : Type 0 where
+  pub cells : List Cell
+  pub revision : ℕ
+  pub entries : List (List (Option Place))
+  pub slots : List (Option ℕ)
+
+-- a floor: its frame, and a state for each team: the fence teams in the frame's order, and last the team of the ground
+-- outside all fences
+pub record FloorState : Type 0 where
+  pub frame : Frame
+  pub teams : List TeamState

@@ -1,0 +1,135 @@
+-- What one command does to the floor of all teams.
+use Rattle.std.specs.Prelude.{◌≡◌, ℕ, List, Option, Some, None, true, false, MatchBool, slice_get, slice_set}
+use Rattle.lf_units.specs.declared.area.Point.{Point}
+use Rattle.lf_floorplan.specs.declared.frame.Frame.{Frame}
+use Rattle.lf_floorplan.specs.declared.place.Place.{Place}
+use Rattle.lf_rules.specs.Legalizer.{Legalizer}
+use Rattle.lf_proto.specs.declared.request.Command.{Command}
+use Rattle.lf_proto.specs.declared.request.Command.TheVariants.{Bye, To}
+use Rattle.lf_proto.specs.declared.request.Order.{Order}
+use Rattle.lf_proto.specs.declared.request.Order.TheVariants.{Within}
+use Rattle.lf_proto.specs.declared.request.Action.TheVariants.{Change as Changing}
+use Rattle.lf_proto.specs.declared.request.Change.TheVariants.{Place as PlaceAt, Legalize, Tidy}
+use Rattle.lf_proto.specs.declared.reply.Reply.{Reply}
+use Rattle.lf_proto.specs.declared.reply.Reply.TheVariants.{Done, Refused}
+use Rattle.lf_proto.specs.declared.reply.Refusal.TheVariants.{NoTeam}
+use Rattle.lf_teams.specs.States.{TeamState, FloorState}
+use Rattle.lf_teams.specs.Teams.{setting, team_number, state_of}
+use Rattle.lf_teams.specs.Outcomes.{Outcome, is_short, may_be_short}
+use Rattle.lf_teams.specs.Verbs.{outcome_of, takes_memory}
+use Rattle.lf_teams.specs.VerbLaws.{is_granted, AreLegal, HasLegal}
+
+-- the floor of that frame and these teams
+abbrev pub floor_of : Frame → List TeamState → FloorState
+floor_of f teams = record { frame = f; teams = teams }
+
+-- the reply to a command, and the floor afterwards
+pub record Answer : Type 0 where
+  pub reply : Reply
+  pub floor : FloorState
+
+-- what an order to the team of that number comes to, in this state of the team
+abbrev pub ruled : Legalizer → Frame → ℕ → Order (List ℕ) Place → TeamState → Outcome
+ruled l f number order s = outcome_of (setting l f number) order s
+
+-- the team's outcome on the floor: the team of that number is the outcome's, and the others stay
+abbrev pub settled : FloorState → ℕ → Outcome → Answer
+settled floor number o = record { reply = o.reply; floor = record floor { teams = slice_set floor.teams number o.team } }
+
+-- no team has the name
+abbrev pub no_team : FloorState → Answer
+no_team floor = record { reply = Refused NoTeam; floor = floor }
+
+-- the answer of the team in this state; no team, no state
+abbrev pub answer_by : Option TeamState → Legalizer → FloorState → ℕ → Order (List ℕ) Place → Answer
+answer_by None l floor number order = no_team floor
+answer_by (Some s) l floor number order = settled floor number (ruled l floor.frame number order s)
+
+-- the answer of the team of that number
+abbrev pub answer_at : Option ℕ → Legalizer → FloorState → Order (List ℕ) Place → Answer
+answer_at None l floor order = no_team floor
+answer_at (Some number) l floor order = answer_by (slice_get floor.teams number) l floor number order
+
+-- the end of a connection: its sessions stay
+abbrev pub parted : FloorState → Answer
+parted floor = record { reply = Done; floor = floor }
+
+-- the answer to a command: the team of that name answers by its own state alone, and only its state changes
+unfoldable pub answer_of : Legalizer → FloorState → Command (List ℕ) Place → Answer
+answer_of l floor Bye = parted floor
+answer_of l floor (To team order) = answer_at (team_number floor.frame team) l floor order
+
+-- ---- a step
+
+-- the commands that take no memory, so that OutOfMemory is never told: bye, open, close, sync and where
+abbrev pub TakesNone : Command (List ℕ) Place → Type 0
+TakesNone Bye = Unit {0}
+TakesNone (To team order) = takes_memory order ≡ false
+
+-- the reply and the floor are those of the answer
+pub record Gives (answer : Answer) (reply : Reply) (floor : FloorState) : Type 0 where
+  pub reply_is : reply ≡ answer.reply
+  pub floor_is : floor ≡ answer.floor
+
+-- memory sufficed: the reply and the floor are those of the command's answer
+abbrev pub Answers : Legalizer → FloorState → Command (List ℕ) Place → Reply → FloorState → Type 0
+Answers l old command reply new = Gives (answer_of l old command) reply new
+
+-- memory ran out: the answer is one that OutOfMemory may stand in for, and the floor is as it was
+pub record StaysShort (answer : Answer) (old new : FloorState) : Type 0 where
+  pub kept : new ≡ old
+  pub may : may_be_short answer.reply ≡ true
+
+-- the same, and the command is one that takes memory
+pub record RunsShort (l : Legalizer) (old : FloorState) (command : Command (List ℕ) Place) (new : FloorState) : Type 0 where
+  pub short : StaysShort (answer_of l old command) old new
+  pub takes : TakesNone command → ⊥
+
+-- a command is answered with this reply, and the floor goes from old to new: the reply is OutOfMemory and the floor stays, or
+-- both are the answer's
+abbrev pub Step : Legalizer → FloorState → Command (List ℕ) Place → Reply → FloorState → Type 0
+Step l old command reply new = MatchBool (is_short reply) (RunsShort l old command new) (Answers l old command reply new)
+
+-- ---- what a caller can rely on
+
+-- the team of that name has a cell of that name, which is placed and team-legal
+pub record StandsIn (l : Legalizer) (floor : FloorState) (team name : List ℕ) : Type 0 where
+  pub number : ℕ
+  pub state : TeamState
+  pub named : team_number floor.frame team ≡ Some number
+  pub there : state_of floor team ≡ Some state
+  pub legal : HasLegal (setting l floor.frame number) name state
+
+-- after an accepted place the cell is team-legal
+abbrev pub PlacesLegally : Legalizer → Command (List ℕ) Place → Reply → FloorState → Type 0
+PlacesLegally l command reply new =
+    (team name : List ℕ) (session : ℕ) (place : Place)
+    → command ≡ To team (Within session (Changing (PlaceAt name place))) → is_granted reply ≡ true → StandsIn l new team name
+
+-- after an accepted legalize the cell is team-legal
+abbrev pub LegalizesLegally : Legalizer → Command (List ℕ) Place → Reply → FloorState → Type 0
+LegalizesLegally l command reply new =
+    (team name : List ℕ) (session : ℕ) (target : Point)
+    → command ≡ To team (Within session (Changing (Legalize name target))) → is_granted reply ≡ true → StandsIn l new team name
+
+-- the team of that name has all its cells placed and team-legal
+pub record AllStandIn (l : Legalizer) (floor : FloorState) (team : List ℕ) : Type 0 where
+  pub number : ℕ
+  pub state : TeamState
+  pub named : team_number floor.frame team ≡ Some number
+  pub there : state_of floor team ≡ Some state
+  pub legal : AreLegal (setting l floor.frame number) state
+
+-- after an accepted tidy every cell of the team is placed and team-legal
+abbrev pub TidiesLegally : Legalizer → Command (List ℕ) Place → Reply → FloorState → Type 0
+TidiesLegally l command reply new =
+    (team : List ℕ) (session : ℕ) → command ≡ To team (Within session (Changing Tidy)) → is_granted reply ≡ true → AllStandIn l new team
+
+-- a refusal leaves the whole floor as it was
+abbrev pub KeepsIfRefused : Reply → FloorState → FloorState → Type 0
+KeepsIfRefused reply old new = is_granted reply ≡ false → new ≡ old
+
+-- the command is to the team of that name
+abbrev pub IsTo : List ℕ → Command (List ℕ) Place → Type 0
+IsTo team Bye = ⊥
+IsTo team (To name order) = name ≡ team

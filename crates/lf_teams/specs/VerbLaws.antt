@@ -1,0 +1,202 @@
+-- Laws on what the verbs of the command table come to.
+use Rattle.std.specs.Prelude.{◌≡◌, ◌≢◌, ℕ, ◌+◌, ◌<◌, List, Option, Some, None, Bool, true, false, map, slice_get, option_map}
+use Rattle.lf_units.specs.declared.area.Point.{Point}
+use Rattle.lf_floorplan.specs.declared.place.Place.{Place}
+use Rattle.lf_rules.specs.Choice.{IsChoice, spot_of}
+use Rattle.lf_rules.specs.Team.{StandsLegal}
+use Rattle.lf_rules.specs.Tidy.{Stuck, tidied}
+use Rattle.lf_proto.specs.declared.request.Order.{Order}
+use Rattle.lf_proto.specs.declared.request.Order.TheVariants.{Within}
+use Rattle.lf_proto.specs.declared.request.Action.TheVariants.{Change as Changing}
+use Rattle.lf_proto.specs.declared.request.Change.{Change}
+use Rattle.lf_proto.specs.declared.request.Change.TheVariants.{Place as PlaceAt, Legalize, Tidy, Swap, Undo, Commit, Revert}
+use Rattle.lf_proto.specs.declared.reply.Reply.{Reply}
+use Rattle.lf_proto.specs.declared.reply.Reply.TheVariants.{Revision, Legalized, Tidied as TidyDone, Refused}
+use Rattle.lf_proto.specs.declared.reply.Refusal.{Refusal}
+use Rattle.lf_proto.specs.declared.reply.Refusal.TheVariants.{NoPlace}
+use Rattle.lf_cells.specs.declared.cell.Cell.{Cell}
+use Rattle.lf_teams.specs.States.{TeamState}
+use Rattle.lf_teams.specs.Teams.{Setting, IsTeamOf}
+use Rattle.lf_cells.specs.Cells.{cell_named}
+use Rattle.lf_legalize.specs.Members.{member_of}
+use Rattle.lf_teams.specs.Outcomes.{Outcome, is_short, refused, places_of}
+use Rattle.lf_teams.specs.Sessions.{seen_at}
+use Rattle.lf_teams.specs.Looks.{lifted_cell, best_at}
+use Rattle.lf_teams.specs.Verbs.{outcome_of}
+
+-- what a change comes to that a session asks
+abbrev pub outcome_of_asking : Setting → ℕ → Change (List ℕ) Place → TeamState → Outcome
+outcome_of_asking t session change s = outcome_of t (Within session (Changing change)) s
+
+-- the reply is no refusal
+abbrev pub is_granted : Reply → Bool
+is_granted (Refused refusal) = false
+is_granted _ = true
+
+-- the command was accepted
+abbrev pub is_accepted : Outcome → Bool
+is_accepted o = is_granted o.reply
+
+-- the session has seen the team's revision, and a revision is left
+pub record MayChange (t : Setting) (session : ℕ) (s : TeamState) : Type 0 where
+  pub seen : seen_at s.slots session ≡ Some s.revision
+  pub left : s.revision < t.frame.limits.revisions
+
+-- ---- refusals
+
+-- no verb comes to OutOfMemory: memory plays no part in the rules
+abbrev pub NeverOutOfMemory : Type 0
+NeverOutOfMemory = (t : Setting) (verb : Order (List ℕ) Place) (s : TeamState) → is_short (outcome_of t verb s).reply ≡ false
+
+-- a refusal leaves the team as it was
+abbrev pub RefusalKeeps : Type 0
+RefusalKeeps =
+    (t : Setting) (verb : Order (List ℕ) Place) (s : TeamState) (refusal : Refusal)
+    → (outcome_of t verb s).reply ≡ Refused refusal → (outcome_of t verb s).team ≡ s
+
+-- a tidy in which a cell has no place names that cell, and leaves the team as it was
+abbrev pub StuckTidyKeeps : Type 0
+StuckTidyKeeps =
+    (t : Setting) (session stuck : ℕ) (s : TeamState) → MayChange t session s
+    → tidied t.legalizer t.frame t.number (map member_of s.cells) ≡ Stuck stuck
+    → outcome_of_asking t session Tidy s ≡ refused (NoPlace stuck) s
+
+-- ---- revisions
+
+-- the revision that the reply to a change tells
+abbrev pub told_revision : Reply → Option ℕ
+told_revision (Revision revision) = Some revision
+told_revision (Legalized revision place) = Some revision
+told_revision (TidyDone revision count) = Some revision
+told_revision _ = None
+
+-- one more revision, which the reply tells, and which this session has seen and no other
+pub record IsCounted (session : ℕ) (old : TeamState) (o : Outcome) : Type 0 where
+  pub counted : o.team.revision ≡ old.revision + 1
+  pub told : told_revision o.reply ≡ Some (old.revision + 1)
+  pub seen : seen_at o.team.slots session ≡ Some (old.revision + 1)
+  pub others : (other : ℕ) → other ≢ session → seen_at o.team.slots other ≡ seen_at old.slots other
+
+-- an accepted change was asked by a session that had seen the revision, while one was left, and counts one more
+pub record CountsOne (t : Setting) (session : ℕ) (old : TeamState) (o : Outcome) : Type 0 where
+  pub allowed : MayChange t session old
+  pub counts : IsCounted session old o
+
+-- an accepted change counts one more revision
+abbrev pub ChangeCounts : Type 0
+ChangeCounts =
+    (t : Setting) (session : ℕ) (change : Change (List ℕ) Place) (s : TeamState)
+    → is_accepted (outcome_of_asking t session change s) ≡ true → CountsOne t session s (outcome_of_asking t session change s)
+
+-- the verb changes a team's places
+abbrev pub is_change : Order (List ℕ) Place → Bool
+is_change (Within session (Changing change)) = true
+is_change _ = false
+
+-- the team has the same cells, revision and undo entries
+pub record KeepsCells (old new : TeamState) : Type 0 where
+  pub cells : new.cells ≡ old.cells
+  pub revision : new.revision ≡ old.revision
+  pub entries : new.entries ≡ old.entries
+
+-- a verb that is no change leaves cells, revision and undo entries
+abbrev pub LookKeeps : Type 0
+LookKeeps = (t : Setting) (verb : Order (List ℕ) Place) (s : TeamState) → is_change verb ≡ false → KeepsCells s (outcome_of t verb s).team
+
+-- ---- undo, commit and revert
+
+-- the changes that undo takes back
+abbrev pub is_recorded : Change (List ℕ) Place → Bool
+is_recorded Undo = false
+is_recorded Commit = false
+is_recorded _ = true
+
+-- an accepted change, after which the working places are these
+pub record Leads (o : Outcome) (places : List (Option Place)) : Type 0 where
+  pub told : o.reply ≡ Revision o.team.revision
+  pub places_are : places_of o.team.cells ≡ places
+
+-- undo after an accepted place, legalize, tidy, unplace, swap or revert brings back the working places before it
+abbrev pub UndoBringsBack : Type 0
+UndoBringsBack =
+    (t : Setting) (session other : ℕ) (change : Change (List ℕ) Place) (s : TeamState) →
+    let after = outcome_of_asking t session change s in
+    is_recorded change ≡ true → is_accepted after ≡ true → MayChange t other after.team
+    → Leads (outcome_of_asking t other Undo after.team) (places_of s.cells)
+
+-- revert after an accepted commit changes no working place
+abbrev pub RevertAfterCommitKeeps : Type 0
+RevertAfterCommitKeeps =
+    (t : Setting) (session other : ℕ) (s : TeamState) →
+    let after = outcome_of_asking t session Commit s in
+    is_accepted after ≡ true → MayChange t other after.team → Leads (outcome_of_asking t other Revert after.team) (places_of s.cells)
+
+-- the verb is a commit
+abbrev pub is_commit : Order (List ℕ) Place → Bool
+is_commit (Within session (Changing Commit)) = true
+is_commit _ = false
+
+-- the committed places, in loading order
+abbrev pub committed_places : TeamState → List (Option Place)
+committed_places s = map (λ c. c.committed) s.cells
+
+-- no verb but commit changes a committed place
+abbrev pub OnlyCommitCommits : Type 0
+OnlyCommitCommits =
+    (t : Setting) (verb : Order (List ℕ) Place) (s : TeamState) → is_commit verb ≡ false
+    → committed_places (outcome_of t verb s).team ≡ committed_places s
+
+-- ---- legal places
+
+-- the place that find and legalize take is the best place, and there is none only where no place is team-legal for the cell
+abbrev pub BestIsFound : Type 0
+BestIsFound =
+    (t : Setting) (s : TeamState) (own : ℕ) (c : Cell) (target : Point) → IsTeamOf t.frame s → slice_get s.cells own ≡ Some c
+    → IsChoice (lifted_cell t s.cells own c) target (option_map spot_of (best_at t s.cells own target))
+
+-- every cell of the team is placed and team-legal
+abbrev pub AreLegal : Setting → TeamState → Type 0
+AreLegal t s = (own : ℕ) → StandsLegal t.frame t.number (map member_of s.cells) own
+
+-- the team has a cell of that name, which is placed and team-legal
+pub record HasLegal (t : Setting) (name : List ℕ) (s : TeamState) : Type 0 where
+  pub own : ℕ
+  pub named : cell_named name s.cells ≡ Some own
+  pub legal : StandsLegal t.frame t.number (map member_of s.cells) own
+
+-- after an accepted tidy every cell of the team is placed and team-legal
+abbrev pub TidyMakesLegal : Type 0
+TidyMakesLegal =
+    (t : Setting) (session : ℕ) (s : TeamState) → IsTeamOf t.frame s
+    → is_accepted (outcome_of_asking t session Tidy s) ≡ true → AreLegal t (outcome_of_asking t session Tidy s).team
+
+-- after an accepted commit too
+abbrev pub CommitFindsLegal : Type 0
+CommitFindsLegal =
+    (t : Setting) (session : ℕ) (s : TeamState) → IsTeamOf t.frame s
+    → is_accepted (outcome_of_asking t session Commit s) ≡ true → AreLegal t (outcome_of_asking t session Commit s).team
+
+-- after an accepted place the cell is team-legal
+abbrev pub PlaceMakesLegal : Type 0
+PlaceMakesLegal =
+    (t : Setting) (session : ℕ) (name : List ℕ) (place : Place) (s : TeamState) → IsTeamOf t.frame s
+    → is_accepted (outcome_of_asking t session (PlaceAt name place) s) ≡ true
+    → HasLegal t name (outcome_of_asking t session (PlaceAt name place) s).team
+
+-- after an accepted legalize the cell is team-legal
+abbrev pub LegalizeMakesLegal : Type 0
+LegalizeMakesLegal =
+    (t : Setting) (session : ℕ) (name : List ℕ) (target : Point) (s : TeamState) → IsTeamOf t.frame s
+    → is_accepted (outcome_of_asking t session (Legalize name target) s) ≡ true
+    → HasLegal t name (outcome_of_asking t session (Legalize name target) s).team
+
+-- after an accepted swap both cells are team-legal
+abbrev pub SwapMakesLegal : Type 0
+SwapMakesLegal =
+    (t : Setting) (session : ℕ) (first second : List ℕ) (s : TeamState) → IsTeamOf t.frame s →
+    let after = outcome_of_asking t session (Swap first second) s in
+    is_accepted after ≡ true → HasLegal t first after.team × HasLegal t second after.team
+
+-- a team of the frame stays one
+abbrev pub VerbKeepsTeam : Type 0
+VerbKeepsTeam = (t : Setting) (verb : Order (List ℕ) Place) (s : TeamState) → IsTeamOf t.frame s → IsTeamOf t.frame (outcome_of t verb s).team

@@ -1,0 +1,73 @@
+-- What each verb of the command table comes to: the reply, and the team afterwards.
+--
+-- A verb is refused by the first of these that holds: no session slot is free (open), or the session is not open (any
+-- other verb); for a change, the session has not seen the team's revision, and then no revision is left; the team has no
+-- cell of a name, the first before the second; a cell is unplaced, the first before the second (where, unplace, swap,
+-- commit); a place breaks a rule (place, swap, commit); a cell has no best place (find, legalize, tidy); there is no undo
+-- entry (undo).
+use Rattle.std.specs.Prelude.{ℕ, Bool, true, false, List, Option, Some, None, nat_lt, ◌==◌, if◌then◌else◌}
+use Rattle.lf_floorplan.specs.declared.place.Place.{Place}
+use Rattle.lf_proto.specs.declared.request.Order.{Order}
+use Rattle.lf_proto.specs.declared.request.Order.TheVariants.{Open, Within}
+use Rattle.lf_proto.specs.declared.request.Action.{Action}
+use Rattle.lf_proto.specs.declared.request.Action.TheVariants.{Close, Sync, Check, Where, Find, Change as Changing}
+use Rattle.lf_proto.specs.declared.request.Change.{Change}
+use Rattle.lf_proto.specs.declared.request.Change.TheVariants.{Place as PlaceAt, Legalize, Tidy, Unplace, Swap, Undo, Commit, Revert}
+use Rattle.lf_proto.specs.declared.reply.Refusal.TheVariants.{BadRequest, NoSession, Stale, RevisionsSpent}
+use Rattle.lf_teams.specs.States.{TeamState}
+use Rattle.lf_teams.specs.Teams.{Setting}
+use Rattle.lf_teams.specs.Outcomes.{Outcome, refused}
+use Rattle.lf_teams.specs.Sessions.{seen_at, opened, closed, synced}
+use Rattle.lf_teams.specs.Looks.{checked, located, found}
+use Rattle.lf_teams.specs.Changes.{placed, legalized, tidied_team, unplaced, swapped, undone, committed, reverted}
+
+-- ---- what each verb comes to
+
+-- which change is asked
+abbrev pub outcome_of_change : Setting → ℕ → Change (List ℕ) Place → TeamState → Outcome
+outcome_of_change t session (PlaceAt name place) s = placed t session name place s
+outcome_of_change t session (Legalize name target) s = legalized t session name target s
+outcome_of_change t session Tidy s = tidied_team t session s
+outcome_of_change t session (Unplace name) s = unplaced t.frame.limits session name s
+outcome_of_change t session (Swap first second) s = swapped t session first second s
+outcome_of_change t session Undo s = undone session s
+outcome_of_change t session Commit s = committed t session s
+outcome_of_change t session Revert s = reverted t session s
+
+-- a change needs a revision that is left
+abbrev pub unless_spent : Setting → ℕ → Change (List ℕ) Place → TeamState → Outcome
+unless_spent t session change s =
+    if nat_lt s.revision t.frame.limits.revisions then outcome_of_change t session change s else refused RevisionsSpent s
+
+-- a change is asked by a session that has seen the present revision
+abbrev pub unless_stale : ℕ → Setting → ℕ → Change (List ℕ) Place → TeamState → Outcome
+unless_stale seen t session change s = if seen == s.revision then unless_spent t session change s else refused (Stale s.revision) s
+
+-- what is asked by a session that has seen this revision
+abbrev pub outcome_within : ℕ → Setting → ℕ → Action (List ℕ) Place → TeamState → Outcome
+outcome_within seen t session Close s = closed session s
+outcome_within seen t session Sync s = synced session s
+outcome_within seen t session Check s = checked t s
+outcome_within seen t session (Where name) s = located name s
+outcome_within seen t session (Find name target) s = found t name target s
+outcome_within seen t session (Changing change) s = unless_stale seen t session change s
+
+-- the session is open, and has seen this revision, or it is not
+abbrev pub outcome_by_slot : Option ℕ → Setting → ℕ → Action (List ℕ) Place → TeamState → Outcome
+outcome_by_slot None t session verb s = refused NoSession s
+outcome_by_slot (Some seen) t session verb s = outcome_within seen t session verb s
+
+-- what an order comes to, in a team of that setting
+abbrev pub outcome_of : Setting → Order (List ℕ) Place → TeamState → Outcome
+outcome_of t Open s = opened s
+outcome_of t (Within session verb) s = outcome_by_slot (seen_at s.slots session) t session verb s
+
+-- ---- memory
+
+-- the orders that may take memory: all but open, close, sync and where
+abbrev pub takes_memory : Order (List ℕ) Place → Bool
+takes_memory Open = false
+takes_memory (Within session Close) = false
+takes_memory (Within session Sync) = false
+takes_memory (Within session (Where name)) = false
+takes_memory _ = true

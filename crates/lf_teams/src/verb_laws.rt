@@ -1,0 +1,98 @@
+//! Laws on what the verbs of the command table come to.
+
+ghost use Rattle.lf_teams.specs.VerbLaws.{NeverOutOfMemory, RefusalKeeps, StuckTidyKeeps, ChangeCounts, LookKeeps, UndoBringsBack, RevertAfterCommitKeeps, OnlyCommitCommits, BestIsFound, TidyMakesLegal, CommitFindsLegal, PlaceMakesLegal, LegalizeMakesLegal, SwapMakesLegal, VerbKeepsTeam};
+ghost use Rattle.lf_teams.specs.VerbRows.{VerbRows};
+
+use lf_rules::legal_in_range;
+
+/// No verb ever comes to `OutOfMemory`: only a growth that was really refused is answered so.
+pub fn never_out_of_memory()
+    ensures { NeverOutOfMemory }
+{}
+
+/// A refusal leaves the team as it was.
+pub fn refusal_keeps()
+    ensures { RefusalKeeps }
+{}
+
+/// A tidy in which a cell has no place names that cell, and leaves the team as it was.
+pub fn stuck_tidy_keeps()
+    ensures { StuckTidyKeeps }
+{}
+
+/// An accepted change adds one to the team's revision, which then this session has seen and no other.
+pub fn change_counts()
+    ensures { ChangeCounts }
+{}
+
+/// A verb that is no change leaves the team's cells, revision and undo entries.
+pub fn look_keeps()
+    ensures { LookKeeps }
+{}
+
+/// Undo after an accepted place, legalize, tidy, unplace, swap or revert brings back the working places before it.
+pub fn undo_brings_back()
+    ensures { UndoBringsBack }
+{}
+
+/// Revert after an accepted commit changes no working place.
+pub fn revert_after_commit_keeps()
+    ensures { RevertAfterCommitKeeps }
+{}
+
+/// No verb but commit changes a committed place.
+pub fn only_commit_commits()
+    ensures { OnlyCommitCommits }
+{}
+
+/// The place that find and legalize take is the best place, and there is none only where no place is team-legal.
+pub fn best_is_found()
+    ensures { BestIsFound }
+{
+    legal_in_range();
+}
+
+/// After an accepted tidy every cell of the team is placed and team-legal.
+pub fn tidy_makes_legal()
+    ensures { TidyMakesLegal }
+{
+    legal_in_range();
+}
+
+/// After an accepted commit every cell of the team is placed and team-legal.
+pub fn commit_finds_legal()
+    ensures { CommitFindsLegal }
+{
+    legal_in_range();
+}
+
+/// After an accepted place the cell is team-legal.
+pub fn place_makes_legal()
+    ensures { PlaceMakesLegal }
+{
+    legal_in_range();
+}
+
+/// After an accepted legalize the cell is team-legal.
+pub fn legalize_makes_legal()
+    ensures { LegalizeMakesLegal }
+{
+    legal_in_range();
+}
+
+/// After an accepted swap both cells are team-legal.
+pub fn swap_makes_legal()
+    ensures { SwapMakesLegal }
+{
+    legal_in_range();
+}
+
+/// A team of the frame stays one, whatever is asked of it.
+pub fn verb_keeps_team()
+    ensures { VerbKeepsTeam }
+{}
+
+/// What verbs come to on a team of three cells, by what the legalizer finds.
+pub fn verb_rows()
+    ensures { VerbRows }
+{}
