@@ -1,118 +1,175 @@
--- The teams of a floor, whose cells stand in one table.
-use Rattle.std.proofs.Common.{◌≡◌, ◌≢◌, ◌<◌, ◌≤◌, ℕ, zero, suc, ◌+◌, List, [], ◌∷◌, length, Option, Some, None, refl, ap, sym, ◌∙◌, zero-add, subst, arith}
-use Rattle.std.specs.Prelude.{slice_get, slice_set, slice_index_or, replicate, option_map, option_and_then, IsSome, All}
-use Rattle.std.proofs.lemmas.List.FromFn.{get_or-map-range_with_len}
-use Rattle.std.proofs.lemmas.Option.{slice_get_within, get_or_from_slice_get}
+-- The teams of a floor, whose parts stand in tables of all teams.
+use Rattle.std.proofs.Common.{◌≡◌, ◌≢◌, ◌<◌, ◌≤◌, ℕ, zero, suc, ◌+◌, List, [], ◌∷◌, length, map, set, get_or, Option, Some, None, ⊎_elim, refl, ap, sym, ◌∙◌, zero-add, subst, arith}
+use Rattle.std.specs.Prelude.{slice_get, slice_set, slice_index_or, replicate, option_and_then, All}
+use Rattle.std.specs.List.{range_with_len}
+use Rattle.std.proofs.lemmas.List.{length-set, length-replicate, get_or-replicate, get_or-set_same, get_or-set_other}
+use Rattle.std.proofs.lemmas.List.FromFn.{length-map-range_with_len, get_or-map-range_with_len, fill_by_all}
+use Rattle.std.proofs.lemmas.Bool.{cases_eq}
+use Rattle.std.proofs.lemmas.Option.{slice_get_read}
 use Rattle.lf_floorplan.specs.Bounds.{IsName}
+use Rattle.lf_floorplan.specs.declared.frame.Frame.{Frame}
+use Rattle.lf_floorplan.specs.declared.place.Place.{Place}
 use Rattle.lf_floorplan.specs.declared.loaded.Loaded.{Loaded}
 use Rattle.lf_cells.specs.declared.cell.Cell.{Cell}
 use Rattle.lf_cells.specs.Cells.{Cells, cells_of}
 use Rattle.lf_cells.specs.Openings.{own_cells, opening_cells}
-use Rattle.lf_floorplan.specs.declared.frame.Frame.{Frame}
-use Rattle.lf_teams.specs.States.{Ledger, TeamState, FloorState, team_with}
+use Rattle.lf_undo.specs.Stacks.{stack_of}
+use Rattle.lf_undo.specs.Entries.{entries_of}
+use Rattle.lf_undo.specs.declared.moves.Move.{Move}
+use Rattle.lf_sessions.specs.Slots.{slots_of}
+use Rattle.lf_teams.specs.Outcomes.{places_of}
+use Rattle.lf_teams.specs.States.{TeamState, FloorState}
 use Rattle.lf_teams.specs.Steps.{floor_of}
 use Rattle.lf_teams.specs.Teams.{team_number, state_at, state_of, IsTeamOf}
-use Rattle.lf_floor.specs.Tables.{OthersStay, empty_ledger, own_team, teams_from, teams_in}
 use Rattle.lf_teams.specs.Designs.{opening_team, opening_teams}
+use Rattle.lf_teams.proofs.Openings.{opened_at, opening_whole}
+use Rattle.lf_floor.specs.declared.tables.Tables.{Tables}
+use Rattle.lf_floor.specs.Tables.{AreOpening, AreTablesOf, HasRows, IsServed, OtherCellsStay, OthersStay, own_team, revision_of, team_with, teams_in}
 
 -- ---- one team among all
 
-some_within : {X : Type 0} (xs : List X) (k : ℕ) → k < length xs → IsSome (slice_get xs k)
-some_within [] k within = absurd (omega (arith, within))
-some_within (x ∷ xs) zero within = refl
-some_within (x ∷ xs) (suc k) within = some_within xs k (omega (arith, within))
+pub count_teams : (tables : Tables) → length (teams_in tables) ≡ length tables.revisions.items
+count_teams tables = length-map-range_with_len (λ (number : ℕ). own_team number tables) 0 (length tables.revisions.items)
 
-pub length_from : (n : ℕ) (table : Cells) (ledgers : List Ledger) → length (teams_from n table ledgers) ≡ length ledgers
-length_from n table [] = refl
-length_from n table (x ∷ xs) = ap suc (length_from (n + 1) table xs)
+pub team_at : (tables : Tables) (k : ℕ) (d : TeamState) → k < length tables.revisions.items → get_or (teams_in tables) k d ≡ own_team k tables
+team_at tables k d within = get_or-map-range_with_len (λ (number : ℕ). own_team number tables) 0 (length tables.revisions.items) k k d within (zero-add k)
 
-get_from : (n : ℕ) (table : Cells) (ledgers : List Ledger) (k : ℕ)
-    → slice_get (teams_from n table ledgers) k ≡ option_map (λ (x : Ledger). own_team (n + k) table x) (slice_get ledgers k)
-get_from n table [] k = refl
-get_from n table (x ∷ xs) zero = let at : n + 0 ≡ n = omega arith in rw at refl
-get_from n table (x ∷ xs) (suc k) = let at : n + suc k ≡ n + 1 + k = omega arith in rw at (get_from (n + 1) table xs k)
-
--- the team of that number is that of its ledger
-pub team_there : (table : Cells) (ledgers : List Ledger) (k : ℕ) (x : Ledger) → slice_get ledgers k ≡ Some x
-    → slice_get (teams_in table ledgers) k ≡ Some (own_team k table x)
-team_there table ledgers k x there =
-    let at : 0 + k ≡ k = omega arith in
-    (rw at at (get_from 0 table ledgers k)) ∙ ap (λ (o : Option Ledger). option_map (λ (y : Ledger). own_team k table y) o) there
-
-same_from : (n : ℕ) (old new : Cells) (ledgers : List Ledger) → ((other : ℕ) → n ≤ other → cells_of new other ≡ cells_of old other)
-    → teams_from n new ledgers ≡ teams_from n old ledgers
-same_from n old new [] same = refl
-same_from n old new (x ∷ xs) same =
-    ap (λ (cs : List Cell). team_with cs x ∷ teams_from (n + 1) new xs) (same n (omega arith))
-    ∙ ap (λ (ts : List TeamState). own_team n old x ∷ ts) (same_from (n + 1) old new xs (λ other past. same other (omega (arith, past))))
-
-set_from : (n : ℕ) (old new : Cells) (ledgers : List Ledger) (k : ℕ) (x : Ledger)
-    → ((other : ℕ) → other ≢ n + k → cells_of new other ≡ cells_of old other)
-    → teams_from n new (slice_set ledgers k x) ≡ slice_set (teams_from n old ledgers) k (own_team (n + k) new x)
-set_from n old new [] k x same = refl
-set_from n old new (y ∷ ys) zero x same =
-    let at : n + 0 ≡ n = omega arith in
-    rw at (ap (λ (ts : List TeamState). own_team n new x ∷ ts) (same_from (n + 1) old new ys (λ other past. same other (λ e. absurd (omega (arith, e, past))))))
-set_from n old new (y ∷ ys) (suc k) x same =
-    let at : n + suc k ≡ n + 1 + k = omega arith in
-    ap (λ (cs : List Cell). team_with cs y ∷ teams_from (n + 1) new (slice_set ys k x)) (same n (λ e. absurd (omega (arith, e))))
-    ∙ ap (λ (ts : List TeamState). own_team n old y ∷ ts)
-    (rw at (set_from (n + 1) old new ys k x (λ other differ. same other (λ e. differ (e ∙ at)))))
+-- the team of that number stands at its position
+pub team_there : (tables : Tables) (k : ℕ) → k < length tables.revisions.items → slice_get (teams_in tables) k ≡ Some (own_team k tables)
+team_there tables k within =
+    slice_get_read (teams_in tables) (length tables.revisions.items) k (own_team k tables) (sym (count_teams tables)) within
+    (sym (team_at tables k (own_team k tables) within))
 
 -- what holds of all teams holds of each
-pub each_team : (P : TeamState → Type 0) (table : Cells) (ledgers : List Ledger) (k : ℕ) (x : Ledger) → All P (teams_in table ledgers)
-    → slice_get ledgers k ≡ Some x → P (own_team k table x)
-each_team P table ledgers k x all there =
-    let at = team_there table ledgers k x there in
-    let t = own_team k table x in
-    subst P (get_or_from_slice_get (teams_in table ledgers) k t t at) (all k t (slice_get_within (teams_in table ledgers) k t at))
+pub each_team : (P : TeamState → Type 0) (tables : Tables) (k : ℕ) → All P (teams_in tables) → k < length tables.revisions.items → P (own_team k tables)
+each_team P tables k all within =
+    let t = own_team k tables in
+    subst P (team_at tables k t within) (all k t (rw (count_teams tables) within))
 
-pub printed_cells : (f : Frame) (table : Cells) (ledgers : List Ledger) (k : ℕ) → All (λ t. IsTeamOf f t) (teams_in table ledgers) → k < length ledgers
-    → All (λ c. IsName c.name) (cells_of table k)
-printed_cells f table ledgers k all within = go (slice_get ledgers k) refl (some_within ledgers k within) where
-  go : (o : Option Ledger) → slice_get ledgers k ≡ o → IsSome o → All (λ c. IsName c.name) (cells_of table k)
-  go None there some = absurd cc
-  go (Some x) there some = (each_team (λ t. IsTeamOf f t) table ledgers k x all there).printed
+-- where the other teams stay, one team alone has changed
+pub one_changed : (old new : Tables) (k : ℕ) → OthersStay k old new → teams_in new ≡ slice_set (teams_in old) k (own_team k new)
+one_changed old new k others = sym (fill_by_all (λ (number : ℕ). own_team number new) (set (teams_in old) k here) count here long each) where
+  here : TeamState
+  here = own_team k new
 
--- where the other teams' cells stay, one team alone has changed
-pub one_changed : (old new : Cells) (ledgers : List Ledger) (k : ℕ) (x : Ledger) → OthersStay k old new
-    → teams_in new (slice_set ledgers k x) ≡ slice_set (teams_in old ledgers) k (own_team k new x)
-one_changed old new ledgers k x others =
-    let at : 0 + k ≡ k = omega arith in
-    rw at at (set_from 0 old new ledgers k x (λ other differ. others.cells other (λ e. differ (e ∙ sym at))))
+  count : ℕ
+  count = length new.revisions.items
+
+  long : length (set (teams_in old) k here) ≡ count
+  long = length-set (teams_in old) k here ∙ count_teams old ∙ sym others.revisions
+
+  before : (i : ℕ) → i < count → i < length (teams_in old)
+  before i within = rw (count_teams old, sym others.revisions) within
+
+  each : (i : ℕ) → i < count → get_or (set (teams_in old) k here) i here ≡ own_team i new
+  each i within = ⊎_elim
+      (λ (same : i ≡ k). subst (λ (n : ℕ). get_or (set (teams_in old) k here) n here ≡ own_team n new) (sym same)
+          (get_or-set_same (teams_in old) k here here (before k (subst (λ (n : ℕ). n < count) same within))))
+      (λ (differ : i ≢ k). get_or-set_other (teams_in old) k i here here differ
+          ∙ team_at old i here (rw (sym others.revisions) within) ∙ sym (others.teams i differ))
+      (cases_eq i k)
 
 -- what is seen of a team of that number is what is seen of its cells
-pub cells_seen : {Y : Type 0} (F : List Cell → Option Y) (f : Frame) (table : Cells) (ledgers : List Ledger) (view : FloorState) (team : List ℕ) (number : ℕ)
-    → floor_of f (teams_in table ledgers) ≡ view → Some number ≡ team_number f team → number < length ledgers
-    → option_and_then (λ (s : TeamState). F s.cells) (state_of view team) ≡ F (cells_of table number)
-cells_seen {Y} F f table ledgers view team number is named within =
+pub cells_seen : {Y : Type 0} (F : List Cell → Option Y) (f : Frame) (tables : Tables) (view : FloorState) (team : List ℕ) (number : ℕ)
+    → floor_of f (teams_in tables) ≡ view → Some number ≡ team_number f team → number < length tables.revisions.items
+    → option_and_then (λ (s : TeamState). F s.cells) (state_of view team) ≡ F (cells_of tables.cells number)
+cells_seen {Y} F f tables view team number is named within =
     ap (λ (v : FloorState). seen v) (sym is)
-    ∙ ap (λ (o : Option ℕ). option_and_then (λ (s : TeamState). F s.cells) (state_at (teams_in table ledgers) o)) (sym named)
-    ∙ there (slice_get ledgers number) refl (some_within ledgers number within)
+    ∙ ap (λ (o : Option ℕ). option_and_then (λ (s : TeamState). F s.cells) (state_at (teams_in tables) o)) (sym named)
+    ∙ ap (λ (o : Option TeamState). option_and_then (λ (s : TeamState). F s.cells) o) (team_there tables number within)
   where
     seen : FloorState → Option Y
     seen v = option_and_then (λ (s : TeamState). F s.cells) (state_of v team)
 
-    there : (o : Option Ledger) → slice_get ledgers number ≡ o → IsSome o
-        → option_and_then (λ (s : TeamState). F s.cells) (slice_get (teams_in table ledgers) number) ≡ F (cells_of table number)
-    there None at some = absurd cc
-    there (Some x) at some = ap (λ (o : Option TeamState). option_and_then (λ (s : TeamState). F s.cells) o) (team_there table ledgers number x at)
+-- the team of that number is served
+pub served : (f : Frame) (tables : Tables) (number : ℕ) → AreTablesOf f tables → All (λ t. IsTeamOf f t) (teams_in tables) → number < length f.teams + 1
+    → IsServed f number tables
+served f tables number of_frame teams within = record {
+  rows = record { undo = rw of_frame.undo within; sessions = rw of_frame.sessions within; revisions = rw of_frame.revisions within };
+  limit = of_frame.limit;
+  team = each_team (λ t. IsTeamOf f t) tables number teams (rw of_frame.revisions within);
+}
+
+-- ---- what stays
+
+pub others_stay : (number : ℕ) (tables : Tables) → OthersStay number tables tables
+others_stay number tables =
+    record { teams = λ other differ. refl; components = refl; undo = refl; sessions = refl; revisions = refl; limit = refl }
+
+pub others_through : (number : ℕ) (a b c : Tables) → OthersStay number a b → OthersStay number b c → OthersStay number a c
+others_through number a b c ab bc = record {
+  teams = λ other differ. bc.teams other differ ∙ ab.teams other differ;
+  components = bc.components ∙ ab.components;
+  undo = bc.undo ∙ ab.undo;
+  sessions = bc.sessions ∙ ab.sessions;
+  revisions = bc.revisions ∙ ab.revisions;
+  limit = bc.limit ∙ ab.limit;
+}
+
+-- where only cells have changed
+pub others_by_cells : (number : ℕ) (tables : Tables) (cells : Cells) → OtherCellsStay number tables.cells cells
+    → OthersStay number tables (record tables { cells = cells })
+others_by_cells number tables cells others = record {
+  teams = λ other differ. ap (λ (cs : List Cell). team_with other cs tables) (others.cells other differ);
+  components = others.components;
+  undo = refl;
+  sessions = refl;
+  revisions = refl;
+  limit = refl;
+}
+
+pub cells_stay : (number : ℕ) (cells : Cells) → OtherCellsStay number cells cells
+cells_stay number cells = record { cells = λ other differ. refl; components = refl }
+
+pub cells_through : (number : ℕ) (a b c : Cells) → OtherCellsStay number a b → OtherCellsStay number b c → OtherCellsStay number a c
+cells_through number a b c ab bc =
+    record { cells = λ other differ. bc.cells other differ ∙ ab.cells other differ; components = bc.components ∙ ab.components }
+
+-- the tables keep their rows
+pub tables_kept : (f : Frame) (number : ℕ) (old new : Tables) → OthersStay number old new → AreTablesOf f old → AreTablesOf f new
+tables_kept f number old new others of_frame = record {
+  undo = others.undo ∙ of_frame.undo;
+  sessions = others.sessions ∙ of_frame.sessions;
+  revisions = others.revisions ∙ of_frame.revisions;
+  limit = others.limit ∙ of_frame.limit;
+}
 
 -- ---- the teams of a design as it is loaded
 
-opened_from : (design : Loaded) (table : Cells) (n count : ℕ) → ((k : ℕ) → k < n + count → cells_of table k ≡ own_cells k design.cells)
-    → teams_from n table (replicate count (empty_ledger design.frame.limits.sessions)) ≡ opening_teams design n count
-opened_from design table n zero at = refl
-opened_from design table n (suc count) at =
-    ap (λ (cs : List Cell). team_with cs (empty_ledger design.frame.limits.sessions) ∷ teams_from (n + 1) table (replicate count (empty_ledger design.frame.limits.sessions)))
-    (at n (omega arith))
-    ∙ ap (λ (ts : List TeamState). opening_team design n ∷ ts) (opened_from design table (n + 1) count (λ k within. at k (omega (arith, within))))
+module _ (design : Loaded) (tables : Tables) (opens : AreOpening design tables) where
+  count : ℕ
+  count = length design.frame.teams + 1
 
--- the tables that are built of a design give its opening teams
-pub opened_teams : (design : Loaded) (table : Cells) → table.cells ≡ opening_cells design
-    → teams_in table (replicate (length design.frame.teams + 1) (empty_ledger design.frame.limits.sessions))
-    ≡ opening_teams design 0 (length design.frame.teams + 1)
-opened_teams design table built = opened_from design table 0 (length design.frame.teams + 1) (λ k within.
-    ap (λ (cells : List (List Cell)). slice_index_or cells k []) built
-    ∙ get_or-map-range_with_len (λ (number : ℕ). own_cells number design.cells) 0 (length design.frame.teams + 1) k k []
-    (omega (arith, within)) (zero-add k))
+  revisions_are : length tables.revisions.items ≡ count
+  revisions_are = ap (λ (xs : List ℕ). length xs) opens.revisions ∙ length-replicate count 0
+
+  opened_team : (k : ℕ) → k < count → own_team k tables ≡ opening_team design k
+  opened_team k within =
+      let cells : cells_of tables.cells k ≡ own_cells k design.cells =
+      ap (λ (cs : List (List Cell)). slice_index_or cs k []) opens.cells
+      ∙ get_or-map-range_with_len (λ (number : ℕ). own_cells number design.cells) 0 count k k [] within (zero-add k) in
+      let revision : revision_of tables k ≡ 0 = ap (λ (xs : List ℕ). slice_index_or xs k 0) opens.revisions ∙ get_or-replicate count k 0 0 within in
+      let stack : stack_of tables.undo k ≡ [] = ap (λ (xs : List (List (List Move))). slice_index_or xs k []) opens.undo ∙ get_or-replicate count k [] [] within in
+      let slots : slots_of tables.sessions k ≡ replicate design.frame.limits.sessions None =
+      ap (λ (xs : List (List (Option ℕ))). slice_index_or xs k []) opens.sessions
+      ∙ get_or-replicate count k (replicate design.frame.limits.sessions None) [] within in
+      ap (λ (cs : List Cell). team_with k cs tables) cells
+      ∙ ap (λ (n : ℕ). record { cells = own_cells k design.cells; revision = n; entries = entries_of (places_of (own_cells k design.cells)) (stack_of tables.undo k); slots = slots_of tables.sessions k }) revision
+      ∙ ap (λ (es : List (List Move)). record { cells = own_cells k design.cells; revision = 0; entries = entries_of (places_of (own_cells k design.cells)) es; slots = slots_of tables.sessions k }) stack
+      ∙ ap (λ (ss : List (Option ℕ)). record { cells = own_cells k design.cells; revision = 0; entries = []; slots = ss }) slots
+
+  -- the tables that are built of a design give its opening teams
+  pub opened_teams : teams_in tables ≡ opening_teams design 0 count
+  opened_teams =
+      let d = opening_team design 0 in
+      subst (λ (n : ℕ). map (λ (number : ℕ). own_team number tables) (range_with_len 0 n) ≡ opening_teams design 0 count) (sym revisions_are)
+      (sym (fill_by_all (λ (number : ℕ). own_team number tables) (opening_teams design 0 count) count d (opening_whole design).0
+      (λ k within. opened_at design 0 count k d within ∙ ap (λ (n : ℕ). opening_team design n) (zero-add k) ∙ sym (opened_team k within))))
+
+  pub opened_tables : AreTablesOf design.frame tables
+  opened_tables = record {
+    undo = ap (λ (xs : List (List (List Move))). length xs) opens.undo ∙ length-replicate count [];
+    sessions = ap (λ (xs : List (List (Option ℕ))). length xs) opens.sessions ∙ length-replicate count (replicate design.frame.limits.sessions None);
+    revisions = revisions_are;
+    limit = opens.limit;
+  }

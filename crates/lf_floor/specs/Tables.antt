@@ -1,31 +1,132 @@
--- The teams of a floor, whose cells stand in one table.
-use Rattle.std.specs.Prelude.{◌≡◌, ◌≢◌, ℕ, ◌+◌, List, [], ◌∷◌, replicate, None}
+-- The teams of a floor, of which cells, undo entries, session slots and revisions stand in one table of each kind for all teams.
+use Rattle.std.specs.Prelude.{◌≡◌, ◌≢◌, ℕ, ◌+◌, ◌<◌, List, [], length, map, replicate, take, ◌∷◌, None, Some, slice_index_or, slice_set}
+use Rattle.std.specs.List.{range_with_len}
+use Rattle.lf_floorplan.specs.declared.frame.Frame.{Frame}
+use Rattle.lf_floorplan.specs.declared.loaded.Loaded.{Loaded}
+use Rattle.lf_rules.specs.Legalizer.{Legalizer}
+use Rattle.lf_cells.specs.declared.cell.Cell.{Cell}
 use Rattle.lf_cells.specs.Cells.{Cells, cells_of}
+use Rattle.lf_cells.specs.Openings.{opening_cells}
+use Rattle.lf_sessions.specs.Slots.{seen_at, slots_of, with_slot}
+use Rattle.lf_undo.specs.Stacks.{stack_of}
+use Rattle.lf_undo.specs.Entries.{entries_of, taken_back}
+use Rattle.lf_undo.specs.declared.moves.Move.{Move}
+use Rattle.lf_teams.specs.States.{TeamState}
+use Rattle.lf_teams.specs.Teams.{IsTeamOf, Setting, setting}
+use Rattle.lf_teams.specs.Outcomes.{changed, places_of}
 use Rattle.lf_floor.specs.declared.surroundings.Surroundings.{Surroundings}
-use Rattle.lf_teams.specs.States.{Ledger, TeamState, team_with}
+use Rattle.lf_floor.specs.declared.tables.Tables.{Tables}
 
--- the team of that number: its cells in the table, and its ledger
-abbrev pub own_team : ℕ → Cells → Ledger → TeamState
-own_team number table ledger = team_with (cells_of table number) ledger
+-- ---- one team among all
+
+-- how many changes the team of that number has made
+abbrev pub revision_of : Tables → ℕ → ℕ
+revision_of tables number = slice_index_or tables.revisions.items number 0
+
+-- the team of that number, with these cells: an undo entry stands for the places before its moves, the newest taken back first
+abbrev pub team_with : ℕ → List Cell → Tables → TeamState
+team_with number cells tables =
+    record {
+      cells = cells;
+      revision = revision_of tables number;
+      entries = entries_of (places_of cells) (stack_of tables.undo number);
+      slots = slots_of tables.sessions number;
+    }
+
+-- the team of that number, with its cells in the table
+abbrev pub own_team : ℕ → Tables → TeamState
+own_team number tables = team_with number (cells_of tables.cells number) tables
 
 -- the team in its surroundings
-abbrev pub team_in : {S : Type 0} → Surroundings S → Cells → Ledger → TeamState
-team_in around table ledger = own_team around.number table ledger
+abbrev pub team_in : {S : Type 0} → Surroundings S → Tables → TeamState
+team_in around tables = own_team around.number tables
 
--- the teams of these ledgers, the first of that number
-abbrev pub teams_from : ℕ → Cells → List Ledger → List TeamState
-teams_from number table [] = []
-teams_from number table (ledger ∷ ledgers) = own_team number table ledger ∷ teams_from (number + 1) table ledgers
+-- the setting that a team's surroundings are, with a legalizer
+abbrev pub setting_in : {S : Type 0} → Legalizer → Surroundings S → Setting
+setting_in l around = setting l around.frame.now around.number
 
 -- all teams
-abbrev pub teams_in : Cells → List Ledger → List TeamState
-teams_in table ledgers = teams_from 0 table ledgers
+abbrev pub teams_in : Tables → List TeamState
+teams_in tables = map (λ number. own_team number tables) (range_with_len 0 (length tables.revisions.items))
+
+-- ---- what a verb may rely on, and what it leaves
+
+-- each table has a row for the team of that number
+pub record HasRows (number : ℕ) (tables : Tables) : Type 0 where
+  pub undo : number < length tables.undo.lists
+  pub sessions : number < length tables.sessions
+  pub revisions : number < length tables.revisions.items
+
+-- the tables have a row for each team of the frame, and an undo stack takes as many entries as the limits allow
+pub record AreTablesOf (f : Frame) (tables : Tables) : Type 0 where
+  pub undo : length tables.undo.lists ≡ length f.teams + 1
+  pub sessions : length tables.sessions ≡ length f.teams + 1
+  pub revisions : length tables.revisions.items ≡ length f.teams + 1
+  pub limit : tables.undo.limit ≡ f.limits.undo
+
+-- the session has seen the team's revision, and the next revision is a number
+pub record IsCurrent (number session : ℕ) (tables : Tables) : Type 0 where
+  pub seen : seen_at (slots_of tables.sessions number) session ≡ Some (revision_of tables number)
+  pub left : revision_of tables number < 4294967295
+
+-- the tables have a row for the team of that number, which is one of the frame, and an undo stack takes as many entries as the limits allow
+pub record IsServed (f : Frame) (number : ℕ) (tables : Tables) : Type 0 where
+  pub rows : HasRows number tables
+  pub limit : tables.undo.limit ≡ f.limits.undo
+  pub team : IsTeamOf f (own_team number tables)
+
+-- and the session may change the team
+pub record CanChange (f : Frame) (number session : ℕ) (tables : Tables) : Type 0 where
+  pub served : IsServed f number tables
+  pub current : IsCurrent number session tables
 
 -- only the cells of the team of that number may differ
-pub record OthersStay (number : ℕ) (old new : Cells) : Type 0 where
+pub record OtherCellsStay (number : ℕ) (old new : Cells) : Type 0 where
   pub cells : (other : ℕ) → other ≢ number → cells_of new other ≡ cells_of old other
   pub components : new.components ≡ old.components
 
--- the ledger of a team that nobody has asked anything
-abbrev pub empty_ledger : ℕ → Ledger
-empty_ledger sessions = record { revision = 0; entries = []; slots = replicate sessions None }
+-- only the team of that number may differ, and the tables keep their rows
+pub record OthersStay (number : ℕ) (old new : Tables) : Type 0 where
+  pub teams : (other : ℕ) → other ≢ number → own_team other new ≡ own_team other old
+  pub components : new.cells.components ≡ old.cells.components
+  pub undo : length new.undo.lists ≡ length old.undo.lists
+  pub sessions : length new.sessions ≡ length old.sessions
+  pub revisions : length new.revisions.items ≡ length old.revisions.items
+  pub limit : new.undo.limit ≡ old.undo.limit
+
+-- one more change of the team is counted, which this session has seen
+pub record Counts (number session : ℕ) (old new : Tables) : Type 0 where
+  pub cells : new.cells ≡ old.cells
+  pub undo : new.undo ≡ old.undo
+  pub sessions : new.sessions ≡ with_slot old.sessions number session (Some (revision_of old number + 1))
+  pub revisions : new.revisions.items ≡ slice_set old.revisions.items number (revision_of old number + 1)
+
+-- ---- changes that can be undone
+
+-- a cell without its working place
+abbrev pub taken_up : Cell → Cell
+taken_up c = record c { working = None }
+
+-- the cells differ in their working places alone
+abbrev pub SameButPlaces : List Cell → List Cell → Type 0
+SameButPlaces old new = map taken_up new ≡ map taken_up old
+
+-- the moves have led from the cells before to those now: taken back they give the places before, and nothing but places differs
+pub record HaveMoved (before : List Cell) (moves : List Move) (now : List Cell) : Type 0 where
+  pub places : taken_back moves (places_of now) ≡ places_of before
+  pub same : SameButPlaces before now
+
+-- the team after a change that the session makes, from the cells before to those now: the places before are its newest undo entry
+abbrev pub kept : ℕ → ℕ → List Cell → List Cell → Tables → TeamState
+kept number session before now tables =
+    let s = team_with number before tables in
+    (changed session now (take tables.undo.limit (places_of before ∷ s.entries)) s).team
+
+-- ---- the tables of a design as it is loaded
+
+pub record AreOpening (design : Loaded) (tables : Tables) : Type 0 where
+  pub cells : tables.cells.cells ≡ opening_cells design
+  pub undo : tables.undo.lists ≡ replicate (length design.frame.teams + 1) []
+  pub limit : tables.undo.limit ≡ design.frame.limits.undo
+  pub sessions : tables.sessions ≡ replicate (length design.frame.teams + 1) (replicate design.frame.limits.sessions None)
+  pub revisions : tables.revisions.items ≡ replicate (length design.frame.teams + 1) 0

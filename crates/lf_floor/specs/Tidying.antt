@@ -37,11 +37,3 @@ tidied_as (Stopped own) cells = Stuck own
 -- tidying made these cells of the old ones
 abbrev pub Tidies : Setting → List Cell → List Cell → Tidy → Type 0
 Tidies t old new tidy = tidied t.legalizer t.frame t.number (map member_of old) ≡ tidied_as tidy new
-
--- a cell without its working place
-abbrev pub taken_up : Cell → Cell
-taken_up c = record c { working = None }
-
--- the cells differ in their working places alone
-abbrev pub SameButPlaces : List Cell → List Cell → Type 0
-SameButPlaces old new = map taken_up new ≡ map taken_up old

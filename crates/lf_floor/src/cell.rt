@@ -8,16 +8,16 @@ ghost use Rattle.lf_rules.specs.Choice.{spot_of};
 ghost use Rattle.lf_legalize.specs.Members.{IsSizedCell, best_of};
 ghost use Rattle.lf_reports.specs.Reports.{named, report_of};
 ghost use Rattle.lf_proto.specs.ReportText.{report_text};
-ghost use Rattle.lf_teams.specs.Teams.{listed_of, setting_in, broken_at};
+ghost use Rattle.lf_teams.specs.Teams.{listed_of, broken_at};
 ghost use Rattle.lf_teams.specs.Looks.{best_at};
-ghost use Rattle.lf_teams.specs.Outcomes.{places_of};
+ghost use Rattle.lf_floor.specs.Tables.{setting_in};
 
 use crate::surroundings::Surroundings;
 use lf_cells::{CellId, CellTable};
 use lf_floorplan::Place;
 use lf_legalize::{Seeker, boxes_beside};
 use lf_proto::{Text, report_json};
-use lf_reports::report_on;
+use lf_reports::{BrokenCell, first_illegal, report_on};
 use lf_rules::{Broken, Listed, first_broken, verdict_is_one};
 use lf_units::Point;
 use std::alloc::{AllocError, Global};
@@ -115,20 +115,43 @@ pub(crate) fn report_text<S>(
     report_json(around.alloc, &report)
 }
 
-/// A copy of the team's working places, in loading order.
-pub(crate) fn places(
-    alloc: Global,
-    number: usize,
-    cells: &CellTable,
-) -> Result<Vec<Option<Place>>, AllocError>
-    ensures { IfOk result (λ places. places.items ≡ places_of (cells_of cells.now number)) }
+/// The position of the team's first unplaced cell, in loading order, found without memory; none
+/// where every cell is placed.
+pub(crate) fn first_unplaced(cells: &CellTable, number: usize) -> Option<u32>
+    requires { length (cells_of cells.now number) ≤ 4000000 }
+    ensures { result ≡ first_unplaced (cells_of cells.now number) }
 {
-    let mut places = Vec::new(alloc);
     for own in 0..cells.count_of(number) {
-        let Some(standing) = cells.standing(number, own) else {
-            unreachable!();
-        };
-        places.push(standing.working)?;
+        if is_unplaced(cells, number, own) {
+            return Some(own as u32);
+        }
     }
-    Ok(places)
+    None
+}
+
+/// Whether the team's cell of that position stands nowhere.
+fn is_unplaced(cells: &CellTable, number: usize, own: usize) -> bool
+    ensures { result ≡ is_none (working_at (cells_of cells.now number) own) }
+{
+    match cells.standing(number, own) {
+        Some(standing) => standing.working.is_none(),
+        None => true,
+    }
+}
+
+/// The team's first cell in loading order that breaks a rule where it stands; none where no cell
+/// does. What lies near each cell is looked at, not all others.
+///
+/// `Err` where memory is refused.
+pub(crate) fn first_broken_cell<S>(
+    around: &Surroundings<'_, S>,
+    cells: &CellTable,
+) -> Result<Option<BrokenCell>, AllocError>
+    requires sized { All (IsSizedCell around.now.frame.now) (cells_of cells.now around.now.number) }
+    requires printed { All (λ c. IsName c.name) (cells_of cells.now around.now.number) }
+    requires few { length (cells_of cells.now around.now.number) ≤ 4000000 }
+    ensures { (l : Legalizer) → IfOk result (λ first. IsFirstBroken first (broken_cells (setting_in l around.now) (cells_of cells.now around.now.number))) }
+{
+    let listed = listed_cells(around.alloc, around.number, cells)?;
+    first_illegal(around.alloc, around.frame, &listed)
 }

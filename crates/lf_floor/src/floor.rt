@@ -7,7 +7,7 @@ ghost use Rattle.lf_floorplan.specs.Fences.{ground_name};
 ghost use Rattle.lf_rules.specs.Legalizer.{Legalizer};
 ghost use Rattle.lf_proto.specs.Commands.{command_of, order_of};
 ghost use Rattle.lf_teams.specs.States.{TeamState};
-ghost use Rattle.lf_floor.specs.Tables.{empty_ledger, teams_in};
+ghost use Rattle.lf_floor.specs.Tables.{AreTablesOf, teams_in};
 ghost use Rattle.lf_teams.specs.Teams.{IsTeamOf, team_number, state_of};
 ghost use Rattle.lf_teams.specs.Outcomes.{name_at};
 ghost use Rattle.lf_cells.specs.Cells.{working_at};
@@ -17,9 +17,8 @@ ghost use Rattle.lf_teams.specs.Runs.{Run, IsIsolated};
 ghost use Rattle.lf_teams.specs.Steps.{Answers, Gives, KeepsIfRefused, LegalizesLegally, PlacesLegally, TidiesLegally};
 ghost use Rattle.lf_teams.specs.Steps.{StaysShort, RunsShort, Step, IsTo, answer_at, floor_of};
 
-use crate::ledger::Ledger;
 use crate::surroundings::Surroundings;
-use lf_cells::CellTable;
+use crate::tables::Tables;
 use lf_floorplan::{Frame, Loaded, Place};
 use lf_legalize::Seeker;
 use lf_proto::{Command, Order, Refusal, Reply, Request, RequestList};
@@ -37,21 +36,20 @@ pub struct Floor<S> {
     alloc: Global,
     frame: Frame,
     seeker: S,
-    cells: CellTable,
-    ledgers: Vec<Ledger>,
+    tables: Tables,
 }
 
 impl<S> Model for Floor<S> {
-    ghost use Rattle.std.specs.Prelude.{◌≡◌, ◌+◌, All, length};
+    ghost use Rattle.std.specs.Prelude.{All};
     ghost use Rattle.lf_teams.specs.States.{FloorState};
-    ghost use Rattle.lf_floor.specs.Tables.{teams_in};
+    ghost use Rattle.lf_floor.specs.Tables.{AreTablesOf, teams_in};
     ghost use Rattle.lf_teams.specs.Teams.{IsTeamOf};
 
     ghost Value = { FloorState };
 
-    ghost view = { λ f. record { frame = f.frame; teams = teams_in f.cells f.ledgers.items } };
+    ghost view = { λ f. record { frame = f.frame; teams = teams_in f.tables } };
 
-    ghost invariant = { λ f. (length f.ledgers.items ≡ length f.frame.teams + 1) × All (λ t. IsTeamOf f.frame t) (teams_in f.cells f.ledgers.items) };
+    ghost invariant = { λ f. AreTablesOf f.frame f.tables × All (λ t. IsTeamOf f.frame t) (teams_in f.tables) };
 }
 
 /// Whether this is the name of the team outside all fences.
@@ -93,35 +91,24 @@ fn fence_named(frame: &Frame, name: &[u8]) -> Option<usize>
 /// Answers an order to the team of these surroundings, where memory serves.
 fn serve_at<S: Seeker>(
     around: &Surroundings<'_, S>,
-    cells: &mut CellTable,
-    ledgers: &mut Vec<Ledger>,
+    tables: &mut Tables,
     order: &Order<&[u8]>,
 ) -> Result<Reply, AllocError>
-    requires within { around.now.number < length ledgers.old.items }
-    requires teams { All (λ t. IsTeamOf around.now.frame.now t) (teams_in cells.old ledgers.old.items) }
+    requires within { around.now.number < length around.now.frame.now.teams + 1 }
+    requires tables { AreTablesOf around.now.frame.now tables.old }
+    requires teams { All (λ t. IsTeamOf around.now.frame.now t) (teams_in tables.old) }
     ensures ok { (l : Legalizer) → IfOk result (λ reply. Gives
-        (answer_at (Some around.now.number) l (floor_of around.now.frame.now (teams_in cells.old ledgers.old.items)) (order_of order.now))
-        reply (floor_of around.now.frame.now (teams_in cells.new ledgers.new.items))) }
+        (answer_at (Some around.now.number) l (floor_of around.now.frame.now (teams_in tables.old)) (order_of order.now))
+        reply (floor_of around.now.frame.now (teams_in tables.new))) }
     ensures err { (l : Legalizer) → OnErr result (StaysShort
-        (answer_at (Some around.now.number) l (floor_of around.now.frame.now (teams_in cells.old ledgers.old.items)) (order_of order.now))
-        (floor_of around.now.frame.now (teams_in cells.old ledgers.old.items)) (floor_of around.now.frame.now (teams_in cells.new ledgers.new.items))) }
+        (answer_at (Some around.now.number) l (floor_of around.now.frame.now (teams_in tables.old)) (order_of order.now))
+        (floor_of around.now.frame.now (teams_in tables.old)) (floor_of around.now.frame.now (teams_in tables.new))) }
     ensures takes { OnErr result (takes_memory (order_of order.now) ≡ true) }
-    ensures len { length ledgers.new.items ≡ length ledgers.old.items }
-    ensures teams { All (λ t. IsTeamOf around.now.frame.now t) (teams_in cells.new ledgers.new.items) }
+    ensures tables { AreTablesOf around.now.frame.now tables.new }
+    ensures teams { All (λ t. IsTeamOf around.now.frame.now t) (teams_in tables.new) }
 {
     legalizer_is_there();
-    ledgers[around.number].serve(around, cells, order)
-}
-
-/// A ledger for each team, in which nothing stands.
-fn empty_ledgers(alloc: Global, count: usize, sessions: usize) -> Result<Vec<Ledger>, AllocError>
-    ensures { IfOk result (λ ledgers. ledgers.items ≡ replicate count (empty_ledger sessions)) }
-{
-    let mut ledgers = Vec::new(alloc);
-    for _ in 0..count {
-        ledgers.push(Ledger::opening(alloc, sessions)?)?;
-    }
-    Ok(ledgers)
+    tables.serve(around, order)
 }
 
 /// Puts a reply behind the others, where there is room.
@@ -145,17 +132,13 @@ impl<S: Drop> Floor<S> {
     pub fn start(alloc: Global, loaded: Loaded, seeker: S) -> Result<Floor<S>, AllocError>
         ensures { IfOk result (λ floor. floor ≡ opening loaded) }
     {
-        let count = loaded.frame.teams.len() + 1;
-        let sessions = loaded.frame.limits.sessions as usize;
-        let ledgers = empty_ledgers(alloc, count, sessions)?;
-        let cells = CellTable::build(alloc, &loaded)?;
+        let tables = Tables::opening(alloc, &loaded)?;
         let Loaded { frame, cells: _ } = loaded;
         Ok(Floor {
             alloc,
             frame,
             seeker,
-            cells,
-            ledgers,
+            tables,
         })
     }
 
@@ -166,7 +149,7 @@ impl<S: Drop> Floor<S> {
         ensures { result ≡ option_and_then (λ s. working_at s.cells own) (state_of self.now team.now) }
     {
         let number = team_named(&self.frame, team)?;
-        self.cells.standing(number, own)?.working
+        self.tables.cells.standing(number, own)?.working
     }
 
     /// The name of the team's cell of that position in loading order, the first at 0: replies name
@@ -178,15 +161,15 @@ impl<S: Drop> Floor<S> {
         ensures printed { IfSome result (λ name. IsName name.now) }
     {
         let number = team_named(&self.frame, team)?;
-        let id = self.cells.id_at(number, own)?;
-        Some(self.cells.cell(id)?.name)
+        let id = self.tables.cells.id_at(number, own)?;
+        Some(self.tables.cells.cell(id)?.name)
     }
 
     /// Each team is one of the frame: what the floor keeps in its type.
     fn teams_are_of_the_frame(&self)
         ensures { All (λ s. IsTeamOf self.now.frame s) self.now.teams }
     {
-        let _ = &self.ledgers;
+        let _ = &self.tables;
     }
 }
 
@@ -208,7 +191,7 @@ impl<S: Seeker + Drop> Floor<S> {
                     seeker: &self.seeker,
                     number,
                 };
-                serve_at(&around, &mut self.cells, &mut self.ledgers, order)
+                serve_at(&around, &mut self.tables, order)
             }
         }
     }

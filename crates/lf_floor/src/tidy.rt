@@ -1,23 +1,24 @@
 //! What `tidy` does.
 
-ghost use Rattle.std.specs.Prelude.{◌≡◌, ◌<◌, ◌≤◌, [], All, IfOk, OnErr, drop, length, slice_index_or};
+ghost use Rattle.std.specs.Prelude.{◌≡◌, ◌≤◌, All, List, IfOk, OnErr, length};
 ghost use Rattle.lf_rules.specs.Legalizer.{Legalizer};
-ghost use Rattle.lf_cells.specs.Cells.{cells_of, moved};
+ghost use Rattle.lf_cells.specs.declared.cell.Cell.{Cell};
+ghost use Rattle.lf_cells.specs.Cells.{cells_of};
 ghost use Rattle.lf_legalize.specs.Members.{IsSizedCell};
-ghost use Rattle.lf_teams.specs.Teams.{IsTeamOf, setting_in};
-ghost use Rattle.lf_floor.specs.Tables.{OthersStay, team_in};
 ghost use Rattle.lf_teams.specs.Outcomes.{Reaches, RunsOut};
-ghost use Rattle.lf_teams.specs.Changes.{restored, tidied_team};
-ghost use Rattle.lf_floor.specs.Tidying.{SameButPlaces, Sends, Tidies, target_at};
+ghost use Rattle.lf_teams.specs.Changes.{tidied_team};
+ghost use Rattle.lf_floor.specs.Tables.{CanChange, HaveMoved, OtherCellsStay, OthersStay, SameButPlaces, setting_in, team_in};
+ghost use Rattle.lf_floor.specs.Tidying.{Sends, Tidies, target_at};
 
-use crate::cell::{best_place, broken_at, places};
-use crate::changes::put;
-use crate::ledger::{Entry, Ledger};
+use crate::cell::{best_place, broken_at};
+use crate::moving::{shift, take_back};
 use crate::surroundings::Surroundings;
+use crate::tables::Tables;
 use lf_cells::CellTable;
 use lf_floorplan::Place;
 use lf_legalize::{Seeker, anchor};
 use lf_proto::{Refusal, Reply};
+use lf_undo::Moves;
 use lf_units::Point;
 use std::alloc::AllocError;
 
@@ -74,27 +75,19 @@ fn target_of<S>(
     }
 }
 
-/// Changes the working place of the team's cell of that position, where there is one.
-fn put_at(cells: &mut CellTable, number: usize, own: usize, place: Option<Place>)
-    ensures own { cells_of cells.new number ≡ moved (cells_of cells.old number) own place }
-    ensures others { OthersStay number cells.old cells.new }
-{
-    if let Some(id) = cells.id_at(number, own) {
-        put(cells, id, place);
-    }
-}
-
 /// Sends the team's cell of that position to its best place, where it does not stay.
 fn send<S: Seeker>(
     around: &Surroundings<'_, S>,
     cells: &mut CellTable,
+    moves: &mut Moves,
     own: usize,
 ) -> Result<Sent, AllocError>
     requires sized { All (IsSizedCell around.now.frame.now) (cells_of cells.old around.now.number) }
     requires few { length (cells_of cells.old around.now.number) ≤ 4000000 }
     ensures ok { (l : Legalizer) → IfOk result (λ sent. Sends (setting_in l around.now) own (cells_of cells.old around.now.number) (cells_of cells.new around.now.number) sent) }
     ensures same { SameButPlaces (cells_of cells.old around.now.number) (cells_of cells.new around.now.number) }
-    ensures others { OthersStay around.now.number cells.old cells.new }
+    ensures moved { (before : List Cell) → HaveMoved before moves.old (cells_of cells.old around.now.number) → HaveMoved before moves.new (cells_of cells.new around.now.number) }
+    ensures others { OtherCellsStay around.now.number cells.old cells.new }
 {
     let Some(target) = target_of(around, cells, own)? else {
         return Ok(Sent::Stays);
@@ -104,7 +97,7 @@ fn send<S: Seeker>(
     };
     match best_place(around, cells, id, &target)? {
         Some(place) => {
-            put_at(cells, around.number, own, Some(place));
+            shift(cells, moves, around.number, own, Some(place))?;
             Ok(Sent::Goes)
         }
         None => Ok(Sent::Nowhere),
@@ -115,16 +108,18 @@ fn send<S: Seeker>(
 fn send_all<S: Seeker>(
     around: &Surroundings<'_, S>,
     cells: &mut CellTable,
+    moves: &mut Moves,
 ) -> Result<Tidy, AllocError>
     requires sized { All (IsSizedCell around.now.frame.now) (cells_of cells.old around.now.number) }
     requires few { length (cells_of cells.old around.now.number) ≤ 4000000 }
     ensures ok { (l : Legalizer) → IfOk result (λ tidy. Tidies (setting_in l around.now) (cells_of cells.old around.now.number) (cells_of cells.new around.now.number) tidy) }
     ensures same { SameButPlaces (cells_of cells.old around.now.number) (cells_of cells.new around.now.number) }
-    ensures others { OthersStay around.now.number cells.old cells.new }
+    ensures moved { (before : List Cell) → HaveMoved before moves.old (cells_of cells.old around.now.number) → HaveMoved before moves.new (cells_of cells.new around.now.number) }
+    ensures others { OtherCellsStay around.now.number cells.old cells.new }
 {
     let mut moved = 0;
     for own in 0..cells.count_of(around.number) {
-        match send(around, cells, own)? {
+        match send(around, cells, moves, own)? {
             Sent::Stays => {}
             Sent::Goes => moved += 1,
             Sent::Nowhere => return Ok(Tidy::Stopped(own as u32)),
@@ -133,67 +128,37 @@ fn send_all<S: Seeker>(
     Ok(Tidy::Done(moved))
 }
 
-/// Gives each of the team's cells the working place of its position, without memory.
-fn put_back(cells: &mut CellTable, number: usize, places: &[Option<Place>])
-    ensures own { cells_of cells.new number ≡ restored places.now (cells_of cells.old number) }
-    ensures others { OthersStay number cells.old cells.new }
-{
-    for (own, place) in places.iter().enumerate() {
-        put_at(cells, number, own, *place);
-    }
-}
-
-/// Takes the newest undo entry away, and puts the team's cells back to its places.
-fn take_back(ledger: &mut Ledger, cells: &mut CellTable, number: usize)
-    ensures ledger { ledger.new ≡ record ledger.old { entries = drop 1 ledger.old.entries } }
-    ensures own { cells_of cells.new number ≡ restored (slice_index_or ledger.old.entries 0 []) (cells_of cells.old number) }
-    ensures others { OthersStay number cells.old cells.new }
-{
-    if let Some(entry) = ledger.pop_entry() {
-        put_back(cells, number, &entry.places);
-    }
-}
-
-impl Ledger {
+impl Tables {
     /// Goes through the team's cells in loading order and sends each that is unplaced or breaks a
     /// rule to its best place: `NoPlace`, and no cell is moved, where one has none.
     ///
-    /// The undo entry is put in front of the others before the first cell moves, so that a tidy that
-    /// is refused on its way is taken back without memory.
-    #[tactic(auto, unfolding(crate::specs::Changes::tidied_team))]
+    /// A tidy that is refused on its way is taken back without memory.
     pub(crate) fn tidy<S: Seeker>(
         &mut self,
         around: &Surroundings<'_, S>,
-        cells: &mut CellTable,
         session: u32,
     ) -> Result<Reply, AllocError>
-        requires left { self.old.revision < u32.MAX }
-        requires team { IsTeamOf around.now.frame.now (team_in around.now cells.old self.old) }
+        requires { CanChange around.now.frame.now around.now.number session self.old }
         ensures ok { (l : Legalizer) → IfOk result (λ reply. Reaches
-            (tidied_team (setting_in l around.now) session (team_in around.now cells.old self.old))
-            reply (team_in around.now cells.new self.new)) }
+            (tidied_team (setting_in l around.now) session (team_in around.now self.old))
+            reply (team_in around.now self.new)) }
         ensures err { (l : Legalizer) → OnErr result (RunsOut
-            (tidied_team (setting_in l around.now) session (team_in around.now cells.old self.old))
-            (team_in around.now cells.old self.old) (team_in around.now cells.new self.new)) }
-        ensures others { OthersStay around.now.number cells.old cells.new }
+            (tidied_team (setting_in l around.now) session (team_in around.now self.old))
+            (team_in around.now self.old) (team_in around.now self.new)) }
+        ensures others { OthersStay around.now.number self.old self.new }
     {
-        let places = places(around.alloc, around.number, cells)?;
-        self.push_entry(Entry { places })?;
-        match send_all(around, cells) {
+        let mut moves = Moves::new(around.alloc);
+        match send_all(around, &mut self.cells, &mut moves) {
             Ok(Tidy::Done(moved)) => {
-                self.cut_entries(around.frame.limits.undo as usize);
-                self.count_change(session);
-                Ok(Reply::Tidied {
-                    revision: self.revision,
-                    moved,
-                })
+                let revision = self.keep(around.number, session, moves)?;
+                Ok(Reply::Tidied { revision, moved })
             }
             Ok(Tidy::Stopped(cell)) => {
-                take_back(self, cells, around.number);
+                take_back(&mut self.cells, around.number, &moves);
                 Ok(Reply::Refused(Refusal::NoPlace { cell }))
             }
             Err(error) => {
-                take_back(self, cells, around.number);
+                take_back(&mut self.cells, around.number, &moves);
                 Err(error)
             }
         }

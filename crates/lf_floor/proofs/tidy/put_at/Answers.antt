@@ -1,7 +1,0 @@
-use Rattle.std.proofs.Common.{sym}
-use Rattle.lf_cells.specs.Cells.{cells_of}
-use Rattle.lf_floor.proofs.Sending.{none_moved}
-use Rattle.lf_floor.proofs.tidy.put_at.Goals as goal
-
-pub returns-in_default-clause-own : goal.returns-in_default-clause-own
-returns-in_default-clause-own c = sym (none_moved (cells_of c.args.cells.now c.args.number) c.args.number c.args.own c.args.place (sym c.in_default.ensures))

@@ -1,0 +1,177 @@
+//! What `swap` does.
+
+ghost use Rattle.std.specs.Prelude.{◌≡◌, ◌<◌, ◌≤◌, All, List, IfOk, OnErr, OnOk, length};
+ghost use Rattle.lf_rules.specs.Legalizer.{Legalizer};
+ghost use Rattle.lf_cells.specs.declared.cell.Cell.{Cell};
+ghost use Rattle.lf_cells.specs.Cells.{cells_of};
+ghost use Rattle.lf_legalize.specs.Members.{IsSizedCell};
+ghost use Rattle.lf_teams.specs.Outcomes.{Reaches, RunsOut};
+ghost use Rattle.lf_teams.specs.Changes.{broken_where, exchanged, swapped};
+ghost use Rattle.lf_floor.specs.Tables.{CanChange, HaveMoved, OtherCellsStay, OthersStay, setting_in, team_in};
+ghost use Rattle.lf_floor.specs.Swapping.{swap_refusal, swapped_here};
+
+use crate::cell::broken_at;
+use crate::moving::{shift, take_back};
+use crate::surroundings::Surroundings;
+use crate::tables::Tables;
+use lf_cells::{CellId, CellTable};
+use lf_floorplan::Place;
+use lf_proto::{Refusal, Reply};
+use lf_rules::Broken;
+use lf_undo::Moves;
+use std::alloc::AllocError;
+
+/// The first rule that the team's cell of that position breaks where it stands; an unplaced cell
+/// breaks none.
+fn broken_where<S>(
+    around: &Surroundings<'_, S>,
+    cells: &CellTable,
+    own: u32,
+) -> Result<Option<Broken>, AllocError>
+    requires sized { All (IsSizedCell around.now.frame.now) (cells_of cells.now around.now.number) }
+    requires few { length (cells_of cells.now around.now.number) ≤ 4000000 }
+    ensures { (l : Legalizer) → IfOk result (λ broken. broken ≡ broken_where (setting_in l around.now) (cells_of cells.now around.now.number) own) }
+{
+    let Some(standing) = cells.standing(around.number, own as usize) else {
+        return Ok(None);
+    };
+    let Some(place) = standing.working else {
+        return Ok(None);
+    };
+    broken_at(around, cells, own as usize, &place)
+}
+
+/// Exchanges the places of two cells of the team, and notes the moves.
+fn exchange(
+    cells: &mut CellTable,
+    moves: &mut Moves,
+    first: CellId,
+    second: CellId,
+) -> Result<(), AllocError>
+    requires { second.team ≡ first.team }
+    ensures own { OnOk result (cells_of cells.new first.team ≡ exchanged (cells_of cells.old first.team) first.own second.own) }
+    ensures moved { (before : List Cell) → HaveMoved before moves.old (cells_of cells.old first.team) → HaveMoved before moves.new (cells_of cells.new first.team) }
+    ensures others { OtherCellsStay first.team cells.old cells.new }
+{
+    let team = first.team as usize;
+    let to_second = cells.working(second);
+    let to_first = cells.working(first);
+    shift(cells, moves, team, first.own as usize, to_second)?;
+    shift(cells, moves, team, second.own as usize, to_first)
+}
+
+/// Why two exchanged cells of the team are refused where they stand now, the first before the
+/// second; none where neither breaks a rule.
+fn refusal_of<S>(
+    around: &Surroundings<'_, S>,
+    cells: &CellTable,
+    first: u32,
+    second: u32,
+) -> Result<Option<Refusal>, AllocError>
+    requires sized { All (IsSizedCell around.now.frame.now) (cells_of cells.now around.now.number) }
+    requires few { length (cells_of cells.now around.now.number) ≤ 4000000 }
+    ensures { (l : Legalizer) → IfOk result (λ refusal. refusal ≡ swap_refusal (setting_in l around.now) (cells_of cells.now around.now.number) first second) }
+{
+    for cell in [first, second] {
+        if let Some(broken) = broken_where(around, cells, cell)? {
+            return Ok(Some(Refusal::Illegal {
+                rule: broken.rule,
+                cell,
+                other: broken.other,
+            }));
+        }
+    }
+    Ok(None)
+}
+
+/// Exchanges the places of two cells of the team, and tells why they are refused there, if they
+/// are.
+fn try_exchange<S>(
+    around: &Surroundings<'_, S>,
+    cells: &mut CellTable,
+    moves: &mut Moves,
+    first: CellId,
+    second: CellId,
+) -> Result<Option<Refusal>, AllocError>
+    requires teams { (first.team ≡ around.now.number) × (second.team ≡ around.now.number) }
+    requires sized { All (IsSizedCell around.now.frame.now) (cells_of cells.old around.now.number) }
+    requires few { length (cells_of cells.old around.now.number) ≤ 4000000 }
+    ensures own { OnOk result (cells_of cells.new around.now.number ≡ exchanged (cells_of cells.old around.now.number) first.own second.own) }
+    ensures refusal { (l : Legalizer) → IfOk result (λ refusal. refusal ≡ swap_refusal (setting_in l around.now) (cells_of cells.new around.now.number) first.own second.own) }
+    ensures moved { (before : List Cell) → HaveMoved before moves.old (cells_of cells.old around.now.number) → HaveMoved before moves.new (cells_of cells.new around.now.number) }
+    ensures others { OtherCellsStay around.now.number cells.old cells.new }
+{
+    exchange(cells, moves, first, second)?;
+    refusal_of(around, cells, first.own, second.own)
+}
+
+impl Tables {
+    /// Exchanges the places of two placed cells of the team; `Illegal` where one of them breaks a
+    /// rule then.
+    fn swap_placed<S>(
+        &mut self,
+        around: &Surroundings<'_, S>,
+        session: u32,
+        first: CellId,
+        second: CellId,
+    ) -> Result<Reply, AllocError>
+        requires change { CanChange around.now.frame.now around.now.number session self.old }
+        requires teams { (first.team ≡ around.now.number) × (second.team ≡ around.now.number) }
+        ensures ok { (l : Legalizer) → IfOk result (λ reply. Reaches
+            (swapped_here (setting_in l around.now) session first.own second.own (team_in around.now self.old))
+            reply (team_in around.now self.new)) }
+        ensures err { OnErr result (team_in around.now self.new ≡ team_in around.now self.old) }
+        ensures others { OthersStay around.now.number self.old self.new }
+    {
+        let mut moves = Moves::new(around.alloc);
+        match try_exchange(around, &mut self.cells, &mut moves, first, second) {
+            Ok(None) => {
+                let revision = self.keep(around.number, session, moves)?;
+                Ok(Reply::Revision(revision))
+            }
+            Ok(Some(refusal)) => {
+                take_back(&mut self.cells, around.number, &moves);
+                Ok(Reply::Refused(refusal))
+            }
+            Err(error) => {
+                take_back(&mut self.cells, around.number, &moves);
+                Err(error)
+            }
+        }
+    }
+
+    /// Exchanges the places of two cells: `NoCell` where the team has none of a name, else
+    /// `Unplaced` where one stands nowhere, else `Illegal` where one breaks a rule at its new
+    /// place; in each the first before the second.
+    #[tactic(auto, unfolding(lf_teams::specs::Changes::swapped))]
+    pub(crate) fn swap<S>(
+        &mut self,
+        around: &Surroundings<'_, S>,
+        session: u32,
+        first: &[u8],
+        second: &[u8],
+    ) -> Result<Reply, AllocError>
+        requires { CanChange around.now.frame.now around.now.number session self.old }
+        ensures ok { (l : Legalizer) → IfOk result (λ reply. Reaches
+            (swapped (setting_in l around.now) session first.now second.now (team_in around.now self.old))
+            reply (team_in around.now self.new)) }
+        ensures err { (l : Legalizer) → OnErr result (RunsOut
+            (swapped (setting_in l around.now) session first.now second.now (team_in around.now self.old))
+            (team_in around.now self.old) (team_in around.now self.new)) }
+        ensures others { OthersStay around.now.number self.old self.new }
+    {
+        let Some(first) = self.cells.find_own(around.number, first) else {
+            return Ok(Reply::Refused(Refusal::NoCell));
+        };
+        let Some(second) = self.cells.find_own(around.number, second) else {
+            return Ok(Reply::Refused(Refusal::NoCell));
+        };
+        if self.cells.working(first).is_none() {
+            return Ok(Reply::Refused(Refusal::Unplaced { cell: first.own }));
+        }
+        if self.cells.working(second).is_none() {
+            return Ok(Reply::Refused(Refusal::Unplaced { cell: second.own }));
+        }
+        self.swap_placed(around, session, first, second)
+    }
+}

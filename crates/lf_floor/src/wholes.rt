@@ -1,0 +1,128 @@
+//! Changes of a whole team: what `revert`, `undo` and `commit` do.
+
+ghost use Rattle.std.specs.Prelude.{◌≡◌, List, IfOk, OnErr, OnOk, map};
+ghost use Rattle.lf_rules.specs.Legalizer.{Legalizer};
+ghost use Rattle.lf_cells.specs.declared.cell.Cell.{Cell};
+ghost use Rattle.lf_cells.specs.Cells.{cells_of, committed_at, moved};
+ghost use Rattle.lf_teams.specs.Outcomes.{Reaches, RunsOut};
+ghost use Rattle.lf_teams.specs.Changes.{back_to_committed, committed, reverted, undone};
+ghost use Rattle.lf_floor.specs.Tables.{CanChange, HasRows, HaveMoved, IsCurrent, OtherCellsStay, OthersStay, own_team, setting_in, team_in};
+
+use crate::cell::{first_broken_cell, first_unplaced};
+use crate::moving::{shift, take_back};
+use crate::surroundings::Surroundings;
+use crate::tables::Tables;
+use lf_cells::CellTable;
+use lf_proto::{Refusal, Reply};
+use lf_undo::Moves;
+use std::alloc::AllocError;
+
+/// Moves the team's cell of that position to its committed place, where it stands elsewhere, and
+/// notes the move.
+fn move_one_back(
+    cells: &mut CellTable,
+    moves: &mut Moves,
+    number: usize,
+    own: usize,
+) -> Result<(), AllocError>
+    ensures own { OnOk result (cells_of cells.new number ≡ moved (cells_of cells.old number) own (committed_at (cells_of cells.old number) own)) }
+    ensures moved { (before : List Cell) → HaveMoved before moves.old (cells_of cells.old number) → HaveMoved before moves.new (cells_of cells.new number) }
+    ensures others { OtherCellsStay number cells.old cells.new }
+{
+    let Some(id) = cells.id_at(number, own) else {
+        return Ok(());
+    };
+    let committed = cells.committed(id);
+    if cells.working(id) == committed {
+        return Ok(());
+    }
+    shift(cells, moves, number, own, committed)
+}
+
+/// Moves each of the team's cells to its committed place, where it stands elsewhere, and notes the
+/// moves.
+fn move_back(cells: &mut CellTable, moves: &mut Moves, number: usize) -> Result<(), AllocError>
+    ensures own { OnOk result (cells_of cells.new number ≡ map back_to_committed (cells_of cells.old number)) }
+    ensures moved { (before : List Cell) → HaveMoved before moves.old (cells_of cells.old number) → HaveMoved before moves.new (cells_of cells.new number) }
+    ensures others { OtherCellsStay number cells.old cells.new }
+{
+    for own in 0..cells.count_of(number) {
+        move_one_back(cells, moves, number, own)?;
+    }
+    Ok(())
+}
+
+impl Tables {
+    /// Moves the team's cells to their committed places, unchecked.
+    pub(crate) fn revert<S>(
+        &mut self,
+        around: &Surroundings<'_, S>,
+        session: u32,
+    ) -> Result<Reply, AllocError>
+        requires { CanChange around.now.frame.now around.now.number session self.old }
+        ensures ok { (l : Legalizer) → IfOk result (λ reply. Reaches
+            (reverted (setting_in l around.now) session (team_in around.now self.old)) reply (team_in around.now self.new)) }
+        ensures err { (l : Legalizer) → OnErr result (RunsOut
+            (reverted (setting_in l around.now) session (team_in around.now self.old))
+            (team_in around.now self.old) (team_in around.now self.new)) }
+        ensures others { OthersStay around.now.number self.old self.new }
+    {
+        let mut moves = Moves::new(around.alloc);
+        match move_back(&mut self.cells, &mut moves, around.number) {
+            Ok(()) => {
+                let revision = self.keep(around.number, session, moves)?;
+                Ok(Reply::Revision(revision))
+            }
+            Err(error) => {
+                take_back(&mut self.cells, around.number, &moves);
+                Err(error)
+            }
+        }
+    }
+
+    /// Takes the moves of the team's newest undo entry back, unchecked, and that entry away;
+    /// `NothingToUndo` where there is none.
+    pub(crate) fn undo(&mut self, number: usize, session: u32) -> Reply
+        requires rows { HasRows number self.old }
+        requires current { IsCurrent number session self.old }
+        ensures team { Reaches (undone session (own_team number self.old)) result (own_team number self.new) }
+        ensures others { OthersStay number self.old self.new }
+    {
+        match self.undo.pop(number) {
+            Some(moves) => {
+                take_back(&mut self.cells, number, &moves);
+                Reply::Revision(self.count_change(number, session))
+            }
+            None => Reply::Refused(Refusal::NothingToUndo),
+        }
+    }
+
+    /// Commits the team's working places: `Unplaced` where a cell stands nowhere, else `Illegal`
+    /// where one breaks a rule, the first in loading order each.
+    pub(crate) fn commit<S>(
+        &mut self,
+        around: &Surroundings<'_, S>,
+        session: u32,
+    ) -> Result<Reply, AllocError>
+        requires { CanChange around.now.frame.now around.now.number session self.old }
+        ensures ok { (l : Legalizer) → IfOk result (λ reply. Reaches
+            (committed (setting_in l around.now) session (team_in around.now self.old)) reply (team_in around.now self.new)) }
+        ensures err { (l : Legalizer) → OnErr result (RunsOut
+            (committed (setting_in l around.now) session (team_in around.now self.old))
+            (team_in around.now self.old) (team_in around.now self.new)) }
+        ensures others { OthersStay around.now.number self.old self.new }
+    {
+        if let Some(cell) = first_unplaced(&self.cells, around.number) {
+            return Ok(Reply::Refused(Refusal::Unplaced { cell }));
+        }
+        if let Some(illegal) = first_broken_cell(around, &self.cells)? {
+            return Ok(Reply::Refused(Refusal::Illegal {
+                rule: illegal.broken.rule,
+                cell: illegal.own,
+                other: illegal.broken.other,
+            }));
+        }
+        self.cells.commit_team(around.number);
+        Ok(Reply::Revision(self.count_change(around.number, session)))
+    }
+}
