@@ -22,19 +22,23 @@ pub taken_back-append : (first second : List Move) (places : Places) → taken_b
 taken_back-append [] second places = refl
 taken_back-append (m ∷ first) second places = ap (λ (ps : Places). set ps m.own m.old) (taken_back-append first second places)
 
+-- the last move is taken back first
+pub back_append : (moves : List Move) (m : Move) (places : Places) → taken_back (moves ++ m ∷ []) places ≡ taken_back moves (set places m.own m.old)
+back_append moves m places = taken_back-append moves (m ∷ []) places
+
 -- the last of the moves that are left, taken back
 pub back_one : (moves : List Move) (n : ℕ) (m : Move) (places after : Places) → n < length moves → m ≡ get_or moves n m →
     after ≡ set places m.own m.old → taken_back (take n moves) after ≡ taken_back (take (n + 1) moves) places
 back_one moves n m places after within read is =
     ap (taken_back (take n moves)) is
-    ∙ sym (taken_back-append (take n moves) (m ∷ []) places)
+    ∙ sym (back_append (take n moves) m places)
     ∙ ap (λ (x : Move). taken_back (take n moves ++ x ∷ []) places) read
     ∙ ap (λ (ms : List Move). taken_back ms places) (sym (take_more moves n m within))
 
 pub undo_one_more : (before now : Places) (moves : List Move) (cell : ℕ) (to : Option Place) →
     taken_back moves now ≡ before → taken_back (moves_with moves now cell) (set now cell to) ≡ before
 undo_one_more before now moves cell to is =
-    taken_back-append moves (record { own = cell; old = get_or now cell None } ∷ []) (set now cell to)
+    back_append moves (record { own = cell; old = get_or now cell None }) (set now cell to)
     ∙ ap (taken_back moves) (set_back now cell to) ∙ is
 
 pub take_entries : (now : Places) (entries : List (List Move)) (limit : ℕ) → entries_of now (take limit entries) ≡ take limit (entries_of now entries)
@@ -53,6 +57,10 @@ pub shrink_entries : (now : Places) (moves : List Move) (entries : List (List Mo
 shrink_entries now moves [] at = absurd (none-some moves at)
 shrink_entries now moves (ms ∷ entries) at =
     ap (λ (m : List Move). taken_back m now ∷ entries_of (taken_back m now) entries) (same_Some ms moves at)
+
+pub no_entries : (now : Places) (entries : List (List Move)) → slice_get entries 0 ≡ None → entries_of now entries ≡ []
+no_entries now [] at = refl
+no_entries now (ms ∷ entries) at = absurd (none-some ms (sym at))
 
 pub taken_back_length : (moves : List Move) (places : Places) → length (taken_back moves places) ≡ length places
 taken_back_length [] places = refl

@@ -1,5 +1,5 @@
 -- Laws of the places that undo entries stand for.
-use Rattle.std.specs.Prelude.{◌≡◌, ℕ, List, [], ◌∷◌, Some, All, length, take, drop, slice_get, slice_set, Option}
+use Rattle.std.specs.Prelude.{◌≡◌, ℕ, List, [], ◌∷◌, Some, None, All, length, take, drop, slice_get, slice_set, Option}
 use Rattle.lf_floorplan.specs.declared.place.Place.{Place}
 use Rattle.lf_undo.specs.declared.moves.Move.{Move}
 use Rattle.lf_undo.specs.Entries.{Places, taken_back, entries_of, moves_with, places_set, moves_of}
@@ -22,6 +22,10 @@ EntriesGrow = (before now : Places) (moves : List Move) (entries : List (List Mo
 abbrev pub EntriesShrink : Type 0
 EntriesShrink = (now : Places) (moves : List Move) (entries : List (List Move)) →
     slice_get entries 0 ≡ Some moves → entries_of now entries ≡ taken_back moves now ∷ entries_of (taken_back moves now) (drop 1 entries)
+
+-- Without a front entry there is no list.
+abbrev pub EntriesKeep : Type 0
+EntriesKeep = (now : Places) (entries : List (List Move)) → slice_get entries 0 ≡ None → entries_of now entries ≡ []
 
 -- No more than so many entries, before or behind.
 abbrev pub EntriesTake : Type 0
