@@ -1,0 +1,37 @@
+-- Laws of the places that undo entries stand for.
+use Rattle.std.specs.Prelude.{◌≡◌, ℕ, List, [], ◌∷◌, Some, None, All, length, take, drop, slice_get, slice_set, Option}
+use Rattle.lf_floorplan.specs.declared.place.Place.{Place}
+use Rattle.lf_undo.specs.declared.moves.Move.{Move}
+use Rattle.lf_undo.specs.Entries.{Places, taken_back, entries_of, moves_with, places_set, moves_of}
+
+-- The moves of settings, taken back from behind them, give the places before them.
+abbrev pub MovesUndoSettings : Type 0
+MovesUndoSettings = (places : Places) (settings : List (ℕ × Option Place)) → taken_back (moves_of places settings) (places_set places settings) ≡ places
+
+-- The same one setting at a time: a cell gets a place, and its old one stands behind the moves so far.
+abbrev pub MovesUndoOneMore : Type 0
+MovesUndoOneMore = (before now : Places) (moves : List Move) (cell : ℕ) (to : Option Place) →
+    taken_back moves now ≡ before → taken_back (moves_with moves now cell) (slice_set now cell to) ≡ before
+
+-- A change whose moves are pushed puts the old places in front of the entries, and drops what is past the limit.
+abbrev pub EntriesGrow : Type 0
+EntriesGrow = (before now : Places) (moves : List Move) (entries : List (List Move)) (limit : ℕ) →
+    taken_back moves now ≡ before → entries_of now (take limit (moves ∷ entries)) ≡ take limit (before ∷ entries_of before entries)
+
+-- The front entry, taken off and taken back, gives the newest places, and the others stay entries.
+abbrev pub EntriesShrink : Type 0
+EntriesShrink = (now : Places) (moves : List Move) (entries : List (List Move)) →
+    slice_get entries 0 ≡ Some moves → entries_of now entries ≡ taken_back moves now ∷ entries_of (taken_back moves now) (drop 1 entries)
+
+-- Without a front entry there is no list.
+abbrev pub EntriesKeep : Type 0
+EntriesKeep = (now : Places) (entries : List (List Move)) → slice_get entries 0 ≡ None → entries_of now entries ≡ []
+
+-- No more than so many entries, before or behind.
+abbrev pub EntriesTake : Type 0
+EntriesTake = (now : Places) (entries : List (List Move)) (limit : ℕ) → entries_of now (take limit entries) ≡ take limit (entries_of now entries)
+
+-- As many lists as entries, each of as many places as there are cells.
+abbrev pub EntriesAreWhole : Type 0
+EntriesAreWhole = (now : Places) (entries : List (List Move)) →
+    (length (entries_of now entries) ≡ length entries) × All (λ places. length places ≡ length now) (entries_of now entries)

@@ -1,0 +1,64 @@
+//! What an undo entry keeps: the cells that a command moved, with the places that they had.
+
+ghost use Rattle.std.specs.Prelude.{◌≡◌, ◌++◌, ◌∷◌, [], OnOk, OnErr};
+
+use crate::stacks::Stacks;
+use lf_floorplan::Place;
+use std::alloc::{AllocError, Allocator, Global};
+use std::marker::Model;
+
+/// A cell of a team, by its position among the team's cells, with the place that it had before a
+/// command: none where it was unplaced.
+#[derive(Clone, Copy, Debug, PartialEq, Eq)]
+pub struct Move {
+    pub own: u32,
+    pub old: Option<Place>,
+}
+
+/// The moves of one command, in their order. A cell that the command moved twice stands there
+/// twice.
+#[derive(Drop)]
+pub struct Moves<A: Allocator = Global> {
+    moves: Vec<Move, A>,
+}
+
+impl<A: Allocator> Model for Moves<A> {
+    ghost use Rattle.std.specs.Prelude.{List};
+    ghost use Rattle.lf_undo.specs.declared.moves.Move.{Move};
+
+    ghost Value = { List Move };
+
+    ghost view = { λ m. m.moves.items };
+}
+
+impl<A: Allocator> Moves<A> {
+    /// No move; this takes no memory.
+    pub fn new(alloc: A) -> Self
+        ensures { result ≡ [] }
+    {
+        Moves {
+            moves: Vec::new(alloc),
+        }
+    }
+
+    /// Puts a move behind the others.
+    ///
+    /// `Err` where memory is refused.
+    pub fn push(&mut self, moved: Move) -> Result<(), AllocError>
+        ensures ok { OnOk result (self.new ≡ self.old ++ moved ∷ []) }
+        ensures err { OnErr result (self.new ≡ self.old) }
+    {
+        self.moves.push(moved)?;
+        Ok(())
+    }
+
+    /// The moves, in their order.
+    pub fn as_slice(&self) -> &[Move]
+        ensures { result.now ≡ self.now }
+    {
+        self.moves.as_slice()
+    }
+}
+
+/// For each team the entries of its last commands, the newest first.
+pub type UndoStore<A = Global> = Stacks<Moves<A>, A>;
