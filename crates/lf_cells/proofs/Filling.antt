@@ -1,11 +1,13 @@
 -- A table that is filled cell by cell.
 use Rattle.std.proofs.Common.{◌≡◌, ◌≢◌, ℕ, zero, suc, ◌+◌, ◌<◌, ◌≤◌, Bool, true, false, cond, eqb, List, [], ◌∷◌, ◌++◌}
-use Rattle.std.proofs.Common.{length, map, take, get_or, set, replicate, Option, Some, None, refl, ap, ap₂, sym, ◌∙◌, add-zero, arith}
+use Rattle.std.proofs.Common.{length, map, take, get_or, set, replicate, Option, Some, None, refl, ap, ap₂, sym, ◌∙◌, add-zero, zero-add, arith}
+use Rattle.std.specs.List.{range_with_len}
 use Rattle.std.specs.Prelude.{slice_get}
 use Rattle.std.proofs.lemmas.Grind.{common_steps}
 use Rattle.std.proofs.lemmas.Bool.{false≢true, eqb-true, eq-eqb}
 use Rattle.std.proofs.lemmas.List.{length-append, length-set, length-map, length-replicate, get_or-take, append-nil}
 use Rattle.std.proofs.lemmas.List.{get_or-set_same, get_or-set_other, map-set, map-append}
+use Rattle.std.proofs.lemmas.List.FromFn.{map-range_with_len_more}
 use Rattle.std.proofs.lemmas.Option.{slice_get_within, get_or_from_slice_get, none-some}
 use Rattle.lf_names.specs.Names.{position_of}
 use Rattle.lf_names.proofs.Positions.{stands_there}
@@ -15,7 +17,7 @@ use Rattle.lf_cells.specs.declared.cell.CellId.{CellId}
 use Rattle.lf_cells.specs.declared.slots.Slot.{Slot}
 use Rattle.lf_cells.specs.declared.parts.Parts.{Parts}
 use Rattle.lf_cells.specs.Cells.{id_of}
-use Rattle.lf_cells.specs.Slots.{opening_slot, own_slots, labels, labels_in, label_at, IsIndex, TakesIn, AreTakenIn}
+use Rattle.lf_cells.specs.Slots.{opening_slot, own_slots, labels, labels_in, label_at, IsIndex, AreListed, TakesIn, AreTakenIn}
 use Rattle.lf_cells.proofs.Lists.{map_at, get_kept, get_last, IsOneOf, Earlier, Last, one_of}
 
 -- ---- one more position of a name, behind the others of its team
@@ -81,6 +83,34 @@ index_more owners all team within index =
         let whole : id_of team (length (get_or all team [])) ≡ id = ap₂ id_of (sym here) (sym at) in
         rw is (get_last owners (id_of team (length (get_or all team []))) ∙ ap (λ (i : CellId). Some i) whole)
 
+-- ---- one more id, behind the others of its team
+
+listed_more : (ids : List (List CellId)) (all : List (List ℕ)) (team n : ℕ) → team < length all → team < length ids → AreListed ids all
+    → AreListed (set ids team (get_or ids team [] ++ id_of team (length (get_or all team [])) ∷ [])) (with_label all team n)
+unfolding with_label
+listed_more ids all team n within inside before = record { listed = λ number. each number (eqb team number) refl }
+  where
+    many : length (get_or (set all team (get_or all team [] ++ n ∷ [])) team []) ≡ length (get_or all team []) + 1
+    many = rw (get_or-set_same all team (get_or all team [] ++ n ∷ []) [] within, length-append) refl
+
+    each : (number : ℕ) (b : Bool) → eqb team number ≡ b
+        → get_or (set ids team (get_or ids team [] ++ id_of team (length (get_or all team [])) ∷ [])) number []
+        ≡ map (λ own. id_of number own) (range_with_len 0 (length (get_or (set all team (get_or all team [] ++ n ∷ [])) number [])))
+    each number true e =
+        let same : number ≡ team = sym (eqb-true team number e) in
+        rw same
+        (get_or-set_same ids team (get_or ids team [] ++ id_of team (length (get_or all team [])) ∷ []) [] inside
+        ∙ ap (λ (l : List CellId). l ++ id_of team (length (get_or all team [])) ∷ []) (before.listed team)
+        ∙ sym (map-range_with_len_more (λ (own : ℕ). id_of team own) 0 (length (get_or all team [])) (length (get_or all team []))
+        (zero-add (length (get_or all team []))))
+        ∙ ap (λ (k : ℕ). map (λ (own : ℕ). id_of team own) (range_with_len 0 k)) (sym many))
+    each number false e =
+        let apart : number ≢ team = λ same. false≢true (sym e ∙ eq-eqb team number (sym same)) in
+        get_or-set_other ids team number (get_or ids team [] ++ id_of team (length (get_or all team [])) ∷ []) [] apart
+        ∙ before.listed number
+        ∙ ap (λ (l : List ℕ). map (λ (own : ℕ). id_of number own) (range_with_len 0 (length l)))
+        (sym (get_or-set_other all team number (get_or all team [] ++ n ∷ []) [] apart))
+
 -- ---- a team's own cells
 
 own_last : ℕ → ℕ → LoadedCell → List Slot
@@ -120,6 +150,8 @@ one_more cells k count c old new within is inside before one =
       names = one.names ∙ ap (λ (ns : List (List ℕ)). ns ++ c.name ∷ []) before.names ∙ sym (map-append (λ (x : LoadedCell). x.name) (take k cells) (c ∷ []));
       many = rw (one.owners, length-append, length-append) (ap (λ (n : ℕ). n + 1) before.many);
       index = indexed;
+      ids = listed;
+      ids_count = rw (one.ids, length-set) before.ids_count;
       count_is = rw (one.teams, length-set) before.count_is;
       each = λ number. own_each number (eqb c.team number) refl;
     })
@@ -134,16 +166,29 @@ one_more cells k count c old new within is inside before one =
         (map-append (λ (s : Slot). s.label) (get_or old.teams.items c.team []) (opening_slot (length old.owners.items) c ∷ [])
         ∙ ap (λ (l : List ℕ). l ++ length old.owners.items ∷ []) (sym team_labels))
 
+    own_many : length (get_or old.teams.items c.team []) ≡ length (get_or (labels_in old.teams.items) c.team [])
+    own_many = sym (ap (λ (l : List ℕ). length l) team_labels ∙ length-map (get_or old.teams.items c.team []) (λ (s : Slot). s.label))
+
     owners_after : new.owners.items ≡ old.owners.items ++ id_of c.team (length (get_or (labels_in old.teams.items) c.team [])) ∷ []
     owners_after =
-        one.owners
-        ∙ ap (λ (n : ℕ). old.owners.items ++ id_of c.team n ∷ [])
-        (sym (ap (λ (l : List ℕ). length l) team_labels ∙ length-map (get_or old.teams.items c.team []) (λ (s : Slot). s.label)))
+        one.owners ∙ ap (λ (n : ℕ). old.owners.items ++ id_of c.team n ∷ []) own_many
+
+    ids_after : new.ids.items
+        ≡ set old.ids.items c.team (get_or old.ids.items c.team [] ++ id_of c.team (length (get_or (labels_in old.teams.items) c.team [])) ∷ [])
+    ids_after =
+        one.ids ∙ ap (λ (n : ℕ). set old.ids.items c.team (get_or old.ids.items c.team [] ++ id_of c.team n ∷ [])) own_many
 
     indexed : IsIndex new.owners.items (labels_in new.teams.items)
     indexed =
         let many : length (labels_in old.teams.items) ≡ length old.teams.items = length-map old.teams.items labels in
         rw (labels_after, owners_after) (index_more old.owners.items (labels_in old.teams.items) c.team (omega (arith, inside, many)) before.index)
+
+    listed : AreListed new.ids.items (labels_in new.teams.items)
+    listed =
+        let many : length (labels_in old.teams.items) ≡ length old.teams.items = length-map old.teams.items labels in
+        rw (labels_after, ids_after)
+        (listed_more old.ids.items (labels_in old.teams.items) c.team (length old.owners.items) (omega (arith, inside, many))
+        (omega (arith, inside, before.count_is, before.ids_count)) before.ids)
 
     last_own : (number : ℕ) → own_slots number 0 (take k cells ++ c ∷ []) ≡ own_slots number 0 (take k cells) ++ own_last number (length old.owners.items) c
     last_own number =
@@ -198,19 +243,34 @@ new_name cells k c named within is = by (position_of (map (λ (x : LoadedCell). 
 
 -- ---- no cell
 
+labels_empty : (count team : ℕ) → get_or (labels_in (replicate count [])) team [] ≡ []
+labels_empty zero team = refl
+labels_empty (suc count) zero = refl
+labels_empty (suc count) (suc team) = labels_empty count team
+
 none_owned : (count : ℕ) (id : CellId) → label_at (labels_in (replicate count [])) id ≡ None
-none_owned count id = ap (λ (l : List ℕ). slice_get l id.own) (empty_at count id.team)
+none_owned count id = ap (λ (l : List ℕ). slice_get l id.own) (labels_empty count id.team)
+
+none_listed : (count : ℕ) → AreListed (replicate count []) (labels_in (replicate count []))
+none_listed count =
+    record {
+      listed = λ team.
+          empty_at count team ∙ ap (λ (l : List ℕ). map (λ (own : ℕ). id_of team own) (range_with_len 0 (length l))) (sym (labels_empty count team));
+    }
   where
-    empty_at : (count team : ℕ) → get_or (labels_in (replicate count [])) team [] ≡ []
+    empty_at : (count team : ℕ) → get_or (replicate {A = List CellId} count []) team [] ≡ []
     empty_at zero team = refl
     empty_at (suc count) zero = refl
     empty_at (suc count) (suc team) = empty_at count team
 
-pub none_yet : (count : ℕ) (p : Parts) → p.names ≡ [] → p.owners.items ≡ [] → p.teams.items ≡ replicate count [] → AreTakenIn [] count p
-none_yet count p names owners teams = record {
+pub none_yet : (count : ℕ) (p : Parts) → p.names ≡ [] → p.owners.items ≡ [] → p.teams.items ≡ replicate count [] → p.ids.items ≡ replicate count []
+    → AreTakenIn [] count p
+none_yet count p names owners teams ids = record {
   names = names;
   many = ap (λ (ids : List CellId). length ids) owners;
   index = rw (owners, teams) (record { owned = λ id label. (λ e. absurd (none-some id e), λ e. absurd (none-some label (sym (none_owned count id) ∙ e))) });
+  ids = rw (ids, teams) (none_listed count);
+  ids_count = ap (λ (all : List (List CellId)). length all) ids ∙ length-replicate {A = List CellId} count [];
   count_is = ap (λ (slots : List (List Slot)). length slots) teams ∙ length-replicate {A = List Slot} count [];
   each = λ number. ap (λ (slots : List (List Slot)). get_or slots number []) teams ∙ empty_at count number;
 }

@@ -2,7 +2,7 @@
 use Rattle.std.proofs.Common.{◌≡◌, ℕ, zero, suc, ◌+◌, ◌<◌, Bool, true, false, cond, List, [], ◌∷◌, length}
 use Rattle.std.proofs.Common.{map, get_or, Option, Some, None, refl, ap, sym, ◌∙◌, add-zero, zero-add, arith}
 use Rattle.std.specs.Prelude.{slice_get, bytes_eq}
-use Rattle.std.specs.List.{position_from}
+use Rattle.std.specs.List.{position_from, range_with_len}
 use Rattle.std.proofs.lemmas.Iterator.Adapters.{position_from-zero}
 use Rattle.std.proofs.lemmas.Option.{slice_get-get_or, slice_get_within, get_or_from_slice_get}
 use Rattle.std.proofs.lemmas.List.{length-map}
@@ -13,7 +13,7 @@ use Rattle.lf_cells.specs.declared.cell.Cell.{Cell}
 use Rattle.lf_cells.specs.declared.cell.CellId.{CellId}
 use Rattle.lf_cells.specs.declared.slots.Slot.{Slot}
 use Rattle.lf_cells.specs.declared.parts.Parts.{Parts}
-use Rattle.lf_cells.specs.Cells.{Cells, cells_of, cell_named, id_of}
+use Rattle.lf_cells.specs.Cells.{Cells, cells_of, cell_named, id_of, ids_of}
 use Rattle.lf_cells.specs.Slots.{cell_in, labels, labels_in, AreIndexed, table_of}
 use Rattle.lf_cells.proofs.Lists.{map_at}
 
@@ -68,6 +68,15 @@ many_are p table team view =
     ap (λ (t : Cells). length (cells_of t team)) (sym view)
     ∙ ap (λ (cells : List Cell). length cells) (map_at (λ (slots : List Slot). map (cell_in p.names) slots) p.teams.items team [])
     ∙ length-map (get_or p.teams.items team []) (cell_in p.names)
+
+-- the ids that a table keeps of a team are those of its cells
+pub ids_are : (p : Parts) (table : Cells) (team : ℕ) → AreIndexed p → table_of p ≡ table → get_or p.ids.items team [] ≡ ids_of team (cells_of table team)
+unfolding own_of
+ids_are p table team indexed view =
+    let many : length (get_or (labels_in p.teams.items) team []) ≡ length (cells_of table team) =
+    ap (λ (l : List ℕ). length l) (map_at labels p.teams.items team [])
+    ∙ length-map (get_or p.teams.items team []) (λ (s : Slot). s.label) ∙ sym (many_are p table team view) in
+    indexed.ids.listed team ∙ ap (λ (k : ℕ). map (λ (own : ℕ). id_of team own) (range_with_len 0 k)) many
 
 -- a cell of that name: its name's position is that of the name, and it is the owner
 pub record Bears (p : Parts) (name : List ℕ) (team k l : ℕ) : Type 0 where

@@ -75,7 +75,7 @@ get_or_first [] within = absurd (omega (arith, within))
 get_or_first (c ∷ cs) within = c
 
 pub opened_index : (cells : List LoadedCell) (count : ℕ) (p : Parts) → CellsNamed cells → AreTakenIn cells count p → AreIndexed p
-opened_index cells count p named taken = record { differ = differ; many = many; index = taken.index }
+opened_index cells count p named taken = record { differ = differ; many = many; index = taken.index; ids = taken.ids }
   where
     many : length p.names ≡ length p.owners.items
     many = ap (λ (ns : List (List ℕ)). length ns) taken.names ∙ length-map cells (λ (c : LoadedCell). c.name) ∙ sym taken.many

@@ -1,5 +1,6 @@
 -- The cells of all teams as contracts see them (LEF/DEF 5.8, DEF COMPONENTS).
-use Rattle.std.specs.Prelude.{ℕ, zero, suc, List, [], ◌∷◌, Option, position, bytes_eq, option_map, option_and_then, slice_get, slice_index_or}
+use Rattle.std.specs.Prelude.{ℕ, zero, suc, List, [], ◌∷◌, Option, position, bytes_eq, option_map, option_and_then, slice_get, slice_index_or, map, length}
+use Rattle.std.specs.List.{range_with_len}
 use Rattle.lf_floorplan.specs.declared.place.Place.{Place}
 use Rattle.lf_cells.specs.declared.cell.Cell.{Cell}
 use Rattle.lf_cells.specs.declared.cell.CellId.{CellId}
@@ -33,6 +34,10 @@ id_of team own = record { team = team; own = own }
 -- the id of the cell of that position among the team's cells; None where there is no such cell
 abbrev pub id_in : List Cell → ℕ → ℕ → Option CellId
 id_in cells team own = option_map (λ c. id_of team own) (slice_get cells own)
+
+-- the ids of all cells of the team, in loading order
+abbrev pub ids_of : ℕ → List Cell → List CellId
+ids_of team cells = map (λ own. id_of team own) (range_with_len 0 (length cells))
 
 -- the position of the cell of that name among these; None where none of them has it, whoever else may
 abbrev pub cell_named : List ℕ → List Cell → Option ℕ

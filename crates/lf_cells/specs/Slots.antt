@@ -1,6 +1,7 @@
 -- How a table keeps its cells.
 use Rattle.std.specs.Prelude.{◌≡◌, ◌≢◌, ◌↔◌, ℕ, zero, suc, ◌+◌, ◌==◌, if◌then◌else◌, List, []}
 use Rattle.std.specs.Prelude.{◌∷◌, ◌++◌, Option, Some, map, length, slice_get, slice_set, slice_index_or, AllPairs}
+use Rattle.std.specs.List.{range_with_len}
 use Rattle.lf_floorplan.specs.declared.place.Place.{Place}
 use Rattle.lf_floorplan.specs.declared.loaded.Cell.{Cell as LoadedCell}
 use Rattle.lf_cells.specs.declared.cell.Cell.{Cell}
@@ -70,11 +71,16 @@ label_at labels id = slice_get (slice_index_or labels id.team []) id.own
 pub record IsIndex (owners : List CellId) (labels : List (List ℕ)) : Type 0 where
   pub owned : (id : CellId) (label : ℕ) → (slice_get owners label ≡ Some id) ↔ (label_at labels id ≡ Some label)
 
--- the names differ, and each has one owner
+-- each team's ids are those of its cells, in loading order
+pub record AreListed (ids : List (List CellId)) (labels : List (List ℕ)) : Type 0 where
+  pub listed : (team : ℕ) → slice_index_or ids team [] ≡ map (λ own. id_of team own) (range_with_len 0 (length (slice_index_or labels team [])))
+
+-- the names differ, each has one owner, and each team has the ids of its cells
 pub record AreIndexed (p : Parts) : Type 0 where
   pub differ : AllPairs (λ name later. name ≢ later) p.names
   pub many : length p.names ≡ length p.owners.items
   pub index : IsIndex p.owners.items (labels_in p.teams.items)
+  pub ids : AreListed p.ids.items (labels_in p.teams.items)
 
 -- ---- filling a table
 
@@ -83,11 +89,15 @@ pub record TakesIn (c : LoadedCell) (old new : Parts) : Type 0 where
   pub names : new.names ≡ old.names ++ c.name ∷ []
   pub owners : new.owners.items ≡ old.owners.items ++ id_of c.team (length (slice_index_or old.teams.items c.team [])) ∷ []
   pub teams : new.teams.items ≡ slice_set old.teams.items c.team (slice_index_or old.teams.items c.team [] ++ opening_slot (length old.owners.items) c ∷ [])
+  pub ids : new.ids.items ≡ slice_set old.ids.items c.team
+      (slice_index_or old.ids.items c.team [] ++ id_of c.team (length (slice_index_or old.teams.items c.team [])) ∷ [])
 
 -- the parts of a table of these cells, for so many teams
 pub record AreTakenIn (cells : List LoadedCell) (count : ℕ) (p : Parts) : Type 0 where
   pub names : p.names ≡ map (λ c. c.name) cells
   pub many : length p.owners.items ≡ length cells
   pub index : IsIndex p.owners.items (labels_in p.teams.items)
+  pub ids : AreListed p.ids.items (labels_in p.teams.items)
+  pub ids_count : length p.ids.items ≡ count
   pub count_is : length p.teams.items ≡ count
   pub each : (number : ℕ) → slice_index_or p.teams.items number [] ≡ own_slots number 0 cells

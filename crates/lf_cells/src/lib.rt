@@ -3,6 +3,7 @@
 #![tactic(auto)]
 
 mod cell;
+mod ids;
 mod parts;
 mod slots;
 mod table;

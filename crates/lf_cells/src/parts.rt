@@ -7,6 +7,7 @@ ghost use Rattle.lf_cells.specs.Slots.{moved_slots, committed_slot, slot_at, Tak
 ghost use Rattle.lf_cells.specs.Cells.{id_of};
 
 use crate::cell::CellId;
+use crate::ids::Ids;
 use crate::slots::{Slot, Slots};
 use lf_floorplan::{Cell as LoadedCell, Place};
 use lf_names::{Added, NameTable};
@@ -21,6 +22,8 @@ pub(crate) struct Parts {
     pub(crate) owners: Vec<CellId>,
     /// Each team's cells without their names.
     pub(crate) teams: Vec<Slots>,
+    /// The ids of each team's cells.
+    pub(crate) ids: Vec<Ids>,
 }
 
 /// The id of the team's cell of that position.
@@ -54,6 +57,14 @@ fn push_cell(teams: &mut Vec<Slots>, team: usize, slot: Slot) -> Result<(), Allo
     teams[team].push(slot)
 }
 
+/// Puts an id behind the others of its team.
+fn push_id(ids: &mut Vec<Ids>, team: usize, id: CellId) -> Result<(), AllocError>
+    requires { team < length ids.old.items }
+    ensures { OnOk result (ids.new.items ≡ slice_set ids.old.items team (slice_index_or ids.old.items team [] ++ id ∷ [])) }
+{
+    ids[team].push(id)
+}
+
 /// Changes the working place of a cell of the team of that number, where it has the cell.
 pub(crate) fn move_cell(teams: &mut Vec<Slots>, team: usize, own: usize, place: Option<Place>)
     requires { team < length teams.old.items }
@@ -81,10 +92,22 @@ fn empty_teams(alloc: Global, count: usize) -> Result<Vec<Slots>, AllocError>
     Ok(teams)
 }
 
+/// So many teams without ids.
+fn empty_ids(alloc: Global, count: usize) -> Result<Vec<Ids>, AllocError>
+    ensures { IfOk result (λ ids. ids.items ≡ replicate count []) }
+{
+    let mut ids = Vec::new(alloc);
+    for _ in 0..count {
+        ids.push(Ids::new(alloc))?;
+    }
+    Ok(ids)
+}
+
 impl Parts {
     /// Puts the cell behind the others of its team.
     fn take_in(&mut self, cell: &LoadedCell) -> Result<(), AllocError>
         requires team { cell.now.team < length self.old.teams.items }
+        requires ids { length self.old.ids.items ≡ length self.old.teams.items }
         requires few_teams { length self.old.teams.items ≤ 4000000 }
         requires few_cells { length self.old.owners.items ≤ 4000000 }
         requires few_own { length (slice_index_or self.old.teams.items cell.now.team []) ≤ 4000000 }
@@ -95,6 +118,7 @@ impl Parts {
         let id = id_of(cell.team, self.teams[cell.team].len());
         add_new(&mut self.names, cell.name.as_bytes())?;
         self.owners.push(id)?;
+        push_id(&mut self.ids, cell.team, id)?;
         push_cell(&mut self.teams, cell.team, Slot::opening(label, cell))
     }
 
@@ -114,6 +138,7 @@ impl Parts {
             names: NameTable::new(alloc),
             owners: Vec::new(alloc),
             teams: empty_teams(alloc, count)?,
+            ids: empty_ids(alloc, count)?,
         };
         for cell in cells {
             parts.take_in(cell)?;
@@ -126,5 +151,15 @@ impl Parts {
         ensures { result ≡ slot_at self.now.teams.items (id_of team own) }
     {
         self.teams.get(team)?.get(own)
+    }
+
+    /// The ids of the team's cells; none where there is no such team.
+    pub(crate) fn ids_of(&self, team: usize) -> &[CellId]
+        ensures { result.now ≡ slice_index_or self.now.ids.items team [] }
+    {
+        match self.ids.get(team) {
+            Some(ids) => ids.as_slice(),
+            None => &[],
+        }
     }
 }

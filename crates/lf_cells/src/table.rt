@@ -1,7 +1,7 @@
 //! The table of all teams' cells.
 
 ghost use Rattle.std.specs.Prelude.{◌≡◌, ◌+◌, ◌<◌, [], IfOk, IfSome, length, map, option_map, slice_get, slice_set};
-ghost use Rattle.lf_cells.specs.Cells.{cells_of, cell_named, cell_at, component_at, id_in, standing_of, working_at, committed_at, moved, as_committed};
+ghost use Rattle.lf_cells.specs.Cells.{cells_of, cell_named, cell_at, component_at, id_in, ids_of, standing_of, working_at, committed_at, moved, as_committed};
 ghost use Rattle.lf_cells.specs.Openings.{opening_cells, opening_components};
 
 use crate::cell::{CellFacts, CellId, Standing};
@@ -68,6 +68,13 @@ impl CellTable {
             Some(slots) => slots.len(),
             None => 0,
         }
+    }
+
+    /// The ids of the team's cells, in loading order; none where there is no such team.
+    pub fn cells_of(&self, team: usize) -> &[CellId]
+        ensures { result.now ≡ ids_of team (cells_of self.now team) }
+    {
+        self.parts.ids_of(team)
     }
 
     /// The id of the team's cell of that position, the first at 0; none where the team has no such

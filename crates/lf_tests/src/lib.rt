@@ -14,6 +14,8 @@ mod names;
 #[cfg(test)]
 mod orientations;
 #[cfg(test)]
+mod sessions;
+#[cfg(test)]
 mod tokens;
 #[cfg(test)]
 mod units;

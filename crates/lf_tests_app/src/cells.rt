@@ -91,6 +91,9 @@ fn finds_cells(table: &CellTable) -> bool {
         && facts.name == b"a2".as_slice()
         && facts.component == 1
         && table.count_of(0) == 3
+        && table.cells_of(0).len() == 3
+        && table.cells_of(0).get(1) == Some(&second)
+        && table.cells_of(4).is_empty()
         && table.find_own(0, b"b1").is_none()
 }
 

@@ -6,8 +6,10 @@ use Rattle.lf_cells.proofs.parts.Parts.of_cells.Goals as goal
 
 pub loop-cell-init : goal.loop-cell-init
 loop-cell-init c =
-    none_yet c.args.count (record { names = c.new.result; owners = c.new-2.result; teams = c.in_ok-empty_teams.field-0 }) c.new.ensures c.new-2.ensures.items
-    (c.in_ok-empty_teams.ensures {u = tt})
+    none_yet c.args.count
+    (record { names = c.new.result; owners = c.new-2.result; teams = c.in_ok-empty_teams.field-0; ids = c.in_ok-empty_ids.field-0 })
+    c.new.ensures c.new-2.ensures.items
+    (c.in_ok-empty_teams.ensures {u = tt}) (c.in_ok-empty_ids.ensures {u = tt})
 
 pub take_in-requires-clause-team : goal.take_in-requires-clause-team
 take_in-requires-clause-team c =

@@ -1,0 +1,91 @@
+//! The table of all teams' session slots.
+
+ghost use Rattle.std.specs.Prelude.{◌≡◌, if◌then◌else◌, IfOk, MatchOption, None, Some, is_none, is_some, length, position, replicate};
+ghost use Rattle.lf_sessions.specs.Slots.{seen_at, slots_of, with_slot};
+
+use crate::slots::Slots;
+use std::alloc::{AllocError, Global};
+use std::marker::Model;
+
+/// The session slots of all teams. A session is known by its team and by the number of its slot,
+/// the first at 0.
+///
+/// Contracts see for each team the list of its slots: for each slot the revision that its session
+/// has seen, none where the slot is free. Only `build` takes memory.
+#[derive(Drop)]
+pub struct SessionTable {
+    teams: Vec<Slots>,
+}
+
+impl Model for SessionTable {
+    ghost use Rattle.std.specs.Prelude.{ℕ, List, Option};
+
+    ghost Value = { List (List (Option ℕ)) };
+
+    ghost view = { λ t. t.teams.items };
+}
+
+impl SessionTable {
+    /// The table of so many teams, each with so many slots, all free.
+    ///
+    /// `Err` where memory is refused.
+    pub fn build(alloc: Global, teams: usize, slots: u32) -> Result<SessionTable, AllocError>
+        ensures { IfOk result (λ table. table ≡ replicate teams (replicate slots None)) }
+    {
+        let mut table = Vec::with_capacity(alloc, teams)?;
+        for _ in 0..teams {
+            table.push(Slots::free(alloc, slots)?)?;
+        }
+        Ok(SessionTable { teams: table })
+    }
+
+    /// Opens a session of the team, which has seen this revision: takes the team's least free slot
+    /// and tells its number. None where all are taken, or there is no such team; then nothing
+    /// changes.
+    pub fn take_slot(&mut self, team: usize, revision: u32) -> Option<u32>
+        ensures session { result ≡ position is_none (slots_of self.old team) }
+        ensures table { MatchOption result (self.new ≡ self.old) (λ session. self.new ≡ with_slot self.old team session (Some revision)) }
+        ensures teams { length self.new ≡ length self.old }
+    {
+        self.teams.get_mut(team)?.take(revision)
+    }
+
+    /// Closes a session of the team: its slot is free. False where it is not open, or there is no
+    /// such team; then nothing changes.
+    pub fn free_slot(&mut self, team: usize, session: u32) -> bool
+        ensures open { result ≡ is_some (seen_at (slots_of self.old team) session) }
+        ensures table { self.new ≡ (if result then with_slot self.old team session None else self.old) }
+        ensures teams { length self.new ≡ length self.old }
+    {
+        write_open(&mut self.teams, team, session, None)
+    }
+
+    /// The revision that a session of the team has seen; none where it is not open, or there is no
+    /// such team.
+    pub fn seen(&self, team: usize, session: u32) -> Option<u32>
+        ensures { result ≡ seen_at (slots_of self.now team) session }
+    {
+        self.teams.get(team)?.seen(session)
+    }
+
+    /// An open session of the team has now seen this revision. False where it is not open, or there
+    /// is no such team; then nothing changes.
+    pub fn set_seen(&mut self, team: usize, session: u32, revision: u32) -> bool
+        ensures open { result ≡ is_some (seen_at (slots_of self.old team) session) }
+        ensures table { self.new ≡ (if result then with_slot self.old team session (Some revision) else self.old) }
+        ensures teams { length self.new ≡ length self.old }
+    {
+        write_open(&mut self.teams, team, session, Some(revision))
+    }
+}
+
+/// Writes the slot of a session of the team that is open; false where it is not.
+fn write_open(teams: &mut Vec<Slots>, team: usize, session: u32, seen: Option<u32>) -> bool
+    ensures open { result ≡ is_some (seen_at (slots_of teams.old.items team) session) }
+    ensures table { teams.new.items ≡ (if result then with_slot teams.old.items team session seen else teams.old.items) }
+{
+    match teams.get_mut(team) {
+        Some(slots) => slots.write_open(session, seen),
+        None => false,
+    }
+}
