@@ -5,3 +5,4 @@ pub mod MetLemmas
 pub mod VerdictLists
 pub mod ReportLemmas
 pub mod CleanLemmas
+pub mod IllegalLemmas

@@ -1,2 +1,3 @@
 pub mod Nearby
 pub mod Reports
+pub mod Illegal

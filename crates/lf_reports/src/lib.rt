@@ -2,12 +2,14 @@
 #![tactic(auto)]
 
 mod frame_index;
+mod illegal;
 mod laws;
 mod near;
 mod report;
 mod search;
 mod window;
 
+pub use illegal::{BrokenCell, first_illegal};
 pub use laws::clean_is_legal;
 pub use lf_rules::{Listed, Report, Violation};
 pub use report::{check_all, check_all_pairs, report_on};

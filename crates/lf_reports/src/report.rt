@@ -231,7 +231,7 @@ fn fetch<'a>(
 
 /// The verdict of each cell, found in the order of these boxes of the placed cells: cells that lie side by side
 /// are looked at one after another.
-fn verdicts_in(
+pub(crate) fn verdicts_in(
     alloc: Global,
     frame: &Frame,
     search: &mut Search,
@@ -328,7 +328,7 @@ fn report_by(
 }
 
 /// The boxes of the placed cells, by the cells' numbers.
-fn boxes_in(
+pub(crate) fn boxes_in(
     alloc: Global,
     frame: &Frame,
     cells: &[Listed<&[u8]>],
@@ -346,7 +346,11 @@ fn boxes_in(
 
 /// The search that finds what lies near a cell without a look at all of the frame and of the cells, whose boxes are
 /// put into the order in which they lie.
-fn indexed(alloc: Global, frame: &Frame, boxes: &mut [Placed]) -> Result<Search, AllocError>
+pub(crate) fn indexed(
+    alloc: Global,
+    frame: &Frame,
+    boxes: &mut [Placed],
+) -> Result<Search, AllocError>
     ensures same { IsPermutation boxes.old boxes.new }
     ensures search { (cells : List Member) → IsPermutation (boxes_from frame.now 0 cells) boxes.old → IfOk result (λ search. IsSearchOf frame.now cells search) }
 {
