@@ -8,6 +8,8 @@ mod changed;
 #[cfg(test)]
 mod def_texts;
 #[cfg(test)]
+mod heaps;
+#[cfg(test)]
 mod lef_texts;
 #[cfg(test)]
 mod names;
@@ -15,5 +17,7 @@ mod names;
 mod orientations;
 #[cfg(test)]
 mod tokens;
+#[cfg(test)]
+mod undo;
 #[cfg(test)]
 mod units;
