@@ -8,6 +8,8 @@ mod changed;
 #[cfg(test)]
 mod def_texts;
 #[cfg(test)]
+mod heaps;
+#[cfg(test)]
 mod lef_texts;
 #[cfg(test)]
 mod names;
@@ -17,5 +19,7 @@ mod orientations;
 mod sessions;
 #[cfg(test)]
 mod tokens;
+#[cfg(test)]
+mod undo;
 #[cfg(test)]
 mod units;

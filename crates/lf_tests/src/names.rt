@@ -1,8 +1,8 @@
 //! Tables of names, and patterns.
 
+use crate::heaps::take_all;
 use lf_names::{Added, Match, NameParts, NameTable, Pattern};
 use linked_list_allocator::LocalHeap;
-use std::alloc::AllocError;
 use std::test::Fail;
 
 #[test]
@@ -53,19 +53,6 @@ fn finds_names_in_parts(rt: HostRuntime) -> Result<(), Fail> {
     names.push(200, &[7, 0])?;
     assert!(rt; names.matches(rt.alloc(), &asked)?.is_none());
     Ok(())
-}
-
-/// Takes all that is left of the heap, which is given back when the blocks are dropped.
-fn take_all(heap: &LocalHeap) -> Result<Vec<Vec<u8, &LocalHeap>, &LocalHeap>, AllocError> {
-    let mut blocks = Vec::with_capacity(heap, 32)?;
-    for size in [2048usize, 1024, 512, 256, 128, 64, 32, 16] {
-        for _ in 0..4 {
-            if let Ok(block) = Vec::with_capacity(heap, size) {
-                blocks.push(block)?;
-            }
-        }
-    }
-    Ok(blocks)
 }
 
 /// With every growth refused the table answers as before, and once memory is given back it grows.
