@@ -1,4 +1,5 @@
 pub mod Listing
+pub mod FirstIllegal
 pub mod Seeking
-pub mod Tables
+pub mod Rows
 pub mod Sending

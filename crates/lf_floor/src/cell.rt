@@ -1,15 +1,16 @@
 //! A team's own cells in the table of all.
 
-ghost use Rattle.std.specs.Prelude.{◌≡◌, ◌≤◌, All, length, IfOk, map, option_map, slice_get};
+ghost use Rattle.std.specs.Prelude.{◌≡◌, ◌≤◌, All, length, IfOk, map, option_map, slice_get, is_none};
 ghost use Rattle.lf_floorplan.specs.Bounds.{IsName};
 ghost use Rattle.lf_rules.specs.Legalizer.{Legalizer};
-ghost use Rattle.lf_cells.specs.Cells.{cells_of};
+ghost use Rattle.lf_cells.specs.Cells.{cells_of, working_at};
 ghost use Rattle.lf_rules.specs.Choice.{spot_of};
 ghost use Rattle.lf_legalize.specs.Members.{IsSizedCell, best_of};
 ghost use Rattle.lf_reports.specs.Reports.{named, report_of};
 ghost use Rattle.lf_proto.specs.ReportText.{report_text};
 ghost use Rattle.lf_teams.specs.Teams.{listed_of, broken_at};
 ghost use Rattle.lf_teams.specs.Looks.{best_at};
+ghost use Rattle.lf_teams.specs.Changes.{broken_cells, first_unplaced};
 ghost use Rattle.lf_floor.specs.Tables.{setting_in};
 
 use crate::surroundings::Surroundings;
@@ -150,7 +151,7 @@ pub(crate) fn first_broken_cell<S>(
     requires sized { All (IsSizedCell around.now.frame.now) (cells_of cells.now around.now.number) }
     requires printed { All (λ c. IsName c.name) (cells_of cells.now around.now.number) }
     requires few { length (cells_of cells.now around.now.number) ≤ 4000000 }
-    ensures { (l : Legalizer) → IfOk result (λ first. IsFirstBroken first (broken_cells (setting_in l around.now) (cells_of cells.now around.now.number))) }
+    ensures { (l : Legalizer) → IfOk result (λ first. first ≡ slice_get (broken_cells (setting_in l around.now) (cells_of cells.now around.now.number)) 0) }
 {
     let listed = listed_cells(around.alloc, around.number, cells)?;
     first_illegal(around.alloc, around.frame, &listed)

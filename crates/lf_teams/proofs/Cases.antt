@@ -23,7 +23,8 @@ use Rattle.lf_proto.specs.declared.request.Change.TheVariants.{Place as PlaceAt,
 use Rattle.lf_teams.specs.Outcomes.{Outcome, is_short, refused, changed, recorded, telling}
 use Rattle.lf_teams.specs.Sessions.{with_slot, seen_at, opened, opened_at, closed, synced}
 use Rattle.lf_teams.specs.Looks.{checked, located, located_own, located_at, best_at, found, found_own, found_at}
-use Rattle.lf_teams.specs.Changes.{placed, placed_own, placed_unless, unplaced, unplaced_own, unplaced_from, legalized, legalized_own, legalized_at, restored, places_in, tidied_by, tidied_team, broken_where, exchanged, swapped_unless, swapped_from, swapped_own, swapped, back_to_committed, reverted, undone_by, undone, first_unplaced, BrokenCell, broken_cells, committed_unless, committed}
+use Rattle.lf_reports.specs.declared.illegal.BrokenCell.{BrokenCell}
+use Rattle.lf_teams.specs.Changes.{placed, placed_own, placed_unless, unplaced, unplaced_own, unplaced_from, legalized, legalized_own, legalized_at, restored, places_in, tidied_by, tidied_team, broken_where, exchanged, swapped_unless, swapped_from, swapped_own, swapped, back_to_committed, reverted, undone_by, undone, first_unplaced, broken_cells, committed_unless, committed}
 use Rattle.lf_teams.specs.Verbs.{outcome_of_change, unless_spent, unless_stale, outcome_within, outcome_by_slot, outcome_of}
 use Rattle.lf_teams.specs.VerbLaws.{MayChange}
 

@@ -7,6 +7,7 @@ use Rattle.lf_floorplan.specs.declared.limits.Limits.{Limits}
 use Rattle.lf_rules.specs.declared.rule.Broken.{Broken}
 use Rattle.lf_rules.specs.Team.{Member}
 use Rattle.lf_rules.specs.Tidy.{Tidied, Going, Stuck, tidied}
+use Rattle.lf_reports.specs.declared.illegal.BrokenCell.{BrokenCell}
 use Rattle.lf_proto.specs.Numbers.{◌>>=◌}
 use Rattle.lf_proto.specs.declared.reply.Reply.TheVariants.{Legalized, Tidied as TidyDone}
 use Rattle.lf_proto.specs.declared.reply.Refusal.TheVariants.{NoCell, Unplaced, Illegal, NoPlace, NothingToUndo}
@@ -143,11 +144,6 @@ undone session s = undone_by s.entries session s
 -- the position of the first unplaced cell
 abbrev pub first_unplaced : List Cell → Option ℕ
 first_unplaced cells = position (λ c. is_none c.working) cells
-
--- a cell by its position, and the first rule that it breaks where it stands
-pub record BrokenCell : Type 0 where
-  pub own : ℕ
-  pub broken : Broken
 
 -- the cells that break a rule where they stand, in loading order
 abbrev pub broken_cells : Setting → List Cell → List BrokenCell

@@ -1,13 +1,10 @@
 -- Sessions: the slots of a team, and what open, close and sync come to.
-use Rattle.std.specs.Prelude.{ℕ, List, Option, Some, None, position, is_none, slice_set, slice_index_or}
+use Rattle.std.specs.Prelude.{ℕ, List, Option, Some, None, position, is_none, slice_set}
+pub use Rattle.lf_sessions.specs.Slots.{seen_at}
 use Rattle.lf_proto.specs.declared.reply.Reply.TheVariants.{Done, Opened, Revision}
 use Rattle.lf_proto.specs.declared.reply.Refusal.TheVariants.{SessionsFull}
 use Rattle.lf_teams.specs.States.{TeamState}
 use Rattle.lf_teams.specs.Outcomes.{Outcome, refused}
-
--- the revision that a session has seen; None where the slot is free, or there is none of that number
-abbrev pub seen_at : List (Option ℕ) → ℕ → Option ℕ
-seen_at slots session = slice_index_or slots session None
 
 -- the team with the session's slot changed
 abbrev pub with_slot : ℕ → Option ℕ → TeamState → TeamState

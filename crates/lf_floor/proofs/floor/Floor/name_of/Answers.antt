@@ -5,7 +5,7 @@ use Rattle.lf_cells.specs.declared.cell.CellFacts.{CellFacts}
 use Rattle.lf_cells.specs.Cells.{cells_of}
 use Rattle.lf_teams.specs.Outcomes.{name_at}
 use Rattle.lf_floor.proofs.Seeking.{names_none, name_told, name_printed}
-use Rattle.lf_floor.proofs.Tables.{cells_seen, printed_cells}
+use Rattle.lf_floor.proofs.Rows.{cells_seen, printed_cells}
 use Rattle.lf_floor.proofs.floor.Floor.name_of.Goals as goal
 
 pub returns-in_err-id-clause-name : goal.returns-in_err-id-clause-name

@@ -4,7 +4,7 @@ use Rattle.lf_cells.specs.declared.cell.Cell.{Cell}
 use Rattle.lf_cells.specs.declared.cell.Standing.{Standing}
 use Rattle.lf_cells.specs.Cells.{cells_of, working_at}
 use Rattle.lf_floor.proofs.Seeking.{working_stands}
-use Rattle.lf_floor.proofs.Tables.{cells_seen}
+use Rattle.lf_floor.proofs.Rows.{cells_seen}
 use Rattle.lf_floor.proofs.floor.Floor.place_of.Goals as goal
 
 pub returns-in_err-standing : goal.returns-in_err-standing

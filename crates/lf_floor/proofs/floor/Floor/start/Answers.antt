@@ -6,7 +6,7 @@ use Rattle.lf_teams.specs.Steps.{floor_of}
 use Rattle.lf_floor.specs.Tables.{empty_ledger}
 use Rattle.lf_teams.specs.Teams.{IsTeamOf}
 use Rattle.lf_teams.proofs.Openings.{opening_whole}
-use Rattle.lf_floor.proofs.Tables.{opened_teams}
+use Rattle.lf_floor.proofs.Rows.{opened_teams}
 use Rattle.lf_floor.proofs.floor.Floor.start.Goals as goal
 
 pub invariant_of-result : goal.invariant_of-result
