@@ -48,26 +48,21 @@ each_team P tables k all within =
 
 -- where the other teams stay, one team alone has changed
 pub one_changed : (old new : Tables) (k : ℕ) → OthersStay k old new → teams_in new ≡ slice_set (teams_in old) k (own_team k new)
-one_changed old new k others = sym (fill_by_all (λ (number : ℕ). own_team number new) (set (teams_in old) k here) count here long each) where
-  here : TeamState
-  here = own_team k new
-
-  count : ℕ
-  count = length new.revisions.items
-
-  long : length (set (teams_in old) k here) ≡ count
-  long = length-set (teams_in old) k here ∙ count_teams old ∙ sym others.revisions
-
-  before : (i : ℕ) → i < count → i < length (teams_in old)
-  before i within = rw (count_teams old, sym others.revisions) within
-
-  each : (i : ℕ) → i < count → get_or (set (teams_in old) k here) i here ≡ own_team i new
-  each i within = ⊎_elim
-      (λ (same : i ≡ k). subst (λ (n : ℕ). get_or (set (teams_in old) k here) n here ≡ own_team n new) (sym same)
-          (get_or-set_same (teams_in old) k here here (before k (subst (λ (n : ℕ). n < count) same within))))
-      (λ (differ : i ≢ k). get_or-set_other (teams_in old) k i here here differ
-          ∙ team_at old i here (rw (sym others.revisions) within) ∙ sym (others.teams i differ))
-      (cases_eq i k)
+one_changed old new k others =
+    let here : TeamState = own_team k new in
+    let long : length (set (teams_in old) k here) ≡ length new.revisions.items =
+    length-set (teams_in old) k here ∙ count_teams old ∙ sym others.revisions in
+    sym (fill_by_all (λ (number : ℕ). own_team number new) (set (teams_in old) k here) (length new.revisions.items) here long (each here))
+  where
+    each : (here : TeamState) (i : ℕ) → i < length new.revisions.items → get_or (set (teams_in old) k (own_team k new)) i here ≡ own_team i new
+    each here i within =
+        let there : i < length old.revisions.items = rw (sym others.revisions) within in
+        ⊎_elim
+        (λ (same : i ≡ k). ap (λ (n : ℕ). get_or (set (teams_in old) k (own_team k new)) n here) same
+            ∙ get_or-set_same (teams_in old) k (own_team k new) here (rw (count_teams old) (rw (sym same) there))
+            ∙ ap (λ (n : ℕ). own_team n new) (sym same))
+        (λ (differ : i ≢ k). get_or-set_other (teams_in old) k i (own_team k new) here differ ∙ team_at old i here there ∙ sym (others.teams i differ))
+        (cases_eq i k)
 
 -- what is seen of a team of that number is what is seen of its cells
 pub cells_seen : {Y : Type 0} (F : List Cell → Option Y) (f : Frame) (tables : Tables) (view : FloorState) (team : List ℕ) (number : ℕ)
@@ -137,7 +132,7 @@ tables_kept f number old new others of_frame = record {
 -- ---- the teams of a design as it is loaded
 
 module _ (design : Loaded) (tables : Tables) (opens : AreOpening design tables) where
-  count : ℕ
+  abbrev pub count : ℕ
   count = length design.frame.teams + 1
 
   revisions_are : length tables.revisions.items ≡ count

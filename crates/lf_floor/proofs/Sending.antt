@@ -1,4 +1,4 @@
--- Cells that tidying sends, and cells that are put back.
+-- Cells that tidying sends.
 use Rattle.std.proofs.Common.{◌≡◌, ◌<◌, ◌≤◌, ℕ, zero, suc, ◌+◌, ◌-◌, List, [], ◌∷◌, map, length, take, drop, get_or, subst, Option, Some, None, true, refl, ap, sym, ◌∙◌, arith}
 use Rattle.std.specs.Prelude.{All, slice_get, slice_set, option_map, option_and_then}
 use Rattle.std.proofs.lemmas.List.{length-map}
@@ -21,124 +21,17 @@ use Rattle.lf_legalize.specs.Members.{IsSizedCell, member_of, best_of}
 use Rattle.lf_floor.specs.declared.tidy.Tidy.TheVariants.{Done, Stopped}
 use Rattle.lf_floor.specs.declared.tidy.Tidy.{Tidy}
 use Rattle.lf_proto.specs.declared.reply.Reply.TheVariants.{Refused}
-use Rattle.lf_teams.specs.States.{Ledger, TeamState, team_with}
+use Rattle.lf_teams.specs.States.{TeamState}
 use Rattle.lf_teams.specs.Outcomes.{Reaches, RunsOut, places_of, refused, recorded, telling, may_be_short}
-use Rattle.lf_floor.specs.Tables.{OthersStay, own_team}
+use Rattle.lf_floor.specs.Tables.{SameButPlaces, taken_up}
 use Rattle.lf_teams.specs.Teams.{Setting, broken_at, broken_by}
 use Rattle.lf_teams.specs.Looks.{lifted_cell, place_of_spot}
 use Rattle.lf_teams.specs.Changes.{restored, places_in, tidied_by, tidied_team}
 use Rattle.lf_floor.specs.declared.tidy.Sent.{Sent}
-use Rattle.lf_floor.specs.Tidying.{SameButPlaces, Sends, Tidies, sent_as, taken_up, target_at}
+use Rattle.lf_floor.specs.Tidying.{Sends, Tidies, sent_as, target_at}
+use Rattle.lf_floor.proofs.Moves.{restored_is}
 use Rattle.lf_floor.proofs.Seeking.{back}
 use Rattle.lf_teams.proofs.Standing.{some_one}
-
--- ---- putting back
-
--- the cells from that position on get these places
-abbrev pub put_from : ℕ → List (Option Place) → List Cell → List Cell
-put_from own [] cells = cells
-put_from own (place ∷ places) cells = put_from (own + 1) places (moved cells own place)
-
-past : (own : ℕ) (place : Option Place) (c : Cell) (cells : List Cell) → moved (c ∷ cells) (own + 1) place ≡ c ∷ moved cells own place
-past own place c cells = let at : own + 1 ≡ suc own = omega arith in rw at refl
-
-put_tail : (own : ℕ) (places : List (Option Place)) (c : Cell) (cells : List Cell) → put_from (own + 1) places (c ∷ cells) ≡ c ∷ put_from own places cells
-put_tail own [] c cells = refl
-put_tail own (place ∷ places) c cells =
-    ap (λ (cs : List Cell). put_from (own + 1 + 1) places cs) (past own place c cells) ∙ put_tail (own + 1) places c (moved cells own place)
-
-put_none : (own : ℕ) (places : List (Option Place)) → put_from own places [] ≡ []
-put_none own [] = refl
-put_none own (place ∷ places) = put_none (own + 1) places
-
-restored_none : (places : List (Option Place)) → restored places [] ≡ []
-restored_none [] = refl
-restored_none (place ∷ places) = refl
-
-past_moved : (cells : List Cell) (own : ℕ) (place : Option Place) → slice_get cells own ≡ None → moved cells own place ≡ cells
-past_moved [] own place none = refl
-past_moved (c ∷ cs) zero place none = absurd cc
-past_moved (c ∷ cs) (suc own) place none = ap (λ (r : List Cell). c ∷ r) (past_moved cs own place none)
-
--- there is no cell there to move
-pub none_moved : (cells : List Cell) (number own : ℕ) (place : Option Place) → id_in cells number own ≡ None → moved cells own place ≡ cells
-none_moved cells number own place none = past_moved cells own place (go (slice_get cells own) none) where
-  go : (o : Option Cell) → option_map (λ (c : Cell). id_of number own) o ≡ None → o ≡ None
-  go None e = refl
-  go (Some c) e = absurd cc
-
--- all places put back one after the other
-pub all_put : (places : List (Option Place)) (cells : List Cell) → put_from 0 places cells ≡ restored places cells
-all_put [] cells = refl
-all_put (place ∷ places) [] = put_none 1 places
-all_put (place ∷ places) (c ∷ cells) =
-    put_tail 0 places (record c { working = place }) cells ∙ ap (λ (cs : List Cell). record c { working = place } ∷ cs) (all_put places cells)
-
--- ---- other teams
-
-pub others_stay : (number : ℕ) (cells : Cells) → OthersStay number cells cells
-others_stay number cells = record { cells = λ other differ. refl; components = refl }
-
-pub others_through : (number : ℕ) (a b c : Cells) → OthersStay number a b → OthersStay number b c → OthersStay number a c
-others_through number a b c ab bc =
-    record { cells = λ other differ. bc.cells other differ ∙ ab.cells other differ; components = bc.components ∙ ab.components }
-
--- ---- cells that differ in their working places alone
-
-pub same_moved : (cells : List Cell) (own : ℕ) (place : Option Place) → SameButPlaces cells (moved cells own place)
-same_moved [] own place = refl
-same_moved (c ∷ cs) zero place = refl
-same_moved (c ∷ cs) (suc own) place = ap (λ (r : List Cell). taken_up c ∷ r) (same_moved cs own place)
-
-first_same : {a b : Cell} {rest others : List Cell} → a ∷ rest ≡ b ∷ others → a ≡ b
-first_same e = cc
-
-rest_same : {a b : Cell} {rest others : List Cell} → a ∷ rest ≡ b ∷ others → rest ≡ others
-rest_same e = cc
-
--- the working places make the one list of the other
-pub restored_is : (old new : List Cell) → SameButPlaces old new → restored (places_of new) old ≡ new
-restored_is [] [] same = refl
-restored_is [] (c ∷ cs) same = absurd cc
-restored_is (d ∷ ds) [] same = absurd cc
-restored_is (d ∷ ds) (c ∷ cs) same =
-    ap (λ (x : Cell). record x { working = c.working } ∷ restored (places_of cs) ds) (sym (first_same same))
-    ∙ ap (λ (r : List Cell). c ∷ r) (restored_is ds cs (rest_same same))
-
-macs_same : (old new : List Cell) → SameButPlaces old new → map (λ (c : Cell). c.mac) new ≡ map (λ (c : Cell). c.mac) old
-macs_same [] [] same = refl
-macs_same [] (c ∷ cs) same = absurd cc
-macs_same (d ∷ ds) [] same = absurd cc
-macs_same (d ∷ ds) (c ∷ cs) same =
-    ap (λ (x : Cell). x.mac ∷ map (λ (y : Cell). y.mac) cs) (first_same same) ∙ ap (λ (r : List ℕ). d.mac ∷ r) (macs_same ds cs (rest_same same))
-
-pub length_same : (old new : List Cell) → SameButPlaces old new → length new ≡ length old
-length_same old new same = sym (length-map new taken_up) ∙ ap (λ (cs : List Cell). length cs) same ∙ length-map old taken_up
-
-sized_in : (f : Frame) (old new : List Cell) → map (λ (c : Cell). c.mac) new ≡ map (λ (c : Cell). c.mac) old
-    → All (λ c. IsSizedCell f c) old → All (λ c. IsSizedCell f c) new
-sized_in f [] [] same sized = sized
-sized_in f [] (c ∷ cs) same sized = absurd cc
-sized_in f (d ∷ ds) [] same sized = absurd cc
-sized_in f (d ∷ ds) (c ∷ cs) same sized = All-cons (λ (x : Cell). IsSizedCell f x) c cs first (sized_in f ds cs rest later)
-  where
-    mac : c.mac ≡ d.mac
-    mac = cc
-
-    rest : map (λ (x : Cell). x.mac) cs ≡ map (λ (x : Cell). x.mac) ds
-    rest = cc
-
-    there : IsSizedCell f d
-    there = sized 0 d (omega arith)
-
-    first : IsSizedCell f c
-    first = record { known = rw mac there.known; sized = rw mac there.sized }
-
-    later : All (λ x. IsSizedCell f x) ds
-    later = λ i x within. sized (suc i) x (omega (arith, within))
-
-pub sized_same : (f : Frame) (old new : List Cell) → SameButPlaces old new → All (λ c. IsSizedCell f c) old → All (λ c. IsSizedCell f c) new
-sized_same f old new same sized = sized_in f old new (macs_same old new same) sized
 
 -- ---- one cell that is sent
 
@@ -278,64 +171,3 @@ tidied_short t session s = go (tidied t.legalizer t.frame t.number (map member_o
   go : (x : Tidied) → may_be_short (tidied_by x t session s).reply ≡ true
   go (Going members count) = refl
   go (Stuck own) = refl
-
--- the team after a tidy in which all cells went where they could
-pub done_reaches : (t : Setting) (session number : ℕ) (old new : Cells) (was now : Ledger) (tidy : Tidy) (count : ℕ)
-    → Tidies t (cells_of old number) (cells_of new number) tidy → tidy ≡ Done count → SameButPlaces (cells_of old number) (cells_of new number)
-    → now ≡ record {
-      revision = was.revision + 1;
-      entries = take t.frame.limits.undo (places_of (cells_of old number) ∷ was.entries);
-      slots = slice_set was.slots session (Some (was.revision + 1));
-    }
-    → Reaches (tidied_team t session (own_team number old was)) (TidyDone now.revision count) (own_team number new now)
-done_reaches t session number old new was now tidy count is done same after =
-    let s = own_team number old was in
-    let made : tidied_team t session s ≡ telling (TidyDone (s.revision + 1) count) (recorded t session (cells_of new number) s) =
-    tidied_done t session s (cells_of new number) count (subst (λ (x : Tidy). Tidies t (cells_of old number) (cells_of new number) x) done is) same in
-    rw made (record { reply_is = ap (λ (x : Ledger). TidyDone x.revision count) after; team_is = ap (λ (x : Ledger). own_team number new x) after })
-
-taken_back : (number : ℕ) (old new : Cells) (was now : Ledger) → now ≡ was → cells_of new number ≡ cells_of old number → own_team number new now ≡ own_team number old was
-taken_back number old new was now ledger cells =
-    ap (λ (x : Ledger). own_team number new x) ledger ∙ ap (λ (cs : List Cell). team_with cs was) cells
-
--- the team after a tidy that was taken back
-pub stopped_reaches : (t : Setting) (session number : ℕ) (old mid new : Cells) (was now : Ledger) (tidy : Tidy) (own : ℕ)
-    → Tidies t (cells_of old number) (cells_of mid number) tidy → tidy ≡ Stopped own → now ≡ was → cells_of new number ≡ cells_of old number
-    → Reaches (tidied_team t session (own_team number old was)) (Refused (NoPlace own)) (own_team number new now)
-stopped_reaches t session number old mid new was now tidy own is stopped ledger cells =
-    let s = own_team number old was in
-    let made : tidied_team t session s ≡ refused (NoPlace own) s =
-    tidied_stuck t session s (cells_of mid number) own (subst (λ (x : Tidy). Tidies t (cells_of old number) (cells_of mid number) x) stopped is) in
-    rw made (record { reply_is = refl; team_is = taken_back number old new was now ledger cells })
-
--- the team after a tidy that ran out of memory
-pub short_reaches : (t : Setting) (session number : ℕ) (old new : Cells) (was now : Ledger) → now ≡ was → cells_of new number ≡ cells_of old number
-    → RunsOut (tidied_team t session (own_team number old was)) (own_team number old was) (own_team number new now)
-short_reaches t session number old new was now ledger cells =
-    record { kept = taken_back number old new was now ledger cells; may = tidied_short t session (own_team number old was) }
-
--- the ledger without the entry that was put in front of it
-pub ledger_back : (was mid now : Ledger) (places : List (Option Place)) → mid ≡ record was { entries = places ∷ was.entries }
-    → now ≡ record mid { entries = drop 1 mid.entries } → now ≡ was
-ledger_back was mid now places pushed popped = popped ∙ ap (λ (x : Ledger). record x { entries = drop 1 x.entries }) pushed
-
--- the cells with the places of that entry
-pub cells_back : (old mid new : List Cell) (was ledger : Ledger) (places : List (Option Place)) → ledger ≡ record was { entries = places ∷ was.entries }
-    → places ≡ places_of old → SameButPlaces old mid → new ≡ restored (get_or ledger.entries 0 []) mid → new ≡ old
-cells_back old mid new was ledger places pushed are same back_are =
-    back_are ∙ ap (λ (x : Ledger). restored (get_or x.entries 0 []) mid) pushed ∙ ap (λ (ps : List (Option Place)). restored ps mid) are
-    ∙ restored_is mid old (sym same)
-
--- the ledger after all
-pub ledger_on : (was mid cut now : Ledger) (places : List (Option Place)) (limit session : ℕ) → mid ≡ record was { entries = places ∷ was.entries }
-    → cut ≡ record mid { entries = take limit mid.entries }
-    → now ≡ record cut { revision = cut.revision + 1; slots = slice_set cut.slots session (Some (cut.revision + 1)) }
-    → now ≡ record {
-      revision = was.revision + 1;
-      entries = take limit (places ∷ was.entries);
-      slots = slice_set was.slots session (Some (was.revision + 1));
-    }
-ledger_on was mid cut now places limit session pushed left counted =
-    counted
-    ∙ ap (λ (x : Ledger). record x { revision = x.revision + 1; slots = slice_set x.slots session (Some (x.revision + 1)) })
-    (left ∙ ap (λ (x : Ledger). record x { entries = take limit x.entries }) pushed)

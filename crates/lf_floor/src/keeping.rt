@@ -59,7 +59,7 @@ impl Tables {
     {
         let number = id.team as usize;
         let mut moves = Moves::new(alloc);
-        shift(&mut self.cells, &mut moves, number, id.own as usize, place)?;
+        shift(&mut self.cells, &mut moves, id, place)?;
         self.keep(number, session, moves)
     }
 }

@@ -53,11 +53,10 @@ fn exchange(
     ensures moved { (before : List Cell) → HaveMoved before moves.old (cells_of cells.old first.team) → HaveMoved before moves.new (cells_of cells.new first.team) }
     ensures others { OtherCellsStay first.team cells.old cells.new }
 {
-    let team = first.team as usize;
     let to_second = cells.working(second);
     let to_first = cells.working(first);
-    shift(cells, moves, team, first.own as usize, to_second)?;
-    shift(cells, moves, team, second.own as usize, to_first)
+    shift(cells, moves, first, to_second)?;
+    shift(cells, moves, second, to_first)
 }
 
 /// Why two exchanged cells of the team are refused where they stand now, the first before the

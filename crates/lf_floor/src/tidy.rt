@@ -97,7 +97,7 @@ fn send<S: Seeker>(
     };
     match best_place(around, cells, id, &target)? {
         Some(place) => {
-            shift(cells, moves, around.number, own, Some(place))?;
+            shift(cells, moves, id, Some(place))?;
             Ok(Sent::Goes)
         }
         None => Ok(Sent::Nowhere),

@@ -36,7 +36,7 @@ fn move_one_back(
     if cells.working(id) == committed {
         return Ok(());
     }
-    shift(cells, moves, number, own, committed)
+    shift(cells, moves, id, committed)
 }
 
 /// Moves each of the team's cells to its committed place, where it stands elsewhere, and notes the

@@ -1,7 +1,7 @@
 use Rattle.std.proofs.Common.{sym}
 use Rattle.std.proofs.lemmas.Result.{IfOk-weaker}
 use Rattle.lf_cells.specs.Cells.{cells_of}
-use Rattle.lf_teams.specs.Teams.{setting_in}
+use Rattle.lf_floor.specs.Tables.{setting_in}
 use Rattle.lf_floor.proofs.Seeking.{sought}
 use Rattle.lf_floor.proofs.cell.best_place.Goals as goal
 

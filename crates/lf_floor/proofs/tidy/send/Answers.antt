@@ -5,9 +5,10 @@ use Rattle.lf_floorplan.specs.declared.place.Place.{Place}
 use Rattle.lf_cells.specs.declared.cell.Cell.{Cell}
 use Rattle.lf_cells.specs.declared.cell.CellId.{CellId}
 use Rattle.lf_cells.specs.Cells.{cells_of}
-use Rattle.lf_teams.specs.Teams.{setting_in}
+use Rattle.lf_floor.specs.Tables.{setting_in}
 use Rattle.lf_floor.proofs.Seeking.{id_there}
-use Rattle.lf_floor.proofs.Sending.{none_sent, one_sent, one_stays, same_moved, sent_by}
+use Rattle.lf_floor.proofs.Moves.{same_moved}
+use Rattle.lf_floor.proofs.Sending.{none_sent, one_sent, one_stays, sent_by}
 use Rattle.lf_floor.proofs.tidy.send.Goals as goal
 
 pub returns-in_default-clause-ok : goal.returns-in_default-clause-ok

@@ -3,9 +3,11 @@ use Rattle.lf_rules.specs.Tidy.{Going, Stuck}
 use Rattle.lf_cells.specs.Cells.{cells_of}
 use Rattle.lf_legalize.specs.Members.{member_of}
 use Rattle.lf_floor.specs.declared.tidy.Sent.{Sent}
-use Rattle.lf_teams.specs.Teams.{setting_in}
+use Rattle.lf_floor.specs.Tables.{setting_in}
 use Rattle.lf_floor.specs.Tidying.{sent_as}
-use Rattle.lf_floor.proofs.Sending.{all_to_go, on_going, others_stay, others_through, sized_same, stuck_stays}
+use Rattle.lf_floor.proofs.Moves.{sized_same}
+use Rattle.lf_floor.proofs.Rows.{cells_stay, cells_through}
+use Rattle.lf_floor.proofs.Sending.{all_to_go, on_going, stuck_stays}
 use Rattle.lf_floor.proofs.tidy.send_all.Goals.{in-Stays, in-Goes}
 use Rattle.lf_floor.proofs.tidy.send_all.Goals as goal
 
@@ -17,7 +19,8 @@ loop-own-init g c =
     record {
       going = λ l. all_to_go l f number c.count_of-own-end.result cells c.count_of-own-end.ensures;
       same = refl;
-      others = others_stay number c.args.cells.now;
+      moved = λ before have. have;
+      others = cells_stay number c.args.cells.now;
       few = omega arith;
     }
 
@@ -56,7 +59,8 @@ loop-own-preserved g c =
             | in-Goes w ↦ ap (λ (s : Sent). sent_as s new moved own) w.in-Goes.is ∙ ap (λ (n : ℕ). Going (map member_of new) n) (sym w.moved-is)
           ]) (c.loop-own.invariant.going l);
       same = sent.same ∙ c.loop-own.invariant.same;
-      others = others_through number c.args.cells.now c.loop-own.cells c.send.new.cells c.loop-own.invariant.others sent.others;
+      moved = λ before have. sent.moved before (c.loop-own.invariant.moved before have);
+      others = cells_through number c.args.cells.now c.loop-own.cells c.send.new.cells c.loop-own.invariant.others sent.others;
       few = elim c.match-branch-2.branch [
         | in-Stays w ↦ omega (arith, w.moved-is, c.loop-own.invariant.few)
         | in-Goes w ↦ omega (arith, w.moved-is, c.loop-own.invariant.few)

@@ -1,10 +1,10 @@
-use Rattle.std.proofs.Common.{◌≡◌, ◌≤◌, ◌-◌, map}
+use Rattle.std.proofs.Common.{◌≡◌, ◌≤◌, ◌-◌, List, map}
 use Rattle.lf_rules.specs.Legalizer.{Legalizer}
 use Rattle.lf_rules.specs.Tidy.{Going, tidied, tidied_from}
 use Rattle.lf_cells.specs.Cells.{cells_of}
 use Rattle.lf_legalize.specs.Members.{member_of}
-use Rattle.lf_floor.specs.Tables.{OthersStay}
-use Rattle.lf_floor.specs.Tidying.{SameButPlaces}
+use Rattle.lf_cells.specs.declared.cell.Cell.{Cell}
+use Rattle.lf_floor.specs.Tables.{HaveMoved, OtherCellsStay, SameButPlaces}
 use Rattle.lf_floor.proofs.tidy.send_all.Given as goal
 
 -- tidying goes on from the cells so far, which differ from the old ones in their working places alone
@@ -14,6 +14,7 @@ invariant-loop-own g l = record {
       → tidied_from j l.around.frame.now l.around.number l.own (l.own-end - l.own) (Going (map member_of (cells_of l.cells l.around.number)) l.moved)
       ≡ tidied j l.around.frame.now l.around.number (map member_of (cells_of l.initial.cells l.around.number));
   same : SameButPlaces (cells_of l.initial.cells l.around.number) (cells_of l.cells l.around.number);
-  others : OthersStay l.around.number l.initial.cells l.cells;
+  moved : (before : List Cell) → HaveMoved before l.initial.moves (cells_of l.initial.cells l.around.number) → HaveMoved before l.moves (cells_of l.cells l.around.number);
+  others : OtherCellsStay l.around.number l.initial.cells l.cells;
   few : l.moved ≤ l.own;
 }

@@ -5,7 +5,7 @@ use Rattle.lf_rules.specs.declared.rule.Broken.{Broken}
 use Rattle.lf_rules.specs.Choice.{spot_of}
 use Rattle.lf_rules.specs.Tidy.{point_of}
 use Rattle.lf_cells.specs.Cells.{cells_of}
-use Rattle.lf_teams.specs.Teams.{setting_in}
+use Rattle.lf_floor.specs.Tables.{setting_in}
 use Rattle.lf_floor.proofs.Sending.{target_placed}
 use Rattle.lf_floor.proofs.tidy.target_of.Goals as goal
 

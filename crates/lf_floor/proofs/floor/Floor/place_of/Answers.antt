@@ -12,16 +12,16 @@ returns-in_err-standing g c =
     let i = c.self.inside in
     let number = c.in_ok-number.number in
     c.from_residual-in_err-standing.ensures
-    ∙ sym (cells_seen (λ (cells : List Cell). working_at cells c.args.own) i.frame i.cells i.ledgers.items c.args.self.now c.args.team.now number
-    c.self.view_is c.in_ok-number.ensures.found (omega (arith, c.in_ok-number.ensures.within, c.self.invariant.0))
-    ∙ working_stands (slice_get (cells_of i.cells number) c.args.own) c.standing.result c.standing.ensures
+    ∙ sym (cells_seen (λ (cells : List Cell). working_at cells c.args.own) i.frame i.tables c.args.self.now c.args.team.now number
+    c.self.view_is c.in_ok-number.ensures.found (rw c.self.invariant.0.revisions c.in_ok-number.ensures.within)
+    ∙ working_stands (slice_get (cells_of i.tables.cells number) c.args.own) c.standing.result c.standing.ensures
     ∙ ap (λ (s : Option Standing). option_and_then (λ (x : Standing). x.working) s) (c.in_err-standing.was {u = tt}))
 
 pub returns : goal.returns
 returns g c =
     let i = c.self.inside in
     let number = c.in_ok-number.number in
-    sym (cells_seen (λ (cells : List Cell). working_at cells c.args.own) i.frame i.cells i.ledgers.items c.args.self.now c.args.team.now number
-    c.self.view_is c.in_ok-number.ensures.found (omega (arith, c.in_ok-number.ensures.within, c.self.invariant.0))
-    ∙ working_stands (slice_get (cells_of i.cells number) c.args.own) c.standing.result c.standing.ensures
+    sym (cells_seen (λ (cells : List Cell). working_at cells c.args.own) i.frame i.tables c.args.self.now c.args.team.now number
+    c.self.view_is c.in_ok-number.ensures.found (rw c.self.invariant.0.revisions c.in_ok-number.ensures.within)
+    ∙ working_stands (slice_get (cells_of i.tables.cells number) c.args.own) c.standing.result c.standing.ensures
     ∙ ap (λ (s : Option Standing). option_and_then (λ (x : Standing). x.working) s) (c.in_ok-standing.was {u = tt}))

@@ -11,22 +11,22 @@ returns-in-Bye-clause-ok g c = λ l. rw c.in-Bye.is (bye_answers l c.args.self.n
 
 pub returns-in_default-clause-ok : goal.returns-in_default-clause-ok
 returns-in_default-clause-ok g c = λ l.
-    let old = floor_of c.self.inside.frame (teams_in c.self.inside.cells c.self.inside.ledgers.items) in
+    let old = floor_of c.self.inside.frame (teams_in c.self.inside.tables) in
     rw (← c.self.view_is, c.in-To.is)
     (none_answers l old c.in-To.team.now (order_of c.in-To.order) (c.in_default.ensures {u = tt}).found)
 
 pub returns-in-Some-clause-ok : goal.returns-in-Some-clause-ok
 returns-in-Some-clause-ok g c = λ l.
-    let old = floor_of c.self.inside.frame (teams_in c.self.inside.cells c.self.inside.ledgers.items) in
-    let new = floor_of c.self.inside.frame (teams_in c.serve_at.new.cells c.serve_at.new.ledgers.items) in
+    let old = floor_of c.self.inside.frame (teams_in c.self.inside.tables) in
+    let new = floor_of c.self.inside.frame (teams_in c.serve_at.new.tables) in
     rw (← c.self.view_is, c.in-To.is) (IfOk-weaker c.serve_at.result _ _
     (λ reply given. some_answers l old new c.in-To.team.now (order_of c.in-To.order) c.in-Some.number reply (c.in-Some.ensures {u = tt}).found given)
     (c.serve_at.ensures.ok l))
 
 pub returns-in-Some-clause-err : goal.returns-in-Some-clause-err
 returns-in-Some-clause-err g c = λ l.
-    let old = floor_of c.self.inside.frame (teams_in c.self.inside.cells c.self.inside.ledgers.items) in
-    let new = floor_of c.self.inside.frame (teams_in c.serve_at.new.cells c.serve_at.new.ledgers.items) in
+    let old = floor_of c.self.inside.frame (teams_in c.self.inside.tables) in
+    let new = floor_of c.self.inside.frame (teams_in c.serve_at.new.tables) in
     rw (← c.self.view_is, c.in-To.is) (on_err_both c.serve_at.result
     (λ takes short. some_short l old new c.in-To.team.now (order_of c.in-To.order) c.in-Some.number
     (c.in-Some.ensures {u = tt}).found takes short) c.serve_at.ensures.takes (c.serve_at.ensures.err l))
