@@ -1,13 +1,14 @@
--- The lists of working places that undo entries stand for.
+-- The working places that a team's undo entries stand for.
 use Rattle.std.specs.Prelude.{ℕ, List, [], ◌∷◌, ◌++◌, Option, None, slice_index_or, slice_set}
 use Rattle.lf_floorplan.specs.declared.place.Place.{Place}
 use Rattle.lf_undo.specs.declared.moves.Move.{Move}
 
--- The places of all cells, in the cells' order: a cell's place, or none.
+-- The places of a team's cells, in the cells' order: a cell's place, or none.
 abbrev pub Places : Type 0
 Places = List (Option Place)
 
--- The places before the moves, from those behind them: the last move is taken back first, so that a cell that moved twice gets its first place.
+-- The places before the moves, from those behind them: the last move is taken back first, so that
+-- a cell that moved twice gets its first place.
 abbrev pub taken_back : List Move → Places → Places
 taken_back [] places = places
 taken_back (m ∷ ms) places = slice_set (taken_back ms places) m.own m.old
@@ -19,7 +20,7 @@ entries_of places (ms ∷ entries) = taken_back ms places ∷ entries_of (taken_
 
 -- The moves that a cell's new place adds to those so far: one, with the place that the cell has.
 abbrev pub moves_with : List Move → Places → ℕ → List Move
-moves_with moves places cell = moves ++ record { own = cell; old = slice_index_or places cell None } ∷ []
+moves_with moves places own = moves ++ record { own = own; old = slice_index_or places own None } ∷ []
 
 -- The places behind settings of cells, one after another.
 abbrev pub places_set : Places → List (ℕ × Option Place) → Places
