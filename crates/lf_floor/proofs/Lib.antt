@@ -16,3 +16,4 @@ pub mod Promises
 pub mod Seeking
 pub mod Tables
 pub mod Sending
+pub mod FirstIllegal
