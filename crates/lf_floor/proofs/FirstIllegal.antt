@@ -47,11 +47,13 @@ broken_listed : (t : Setting) (cells : List Cell) (own : ℕ) (o : Option Cell) 
     option_and_then (broken_among t.legalizer t.frame (map (listed_of t.number) cells) own) (option_map (listed_of t.number) o)
     ≡ option_and_then (λ place. broken_by o t cells own place) (option_and_then (λ c. c.working) o)
 broken_listed t cells own None = refl
-broken_listed t cells own (Some c) =
-    let beside : List Member → Option Broken = λ members.
-    option_and_then (λ (p : Place). t.legalizer.first_broken (trial_of t.frame t.number (macro_of t.frame c.mac) p (boxes_beside t.frame members own)))
-    c.working in
-    ap beside (members_listed t.number cells)
+broken_listed t cells own (Some c) = ap beside (members_listed t.number cells)
+  where
+    at : List Member → Place → Option Broken
+    at members p = t.legalizer.first_broken (trial_of t.frame t.number (macro_of t.frame c.mac) p (boxes_beside t.frame members own))
+
+    beside : List Member → Option Broken
+    beside members = option_and_then (at members) c.working
 
 -- a broken cell of the team as the search finds it
 abbrev pub found_of : BrokenCell → Found
