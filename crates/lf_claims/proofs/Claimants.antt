@@ -36,7 +36,8 @@ record GroupClaimant (regions : List Region) (g : Group) (name : List ℕ) (n : 
   place : position_of (fence_names regions) fence ≡ Some n
   claims : Claims regions g name fence
 
-there_is_fence : (regions : List Region) (fence : List ℕ) (n : ℕ) → position_of (fence_names regions) fence ≡ Some n → Any (λ r. (is_fence r ≡ true) × (r.name ≡ fence)) regions
+there_is_fence : (regions : List Region) (fence : List ℕ) (n : ℕ) → position_of (fence_names regions) fence ≡ Some n →
+    Any (λ r. (is_fence r ≡ true) × (r.name ≡ fence)) regions
 there_is_fence regions fence n place =
     let names = fence_names regions in
     let stands = stands_there names fence n place in
@@ -45,7 +46,8 @@ there_is_fence regions fence n place =
 group_claimant : (regions : List Region) (g : Group) (name : List ℕ) (n : ℕ) → ClaimsBy (group_bounds regions g) name n → GroupClaimant regions g name n
 group_claimant regions g name n h = by g.region (option_and_then (position_of (fence_names regions)) g.region) refl refl h
   where
-    by : (region : Option (List ℕ)) (at : Option ℕ) → g.region ≡ region → option_and_then (position_of (fence_names regions)) g.region ≡ at → ClaimsBy (bound_to at g.patterns) name n → GroupClaimant regions g name n
+    by : (region : Option (List ℕ)) (at : Option ℕ) → g.region ≡ region → option_and_then (position_of (fence_names regions)) g.region ≡ at →
+        ClaimsBy (bound_to at g.patterns) name n → GroupClaimant regions g name n
     by region None is place c = absurd (none_of_nothing (λ b. (b.fence ≡ n) × Matches b.pattern name) c)
     by None (Some m) is place c = let none : option_and_then (position_of (fence_names regions)) g.region ≡ None = ap (option_and_then (position_of (fence_names regions))) is in cc
     by (Some fence) (Some m) is place c =
@@ -58,7 +60,8 @@ group_claimant regions g name n h = by g.region (option_and_then (position_of (f
           claims = record { bound = is; fence_there = there_is_fence regions fence m at; named = (named.0, named.1, named.2, named.3, named.4.1) };
         }
 
-pub claimant_of : (regions : List Region) (groups : List Group) (name : List ℕ) (n : ℕ) → ClaimsBy (all_bounds regions groups) name n → Claimant regions groups name n
+pub claimant_of : (regions : List Region) (groups : List Group) (name : List ℕ) (n : ℕ) → ClaimsBy (all_bounds regions groups) name n →
+    Claimant regions groups name n
 claimant_of regions [] name n h = absurd (none_of_nothing (λ b. (b.fence ≡ n) × Matches b.pattern name) h)
 claimant_of regions (g ∷ groups) name n h =
     elim (any_parts (λ b. (b.fence ≡ n) × Matches b.pattern name) (group_bounds regions g) (all_bounds regions groups) h) [
@@ -70,7 +73,8 @@ claimant_of regions (g ∷ groups) name n h =
           record { fence = c.fence; place = c.place; claimed = any_later (λ q. Claims regions q name c.fence) g groups c.claimed }
     ]
 
-group_claims : (regions : List Region) (g : Group) (name fence : List ℕ) (n : ℕ) → position_of (fence_names regions) fence ≡ Some n → Claims regions g name fence → ClaimsBy (group_bounds regions g) name n
+group_claims : (regions : List Region) (g : Group) (name fence : List ℕ) (n : ℕ) → position_of (fence_names regions) fence ≡ Some n →
+    Claims regions g name fence → ClaimsBy (group_bounds regions g) name n
 group_claims regions g name fence n place claims =
     let at : option_and_then (position_of (fence_names regions)) g.region ≡ Some n = ap (option_and_then (position_of (fence_names regions))) claims.bound ∙ place in
     let is : group_bounds regions g ≡ bound_to (Some n) g.patterns = ap (λ o. bound_to o g.patterns) at in
@@ -80,7 +84,8 @@ group_claims regions g name fence n place claims =
     (named.0, named.1, named.2, named.3, (refl, named.4))
     )
 
-claims_of : (regions : List Region) (groups : List Group) (name fence : List ℕ) (n : ℕ) → position_of (fence_names regions) fence ≡ Some n → IsClaimed regions groups name fence → ClaimsBy (all_bounds regions groups) name n
+claims_of : (regions : List Region) (groups : List Group) (name fence : List ℕ) (n : ℕ) → position_of (fence_names regions) fence ≡ Some n →
+    IsClaimed regions groups name fence → ClaimsBy (all_bounds regions groups) name n
 claims_of regions [] name fence n place h = absurd (none_of_nothing (λ q. Claims regions q name fence) h)
 claims_of regions (g ∷ groups) name fence n place h = elim (any_cases (λ q. Claims regions q name fence) g groups h) [
   | inl own ↦ any_left (λ b. (b.fence ≡ n) × Matches b.pattern name) (group_bounds regions g) (all_bounds regions groups) (group_claims regions g name fence n place own)
@@ -101,7 +106,8 @@ numbered regions groups name fence h = by (position_of (fence_names regions) fen
     by (Some n) e = record { n = n; place = e; claims = claims_of regions groups name fence n e h }
 
 -- what a claim tells of the numbers, it says of the fences
-pub claim_says : (regions : List Region) (groups : List Group) (name : List ℕ) (claim : Claim) → Tells (ClaimsBy (all_bounds regions groups) name) claim → IsClaimOf regions groups name claim
+pub claim_says : (regions : List Region) (groups : List Group) (name : List ℕ) (claim : Claim) → Tells (ClaimsBy (all_bounds regions groups) name) claim →
+    IsClaimOf regions groups name claim
 claim_says regions groups name Unclaimed none = λ fence claimed. let q : Numbered regions groups name fence = numbered regions groups name fence claimed in none q.n q.claims
 claim_says regions groups name (ByOne one) h =
     let c : Claimant regions groups name one = claimant_of regions groups name one h.0 in
@@ -131,18 +137,22 @@ claim_says regions groups name ByTwo (a, b, differ, in_a, in_b) =
 pub unclaimed_once : (regions : List Region) (groups : List Group) (name : List ℕ) → IsUnclaimed regions groups name → HasTwoFences regions groups name → ⊥
 unclaimed_once regions groups name none h = none h.first h.by_first
 
-pub claimed_once : (regions : List Region) (groups : List Group) (name : List ℕ) (team : ℕ) → IsClaimedBy regions groups name team → HasTwoFences regions groups name → ⊥
+pub claimed_once : (regions : List Region) (groups : List Group) (name : List ℕ) (team : ℕ) → IsClaimedBy regions groups name team →
+    HasTwoFences regions groups name → ⊥
 claimed_once regions groups name team one h = h.differ (one.only h.first h.by_first ∙ sym (one.only h.second h.by_second))
 
 -- the patterns of one group more
-pub bounds_more : (regions : List Region) (groups : List Group) (n : ℕ) (g : Group) → n < length groups → g ≡ get_or groups n g → all_bounds regions (take (n + 1) groups) ≡ all_bounds regions (take n groups) ++ group_bounds regions g
+pub bounds_more : (regions : List Region) (groups : List Group) (n : ℕ) (g : Group) → n < length groups → g ≡ get_or groups n g →
+    all_bounds regions (take (n + 1) groups) ≡ all_bounds regions (take n groups) ++ group_bounds regions g
 bounds_more regions groups n g within is =
     ap (all_bounds regions) (sym (one_bound_more groups n g within is)) ∙ flat_map-append (group_bounds regions) (take n groups) (g ∷ [])
     ∙ ap (λ l. all_bounds regions (take n groups) ++ l) (append-nil (group_bounds regions g))
 
-pub bounds_by_number : (regions : List Region) (numbers : NameMap ℕ) (g : Group) → Numbers (fence_names regions) numbers → bound_to (option_and_then (value_of numbers) g.region) g.patterns ≡ group_bounds regions g
+pub bounds_by_number : (regions : List Region) (numbers : NameMap ℕ) (g : Group) → Numbers (fence_names regions) numbers →
+    bound_to (option_and_then (value_of numbers) g.region) g.patterns ≡ group_bounds regions g
 bounds_by_number regions numbers g numbered = by g.region
   where
-    by : (region : Option (List ℕ)) → bound_to (option_and_then (value_of numbers) region) g.patterns ≡ bound_to (option_and_then (position_of (fence_names regions)) region) g.patterns
+    by : (region : Option (List ℕ)) →
+        bound_to (option_and_then (value_of numbers) region) g.patterns ≡ bound_to (option_and_then (position_of (fence_names regions)) region) g.patterns
     by None = refl
     by (Some fence) = ap (λ o. bound_to o g.patterns) (numbered fence)

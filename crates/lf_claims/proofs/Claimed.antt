@@ -25,13 +25,16 @@ use Rattle.lf_claims.proofs.Tellings.{tells_joined, tells_same}
 use Rattle.lf_claims.proofs.Claimants.{claim_says}
 
 -- a match more: the claim of its number joins its fence, and the others stay
-matched_more : (matches : List Match) (m : Match) (claims : List Claim) (number : ℕ) → number < length claims → Tells (IsMatched matches number) (claim_at claims number) → Tells (IsMatched (matches ++ m ∷ []) number) (claim_at (set claims m.own (joined (claim_at claims m.own) m.asked)) number)
+matched_more : (matches : List Match) (m : Match) (claims : List Claim) (number : ℕ) → number < length claims →
+    Tells (IsMatched matches number) (claim_at claims number) →
+    Tells (IsMatched (matches ++ m ∷ []) number) (claim_at (set claims m.own (joined (claim_at claims m.own) m.asked)) number)
 matched_more matches m claims number within told = by (eqb m.own number) refl
   where
     old : (fence : ℕ) → IsMatched matches number fence → IsMatched (matches ++ m ∷ []) number fence
     old fence h = Contains-append_left matches (m ∷ []) (record { own = number; asked = fence }) h
 
-    by : (t : Bool) → eqb m.own number ≡ t → Tells (IsMatched (matches ++ m ∷ []) number) (claim_at (set claims m.own (joined (claim_at claims m.own) m.asked)) number)
+    by : (t : Bool) → eqb m.own number ≡ t →
+        Tells (IsMatched (matches ++ m ∷ []) number) (claim_at (set claims m.own (joined (claim_at claims m.own) m.asked)) number)
     by true e =
         let same : m.own ≡ number = eqb-true m.own number e in
         let claim : claim_at (set claims m.own (joined (claim_at claims m.own) m.asked)) number ≡ joined (claim_at claims number) m.asked =
@@ -57,26 +60,29 @@ MatchesTold matches count claims = (number : ℕ) → number < count → Tells (
 pub no_match_told : (count : ℕ) (claims : List Claim) → ((number : ℕ) → claim_at claims number ≡ Unclaimed) → MatchesTold [] count claims
 no_match_told count claims nothing number within = rw (nothing number) (λ fence h. omega (arith, h.1))
 
-pub matches_told_more : (matches : List Match) (n : ℕ) (m : Match) (count : ℕ) (claims : List Claim) → n < length matches → m ≡ get_or matches n m → length claims ≡ count → MatchesTold (take n matches) count claims →
+pub matches_told_more : (matches : List Match) (n : ℕ) (m : Match) (count : ℕ) (claims : List Claim) → n < length matches → m ≡ get_or matches n m →
+    length claims ≡ count → MatchesTold (take n matches) count claims →
     MatchesTold (take (n + 1) matches) count (set claims m.own (joined (claim_at claims m.own) m.asked))
 matches_told_more matches n m count claims within is long before number below =
     let more : take (n + 1) matches ≡ take n matches ++ m ∷ [] = grind (arith, common_steps) in
     rw more (matched_more (take n matches) m claims number (omega arith) (before number below))
 
 -- a name that is matched is labelled so
-pub matches_label : (components : List Component) (literals : List Labelled) (matches : List Match) (k : ℕ) (d : Component) (fence : ℕ) → k < length components → AreMatches (numbered_names components) literals matches →
+pub matches_label : (components : List Component) (literals : List Labelled) (matches : List Match) (k : ℕ) (d : Component) (fence : ℕ) →
+    k < length components → AreMatches (numbered_names components) literals matches →
     IsMatched matches k fence → Labels literals (get_or components k d).name fence
 matches_label components literals matches k d fence within are h =
     let one : IsMatch (numbered_names components) literals (record { own = k; asked = fence }) = (are (record { own = k; asked = fence })).0 h in
     rw (← numbered_is components k d one.name within one.is_own) one.is_asked
 
-pub label_matches : (components : List Component) (literals : List Labelled) (matches : List Match) (k : ℕ) (d : Component) (fence : ℕ) → k < length components → AreMatches (numbered_names components) literals matches →
+pub label_matches : (components : List Component) (literals : List Labelled) (matches : List Match) (k : ℕ) (d : Component) (fence : ℕ) →
+    k < length components → AreMatches (numbered_names components) literals matches →
     Labels literals (get_or components k d).name fence → IsMatched matches k fence
 label_matches components literals matches k d fence within are h =
     (are (record { own = k; asked = fence })).1 (record { name = (get_or components k d).name; is_own = numbered_has components k d within; is_asked = h })
 
-pub told_by_matches : (components : List Component) (literals : List Labelled) (matches : List Match) (claims : List Claim) → AreMatches (numbered_names components) literals matches → MatchesTold matches (length components) claims →
-    AreTold (Labels literals) components claims
+pub told_by_matches : (components : List Component) (literals : List Labelled) (matches : List Match) (claims : List Claim) →
+    AreMatches (numbered_names components) literals matches → MatchesTold matches (length components) claims → AreTold (Labels literals) components claims
 told_by_matches components literals matches claims are told k d within =
     tells_same (IsMatched matches k) (Labels literals (get_or components k d).name) (claim_at claims k) (λ fence. matches_label components literals matches k d fence within are) (λ fence. label_matches components literals matches k d fence within are)
     (told k within)
@@ -85,7 +91,8 @@ told_by_matches components literals matches claims are told k d within =
 abbrev pub ToldBelow : (List ℕ → ℕ → Type 0) → List Component → List Claim → ℕ → Type 0
 ToldBelow claims components told n = (k : ℕ) (d : Component) → k < n → Tells (claims (get_or components k d).name) (claim_at told k)
 
-pub told_more : (claims : List ℕ → ℕ → Type 0) (components : List Component) (told : List Claim) (n : ℕ) (c : Component) (claim : Claim) → length told ≡ n → n < length components → c ≡ get_or components n c → Tells (claims c.name) claim →
+pub told_more : (claims : List ℕ → ℕ → Type 0) (components : List Component) (told : List Claim) (n : ℕ) (c : Component) (claim : Claim) → length told ≡ n →
+    n < length components → c ≡ get_or components n c → Tells (claims c.name) claim →
     ToldBelow claims components told n → ToldBelow claims components (told ++ claim ∷ []) (n + 1)
 told_more claims components told n c claim long within is one before k d below = by (grind arith)
   where
@@ -99,7 +106,8 @@ told_more claims components told n c claim long within is one before k d below =
         rw (here, item) one
 
 -- with no pattern that is tried, nothing is added
-pub told_without_starred : (told : List ℕ → ℕ → Type 0) (starred : List Bound) (components : List Component) (claims : List Claim) → starred ≡ [] → AreTold told components claims → AreTold (λ name fence. told name fence ⊎ ClaimsBy starred name fence) components claims
+pub told_without_starred : (told : List ℕ → ℕ → Type 0) (starred : List Bound) (components : List Component) (claims : List Claim) → starred ≡ [] →
+    AreTold told components claims → AreTold (λ name fence. told name fence ⊎ ClaimsBy starred name fence) components claims
 told_without_starred told starred components claims empty h k d within =
     let name : List ℕ = (get_or components k d).name in
     let none : length starred ≡ 0 = ap length empty in
@@ -116,12 +124,13 @@ told_by_index index bounds components claims h told k d within =
     (h.forth name) (told k d within)
 
 -- the claims of all groups
-pub claims_made : (regions : List Region) (groups : List Group) (components : List Component) (claims : List Claim) → AreTold (ClaimsBy (all_bounds regions groups)) components claims → AreClaimsOf regions groups components claims
+pub claims_made : (regions : List Region) (groups : List Group) (components : List Component) (claims : List Claim) →
+    AreTold (ClaimsBy (all_bounds regions groups)) components claims → AreClaimsOf regions groups components claims
 claims_made regions groups components claims told k d within = claim_says regions groups (get_or components k d).name (claim_at claims k) (told k d within)
 
 -- the claim of a component that stands at a number
-pub claim_there : (regions : List Region) (groups : List Group) (components : List Component) (claims : List Claim) (k : ℕ) (c : Component) → k < length components → c ≡ get_or components k c →
-    AreClaimsOf regions groups components claims → IsClaimOf regions groups c.name (claim_at claims k)
+pub claim_there : (regions : List Region) (groups : List Group) (components : List Component) (claims : List Claim) (k : ℕ) (c : Component) →
+    k < length components → c ≡ get_or components k c → AreClaimsOf regions groups components claims → IsClaimOf regions groups c.name (claim_at claims k)
 claim_there regions groups components claims k c within is all = subst (λ (e : Component). IsClaimOf regions groups e.name (claim_at claims k)) (sym is) (all k c within)
 
 -- the claim of the component of a number
@@ -135,7 +144,8 @@ claim_known regions groups components claims k c at =
 pub claim_read : (all lent : List Claim) (number : ℕ) (claim : Claim) → lent ≡ all → claim ≡ claim_at lent number → claim_at all number ≡ claim
 claim_read all lent number claim same is = sym (is ∙ ap (λ claims. claim_at claims number) same)
 
-pub claim_is : (regions : List Region) (groups : List Group) (name : List ℕ) (old claim : Claim) → old ≡ claim → IsClaimOf regions groups name old → IsClaimOf regions groups name claim
+pub claim_is : (regions : List Region) (groups : List Group) (name : List ℕ) (old claim : Claim) → old ≡ claim → IsClaimOf regions groups name old →
+    IsClaimOf regions groups name claim
 claim_is regions groups name old claim same is = subst (λ c. IsClaimOf regions groups name c) same is
 
 all_unclaimed : (count number : ℕ) → claim_at (replicate count Unclaimed) number ≡ Unclaimed
@@ -144,6 +154,7 @@ all_unclaimed (suc count) zero = refl
 all_unclaimed (suc count) (suc number) = all_unclaimed count number
 
 -- of a list of no claims, each claims nothing
-pub none_claimed : {V E : Type 0} {P : V → Type 0} (items : V → List Claim) (count : ℕ) (made : Result V E) → ((v : V) → P v) → IfOk made (λ v. P v → items v ≡ replicate count Unclaimed) → IfOk made (λ v. (number : ℕ) → claim_at (items v) number ≡ Unclaimed)
+pub none_claimed : {V E : Type 0} {P : V → Type 0} (items : V → List Claim) (count : ℕ) (made : Result V E) → ((v : V) → P v) →
+    IfOk made (λ v. P v → items v ≡ replicate count Unclaimed) → IfOk made (λ v. (number : ℕ) → claim_at (items v) number ≡ Unclaimed)
 none_claimed items count (Ok v) p is = λ number. ap (λ claims. claim_at claims number) (is (p v)) ∙ all_unclaimed count number
 none_claimed items count (Err e) p is = tt

@@ -32,12 +32,14 @@ none_more breaks entries n x within is sound before k d below broken =
 abbrev pub FoundBelow : {A : Type 0} → (List A → A → Type 0) → List A → ℕ → Option ℕ → Type 0
 FoundBelow breaks entries n found = MatchOption found (NoneBelow breaks entries n) (IsFirst breaks entries)
 
-pub found_more : {A : Type 0} (breaks : List A → A → Type 0) (entries : List A) (n : ℕ) (x : A) (found : Option ℕ) (counts : Bool) → n < length entries → x ≡ get_or entries n x →
+pub found_more : {A : Type 0} (breaks : List A → A → Type 0) (entries : List A) (n : ℕ) (x : A) (found : Option ℕ) (counts : Bool) → n < length entries →
+    x ≡ get_or entries n x →
     (IsTrue counts ↔ breaks (take n entries) x) → FoundBelow breaks entries n found → FoundBelow breaks entries (n + 1) (first_of found n counts)
 found_more breaks entries n x (Some k) counts within is test first = first
 found_more breaks entries n x None true within is test none = first_found breaks entries n x within is (test.0 refl) none
 found_more breaks entries n x None false within is test none = none_more breaks entries n x within is (λ broken. false≢true (test.1 broken)) none
 
-pub found_all : {A : Type 0} (breaks : List A → A → Type 0) (entries : List A) (n : ℕ) (found : Option ℕ) → length entries ≤ n → FoundBelow breaks entries n found → FirstIs breaks entries found
+pub found_all : {A : Type 0} (breaks : List A → A → Type 0) (entries : List A) (n : ℕ) (found : Option ℕ) → length entries ≤ n →
+    FoundBelow breaks entries n found → FirstIs breaks entries found
 found_all breaks entries n (Some k) past first = first
 found_all breaks entries n None past none = λ k d within. none k d (omega arith)

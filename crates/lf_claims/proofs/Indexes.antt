@@ -30,7 +30,8 @@ label_of b = record { label = b.fence; name = b.pattern }
 labelled_last : (literals : List Labelled) (b : Bound) (name : List ℕ) (n : ℕ) → b.fence ≡ n → name ≡ b.pattern → Labels (literals ++ label_of b ∷ []) name n
 labelled_last literals b name n fence same = rw (← fence, same) (Contains-push literals (label_of b))
 
-claimed_last : (bounds : List Bound) (b : Bound) (name : List ℕ) (n : ℕ) → Matches b.pattern b.pattern → label_of b ≡ record { label = n; name = name } → ClaimsBy (bounds ++ b ∷ []) name n
+claimed_last : (bounds : List Bound) (b : Bound) (name : List ℕ) (n : ℕ) → Matches b.pattern b.pattern → label_of b ≡ record { label = n; name = name } →
+    ClaimsBy (bounds ++ b ∷ []) name n
 claimed_last bounds b name n own is =
     let fence : b.fence ≡ n = ap (λ (l : Labelled). l.label) is in
     let same : b.pattern ≡ name = ap (λ (l : Labelled). l.name) is in
@@ -66,7 +67,8 @@ extends_literal old new b own kept starred bounds h = record {
         (IsPermutation-sym (old.literals ++ label_of b ∷ []) new.literals kept) there
 
 -- a pattern that is tried
-pub extends_starred : (old new : PatternIndex) (b : Bound) → new.literals ≡ old.literals → ((starred : List Bound) → HasStarred old.starred starred → HasStarred new.starred (starred ++ b ∷ [])) → Extends old new (b ∷ [])
+pub extends_starred : (old new : PatternIndex) (b : Bound) → new.literals ≡ old.literals →
+    ((starred : List Bound) → HasStarred old.starred starred → HasStarred new.starred (starred ++ b ∷ [])) → Extends old new (b ∷ [])
 extends_starred old new b literals tried bounds h = record {
   starred = h.starred ++ b ∷ [];
   tried = tried h.starred h.tried;

@@ -50,7 +50,8 @@ stays xs y q n e = by (place (bytes_eq q) xs)
         position_at (bytes_eq q) (xs ++ y ∷ []) n (push ∙ at) (omega (arith, length_push xs y))
     by (missing is at) = cc
 
-at_end : (xs : List (List ℕ)) (y q : List ℕ) (t : Bool) → position_of xs q ≡ None → bytes_eq q y ≡ t → position_or_len (bytes_eq q) (xs ++ y ∷ []) ≡ length xs + cond t 0 1
+at_end : (xs : List (List ℕ)) (y q : List ℕ) (t : Bool) → position_of xs q ≡ None → bytes_eq q y ≡ t →
+    position_or_len (bytes_eq q) (xs ++ y ∷ []) ≡ length xs + cond t 0 1
 at_end xs y q t e same = by (place (bytes_eq q) xs)
   where
     by : Place (bytes_eq q) xs → position_or_len (bytes_eq q) (xs ++ y ∷ []) ≡ length xs + cond t 0 1
@@ -99,13 +100,16 @@ get_set_other (x ∷ vs) (suc n) (suc m) v apart = get_set_other vs n m v (λ e.
 abbrev pub value_at : {V : Type 0} → List (List ℕ) → List V → List ℕ → Option V
 value_at names vs q = option_and_then (slice_get vs) (position_of names q)
 
-value_by : {V : Type 0} (names : List (List ℕ)) (vs : List V) (q : List ℕ) (at : Option ℕ) → position_of names q ≡ at → value_at names vs q ≡ option_and_then (slice_get vs) at
+value_by : {V : Type 0} (names : List (List ℕ)) (vs : List V) (q : List ℕ) (at : Option ℕ) → position_of names q ≡ at →
+    value_at names vs q ≡ option_and_then (slice_get vs) at
 value_by names vs q at e = ap (option_and_then (slice_get vs)) e
 
-pub new_there : {V : Type 0} (names : List (List ℕ)) (vs : List V) (q : List ℕ) (v : V) → length names ≡ length vs → position_of names q ≡ None → value_at (names ++ q ∷ []) (vs ++ v ∷ []) q ≡ Some v
+pub new_there : {V : Type 0} (names : List (List ℕ)) (vs : List V) (q : List ℕ) (v : V) → length names ≡ length vs → position_of names q ≡ None →
+    value_at (names ++ q ∷ []) (vs ++ v ∷ []) q ≡ Some v
 new_there names vs q v whole e = value_by (names ++ q ∷ []) (vs ++ v ∷ []) q (Some (length names)) (goes_last names q e) ∙ ap (slice_get (vs ++ v ∷ [])) whole ∙ get_last vs v
 
-pub new_others : {V : Type 0} (names : List (List ℕ)) (vs : List V) (y : List ℕ) (v : V) → length names ≡ length vs → (q : List ℕ) → q ≢ y → value_at (names ++ y ∷ []) (vs ++ v ∷ []) q ≡ value_at names vs q
+pub new_others : {V : Type 0} (names : List (List ℕ)) (vs : List V) (y : List ℕ) (v : V) → length names ≡ length vs → (q : List ℕ) → q ≢ y →
+    value_at (names ++ y ∷ []) (vs ++ v ∷ []) q ≡ value_at names vs q
 new_others names vs y v whole q apart = by (position_of names q) refl
   where
     by : (at : Option ℕ) → position_of names q ≡ at → value_at (names ++ y ∷ []) (vs ++ v ∷ []) q ≡ value_at names vs q
@@ -114,12 +118,14 @@ new_others names vs y v whole q apart = by (position_of names q) refl
         let within : n < length names = slice_get_within names n q (stands_there names q n e) in
         value_by (names ++ y ∷ []) (vs ++ v ∷ []) q (Some n) (stays names y q n e) ∙ get_push vs v n (omega arith) ∙ sym (value_by names vs q (Some n) e)
 
-pub old_there : {V : Type 0} (names : List (List ℕ)) (vs : List V) (q : List ℕ) (n : ℕ) (v : V) → length names ≡ length vs → position_of names q ≡ Some n → value_at names (set vs n v) q ≡ Some v
+pub old_there : {V : Type 0} (names : List (List ℕ)) (vs : List V) (q : List ℕ) (n : ℕ) (v : V) → length names ≡ length vs → position_of names q ≡ Some n →
+    value_at names (set vs n v) q ≡ Some v
 old_there names vs q n v whole e =
     let within : n < length names = slice_get_within names n q (stands_there names q n e) in
     value_by names (set vs n v) q (Some n) e ∙ get_set vs n v (omega arith)
 
-pub old_others : {V : Type 0} (names : List (List ℕ)) (vs : List V) (y : List ℕ) (n : ℕ) (v : V) → position_of names y ≡ Some n → (q : List ℕ) → q ≢ y → value_at names (set vs n v) q ≡ value_at names vs q
+pub old_others : {V : Type 0} (names : List (List ℕ)) (vs : List V) (y : List ℕ) (n : ℕ) (v : V) → position_of names y ≡ Some n → (q : List ℕ) → q ≢ y →
+    value_at names (set vs n v) q ≡ value_at names vs q
 old_others names vs y n v at_y q apart = by (position_of names q) refl
   where
     by : (at : Option ℕ) → position_of names q ≡ at → value_at names (set vs n v) q ≡ value_at names vs q
@@ -153,7 +159,8 @@ unmoved names y q known = by (position_of names q) refl
 pub numbers_put : (old new : NameMap ℕ) (number : ℕ) (name : List ℕ) → value_of old name ≡ None → Puts old new name number → NumbersOneMore old new number name
 numbers_put old new number name absent puts = record { whole = puts.whole; numbers = λ names many numbered q. by names many numbered q (bytes_eq q name) refl }
   where
-    by : (names : List (List ℕ)) → number ≡ length names → Numbers names old → (q : List ℕ) (t : Bool) → bytes_eq q name ≡ t → value_of new q ≡ position_of (names ++ name ∷ []) q
+    by : (names : List (List ℕ)) → number ≡ length names → Numbers names old → (q : List ℕ) (t : Bool) → bytes_eq q name ≡ t →
+        value_of new q ≡ position_of (names ++ name ∷ []) q
     by names many numbered q true e =
         let same : q ≡ name = (bytes_eq-Decides q name).0 e in
         let nowhere : position_of names name ≡ None = sym (numbered name) ∙ absent in

@@ -8,7 +8,8 @@ use Rattle.lf_claims.specs.Entries.{NoneBreaks}
 use Rattle.lf_claims.specs.Refusals.{BearsEarlierName}
 use Rattle.lf_claims.specs.Tables.{component_names as names_of}
 
-pub name_at : (components : List Component) (k : ℕ) (d : Component) (e : List ℕ) → k < length components → get_or (names_of components) k e ≡ (get_or components k d).name
+pub name_at : (components : List Component) (k : ℕ) (d : Component) (e : List ℕ) → k < length components →
+    get_or (names_of components) k e ≡ (get_or components k d).name
 name_at components k d e within = grind (arith, common_steps)
 
 pub many_names : (components : List Component) → length (names_of components) ≡ length components
@@ -24,11 +25,13 @@ known_borne components d name (k, within, is) =
     let inside : k < length components = omega (arith, many_names components) in
     (k, get_or components k d, inside, grind (arith, common_steps), sym (name_at components k d name inside) ∙ is)
 
-pub names_more : (components : List Component) (n : ℕ) (c : Component) → n < length components → c ≡ get_or components n c → names_of (take n components) ++ c.name ∷ [] ≡ names_of (take (n + 1) components)
+pub names_more : (components : List Component) (n : ℕ) (c : Component) → n < length components → c ≡ get_or components n c →
+    names_of (take n components) ++ c.name ∷ [] ≡ names_of (take (n + 1) components)
 names_more components n c within is = grind (arith, common_steps)
 
 -- where no component bears an earlier one's name, all names differ
-pub names_apart : (components : List Component) (d : Component) → NoneBreaks BearsEarlierName components → AllPairs (λ name later. name ≢ later) (names_of components)
+pub names_apart : (components : List Component) (d : Component) → NoneBreaks BearsEarlierName components →
+    AllPairs (λ name later. name ≢ later) (names_of components)
 names_apart components d none i j e below within same =
     let behind : j < length components = omega (arith, many_names components) in
     let early : i < length (take j components) = grind (arith, common_steps) in

@@ -18,7 +18,8 @@ fence_borne regions n h = any_of_kept is_fence (λ r. r.name ≡ n) regions (any
 pub take_one_more : {A : Type 0} (xs : List A) (n : ℕ) (x : A) → n < length xs → x ≡ get_or xs n x → take (n + 1) xs ≡ take n xs ++ x ∷ []
 take_one_more xs n x within is = grind (arith, common_steps)
 
-pub fence_names_more : (regions : List Region) (n : ℕ) (r : Region) → n < length regions → r ≡ get_or regions n r → fence_names (take n regions) ++ fence_names (r ∷ []) ≡ fence_names (take (n + 1) regions)
+pub fence_names_more : (regions : List Region) (n : ℕ) (r : Region) → n < length regions → r ≡ get_or regions n r →
+    fence_names (take n regions) ++ fence_names (r ∷ []) ≡ fence_names (take (n + 1) regions)
 fence_names_more regions n r within is =
     sym (
     ap fence_names (take_one_more regions n r within is) ∙ ap (map (λ q. q.name)) (filter-append is_fence (take n regions) (r ∷ []))
@@ -26,12 +27,14 @@ fence_names_more regions n r within is =
     )
 
 -- the names of the fences among one region more
-pub fence_next : (regions : List Region) (n : ℕ) (r : Region) → n < length regions → r ≡ get_or regions n r → is_fence r ≡ true → fence_names (take (n + 1) regions) ≡ fence_names (take n regions) ++ r.name ∷ []
+pub fence_next : (regions : List Region) (n : ℕ) (r : Region) → n < length regions → r ≡ get_or regions n r → is_fence r ≡ true →
+    fence_names (take (n + 1) regions) ≡ fence_names (take n regions) ++ r.name ∷ []
 fence_next regions n r within is fence =
     let one : fence_names (r ∷ []) ≡ r.name ∷ [] = ap (λ t. map (λ q. q.name) (cond t (r ∷ []) [])) fence in
     sym (fence_names_more regions n r within is) ∙ ap (λ l. fence_names (take n regions) ++ l) one
 
-pub fence_same : (regions : List Region) (n : ℕ) (r : Region) → n < length regions → r ≡ get_or regions n r → is_fence r ≡ false → fence_names (take (n + 1) regions) ≡ fence_names (take n regions)
+pub fence_same : (regions : List Region) (n : ℕ) (r : Region) → n < length regions → r ≡ get_or regions n r → is_fence r ≡ false →
+    fence_names (take (n + 1) regions) ≡ fence_names (take n regions)
 fence_same regions n r within is none =
     let nothing : fence_names (r ∷ []) ≡ [] = ap (λ t. map (λ q. q.name) (cond t (r ∷ []) [])) none in
     sym (fence_names_more regions n r within is) ∙ ap (λ l. fence_names (take n regions) ++ l) nothing ∙ append-nil (fence_names (take n regions))

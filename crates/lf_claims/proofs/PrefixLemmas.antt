@@ -45,7 +45,8 @@ no_pattern_no_length starred bounds none h = by starred.lengths.items h.needed
     by (n ∷ lengths) needed = absurd (none_of_nothing (λ b. length (prefix_of b.pattern) ≡ n) (rw none at (needed n (0, omega arith, refl))))
 
 -- a pattern behind those of a prefix that is new
-pub keeps_new : (old new : StarredPatterns) (prefix : List ℕ) (b : Bound) (own : Vec Bound Global) → length old.prefixes ≡ length old.bounds.items → position_of old.prefixes prefix ≡ None → own.items ≡ b ∷ [] →
+pub keeps_new : (old new : StarredPatterns) (prefix : List ℕ) (b : Bound) (own : Vec Bound Global) → length old.prefixes ≡ length old.bounds.items →
+    position_of old.prefixes prefix ≡ None → own.items ≡ b ∷ [] →
     new.prefixes ≡ old.prefixes ++ prefix ∷ [] → new.bounds.items ≡ old.bounds.items ++ own ∷ [] → new.lengths ≡ old.lengths → Keeps old new prefix b
 keeps_new old new prefix b own whole absent alone prefixes bounds lengths = record {
   whole = rw (prefixes, bounds) (omega (arith, length_push old.prefixes prefix, length_push old.bounds.items own));
@@ -61,7 +62,8 @@ keeps_new old new prefix b own whole absent alone prefixes bounds lengths = reco
     by_place at = option_and_then (slice_get old.bounds.items) at
 
 -- a pattern behind those of a prefix that was there
-pub keeps_old : (old new : StarredPatterns) (prefix : List ℕ) (b : Bound) (place : ℕ) (before after : Vec Bound Global) → length old.prefixes ≡ length old.bounds.items → position_of old.prefixes prefix ≡ Some place → slice_get old.bounds.items place ≡ Some before →
+pub keeps_old : (old new : StarredPatterns) (prefix : List ℕ) (b : Bound) (place : ℕ) (before after : Vec Bound Global) →
+    length old.prefixes ≡ length old.bounds.items → position_of old.prefixes prefix ≡ Some place → slice_get old.bounds.items place ≡ Some before →
     after.items ≡ before.items ++ b ∷ [] → new.prefixes ≡ old.prefixes → new.bounds.items ≡ set old.bounds.items place after → new.lengths ≡ old.lengths → Keeps old new prefix b
 keeps_old old new prefix b place before after whole known there more prefixes bounds lengths = record {
   whole = rw (prefixes, bounds) (omega (arith, length-set old.bounds.items place after));
@@ -74,7 +76,8 @@ keeps_old old new prefix b place before after whole known there more prefixes bo
 }
 
 -- each prefix that is there has patterns of its own
-pub bounds_stand : (starred : StarredPatterns) (prefix : List ℕ) (place : ℕ) → length starred.prefixes ≡ length starred.bounds.items → position_of starred.prefixes prefix ≡ Some place → (before : Vec Bound Global) × (slice_get starred.bounds.items place ≡ Some before)
+pub bounds_stand : (starred : StarredPatterns) (prefix : List ℕ) (place : ℕ) → length starred.prefixes ≡ length starred.bounds.items →
+    position_of starred.prefixes prefix ≡ Some place → (before : Vec Bound Global) × (slice_get starred.bounds.items place ≡ Some before)
 bounds_stand starred prefix place whole known =
     let within : place < length starred.prefixes = slice_get_within starred.prefixes place prefix (stands_there starred.prefixes prefix place known) in
     at starred.bounds.items place (omega arith)
@@ -97,7 +100,8 @@ module _ (old new : StarredPatterns) (b : Bound) (keeps : Keeps old new (prefix_
       by false e =
           rw (keeps.others q (λ same. false≢true (sym e ∙ (bytes_eq-Decides q (prefix_of b.pattern)).1 same))) h
 
-  claims_so : (q name : List ℕ) (fence : ℕ) → ClaimsBy (kept_under new q) name fence → ClaimsBy (kept_under old q) name fence ⊎ ((b.fence ≡ fence) × Matches b.pattern name)
+  claims_so : (q name : List ℕ) (fence : ℕ) → ClaimsBy (kept_under new q) name fence →
+      ClaimsBy (kept_under old q) name fence ⊎ ((b.fence ≡ fence) × Matches b.pattern name)
   claims_so q name fence h = by (bytes_eq q (prefix_of b.pattern)) refl
     where
       by : (t : Bool) → bytes_eq q (prefix_of b.pattern) ≡ t → ClaimsBy (kept_under old q) name fence ⊎ ((b.fence ≡ fence) × Matches b.pattern name)
@@ -117,7 +121,8 @@ module _ (old new : StarredPatterns) (b : Bound) (keeps : Keeps old new (prefix_
       let kept : kept_under new (take (length (prefix_of b.pattern)) name) ≡ kept_under old (prefix_of b.pattern) ++ b ∷ [] = ap (kept_under new) first ∙ keeps.there in
       (omega arith, rw kept (claims_new (kept_under old (prefix_of b.pattern)) b name h))
 
-  pub has_one_more : (lengths : Vec ℕ Global) → ((n : ℕ) → Contains lengths.items n ↔ (Contains new.lengths.items n ⊎ (n ≡ length (prefix_of b.pattern)))) → (bounds : List Bound) → HasStarred old bounds → HasStarred (record { prefixes = new.prefixes; bounds = new.bounds; lengths = lengths }) (bounds ++ b ∷ [])
+  pub has_one_more : (lengths : Vec ℕ Global) → ((n : ℕ) → Contains lengths.items n ↔ (Contains new.lengths.items n ⊎ (n ≡ length (prefix_of b.pattern)))) →
+      (bounds : List Bound) → HasStarred old bounds → HasStarred (record { prefixes = new.prefixes; bounds = new.bounds; lengths = lengths }) (bounds ++ b ∷ [])
   has_one_more lengths added bounds h = record {
     whole = keeps.whole;
     found = λ name fence claims. elim (claims_parts bounds b name fence claims) [
@@ -139,7 +144,8 @@ module _ (old new : StarredPatterns) (b : Bound) (keeps : Keeps old new (prefix_
       grown n = rw keeps.lengths at (added n)
 
 -- the claim with what the patterns of one length more claim
-pub tells_length_more : (starred : StarredPatterns) (name : List ℕ) (lengths : List ℕ) (count : ℕ) (claim more : Claim) → Tells (λ fence. Any (λ n. ClaimsUnder starred name n fence) lengths) claim → Tells (ClaimsUnder starred name count) more →
+pub tells_length_more : (starred : StarredPatterns) (name : List ℕ) (lengths : List ℕ) (count : ℕ) (claim more : Claim) →
+    Tells (λ fence. Any (λ n. ClaimsUnder starred name n fence) lengths) claim → Tells (ClaimsUnder starred name count) more →
     Tells (λ fence. Any (λ n. ClaimsUnder starred name n fence) (lengths ++ count ∷ [])) (merged claim more)
 tells_length_more starred name lengths count claim more h g =
     tells_same (λ fence. Any (λ n. ClaimsUnder starred name n fence) lengths ⊎ ClaimsUnder starred name count fence) (λ fence. Any (λ n. ClaimsUnder starred name n fence) (lengths ++ count ∷ [])) (merged claim more)
@@ -154,12 +160,15 @@ tells_length_more starred name lengths count claim more h g =
     (tells_merged (λ fence. Any (λ n. ClaimsUnder starred name n fence) lengths) (ClaimsUnder starred name count) claim more h g)
 
 -- what the patterns of all lengths claim, all patterns do
-pub tells_all : (starred : StarredPatterns) (name : List ℕ) (claim : Claim) → Tells (λ fence. Any (λ n. ClaimsUnder starred name n fence) starred.lengths.items) claim → (bounds : List Bound) → HasStarred starred bounds → Tells (ClaimsBy bounds name) claim
+pub tells_all : (starred : StarredPatterns) (name : List ℕ) (claim : Claim) →
+    Tells (λ fence. Any (λ n. ClaimsUnder starred name n fence) starred.lengths.items) claim → (bounds : List Bound) → HasStarred starred bounds →
+    Tells (ClaimsBy bounds name) claim
 tells_all starred name claim told bounds h =
     tells_same (λ fence. Any (λ n. ClaimsUnder starred name n fence) starred.lengths.items) (ClaimsBy bounds name) claim
     (λ fence a. h.own (take a.1 name) name fence a.4.1) (λ fence. h.found name fence) told
 
-pub tells_next_length : (starred : StarredPatterns) (name read : List ℕ) (index : ℕ) (claim more : Claim) → read ≡ starred.lengths.items → index < length read → Tells (λ fence. Any (λ n. ClaimsUnder starred name n fence) (take index starred.lengths.items)) claim →
+pub tells_next_length : (starred : StarredPatterns) (name read : List ℕ) (index : ℕ) (claim more : Claim) → read ≡ starred.lengths.items → index < length read →
+    Tells (λ fence. Any (λ n. ClaimsUnder starred name n fence) (take index starred.lengths.items)) claim →
     Tells (ClaimsUnder starred name (get_or read index 0)) more → Tells (λ fence. Any (λ n. ClaimsUnder starred name n fence) (take (index + 1) starred.lengths.items)) (merged claim more)
 tells_next_length starred name read index claim more same within h g =
     let lengths : List ℕ = starred.lengths.items in
@@ -169,7 +178,8 @@ tells_next_length starred name read index claim more same within h g =
     rw (← one) (tells_length_more starred name (take index lengths) count claim more h (rw same at g))
 
 -- the patterns of a prefix that is the name's first bytes
-pub tells_under : (starred : StarredPatterns) (name prefix : List ℕ) (count : ℕ) (claim : Claim) → count ≤ length name → prefix ≡ slice_range name 0 count → Tells (ClaimsBy (kept_under starred prefix) name) claim → Tells (ClaimsUnder starred name count) claim
+pub tells_under : (starred : StarredPatterns) (name prefix : List ℕ) (count : ℕ) (claim : Claim) → count ≤ length name → prefix ≡ slice_range name 0 count →
+    Tells (ClaimsBy (kept_under starred prefix) name) claim → Tells (ClaimsUnder starred name count) claim
 tells_under starred name prefix count claim within cut h =
     let is : prefix ≡ take count name = cut ∙ ap (λ n. take n name) (all_of count) in
     tells_same (ClaimsBy (kept_under starred (take count name)) name) (ClaimsUnder starred name count) claim (λ fence one. (within, one)) (λ fence one. one.1) (rw is at h)

@@ -11,7 +11,8 @@ use Rattle.lf_claims.specs.Claims.{joined, merged, Tells, ClaimsBy, StepsTo}
 use Rattle.lf_units.proofs.Any.{any_first, any_parts, any_left, any_right, any_one}
 
 -- a set of fences and one fence more
-pub tells_joined : (S T : ℕ → Type 0) (claim : Claim) (n : ℕ) → ((m : ℕ) → S m → T m) → T n → ((m : ℕ) → T m → S m ⊎ (m ≡ n)) → Tells S claim → Tells T (joined claim n)
+pub tells_joined : (S T : ℕ → Type 0) (claim : Claim) (n : ℕ) → ((m : ℕ) → S m → T m) → T n → ((m : ℕ) → T m → S m ⊎ (m ≡ n)) → Tells S claim →
+    Tells T (joined claim n)
 tells_joined S T Unclaimed n old new cases none = (new, λ m h. elim (cases m h) [ inl s ↦ absurd (none m s) | inr e ↦ e ])
 tells_joined S T (ByOne one) n old new cases h = by (eqb one n) refl
   where
@@ -34,7 +35,8 @@ tells_merged S T claim (ByOne one) h g = tells_joined S (λ m. S m ⊎ T m) clai
 tells_merged S T claim ByTwo h (a, b, differ, in_a, in_b) = (a, b, differ, inr in_a, inr in_b)
 
 -- bound patterns and one pattern more
-pub claims_parts : (bounds : List Bound) (b : Bound) (name : List ℕ) (n : ℕ) → ClaimsBy (bounds ++ b ∷ []) name n → ClaimsBy bounds name n ⊎ ((b.fence ≡ n) × Matches b.pattern name)
+pub claims_parts : (bounds : List Bound) (b : Bound) (name : List ℕ) (n : ℕ) → ClaimsBy (bounds ++ b ∷ []) name n →
+    ClaimsBy bounds name n ⊎ ((b.fence ≡ n) × Matches b.pattern name)
 claims_parts bounds b name n h = elim (any_parts (λ c. (c.fence ≡ n) × Matches c.pattern name) bounds (b ∷ []) h) [
   | inl early ↦ inl early
   | inr late ↦ inr (any_one (λ c. (c.fence ≡ n) × Matches c.pattern name) b late)
@@ -47,17 +49,20 @@ pub claims_new : (bounds : List Bound) (b : Bound) (name : List ℕ) → Matches
 claims_new bounds b name h =
     any_right (λ c. (c.fence ≡ b.fence) × Matches c.pattern name) bounds (b ∷ []) (any_first (λ c. (c.fence ≡ b.fence) × Matches c.pattern name) b [] (refl, h))
 
-pub tells_one_more : (bounds : List Bound) (b : Bound) (name : List ℕ) (claim : Claim) → Matches b.pattern name → Tells (ClaimsBy bounds name) claim → Tells (ClaimsBy (bounds ++ b ∷ []) name) (joined claim b.fence)
+pub tells_one_more : (bounds : List Bound) (b : Bound) (name : List ℕ) (claim : Claim) → Matches b.pattern name → Tells (ClaimsBy bounds name) claim →
+    Tells (ClaimsBy (bounds ++ b ∷ []) name) (joined claim b.fence)
 tells_one_more bounds b name claim stands h =
     tells_joined (ClaimsBy bounds name) (ClaimsBy (bounds ++ b ∷ []) name) claim b.fence (λ m. claims_old bounds b name m) (claims_new bounds b name stands)
     (λ m c. elim (claims_parts bounds b name m c) [ inl early ↦ inl early | inr own ↦ inr (sym own.0) ]) h
 
-pub tells_no_more : (bounds : List Bound) (b : Bound) (name : List ℕ) (claim : Claim) → (Matches b.pattern name → ⊥) → Tells (ClaimsBy bounds name) claim → Tells (ClaimsBy (bounds ++ b ∷ []) name) claim
+pub tells_no_more : (bounds : List Bound) (b : Bound) (name : List ℕ) (claim : Claim) → (Matches b.pattern name → ⊥) → Tells (ClaimsBy bounds name) claim →
+    Tells (ClaimsBy (bounds ++ b ∷ []) name) claim
 tells_no_more bounds b name claim apart h =
     tells_same (ClaimsBy bounds name) (ClaimsBy (bounds ++ b ∷ []) name) claim (λ m. claims_old bounds b name m)
     (λ m c. elim (claims_parts bounds b name m c) [ inl early ↦ early | inr own ↦ absurd (apart own.1) ]) h
 
-pub tells_step : (bounds : List Bound) (b : Bound) (name : List ℕ) (claim after : Claim) → StepsTo b name claim after → Tells (ClaimsBy bounds name) claim → Tells (ClaimsBy (bounds ++ b ∷ []) name) after
+pub tells_step : (bounds : List Bound) (b : Bound) (name : List ℕ) (claim after : Claim) → StepsTo b name claim after → Tells (ClaimsBy bounds name) claim →
+    Tells (ClaimsBy (bounds ++ b ∷ []) name) after
 tells_step bounds b name claim after (inl (stands, is)) h = rw is (tells_one_more bounds b name claim stands h)
 tells_step bounds b name claim after (inr (apart, is)) h = rw is (tells_no_more bounds b name claim apart h)
 

@@ -5,3 +5,4 @@ pub mod Rows
 pub mod Moves
 pub mod Ends
 pub mod Sending
+pub mod FirstIllegal

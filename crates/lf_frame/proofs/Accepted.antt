@@ -102,7 +102,8 @@ sized_macro units (Some m) some few range has whole =
     }
 
 -- the macro of a component other than COVER has a size that is whole in database units
-pub macros_sized : (i : Inputs) → AreInRange i → IsAccepted i → All (λ c. is_cover c ≡ false → IfSome (macro_named i.library c.mac) (IsSizedIn (units_in i))) i.document.components
+pub macros_sized : (i : Inputs) → AreInRange i → IsAccepted i →
+    All (λ c. is_cover c ≡ false → IfSome (macro_named i.library c.mac) (IsSizedIn (units_in i))) i.document.components
 macros_sized i range a k d within uncovered =
     let c : Component = get_or i.document.components k d in
     let has = none_of_name {breaks = HasNoSize i.library} (a NoSize) k d within in
@@ -115,11 +116,13 @@ macros_sized i range a k d within uncovered =
 fixed_uncovered : (c : Component) → is_fixed c ≡ true → is_cover c ≡ false
 fixed_uncovered c = by c.placement
   where
-    by : (p : Option Placement) → Rattle.lf_claims.specs.Teams.says Rattle.lf_claims.specs.Teams.is_fixed_kind p ≡ true → Rattle.lf_claims.specs.Teams.says Rattle.lf_claims.specs.Teams.is_cover_kind p ≡ false
+    by : (p : Option Placement) → Rattle.lf_claims.specs.Teams.says Rattle.lf_claims.specs.Teams.is_fixed_kind p ≡ true →
+        Rattle.lf_claims.specs.Teams.says Rattle.lf_claims.specs.Teams.is_cover_kind p ≡ false
     by None e = absurd (false≢true e)
     by (Some p) e = kind p.kind e
       where
-        kind : (k : Rattle.lf_def.specs.declared.components.PlacementKind.PlacementKind) → Rattle.lf_claims.specs.Teams.is_fixed_kind k ≡ true → Rattle.lf_claims.specs.Teams.is_cover_kind k ≡ false
+        kind : (k : Rattle.lf_def.specs.declared.components.PlacementKind.PlacementKind) → Rattle.lf_claims.specs.Teams.is_fixed_kind k ≡ true →
+            Rattle.lf_claims.specs.Teams.is_cover_kind k ≡ false
         kind Fixed e = refl
         kind Cover e = absurd (false≢true e)
         kind Placed e = refl

@@ -54,7 +54,8 @@ turn_carries : (first first' second second' : Finding) → Carries first first' 
 turn_carries first first' second second' one two found (inl h) = inl (one None h.0, two found h.1)
 turn_carries first first' second second' one two found (inr h) = inr (h.0, one found h.1)
 
-pitch_same : (i : Inputs) (xs ys : List Component) (finds : Site → Point → Finding) → Carries (OfPitch (with_components i xs) finds) (OfPitch (with_components i ys) finds)
+pitch_same : (i : Inputs) (xs ys : List Component) (finds : Site → Point → Finding) →
+    Carries (OfPitch (with_components i xs) finds) (OfPitch (with_components i ys) finds)
 pitch_same i xs ys finds found = by (core_in i)
   where
     of : List Component → Site → Type 0
@@ -64,15 +65,18 @@ pitch_same i xs ys finds found = by (core_in i)
     by None h = h
     by (Some core) h = record { whole = h.whole; part = h.part }
 
-core_units_same : (i : Inputs) (xs ys : List Component) → Carries (OfCore (with_components i xs) (CoreHasPartUnits (with_components i xs))) (OfCore (with_components i ys) (CoreHasPartUnits (with_components i ys)))
+core_units_same : (i : Inputs) (xs ys : List Component) →
+    Carries (OfCore (with_components i xs) (CoreHasPartUnits (with_components i xs))) (OfCore (with_components i ys) (CoreHasPartUnits (with_components i ys)))
 core_units_same i xs ys found = by (core_in i)
   where
-    by : (core : Option Site) → MatchOption core (found ≡ None) (λ s. CoreHasPartUnits (with_components i xs) s found) → MatchOption core (found ≡ None) (λ s. CoreHasPartUnits (with_components i ys) s found)
+    by : (core : Option Site) → MatchOption core (found ≡ None) (λ s. CoreHasPartUnits (with_components i xs) s found) →
+        MatchOption core (found ≡ None) (λ s. CoreHasPartUnits (with_components i ys) s found)
     by None h = h
     by (Some core) h = record { whole = h.whole; part = h.part }
 
 -- what a refusal finds does not turn on where components stand in the text
-finds_same : (i : Inputs) (xs ys : List Component) → SameAll xs ys → (n : FaultNumber) → Carries (Finds (with_components i xs) n) (Finds (with_components i ys) n)
+finds_same : (i : Inputs) (xs ys : List Component) → SameAll xs ys → (n : FaultNumber) →
+    Carries (Finds (with_components i xs) n) (Finds (with_components i ys) n)
 finds_same i xs ys same NoUnits = λ found h. h
 finds_same i xs ys same NoSite = λ found h. h
 finds_same i xs ys same NoRows = λ found h. h
@@ -132,7 +136,8 @@ box_without library units c = by c.placement
     by None = refl
     by (Some p) = refl
 
-boxes_without : (library : Contents) (units : ℕ) (cs : List Component) → filter_map (fixed_box library units) (map without_places cs) ≡ filter_map (fixed_box library units) cs
+boxes_without : (library : Contents) (units : ℕ) (cs : List Component) →
+    filter_map (fixed_box library units) (map without_places cs) ≡ filter_map (fixed_box library units) cs
 boxes_without library units [] = refl
 boxes_without library units (c ∷ cs) = rw (box_without library units c, boxes_without library units cs)
 
@@ -153,7 +158,8 @@ frame_same i xs ys same f is = record {
   limits = is.limits;
 }
 
-cell_same : (i : Inputs) (xs ys : List Component) (k : ℕ) (a b : Component) (c : Cell) → Same a b → IsCellOf (with_components i xs) (k, a) c → IsCellOf (with_components i ys) (k, b) c
+cell_same : (i : Inputs) (xs ys : List Component) (k : ℕ) (a b : Component) (c : Cell) → Same a b → IsCellOf (with_components i xs) (k, a) c →
+    IsCellOf (with_components i ys) (k, b) c
 cell_same i xs ys k a b c same is = record {
   name = is.name ∙ name_same a b same;
   team = subst (λ name. IsTeamOf i.document.regions i.document.groups name c.team) (name_same a b same) is.team;
@@ -183,7 +189,8 @@ cells_same P Q made k (a ∷ xs) (b ∷ ys) same cells zip =
     by true is alike one (c ∷ cs) zip rest = let pair = rw is at zip in rw (alike, is) (made k a b c one pair.0, rest cs pair.1)
     by false is alike one cells zip rest = rw (alike, is) (rest cells (rw is at zip))
 
-loaded_same : (i : Inputs) (xs ys : List Component) → SameAll xs ys → (l : Loaded) → IsLoadedFrom (with_components i xs) l → IsLoadedFrom (with_components i ys) l
+loaded_same : (i : Inputs) (xs ys : List Component) → SameAll xs ys → (l : Loaded) → IsLoadedFrom (with_components i xs) l →
+    IsLoadedFrom (with_components i ys) l
 loaded_same i xs ys same l h = record {
   accepted = λ n. finds_same i xs ys same n None (h.accepted n);
   frame = frame_same i xs ys same l.frame h.frame;

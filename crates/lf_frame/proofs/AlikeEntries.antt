@@ -70,7 +70,8 @@ entry_same xs ys k d same within =
     sym (get_or-map without_places xs k d d there) ∙ ap (λ l. get_or l k d) same ∙ get_or-map without_places ys k d d within
 
 -- the names that components bear, in which their positions play no part
-names_same : (name_of : Component → List ℕ) → ((c : Component) → name_of (without_places c) ≡ name_of c) → (xs ys : List Component) → SameAll xs ys → map name_of xs ≡ map name_of ys
+names_same : (name_of : Component → List ℕ) → ((c : Component) → name_of (without_places c) ≡ name_of c) → (xs ys : List Component) → SameAll xs ys →
+    map name_of xs ≡ map name_of ys
 names_same name_of without xs ys same = of_map xs ∙ ap (map name_of) same ∙ sym (of_map ys)
   where
     of_map : (cs : List Component) → map name_of cs ≡ map name_of (map without_places cs)
@@ -81,12 +82,13 @@ names_same name_of without xs ys same = of_map xs ∙ ap (map name_of) same ∙ 
 abbrev pub Respects : (List Component → Component → Type 0) → Type 0
 Respects breaks = (xs ys : List Component) (a b : Component) → SameAll xs ys → Same a b → breaks xs a → breaks ys b
 
-broken_same : (breaks : List Component → Component → Type 0) → Respects breaks → (xs ys : List Component) → SameAll xs ys → (k : ℕ) (d : Component) → k < length ys →
-    breaks (take k xs) (get_or xs k d) → breaks (take k ys) (get_or ys k d)
+broken_same : (breaks : List Component → Component → Type 0) → Respects breaks → (xs ys : List Component) → SameAll xs ys → (k : ℕ) (d : Component) →
+    k < length ys → breaks (take k xs) (get_or xs k d) → breaks (take k ys) (get_or ys k d)
 broken_same breaks respects xs ys same k d within = respects (take k xs) (take k ys) (get_or xs k d) (get_or ys k d) (take_same xs ys k same) (entry_same xs ys k d same within)
 
 -- the same entry is the first to break the rule
-first_alike : (breaks : List Component → Component → Type 0) → Respects breaks → (xs ys : List Component) → SameAll xs ys → (place : Option ℕ) → FirstIs breaks xs place → FirstIs breaks ys place
+first_alike : (breaks : List Component → Component → Type 0) → Respects breaks → (xs ys : List Component) → SameAll xs ys → (place : Option ℕ) →
+    FirstIs breaks xs place → FirstIs breaks ys place
 first_alike breaks respects xs ys same None none = λ k d within broken.
     let there : k < length xs = omega (arith, length_same xs ys same) in
     none k d there (broken_same breaks respects ys xs (sym same) k d there broken)
@@ -100,14 +102,15 @@ first_alike breaks respects xs ys same (Some n) first =
           first.none_before k d before (broken_same breaks respects ys xs (sym same) k d there broken);
     }
 
-named_alike : (name_of : Component → List ℕ) → ((c : Component) → name_of (without_places c) ≡ name_of c) → (xs ys : List Component) → SameAll xs ys → (place : Option ℕ) →
-    option_map name_of (at_place xs place) ≡ option_map name_of (at_place ys place)
+named_alike : (name_of : Component → List ℕ) → ((c : Component) → name_of (without_places c) ≡ name_of c) → (xs ys : List Component) → SameAll xs ys →
+    (place : Option ℕ) → option_map name_of (at_place xs place) ≡ option_map name_of (at_place ys place)
 named_alike name_of without xs ys same None = refl
 named_alike name_of without xs ys same (Some n) =
     sym (slice_get-map name_of xs n) ∙ ap (λ l. slice_get l n) (names_same name_of without xs ys same) ∙ slice_get-map name_of ys n
 
 -- the first component that breaks a rule bears the same name
-pub name_alike : (name_of : Component → List ℕ) → ((c : Component) → name_of (without_places c) ≡ name_of c) → (breaks : List Component → Component → Type 0) → Respects breaks →
+pub name_alike : (name_of : Component → List ℕ) → ((c : Component) → name_of (without_places c) ≡ name_of c) → (breaks : List Component → Component → Type 0) →
+    Respects breaks →
     (xs ys : List Component) → SameAll xs ys → (found : Option (List ℕ)) → NameOfFirst name_of breaks xs found → NameOfFirst name_of breaks ys found
 name_alike name_of without breaks respects xs ys same found n = record {
   place = n.place;

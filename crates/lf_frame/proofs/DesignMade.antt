@@ -37,7 +37,8 @@ use Rattle.lf_refusals.proofs.Gathered.{none_of_name}
 use Rattle.lf_frame.proofs.Accepted.{first_nothing, macros_sized}
 
 -- what holds of each entry holds of the one that belongs to it
-all_right : {A B : Type 0} {R : A → B → Type 0} (P : A → Type 0) (Q : B → Type 0) (xs : List A) (ys : List B) → AllZip R xs ys → ((x : A) (y : B) → P x → R x y → Q y) → All P xs → All Q ys
+all_right : {A B : Type 0} {R : A → B → Type 0} (P : A → Type 0) (Q : B → Type 0) (xs : List A) (ys : List B) → AllZip R xs ys →
+    ((x : A) (y : B) → P x → R x y → Q y) → All P xs → All Q ys
 all_right P Q [] [] zip each all = All-nil Q
 all_right P Q [] (y ∷ ys) zip each all = absurd zip
 all_right P Q (x ∷ xs) [] zip each all = absurd zip
@@ -200,7 +201,8 @@ entries_known i range a =
     (all_numbered (λ c. is_cover c ≡ false → IfSome (macro_named i.library c.mac) (IsSizedIn (units_in i))) 0 i.document.components (macros_sized i range a)) in
     λ k d within. (ranged k d within, (movable k d within, sized k d within))
 
-pub design_made : (i : Inputs) (f : Frame) (cells : List Cell) → AreInRange i → IsAccepted i → IsFrameOf i f → AllZip (IsCellOf i) (movables i.document.components) cells → MakeDesign f cells
+pub design_made : (i : Inputs) (f : Frame) (cells : List Cell) → AreInRange i → IsAccepted i → IsFrameOf i f →
+    AllZip (IsCellOf i) (movables i.document.components) cells → MakeDesign f cells
 design_made i f cells range a is zip =
     let cs : List Component = i.document.components in
     let entries : List (ℕ × Component) = enumerate_from 0 cs in

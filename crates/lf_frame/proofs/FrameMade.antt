@@ -63,7 +63,8 @@ not_above x near =
       | inr far ↦ absurd (near far)
     ]
 
-heeded_row : (pitch : Point) (r : Row) → IsRow r → ((IsSome (rail_below r.orient) → ⊥) → ⊥) → (pos 2147483647 <ℤ (row_area pitch (frame_row r)).x2 → ⊥) → IsHeeded pitch (frame_row r)
+heeded_row : (pitch : Point) (r : Row) → IsRow r → ((IsSome (rail_below r.orient) → ⊥) → ⊥) → (pos 2147483647 <ℤ (row_area pitch (frame_row r)).x2 → ⊥) →
+    IsHeeded pitch (frame_row r)
 heeded_row pitch r range standing near = record {
   x_in_def = def_number r.x range.x;
   y_in_def = def_number r.y range.y;
@@ -77,7 +78,8 @@ rows_heeded : (core : Site) (pitch : Point) (rows : List Row) → All IsRow rows
 rows_heeded core pitch rows range standing near =
     all_kept (λ r. IsHeeded pitch r) frame_row (is_heeded core) rows (λ k d within is. heeded_row pitch (get_or rows k d) (range k d within) (λ turned. standing k d within (is, turned)) (λ far. near k d within (is, far)))
 
-rows_apart : (core : Site) (pitch : Point) (rows : List Row) → NoneBreaks (MeetsEarlierRow core pitch) rows → RowsApart pitch (map frame_row (filter (is_heeded core) rows))
+rows_apart : (core : Site) (pitch : Point) (rows : List Row) → NoneBreaks (MeetsEarlierRow core pitch) rows →
+    RowsApart pitch (map frame_row (filter (is_heeded core) rows))
 rows_apart core pitch rows none =
     pairs_kept (λ a b. SharesPoint (row_area pitch a) (row_area pitch b) → ⊥) frame_row (is_heeded core) rows
     (pairs_from_none (is_heeded core) (λ e r. SharesPoint (row_area pitch (frame_row e)) (row_area pitch (frame_row r))) rows none)
@@ -136,7 +138,8 @@ fixed_obstacle library units c range sized = by (is_fixed c) refl
     found (Some p) None at_range mac_sized known = tt
     found (Some p) (Some m) at_range mac_sized known = merely (inr (fixed_at units library.macros m p at_range (known m refl) mac_sized))
 
-    placed : (p : Option Placement) → IfSome p (λ q. IsPlacement q) → IfSome (Rattle.std.specs.Option.option_and_then (λ (q : Placement). q.place) p) (λ at. IsLocation at)
+    placed : (p : Option Placement) → IfSome p (λ q. IsPlacement q) →
+        IfSome (Rattle.std.specs.Option.option_and_then (λ (q : Placement). q.place) p) (λ at. IsLocation at)
     placed None placement = tt
     placed (Some q) placement = placement
 
@@ -164,7 +167,8 @@ macros_in_lef : (macros : List Macro) → All IsMacro macros → All (λ m. IsLe
 macros_in_lef macros range = All-weaker IsMacro (λ m. IsLefSize m.size × IsLefSize m.origin) (λ m is. (lef_size m.size is.size, lef_size m.origin is.origin)) macros range
 
 -- no row ends too far
-near_rows : (i : Inputs) (core : Site) → core_in i ≡ Some core → IsWholeSize (units_in i) core.size → IsAccepted i → NoneBreaks (EndsTooFar core (size_in_dbu (units_in i) core.size)) i.document.rows
+near_rows : (i : Inputs) (core : Site) → core_in i ≡ Some core → IsWholeSize (units_in i) core.size → IsAccepted i →
+    NoneBreaks (EndsTooFar core (size_in_dbu (units_in i) core.size)) i.document.rows
 near_rows i core is whole a =
     let behind_rows = (first_nothing (a TooMany)).1 in
     let behind_fences = (first_nothing behind_rows).1 in

@@ -33,7 +33,8 @@ pub core_sized : (library : Contents) (rows : List Row) → IfSome (core_site li
 core_sized library [] = tt
 core_sized library (r ∷ rs) = by (is_core (site_named library r.site)) refl (core_sized library rs)
   where
-    by : (t : Bool) → is_core (site_named library r.site) ≡ t → IfSome (core_site library rs) (λ s. has_size s.size ≡ true) → IfSome (core_site library (r ∷ rs)) (λ s. has_size s.size ≡ true)
+    by : (t : Bool) → is_core (site_named library r.site) ≡ t → IfSome (core_site library rs) (λ s. has_size s.size ≡ true) →
+        IfSome (core_site library (r ∷ rs)) (λ s. has_size s.size ≡ true)
     by true is rest = rw is (sized (site_named library r.site) is)
     by false is rest = rw is rest
 
@@ -48,7 +49,8 @@ positive_length units (pos m) dbu some more e =
     omega (arith, ints)
 positive_length units (negsuc m) dbu some more e = grind (arith, ints)
 
-pub pitch_of_core : (units : ℕ) (size : Point) → 1 ≤ units → units ≤ 20000 → HasRange size → has_size size ≡ true → IsWholeSize units size → IsPitch units size (size_in_dbu units size)
+pub pitch_of_core : (units : ℕ) (size : Point) → 1 ≤ units → units ≤ 20000 → HasRange size → has_size size ≡ true → IsWholeSize units size →
+    IsPitch units size (size_in_dbu units size)
 pitch_of_core units size some few range is whole =
     let parts = and_parts (int_lt (pos 0) size.x) (int_lt (pos 0) size.y) is in
     record {
@@ -61,12 +63,14 @@ pitch_of_core units size some few range is whole =
     }
 
 -- what holds of a site holds of the site that is lent
-pub of_lent : (lent : Option (Bor Site)) {found : Option Site} → IfSome found (λ s. has_size s.size ≡ true) → option_copied lent ≡ found → IfSome lent (λ s. has_size s.now.size ≡ true)
+pub of_lent : (lent : Option (Bor Site)) {found : Option Site} → IfSome found (λ s. has_size s.size ≡ true) → option_copied lent ≡ found →
+    IfSome lent (λ s. has_size s.now.size ≡ true)
 of_lent None {found} is same = tt
 of_lent (Some s) {found} is same = rw (← same) at is
 
 -- the site that is found bears the name
-site_bears : (sites : List Site) (name : List ℕ) (place : Option ℕ) (s : Site) → place ≡ position_of (site_names sites) name → at_place sites place ≡ Some s → s.name ≡ name
+site_bears : (sites : List Site) (name : List ℕ) (place : Option ℕ) (s : Site) → place ≡ position_of (site_names sites) name → at_place sites place ≡ Some s →
+    s.name ≡ name
 site_bears sites name None s is found = absurd (none-some s found)
 site_bears sites name (Some k) s is found =
     let within : k < length sites = slice_get_within sites k s found in
@@ -78,15 +82,18 @@ site_bears sites name (Some k) s is found =
     read_at xs k x e = sym (unwrap_or-slice_get xs k x) ∙ ap (λ o. unwrap_or o x) e
 
 -- the row of the core site is heeded, so there is a heeded row
-pub core_heeded : (library : Contents) (rows : List Row) (core : Site) → core_site library rows ≡ Some core → 0 < length (map frame_row (filter (is_heeded core) rows))
+pub core_heeded : (library : Contents) (rows : List Row) (core : Site) → core_site library rows ≡ Some core →
+    0 < length (map frame_row (filter (is_heeded core) rows))
 core_heeded library [] core is = absurd (none-some core is)
 core_heeded library (r ∷ rs) core is = by (is_core (site_named library r.site)) refl is (core_heeded library rs core)
   where
-    more : (t : Bool) → is_heeded core r ≡ t → 0 < length (map frame_row (filter (is_heeded core) rs)) → 0 < length (map frame_row (filter (is_heeded core) (r ∷ rs)))
+    more : (t : Bool) → is_heeded core r ≡ t → 0 < length (map frame_row (filter (is_heeded core) rs)) →
+        0 < length (map frame_row (filter (is_heeded core) (r ∷ rs)))
     more true e rest = rw e (omega arith)
     more false e rest = rw e rest
 
-    by : (t : Bool) → is_core (site_named library r.site) ≡ t → core_site library (r ∷ rs) ≡ Some core → (core_site library rs ≡ Some core → 0 < length (map frame_row (filter (is_heeded core) rs))) →
+    by : (t : Bool) → is_core (site_named library r.site) ≡ t → core_site library (r ∷ rs) ≡ Some core →
+        (core_site library rs ≡ Some core → 0 < length (map frame_row (filter (is_heeded core) rs))) →
         0 < length (map frame_row (filter (is_heeded core) (r ∷ rs)))
     by true e found rest =
         let same : core.name ≡ r.site = site_bears library.sites r.site (position_of (site_names library.sites) r.site) core refl (rw e at found) in

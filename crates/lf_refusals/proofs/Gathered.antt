@@ -18,7 +18,8 @@ inside name_of (x ∷ xs) zero within e = none-some (name_of x) e
 inside name_of (x ∷ xs) (suc k) within e = inside name_of xs k (omega arith) e
 
 -- where no name is found, no entry breaks the rule
-pub none_of_name : {A : Type 0} {name_of : A → List ℕ} {breaks : List A → A → Type 0} {entries : List A} → NameOfFirst name_of breaks entries None → NoneBreaks breaks entries
+pub none_of_name : {A : Type 0} {name_of : A → List ℕ} {breaks : List A → A → Type 0} {entries : List A} → NameOfFirst name_of breaks entries None →
+    NoneBreaks breaks entries
 none_of_name {A} {name_of} {breaks} {entries} n = by n.place n.first n.name
   where
     by : (place : Option ℕ) → FirstIs breaks entries place → None ≡ option_map name_of (at_place entries place) → NoneBreaks breaks entries
@@ -48,7 +49,8 @@ heads R x xs pairs = λ k d within. pairs zero (suc k) d (omega arith) (omega ar
 tails : {A : Type 0} (R : A → A → Type 0) (x : A) (xs : List A) → AllPairs R (x ∷ xs) → AllPairs R xs
 tails R x xs pairs = λ i j d below within. pairs (suc i) (suc j) d (omega arith) (omega arith)
 
-pub pairs_kept : {A B : Type 0} (R : B → B → Type 0) (f : A → B) (p : A → Bool) (xs : List A) → AllPairs (λ a b. p a ≡ true → p b ≡ true → R (f a) (f b)) xs → AllPairs R (map f (filter p xs))
+pub pairs_kept : {A B : Type 0} (R : B → B → Type 0) (f : A → B) (p : A → Bool) (xs : List A) → AllPairs (λ a b. p a ≡ true → p b ≡ true → R (f a) (f b)) xs →
+    AllPairs R (map f (filter p xs))
 pairs_kept R f p [] pairs = λ i j d below within. absurd (omega arith)
 pairs_kept {A} R f p (x ∷ xs) pairs = by (p x) refl (heads T x xs pairs) (pairs_kept R f p xs (tails T x xs pairs))
   where
@@ -79,11 +81,12 @@ below_limit limit m room =
       | inr less ↦ less
     ]
 
-one_more : {A : Type 0} (p : A → Bool) (limit n : ℕ) (d : A) (xs : List A) → NoneBreaks (λ earlier x. (p x ≡ true) × (limit ≤ length (filter p earlier))) xs → n < length xs →
-    length (filter p (take n xs)) ≤ limit → length (filter p (take (n + 1) xs)) ≤ limit
+one_more : {A : Type 0} (p : A → Bool) (limit n : ℕ) (d : A) (xs : List A) → NoneBreaks (λ earlier x. (p x ≡ true) × (limit ≤ length (filter p earlier))) xs →
+    n < length xs → length (filter p (take n xs)) ≤ limit → length (filter p (take (n + 1) xs)) ≤ limit
 one_more p limit n d xs none within so_far = by (p (get_or xs n d)) refl (length-filter_more p xs n d within)
   where
-    by : (t : Bool) → p (get_or xs n d) ≡ t → length (filter p (take (n + 1) xs)) ≡ length (filter p (take n xs)) + cond {A = ℕ} (p (get_or xs n d)) 1 0 → length (filter p (take (n + 1) xs)) ≤ limit
+    by : (t : Bool) → p (get_or xs n d) ≡ t → length (filter p (take (n + 1) xs)) ≡ length (filter p (take n xs)) + cond {A = ℕ} (p (get_or xs n d)) 1 0 →
+        length (filter p (take (n + 1) xs)) ≤ limit
     by true is more =
         let less : length (filter p (take n xs)) < limit = below_limit limit (length (filter p (take n xs))) (λ full. none n d within (is, full)) in
         let one : cond {A = ℕ} (p (get_or xs n d)) 1 0 ≡ 1 = rw is refl in
@@ -92,15 +95,16 @@ one_more p limit n d xs none within so_far = by (p (get_or xs n d)) refl (length
         let nothing : cond {A = ℕ} (p (get_or xs n d)) 1 0 ≡ 0 = rw is refl in
         omega (arith, more, nothing, so_far)
 
-few_passed : {A : Type 0} (p : A → Bool) (limit : ℕ) (d : A) (xs : List A) → NoneBreaks (λ earlier x. (p x ≡ true) × (limit ≤ length (filter p earlier))) xs → (n : ℕ) → n ≤ length xs →
-    length (filter p (take n xs)) ≤ limit
+few_passed : {A : Type 0} (p : A → Bool) (limit : ℕ) (d : A) (xs : List A) → NoneBreaks (λ earlier x. (p x ≡ true) × (limit ≤ length (filter p earlier))) xs →
+    (n : ℕ) → n ≤ length xs → length (filter p (take n xs)) ≤ limit
 few_passed p limit d xs none zero within = omega arith
 few_passed p limit d xs none (suc n) within =
     let next : n + 1 ≡ suc n = omega arith in
     subst (λ (m : ℕ). length (filter p (take m xs)) ≤ limit) next (one_more p limit n d xs none (omega arith) (few_passed p limit d xs none n (omega arith)))
 
 -- where no entry that passes the test has so many of those before it, no more than so many pass
-pub few_kept : {A B : Type 0} (f : A → B) (p : A → Bool) (limit : ℕ) (xs : List A) → NoneBreaks (λ earlier x. (p x ≡ true) × (limit ≤ length (filter p earlier))) xs → length (map f (filter p xs)) ≤ limit
+pub few_kept : {A B : Type 0} (f : A → B) (p : A → Bool) (limit : ℕ) (xs : List A) →
+    NoneBreaks (λ earlier x. (p x ≡ true) × (limit ≤ length (filter p earlier))) xs → length (map f (filter p xs)) ≤ limit
 few_kept f p limit [] none = omega arith
 few_kept {A} f p limit (x ∷ xs) none =
     let all : take (length (x ∷ xs)) (x ∷ xs) ≡ x ∷ xs = take-length (x ∷ xs) in

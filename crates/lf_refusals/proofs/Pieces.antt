@@ -26,7 +26,8 @@ use Rattle.lf_refusals.specs.Sweep.{piece_area, piece_of, EndsBefore, Clash, Cla
 use Rattle.lf_refusals.proofs.RectLemmas.{rects_of_point}
 use Rattle.lf_refusals.proofs.RowEdges.{less}
 
-pub pieces_meet : (a b : Piece) → (EndsBefore a a → ⊥) → (EndsBefore b b → ⊥) → (EndsBefore a b → ⊥) → (EndsBefore b a → ⊥) → SharesPoint (piece_area a) (piece_area b)
+pub pieces_meet : (a b : Piece) → (EndsBefore a a → ⊥) → (EndsBefore b b → ⊥) → (EndsBefore a b → ⊥) → (EndsBefore b a → ⊥) →
+    SharesPoint (piece_area a) (piece_area b)
 pieces_meet a b some_a some_b not_a not_b =
     shared_of_edges (piece_area a) (piece_area b) (record {
       wide_first = less _ _ (λ h. some_a (inl h));
@@ -93,7 +94,8 @@ rise_behind pieces n rise i j d below within =
     rw (get_or-drop n pieces i d, get_or-drop n pieces j d) (rise (n + i) (n + j) d lower inside)
 
 -- a piece that clashes with none behind it
-pub none_later : (a : Piece) (pieces : List Piece) (n : ℕ) → ClashesWithNone a (drop n pieces) → (k : ℕ) (d : Piece) → n ≤ k → k < length pieces → Clash a (get_or pieces k d) → ⊥
+pub none_later : (a : Piece) (pieces : List Piece) (n : ℕ) → ClashesWithNone a (drop n pieces) → (k : ℕ) (d : Piece) → n ≤ k → k < length pieces →
+    Clash a (get_or pieces k d) → ⊥
 none_later a pieces n none k d from within clash =
     let inside : k - n < length (drop n pieces) = omega (arith, length-drop n pieces) in
     let place : n + (k - n) ≡ k = omega arith in
@@ -104,7 +106,8 @@ none_later a pieces n none k d from within clash =
 abbrev pub NoneFrom : List Piece → ℕ → Type 0
 NoneFrom pieces n = (k j : ℕ) (d : Piece) → k < n → k < j → j < length pieces → Clash (get_or pieces k d) (get_or pieces j d) → ⊥
 
-pub none_from_more : (pieces : List Piece) (n : ℕ) (e : Piece) → n < length pieces → ClashesWithNone (get_or pieces n e) (drop (n + 1) pieces) → NoneFrom pieces n → NoneFrom pieces (n + 1)
+pub none_from_more : (pieces : List Piece) (n : ℕ) (e : Piece) → n < length pieces → ClashesWithNone (get_or pieces n e) (drop (n + 1) pieces) →
+    NoneFrom pieces n → NoneFrom pieces (n + 1)
 none_from_more pieces n e within none before k j d below later inside clash =
     let cases : (k < n) ⊎ (k ≡ n) = grind arith in
     elim cases [
@@ -158,8 +161,8 @@ more_hold pieces more own h = All-weaker (Contains pieces) (Contains (pieces ++ 
 own_held : (pieces own : List Piece) → All (Contains (pieces ++ own)) own
 own_held pieces own = All-weaker (Contains own) (Contains (pieces ++ own)) (λ p. Contains-append_right pieces own p) own (All-contains_itself own)
 
-pub hold_more : {A : Type 0} (own : ℕ → A → List Piece) (entries : List A) (n : ℕ) (x : A) (pieces after : List Piece) → n < length entries → x ≡ get_or entries n x →
-    after ≡ pieces ++ own n x → HoldBelow own entries n pieces → HoldBelow own entries (n + 1) after
+pub hold_more : {A : Type 0} (own : ℕ → A → List Piece) (entries : List A) (n : ℕ) (x : A) (pieces after : List Piece) → n < length entries →
+    x ≡ get_or entries n x → after ≡ pieces ++ own n x → HoldBelow own entries n pieces → HoldBelow own entries (n + 1) after
 hold_more own entries n x pieces after within is grown before k d below =
     let cases : (k < n) ⊎ (k ≡ n) = grind arith in
     elim cases [
@@ -170,19 +173,22 @@ hold_more own entries n x pieces after within is grown before k d below =
     ]
 
 -- pieces of two entries that share no point
-pub apart_of_none : (pieces : List Piece) (j k : ℕ) (a b : Rect) → NoneClash pieces → Contains pieces (piece_of j a) → Contains pieces (piece_of k b) → j < k → SharesPoint a b → ⊥
+pub apart_of_none : (pieces : List Piece) (j k : ℕ) (a b : Rect) → NoneClash pieces → Contains pieces (piece_of j a) → Contains pieces (piece_of k b) → j < k →
+    SharesPoint a b → ⊥
 apart_of_none pieces j k a b none first second earlier meet =
     All-contains (λ p. Clash (piece_of j a) p → ⊥) pieces (piece_of k b)
     (All-contains (λ p. ClashesWithNone p pieces) pieces (piece_of j a) none first) second
     (record { entries = λ e. omega arith; point = meet })
 
-held_row : (core : Site) (pitch : Point) (k : ℕ) (r : Row) (pieces : List Piece) → is_heeded core r ≡ true → All (Contains pieces) (row_pieces core pitch k r) → Contains pieces (piece_of k (row_area pitch (frame_row r)))
+held_row : (core : Site) (pitch : Point) (k : ℕ) (r : Row) (pieces : List Piece) → is_heeded core r ≡ true → All (Contains pieces) (row_pieces core pitch k r) →
+    Contains pieces (piece_of k (row_area pitch (frame_row r)))
 held_row core pitch k r pieces heeded h =
     let one : row_pieces core pitch k r ≡ piece_of k (row_area pitch (frame_row r)) ∷ [] = ap (λ t. if t then piece_of k (row_area pitch (frame_row r)) ∷ [] else []) heeded in
     All-head (Contains pieces) (piece_of k (row_area pitch (frame_row r))) [] (rw one at h)
 
 -- where no pieces clash, no row shares a point with an earlier one
-pub rows_apart : (core : Site) (pitch : Point) (rows : List Row) (pieces : List Piece) → HoldPieces (row_pieces core pitch) rows pieces → NoneClash pieces → NoneBreaks (MeetsEarlierRow core pitch) rows
+pub rows_apart : (core : Site) (pitch : Point) (rows : List Row) (pieces : List Piece) → HoldPieces (row_pieces core pitch) rows pieces → NoneClash pieces →
+    NoneBreaks (MeetsEarlierRow core pitch) rows
 rows_apart core pitch rows pieces held none k d within broken =
     let earlier = broken.1 in
     let below : earlier.0 < k = omega (arith, earlier.2, length-take k rows) in
@@ -192,7 +198,8 @@ rows_apart core pitch rows pieces held none k d within broken =
     apart_of_none pieces earlier.0 k (row_area pitch (frame_row earlier.1)) (row_area pitch (frame_row (get_or rows k d))) none first
     (held_row core pitch k (get_or rows k d) pieces broken.0 (held k d within)) below earlier.4.1
 
-held_rect : (k : ℕ) (r : Region) (rect : Rect) (pieces : List Piece) → is_fence r ≡ true → All (Contains pieces) (fence_pieces k r) → (m : ℕ) → m < length r.rects → get_or r.rects m rect ≡ rect → Contains pieces (piece_of k rect)
+held_rect : (k : ℕ) (r : Region) (rect : Rect) (pieces : List Piece) → is_fence r ≡ true → All (Contains pieces) (fence_pieces k r) → (m : ℕ) →
+    m < length r.rects → get_or r.rects m rect ≡ rect → Contains pieces (piece_of k rect)
 held_rect k r rect pieces fence h m within is =
     let all : fence_pieces k r ≡ map (λ a. piece_of k a) r.rects = ap (λ t. if t then map (λ a. piece_of k a) r.rects else []) fence in
     let inside : m < length (map (λ a. piece_of k a) r.rects) = omega (arith, length-map r.rects (λ a. piece_of k a)) in
@@ -202,7 +209,8 @@ held_rect k r rect pieces fence h m within is =
     rw (here, is) at one
 
 -- where no pieces clash, no fence shares a point with an earlier one
-pub fences_apart : (regions : List Region) (pieces : List Piece) → HoldPieces fence_pieces regions pieces → NoneClash pieces → NoneBreaks MeetsEarlierFence regions
+pub fences_apart : (regions : List Region) (pieces : List Piece) → HoldPieces fence_pieces regions pieces → NoneClash pieces →
+    NoneBreaks MeetsEarlierFence regions
 fences_apart regions pieces held none k d within broken =
     let earlier = broken.1 in
     let below : earlier.0 < k = omega (arith, earlier.2, length-take k regions) in

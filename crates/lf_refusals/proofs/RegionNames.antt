@@ -16,7 +16,8 @@ use Rattle.lf_claims.proofs.Named.{take_one_more}
 use Rattle.lf_units.proofs.Any.{name_of_any, any_of_name, any_here}
 
 -- a table with one name more
-pub same_more : (names after others : List (List ℕ)) (name : List ℕ) (added : Added) → Adds names name added after → HoldSameNames names others → HoldSameNames after (others ++ name ∷ [])
+pub same_more : (names after others : List (List ℕ)) (name : List ℕ) (added : Added) → Adds names name added after → HoldSameNames names others →
+    HoldSameNames after (others ++ name ∷ [])
 same_more names after others name (New at) (absent, last, is) same = record {
   forth = λ n h. elim (Contains-push_cases names name n (rw is at h)) [
     | inl old ↦ Contains-append_left others (name ∷ []) n (same.forth n old)
@@ -38,18 +39,21 @@ same_more names after others name (Present at) (there, is) same =
       ];
     }
 
-pub region_names_more : (regions : List Region) (n : ℕ) (r : Region) → n < length regions → r ≡ get_or regions n r → region_names (take n regions) ++ r.name ∷ [] ≡ region_names (take (n + 1) regions)
+pub region_names_more : (regions : List Region) (n : ℕ) (r : Region) → n < length regions → r ≡ get_or regions n r →
+    region_names (take n regions) ++ r.name ∷ [] ≡ region_names (take (n + 1) regions)
 region_names_more regions n r within is = sym (ap region_names (take_one_more regions n r within is) ∙ map-append (λ q. q.name) (take n regions) (r ∷ []))
 
 -- a group's region is outside the names of the regions exactly where no region bears its name
-pub outside_of : (regions : List Region) (names : List (List ℕ)) (g : Group) → HoldSameNames names (region_names regions) → HasNoRegion regions [] g → IsOutside names g
+pub outside_of : (regions : List Region) (names : List (List ℕ)) (g : Group) → HoldSameNames names (region_names regions) → HasNoRegion regions [] g →
+    IsOutside names g
 outside_of regions names g same h = by g.region h
   where
     by : (region : Option (List ℕ)) → IsSomeAnd region (λ name. All (λ r. r.name ≡ name → ⊥) regions) → IsSomeAnd region (λ name. Contains names name → ⊥)
     by None never = never
     by (Some name) all = λ there. let one = any_of_name (λ r. r.name) regions name (same.forth name there) in all one.0 one.1 one.2 (ap (λ r. r.name) one.3 ∙ one.4)
 
-pub no_region_of : (regions : List Region) (names : List (List ℕ)) (g : Group) → HoldSameNames names (region_names regions) → IsOutside names g → HasNoRegion regions [] g
+pub no_region_of : (regions : List Region) (names : List (List ℕ)) (g : Group) → HoldSameNames names (region_names regions) → IsOutside names g →
+    HasNoRegion regions [] g
 no_region_of regions names g same h = by g.region h
   where
     by : (region : Option (List ℕ)) → IsSomeAnd region (λ name. Contains names name → ⊥) → IsSomeAnd region (λ name. All (λ r. r.name ≡ name → ⊥) regions)

@@ -41,7 +41,8 @@ nothing_near boxes box (p ∷ found) near none =
     let first = only_near boxes box (p ∷ found) near 0 p (omega arith) in
     absurd (All-contains (λ q. SharesPoint box q.rect → ⊥) boxes p none first.0 first.1)
 
-none_there : (boxes : List Placed) (box : Rect) (found : List Placed) → AreNear boxes box found → found ≡ [] → (p : Placed) → Contains boxes p → SharesPoint box p.rect → ⊥
+none_there : (boxes : List Placed) (box : Rect) (found : List Placed) → AreNear boxes box found → found ≡ [] → (p : Placed) → Contains boxes p →
+    SharesPoint box p.rect → ⊥
 none_there boxes box [] near is p there shares =
     let at = All-contains (λ q. SharesPoint box q.rect → Contains [] q) boxes p (each_near boxes box [] near) there shares in
     let within = at.1 in
@@ -67,7 +68,8 @@ clear_near f i box found index near = (
 
 -- ---- fences
 
-fence_there : (n : ℕ) (teams : List Team) (t : ℕ) (team : Team) (r : Rect) → slice_get teams t ≡ Some team → Contains team.rects r → Contains (fence_boxes n teams) (numbered (n + t) r)
+fence_there : (n : ℕ) (teams : List Team) (t : ℕ) (team : Team) (r : Rect) → slice_get teams t ≡ Some team → Contains team.rects r →
+    Contains (fence_boxes n teams) (numbered (n + t) r)
 fence_there n [] t team r is there = absurd cc
 fence_there n (x ∷ teams) zero team r is there =
     let same : x ≡ team = cc in
@@ -80,7 +82,8 @@ fence_there n (x ∷ teams) (suc t) team r is there =
     subst (λ (m : ℕ). Contains (fence_boxes n (x ∷ teams)) (numbered m r)) at
     (Contains-append_right (map (numbered n) x.rects) (fence_boxes (n + 1) teams) (numbered ((n + 1) + t) r) (fence_there (n + 1) teams t team r is there))
 
-fence_listed : (teams : List Team) (t : ℕ) (team : Team) (r : Rect) → slice_get teams t ≡ Some team → Contains team.rects r → Contains (fence_boxes 0 teams) (numbered t r)
+fence_listed : (teams : List Team) (t : ℕ) (team : Team) (r : Rect) → slice_get teams t ≡ Some team → Contains team.rects r →
+    Contains (fence_boxes 0 teams) (numbered t r)
 fence_listed teams t team r is there =
     let from : 0 + t ≡ t = omega arith in
     subst (λ (m : ℕ). Contains (fence_boxes 0 teams) (numbered m r)) from (fence_there 0 teams t team r is there)
@@ -128,7 +131,8 @@ of_rects (q ∷ near) t r there = by (eqb q.own t) refl there (of_rects near t r
     more : (p : Placed) × Contains near p × (p.own ≡ t) × (p.rect ≡ r) → (p : Placed) × Contains (q ∷ near) p × (p.own ≡ t) × (p.rect ≡ r)
     more found = (found.0, later_there q found.0 near found.1, found.2, found.3)
 
-    by : (b : Bool) → eqb q.own t ≡ b → Contains (rects_of (q ∷ near) t) r → (Contains (rects_of near t) r → (p : Placed) × Contains near p × (p.own ≡ t) × (p.rect ≡ r)) →
+    by : (b : Bool) → eqb q.own t ≡ b → Contains (rects_of (q ∷ near) t) r →
+        (Contains (rects_of near t) r → (p : Placed) × Contains near p × (p.own ≡ t) × (p.rect ≡ r)) →
         (p : Placed) × Contains (q ∷ near) p × (p.own ≡ t) × (p.rect ≡ r)
     by true e there deeper = at (rw e at there)
       where
@@ -138,8 +142,8 @@ of_rects (q ∷ near) t r there = by (eqb q.own t) refl there (of_rects near t r
     by false e there deeper = more (deeper (rw e at there))
 
 -- what covers a point of the box, among the fence's rectangles near it and among all of them
-covered_forth : (f : Frame) (i : FrameIndex) (box : Rect) (near : List Placed) (t : ℕ) (team : Team) → IsIndexOf f i → AreNear i.fences box near → slice_get f.teams t ≡ Some team →
-    (x y : ℤ) → CoveredBy (rects_of near t) x y → CoveredBy team.rects x y
+covered_forth : (f : Frame) (i : FrameIndex) (box : Rect) (near : List Placed) (t : ℕ) (team : Team) → IsIndexOf f i → AreNear i.fences box near →
+    slice_get f.teams t ≡ Some team → (x y : ℤ) → CoveredBy (rects_of near t) x y → CoveredBy team.rects x y
 covered_forth f i box near t team index found is x y (k, r, within, at, covers) =
     let from = of_rects near t r (k, within, at) in
     let p : Placed = from.0 in
@@ -152,8 +156,8 @@ covered_forth f i box near t team index found is x y (k, r, within, at, covers) 
     let one : of.team ≡ team = cc in
     has_item (λ s. Covers s x y) team.rects r (subst (λ (s : Rect). Contains team.rects s) from.3 (subst (λ (u : Team). Contains u.rects p.rect) one of.there)) covers
 
-covered_back : (f : Frame) (i : FrameIndex) (box : Rect) (near : List Placed) (t : ℕ) (team : Team) → IsIndexOf f i → AreNear i.fences box near → slice_get f.teams t ≡ Some team →
-    (x y : ℤ) → Covers box x y → CoveredBy team.rects x y → CoveredBy (rects_of near t) x y
+covered_back : (f : Frame) (i : FrameIndex) (box : Rect) (near : List Placed) (t : ℕ) (team : Team) → IsIndexOf f i → AreNear i.fences box near →
+    slice_get f.teams t ≡ Some team → (x y : ℤ) → Covers box x y → CoveredBy team.rects x y → CoveredBy (rects_of near t) x y
 covered_back f i box near t team index found is x y in_box (k, r, within, at, covers) =
     let p : Placed = numbered t r in
     let there : Contains i.fences p = Contains-permutation (fence_boxes 0 f.teams) i.fences p index.fences (fence_listed f.teams t team r is (k, within, at)) in
@@ -161,14 +165,16 @@ covered_back f i box near t team index found is x y in_box (k, r, within, at, co
     (record { x = x; y = y; in_first = in_box; in_second = covers }) in
     has_item (λ s. Covers s x y) (rects_of near t) r (in_rects near t p close refl) covers
 
-pub stays_near : (f : Frame) (i : FrameIndex) (box : Rect) (near : List Placed) (t : ℕ) (team : Team) (stays : Bool) → IsIndexOf f i → AreNear i.fences box near → slice_get f.teams t ≡ Some team →
+pub stays_near : (f : Frame) (i : FrameIndex) (box : Rect) (near : List Placed) (t : ℕ) (team : Team) (stays : Bool) → IsIndexOf f i →
+    AreNear i.fences box near → slice_get f.teams t ≡ Some team →
     (IsTrue stays ↔ ((x y : ℤ) → Covers box x y → CoveredBy (rects_of near t) x y)) → IsTrue stays ↔ StaysInGround f t box
 stays_near f i box near t team stays index found is test = (
   λ yes x y in_box. rw is (covered_forth f i box near t team index found is x y (test.0 yes x y in_box)),
   λ ground. test.1 (λ x y in_box. covered_back f i box near t team index found is x y in_box (rw is at (ground x y in_box))),
 )
 
-clear_of_fences : (f : Frame) (i : FrameIndex) (box : Rect) (near : List Placed) → IsIndexOf f i → AreNear i.fences box near → (near ≡ []) ↔ open_ground.IsClear box f.teams
+clear_of_fences : (f : Frame) (i : FrameIndex) (box : Rect) (near : List Placed) → IsIndexOf f i → AreNear i.fences box near →
+    (near ≡ []) ↔ open_ground.IsClear box f.teams
 clear_of_fences f i box near index found = (
   λ is k d within j e inside shares.
       let team : Team = get_or f.teams k d in
@@ -185,8 +191,8 @@ clear_of_fences f i box near index found = (
       All-contains (λ r. SharesPoint box r → ⊥) of.team.rects p.rect rects_clear of.there shares),
 )
 
-pub open_near : (f : Frame) (i : FrameIndex) (box : Rect) (near : List Placed) (t : ℕ) → IsIndexOf f i → AreNear i.fences box near → slice_get f.teams t ≡ None → t ≡ length f.teams →
-    (near ≡ []) ↔ StaysInGround f t box
+pub open_near : (f : Frame) (i : FrameIndex) (box : Rect) (near : List Placed) (t : ℕ) → IsIndexOf f i → AreNear i.fences box near →
+    slice_get f.teams t ≡ None → t ≡ length f.teams → (near ≡ []) ↔ StaysInGround f t box
 open_near f i box near t index found none ground =
     let clear = clear_of_fences f i box near index found in (
       λ is. open_ground.stays_in_open f t box none ground (open_ground.open_of_clear box f.teams (clear.0 is)),

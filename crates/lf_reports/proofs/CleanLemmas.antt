@@ -76,11 +76,13 @@ none_at : {Y : Type 0} (g : ℕ → Option Y) (a n k : ℕ) → filter_map g (ra
 none_at {Y = Y} g a zero k e less = absurd (omega arith)
 none_at {Y = Y} g a (suc n) k e less = first (g a) refl e (λ j rest below. none_at g (a + 1) n j rest below) k less
   where
-    at : ((j : ℕ) → filter_map g (range_with_len (a + 1) n) ≡ [] → j < n → g (a + 1 + j) ≡ None) → filter_map g (range_with_len (a + 1) n) ≡ [] → g a ≡ None → (k : ℕ) → k < suc n → g (a + k) ≡ None
+    at : ((j : ℕ) → filter_map g (range_with_len (a + 1) n) ≡ [] → j < n → g (a + 1 + j) ≡ None) → filter_map g (range_with_len (a + 1) n) ≡ [] → g a ≡ None →
+        (k : ℕ) → k < suc n → g (a + k) ≡ None
     at later rest none zero less = subst (λ (m : ℕ). g m ≡ None) (omega arith) none
     at later rest none (suc j) less = subst (λ (m : ℕ). g m ≡ None) (omega arith) (later j rest (omega arith))
 
-    first : (o : Option Y) → g a ≡ o → cons_option o (filter_map g (range_with_len (a + 1) n)) ≡ [] → ((j : ℕ) → filter_map g (range_with_len (a + 1) n) ≡ [] → j < n → g (a + 1 + j) ≡ None) → (k : ℕ) → k < suc n → g (a + k) ≡ None
+    first : (o : Option Y) → g a ≡ o → cons_option o (filter_map g (range_with_len (a + 1) n)) ≡ [] →
+        ((j : ℕ) → filter_map g (range_with_len (a + 1) n) ≡ [] → j < n → g (a + 1 + j) ≡ None) → (k : ℕ) → k < suc n → g (a + k) ≡ None
     first None is rest later k less = at later rest is k less
     first (Some y) is rest later k less = absurd cc
 
@@ -171,14 +173,16 @@ placed_each (x ∷ cells) none own c there = by x.place refl (λ zeros k at. pla
     by (Some p) is rest zero at = let same : x ≡ c = cc in subst (λ (y : Listed (List ℕ)). IsSome (standing_of y).place) same (rw is refl)
     by (Some p) is rest (suc k) at = let zeros : length (unplaced_of cells) ≡ 0 = rw is at none in rest zeros k at
 
-placed_all : (cells : Cells) → count_by (λ c. is_none c.place) cells ≡ 0 → (own : ℕ) (c : Listed (List ℕ)) → slice_get cells own ≡ Some c → IsSome (standing_of c).place
+placed_all : (cells : Cells) → count_by (λ c. is_none c.place) cells ≡ 0 → (own : ℕ) (c : Listed (List ℕ)) → slice_get cells own ≡ Some c →
+    IsSome (standing_of c).place
 placed_all cells none = placed_each cells (length-filter (λ c. is_none c.place) cells ∙ none)
 
 lacks : (place : Option Place) → place ≡ None → IsSome (option_map spot_of place) → ⊥
 lacks None is some = cc
 lacks (Some p) is some = cc
 
-unplaced_nil : (cells : Cells) → ((own : ℕ) (c : Listed (List ℕ)) → slice_get cells own ≡ Some c → IsSome (standing_of c).place) → length (unplaced_of cells) ≡ 0
+unplaced_nil : (cells : Cells) → ((own : ℕ) (c : Listed (List ℕ)) → slice_get cells own ≡ Some c → IsSome (standing_of c).place) →
+    length (unplaced_of cells) ≡ 0
 unplaced_nil [] placed = refl
 unplaced_nil (x ∷ cells) placed = by x.place refl (placed 0 x refl) (unplaced_nil cells (λ own c there. placed (suc own) c there))
   where
@@ -186,7 +190,8 @@ unplaced_nil (x ∷ cells) placed = by x.place refl (placed 0 x refl) (unplaced_
     by None is some rest = absurd (lacks x.place is some)
     by (Some p) is some rest = rw is rest
 
-none_unplaced : (cells : Cells) → ((own : ℕ) (c : Listed (List ℕ)) → slice_get cells own ≡ Some c → IsSome (standing_of c).place) → count_by (λ c. is_none c.place) cells ≡ 0
+none_unplaced : (cells : Cells) → ((own : ℕ) (c : Listed (List ℕ)) → slice_get cells own ≡ Some c → IsSome (standing_of c).place) →
+    count_by (λ c. is_none c.place) cells ≡ 0
 none_unplaced cells placed = sym (length-filter (λ c. is_none c.place) cells) ∙ unplaced_nil cells placed
 
 -- ---- the law
@@ -205,8 +210,8 @@ to_legal l f cells all clean = record {
     fine = all_fine l f cells all clean.none_broken
 
 -- a cell that keeps rules 1 to 7 and is clear of the others is legal
-legal_of : (f : Frame) (cells : Cells) (own : ℕ) (c : Listed (List ℕ)) (p : Spot) → KeepsRules f (standing_of c) p → Clear f (map member_of cells) own (box_in f c.mac p) →
-    IsLegalAt (lifted_among f cells own c) p
+legal_of : (f : Frame) (cells : Cells) (own : ℕ) (c : Listed (List ℕ)) (p : Spot) → KeepsRules f (standing_of c) p →
+    Clear f (map member_of cells) own (box_in f c.mac p) → IsLegalAt (lifted_among f cells own c) p
 legal_of f cells own c p kept clear Height = kept Height (omega arith)
 legal_of f cells own c p kept clear RowRule = kept RowRule (omega arith)
 legal_of f cells own c p kept clear Stand = kept Stand (omega arith)
@@ -249,7 +254,8 @@ to_clean l f cells all legal = record {
       (each_of standing_of (λ s. ForSome s.place (λ q. KeepsRules f s q)) cells legal.kept own c there p is) (legal_clear f cells legal own c p there is));
 }
 
-pub clean_is_legal : (l : Legalizer) (f : Frame) (cells : Cells) → All (IsListed f) cells → IsClean (report_of l f cells) ↔ IsFullyLegal f (map standing_of cells)
+pub clean_is_legal : (l : Legalizer) (f : Frame) (cells : Cells) → All (IsListed f) cells →
+    IsClean (report_of l f cells) ↔ IsFullyLegal f (map standing_of cells)
 clean_is_legal l f cells all = (λ clean. to_legal l f cells all clean, λ legal. to_clean l f cells all legal)
 
 -- ---- the names that are told
@@ -270,7 +276,8 @@ other_printed f cells all (Some own) name is = by (slice_get cells own) refl is
     by None there at = absurd cc
     by (Some c) there at = let same : c.name ≡ name = cc in subst IsName same (listed_is f cells all own c there).printed
 
-told_by : (f : Frame) (cells : Cells) → All (IsListed f) cells → (c : Listed (List ℕ)) → IsListed f c → (o : Option Broken) (v : Violation) → option_map (violation_of cells c) o ≡ Some v → IsTold v
+told_by : (f : Frame) (cells : Cells) → All (IsListed f) cells → (c : Listed (List ℕ)) → IsListed f c → (o : Option Broken) (v : Violation) →
+    option_map (violation_of cells c) o ≡ Some v → IsTold v
 told_by f cells all c is None v at = absurd cc
 told_by f cells all c is (Some b) v at =
     let same : violation_of cells c b ≡ v = cc in
@@ -290,10 +297,12 @@ standing_listed [] places = refl
 standing_listed (c ∷ cells) [] = ap (λ (rest : List Standing). record { team = c.team; mac = c.mac; place = None } ∷ rest) (standing_listed cells [])
 standing_listed (c ∷ cells) (p ∷ places) = ap (λ (rest : List Standing). record { team = c.team; mac = c.mac; place = option_map spot_of p } ∷ rest) (standing_listed cells places)
 
-listed_cell : (f : Frame) → CellIsSized → (c : Cell) (place : Option Place) → IsCell f c → IsListed f (record { name = c.name; team = c.team; mac = c.mac; place = place })
+listed_cell : (f : Frame) → CellIsSized → (c : Cell) (place : Option Place) → IsCell f c →
+    IsListed f (record { name = c.name; team = c.team; mac = c.mac; place = place })
 listed_cell f sized c place is = record { known = is.mac_known; sized = sized f c is; printed = is.name_printed }
 
-pub all_listed : (f : Frame) → CellIsSized → (cells : List Cell) (places : List (Option Place)) → All (IsCell f) cells → All (IsListed f) (listed_at cells places)
+pub all_listed : (f : Frame) → CellIsSized → (cells : List Cell) (places : List (Option Place)) → All (IsCell f) cells →
+    All (IsListed f) (listed_at cells places)
 all_listed f sized [] places all = All-nil (IsListed f)
 all_listed f sized (c ∷ cells) [] all =
     All-cons (IsListed f) _ (listed_at cells []) (listed_cell f sized c None (All-head (IsCell f) c cells all)) (all_listed f sized cells [] (All-tail (IsCell f) c cells all))
@@ -320,12 +329,12 @@ length_listed (c ∷ cells) (p ∷ places) = ap suc (length_listed cells places)
 abbrev pub report_with : ℕ → ℕ → List Violation → Report
 report_with cells unplaced violations = record { cells = cells; unplaced = unplaced; violations = violations }
 
-pub report_is : (l : Legalizer) (f : Frame) (cells : Cells) (count unplaced : ℕ) (violations : List Violation) → count ≡ length cells → unplaced ≡ count_by (λ c. is_none c.place) cells →
-    violations ≡ violations_in l f cells → report_with count unplaced violations ≡ report_of l f cells
+pub report_is : (l : Legalizer) (f : Frame) (cells : Cells) (count unplaced : ℕ) (violations : List Violation) → count ≡ length cells →
+    unplaced ≡ count_by (λ c. is_none c.place) cells → violations ≡ violations_in l f cells → report_with count unplaced violations ≡ report_of l f cells
 report_is l f cells count unplaced violations is_count is_unplaced is_violations =
     let e : report_with count unplaced violations ≡ report_with (length cells) (count_by (λ c. is_none c.place) cells) (violations_in l f cells) = cc in e
 
-pub joined : (cells lent : List Cell) (places : List (Option Place)) (slice items : List (Listed (Bor (List ℕ)))) → slice ≡ items → map named items ≡ listed_at lent places → lent ≡ cells →
-    map named slice ≡ listed_at cells places
+pub joined : (cells lent : List Cell) (places : List (Option Place)) (slice items : List (Listed (Bor (List ℕ)))) → slice ≡ items →
+    map named items ≡ listed_at lent places → lent ≡ cells → map named slice ≡ listed_at cells places
 joined cells lent places slice items is_items is_listed is_cells =
     ap (λ (cs : List (Listed (Bor (List ℕ)))). map named cs) is_items ∙ is_listed ∙ ap (λ (cs : List Cell). listed_at cs places) is_cells

@@ -30,7 +30,8 @@ boxes_above : (f : Frame) (n : ℕ) (cells : List Member) → All (λ p. n ≤ p
 boxes_above f n [] = All-nil (λ p. n ≤ p.own)
 boxes_above f n (m ∷ cells) = by m.place (All-weaker (λ p. n + 1 ≤ p.own) (λ p. n ≤ p.own) (λ p above. omega (arith, above)) (boxes_from f (n + 1) cells) (boxes_above f (n + 1) cells))
   where
-    by : (place : Option Spot) → All (λ p. n ≤ p.own) (boxes_from f (n + 1) cells) → All (λ p. n ≤ p.own) (with_box f n m.mac place (boxes_from f (n + 1) cells))
+    by : (place : Option Spot) → All (λ p. n ≤ p.own) (boxes_from f (n + 1) cells) →
+        All (λ p. n ≤ p.own) (with_box f n m.mac place (boxes_from f (n + 1) cells))
     by None rest = rest
     by (Some p) rest = All-cons (λ q. n ≤ q.own) (record { own = n; rect = box_in f m.mac p }) (boxes_from f (n + 1) cells) (omega arith) rest
 
@@ -72,7 +73,8 @@ here b boxes box but own false e same other shares =
     absurd (other (sym same ∙ the_same))
 
 -- the least one met is a later box
-there : (b : Placed) (boxes : List Placed) (box : Rect) (but own : ℕ) (t : Bool) → not (eqb b.own but) ≡ t → b.own < own → (b.own ≢ but → SharesPoint box b.rect → own ≤ b.own) →
+there : (b : Placed) (boxes : List Placed) (box : Rect) (but own : ℕ) (t : Bool) → not (eqb b.own but) ≡ t → b.own < own →
+    (b.own ≢ but → SharesPoint box b.rect → own ≤ b.own) →
     IsFirstMet box (others boxes but) own → IsFirstMet box (cond t (b ∷ others boxes but) (others boxes but)) own
 there b boxes box but own true e below least met =
     let differ : b.own ≢ but = λ same. grind (arith, nat_tests) in
@@ -101,8 +103,8 @@ first_of_least (b ∷ boxes) box but own rise least = at least.met.among (first_
         }))
 
 -- the least number that is met in a tree of the cells' boxes is the first other cell that is met
-pub first_beside : (f : Frame) (cells : List Member) (tree : List Placed) (box : Rect) (but own : ℕ) → IsPermutation (boxes_from f 0 cells) tree → IsLeastMet tree box but own →
-    IsFirstMet box (boxes_beside f cells but) own
+pub first_beside : (f : Frame) (cells : List Member) (tree : List Placed) (box : Rect) (but own : ℕ) → IsPermutation (boxes_from f 0 cells) tree →
+    IsLeastMet tree box but own → IsFirstMet box (boxes_beside f cells but) own
 first_beside f cells tree box but own same least =
     let boxes : List Placed = boxes_from f 0 cells in
     let back = IsPermutation-sym boxes tree same in
@@ -118,8 +120,8 @@ first_beside f cells tree box but own same least =
     })
 
 -- where none is met in the tree, no other cell is
-pub none_beside : (f : Frame) (cells : List Member) (tree : List Placed) (box : Rect) (but : ℕ) → IsPermutation (boxes_from f 0 cells) tree → IsNoneMet tree box but →
-    All (λ p. SharesPoint box p.rect → ⊥) (boxes_beside f cells but)
+pub none_beside : (f : Frame) (cells : List Member) (tree : List Placed) (box : Rect) (but : ℕ) → IsPermutation (boxes_from f 0 cells) tree →
+    IsNoneMet tree box but → All (λ p. SharesPoint box p.rect → ⊥) (boxes_beside f cells but)
 none_beside f cells tree box but same none =
     let boxes : List Placed = boxes_from f 0 cells in
     let all = All-permutation (λ q. q.own ≢ but → SharesPoint box q.rect → ⊥) tree boxes (IsPermutation-sym boxes tree same) none in
@@ -132,12 +134,13 @@ none_beside f cells tree box but same none =
 -- ---- the verdict
 
 -- the rule on rows that is the first broken
-pub rows_broken : (t : Trial) (verdict : Option Rule) (rule : Rule) → verdict ≡ Some rule → IsRowVerdict t verdict → IsFirstBroken t record { rule = rule; other = None }
+pub rows_broken : (t : Trial) (verdict : Option Rule) (rule : Rule) → verdict ≡ Some rule → IsRowVerdict t verdict →
+    IsFirstBroken t record { rule = rule; other = None }
 rows_broken t verdict rule is said = subst (IsRowVerdict t) is said
 
 -- the rule on ground or obstacles that is the first broken
-pub areas_broken : (t : Trial) (box : Rect) (rows areas : Option Rule) (rule : Rule) → box ≡ box_of t → rows ≡ None → areas ≡ Some rule → IsRowVerdict t rows → IsAreaVerdict t.frame t.team box areas →
-    IsFirstBroken t record { rule = rule; other = None }
+pub areas_broken : (t : Trial) (box : Rect) (rows areas : Option Rule) (rule : Rule) → box ≡ box_of t → rows ≡ None → areas ≡ Some rule → IsRowVerdict t rows →
+    IsAreaVerdict t.frame t.team box areas → IsFirstBroken t record { rule = rule; other = None }
 areas_broken t box rows areas rule at no_rows is rows_said said =
     let held : OnRows t = rows_held t (subst (IsRowVerdict t) no_rows rows_said) in
     let told : IsAreaVerdict t.frame t.team box (Some rule) = subst (IsAreaVerdict t.frame t.team box) is said in
@@ -147,7 +150,8 @@ areas_broken t box rows areas rule at no_rows is rows_said said =
     ]
 
 -- where those rules hold, the cell that is met decides
-pub met_verdict : (t : Trial) (cells : List Member) (own : ℕ) (tree : List Placed) (box : Rect) (rows areas : Option Rule) (met : Option ℕ) → t.others ≡ boxes_beside t.frame cells own → box ≡ box_of t →
+pub met_verdict : (t : Trial) (cells : List Member) (own : ℕ) (tree : List Placed) (box : Rect) (rows areas : Option Rule) (met : Option ℕ) →
+    t.others ≡ boxes_beside t.frame cells own → box ≡ box_of t →
     rows ≡ None → areas ≡ None → IsRowVerdict t rows → IsAreaVerdict t.frame t.team box areas → IsPermutation (boxes_from t.frame 0 cells) tree →
     MatchOption met (IsNoneMet tree box own) (IsLeastMet tree box own) → IsVerdict t (option_map (λ other. record { rule = Overlap; other = Some other }) met)
 met_verdict t cells own tree box rows areas met beside at no_rows no_areas rows_said areas_said same found = by met found
@@ -158,6 +162,7 @@ met_verdict t cells own tree box rows areas met beside at no_rows no_areas rows_
     both : StaysInGround t.frame t.team box × IsClear t.frame box
     both = subst (IsAreaVerdict t.frame t.team box) no_areas areas_said
 
-    by : (m : Option ℕ) → MatchOption m (IsNoneMet tree box own) (IsLeastMet tree box own) → IsVerdict t (option_map (λ other. record { rule = Overlap; other = Some other }) m)
+    by : (m : Option ℕ) → MatchOption m (IsNoneMet tree box own) (IsLeastMet tree box own) →
+        IsVerdict t (option_map (λ other. record { rule = Overlap; other = Some other }) m)
     by None none = all_at t box at held both.0 both.1 (subst (All (λ p. SharesPoint box p.rect → ⊥)) (sym beside) (none_beside t.frame cells tree box own same none))
     by (Some other) least = overlap_not t box other at held both.0 both.1 (subst (λ (boxes : List Placed). IsFirstMet box boxes other) (sym beside) (first_beside t.frame cells tree box own other same least))

@@ -29,7 +29,8 @@ later_there x y xs there = Contains-append_right (x ∷ []) xs y there
 
 -- ---- rows
 
-row_there : (pitch : Point) (n : ℕ) (rows : List Row) (k : ℕ) (d : Row) → k < length rows → Contains (row_boxes pitch n rows) (numbered (n + k) (row_area pitch (get_or rows k d)))
+row_there : (pitch : Point) (n : ℕ) (rows : List Row) (k : ℕ) (d : Row) → k < length rows →
+    Contains (row_boxes pitch n rows) (numbered (n + k) (row_area pitch (get_or rows k d)))
 row_there pitch n [] k d within = absurd (omega arith)
 row_there pitch n (r ∷ rows) zero d within =
     let at : n ≡ n + 0 = omega arith in
@@ -76,8 +77,8 @@ fewer_steps (pos n) j k up less =
     omega (arith, ints)
 fewer_steps (negsuc n) j k up less = absurd (omega (arith, ints))
 
-row_shares : (f : Frame) (box : Rect) (j : ℕ) (r : Row) → box.x1 <ℤ box.x2 → pos 0 <ℤ f.pitch.y → IsRowOfBox f box j r → (box.y1 +ℤ (pos j *ℤ f.pitch.y)) <ℤ box.y2 →
-    SharesPoint box (row_area f.pitch r)
+row_shares : (f : Frame) (box : Rect) (j : ℕ) (r : Row) → box.x1 <ℤ box.x2 → pos 0 <ℤ f.pitch.y → IsRowOfBox f box j r →
+    (box.y1 +ℤ (pos j *ℤ f.pitch.y)) <ℤ box.y2 → SharesPoint box (row_area f.pitch r)
 row_shares f box j r wide up is below =
     let level = is.at_level in
     let left = is.left in
@@ -90,14 +91,15 @@ row_shares f box j r wide up is below =
       in_second = record { left = left; right = omega (arith, ints); bottom = omega (arith, ints); top = omega (arith, ints) };
     }
 
-pub bottom_shares : (f : Frame) (box : Rect) (r : Row) → IsSolid box → pos 0 <ℤ f.pitch.y → IsBottomRow f box r → Contains f.rows r × SharesPoint box (row_area f.pitch r)
+pub bottom_shares : (f : Frame) (box : Rect) (r : Row) → IsSolid box → pos 0 <ℤ f.pitch.y → IsBottomRow f box r →
+    Contains f.rows r × SharesPoint box (row_area f.pitch r)
 bottom_shares f box r solid up is =
     let high = solid.high in
     let nothing : (pos 0 *ℤ f.pitch.y) ≡ pos 0 = omega (arith, ints) in
     (is.heeded, row_shares f box 0 r solid.wide up is.at_bottom (omega (arith, ints)))
 
-pub carrier_shares : (f : Frame) (box : Rect) (bottom : Row) (j k : ℕ) (r : Row) → IsSolid box → pos 0 <ℤ f.pitch.y → IsSitesHigh f box k → j < k → Carries f box bottom j r →
-    Contains f.rows r × SharesPoint box (row_area f.pitch r)
+pub carrier_shares : (f : Frame) (box : Rect) (bottom : Row) (j k : ℕ) (r : Row) → IsSolid box → pos 0 <ℤ f.pitch.y → IsSitesHigh f box k → j < k →
+    Carries f box bottom j r → Contains f.rows r × SharesPoint box (row_area f.pitch r)
 carrier_shares f box bottom j k r solid up tall less is =
     let top = tall.high in
     let fewer = fewer_steps f.pitch.y j k up less in
@@ -109,8 +111,8 @@ carrier_shares f box bottom j k r solid up tall less is =
 abbrev pub NoneYet : (Row → Type 0) → Frame → List Placed → ℕ → Type 0
 NoneYet P f near n = (j : ℕ) (d : Placed) (r : Row) → j < n → slice_get f.rows (get_or near j d).own ≡ Some r → P r → ⊥
 
-pub none_more : (P : Row → Type 0) (f : Frame) (near : List Placed) (n : ℕ) (e : Placed) (r : Row) → NoneYet P f near n → n < length near → slice_get f.rows (get_or near n e).own ≡ Some r → (P r → ⊥) →
-    NoneYet P f near (n + 1)
+pub none_more : (P : Row → Type 0) (f : Frame) (near : List Placed) (n : ℕ) (e : Placed) (r : Row) → NoneYet P f near n → n < length near →
+    slice_get f.rows (get_or near n e).own ≡ Some r → (P r → ⊥) → NoneYet P f near (n + 1)
 none_more P f near n e r yet within there not_so j d s below at holds =
     let cases : (j < n) ⊎ (j ≡ n) = grind arith in
     elim cases [

@@ -20,8 +20,8 @@ abbrev pub beside_from : Frame → ℕ → ℕ → List (Listed (Bor (List ℕ))
 beside_from f own n cells = filter (λ p. not (eqb p.own own)) (boxes_from f n (map member_of (map named cells)))
 
 -- a verdict on the cell's trial is what every legalizer says
-pub broken_is : (l : Legalizer) (f : Frame) (cells : List (Listed (List ℕ))) (own : ℕ) (c : Listed (List ℕ)) (place : Place) (found : Option Broken) → VerdictIsOne → IsListed f c →
-    IsVerdict (trial_among f cells own c place) found → found ≡ l.first_broken (trial_among f cells own c place)
+pub broken_is : (l : Legalizer) (f : Frame) (cells : List (Listed (List ℕ))) (own : ℕ) (c : Listed (List ℕ)) (place : Place) (found : Option Broken) →
+    VerdictIsOne → IsListed f c → IsVerdict (trial_among f cells own c place) found → found ≡ l.first_broken (trial_among f cells own c place)
 broken_is l f cells own c place found one listed verdict =
     one (trial_among f cells own c place) found (l.first_broken (trial_among f cells own c place)) verdict (l.finds_first_broken (trial_among f cells own c place) listed.sized)
 
@@ -32,7 +32,8 @@ trial_is f cells own c mac place others found is beside verdict =
     subst (λ (os : List Placed). IsVerdict (trial_of f c.team (macro_of f c.mac) place os) found) beside (subst (λ (m : Macro). IsVerdict (trial_of f c.team m place others) found) is verdict)
 
 -- what a number more adds to the list of what is found at each
-found_more : {Y : Type 0} (g : ℕ → Option Y) (a n : ℕ) → filter_map g (range_with_len a (suc n)) ≡ filter_map g (range_with_len a n) ++ cons_option (g (a + n)) []
+found_more : {Y : Type 0} (g : ℕ → Option Y) (a n : ℕ) →
+    filter_map g (range_with_len a (suc n)) ≡ filter_map g (range_with_len a n) ++ cons_option (g (a + n)) []
 found_more {Y = Y} g a zero = ap (λ (m : ℕ). cons_option (g m) []) (omega arith)
 found_more {Y = Y} g a (suc n) =
     ap (cons_option (g a)) (found_more g (a + 1) n ∙ ap (λ (m : ℕ). filter_map g (range_with_len (a + 1) n) ++ cons_option (g m) []) (omega arith))
@@ -51,8 +52,8 @@ told_more {Y = Y} g n old new is found =
     ∙ sym (ap (λ (k : ℕ). filter_map g (range_with_len 0 k)) next ∙ found_more g 0 n ∙ ap (λ (m : ℕ). filter_map g (range_with_len 0 n) ++ cons_option (g m) []) at)
 
 -- the cell of that number breaks this rule, or none
-pub told_at : (l : Legalizer) (f : Frame) (cells : List (Listed (List ℕ))) (own : ℕ) (c : Listed (List ℕ)) (o : Option Broken) → slice_get cells own ≡ Some c → o ≡ broken_among l f cells own c →
-    violation_at l f cells own ≡ option_map (violation_of cells c) o
+pub told_at : (l : Legalizer) (f : Frame) (cells : List (Listed (List ℕ))) (own : ℕ) (c : Listed (List ℕ)) (o : Option Broken) → slice_get cells own ≡ Some c →
+    o ≡ broken_among l f cells own c → violation_at l f cells own ≡ option_map (violation_of cells c) o
 told_at l f cells own c o there is = ap (option_and_then (violation_by l f cells own)) there ∙ ap (option_map (violation_of cells c)) (sym is)
 
 -- where nothing is told nothing is added

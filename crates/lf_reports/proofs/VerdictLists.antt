@@ -21,7 +21,8 @@ use Rattle.lf_reports.proofs.NearLemmas.{first_there, later_there}
 
 -- ---- the numbers of boxes
 
-with_known : (f : Frame) (n m mac : ℕ) (place : Option Spot) (rest : List Placed) → n < m → All (λ p. p.own < m) rest → All (λ p. p.own < m) (with_box f n mac place rest)
+with_known : (f : Frame) (n m mac : ℕ) (place : Option Spot) (rest : List Placed) → n < m → All (λ p. p.own < m) rest →
+    All (λ p. p.own < m) (with_box f n mac place rest)
 with_known f n m mac None rest below all = all
 with_known f n m mac (Some p) rest below all = All-cons (λ p. p.own < m) (record { own = n; rect = box_in f mac p }) rest below all
 
@@ -42,7 +43,8 @@ behind_box : (f : Frame) (n mac : ℕ) (place : Option Spot) (rest : List Placed
 behind_box f n mac None rest p there = there
 behind_box f n mac (Some at) rest p there = later_there (record { own = n; rect = box_in f mac at }) p rest there
 
-box_there : (f : Frame) (n : ℕ) (cells : List Member) (k : ℕ) (m : Member) (p : Spot) → slice_get cells k ≡ Some m → m.place ≡ Some p → Contains (boxes_from f n cells) (record { own = n + k; rect = box_in f m.mac p })
+box_there : (f : Frame) (n : ℕ) (cells : List Member) (k : ℕ) (m : Member) (p : Spot) → slice_get cells k ≡ Some m → m.place ≡ Some p →
+    Contains (boxes_from f n cells) (record { own = n + k; rect = box_in f m.mac p })
 box_there f n [] k m p there at = absurd cc
 box_there f n (c ∷ cells) zero m p there at =
     let same : c ≡ m = cc in
@@ -68,7 +70,8 @@ differ_or_not a b =
       | inr (inr more) ↦ inr (λ e. omega (arith, more, e))
     ]
 
-pub puts : (l : Legalizer) (f : Frame) (cells : List (Listed (List ℕ))) (own : ℕ) (cell : Listed (List ℕ)) (v : Option Broken) (old : List (Option Broken)) → slice_get cells own ≡ Some cell →
+pub puts : (l : Legalizer) (f : Frame) (cells : List (Listed (List ℕ))) (own : ℕ) (cell : Listed (List ℕ)) (v : Option Broken) (old : List (Option Broken)) →
+    slice_get cells own ≡ Some cell →
     v ≡ broken_among l f cells own cell → own < length old → AreSomeVerdicts l f cells old → PutsVerdict l f cells own old (set old own v)
 puts l f cells own cell v old there is within some = record {
   some = record { count = length-set old own v ∙ some.count; each = λ other c at. either other c at (differ_or_not other own) };
@@ -87,8 +90,8 @@ puts l f cells own cell v old there is within some = record {
     either other c at (inl same) = inr (here other c same at)
     either other c at (inr differ) = subst (λ (o : Option Broken). (o ≡ None) ⊎ (o ≡ broken_among l f cells other c)) (sym (get_or-set_other old own other v None differ)) (some.each other c at)
 
-    keep : (other : ℕ) (c : Listed (List ℕ)) → slice_get cells other ≡ Some c → verdict_at old other ≡ broken_among l f cells other c → (other ≡ own) ⊎ (other ≢ own) →
-        verdict_at (set old own v) other ≡ broken_among l f cells other c
+    keep : (other : ℕ) (c : Listed (List ℕ)) → slice_get cells other ≡ Some c → verdict_at old other ≡ broken_among l f cells other c →
+        (other ≡ own) ⊎ (other ≢ own) → verdict_at (set old own v) other ≡ broken_among l f cells other c
     keep other c at had (inl same) = here other c same at
     keep other c at had (inr differ) = get_or-set_other old own other v None differ ∙ had
 
@@ -104,7 +107,8 @@ puts_or_keeps l f cells own cell v old new there is within some (inl (nothing, s
       kept = λ other c at had. had;
     }
   where
-    right : (c : Listed (List ℕ)) → slice_get cells own ≡ Some c → (verdict_at old own ≡ None) ⊎ (verdict_at old own ≡ broken_among l f cells own c) → verdict_at old own ≡ broken_among l f cells own c
+    right : (c : Listed (List ℕ)) → slice_get cells own ≡ Some c → (verdict_at old own ≡ None) ⊎ (verdict_at old own ≡ broken_among l f cells own c) →
+        verdict_at old own ≡ broken_among l f cells own c
     right c at (inr had) = had
     right c at (inl none) =
         let both : Some cell ≡ Some c = sym there ∙ at in
@@ -114,7 +118,8 @@ puts_or_keeps l f cells own cell v old new there is within some (inl (nothing, s
 -- ---- the cells of the boxes
 
 -- the cell that was fetched for a box is the one of the box's number
-pub fetched_at : (cells fetched : List (Listed (List ℕ))) (boxes : List Placed) (k : ℕ) (d : Placed) (c : Listed (List ℕ)) → map Some fetched ≡ map (λ p. slice_get cells p.own) boxes → k < length boxes →
+pub fetched_at : (cells fetched : List (Listed (List ℕ))) (boxes : List Placed) (k : ℕ) (d : Placed) (c : Listed (List ℕ)) →
+    map Some fetched ≡ map (λ p. slice_get cells p.own) boxes → k < length boxes →
     slice_get fetched k ≡ Some c → slice_get cells (get_or boxes k d).own ≡ Some c
 fetched_at cells [] [] k d c same within at = absurd (omega (arith, within))
 fetched_at cells [] (p ∷ boxes) k d c same within at = absurd cc
@@ -127,7 +132,8 @@ fetched_at cells (x ∷ fetched) (p ∷ boxes) (suc k) d c same within at =
     fetched_at cells fetched boxes k d c rest (omega (arith, within)) at
 
 -- what is known of each listed cell is known of the one at a number
-pub listed_there : (f : Frame) (cells : List (Listed (Bor (List ℕ)))) (own : ℕ) (c : Listed (List ℕ)) → All (λ x. IsListed f (named x)) cells → slice_get (map named cells) own ≡ Some c → IsListed f c
+pub listed_there : (f : Frame) (cells : List (Listed (Bor (List ℕ)))) (own : ℕ) (c : Listed (List ℕ)) → All (λ x. IsListed f (named x)) cells →
+    slice_get (map named cells) own ≡ Some c → IsListed f c
 listed_there f [] own c all at = absurd cc
 listed_there f (x ∷ cells) zero c all at =
     let same : named x ≡ c = cc in
@@ -135,7 +141,8 @@ listed_there f (x ∷ cells) zero c all at =
 listed_there f (x ∷ cells) (suc own) c all at = listed_there f cells own c (All-tail (λ y. IsListed f (named y)) x cells all) at
 
 -- one more cell was fetched
-pub fetched_more : (cells fetched : List (Listed (List ℕ))) (boxes : List Placed) (k : ℕ) (d : Placed) (c : Listed (List ℕ)) → k < length boxes → slice_get cells (get_or boxes k d).own ≡ Some c →
+pub fetched_more : (cells fetched : List (Listed (List ℕ))) (boxes : List Placed) (k : ℕ) (d : Placed) (c : Listed (List ℕ)) → k < length boxes →
+    slice_get cells (get_or boxes k d).own ≡ Some c →
     map Some fetched ++ map (λ p. slice_get cells p.own) (drop k boxes) ≡ map (λ p. slice_get cells p.own) boxes →
     map Some (fetched ++ c ∷ []) ++ map (λ p. slice_get cells p.own) (drop (k + 1) boxes) ≡ map (λ p. slice_get cells p.own) boxes
 fetched_more cells fetched boxes k d c within there so_far =
@@ -156,8 +163,8 @@ pub record HaveVerdicts (l : Legalizer) (f : Frame) (cells : List (Listed (List 
   pub done : (j : ℕ) (d : Placed) (c : Listed (List ℕ)) → j < k → slice_get cells (get_or boxes j d).own ≡ Some c →
       verdict_at verdicts (get_or boxes j d).own ≡ broken_among l f cells (get_or boxes j d).own c
 
-pub one_more : (l : Legalizer) (f : Frame) (cells : List (Listed (List ℕ))) (boxes : List Placed) (k : ℕ) (e : Placed) (old new : List (Option Broken)) → k < length boxes →
-    HaveVerdicts l f cells boxes k old → PutsVerdict l f cells (get_or boxes k e).own old new → HaveVerdicts l f cells boxes (k + 1) new
+pub one_more : (l : Legalizer) (f : Frame) (cells : List (Listed (List ℕ))) (boxes : List Placed) (k : ℕ) (e : Placed) (old new : List (Option Broken)) →
+    k < length boxes → HaveVerdicts l f cells boxes k old → PutsVerdict l f cells (get_or boxes k e).own old new → HaveVerdicts l f cells boxes (k + 1) new
 one_more l f cells boxes k e old new within have puts = record {
   some = puts.some;
   done = λ j d c below at.
@@ -171,11 +178,12 @@ one_more l f cells boxes k e old new within have puts = record {
 }
 
 -- where all boxes are done, each cell has its verdict: an unplaced one breaks no rule
-pub all_done : (l : Legalizer) (f : Frame) (cells : List (Listed (List ℕ))) (boxes : List Placed) (verdicts : List (Option Broken)) → IsPermutation (boxes_from f 0 (map member_of cells)) boxes →
-    HaveVerdicts l f cells boxes (length boxes) verdicts → AreVerdicts l f cells verdicts
+pub all_done : (l : Legalizer) (f : Frame) (cells : List (Listed (List ℕ))) (boxes : List Placed) (verdicts : List (Option Broken)) →
+    IsPermutation (boxes_from f 0 (map member_of cells)) boxes → HaveVerdicts l f cells boxes (length boxes) verdicts → AreVerdicts l f cells verdicts
 all_done l f cells boxes verdicts same have = record { count = have.some.count; each = λ own c at. by own c at c.place refl }
   where
-    by : (own : ℕ) (c : Listed (List ℕ)) → slice_get cells own ≡ Some c → (place : Option Place) → c.place ≡ place → verdict_at verdicts own ≡ broken_among l f cells own c
+    by : (own : ℕ) (c : Listed (List ℕ)) → slice_get cells own ≡ Some c → (place : Option Place) → c.place ≡ place →
+        verdict_at verdicts own ≡ broken_among l f cells own c
     by own c at None unplaced =
         let nothing : broken_among l f cells own c ≡ None = ap (λ (o : Option Place). option_and_then (λ p. l.first_broken (trial_among f cells own c p)) o) unplaced in
         elim (have.some.each own c at) [
@@ -194,8 +202,8 @@ all_done l f cells boxes verdicts same have = record { count = have.some.count; 
         subst (λ (q : Placed). slice_get cells q.own ≡ Some c → verdict_at verdicts q.own ≡ broken_among l f cells q.own c) among.2 (have.done among.0 box c among.1) at
 
 -- none has a verdict before the first box
-pub none_yet : (l : Legalizer) (f : Frame) (cells : List (Listed (List ℕ))) (boxes : List Placed) (verdicts : List (Option Broken)) → length verdicts ≡ length cells →
-    ((own : ℕ) → verdict_at verdicts own ≡ None) → HaveVerdicts l f cells boxes 0 verdicts
+pub none_yet : (l : Legalizer) (f : Frame) (cells : List (Listed (List ℕ))) (boxes : List Placed) (verdicts : List (Option Broken)) →
+    length verdicts ≡ length cells → ((own : ℕ) → verdict_at verdicts own ≡ None) → HaveVerdicts l f cells boxes 0 verdicts
 none_yet l f cells boxes verdicts count none = record {
   some = record { count = count; each = λ own c at. inl (none own) };
   done = λ j d c below at. absurd (omega (arith, below));

@@ -19,15 +19,15 @@ NearOfFirst boxes rect n found = AreNear (take n boxes) rect found
 one_after : (boxes : List Placed) (n : ℕ) (e : Placed) → n < length boxes → take (n + 1) boxes ≡ take n boxes ++ get_or boxes n e ∷ []
 one_after boxes n e within = take_more boxes n e within
 
-pub found_more : (boxes : List Placed) (rect : Rect) (n : ℕ) (e : Placed) (found : List Placed) → n < length boxes → NearOfFirst boxes rect n found → SharesPoint rect (get_or boxes n e).rect →
-    NearOfFirst boxes rect (n + 1) (found ++ get_or boxes n e ∷ [])
+pub found_more : (boxes : List Placed) (rect : Rect) (n : ℕ) (e : Placed) (found : List Placed) → n < length boxes → NearOfFirst boxes rect n found →
+    SharesPoint rect (get_or boxes n e).rect → NearOfFirst boxes rect (n + 1) (found ++ get_or boxes n e ∷ [])
 found_more boxes rect n e found within near shares =
     let p : Placed = get_or boxes n e in
     subst (λ (xs : List Placed). AreNear xs rect (found ++ p ∷ [])) (sym (one_after boxes n e within))
     (near_along (take n boxes) (p ∷ []) rect found (p ∷ []) near (near_box p rect shares))
 
-pub passed_over : (boxes : List Placed) (rect : Rect) (n : ℕ) (e : Placed) (found : List Placed) → n < length boxes → NearOfFirst boxes rect n found → (SharesPoint rect (get_or boxes n e).rect → ⊥) →
-    NearOfFirst boxes rect (n + 1) found
+pub passed_over : (boxes : List Placed) (rect : Rect) (n : ℕ) (e : Placed) (found : List Placed) → n < length boxes → NearOfFirst boxes rect n found →
+    (SharesPoint rect (get_or boxes n e).rect → ⊥) → NearOfFirst boxes rect (n + 1) found
 passed_over boxes rect n e found within near apart =
     let p : Placed = get_or boxes n e in
     subst (λ (xs : List Placed). AreNear xs rect found) (sym (one_after boxes n e within))
@@ -55,7 +55,8 @@ shares_wider outer inner r within shares =
     }
 
 -- near of what is near of a wider rectangle is near of all
-pub near_of_near : (all : List Placed) (outer inner : Rect) (wide found : List Placed) → AreNear all outer wide → IsWithin outer inner → AreNear wide inner found → AreNear all inner found
+pub near_of_near : (all : List Placed) (outer inner : Rect) (wide found : List Placed) → AreNear all outer wide → IsWithin outer inner →
+    AreNear wide inner found → AreNear all inner found
 near_of_near all outer inner wide found first within second = record {
   others = second.others ++ first.others;
   parted = IsPermutation-trans all (wide ++ first.others) (found ++ (second.others ++ first.others)) first.parted

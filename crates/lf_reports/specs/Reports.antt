@@ -50,7 +50,8 @@ pub record AreVerdicts (l : Legalizer) (f : Frame) (cells : List (Listed (List �
 -- some cells have their verdict, and the others none yet
 pub record AreSomeVerdicts (l : Legalizer) (f : Frame) (cells : List (Listed (List ℕ))) (verdicts : List (Option Broken)) : Type 0 where
   pub count : length verdicts ≡ length cells
-  pub each : (own : ℕ) (c : Listed (List ℕ)) → slice_get cells own ≡ Some c → (verdict_at verdicts own ≡ None) ⊎ (verdict_at verdicts own ≡ broken_among l f cells own c)
+  pub each : (own : ℕ) (c : Listed (List ℕ)) → slice_get cells own ≡ Some c →
+      (verdict_at verdicts own ≡ None) ⊎ (verdict_at verdicts own ≡ broken_among l f cells own c)
 
 -- the verdict stands at its number, where it says that a rule is broken; else nothing was changed
 abbrev pub IsPut : ℕ → Option Broken → List (Option Broken) → List (Option Broken) → Type 0
@@ -60,7 +61,8 @@ IsPut own verdict old new = ((verdict ≡ None) × (new ≡ old)) ⊎ (new ≡ s
 pub record PutsVerdict (l : Legalizer) (f : Frame) (cells : List (Listed (List ℕ))) (own : ℕ) (old new : List (Option Broken)) : Type 0 where
   pub some : AreSomeVerdicts l f cells new
   pub put : (c : Listed (List ℕ)) → slice_get cells own ≡ Some c → verdict_at new own ≡ broken_among l f cells own c
-  pub kept : (other : ℕ) (c : Listed (List ℕ)) → slice_get cells other ≡ Some c → verdict_at old other ≡ broken_among l f cells other c → verdict_at new other ≡ broken_among l f cells other c
+  pub kept : (other : ℕ) (c : Listed (List ℕ)) → slice_get cells other ≡ Some c → verdict_at old other ≡ broken_among l f cells other c →
+      verdict_at new other ≡ broken_among l f cells other c
 
 -- the name of the cell of that number
 abbrev pub name_among : List (Listed (List ℕ)) → ℕ → Option (List ℕ)

@@ -9,4 +9,6 @@ use Rattle.lf_reports.proofs.illegal.first_of.Given as goal
 
 -- the cells so far break no rule
 abbrev pub invariant-loop-own : goal.invariant-loop-own
-invariant-loop-own l = (lz : Legalizer) (f : Frame) (cells : List (Listed (List ℕ))) → AreVerdicts lz f cells l.verdicts → illegal_in lz f cells ≡ illegal_from lz f cells l.own
+invariant-loop-own l =
+    (lz : Legalizer) (f : Frame) (cells : List (Listed (List ℕ))) → AreVerdicts lz f cells l.verdicts →
+    illegal_in lz f cells ≡ illegal_from lz f cells l.own

@@ -26,7 +26,8 @@ fetch-requires c =
     subst (λ (n : ℕ). All (λ p. p.own < n) c.args.boxes.now) long known
 
 -- the cell at the loop's number is the one of its box
-there : (c : goal.After-verdicts-in-loop-number-1) → slice_get (map named c.args.cells.now) (get_or c.args.boxes.now c.loop-number.number nowhere).own ≡ Some (named c.index-cell.result.now)
+there : (c : goal.After-verdicts-in-loop-number-1) →
+    slice_get (map named c.args.cells.now) (get_or c.args.boxes.now c.loop-number.number nowhere).own ≡ Some (named c.index-cell.result.now)
 there c =
     let cells = map named c.args.cells.now in
     let items = c.in_ok-fetched.fetched.items in

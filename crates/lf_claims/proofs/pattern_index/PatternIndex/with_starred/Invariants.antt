@@ -8,5 +8,6 @@ use Rattle.lf_claims.proofs.pattern_index.PatternIndex.with_starred.Given as goa
 abbrev pub invariant-loop-number : goal.invariant-loop-number
 invariant-loop-number l = record {
   long : length l.all.items ≡ l.number;
-  told : (literals : List Labelled) (starred : List Bound) → HasStarred l.self.starred starred → AreTold (Labels literals) l.components l.claims → ToldBelow (λ name fence. Labels literals name fence ⊎ ClaimsBy starred name fence) l.components l.all.items l.number;
+  told : (literals : List Labelled) (starred : List Bound) → HasStarred l.self.starred starred → AreTold (Labels literals) l.components l.claims →
+      ToldBelow (λ name fence. Labels literals name fence ⊎ ClaimsBy starred name fence) l.components l.all.items l.number;
 }
