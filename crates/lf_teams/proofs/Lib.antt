@@ -6,6 +6,7 @@ pub mod Serving
 pub mod Answering
 pub mod Isolation
 pub mod Openings
+pub mod Parts
 pub mod VerbBack
 pub mod Standing
 pub mod Tidying

@@ -2,9 +2,11 @@
 //! follow. Nothing runs here; a floor is proved to do what these definitions say.
 #![tactic(auto)]
 
+mod committed_laws;
 mod laws;
 mod verb_laws;
 
+pub use committed_laws::legal_makes_teams;
 pub use laws::{other_designs_do_not_matter, others_do_not_matter};
 pub use verb_laws::{
     best_is_found, change_counts, commit_finds_legal, legalize_makes_legal, look_keeps,
