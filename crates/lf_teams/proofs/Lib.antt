@@ -7,6 +7,7 @@ pub mod Answering
 pub mod Isolation
 pub mod Openings
 pub mod Parts
+pub mod Loading
 pub mod VerbBack
 pub mod Standing
 pub mod Tidying
