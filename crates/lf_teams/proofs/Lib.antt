@@ -8,6 +8,7 @@ pub mod Isolation
 pub mod Openings
 pub mod Parts
 pub mod Loading
+pub mod Committing
 pub mod VerbBack
 pub mod Standing
 pub mod Tidying

@@ -1,6 +1,6 @@
 //! Laws on the committed design.
 
-ghost use Rattle.lf_teams.specs.Committed.{LegalMakesTeams, LoadedIsCommitted, LoadedPlacesAreCommitted};
+ghost use Rattle.lf_teams.specs.Committed.{CommitMakesCommitted, LegalMakesTeams, LoadedIsCommitted, LoadedPlacesAreCommitted, OrderKeepsCommitted};
 
 /// In a fully legal design each team's cells are placed and team-legal.
 pub fn legal_makes_teams()
@@ -16,4 +16,15 @@ pub fn loaded_is_committed()
 /// committed them there.
 pub fn loaded_places_are_committed()
     ensures { LoadedPlacesAreCommitted }
+{}
+
+/// A team whose committed places are legal keeps that, whatever is asked of it.
+pub fn order_keeps_committed()
+    ensures { OrderKeepsCommitted }
+{}
+
+/// After an accepted commit the committed places are the working places, and are legal, whatever was
+/// committed before.
+pub fn commit_makes_committed()
+    ensures { CommitMakesCommitted }
 {}
