@@ -15,3 +15,4 @@ pub mod Tidying
 pub mod VerbLegal
 pub mod VerbRows
 pub mod Promises
+pub mod Stepping

@@ -10,5 +10,6 @@ pub mod Steps
 pub mod Runs
 pub mod Designs
 pub mod Committed
+pub mod CommittedRuns
 pub mod Laws
 pub mod VerbRows

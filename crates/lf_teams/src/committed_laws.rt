@@ -1,6 +1,7 @@
 //! Laws on the committed design.
 
 ghost use Rattle.lf_teams.specs.Committed.{CommitMakesCommitted, LegalMakesTeams, LoadedIsCommitted, LoadedPlacesAreCommitted, OrderKeepsCommitted};
+ghost use Rattle.lf_teams.specs.CommittedRuns.{StepKeepsCommitted};
 
 /// In a fully legal design each team's cells are placed and team-legal.
 pub fn legal_makes_teams()
@@ -27,4 +28,9 @@ pub fn order_keeps_committed()
 /// committed before.
 pub fn commit_makes_committed()
     ensures { CommitMakesCommitted }
+{}
+
+/// A command keeps a fully legal committed design.
+pub fn step_keeps_committed()
+    ensures { StepKeepsCommitted }
 {}
