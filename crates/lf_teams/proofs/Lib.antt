@@ -16,3 +16,4 @@ pub mod VerbLegal
 pub mod VerbRows
 pub mod Promises
 pub mod Stepping
+pub mod Running

@@ -1,7 +1,7 @@
 //! Laws on the committed design.
 
 ghost use Rattle.lf_teams.specs.Committed.{CommitMakesCommitted, LegalMakesTeams, LoadedIsCommitted, LoadedPlacesAreCommitted, OrderKeepsCommitted};
-ghost use Rattle.lf_teams.specs.CommittedRuns.{StepKeepsCommitted};
+ghost use Rattle.lf_teams.specs.CommittedRuns.{RunCommitsMakeLegal, RunStaysLegal, StepKeepsCommitted};
 
 /// In a fully legal design each team's cells are placed and team-legal.
 pub fn legal_makes_teams()
@@ -33,4 +33,15 @@ pub fn commit_makes_committed()
 /// A command keeps a fully legal committed design.
 pub fn step_keeps_committed()
     ensures { StepKeepsCommitted }
+{}
+
+/// A run from a fully legal committed design has one after each command.
+pub fn run_stays_legal()
+    ensures { RunStaysLegal }
+{}
+
+/// After a run in which of each team that has a cell a commit was accepted, the committed design is
+/// fully legal, whatever stood before.
+pub fn run_commits_make_legal()
+    ensures { RunCommitsMakeLegal }
 {}
