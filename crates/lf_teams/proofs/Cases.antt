@@ -9,7 +9,7 @@ use Rattle.lf_rules.specs.Team.{Member}
 use Rattle.lf_rules.specs.Tidy.{Tidied, Going, Stuck, tidied}
 use Rattle.lf_proto.specs.declared.reply.Reply.TheVariants.{Done, Revision, At, Legalized, Tidied as TidyDone, Report, Refused}
 use Rattle.lf_proto.specs.declared.reply.Refusal.{Refusal}
-use Rattle.lf_proto.specs.declared.reply.Refusal.TheVariants.{BadRequest, NoSession, Stale, NoCell, Unplaced, Illegal, NoPlace, NothingToUndo, RevisionsSpent, SessionsFull}
+use Rattle.lf_proto.specs.declared.reply.Refusal.TheVariants.{NoSession, Stale, NoCell, Unplaced, Illegal, NoPlace, NothingToUndo, RevisionsSpent, SessionsFull}
 use Rattle.lf_teams.specs.States.{TeamState}
 use Rattle.lf_teams.specs.Teams.{Setting, broken_at}
 use Rattle.lf_cells.specs.Cells.{cell_named, moved, working_at, as_committed}

@@ -113,7 +113,7 @@ module _ (l : Legalizer) (frame : Frame) (team : List ℕ) (number : ℕ) (named
   one_more c r false is step = when_plain c r is step
 
 -- no step changes the frame
-step_frame : (l : Legalizer) (old new : FloorState) (c : Command (List ℕ) Place) (r : Reply) (short : Bool) → MatchBool short (RunsShort l old c new) (Answers l old c r new) → new.frame ≡ old.frame
+pub step_frame : (l : Legalizer) (old new : FloorState) (c : Command (List ℕ) Place) (r : Reply) (short : Bool) → MatchBool short (RunsShort l old c new) (Answers l old c r new) → new.frame ≡ old.frame
 step_frame l old new c r true step = ap (λ (f : FloorState). f.frame) step.short.kept
 step_frame l old new c r false step = ap (λ (f : FloorState). f.frame) step.floor_is ∙ frame_kept l old c
 

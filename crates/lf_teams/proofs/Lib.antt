@@ -6,9 +6,14 @@ pub mod Serving
 pub mod Answering
 pub mod Isolation
 pub mod Openings
+pub mod Parts
+pub mod Loading
+pub mod Committing
 pub mod VerbBack
 pub mod Standing
 pub mod Tidying
 pub mod VerbLegal
 pub mod VerbRows
 pub mod Promises
+pub mod Stepping
+pub mod Running

@@ -33,7 +33,7 @@ length-filter-le {X} p (x ∷ xs) = go (p x) (length-filter-le p xs) where
   go true l = omega (arith, l)
   go false l = omega (arith, l)
 
-team_of : (design : Loaded) (from more : ℕ) (i : ℕ) → i < more → slice_get (opening_teams design from more) i ≡ Some (opening_team design (from + i))
+pub team_of : (design : Loaded) (from more : ℕ) (i : ℕ) → i < more → slice_get (opening_teams design from more) i ≡ Some (opening_team design (from + i))
 team_of design from zero i l = absurd (omega arith)
 team_of design from (suc more) zero l = ap (λ (n : ℕ). Some (opening_team design n)) (sym (add-zero from))
 team_of design from (suc more) (suc i) l =

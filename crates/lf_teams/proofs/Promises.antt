@@ -12,22 +12,23 @@ use Rattle.lf_proto.specs.declared.request.Command.TheVariants.{Bye, To}
 use Rattle.lf_proto.specs.declared.request.Order.{Order}
 use Rattle.lf_proto.specs.declared.request.Order.TheVariants.{Within}
 use Rattle.lf_proto.specs.declared.request.Action.TheVariants.{Change as Changing}
-use Rattle.lf_proto.specs.declared.request.Change.TheVariants.{Place as PlaceAt, Legalize, Tidy}
+use Rattle.lf_proto.specs.declared.request.Change.TheVariants.{Place as PlaceAt, Legalize, Tidy, Swap, Commit}
 use Rattle.lf_proto.specs.declared.reply.Reply.{Reply}
 use Rattle.lf_proto.specs.declared.reply.Reply.TheVariants.{Refused}
 use Rattle.lf_proto.specs.declared.reply.Refusal.{Refusal}
 use Rattle.lf_teams.specs.States.{TeamState, FloorState}
 use Rattle.lf_teams.specs.Teams.{Setting, setting, team_number, state_at, state_of, IsTeamOf}
 use Rattle.lf_teams.specs.VerbLaws.{is_granted, AreLegal, HasLegal}
-use Rattle.lf_teams.specs.Steps.{ruled, answer_by, answer_at, answer_of, Answers, PlacesLegally, LegalizesLegally, TidiesLegally, KeepsIfRefused}
+use Rattle.lf_teams.specs.Steps.{ruled, answer_by, answer_at, answer_of, Answers, PlacesLegally, LegalizesLegally, TidiesLegally, SwapsLegally, CommitsLegally, KeepsIfRefused}
 use Rattle.lf_teams.specs.Verbs.{outcome_of}
 use Rattle.lf_teams.proofs.Answering.{own_answer, frame_kept}
 use Rattle.lf_teams.proofs.Kept.{refusal_leaves, false_true}
 use Rattle.lf_teams.proofs.VerbLegal.{verb_legal}
+use Rattle.lf_teams.proofs.Committing.{Commits, commit_commits}
 
 -- ---- refusals
 
-denied_is : (reply : Reply) → is_granted reply ≡ false → (refusal : Refusal) × (reply ≡ Refused refusal)
+pub denied_is : (reply : Reply) → is_granted reply ≡ false → (refusal : Refusal) × (reply ≡ Refused refusal)
 denied_is (Refused refusal) denied = (refusal, refl)
 denied_is _ denied = absurd (false_true (sym denied))
 
@@ -60,15 +61,15 @@ keeps_refused l old new command reply answers denied = answers.floor_is ∙ answ
 -- ---- accepted changes
 
 -- the team of that name is in a state of which this holds
-record Ends (l : Legalizer) (floor : FloorState) (team : List ℕ) (Good : Setting → TeamState → Type 0) : Type 0 where
-  number : ℕ
-  state : TeamState
-  named : team_number floor.frame team ≡ Some number
-  there : state_of floor team ≡ Some state
-  good : Good (setting l floor.frame number) state
+pub record Ends (l : Legalizer) (floor : FloorState) (team : List ℕ) (Good : Setting → TeamState → Type 0) : Type 0 where
+  pub number : ℕ
+  pub state : TeamState
+  pub named : team_number floor.frame team ≡ Some number
+  pub there : state_of floor team ≡ Some state
+  pub good : Good (setting l floor.frame number) state
 
 -- what holds of a team after an order that it accepts
-abbrev Makes : Order (List ℕ) Place → (Setting → TeamState → Type 0) → Type 0
+abbrev pub Makes : Order (List ℕ) Place → (Setting → TeamState → Type 0) → Type 0
 Makes order Good = (t : Setting) (s : TeamState) → IsTeamOf t.frame s → is_granted (outcome_of t order s).reply ≡ true → Good t (outcome_of t order s).team
 
 module _ (l : Legalizer) (old new : FloorState) (known : All (λ s. IsTeamOf old.frame s) old.teams) where
@@ -107,7 +108,7 @@ module _ (l : Legalizer) (old new : FloorState) (known : All (λ s. IsTeamOf old
       by_number (Some number) named = by_state number (slice_get old.teams number) named refl
 
 -- after an accepted order its team is in such a state
-ends_good : (l : Legalizer) (old new : FloorState) (command : Command (List ℕ) Place) (reply : Reply) (team : List ℕ) (order : Order (List ℕ) Place)
+pub ends_good : (l : Legalizer) (old new : FloorState) (command : Command (List ℕ) Place) (reply : Reply) (team : List ℕ) (order : Order (List ℕ) Place)
     (Good : Setting → TeamState → Type 0) → All (λ s. IsTeamOf old.frame s) old.teams → Answers l old command reply new → command ≡ To team order
     → is_granted reply ≡ true → Makes order Good → Ends l new team Good
 ends_good l old new command reply team order Good known answers is granted makes =
@@ -139,3 +140,21 @@ module _ (l : Legalizer) (in_range : LegalInRange) (old new : FloorState) (comma
         let end = ends_good l old new command reply team order AreLegal known answers is granted
         (λ t s one_of accepted. verb_legal t s one_of in_range order accepted) in
         record { number = end.number; state = end.state; named = end.named; there = end.there; legal = end.good }
+
+    -- after an accepted swap both cells are
+    pub swaps_legally : SwapsLegally l command reply new
+    swaps_legally team first second session is granted =
+        let order : Order (List ℕ) Place = Within session (Changing (Swap first second)) in
+        let end = ends_good l old new command reply team order (λ t s. HasLegal t first s × HasLegal t second s) known answers is granted
+        (λ t s one_of accepted. verb_legal t s one_of in_range order accepted) in (
+          record { number = end.number; state = end.state; named = end.named; there = end.there; legal = end.good.0 },
+          record { number = end.number; state = end.state; named = end.named; there = end.there; legal = end.good.1 },
+        )
+
+    -- after an accepted commit every cell of the team is, at its committed place
+    pub commits_legally : CommitsLegally l command reply new
+    commits_legally team session is granted =
+        let order : Order (List ℕ) Place = Within session (Changing Commit) in
+        let end = ends_good l old new command reply team order Commits known answers is granted
+        (λ t s one_of accepted. commit_commits t s one_of session accepted) in
+        record { number = end.number; state = end.state; named = end.named; there = end.there; legal = end.good.legal; committed = end.good.same }

@@ -10,12 +10,12 @@ use Rattle.lf_proto.specs.declared.request.Action.TheVariants.{Close, Sync, Chec
 use Rattle.lf_proto.specs.declared.request.Change.{Change}
 use Rattle.lf_proto.specs.declared.request.Change.TheVariants.{Tidy, Undo, Commit, Revert}
 use Rattle.lf_teams.specs.Outcomes.{Outcome, refused, with_entry, places_of, recorded}
-use Rattle.lf_teams.specs.Verbs.{outcome_of, outcome_of_change, unless_spent, outcome_by_slot, outcome_of, outcome_within}
+use Rattle.lf_teams.specs.Verbs.{outcome_of, outcome_of_change, unless_spent, outcome_by_slot, outcome_of}
 use Rattle.lf_teams.specs.Sessions.{seen_at}
 use Rattle.lf_teams.specs.Changes.{restored, places_in, reverted, undone, undone_by, tidied_by, tidied_team, back_to_committed}
 use Rattle.lf_cells.specs.Cells.{as_committed}
 use Rattle.lf_proto.specs.declared.reply.Refusal.{Refusal}
-use Rattle.lf_proto.specs.declared.reply.Refusal.TheVariants.{BadRequest, NoPlace, RevisionsSpent, Stale}
+use Rattle.lf_proto.specs.declared.reply.Refusal.TheVariants.{NoPlace, RevisionsSpent, Stale}
 use Rattle.lf_cells.specs.declared.cell.Cell.{Cell}
 use Rattle.lf_teams.specs.States.{TeamState}
 use Rattle.lf_teams.specs.Teams.{Setting}

@@ -9,5 +9,7 @@ pub mod VerbLaws
 pub mod Steps
 pub mod Runs
 pub mod Designs
+pub mod Committed
+pub mod CommittedRuns
 pub mod Laws
 pub mod VerbRows

@@ -9,15 +9,15 @@ use Rattle.lf_proto.specs.declared.request.Command.TheVariants.{Bye, To}
 use Rattle.lf_proto.specs.declared.request.Order.{Order}
 use Rattle.lf_proto.specs.declared.request.Order.TheVariants.{Within}
 use Rattle.lf_proto.specs.declared.request.Action.TheVariants.{Change as Changing}
-use Rattle.lf_proto.specs.declared.request.Change.TheVariants.{Place as PlaceAt, Legalize, Tidy}
+use Rattle.lf_proto.specs.declared.request.Change.TheVariants.{Place as PlaceAt, Legalize, Tidy, Swap, Commit}
 use Rattle.lf_proto.specs.declared.reply.Reply.{Reply}
 use Rattle.lf_proto.specs.declared.reply.Reply.TheVariants.{Done, Refused}
 use Rattle.lf_proto.specs.declared.reply.Refusal.TheVariants.{NoTeam}
 use Rattle.lf_teams.specs.States.{TeamState, FloorState}
 use Rattle.lf_teams.specs.Teams.{setting, team_number, state_of}
-use Rattle.lf_teams.specs.Outcomes.{Outcome, is_short, may_be_short}
+use Rattle.lf_teams.specs.Outcomes.{Outcome, is_short, may_be_short, places_of}
 use Rattle.lf_teams.specs.Verbs.{outcome_of, takes_memory}
-use Rattle.lf_teams.specs.VerbLaws.{is_granted, AreLegal, HasLegal}
+use Rattle.lf_teams.specs.VerbLaws.{is_granted, AreLegal, HasLegal, committed_places}
 
 -- the floor of that frame and these teams
 abbrev pub floor_of : Frame → List TeamState → FloorState
@@ -124,6 +124,27 @@ pub record AllStandIn (l : Legalizer) (floor : FloorState) (team : List ℕ) : T
 abbrev pub TidiesLegally : Legalizer → Command (List ℕ) Place → Reply → FloorState → Type 0
 TidiesLegally l command reply new =
     (team : List ℕ) (session : ℕ) → command ≡ To team (Within session (Changing Tidy)) → is_granted reply ≡ true → AllStandIn l new team
+
+-- after an accepted swap both cells are team-legal
+abbrev pub SwapsLegally : Legalizer → Command (List ℕ) Place → Reply → FloorState → Type 0
+SwapsLegally l command reply new =
+    (team first second : List ℕ) (session : ℕ)
+    → command ≡ To team (Within session (Changing (Swap first second))) → is_granted reply ≡ true
+    → StandsIn l new team first × StandsIn l new team second
+
+-- the team of that name has all its cells placed, team-legal, and committed where they stand
+pub record AllCommittedIn (l : Legalizer) (floor : FloorState) (team : List ℕ) : Type 0 where
+  pub number : ℕ
+  pub state : TeamState
+  pub named : team_number floor.frame team ≡ Some number
+  pub there : state_of floor team ≡ Some state
+  pub legal : AreLegal (setting l floor.frame number) state
+  pub committed : committed_places state ≡ places_of state.cells
+
+-- after an accepted commit every cell of the team is placed and team-legal, and its committed place is its working place
+abbrev pub CommitsLegally : Legalizer → Command (List ℕ) Place → Reply → FloorState → Type 0
+CommitsLegally l command reply new =
+    (team : List ℕ) (session : ℕ) → command ≡ To team (Within session (Changing Commit)) → is_granted reply ≡ true → AllCommittedIn l new team
 
 -- a refusal leaves the whole floor as it was
 abbrev pub KeepsIfRefused : Reply → FloorState → FloorState → Type 0

@@ -13,7 +13,7 @@ use Rattle.lf_proto.specs.declared.request.Action.{Action}
 use Rattle.lf_proto.specs.declared.request.Action.TheVariants.{Close, Sync, Check, Where, Find, Change as Changing}
 use Rattle.lf_proto.specs.declared.request.Change.{Change}
 use Rattle.lf_proto.specs.declared.request.Change.TheVariants.{Place as PlaceAt, Legalize, Tidy, Unplace, Swap, Undo, Commit, Revert}
-use Rattle.lf_proto.specs.declared.reply.Refusal.TheVariants.{BadRequest, NoSession, Stale, RevisionsSpent}
+use Rattle.lf_proto.specs.declared.reply.Refusal.TheVariants.{NoSession, Stale, RevisionsSpent}
 use Rattle.lf_teams.specs.States.{TeamState}
 use Rattle.lf_teams.specs.Teams.{Setting}
 use Rattle.lf_teams.specs.Outcomes.{Outcome, refused}

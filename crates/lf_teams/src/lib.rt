@@ -2,9 +2,14 @@
 //! follow. Nothing runs here; a floor is proved to do what these definitions say.
 #![tactic(auto)]
 
+mod committed_laws;
 mod laws;
 mod verb_laws;
 
+pub use committed_laws::{
+    commit_makes_committed, legal_makes_teams, loaded_is_committed, loaded_places_are_committed,
+    order_keeps_committed, run_commits_make_legal, run_stays_legal, step_keeps_committed,
+};
 pub use laws::{other_designs_do_not_matter, others_do_not_matter};
 pub use verb_laws::{
     best_is_found, change_counts, commit_finds_legal, legalize_makes_legal, look_keeps,

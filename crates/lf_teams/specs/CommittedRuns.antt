@@ -1,0 +1,124 @@
+-- What commands do to the committed design, one after the other.
+use Rattle.std.specs.Prelude.{◌≡◌, ℕ, ◌<◌, List, [], ◌∷◌, length, Bool, true, false, Some, All, slice_get}
+use Rattle.lf_floorplan.specs.declared.frame.Frame.{Frame}
+use Rattle.lf_floorplan.specs.declared.place.Place.{Place}
+use Rattle.lf_rules.specs.Legalizer.{Legalizer}
+use Rattle.lf_proto.specs.declared.request.Command.{Command}
+use Rattle.lf_proto.specs.declared.request.Command.TheVariants.{To}
+use Rattle.lf_proto.specs.declared.request.Order.{Order}
+use Rattle.lf_proto.specs.declared.request.Order.TheVariants.{Within}
+use Rattle.lf_proto.specs.declared.request.Action.TheVariants.{Change as Changing}
+use Rattle.lf_proto.specs.declared.request.Change.TheVariants.{Tidy, Commit}
+use Rattle.lf_proto.specs.declared.reply.Reply.{Reply}
+use Rattle.lf_proto.specs.declared.reply.Reply.TheVariants.{Refused}
+use Rattle.lf_proto.specs.declared.reply.Refusal.TheVariants.{Unplaced, Illegal}
+use Rattle.lf_teams.specs.States.{TeamState, FloorState}
+use Rattle.lf_teams.specs.Teams.{Setting, IsTeamOf, team_number, state_of}
+use Rattle.lf_teams.specs.VerbLaws.{AreLegal, is_change, is_granted, outcome_of_asking}
+use Rattle.lf_teams.specs.Steps.{Step}
+use Rattle.lf_teams.specs.Runs.{Run, asked, told}
+use Rattle.lf_teams.specs.Committed.{IsCommittedLegal, KeepsCommittedLegal}
+
+-- each team is one of the frame
+abbrev pub HasTeams : FloorState → Type 0
+HasTeams floor = All (λ s. IsTeamOf floor.frame s) floor.teams
+
+-- a command keeps a fully legal committed design
+abbrev pub StepKeepsCommitted : Type 0
+StepKeepsCommitted =
+    (l : Legalizer) (old new : FloorState) (command : Command (List ℕ) Place) (reply : Reply) → HasTeams old
+    → Step l old command reply new → KeepsCommittedLegal old new
+
+-- ---- runs
+
+-- a run after each of whose commands the committed design is fully legal
+abbrev pub LegalRun : Legalizer → FloorState → List (Command (List ℕ) Place) → List Reply → FloorState → Type 0
+LegalRun l old [] [] new = new ≡ old
+LegalRun l old (command ∷ commands) (reply ∷ replies) new =
+    (mid : FloorState) × Step l old command reply mid × IsCommittedLegal mid × LegalRun l mid commands replies new
+LegalRun l old [] (reply ∷ replies) new = ⊥
+LegalRun l old (command ∷ commands) [] new = ⊥
+
+-- a run from a fully legal committed design has one all along
+abbrev pub RunStaysLegal : Type 0
+RunStaysLegal =
+    (l : Legalizer) (old new : FloorState) (commands : List (Command (List ℕ) Place)) (replies : List Reply) → HasTeams old
+    → Run l old commands replies new → IsCommittedLegal old → LegalRun l old commands replies new
+
+-- ---- where each team has committed
+
+-- a commit of the team was accepted
+pub record HasCommitted (team : List ℕ) (commands : List (Command (List ℕ) Place)) (replies : List Reply) : Type 0 where
+  pub at : ℕ
+  pub session : ℕ
+  pub reply : Reply
+  pub commit : slice_get commands at ≡ Some (To team (Within session (Changing Commit)))
+  pub answer : slice_get replies at ≡ Some reply
+  pub accepted : is_granted reply ≡ true
+
+-- a commit of the team of that number was accepted, under its name
+pub record NumberHasCommitted (f : Frame) (number : ℕ) (commands : List (Command (List ℕ) Place)) (replies : List Reply) : Type 0 where
+  pub team : List ℕ
+  pub named : team_number f team ≡ Some number
+  pub committed : HasCommitted team commands replies
+
+-- of each team that has a cell a commit was accepted
+abbrev pub AllHaveCommitted : FloorState → List (Command (List ℕ) Place) → List Reply → Type 0
+AllHaveCommitted floor commands replies =
+    (number : ℕ) (s : TeamState) → slice_get floor.teams number ≡ Some s → 0 < length s.cells
+    → NumberHasCommitted floor.frame number commands replies
+
+-- where of each team that has a cell a commit was accepted, the committed design is fully legal at the end, whatever stood before
+abbrev pub CommitsMakeLegal : FloorState → List (Command (List ℕ) Place) → List Reply → FloorState → Type 0
+CommitsMakeLegal old commands replies new = AllHaveCommitted old commands replies → IsCommittedLegal new
+
+-- so it is in each run
+abbrev pub RunCommitsMakeLegal : Type 0
+RunCommitsMakeLegal =
+    (l : Legalizer) (old new : FloorState) (commands : List (Command (List ℕ) Place)) (replies : List Reply) → HasTeams old
+    → Run l old commands replies new → CommitsMakeLegal old commands replies new
+
+-- ---- a commit after a tidy
+
+-- the reply names an unplaced cell or a broken rule
+abbrev pub finds_fault : Reply → Bool
+finds_fault (Refused (Unplaced cell)) = true
+finds_fault (Refused (Illegal rule cell other)) = true
+finds_fault _ = false
+
+-- a commit of a team whose cells are all placed and team-legal finds no fault: it is refused for its session or its revision alone
+abbrev pub LegalCommits : Type 0
+LegalCommits =
+    (t : Setting) (session : ℕ) (s : TeamState) → IsTeamOf t.frame s → AreLegal t s
+    → finds_fault (outcome_of_asking t session Commit s).reply ≡ false
+
+-- among a team's orders and the replies to them: a tidy at i was accepted, a commit at j is asked later, and each change between
+-- them was refused
+pub record TidyThenCommit (orders : List (Order (List ℕ) Place)) (replies : List Reply) (i j : ℕ) : Type 0 where
+  pub first : ℕ
+  pub second : ℕ
+  pub reply : Reply
+  pub later : i < j
+  pub tidy : slice_get orders i ≡ Some (Within first (Changing Tidy))
+  pub answer : slice_get replies i ≡ Some reply
+  pub accepted : is_granted reply ≡ true
+  pub commit : slice_get orders j ≡ Some (Within second (Changing Commit))
+  pub between :
+      (k : ℕ) (order : Order (List ℕ) Place) (told : Reply) → i < k → k < j
+      → slice_get orders k ≡ Some order → slice_get replies k ≡ Some told → is_change order ≡ true → is_granted told ≡ false
+
+-- such a commit finds no fault
+abbrev pub TidiedCommits : List (Order (List ℕ) Place) → List Reply → Type 0
+TidiedCommits orders replies =
+    (i j : ℕ) (reply : Reply) → TidyThenCommit orders replies i j → slice_get replies j ≡ Some reply → finds_fault reply ≡ false
+
+-- so it is with each team's orders among these commands; what was answered OutOfMemory is left out
+abbrev pub EachTidiedCommits : FloorState → List (Command (List ℕ) Place) → List Reply → Type 0
+EachTidiedCommits old commands replies =
+    (team : List ℕ) (s : TeamState) → state_of old team ≡ Some s → TidiedCommits (asked team commands replies) (told team commands replies)
+
+-- and in each run
+abbrev pub RunTidiedCommits : Type 0
+RunTidiedCommits =
+    (l : Legalizer) (old new : FloorState) (commands : List (Command (List ℕ) Place)) (replies : List Reply) → HasTeams old
+    → Run l old commands replies new → EachTidiedCommits old commands replies

@@ -1,0 +1,47 @@
+//! Laws on the committed design.
+
+ghost use Rattle.lf_teams.specs.Committed.{CommitMakesCommitted, LegalMakesTeams, LoadedIsCommitted, LoadedPlacesAreCommitted, OrderKeepsCommitted};
+ghost use Rattle.lf_teams.specs.CommittedRuns.{RunCommitsMakeLegal, RunStaysLegal, StepKeepsCommitted};
+
+/// In a fully legal design each team's cells are placed and team-legal.
+pub fn legal_makes_teams()
+    ensures { LegalMakesTeams }
+{}
+
+/// A floor begins with a fully legal committed design exactly where the loaded design is fully legal.
+pub fn loaded_is_committed()
+    ensures { LoadedIsCommitted }
+{}
+
+/// Each team begins with its cells at their places in the DEF text, in loading order, and has
+/// committed them there.
+pub fn loaded_places_are_committed()
+    ensures { LoadedPlacesAreCommitted }
+{}
+
+/// A team whose committed places are legal keeps that, whatever is asked of it.
+pub fn order_keeps_committed()
+    ensures { OrderKeepsCommitted }
+{}
+
+/// After an accepted commit the committed places are the working places, and are legal, whatever was
+/// committed before.
+pub fn commit_makes_committed()
+    ensures { CommitMakesCommitted }
+{}
+
+/// A command keeps a fully legal committed design.
+pub fn step_keeps_committed()
+    ensures { StepKeepsCommitted }
+{}
+
+/// A run from a fully legal committed design has one after each command.
+pub fn run_stays_legal()
+    ensures { RunStaysLegal }
+{}
+
+/// After a run in which of each team that has a cell a commit was accepted, the committed design is
+/// fully legal, whatever stood before.
+pub fn run_commits_make_legal()
+    ensures { RunCommitsMakeLegal }
+{}
