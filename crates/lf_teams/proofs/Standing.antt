@@ -51,7 +51,7 @@ working_is cells own place e = go (slice_get cells own) refl e where
 abbrev no_cell : Cell
 no_cell = record { name = []; mac = 0; working = None; committed = None }
 
-there_within : (cells : List Cell) (own : ℕ) → own < length cells → (c : Cell) × (slice_get cells own ≡ Some c)
+pub there_within : (cells : List Cell) (own : ℕ) → own < length cells → (c : Cell) × (slice_get cells own ≡ Some c)
 there_within [] own within = absurd (omega (arith, within))
 there_within (c ∷ cs) zero within = (c, refl)
 there_within (c ∷ cs) (suc own) within = there_within cs own (omega (arith, within))

@@ -1,7 +1,9 @@
 //! Laws on the committed design.
 
 ghost use Rattle.lf_teams.specs.Committed.{CommitMakesCommitted, LegalMakesTeams, LoadedIsCommitted, LoadedPlacesAreCommitted, OrderKeepsCommitted};
-ghost use Rattle.lf_teams.specs.CommittedRuns.{RunCommitsMakeLegal, RunStaysLegal, StepKeepsCommitted};
+ghost use Rattle.lf_teams.specs.CommittedRuns.{LegalCommits, RunCommitsMakeLegal, RunStaysLegal, RunTidiedCommits, StepKeepsCommitted};
+
+use lf_rules::legal_in_range;
 
 /// In a fully legal design each team's cells are placed and team-legal.
 pub fn legal_makes_teams()
@@ -45,3 +47,16 @@ pub fn run_stays_legal()
 pub fn run_commits_make_legal()
     ensures { RunCommitsMakeLegal }
 {}
+
+/// A commit of a team whose cells are all placed and team-legal finds no fault.
+pub fn legal_commits()
+    ensures { LegalCommits }
+{}
+
+/// In each run, a commit after an accepted tidy, with no accepted change of the team between them,
+/// finds no fault.
+pub fn run_tidied_commits()
+    ensures { RunTidiedCommits }
+{
+    legal_in_range();
+}
