@@ -1,6 +1,5 @@
 -- The committed places of a team: which orders change them, and that they stay legal.
-use Rattle.std.proofs.Common.{◌≡◌, ℕ, List, [], ◌∷◌, Bool, true, false, map, Option, Some, None, refl, ap, sym, ◌∙◌, subst}
-use Rattle.lf_floorplan.specs.declared.frame.Frame.{Frame}
+use Rattle.std.proofs.Common.{◌≡◌, ℕ, List, [], ◌∷◌, true, map, Option, Some, None, refl, ap, sym, subst}
 use Rattle.lf_floorplan.specs.declared.place.Place.{Place}
 use Rattle.lf_rules.specs.Team.{Member, StandsLegal}
 use Rattle.lf_proto.specs.declared.request.Order.{Order}
@@ -16,7 +15,7 @@ use Rattle.lf_teams.specs.Outcomes.{Outcome, places_of, changed}
 use Rattle.lf_teams.specs.Changes.{restored, exchanged, back_to_committed, places_in}
 use Rattle.lf_teams.specs.Verbs.{outcome_of}
 use Rattle.lf_teams.specs.VerbLaws.{AreLegal, is_accepted, is_commit, committed_places}
-use Rattle.lf_teams.specs.Committed.{committed_member, committed_members, AreCommittedLegal}
+use Rattle.lf_teams.specs.Committed.{committed_member, AreCommittedLegal}
 use Rattle.lf_teams.proofs.Cases.{Leaves, IsLeft, order_by}
 use Rattle.lf_teams.proofs.Kept.{moved_part, restored_part, back_part, exchanged_part, false_true}
 use Rattle.lf_teams.proofs.Tidying.{committed_stand}

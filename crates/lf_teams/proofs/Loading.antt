@@ -1,24 +1,22 @@
 -- The committed design with which a floor begins is the loaded one, in another order.
-use Rattle.std.proofs.Common.{◌≡◌, ◌≢◌, ℕ, ◌+◌, ◌<◌, ◌≤◌, List, [], ◌∷◌, Bool, true, false, cond, eqb, length, map, filter, get_or, Option, Some, None, ◌⊎◌, inl, inr, refl, ap, sym, ◌∙◌, subst, arith, zero-add}
+use Rattle.std.proofs.Common.{◌≡◌, ℕ, ◌+◌, ◌<◌, ◌≤◌, List, [], ◌∷◌, Bool, true, false, eqb, length, map, filter, Option, Some, None, ◌⊎◌, inl, inr, refl, ap, sym, ◌∙◌, subst, arith, zero-add}
 use Rattle.std.specs.Prelude.{All, slice_get, unwrap_or, option_map}
 use Rattle.std.proofs.lemmas.Bool.{eqb-true}
 use Rattle.std.proofs.lemmas.List.Elements.{All-head, All-tail}
 use Rattle.std.proofs.lemmas.Option.{slice_get-map, slice_get_within}
-use Rattle.lf_floorplan.specs.declared.frame.Frame.{Frame}
 use Rattle.lf_floorplan.specs.declared.loaded.Cell.{Cell as LoadedCell}
 use Rattle.lf_floorplan.specs.declared.loaded.Loaded.{Loaded}
 use Rattle.lf_floorplan.specs.declared.place.Place.{Place}
-use Rattle.lf_floorplan.specs.Design.{IsCell}
 use Rattle.lf_rules.specs.Choice.{spot_of}
 use Rattle.lf_rules.specs.FullyLegal.{Standing, IsFullyLegal, standing_at, with_team}
 use Rattle.lf_rules.specs.Team.{Member}
 use Rattle.lf_cells.specs.Openings.{opening_cell, own_cells}
 use Rattle.lf_teams.specs.States.{TeamState}
 use Rattle.lf_teams.specs.Teams.{team_number, state_of}
-use Rattle.lf_teams.specs.Designs.{opening_team, opening_teams, opening}
+use Rattle.lf_teams.specs.Designs.{opening_team, opening}
 use Rattle.lf_teams.specs.Committed.{committed_member, committed_members, committed_design, IsCommittedLegal, loaded_design, StandAt}
 use Rattle.lf_teams.proofs.Openings.{team_of, opening_is, count_teams}
-use Rattle.lf_teams.proofs.Parts.{taken, passed, part_of, part_is, same_parts}
+use Rattle.lf_teams.proofs.Parts.{taken, passed, not_equal, part_of, part_is, same_parts}
 use Rattle.lf_teams.proofs.Standing.{some_one}
 
 -- the team's cells of a loaded design, at their places
@@ -48,14 +46,8 @@ none_past : (team count : ℕ) (cells : List LoadedCell) → All (λ c. c.team �
 none_past team count [] known past = refl
 none_past team count (c ∷ cs) known past =
     let here : c.team ≤ count = All-head (λ (d : LoadedCell). d.team ≤ count) c cs known in
-    passed (λ d. eqb d.team team) c cs (differ c.team team (λ e. omega (arith, here, past, e)))
+    passed (λ d. eqb d.team team) c cs (not_equal c.team team (λ e. omega (arith, here, past, e)))
     ∙ none_past team count cs (All-tail (λ (d : LoadedCell). d.team ≤ count) c cs known) past
-  where
-    differ : (a b : ℕ) → a ≢ b → eqb a b ≡ false
-    differ a b ne = go (eqb a b) refl where
-      go : (x : Bool) → eqb a b ≡ x → x ≡ false
-      go true is = absurd (ne (eqb-true a b is))
-      go false is = refl
 
 past_end : {X : Type 0} (xs : List X) (i : ℕ) → length xs ≤ i → slice_get xs i ≡ None
 past_end {X} xs i past = go (slice_get xs i) refl where

@@ -1,37 +1,32 @@
 -- A run keeps a fully legal committed design, and accepted commits of all teams make one.
-use Rattle.std.proofs.Common.{◌≡◌, ℕ, zero, suc, ◌<◌, List, [], ◌∷◌, map, Bool, true, false, length, Option, Some, None, ◌⊎◌, inl, inr, refl, ap, sym, ◌∙◌, subst, arith}
+use Rattle.std.proofs.Common.{◌≡◌, ℕ, zero, suc, List, [], ◌∷◌, map, Bool, true, false, Option, Some, None, ◌⊎◌, inl, inr, refl, ap, sym, ◌∙◌, subst, arith}
 use Rattle.std.specs.Prelude.{slice_get, MatchBool}
 use Rattle.lf_floorplan.specs.declared.frame.Frame.{Frame}
 use Rattle.lf_floorplan.specs.declared.place.Place.{Place}
 use Rattle.lf_rules.specs.Legalizer.{Legalizer}
 use Rattle.lf_proto.specs.declared.request.Command.{Command}
 use Rattle.lf_proto.specs.declared.request.Command.TheVariants.{To}
-use Rattle.lf_proto.specs.declared.request.Order.{Order}
 use Rattle.lf_proto.specs.declared.request.Order.TheVariants.{Within}
 use Rattle.lf_proto.specs.declared.request.Action.TheVariants.{Change as Changing}
 use Rattle.lf_proto.specs.declared.request.Change.TheVariants.{Commit}
 use Rattle.lf_proto.specs.declared.reply.Reply.{Reply}
 use Rattle.lf_proto.specs.declared.reply.Reply.TheVariants.{Refused}
-use Rattle.lf_proto.specs.declared.reply.Refusal.TheVariants.{OutOfMemory}
 use Rattle.lf_cells.specs.declared.cell.Cell.{Cell}
-use Rattle.lf_rules.specs.Team.{Member, StandsLegal}
+use Rattle.lf_rules.specs.Team.{Member}
 use Rattle.lf_teams.specs.States.{TeamState, FloorState}
-use Rattle.lf_teams.specs.Teams.{setting, team_number, state_at, state_of}
+use Rattle.lf_teams.specs.Teams.{team_number, state_at}
 use Rattle.lf_teams.specs.Outcomes.{is_short}
 use Rattle.lf_teams.specs.VerbLaws.{is_granted}
 use Rattle.lf_teams.specs.Steps.{Answers, RunsShort, Step}
 use Rattle.lf_teams.specs.Runs.{Run}
 use Rattle.lf_teams.specs.Committed.{committed_member, committed_members, AreCommittedLegal, IsCommittedLegal}
-use Rattle.lf_teams.specs.CommittedRuns.{HasTeams, LegalRun, HasCommitted, NumberHasCommitted, AllHaveCommitted, CommitsMakeLegal}
+use Rattle.lf_teams.specs.CommittedRuns.{HasTeams, LegalRun, HasCommitted, NumberHasCommitted, CommitsMakeLegal}
 use Rattle.lf_teams.proofs.Committing.{Commits, commit_commits}
 use Rattle.lf_teams.proofs.Isolation.{step_frame}
 use Rattle.lf_teams.proofs.Kept.{false_true}
 use Rattle.lf_teams.proofs.Promises.{Ends, ends_good}
-use Rattle.lf_teams.proofs.Standing.{some_one}
-use Rattle.lf_teams.proofs.Stepping.{CommittedAt, step_teams, step_committed, committed_teams, teams_committed, step_keeps}
-
-none_some : {X : Type 0} {x : X} → None ≡ Some x → ⊥
-none_some e = cc
+use Rattle.lf_teams.proofs.Standing.{some_one, none_some}
+use Rattle.lf_teams.proofs.Stepping.{CommittedAt, step_teams, step_committed, teams_committed, step_keeps}
 
 -- a run from a fully legal committed design has one all along
 pub legal_run : (l : Legalizer) (commands : List (Command (List ℕ) Place)) (replies : List Reply) (old new : FloorState) → HasTeams old

@@ -1,15 +1,15 @@
 -- A commit of a team whose cells are all team-legal finds no fault, and so a commit after a tidy.
 use Rattle.std.proofs.Common.{◌≡◌, ℕ, zero, suc, ◌+◌, ◌<◌, List, [], ◌∷◌, Bool, true, false, cond, eqb, ltb, length, map, Option, Some, None, refl, ap, sym, ◌∙◌, subst, arith}
-use Rattle.std.specs.Prelude.{All, slice_get, is_none, position, filter_map, option_map, option_and_then, MatchOption}
+use Rattle.std.specs.Prelude.{slice_get, is_none, filter_map, option_map, option_and_then, MatchOption}
 use Rattle.std.specs.List.{position_from, range_with_len, cons_option}
 use Rattle.std.proofs.lemmas.Iterator.Adapters.{position_from-zero}
 use Rattle.lf_floorplan.specs.declared.frame.Frame.{Frame}
 use Rattle.lf_floorplan.specs.declared.place.Place.{Place}
 use Rattle.lf_rules.specs.declared.rule.Broken.{Broken}
-use Rattle.lf_rules.specs.Choice.{Spot, spot_of, IsLegalAt, LegalInRange}
+use Rattle.lf_rules.specs.Choice.{spot_of, IsLegalAt, LegalInRange}
 use Rattle.lf_rules.specs.Legality.{Trial, IsTeamLegal}
 use Rattle.lf_rules.specs.Legalizer.{Legalizer, IsVerdict}
-use Rattle.lf_rules.specs.Team.{Member, lifted_from, StandsLegal}
+use Rattle.lf_rules.specs.Team.{StandsLegal}
 use Rattle.lf_proto.specs.declared.request.Command.{Command}
 use Rattle.lf_proto.specs.declared.request.Order.{Order}
 use Rattle.lf_proto.specs.declared.request.Order.TheVariants.{Within}
@@ -19,20 +19,20 @@ use Rattle.lf_proto.specs.declared.reply.Reply.{Reply}
 use Rattle.lf_proto.specs.declared.reply.Refusal.TheVariants.{Stale, RevisionsSpent}
 use Rattle.lf_cells.specs.declared.cell.Cell.{Cell}
 use Rattle.lf_cells.specs.Cells.{working_at}
-use Rattle.lf_legalize.specs.Members.{IsSizedCell, member_of}
+use Rattle.lf_legalize.specs.Members.{member_of}
 use Rattle.lf_teams.specs.States.{TeamState, FloorState}
 use Rattle.lf_teams.specs.Teams.{Setting, setting, IsTeamOf, trial_of_cell, broken_at, broken_by, state_at, state_of, team_number}
-use Rattle.lf_teams.specs.Outcomes.{Outcome, refused}
+use Rattle.lf_teams.specs.Outcomes.{refused}
 use Rattle.lf_teams.specs.Sessions.{seen_at}
 use Rattle.lf_teams.specs.Looks.{lifted_cell}
 use Rattle.lf_teams.specs.Changes.{broken_where, first_unplaced, BrokenCell, broken_cells, committed_unless, committed}
-use Rattle.lf_teams.specs.Verbs.{unless_spent, unless_stale, outcome_by_slot, outcome_of}
-use Rattle.lf_teams.specs.VerbLaws.{AreLegal, is_change, is_granted, is_accepted}
+use Rattle.lf_teams.specs.Verbs.{unless_spent, outcome_by_slot, outcome_of}
+use Rattle.lf_teams.specs.VerbLaws.{AreLegal, is_change, is_granted}
 use Rattle.lf_teams.specs.Steps.{ruled}
-use Rattle.lf_teams.specs.Runs.{Run, own_replies, asked, told}
+use Rattle.lf_teams.specs.Runs.{Run, own_replies, asked}
 use Rattle.lf_teams.specs.CommittedRuns.{HasTeams, finds_fault, TidyThenCommit, TidiedCommits, EachTidiedCommits}
 use Rattle.lf_teams.proofs.Isolation.{isolated_from_run, has_number}
-use Rattle.lf_teams.proofs.Kept.{look_kept, refusal_leaves, verb_keeps, false_true}
+use Rattle.lf_teams.proofs.Kept.{look_kept, refusal_leaves, verb_keeps}
 use Rattle.lf_teams.proofs.Parts.{each}
 use Rattle.lf_teams.proofs.Promises.{denied_is}
 use Rattle.lf_teams.proofs.Standing.{some_one, sized_at, there_within, member_is}

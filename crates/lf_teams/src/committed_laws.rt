@@ -1,6 +1,6 @@
 //! Laws on the committed design.
 
-ghost use Rattle.lf_teams.specs.Committed.{CommitMakesCommitted, LegalMakesTeams, LoadedIsCommitted, LoadedPlacesAreCommitted, OrderKeepsCommitted};
+ghost use Rattle.lf_teams.specs.Committed.{CommitMakesCommitted, CommittedByTeams, LegalMakesTeams, LoadedIsCommitted, LoadedPlacesAreCommitted, OrderKeepsCommitted};
 ghost use Rattle.lf_teams.specs.CommittedRuns.{LegalCommits, RunCommitsMakeLegal, RunStaysLegal, RunTidiedCommits, StepKeepsCommitted};
 
 use lf_rules::legal_in_range;
@@ -8,6 +8,11 @@ use lf_rules::legal_in_range;
 /// In a fully legal design each team's cells are placed and team-legal.
 pub fn legal_makes_teams()
     ensures { LegalMakesTeams }
+{}
+
+/// The committed design is fully legal exactly where each team's committed places are team-legal.
+pub fn committed_by_teams()
+    ensures { CommittedByTeams }
 {}
 
 /// A floor begins with a fully legal committed design exactly where the loaded design is fully legal.
