@@ -20,7 +20,7 @@ use Rattle.lf_teams.specs.VerbLaws.{is_granted}
 use Rattle.lf_teams.specs.Steps.{Answers, RunsShort, Step}
 use Rattle.lf_teams.specs.Runs.{Run}
 use Rattle.lf_teams.specs.Committed.{committed_member, committed_members, AreCommittedLegal, IsCommittedLegal}
-use Rattle.lf_teams.specs.CommittedRuns.{HasTeams, LegalRun, HasCommitted, NumberHasCommitted, CommitsMakeLegal}
+use Rattle.lf_teams.specs.CommittedRuns.{HasFrameTeams, LegalRun, HasCommitted, NumberHasCommitted, CommitsMakeLegal}
 use Rattle.lf_teams.proofs.Committing.{Commits, commit_commits}
 use Rattle.lf_teams.proofs.Isolation.{step_frame}
 use Rattle.lf_teams.proofs.Kept.{false_true}
@@ -29,7 +29,7 @@ use Rattle.lf_teams.proofs.Standing.{some_one, none_some}
 use Rattle.lf_teams.proofs.Stepping.{CommittedAt, step_teams, step_committed, teams_committed, step_keeps}
 
 -- a run from a fully legal committed design has one all along
-pub legal_run : (l : Legalizer) (commands : List (Command (List ℕ) Place)) (replies : List Reply) (old new : FloorState) → HasTeams old
+pub legal_run : (l : Legalizer) (commands : List (Command (List ℕ) Place)) (replies : List Reply) (old new : FloorState) → HasFrameTeams old
     → Run l old commands replies new → IsCommittedLegal old → LegalRun l old commands replies new
 legal_run l [] [] old new known run legal = run
 legal_run l [] (r ∷ rs) old new known run legal = absurd run
@@ -53,7 +53,8 @@ abbrev commit_to : List ℕ → ℕ → Command (List ℕ) Place
 commit_to team session = To team (Within session (Changing Commit))
 
 -- after an accepted commit the team's committed places are legal
-module _ (l : Legalizer) (old mid : FloorState) (team : List ℕ) (session : ℕ) (reply : Reply) (known : HasTeams old) (accepted : is_granted reply ≡ true) where
+module _ (l : Legalizer) (old mid : FloorState) (team : List ℕ) (session : ℕ) (reply : Reply) (known : HasFrameTeams old)
+    (accepted : is_granted reply ≡ true) where
   module _ (step : Step l old (commit_to team session) reply mid) (k : ℕ) (named : team_number old.frame team ≡ Some k) where
     end : Ends l mid team Commits
     end = ends_good l old mid (commit_to team session) reply team (Within session (Changing Commit)) Commits known
@@ -68,7 +69,8 @@ module _ (l : Legalizer) (old mid : FloorState) (team : List ℕ) (session : ℕ
 
     pub commit_steps : CommittedAt mid k
     commit_steps s there =
-        let here : slice_get mid.teams k ≡ Some end.state = ap (λ (n : ℕ). slice_get mid.teams n) (sym number_is) ∙ ap (state_at mid.teams) (sym end.named) ∙ end.there in
+        let here : slice_get mid.teams k ≡ Some end.state = ap (λ (n : ℕ). slice_get mid.teams n) (sym number_is)
+        ∙ ap (state_at mid.teams) (sym end.named) ∙ end.there in
         let same : end.state ≡ s = some_one (sym here ∙ there) in
         subst (λ (t : TeamState). AreCommittedLegal mid.frame k t) same
         (subst (λ (n : ℕ). AreCommittedLegal mid.frame n end.state) number_is end.good.committed)
@@ -90,7 +92,8 @@ first_or_later team c r cs rs (suc at) session reply commit answer accepted =
     inr (record { at = at; session = session; reply = reply; commit = commit; answer = answer; accepted = accepted })
 
 -- a team whose committed places are legal, or of which a commit is accepted, has legal ones at the end
-run_commits : (l : Legalizer) (k : ℕ) (commands : List (Command (List ℕ) Place)) (replies : List Reply) (old new : FloorState) → HasTeams old → Run l old commands replies new
+run_commits : (l : Legalizer) (k : ℕ) (commands : List (Command (List ℕ) Place)) (replies : List Reply) (old new : FloorState) → HasFrameTeams old
+    → Run l old commands replies new
     → CommittedAt old k ⊎ NumberHasCommitted old.frame k commands replies → CommittedAt new k
 run_commits l k [] [] old new known run (inl before) = subst (λ (f : FloorState). CommittedAt f k) (sym run) before
 run_commits l k [] [] old new known run (inr later) = absurd (none_some later.committed.commit)
@@ -99,7 +102,8 @@ run_commits l k (c ∷ cs) [] old new known run h = absurd run
 run_commits l k (c ∷ cs) (r ∷ rs) old new known run (inl before) =
     run_commits l k cs rs run.0 new (step_teams l old run.0 c r known run.1) run.2 (inl (step_committed l old run.0 c r known run.1 k before))
 run_commits l k (c ∷ cs) (r ∷ rs) old new known run (inr later) =
-    run_commits l k cs rs run.0 new (step_teams l old run.0 c r known run.1) run.2 (go (first_or_later later.team c r cs rs had.at had.session had.reply had.commit had.answer had.accepted))
+    run_commits l k cs rs run.0 new (step_teams l old run.0 c r known run.1) run.2
+    (go (first_or_later later.team c r cs rs had.at had.session had.reply had.commit had.answer had.accepted))
   where
     had : HasCommitted later.team (c ∷ cs) (r ∷ rs)
     had = later.committed
@@ -122,12 +126,13 @@ none_stand l floor k s there none t here own m at =
     absurd (none_some (sym (ap (λ (ms : List Member). slice_get ms own) cells) ∙ at))
 
 -- where of each team that has a cell a commit was accepted, the committed design is fully legal
-pub commits_legal : (l : Legalizer) (commands : List (Command (List ℕ) Place)) (replies : List Reply) (old new : FloorState) → HasTeams old
+pub commits_legal : (l : Legalizer) (commands : List (Command (List ℕ) Place)) (replies : List Reply) (old new : FloorState) → HasFrameTeams old
     → Run l old commands replies new → CommitsMakeLegal old commands replies new
 commits_legal l commands replies old new known run all =
     teams_committed new (λ k. run_commits l k commands replies old new known run (start k (slice_get old.teams k) refl))
   where
-    by_cells : (k : ℕ) (s : TeamState) → slice_get old.teams k ≡ Some s → (cells : List Cell) → s.cells ≡ cells → CommittedAt old k ⊎ NumberHasCommitted old.frame k commands replies
+    by_cells : (k : ℕ) (s : TeamState) → slice_get old.teams k ≡ Some s → (cells : List Cell) → s.cells ≡ cells
+        → CommittedAt old k ⊎ NumberHasCommitted old.frame k commands replies
     by_cells k s there [] none = inl (none_stand l old k s there none)
     by_cells k s there (c ∷ cs) some = inr (all k s there (rw some (omega arith)))
 

@@ -30,7 +30,7 @@ use Rattle.lf_teams.specs.Verbs.{unless_spent, outcome_by_slot, outcome_of}
 use Rattle.lf_teams.specs.VerbLaws.{AreLegal, is_change, is_granted}
 use Rattle.lf_teams.specs.Steps.{ruled}
 use Rattle.lf_teams.specs.Runs.{Run, own_replies, asked}
-use Rattle.lf_teams.specs.CommittedRuns.{HasTeams, finds_fault, TidyThenCommit, TidiedCommits, EachTidiedCommits}
+use Rattle.lf_teams.specs.CommittedRuns.{HasFrameTeams, finds_fault, TidyThenCommit, TidiedCommits, EachTidiedCommits}
 use Rattle.lf_teams.proofs.Isolation.{isolated_from_run, has_number}
 use Rattle.lf_teams.proofs.Kept.{look_kept, refusal_leaves, verb_keeps}
 use Rattle.lf_teams.proofs.Parts.{each}
@@ -40,10 +40,12 @@ use Rattle.lf_teams.proofs.VerbLegal.{verb_legal}
 
 -- ---- a team whose cells are all team-legal
 
-none_first : (i : ℕ) (cells : List Cell) → ((k : ℕ) (c : Cell) → slice_get cells k ≡ Some c → is_none c.working ≡ false) → position_from (λ (c : Cell). is_none c.working) i cells ≡ None
+none_first : (i : ℕ) (cells : List Cell) → ((k : ℕ) (c : Cell) → slice_get cells k ≡ Some c → is_none c.working ≡ false)
+    → position_from (λ (c : Cell). is_none c.working) i cells ≡ None
 none_first i [] placed = refl
 none_first i (c ∷ cs) placed =
-    ap (λ (b : Bool). cond b (Some i) (position_from (λ (d : Cell). is_none d.working) (i + 1) cs)) (placed 0 c refl) ∙ none_first (i + 1) cs (λ k d there. placed (suc k) d there)
+    ap (λ (b : Bool). cond b (Some i) (position_from (λ (d : Cell). is_none d.working) (i + 1) cs)) (placed 0 c refl)
+    ∙ none_first (i + 1) cs (λ k d there. placed (suc k) d there)
 
 none_filtered : {Y : Type 0} (h : ℕ → Option Y) (a n : ℕ) → ((k : ℕ) → k < n → h (a + k) ≡ None) → filter_map h (range_with_len a n) ≡ []
 none_filtered h a zero none = refl
@@ -52,8 +54,8 @@ none_filtered {Y} h a (suc n) none =
     let first : h a ≡ None = subst (λ (k : ℕ). h k ≡ None) at (none 0 (omega arith)) in
     ap (λ (o : Option Y). cons_option o (filter_map h (range_with_len (a + 1) n))) first
     ∙ none_filtered h (a + 1) n (λ k less.
-      let next : a + suc k ≡ a + 1 + k = omega arith in
-      subst (λ (j : ℕ). h j ≡ None) next (none (suc k) (omega (arith, less))))
+    let next : a + suc k ≡ a + 1 + k = omega arith in
+    subst (λ (j : ℕ). h j ≡ None) next (none (suc k) (omega (arith, less))))
 
 -- a legal place breaks no rule
 unbroken_is : (t : Trial) (found : Option Broken) → IsTeamLegal t → IsVerdict t found → found ≡ None
@@ -62,7 +64,8 @@ unbroken_is t (Some b) legal verdict = absurd (verdict.broken (legal b.rule))
 
 module _ (t : Setting) (s : TeamState) (known : IsTeamOf t.frame s) (legal : AreLegal t s) where
   -- the cell of a position is placed, and legal there
-  stands_at : (own : ℕ) (c : Cell) → slice_get s.cells own ≡ Some c → (place : Place) × (c.working ≡ Some place) × IsLegalAt (lifted_cell t s.cells own c) (spot_of place)
+  stands_at : (own : ℕ) (c : Cell) → slice_get s.cells own ≡ Some c
+      → (place : Place) × (c.working ≡ Some place) × IsLegalAt (lifted_cell t s.cells own c) (spot_of place)
   stands_at own c there = go c.working refl (legal own (member_of c) (member_is s.cells own c there)) where
     go : (o : Option Place) → c.working ≡ o → MatchOption (option_map spot_of o) ⊥ (λ p. IsLegalAt (lifted_cell t s.cells own c) p)
         → (place : Place) × (c.working ≡ Some place) × IsLegalAt (lifted_cell t s.cells own c) (spot_of place)
@@ -81,7 +84,8 @@ module _ (t : Setting) (s : TeamState) (known : IsTeamOf t.frame s) (legal : Are
       let works : working_at s.cells own ≡ Some at.0 = ap (λ (o : Option Cell). option_and_then (λ (c : Cell). c.working) o) found.1 ∙ at.1 in
       let trial = trial_of_cell t s.cells own found.0 at.0 in
       let none : t.legalizer.first_broken trial ≡ None =
-      unbroken_is trial (t.legalizer.first_broken trial) at.2 (t.legalizer.finds_first_broken trial (sized_at t.frame s.cells own found.0 known.sized found.1)) in
+      unbroken_is trial (t.legalizer.first_broken trial) at.2
+      (t.legalizer.finds_first_broken trial (sized_at t.frame s.cells own found.0 known.sized found.1)) in
       ap (λ (o : Option Place). option_and_then (λ (p : Place). broken_at t s.cells own p) o) works
       ∙ ap (λ (o : Option Cell). broken_by o t s.cells own at.0) found.1
       ∙ none
@@ -92,7 +96,8 @@ module _ (t : Setting) (s : TeamState) (known : IsTeamOf t.frame s) (legal : Are
   none_broken : broken_cells t s.cells ≡ []
   none_broken = none_filtered (λ own. option_map (cell_at own) (broken_where t s.cells own)) 0 (length s.cells) (λ k less.
       let at : k ≡ 0 + k = omega arith in
-      subst (λ (j : ℕ). option_map (cell_at j) (broken_where t s.cells j) ≡ None) at (ap (λ (o : Option Broken). option_map (cell_at k) o) (breaks_none k less)))
+      subst (λ (j : ℕ). option_map (cell_at j) (broken_where t s.cells j) ≡ None) at
+      (ap (λ (o : Option Broken). option_map (cell_at k) o) (breaks_none k less)))
 
   commits_plainly : (session : ℕ) → finds_fault (committed t session s).reply ≡ false
   unfolding committed
@@ -118,10 +123,12 @@ module _ (t : Setting) (s : TeamState) (known : IsTeamOf t.frame s) (legal : Are
 -- ---- orders between a tidy and a commit
 
 -- what is no change, and a change that is refused, leave legal cells legal
-still_legal : (t : Setting) (s : TeamState) (order : Order (List ℕ) Place) → AreLegal t s → (is_change order ≡ true → is_granted (outcome_of t order s).reply ≡ false) → AreLegal t (outcome_of t order s).team
+still_legal : (t : Setting) (s : TeamState) (order : Order (List ℕ) Place) → AreLegal t s
+    → (is_change order ≡ true → is_granted (outcome_of t order s).reply ≡ false) → AreLegal t (outcome_of t order s).team
 still_legal t s order legal quiet = by (is_change order) refl where
   by : (b : Bool) → is_change order ≡ b → AreLegal t (outcome_of t order s).team
-  by false look = λ own. subst (λ (cells : List Cell). StandsLegal t.frame t.number (map member_of cells) own) (sym (look_kept t order s look).cells) (legal own)
+  by false look = λ own.
+      subst (λ (cells : List Cell). StandsLegal t.frame t.number (map member_of cells) own) (sym (look_kept t order s look).cells) (legal own)
   by true change =
       let refusal = denied_is (outcome_of t order s).reply (quiet change) in
       subst (λ (after : TeamState). AreLegal t after) (sym (refusal_leaves t order s refusal.0 refusal.1)) legal
@@ -130,7 +137,8 @@ module _ (l : Legalizer) (f : Frame) (number : ℕ) where
   -- from a team whose cells are all legal on
   after_legal : (orders : List (Order (List ℕ) Place)) (s : TeamState) → IsTeamOf f s → AreLegal (setting l f number) s → (j second : ℕ) (reply : Reply)
       → slice_get orders j ≡ Some (Within second (Changing Commit)) → slice_get (own_replies l f number orders s) j ≡ Some reply
-      → ((k : ℕ) (order : Order (List ℕ) Place) (told : Reply) → k < j → slice_get orders k ≡ Some order → slice_get (own_replies l f number orders s) k ≡ Some told
+      → ((k : ℕ) (order : Order (List ℕ) Place) (told : Reply) → k < j → slice_get orders k ≡ Some order
+      → slice_get (own_replies l f number orders s) k ≡ Some told
       → is_change order ≡ true → is_granted told ≡ false) → finds_fault reply ≡ false
   after_legal [] s known legal j second reply commit answer quiet = absurd cc
   after_legal (o ∷ os) s known legal zero second reply commit answer quiet =
@@ -158,7 +166,8 @@ module _ (l : Legalizer) (f : Frame) (number : ℕ) where
   own_tidied in_range (o ∷ os) s known zero (suc j) reply h answer =
       after_legal os (ruled l f number o s).team (verb_keeps (setting l f number) o s known)
       (tidy_first in_range s known o h.first h.reply (some_one h.tidy) (some_one h.answer) h.accepted)
-      j h.second reply h.commit answer (λ k order told less here there change. h.between (suc k) order told (omega arith) (omega (arith, less)) here there change)
+      j h.second reply h.commit answer
+      (λ k order told less here there change. h.between (suc k) order told (omega arith) (omega (arith, less)) here there change)
   own_tidied in_range (o ∷ os) s known (suc i) zero reply h answer = absurd (omega (arith, h.later))
   own_tidied in_range (o ∷ os) s known (suc i) (suc j) reply h answer =
       own_tidied in_range os (ruled l f number o s).team (verb_keeps (setting l f number) o s known) i j reply (record {
@@ -175,11 +184,12 @@ module _ (l : Legalizer) (f : Frame) (number : ℕ) where
 
 -- ---- runs
 
-state_there : (floor : FloorState) (team : List ℕ) (number : ℕ) (s : TeamState) → team_number floor.frame team ≡ Some number → state_of floor team ≡ Some s → slice_get floor.teams number ≡ Some s
+state_there : (floor : FloorState) (team : List ℕ) (number : ℕ) (s : TeamState) → team_number floor.frame team ≡ Some number
+    → state_of floor team ≡ Some s → slice_get floor.teams number ≡ Some s
 state_there floor team number s named there = ap (λ (o : Option ℕ). state_at floor.teams o) (sym named) ∙ there
 
 -- a commit after a tidy finds no fault
-pub tidied_commits : LegalInRange → (l : Legalizer) (commands : List (Command (List ℕ) Place)) (replies : List Reply) (old new : FloorState) → HasTeams old
+pub tidied_commits : LegalInRange → (l : Legalizer) (commands : List (Command (List ℕ) Place)) (replies : List Reply) (old new : FloorState) → HasFrameTeams old
     → Run l old commands replies new → EachTidiedCommits old commands replies
 tidied_commits in_range l commands replies old new known run team s there =
     let has = has_number old team s there in

@@ -19,14 +19,14 @@ use Rattle.lf_teams.specs.Steps.{Step}
 use Rattle.lf_teams.specs.Runs.{Run, asked, told}
 use Rattle.lf_teams.specs.Committed.{IsCommittedLegal, KeepsCommittedLegal}
 
--- each team is one of the frame
-abbrev pub HasTeams : FloorState → Type 0
-HasTeams floor = All (λ s. IsTeamOf floor.frame s) floor.teams
+-- each team of the floor is one of its frame
+abbrev pub HasFrameTeams : FloorState → Type 0
+HasFrameTeams floor = All (λ s. IsTeamOf floor.frame s) floor.teams
 
 -- a command keeps a fully legal committed design
 abbrev pub StepKeepsCommitted : Type 0
 StepKeepsCommitted =
-    (l : Legalizer) (old new : FloorState) (command : Command (List ℕ) Place) (reply : Reply) → HasTeams old
+    (l : Legalizer) (old new : FloorState) (command : Command (List ℕ) Place) (reply : Reply) → HasFrameTeams old
     → Step l old command reply new → KeepsCommittedLegal old new
 
 -- ---- runs
@@ -42,7 +42,7 @@ LegalRun l old (command ∷ commands) [] new = ⊥
 -- a run from a fully legal committed design has one all along
 abbrev pub RunStaysLegal : Type 0
 RunStaysLegal =
-    (l : Legalizer) (old new : FloorState) (commands : List (Command (List ℕ) Place)) (replies : List Reply) → HasTeams old
+    (l : Legalizer) (old new : FloorState) (commands : List (Command (List ℕ) Place)) (replies : List Reply) → HasFrameTeams old
     → Run l old commands replies new → IsCommittedLegal old → LegalRun l old commands replies new
 
 -- ---- where each team has committed
@@ -75,7 +75,7 @@ CommitsMakeLegal old commands replies new = AllHaveCommitted old commands replie
 -- so it is in each run
 abbrev pub RunCommitsMakeLegal : Type 0
 RunCommitsMakeLegal =
-    (l : Legalizer) (old new : FloorState) (commands : List (Command (List ℕ) Place)) (replies : List Reply) → HasTeams old
+    (l : Legalizer) (old new : FloorState) (commands : List (Command (List ℕ) Place)) (replies : List Reply) → HasFrameTeams old
     → Run l old commands replies new → CommitsMakeLegal old commands replies new
 
 -- ---- a commit after a tidy
@@ -120,5 +120,5 @@ EachTidiedCommits old commands replies =
 -- and in each run
 abbrev pub RunTidiedCommits : Type 0
 RunTidiedCommits =
-    (l : Legalizer) (old new : FloorState) (commands : List (Command (List ℕ) Place)) (replies : List Reply) → HasTeams old
+    (l : Legalizer) (old new : FloorState) (commands : List (Command (List ℕ) Place)) (replies : List Reply) → HasFrameTeams old
     → Run l old commands replies new → EachTidiedCommits old commands replies
