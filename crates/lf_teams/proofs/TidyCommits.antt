@@ -30,7 +30,7 @@ use Rattle.lf_teams.specs.Verbs.{unless_spent, outcome_by_slot, outcome_of}
 use Rattle.lf_teams.specs.VerbLaws.{AreLegal, is_change, is_granted}
 use Rattle.lf_teams.specs.Steps.{ruled}
 use Rattle.lf_teams.specs.Runs.{Run, own_replies, asked}
-use Rattle.lf_teams.specs.CommittedRuns.{HasFrameTeams, finds_fault, TidyThenCommit, TidiedCommits, EachTidiedCommits}
+use Rattle.lf_teams.specs.CommittedRuns.{HasFrameTeams, finds_no_fault, TidyThenCommit, TidiedCommits, EachTidiedCommits}
 use Rattle.lf_teams.proofs.Isolation.{isolated_from_run, has_number}
 use Rattle.lf_teams.proofs.Kept.{look_kept, refusal_leaves, verb_keeps}
 use Rattle.lf_teams.proofs.Parts.{each}
@@ -99,24 +99,24 @@ module _ (t : Setting) (s : TeamState) (known : IsTeamOf t.frame s) (legal : Are
       subst (λ (j : ℕ). option_map (cell_at j) (broken_where t s.cells j) ≡ None) at
       (ap (λ (o : Option Broken). option_map (cell_at k) o) (breaks_none k less)))
 
-  commits_plainly : (session : ℕ) → finds_fault (committed t session s).reply ≡ false
+  commits_plainly : (session : ℕ) → finds_no_fault (committed t session s).reply ≡ true
   unfolding committed
   commits_plainly session =
-      ap (λ (o : Option ℕ). finds_fault (committed_unless o (broken_cells t s.cells) session s).reply) all_placed
-      ∙ ap (λ (bs : List BrokenCell). finds_fault (committed_unless None bs session s).reply) none_broken
+      ap (λ (o : Option ℕ). finds_no_fault (committed_unless o (broken_cells t s.cells) session s).reply) all_placed
+      ∙ ap (λ (bs : List BrokenCell). finds_no_fault (committed_unless None bs session s).reply) none_broken
 
   -- a commit finds no fault
-  pub legal_commits : (session : ℕ) → finds_fault (outcome_of t (Within session (Changing Commit)) s).reply ≡ false
+  pub legal_commits : (session : ℕ) → finds_no_fault (outcome_of t (Within session (Changing Commit)) s).reply ≡ true
   legal_commits session = slot (seen_at s.slots session) where
-    spent : (b : Bool) → finds_fault (cond b (committed t session s) (refused RevisionsSpent s)).reply ≡ false
+    spent : (b : Bool) → finds_no_fault (cond b (committed t session s) (refused RevisionsSpent s)).reply ≡ true
     spent true = commits_plainly session
     spent false = refl
 
-    stale : (b : Bool) → finds_fault (cond b (unless_spent t session Commit s) (refused (Stale s.revision) s)).reply ≡ false
+    stale : (b : Bool) → finds_no_fault (cond b (unless_spent t session Commit s) (refused (Stale s.revision) s)).reply ≡ true
     stale true = spent (ltb s.revision t.frame.limits.revisions)
     stale false = refl
 
-    slot : (o : Option ℕ) → finds_fault (outcome_by_slot o t session (Changing Commit) s).reply ≡ false
+    slot : (o : Option ℕ) → finds_no_fault (outcome_by_slot o t session (Changing Commit) s).reply ≡ true
     slot None = refl
     slot (Some seen) = stale (eqb seen s.revision)
 
@@ -139,11 +139,11 @@ module _ (l : Legalizer) (f : Frame) (number : ℕ) where
       → slice_get orders j ≡ Some (Within second (Changing Commit)) → slice_get (own_replies l f number orders s) j ≡ Some reply
       → ((k : ℕ) (order : Order (List ℕ) Place) (told : Reply) → k < j → slice_get orders k ≡ Some order
       → slice_get (own_replies l f number orders s) k ≡ Some told
-      → is_change order ≡ true → is_granted told ≡ false) → finds_fault reply ≡ false
+      → is_change order ≡ true → is_granted told ≡ false) → finds_no_fault reply ≡ true
   after_legal [] s known legal j second reply commit answer quiet = absurd cc
   after_legal (o ∷ os) s known legal zero second reply commit answer quiet =
-      ap finds_fault (sym (some_one answer))
-      ∙ ap (λ (x : Order (List ℕ) Place). finds_fault (ruled l f number x s).reply) (some_one commit)
+      ap finds_no_fault (sym (some_one answer))
+      ∙ ap (λ (x : Order (List ℕ) Place). finds_no_fault (ruled l f number x s).reply) (some_one commit)
       ∙ legal_commits (setting l f number) s known legal second
   after_legal (o ∷ os) s known legal (suc j) second reply commit answer quiet =
       after_legal os (ruled l f number o s).team (verb_keeps (setting l f number) o s known)
@@ -160,7 +160,7 @@ module _ (l : Legalizer) (f : Frame) (number : ℕ) where
 
   -- a team's own orders
   own_tidied : LegalInRange → (orders : List (Order (List ℕ) Place)) (s : TeamState) → IsTeamOf f s → (i j : ℕ) (reply : Reply)
-      → TidyThenCommit orders (own_replies l f number orders s) i j → slice_get (own_replies l f number orders s) j ≡ Some reply → finds_fault reply ≡ false
+      → TidyThenCommit orders (own_replies l f number orders s) i j → slice_get (own_replies l f number orders s) j ≡ Some reply → finds_no_fault reply ≡ true
   own_tidied in_range [] s known i j reply h answer = absurd cc
   own_tidied in_range (o ∷ os) s known zero zero reply h answer = absurd (omega (arith, h.later))
   own_tidied in_range (o ∷ os) s known zero (suc j) reply h answer =

@@ -1,7 +1,9 @@
 -- What commands do to the committed design, one after the other.
 use Rattle.std.specs.Prelude.{◌≡◌, ℕ, ◌<◌, List, [], ◌∷◌, length, Bool, true, false, Some, All, slice_get}
 use Rattle.lf_floorplan.specs.declared.frame.Frame.{Frame}
+use Rattle.lf_floorplan.specs.declared.loaded.Loaded.{Loaded}
 use Rattle.lf_floorplan.specs.declared.place.Place.{Place}
+use Rattle.lf_rules.specs.FullyLegal.{IsFullyLegal}
 use Rattle.lf_rules.specs.Legalizer.{Legalizer}
 use Rattle.lf_proto.specs.declared.request.Command.{Command}
 use Rattle.lf_proto.specs.declared.request.Command.TheVariants.{To}
@@ -11,13 +13,15 @@ use Rattle.lf_proto.specs.declared.request.Action.TheVariants.{Change as Changin
 use Rattle.lf_proto.specs.declared.request.Change.TheVariants.{Tidy, Commit}
 use Rattle.lf_proto.specs.declared.reply.Reply.{Reply}
 use Rattle.lf_proto.specs.declared.reply.Reply.TheVariants.{Refused}
-use Rattle.lf_proto.specs.declared.reply.Refusal.TheVariants.{Unplaced, Illegal}
+use Rattle.lf_proto.specs.declared.reply.Refusal.{Refusal}
+use Rattle.lf_proto.specs.declared.reply.Refusal.TheVariants.{NoSession, Stale, RevisionsSpent}
 use Rattle.lf_teams.specs.States.{TeamState, FloorState}
 use Rattle.lf_teams.specs.Teams.{Setting, IsTeamOf, team_number, state_of}
 use Rattle.lf_teams.specs.VerbLaws.{AreLegal, is_change, is_granted, outcome_of_asking}
 use Rattle.lf_teams.specs.Steps.{Step}
 use Rattle.lf_teams.specs.Runs.{Run, asked, told}
-use Rattle.lf_teams.specs.Committed.{IsCommittedLegal, KeepsCommittedLegal}
+use Rattle.lf_teams.specs.Committed.{IsCommittedLegal, KeepsCommittedLegal, loaded_design}
+use Rattle.lf_teams.specs.Designs.{opening}
 
 -- each team of the floor is one of its frame
 abbrev pub HasFrameTeams : FloorState → Type 0
@@ -44,6 +48,13 @@ abbrev pub RunStaysLegal : Type 0
 RunStaysLegal =
     (l : Legalizer) (old new : FloorState) (commands : List (Command (List ℕ) Place)) (replies : List Reply) → HasFrameTeams old
     → Run l old commands replies new → IsCommittedLegal old → LegalRun l old commands replies new
+
+-- so has each run on a floor that begins with a fully legal loaded design
+abbrev pub LoadedRunStaysLegal : Type 0
+LoadedRunStaysLegal =
+    (l : Legalizer) (design : Loaded) (new : FloorState) (commands : List (Command (List ℕ) Place)) (replies : List Reply)
+    → IsFullyLegal design.frame (loaded_design design)
+    → Run l (opening design) commands replies new → LegalRun l (opening design) commands replies new
 
 -- ---- where each team has committed
 
@@ -80,17 +91,23 @@ RunCommitsMakeLegal =
 
 -- ---- a commit after a tidy
 
--- the reply names an unplaced cell or a broken rule
-abbrev pub finds_fault : Reply → Bool
-finds_fault (Refused (Unplaced cell)) = true
-finds_fault (Refused (Illegal rule cell other)) = true
-finds_fault _ = false
+-- the refusal is for the session that asks or for the team's revision, whatever the cells are
+abbrev pub is_for_session : Refusal → Bool
+is_for_session NoSession = true
+is_for_session (Stale revision) = true
+is_for_session RevisionsSpent = true
+is_for_session _ = false
 
--- a commit of a team whose cells are all placed and team-legal finds no fault: it is refused for its session or its revision alone
+-- no fault is found in the cells: what was asked is accepted, or refused for its session or the revision alone
+abbrev pub finds_no_fault : Reply → Bool
+finds_no_fault (Refused refusal) = is_for_session refusal
+finds_no_fault _ = true
+
+-- a commit of a team whose cells are all placed and team-legal finds no fault
 abbrev pub LegalCommits : Type 0
 LegalCommits =
     (t : Setting) (session : ℕ) (s : TeamState) → IsTeamOf t.frame s → AreLegal t s
-    → finds_fault (outcome_of_asking t session Commit s).reply ≡ false
+    → finds_no_fault (outcome_of_asking t session Commit s).reply ≡ true
 
 -- among a team's orders and the replies to them: a tidy at i was accepted, a commit at j is asked later, and each change between
 -- them was refused
@@ -110,7 +127,7 @@ pub record TidyThenCommit (orders : List (Order (List ℕ) Place)) (replies : Li
 -- such a commit finds no fault
 abbrev pub TidiedCommits : List (Order (List ℕ) Place) → List Reply → Type 0
 TidiedCommits orders replies =
-    (i j : ℕ) (reply : Reply) → TidyThenCommit orders replies i j → slice_get replies j ≡ Some reply → finds_fault reply ≡ false
+    (i j : ℕ) (reply : Reply) → TidyThenCommit orders replies i j → slice_get replies j ≡ Some reply → finds_no_fault reply ≡ true
 
 -- so it is with each team's orders among these commands; what was answered OutOfMemory is left out
 abbrev pub EachTidiedCommits : FloorState → List (Command (List ℕ) Place) → List Reply → Type 0

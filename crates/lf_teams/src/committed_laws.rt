@@ -1,7 +1,7 @@
 //! Laws on the committed design.
 
 ghost use Rattle.lf_teams.specs.Committed.{CommitMakesCommitted, CommittedByTeams, LegalMakesTeams, LoadedIsCommitted, LoadedPlacesAreCommitted, OrderKeepsCommitted};
-ghost use Rattle.lf_teams.specs.CommittedRuns.{LegalCommits, RunCommitsMakeLegal, RunStaysLegal, RunTidiedCommits, StepKeepsCommitted};
+ghost use Rattle.lf_teams.specs.CommittedRuns.{LegalCommits, LoadedRunStaysLegal, RunCommitsMakeLegal, RunStaysLegal, RunTidiedCommits, StepKeepsCommitted};
 
 use lf_rules::legal_in_range;
 
@@ -47,19 +47,25 @@ pub fn run_stays_legal()
     ensures { RunStaysLegal }
 {}
 
+/// So has each run on a floor that begins with a fully legal loaded design.
+pub fn loaded_run_stays_legal()
+    ensures { LoadedRunStaysLegal }
+{}
+
 /// After a run in which of each team that has a cell a commit was accepted, the committed design is
 /// fully legal, whatever stood before.
 pub fn run_commits_make_legal()
     ensures { RunCommitsMakeLegal }
 {}
 
-/// A commit of a team whose cells are all placed and team-legal finds no fault.
+/// A commit of a team whose cells are all placed and team-legal finds no fault: it is accepted, or
+/// refused for its session or the revision alone.
 pub fn legal_commits()
     ensures { LegalCommits }
 {}
 
 /// In each run, a commit after an accepted tidy, with no accepted change of the team between them,
-/// finds no fault.
+/// finds no fault in the cells.
 pub fn run_tidied_commits()
     ensures { RunTidiedCommits }
 {
