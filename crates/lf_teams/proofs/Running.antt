@@ -20,7 +20,7 @@ use Rattle.lf_teams.specs.VerbLaws.{is_granted}
 use Rattle.lf_teams.specs.Steps.{Answers, RunsShort, Step}
 use Rattle.lf_teams.specs.Runs.{Run}
 use Rattle.lf_teams.specs.Committed.{committed_member, committed_members, AreCommittedLegal, IsCommittedLegal}
-use Rattle.lf_teams.specs.CommittedRuns.{HasFrameTeams, LegalRun, HasCommitted, NumberHasCommitted, CommitsMakeLegal}
+use Rattle.lf_teams.specs.CommittedRuns.{HasFrameTeams, CommitLasts, LegalRun, HasCommitted, NumberHasCommitted, CommitsMakeLegal}
 use Rattle.lf_teams.proofs.Committing.{Commits, commit_commits}
 use Rattle.lf_teams.proofs.Isolation.{step_frame}
 use Rattle.lf_teams.proofs.Kept.{false_true}
@@ -117,6 +117,20 @@ run_commits l k (c ∷ cs) (r ∷ rs) old new known run (inr later) =
       named = ap (λ (f : Frame). team_number f later.team) (step_frame l old run.0 c r (is_short r) run.1) ∙ later.named;
       committed = rest;
     })
+
+run_frame : (l : Legalizer) (commands : List (Command (List ℕ) Place)) (replies : List Reply) (old new : FloorState) → Run l old commands replies new
+    → new.frame ≡ old.frame
+run_frame l [] [] old new run = ap (λ (f : FloorState). f.frame) run
+run_frame l [] (r ∷ rs) old new run = absurd run
+run_frame l (c ∷ cs) [] old new run = absurd run
+run_frame l (c ∷ cs) (r ∷ rs) old new run = run_frame l cs rs run.0 new run.2 ∙ step_frame l old run.0 c r (is_short r) run.1
+
+-- a commit that was accepted lasts
+pub commit_lasts : CommitLasts
+commit_lasts l old new commands replies known run team number s had named there =
+    let before : team_number old.frame team ≡ Some number = ap (λ (f : Frame). team_number f team) (sym (run_frame l commands replies old new run)) ∙ named in
+    run_commits l number commands replies old new known run (inr (record { team = team; named = before; committed = had })) s
+    (ap (state_at new.teams) (sym named) ∙ there)
 
 -- a team with no cells has no committed place that breaks a rule
 none_stand : (l : Legalizer) (floor : FloorState) (k : ℕ) (s : TeamState) → slice_get floor.teams k ≡ Some s → s.cells ≡ [] → CommittedAt floor k

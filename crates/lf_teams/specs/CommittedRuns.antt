@@ -20,7 +20,7 @@ use Rattle.lf_teams.specs.Teams.{Setting, IsTeamOf, team_number, state_of}
 use Rattle.lf_teams.specs.VerbLaws.{AreLegal, is_change, is_granted, outcome_of_asking}
 use Rattle.lf_teams.specs.Steps.{Step}
 use Rattle.lf_teams.specs.Runs.{Run, asked, told}
-use Rattle.lf_teams.specs.Committed.{IsCommittedLegal, KeepsCommittedLegal, loaded_design}
+use Rattle.lf_teams.specs.Committed.{AreCommittedLegal, IsCommittedLegal, KeepsCommittedLegal, loaded_design}
 use Rattle.lf_teams.specs.Designs.{opening}
 
 -- each team of the floor is one of its frame
@@ -66,6 +66,14 @@ pub record HasCommitted (team : List ℕ) (commands : List (Command (List ℕ) P
   pub commit : slice_get commands at ≡ Some (To team (Within session (Changing Commit)))
   pub answer : slice_get replies at ≡ Some reply
   pub accepted : is_granted reply ≡ true
+
+-- after a run in which a commit of a team was accepted, the team's committed places are legal, whatever stood before, and whatever
+-- was asked of it afterwards and of the others
+abbrev pub CommitLasts : Type 0
+CommitLasts =
+    (l : Legalizer) (old new : FloorState) (commands : List (Command (List ℕ) Place)) (replies : List Reply) → HasFrameTeams old
+    → Run l old commands replies new → (team : List ℕ) (number : ℕ) (s : TeamState) → HasCommitted team commands replies
+    → team_number new.frame team ≡ Some number → state_of new team ≡ Some s → AreCommittedLegal new.frame number s
 
 -- a commit of the team of that number was accepted, under its name
 pub record NumberHasCommitted (f : Frame) (number : ℕ) (commands : List (Command (List ℕ) Place)) (replies : List Reply) : Type 0 where

@@ -1,7 +1,7 @@
 //! Laws on the committed design.
 
 ghost use Rattle.lf_teams.specs.Committed.{CommitMakesCommitted, CommittedByTeams, LegalMakesTeams, LoadedIsCommitted, LoadedPlacesAreCommitted, OrderKeepsCommitted};
-ghost use Rattle.lf_teams.specs.CommittedRuns.{LegalCommits, LoadedRunStaysLegal, RunCommitsMakeLegal, RunStaysLegal, RunTidiedCommits, StepKeepsCommitted};
+ghost use Rattle.lf_teams.specs.CommittedRuns.{CommitLasts, LegalCommits, LoadedRunStaysLegal, RunCommitsMakeLegal, RunStaysLegal, RunTidiedCommits, StepKeepsCommitted};
 
 use lf_rules::legal_in_range;
 
@@ -50,6 +50,12 @@ pub fn run_stays_legal()
 /// So has each run on a floor that begins with a fully legal loaded design.
 pub fn loaded_run_stays_legal()
     ensures { LoadedRunStaysLegal }
+{}
+
+/// After a run in which a commit of a team was accepted, the team's committed places are legal,
+/// whatever was asked of it afterwards and of the others.
+pub fn commit_lasts()
+    ensures { CommitLasts }
 {}
 
 /// After a run in which of each team that has a cell a commit was accepted, the committed design is

@@ -7,7 +7,7 @@ mod laws;
 mod verb_laws;
 
 pub use committed_laws::{
-    commit_makes_committed, committed_by_teams, legal_commits, legal_makes_teams,
+    commit_lasts, commit_makes_committed, committed_by_teams, legal_commits, legal_makes_teams,
     loaded_is_committed, loaded_places_are_committed, loaded_run_stays_legal,
     order_keeps_committed, run_commits_make_legal, run_stays_legal, run_tidied_commits,
     step_keeps_committed,
