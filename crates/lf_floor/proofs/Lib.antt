@@ -7,5 +7,6 @@ pub mod Ends
 pub mod Swaps
 pub mod Undoing
 pub mod Unplaced
+pub mod Reverting
 pub mod Sending
 pub mod FirstIllegal
