@@ -8,5 +8,6 @@ pub mod Swaps
 pub mod Undoing
 pub mod Unplaced
 pub mod Reverting
+pub mod Committing
 pub mod Sending
 pub mod FirstIllegal

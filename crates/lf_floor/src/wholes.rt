@@ -3,7 +3,7 @@
 ghost use Rattle.std.specs.Prelude.{◌≡◌, List, IfOk, OnErr, OnOk, map, true};
 ghost use Rattle.lf_rules.specs.Legalizer.{Legalizer};
 ghost use Rattle.lf_cells.specs.declared.cell.Cell.{Cell};
-ghost use Rattle.lf_cells.specs.Cells.{cells_of, committed_at, moved};
+ghost use Rattle.lf_cells.specs.Cells.{as_committed, cells_of, committed_at, moved};
 ghost use Rattle.lf_teams.specs.Outcomes.{Reaches, RunsOut};
 ghost use Rattle.lf_teams.specs.Changes.{back_to_committed, committed, reverted, undone};
 ghost use Rattle.lf_floor.specs.Tables.{CanChange, HasRows, HaveMoved, IsCurrent, OtherCellsStay, OthersStay, own_team, setting_in, team_in};
@@ -69,6 +69,14 @@ fn move_back(cells: &mut CellTable, moves: &mut Moves, number: usize) -> Result<
         move_one_back(cells, moves, number, own)?;
     }
     Ok(())
+}
+
+/// Makes the team's working places its committed ones.
+fn commit_cells(cells: &mut CellTable, number: usize)
+    ensures own { cells_of cells.new number ≡ map as_committed (cells_of cells.old number) }
+    ensures others { OtherCellsStay number cells.old cells.new }
+{
+    cells.commit_team(number);
 }
 
 impl Tables {
@@ -141,7 +149,7 @@ impl Tables {
                 other: illegal.broken.other,
             }));
         }
-        self.cells.commit_team(around.number);
+        commit_cells(&mut self.cells, around.number);
         Ok(Reply::Revision(self.count_change(around.number, session)))
     }
 }
