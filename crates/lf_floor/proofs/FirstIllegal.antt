@@ -1,5 +1,5 @@
 -- The cells of a team that break a rule where they stand, as those of the list that its report has.
-use Rattle.std.proofs.Common.{◌≡◌, ◌∙◌, ℕ, List, [], ◌∷◌, length, map, Option, Some, None, refl, sym, ap}
+use Rattle.std.proofs.Common.{◌≡◌, ◌∙◌, ℕ, List, [], ◌∷◌, length, map, Option, Some, None, refl, ap}
 use Rattle.std.specs.Prelude.{slice_get, filter_map, option_map, option_and_then}
 use Rattle.std.specs.List.{range_with_len, cons_option}
 use Rattle.std.proofs.Math.ListN.{length-map}

@@ -1,18 +1,16 @@
 -- The teams of a floor, whose parts stand in tables of all teams.
-use Rattle.std.proofs.Common.{◌≡◌, ◌≢◌, ◌<◌, ◌≤◌, ℕ, zero, suc, ◌+◌, List, [], ◌∷◌, length, map, set, get_or, Option, Some, None, ⊎_elim, refl, ap, sym, ◌∙◌, zero-add, subst, arith}
+use Rattle.std.proofs.Common.{◌≡◌, ◌≢◌, ◌<◌, ℕ, ◌+◌, List, [], length, map, set, get_or, Option, Some, None, ⊎_elim, refl, ap, sym, ◌∙◌, zero-add, subst}
 use Rattle.std.specs.Prelude.{slice_get, slice_set, slice_index_or, replicate, option_and_then, All}
 use Rattle.std.specs.List.{range_with_len}
 use Rattle.std.proofs.lemmas.List.{length-set, length-replicate, get_or-replicate, get_or-set_same, get_or-set_other}
 use Rattle.std.proofs.lemmas.List.FromFn.{length-map-range_with_len, get_or-map-range_with_len, fill_by_all}
 use Rattle.std.proofs.lemmas.Bool.{cases_eq}
 use Rattle.std.proofs.lemmas.Option.{slice_get_read}
-use Rattle.lf_floorplan.specs.Bounds.{IsName}
 use Rattle.lf_floorplan.specs.declared.frame.Frame.{Frame}
-use Rattle.lf_floorplan.specs.declared.place.Place.{Place}
 use Rattle.lf_floorplan.specs.declared.loaded.Loaded.{Loaded}
 use Rattle.lf_cells.specs.declared.cell.Cell.{Cell}
 use Rattle.lf_cells.specs.Cells.{Cells, cells_of}
-use Rattle.lf_cells.specs.Openings.{own_cells, opening_cells}
+use Rattle.lf_cells.specs.Openings.{own_cells}
 use Rattle.lf_undo.specs.Stacks.{stack_of}
 use Rattle.lf_undo.specs.Entries.{entries_of}
 use Rattle.lf_undo.specs.declared.moves.Move.{Move}
@@ -24,7 +22,7 @@ use Rattle.lf_teams.specs.Teams.{team_number, state_at, state_of, IsTeamOf}
 use Rattle.lf_teams.specs.Designs.{opening_team, opening_teams}
 use Rattle.lf_teams.proofs.Openings.{opened_at, opening_whole}
 use Rattle.lf_floor.specs.declared.tables.Tables.{Tables}
-use Rattle.lf_floor.specs.Tables.{AreOpening, AreTablesOf, HasRows, IsServed, OtherCellsStay, OthersStay, own_team, revision_of, team_with, teams_in}
+use Rattle.lf_floor.specs.Tables.{AreOpening, AreTablesOf, IsServed, OtherCellsStay, OthersStay, own_team, revision_of, team_with, teams_in}
 
 -- ---- one team among all
 
@@ -59,8 +57,8 @@ one_changed old new k others =
         let there : i < length old.revisions.items = rw (sym others.revisions) within in
         ⊎_elim
         (λ (same : i ≡ k). ap (λ (n : ℕ). get_or (set (teams_in old) k (own_team k new)) n here) same
-            ∙ get_or-set_same (teams_in old) k (own_team k new) here (rw (count_teams old) (rw (sym same) there))
-            ∙ ap (λ (n : ℕ). own_team n new) (sym same))
+        ∙ get_or-set_same (teams_in old) k (own_team k new) here (rw (count_teams old) (rw (sym same) there))
+        ∙ ap (λ (n : ℕ). own_team n new) (sym same))
         (λ (differ : i ≢ k). get_or-set_other (teams_in old) k i (own_team k new) here differ ∙ team_at old i here there ∙ sym (others.teams i differ))
         (cases_eq i k)
 

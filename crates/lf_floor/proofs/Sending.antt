@@ -1,8 +1,7 @@
 -- Cells that tidying sends.
-use Rattle.std.proofs.Common.{◌≡◌, ◌<◌, ◌≤◌, ℕ, zero, suc, ◌+◌, ◌-◌, List, [], ◌∷◌, map, length, take, drop, get_or, subst, Option, Some, None, true, refl, ap, sym, ◌∙◌, arith}
-use Rattle.std.specs.Prelude.{All, slice_get, slice_set, option_map, option_and_then}
+use Rattle.std.proofs.Common.{◌≡◌, ◌<◌, ◌≤◌, ℕ, zero, suc, ◌+◌, ◌-◌, List, [], ◌∷◌, map, length, Option, Some, None, true, refl, ap, sym, ◌∙◌, arith}
+use Rattle.std.specs.Prelude.{slice_get, slice_set, option_map, option_and_then}
 use Rattle.std.proofs.lemmas.List.{length-map}
-use Rattle.std.proofs.lemmas.List.Elements.{All-cons}
 use Rattle.std.proofs.lemmas.Option.{slice_get-map}
 use Rattle.lf_units.specs.declared.area.Point.{Point}
 use Rattle.lf_floorplan.specs.declared.frame.Frame.{Frame}
@@ -16,14 +15,12 @@ use Rattle.lf_proto.specs.declared.reply.Reply.TheVariants.{Tidied as TidyDone}
 use Rattle.lf_proto.specs.declared.reply.Refusal.TheVariants.{NoPlace}
 use Rattle.lf_cells.specs.declared.cell.Cell.{Cell}
 use Rattle.lf_cells.specs.declared.cell.Standing.{Standing}
-use Rattle.lf_cells.specs.Cells.{Cells, cells_of, id_in, id_of, moved, standing_of}
-use Rattle.lf_legalize.specs.Members.{IsSizedCell, member_of, best_of}
+use Rattle.lf_cells.specs.Cells.{id_in, id_of, moved, standing_of}
+use Rattle.lf_legalize.specs.Members.{member_of, best_of}
 use Rattle.lf_floor.specs.declared.tidy.Tidy.TheVariants.{Done, Stopped}
-use Rattle.lf_floor.specs.declared.tidy.Tidy.{Tidy}
-use Rattle.lf_proto.specs.declared.reply.Reply.TheVariants.{Refused}
 use Rattle.lf_teams.specs.States.{TeamState}
-use Rattle.lf_teams.specs.Outcomes.{Reaches, RunsOut, places_of, refused, recorded, telling, may_be_short}
-use Rattle.lf_floor.specs.Tables.{SameButPlaces, taken_up}
+use Rattle.lf_teams.specs.Outcomes.{places_of, refused, recorded, telling, may_be_short}
+use Rattle.lf_floor.specs.Tables.{SameButPlaces}
 use Rattle.lf_teams.specs.Teams.{Setting, broken_at, broken_by}
 use Rattle.lf_teams.specs.Looks.{lifted_cell, place_of_spot}
 use Rattle.lf_teams.specs.Changes.{restored, places_in, tidied_by, tidied_team}

@@ -1,10 +1,9 @@
 -- What taking the newest undo entry back makes of a team.
-use Rattle.std.proofs.Common.{◌≡◌, ℕ, zero, suc, ◌+◌, List, [], ◌∷◌, length, map, drop, Option, Some, None, refl, ap, sym, ◌∙◌}
+use Rattle.std.proofs.Common.{◌≡◌, ℕ, ◌+◌, List, [], ◌∷◌, length, drop, Option, Some, None, refl, ap, sym, ◌∙◌}
 use Rattle.std.specs.Prelude.{slice_get, slice_set, slice_index_or}
 use Rattle.std.proofs.lemmas.List.{length-map, length-set, get_or-set_same}
 use Rattle.lf_floorplan.specs.declared.place.Place.{Place}
 use Rattle.lf_proto.specs.declared.reply.Reply.TheVariants.{Revision, Refused}
-use Rattle.lf_proto.specs.declared.reply.Reply.{Reply}
 use Rattle.lf_proto.specs.declared.reply.Refusal.TheVariants.{NothingToUndo}
 use Rattle.lf_cells.specs.declared.cell.Cell.{Cell}
 use Rattle.lf_cells.specs.Cells.{Cells, cells_of}
@@ -13,11 +12,10 @@ use Rattle.lf_undo.specs.declared.moves.Move.{Move}
 use Rattle.lf_undo.specs.Stacks.{Stacks, stack_of}
 use Rattle.lf_undo.specs.Entries.{entries_of, taken_back}
 use Rattle.lf_undo.proofs.Undone.{no_entries, shrink_entries, taken_back_length}
-use Rattle.lf_teams.specs.States.{TeamState}
 use Rattle.lf_teams.specs.Outcomes.{Outcome, Reaches, changed, places_of}
 use Rattle.lf_teams.specs.Changes.{restored, undone, undone_by}
 use Rattle.lf_floor.specs.declared.tables.Tables.{Tables}
-use Rattle.lf_floor.specs.Tables.{Counts, HasRows, HaveMoved, SameButPlaces, own_team, revision_of, taken_up, team_with}
+use Rattle.lf_floor.specs.Tables.{Counts, HasRows, HaveMoved, SameButPlaces, own_team, revision_of, taken_up}
 use Rattle.lf_floor.proofs.Ends.{counted_own, team_of}
 
 places_restored : (places : List (Option Place)) (cells : List Cell) → length places ≡ length cells → places_of (restored places cells) ≡ places

@@ -1,5 +1,5 @@
 -- How tidying goes over the cells of a table; no public clause cites it.
-use Rattle.std.specs.Prelude.{◌≡◌, ℕ, ◌+◌, List, map, Option, None, slice_get, option_and_then}
+use Rattle.std.specs.Prelude.{◌≡◌, ℕ, ◌+◌, List, map, Option, slice_get, option_and_then}
 use Rattle.std.specs.Option.{option_map}
 use Rattle.lf_units.specs.declared.area.Point.{Point}
 use Rattle.lf_rules.specs.Choice.{spot_of}

@@ -33,10 +33,7 @@ impl Tables {
 
     /// Tells the report of the team's cells at their working places.
     #[tactic(auto, unfolding(lf_teams::specs::Looks::checked))]
-    pub(crate) fn check<S>(
-        &self,
-        around: &Surroundings<'_, S>,
-    ) -> Result<Reply, AllocError>
+    pub(crate) fn check<S>(&self, around: &Surroundings<'_, S>) -> Result<Reply, AllocError>
         requires { IsTeamOf around.now.frame.now (team_in around.now self.now) }
         ensures ok { (l : Legalizer) → IfOk result (λ reply. Reaches
             (checked (setting_in l around.now) (team_in around.now self.now))

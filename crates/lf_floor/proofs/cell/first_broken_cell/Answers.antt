@@ -23,6 +23,6 @@ returns g c = λ l.
     let are = lent_are c.args.around.now.number cells c.deref.result.now c.in_ok-listed.listed.items c.deref.ensures.value (c.in_ok-listed.ensures {u = tt}) in
     IfOk-weaker c.first_illegal.result _ _
     (λ first is. is
-        ∙ ap (λ (cs : List (Listed (List ℕ))). slice_get (illegal_in l c.args.around.now.frame.now cs) 0) are
-        ∙ ap (λ (found : List BrokenCell). slice_get found 0) (illegal_cells (setting_in l c.args.around.now) cells))
+    ∙ ap (λ (cs : List (Listed (List ℕ))). slice_get (illegal_in l c.args.around.now.frame.now cs) 0) are
+    ∙ ap (λ (found : List BrokenCell). slice_get found 0) (illegal_cells (setting_in l c.args.around.now) cells))
     (c.first_illegal.ensures l)

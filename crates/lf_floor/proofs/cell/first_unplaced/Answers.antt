@@ -1,6 +1,5 @@
-use Rattle.std.proofs.Common.{◌≡◌, ◌<◌, ℕ, ◌+◌, Some, None, false, length, sym, ap, ◌∙◌, subst, arith}
-use Rattle.std.specs.Prelude.{is_none}
-use Rattle.lf_cells.specs.Cells.{cells_of, working_at}
+use Rattle.std.proofs.Common.{sym, arith}
+use Rattle.lf_cells.specs.Cells.{cells_of}
 use Rattle.lf_floor.proofs.Unplaced.{first_at, none_at, one_more_placed}
 use Rattle.lf_floor.proofs.cell.first_unplaced.Goals as goal
 

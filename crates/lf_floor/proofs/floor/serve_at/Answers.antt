@@ -7,7 +7,7 @@ use Rattle.lf_teams.specs.Teams.{IsTeamOf, setting}
 use Rattle.lf_teams.proofs.Kept.{verb_keeps}
 use Rattle.lf_teams.proofs.Serving.{kept_by, gives, stays_short}
 use Rattle.lf_floor.specs.Tables.{own_team, teams_in}
-use Rattle.lf_floor.proofs.Rows.{each_team, one_changed, served, tables_kept, team_there}
+use Rattle.lf_floor.proofs.Rows.{each_team, one_changed, served, team_there}
 use Rattle.lf_floor.proofs.floor.serve_at.Goals as goal
 
 pub serve-requires : goal.serve-requires

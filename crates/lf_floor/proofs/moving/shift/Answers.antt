@@ -1,4 +1,3 @@
-use Rattle.std.proofs.Common.{refl}
 use Rattle.lf_cells.specs.Cells.{cells_of}
 use Rattle.lf_floor.proofs.Moves.{one_more, same_moved}
 use Rattle.lf_floor.proofs.moving.shift.Goals as goal

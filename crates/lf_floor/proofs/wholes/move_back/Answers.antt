@@ -1,4 +1,4 @@
-use Rattle.std.proofs.Common.{◌≡◌, ◌+◌, List, sym, ap, ◌∙◌, refl, arith}
+use Rattle.std.proofs.Common.{List, ap, ◌∙◌, refl, arith}
 use Rattle.lf_cells.specs.declared.cell.Cell.{Cell}
 use Rattle.lf_cells.specs.Cells.{cells_of, committed_at, moved}
 use Rattle.lf_floor.proofs.Reverting.{all_are_back, one_more_back}

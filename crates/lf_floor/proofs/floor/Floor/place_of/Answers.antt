@@ -1,4 +1,4 @@
-use Rattle.std.proofs.Common.{sym, ◌∙◌, ap, arith, List, Option}
+use Rattle.std.proofs.Common.{sym, ◌∙◌, ap, List, Option}
 use Rattle.std.specs.Prelude.{option_and_then, slice_get}
 use Rattle.lf_cells.specs.declared.cell.Cell.{Cell}
 use Rattle.lf_cells.specs.declared.cell.Standing.{Standing}

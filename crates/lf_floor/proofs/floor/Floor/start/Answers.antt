@@ -10,8 +10,7 @@ use Rattle.lf_floor.proofs.floor.Floor.start.Goals as goal
 pub invariant_of-result : goal.invariant_of-result
 invariant_of-result g c =
     let design = c.args.loaded in
-    let opens = c.in_ok-tables.ensures {u = tt} in
-    (
+    let opens = c.in_ok-tables.ensures {u = tt} in (
       opened_tables design c.in_ok-tables.tables opens,
       subst (λ (ts : List TeamState). All (λ t. IsTeamOf design.frame t) ts) (sym (opened_teams design c.in_ok-tables.tables opens)) (opening_whole design).1,
     )

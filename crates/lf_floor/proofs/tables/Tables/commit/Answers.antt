@@ -1,7 +1,5 @@
-use Rattle.std.proofs.Common.{◌≡◌, Option, None, refl, sym, ◌∙◌}
-use Rattle.lf_cells.specs.Cells.{cells_of}
+use Rattle.std.proofs.Common.{refl, sym, ◌∙◌}
 use Rattle.lf_proto.proofs.Fronts.{on_err_from}
-use Rattle.lf_teams.specs.Changes.{first_unplaced}
 use Rattle.lf_floor.specs.Tables.{setting_in, team_in}
 use Rattle.lf_floor.proofs.Committing.{commit_illegal, commit_short, commit_unplaced, committed_reaches}
 use Rattle.lf_floor.proofs.tables.Tables.commit.Goals as goal

@@ -1,7 +1,5 @@
-use Rattle.std.proofs.Common.{◌≡◌, ℕ, Option, true, ap, sym, ◌∙◌}
+use Rattle.std.proofs.Common.{◌≡◌, ℕ, true, ap, sym, ◌∙◌}
 use Rattle.std.specs.Option.{is_some}
-use Rattle.std.proofs.lemmas.Result.{IfOk-weaker}
-use Rattle.lf_floorplan.specs.declared.place.Place.{Place}
 use Rattle.lf_cells.specs.Cells.{cells_of, working_at}
 use Rattle.lf_floor.specs.Tables.{setting_in, team_in}
 use Rattle.lf_floor.proofs.Swaps.{swapped_is}

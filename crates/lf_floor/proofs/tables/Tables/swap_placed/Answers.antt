@@ -1,8 +1,7 @@
-use Rattle.std.proofs.Common.{◌≡◌, List, Some, refl, ap, sym, subst, ◌∙◌}
+use Rattle.std.proofs.Common.{List, refl, ap, sym, subst, ◌∙◌}
 use Rattle.lf_cells.specs.declared.cell.Cell.{Cell}
 use Rattle.lf_cells.specs.Cells.{cells_of}
 use Rattle.lf_undo.specs.declared.moves.Move.{Move}
-use Rattle.lf_teams.specs.Changes.{exchanged}
 use Rattle.lf_floor.specs.Swapping.{swap_refusal}
 use Rattle.lf_floor.specs.Tables.{HaveMoved, setting_in, team_in, team_with}
 use Rattle.lf_floor.proofs.Moves.{none_yet}

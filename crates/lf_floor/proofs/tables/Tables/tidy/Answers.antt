@@ -1,4 +1,3 @@
-use Rattle.std.proofs.Common.{◌∙◌}
 use Rattle.lf_cells.specs.Cells.{cells_of}
 use Rattle.lf_proto.proofs.Fronts.{on_err_from}
 use Rattle.lf_floor.specs.Tables.{own_team, setting_in, team_in}

@@ -1,12 +1,4 @@
-use Rattle.std.proofs.Common.{ap, sym, ◌∙◌}
 use Rattle.lf_cells.specs.Cells.{cells_of}
-use Rattle.lf_undo.specs.declared.moves.Move.{Move}
-use Rattle.lf_undo.specs.Stacks.{Stacks}
-use Rattle.lf_proto.specs.declared.reply.Reply.TheVariants.{Refused}
-use Rattle.lf_proto.specs.declared.reply.Refusal.TheVariants.{NothingToUndo}
-use Rattle.lf_teams.specs.Changes.{undone}
-use Rattle.lf_teams.specs.Outcomes.{Reaches}
-use Rattle.lf_floor.specs.Tables.{own_team}
 use Rattle.lf_floor.proofs.Undoing.{cells_before, led_from, none_reaches, undone_reaches}
 use Rattle.lf_floor.proofs.tables.Tables.undo.Goals as goal
 
