@@ -1,5 +1,5 @@
 -- Sessions: the slots of a team, and what open, close and sync come to.
-use Rattle.std.specs.Prelude.{ℕ, List, Option, Some, None, position, is_none, slice_set}
+use Rattle.std.specs.Prelude.{ℕ, Option, Some, None, position, is_none, slice_set}
 pub use Rattle.lf_sessions.specs.Slots.{seen_at}
 use Rattle.lf_proto.specs.declared.reply.Reply.TheVariants.{Done, Opened, Revision}
 use Rattle.lf_proto.specs.declared.reply.Refusal.TheVariants.{SessionsFull}
