@@ -1,6 +1,6 @@
 //! Changes of a whole team: what `revert`, `undo` and `commit` do.
 
-ghost use Rattle.std.specs.Prelude.{◌≡◌, List, IfOk, OnErr, OnOk, map, true};
+ghost use Rattle.std.specs.Prelude.{◌≡◌, List, IfOk, OnErr, OnOk, IsTrue, ◌↔◌, map};
 ghost use Rattle.lf_rules.specs.Legalizer.{Legalizer};
 ghost use Rattle.lf_cells.specs.declared.cell.Cell.{Cell};
 ghost use Rattle.lf_cells.specs.Cells.{as_committed, cells_of, committed_at, moved};
@@ -20,14 +20,14 @@ use std::alloc::AllocError;
 
 /// Whether both are one place.
 fn is_one_place(a: &Place, b: &Place) -> bool
-    ensures { result ≡ true → a.now ≡ b.now }
+    ensures { IsTrue result ↔ a.now ≡ b.now }
 {
     a.x == b.x && a.y == b.y && a.orient == b.orient
 }
 
 /// Whether both stand at one place, or both nowhere.
 fn stand_alike(a: Option<Place>, b: Option<Place>) -> bool
-    ensures { result ≡ true → a ≡ b }
+    ensures { IsTrue result ↔ a ≡ b }
 {
     match (a, b) {
         (Some(a), Some(b)) => is_one_place(&a, &b),

@@ -17,6 +17,6 @@ returns-then-stand_alike-clause-own c =
     let id = id_there cells c.args.number c.args.own c.in-Some.id (sym c.id_at.ensures ∙ c.in-Some.is) in
     let same : working_at cells c.args.own ≡ committed_at cells c.args.own =
     sym (of_id working_at table c.args.number c.args.own c.in-Some.id id) ∙ sym c.working.ensures
-    ∙ c.stand_alike.ensures c.if-stand_alike.true
+    ∙ c.stand_alike.ensures.0 c.if-stand_alike.true
     ∙ c.committed-committed.ensures ∙ of_id committed_at table c.args.number c.args.own c.in-Some.id id in
     sym (ap (λ (p : Option Place). moved cells c.args.own p) (sym same) ∙ not_moved cells c.args.own)
