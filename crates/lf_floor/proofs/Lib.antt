@@ -4,5 +4,8 @@ pub mod Seeking
 pub mod Rows
 pub mod Moves
 pub mod Ends
+pub mod Swaps
+pub mod Undoing
+pub mod Unplaced
 pub mod Sending
 pub mod FirstIllegal

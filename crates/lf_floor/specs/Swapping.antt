@@ -1,5 +1,5 @@
 -- How two cells that were exchanged are tested; no public clause cites it.
-use Rattle.std.specs.Prelude.{ℕ, List, Option, Some, None}
+use Rattle.std.specs.Prelude.{ℕ, List, Option, Some, None, option_map}
 use Rattle.lf_rules.specs.declared.rule.Broken.{Broken}
 use Rattle.lf_proto.specs.declared.reply.Refusal.{Refusal}
 use Rattle.lf_proto.specs.declared.reply.Refusal.TheVariants.{Illegal}
@@ -9,15 +9,18 @@ use Rattle.lf_teams.specs.Teams.{Setting}
 use Rattle.lf_teams.specs.Outcomes.{Outcome}
 use Rattle.lf_teams.specs.Changes.{broken_where, exchanged, swapped_to}
 
--- the first cell's broken rule, else the second's
-abbrev pub refusal_by : Option Broken → Option Broken → ℕ → ℕ → Option Refusal
-refusal_by (Some broken) other first second = Some (Illegal broken.rule first broken.other)
-refusal_by None (Some broken) first second = Some (Illegal broken.rule second broken.other)
-refusal_by None None first second = None
+-- why a cell is refused that breaks this rule
+abbrev pub illegal_by : Option Broken → ℕ → Option Refusal
+illegal_by broken own = option_map (λ b. Illegal b.rule own b.other) broken
 
--- why the two cells are refused where they stand
+-- this refusal, else the other
+abbrev pub first_of : Option Refusal → Option Refusal → Option Refusal
+first_of None other = other
+first_of (Some refusal) other = Some refusal
+
+-- why two cells are refused where they stand, the first before the second
 abbrev pub swap_refusal : Setting → List Cell → ℕ → ℕ → Option Refusal
-swap_refusal t cells first second = refusal_by (broken_where t cells first) (broken_where t cells second) first second
+swap_refusal t cells first second = first_of (illegal_by (broken_where t cells first) first) (illegal_by (broken_where t cells second) second)
 
 -- the swap of two placed cells
 abbrev pub swapped_here : Setting → ℕ → ℕ → ℕ → TeamState → Outcome

@@ -4,7 +4,7 @@
 ghost use Rattle.std.specs.Prelude.{◌≡◌, List, OnErr, OnOk};
 ghost use Rattle.lf_cells.specs.declared.cell.Cell.{Cell};
 ghost use Rattle.lf_cells.specs.Cells.{cells_of, moved};
-ghost use Rattle.lf_floor.specs.Tables.{HaveMoved, OtherCellsStay};
+ghost use Rattle.lf_floor.specs.Tables.{HaveMoved, OtherCellsStay, SameButPlaces};
 
 use lf_cells::{CellId, CellTable};
 use lf_floorplan::Place;
@@ -41,6 +41,7 @@ pub(crate) fn shift(
     ensures own { OnOk result (cells_of cells.new id.team ≡ moved (cells_of cells.old id.team) id.own place) }
     ensures moved { (before : List Cell) → HaveMoved before moves.old (cells_of cells.old id.team) → HaveMoved before moves.new (cells_of cells.new id.team) }
     ensures err { OnErr result (cells.new ≡ cells.old) }
+    ensures same { SameButPlaces (cells_of cells.old id.team) (cells_of cells.new id.team) }
     ensures others { OtherCellsStay id.team cells.old cells.new }
 {
     moves.push(Move {

@@ -7,8 +7,8 @@ ghost use Rattle.lf_cells.specs.Cells.{cells_of};
 ghost use Rattle.lf_legalize.specs.Members.{IsSizedCell};
 ghost use Rattle.lf_teams.specs.Outcomes.{Reaches, RunsOut};
 ghost use Rattle.lf_teams.specs.Changes.{broken_where, exchanged, swapped};
-ghost use Rattle.lf_floor.specs.Tables.{CanChange, HaveMoved, OtherCellsStay, OthersStay, setting_in, team_in};
-ghost use Rattle.lf_floor.specs.Swapping.{swap_refusal, swapped_here};
+ghost use Rattle.lf_floor.specs.Tables.{CanChange, HaveMoved, OtherCellsStay, OthersStay, SameButPlaces, setting_in, team_in};
+ghost use Rattle.lf_floor.specs.Swapping.{illegal_by, swap_refusal, swapped_here};
 
 use crate::cell::broken_at;
 use crate::moving::{shift, take_back};
@@ -51,6 +51,7 @@ fn exchange(
     requires { second.team ≡ first.team }
     ensures own { OnOk result (cells_of cells.new first.team ≡ exchanged (cells_of cells.old first.team) first.own second.own) }
     ensures moved { (before : List Cell) → HaveMoved before moves.old (cells_of cells.old first.team) → HaveMoved before moves.new (cells_of cells.new first.team) }
+    ensures same { SameButPlaces (cells_of cells.old first.team) (cells_of cells.new first.team) }
     ensures others { OtherCellsStay first.team cells.old cells.new }
 {
     let to_second = cells.working(second);
@@ -59,8 +60,28 @@ fn exchange(
     shift(cells, moves, second, to_first)
 }
 
-/// Why two exchanged cells of the team are refused where they stand now, the first before the
-/// second; none where neither breaks a rule.
+/// Why the team's cell of that position is refused where it stands; none where it breaks no rule.
+fn refusal_at<S>(
+    around: &Surroundings<'_, S>,
+    cells: &CellTable,
+    own: u32,
+) -> Result<Option<Refusal>, AllocError>
+    requires sized { All (IsSizedCell around.now.frame.now) (cells_of cells.now around.now.number) }
+    requires few { length (cells_of cells.now around.now.number) ≤ 4000000 }
+    ensures { (l : Legalizer) → IfOk result (λ refusal. refusal ≡ illegal_by (broken_where (setting_in l around.now) (cells_of cells.now around.now.number) own) own) }
+{
+    match broken_where(around, cells, own)? {
+        Some(broken) => Ok(Some(Refusal::Illegal {
+            rule: broken.rule,
+            cell: own,
+            other: broken.other,
+        })),
+        None => Ok(None),
+    }
+}
+
+/// Why two cells of the team are refused where they stand, the first before the second; none where
+/// neither breaks a rule.
 fn refusal_of<S>(
     around: &Surroundings<'_, S>,
     cells: &CellTable,
@@ -71,16 +92,10 @@ fn refusal_of<S>(
     requires few { length (cells_of cells.now around.now.number) ≤ 4000000 }
     ensures { (l : Legalizer) → IfOk result (λ refusal. refusal ≡ swap_refusal (setting_in l around.now) (cells_of cells.now around.now.number) first second) }
 {
-    for cell in [first, second] {
-        if let Some(broken) = broken_where(around, cells, cell)? {
-            return Ok(Some(Refusal::Illegal {
-                rule: broken.rule,
-                cell,
-                other: broken.other,
-            }));
-        }
+    match refusal_at(around, cells, first)? {
+        Some(refusal) => Ok(Some(refusal)),
+        None => refusal_at(around, cells, second),
     }
-    Ok(None)
 }
 
 /// Exchanges the places of two cells of the team, and tells why they are refused there, if they

@@ -1,6 +1,5 @@
 -- The committed places of a team: which orders change them, and that they stay legal.
-use Rattle.std.proofs.Common.{◌≡◌, ℕ, List, [], ◌∷◌, Bool, true, false, map, Option, Some, None, refl, ap, sym, ◌∙◌, subst}
-use Rattle.lf_floorplan.specs.declared.frame.Frame.{Frame}
+use Rattle.std.proofs.Common.{◌≡◌, ℕ, List, [], ◌∷◌, true, map, Option, Some, None, refl, ap, sym, subst}
 use Rattle.lf_floorplan.specs.declared.place.Place.{Place}
 use Rattle.lf_rules.specs.Team.{Member, StandsLegal}
 use Rattle.lf_proto.specs.declared.request.Order.{Order}
@@ -8,15 +7,15 @@ use Rattle.lf_proto.specs.declared.request.Order.TheVariants.{Within}
 use Rattle.lf_proto.specs.declared.request.Action.TheVariants.{Change as Changing}
 use Rattle.lf_proto.specs.declared.request.Change.TheVariants.{Commit}
 use Rattle.lf_cells.specs.declared.cell.Cell.{Cell}
-use Rattle.lf_cells.specs.Cells.{moved, as_committed}
+use Rattle.lf_cells.specs.Cells.{as_committed}
 use Rattle.lf_legalize.specs.Members.{member_of}
 use Rattle.lf_teams.specs.States.{TeamState}
 use Rattle.lf_teams.specs.Teams.{Setting, IsTeamOf}
 use Rattle.lf_teams.specs.Outcomes.{Outcome, places_of, changed}
-use Rattle.lf_teams.specs.Changes.{restored, exchanged, back_to_committed, places_in}
+use Rattle.lf_teams.specs.Changes.{places_in}
 use Rattle.lf_teams.specs.Verbs.{outcome_of}
 use Rattle.lf_teams.specs.VerbLaws.{AreLegal, is_accepted, is_commit, committed_places}
-use Rattle.lf_teams.specs.Committed.{committed_member, committed_members, AreCommittedLegal}
+use Rattle.lf_teams.specs.Committed.{committed_member, AreCommittedLegal}
 use Rattle.lf_teams.proofs.Cases.{Leaves, IsLeft, order_by}
 use Rattle.lf_teams.proofs.Kept.{moved_part, restored_part, back_part, exchanged_part, false_true}
 use Rattle.lf_teams.proofs.Tidying.{committed_stand}
@@ -59,14 +58,15 @@ module _ (t : Setting) (s : TeamState) (known : IsTeamOf t.frame s) where
     checks = λ session text. before;
     tells = λ session name place. before;
     finds = λ session name target place. before;
-    places = λ session own name place left named e. alike t s (moved s.cells own (Some place)) (moved_part committed_member (λ c p. refl) s.cells own (Some place)) before;
-    legalizes = λ session own name target place left named e. alike t s (moved s.cells own (Some place)) (moved_part committed_member (λ c p. refl) s.cells own (Some place)) before;
-    tidies = λ session count members left e. alike t s (restored (places_in members) s.cells) (restored_part committed_member (λ c p. refl) (places_in members) s.cells) before;
-    unplaces = λ session own name left named. alike t s (moved s.cells own None) (moved_part committed_member (λ c p. refl) s.cells own None) before;
-    swaps = λ session first second name other p q left named named' at at' e e'. alike t s (exchanged s.cells first second) (exchanged_part committed_member (λ c p. refl) s.cells first second) before;
-    undoes = λ session old entries left e. alike t s (restored old s.cells) (restored_part committed_member (λ c p. refl) old s.cells) before;
+    places = λ session own name place left named e. alike t s _ (moved_part committed_member (λ c p. refl) s.cells own (Some place)) before;
+    legalizes = λ session own name target place left named e. alike t s _ (moved_part committed_member (λ c p. refl) s.cells own (Some place)) before;
+    tidies = λ session count members left e. alike t s _ (restored_part committed_member (λ c p. refl) (places_in members) s.cells) before;
+    unplaces = λ session own name left named. alike t s _ (moved_part committed_member (λ c p. refl) s.cells own None) before;
+    swaps = λ session first second name other p q left named named' at at' e e'.
+        alike t s _ (exchanged_part committed_member (λ c p. refl) s.cells first second) before;
+    undoes = λ session old entries left e. alike t s _ (restored_part committed_member (λ c p. refl) old s.cells) before;
     commits = λ session left u b. (commit_ends session (committed_stand t s.cells known.sized u b)).committed;
-    reverts = λ session left. alike t s (map back_to_committed s.cells) (back_part committed_member (λ c p. refl) s.cells) before;
+    reverts = λ session left. alike t s _ (back_part committed_member (λ c p. refl) s.cells) before;
   }
 
   -- legal committed places stay legal, whatever is asked
@@ -97,5 +97,6 @@ module _ (t : Setting) (s : TeamState) (known : IsTeamOf t.frame s) where
   }
 
   -- after an accepted commit the working places are committed, and legal
-  pub commit_commits : (session : ℕ) → is_accepted (outcome_of t (Within session (Changing Commit)) s) ≡ true → Commits t (outcome_of t (Within session (Changing Commit)) s).team
+  pub commit_commits : (session : ℕ) → is_accepted (outcome_of t (Within session (Changing Commit)) s) ≡ true
+      → Commits t (outcome_of t (Within session (Changing Commit)) s).team
   commit_commits session accepted = order_by t s Ends ends (Within session (Changing Commit)) refl accepted

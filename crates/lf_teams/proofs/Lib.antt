@@ -17,3 +17,4 @@ pub mod VerbRows
 pub mod Promises
 pub mod Stepping
 pub mod Running
+pub mod TidyCommits

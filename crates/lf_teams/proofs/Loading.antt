@@ -1,24 +1,22 @@
 -- The committed design with which a floor begins is the loaded one, in another order.
-use Rattle.std.proofs.Common.{◌≡◌, ◌≢◌, ℕ, ◌+◌, ◌<◌, ◌≤◌, List, [], ◌∷◌, Bool, true, false, cond, eqb, length, map, filter, get_or, Option, Some, None, ◌⊎◌, inl, inr, refl, ap, sym, ◌∙◌, subst, arith, zero-add}
+use Rattle.std.proofs.Common.{◌≡◌, ℕ, ◌+◌, ◌<◌, ◌≤◌, List, [], ◌∷◌, Bool, true, false, eqb, length, map, filter, Option, Some, None, ◌⊎◌, inl, inr, refl, ap, sym, ◌∙◌, subst, arith, zero-add}
 use Rattle.std.specs.Prelude.{All, slice_get, unwrap_or, option_map}
 use Rattle.std.proofs.lemmas.Bool.{eqb-true}
 use Rattle.std.proofs.lemmas.List.Elements.{All-head, All-tail}
 use Rattle.std.proofs.lemmas.Option.{slice_get-map, slice_get_within}
-use Rattle.lf_floorplan.specs.declared.frame.Frame.{Frame}
 use Rattle.lf_floorplan.specs.declared.loaded.Cell.{Cell as LoadedCell}
 use Rattle.lf_floorplan.specs.declared.loaded.Loaded.{Loaded}
 use Rattle.lf_floorplan.specs.declared.place.Place.{Place}
-use Rattle.lf_floorplan.specs.Design.{IsCell}
 use Rattle.lf_rules.specs.Choice.{spot_of}
-use Rattle.lf_rules.specs.FullyLegal.{Standing, IsFullyLegal, standing_at, with_team}
+use Rattle.lf_rules.specs.FullyLegal.{Standing, standing_at, with_team}
 use Rattle.lf_rules.specs.Team.{Member}
 use Rattle.lf_cells.specs.Openings.{opening_cell, own_cells}
 use Rattle.lf_teams.specs.States.{TeamState}
 use Rattle.lf_teams.specs.Teams.{team_number, state_of}
-use Rattle.lf_teams.specs.Designs.{opening_team, opening_teams, opening}
-use Rattle.lf_teams.specs.Committed.{committed_member, committed_members, committed_design, IsCommittedLegal, loaded_design, StandAt}
+use Rattle.lf_teams.specs.Designs.{opening_team, opening}
+use Rattle.lf_teams.specs.Committed.{LoadedIsCommitted, committed_member, committed_members, committed_design, loaded_design, StandAt}
 use Rattle.lf_teams.proofs.Openings.{team_of, opening_is, count_teams}
-use Rattle.lf_teams.proofs.Parts.{taken, passed, part_of, part_is, same_parts}
+use Rattle.lf_teams.proofs.Parts.{taken, passed, not_equal, part_of, part_is, same_parts}
 use Rattle.lf_teams.proofs.Standing.{some_one}
 
 -- the team's cells of a loaded design, at their places
@@ -32,7 +30,8 @@ at_places cells = standing_at cells (map (λ c. c.place) cells)
 loaded_part : (team : ℕ) (cells : List LoadedCell) → part_of team (at_places cells) ≡ with_team team (own_members team cells) []
 loaded_part team [] = refl
 loaded_part team (c ∷ cs) = by (eqb c.team team) refl (loaded_part team cs) where
-  by : (b : Bool) → eqb c.team team ≡ b → part_of team (at_places cs) ≡ with_team team (own_members team cs) [] → part_of team (at_places (c ∷ cs)) ≡ with_team team (own_members team (c ∷ cs)) []
+  by : (b : Bool) → eqb c.team team ≡ b → part_of team (at_places cs) ≡ with_team team (own_members team cs) []
+      → part_of team (at_places (c ∷ cs)) ≡ with_team team (own_members team (c ∷ cs)) []
   by true is rest =
       taken (λ d. eqb d.team team) _ (at_places cs) is
       ∙ ap (λ (xs : List Standing). record { team = c.team; mac = c.mac; place = option_map spot_of c.place } ∷ xs) rest
@@ -48,14 +47,8 @@ none_past : (team count : ℕ) (cells : List LoadedCell) → All (λ c. c.team �
 none_past team count [] known past = refl
 none_past team count (c ∷ cs) known past =
     let here : c.team ≤ count = All-head (λ (d : LoadedCell). d.team ≤ count) c cs known in
-    passed (λ d. eqb d.team team) c cs (differ c.team team (λ e. omega (arith, here, past, e)))
+    passed (λ d. eqb d.team team) c cs (not_equal c.team team (λ e. omega (arith, here, past, e)))
     ∙ none_past team count cs (All-tail (λ (d : LoadedCell). d.team ≤ count) c cs known) past
-  where
-    differ : (a b : ℕ) → a ≢ b → eqb a b ≡ false
-    differ a b ne = go (eqb a b) refl where
-      go : (x : Bool) → eqb a b ≡ x → x ≡ false
-      go true is = absurd (ne (eqb-true a b is))
-      go false is = refl
 
 past_end : {X : Type 0} (xs : List X) (i : ℕ) → length xs ≤ i → slice_get xs i ≡ None
 past_end {X} xs i past = go (slice_get xs i) refl where
@@ -74,11 +67,13 @@ opening_part design team = elim (within_or_past team (length design.frame.teams 
       ∙ ap (λ (o : Option TeamState). unwrap_or (option_map committed_members o) []) (team_of design 0 (length design.frame.teams + 1) team within)
       ∙ ap (λ (n : ℕ). own_members n design.cells) (zero-add team)
   | inr past ↦
-      let none : slice_get (opening design).teams team ≡ None = past_end (opening design).teams team (rw (count_teams design 0 (length design.frame.teams + 1)) past) in
+      let none : slice_get (opening design).teams team ≡ None =
+      past_end (opening design).teams team (rw (count_teams design 0 (length design.frame.teams + 1)) past) in
       let known : All (λ (c : LoadedCell). c.team ≤ length design.frame.teams) design.cells = λ i d within. (design.cells_known i d within).team_known in
       ap (λ (o : Option (List Member)). unwrap_or o []) (slice_get-map committed_members (opening design).teams team)
       ∙ ap (λ (o : Option TeamState). unwrap_or (option_map committed_members o) []) none
-      ∙ ap (λ (cs : List LoadedCell). map committed_member (map opening_cell cs)) (sym (none_past team (length design.frame.teams) design.cells known (omega (arith, past))))
+      ∙ ap (λ (cs : List LoadedCell). map committed_member (map opening_cell cs))
+      (sym (none_past team (length design.frame.teams) design.cells known (omega (arith, past))))
 ]
 
 same_designs : (design : Loaded) (team : ℕ) → part_of team (committed_design (opening design)) ≡ part_of team (loaded_design design)
@@ -88,7 +83,7 @@ same_designs design team =
     ∙ sym (loaded_part team design.cells)
 
 -- a floor begins fully legal exactly where the loaded design is
-pub loaded_committed : (design : Loaded) → (IsCommittedLegal (opening design) → IsFullyLegal design.frame (loaded_design design)) × (IsFullyLegal design.frame (loaded_design design) → IsCommittedLegal (opening design))
+pub loaded_committed : LoadedIsCommitted
 loaded_committed design = (
   λ legal. same_parts design.frame (committed_design (opening design)) (loaded_design design) (same_designs design) legal,
   λ legal. same_parts design.frame (loaded_design design) (committed_design (opening design)) (λ team. sym (same_designs design team)) legal,
@@ -103,9 +98,11 @@ committed_opening [] = refl
 committed_opening (c ∷ cs) = ap (λ (ps : List (Option Place)). c.place ∷ ps) (committed_opening cs)
 
 -- each team begins with its cells where they were loaded
-pub loaded_places : (design : Loaded) (team : List ℕ) (number : ℕ) (s : TeamState) → team_number design.frame team ≡ Some number → state_of (opening design) team ≡ Some s
+pub loaded_places : (design : Loaded) (team : List ℕ) (number : ℕ) (s : TeamState) → team_number design.frame team ≡ Some number
+    → state_of (opening design) team ≡ Some s
     → StandAt s (map (λ c. c.place) (filter (λ c. eqb c.team number) design.cells))
 loaded_places design team number s named there =
     let same : opening_team design number ≡ s = some_one (sym (opening_is design team number named) ∙ there) in
     let own = filter (λ (c : LoadedCell). eqb c.team number) design.cells in
-    subst (λ (t : TeamState). StandAt t (map (λ (c : LoadedCell). c.place) own)) same (record { working = working_opening own; committed = committed_opening own })
+    subst (λ (t : TeamState). StandAt t (map (λ (c : LoadedCell). c.place) own)) same
+    (record { working = working_opening own; committed = committed_opening own })

@@ -1,12 +1,12 @@
 -- A fully legal design, team by team: each team's part of it is fully legal, and the parts together make it.
-use Rattle.std.proofs.Common.{◌≡◌, ◌≢◌, ℕ, zero, suc, ◌+◌, ◌<◌, List, [], ◌∷◌, Bool, true, false, cond, eqb, length, filter, get_or, Option, Some, None, ◌⊎◌, inl, inr, refl, ap, sym, ◌∙◌, subst, arith}
-use Rattle.std.specs.Prelude.{All, AllPairs, IsSome, MatchOption, slice_get, slice_index_or, unwrap_or}
+use Rattle.std.proofs.Common.{◌≡◌, ◌≢◌, ℕ, zero, suc, ◌+◌, ◌<◌, List, [], ◌∷◌, Bool, true, false, cond, eqb, filter, get_or, Option, Some, None, ◌⊎◌, inl, inr, refl, ap, sym, ◌∙◌, subst, arith}
+use Rattle.std.specs.Prelude.{All, AllPairs, IsSome, MatchOption, slice_get, unwrap_or}
 use Rattle.std.specs.Option.{ForSome}
-use Rattle.std.proofs.lemmas.Bool.{eqb-true, eq-eqb}
+use Rattle.std.proofs.lemmas.Bool.{eq-eqb}
 use Rattle.std.proofs.lemmas.Bool.Decides.{eqb_tells}
 use Rattle.std.proofs.lemmas.List.Elements.{All-nil, All-cons, All-head, All-tail, All-filter}
 use Rattle.std.proofs.lemmas.List.Kept.{AllPairs-cons, AllPairs-filter}
-use Rattle.std.proofs.lemmas.Option.{slice_get_within, get_or_from_slice_get, unwrap_or-slice_get}
+use Rattle.std.proofs.lemmas.Option.{slice_get_within, get_or_from_slice_get}
 use Rattle.lf_units.specs.Area.{SharesPoint}
 use Rattle.lf_floorplan.specs.declared.frame.Frame.{Frame}
 use Rattle.lf_floorplan.proofs.GroundLemmas.{teams_apart}
@@ -48,7 +48,8 @@ module _ {X : Type 0} where
   filtered_each : (P : X → Type 0) (p : X → Bool) (xs : List X) → All P (filter p xs) → All (λ x. p x ≡ true → P x) xs
   filtered_each P p [] h = All-nil (λ x. p x ≡ true → P x)
   filtered_each P p (x ∷ xs) h = by (p x) refl h (λ g. filtered_each P p xs g) where
-    by : (b : Bool) → p x ≡ b → All P (cond b (x ∷ filter p xs) (filter p xs)) → (All P (filter p xs) → All (λ y. p y ≡ true → P y) xs) → All (λ y. p y ≡ true → P y) (x ∷ xs)
+    by : (b : Bool) → p x ≡ b → All P (cond b (x ∷ filter p xs) (filter p xs)) → (All P (filter p xs) → All (λ y. p y ≡ true → P y) xs)
+        → All (λ y. p y ≡ true → P y) (x ∷ xs)
     by true e g rest = All-cons (λ y. p y ≡ true → P y) x xs (λ _. All-head P x (filter p xs) g) (rest (All-tail P x (filter p xs) g))
     by false e g rest = All-cons (λ y. p y ≡ true → P y) x xs (λ t. absurd cc) (rest g)
 
@@ -61,23 +62,27 @@ part_of team cells = filter (λ c. eqb c.team team) cells
 own_part : (team : ℕ) (cells : List Member) (rest : List Standing) → part_of team (with_team team cells rest) ≡ with_team team cells (part_of team rest)
 own_part team [] rest = refl
 own_part team (m ∷ ms) rest =
-    taken (λ c. eqb c.team team) (standing_in team m) (with_team team ms rest) (eq-eqb team team refl) ∙ ap (λ (cs : List Standing). standing_in team m ∷ cs) (own_part team ms rest)
+    taken (λ c. eqb c.team team) (standing_in team m) (with_team team ms rest) (eq-eqb team team refl)
+    ∙ ap (λ (cs : List Standing). standing_in team m ∷ cs) (own_part team ms rest)
 
-other_part : (team other : ℕ) → eqb other team ≡ false → (cells : List Member) (rest : List Standing) → part_of team (with_team other cells rest) ≡ part_of team rest
+other_part : (team other : ℕ) → eqb other team ≡ false → (cells : List Member) (rest : List Standing)
+    → part_of team (with_team other cells rest) ≡ part_of team rest
 other_part team other differ [] rest = refl
 other_part team other differ (m ∷ ms) rest =
     passed (λ c. eqb c.team team) (standing_in other m) (with_team other ms rest) differ ∙ other_part team other differ ms rest
 
-not_equal : (a b : ℕ) → a ≢ b → eqb a b ≡ false
+pub not_equal : (a b : ℕ) → a ≢ b → eqb a b ≡ false
 not_equal a b differ = elim (eqb_tells a b) [ inl same ↦ absurd (differ same.1) | inr other ↦ other.0 ]
 
 -- no team before the first has a part
 none_before : (team from : ℕ) → team < from → (teams : List (List Member)) → part_of team (standing_from from teams) ≡ []
 none_before team from less [] = refl
 none_before team from less (cells ∷ teams) =
-    other_part team from (not_equal from team (λ e. omega (arith, less, e))) cells (standing_from (from + 1) teams) ∙ none_before team (from + 1) (omega (arith, less)) teams
+    other_part team from (not_equal from team (λ e. omega (arith, less, e))) cells (standing_from (from + 1) teams)
+    ∙ none_before team (from + 1) (omega (arith, less)) teams
 
-part_from : (team from k : ℕ) → team ≡ from + k → (teams : List (List Member)) → part_of team (standing_from from teams) ≡ with_team team (unwrap_or (slice_get teams k) []) []
+part_from : (team from k : ℕ) → team ≡ from + k → (teams : List (List Member))
+    → part_of team (standing_from from teams) ≡ with_team team (unwrap_or (slice_get teams k) []) []
 part_from team from k is [] = refl
 part_from team from zero is (cells ∷ teams) =
     let same : from ≡ team = omega (arith, is) in
@@ -85,7 +90,8 @@ part_from team from zero is (cells ∷ teams) =
     ∙ own_part team cells (standing_from (from + 1) teams)
     ∙ ap (λ (rest : List Standing). with_team team cells rest) (none_before team (from + 1) (omega (arith, is)) teams)
 part_from team from (suc k) is (cells ∷ teams) =
-    other_part team from (not_equal from team (λ e. omega (arith, is, e))) cells (standing_from (from + 1) teams) ∙ part_from team (from + 1) k (omega (arith, is)) teams
+    other_part team from (not_equal from team (λ e. omega (arith, is, e))) cells (standing_from (from + 1) teams)
+    ∙ part_from team (from + 1) k (omega (arith, is)) teams
 
 -- the part of a team in the design of all teams is its own cells
 pub part_is : (team : ℕ) (teams : List (List Member)) → part_of team (standing_from 0 teams) ≡ with_team team (unwrap_or (slice_get teams team) []) []
@@ -100,7 +106,8 @@ part_legal f cells team legal = record {
   apart = AllPairs-filter (λ a b. StandApart f a b) (λ c. eqb c.team team) cells legal.apart;
 }
 
-stands_in : (team : ℕ) (cells : List Member) (own : ℕ) (m : Member) → slice_get cells own ≡ Some m → slice_get (with_team team cells []) own ≡ Some (standing_in team m)
+stands_in : (team : ℕ) (cells : List Member) (own : ℕ) (m : Member) → slice_get cells own ≡ Some m
+    → slice_get (with_team team cells []) own ≡ Some (standing_in team m)
 stands_in team [] own m there = absurd cc
 stands_in team (x ∷ xs) zero m there =
     let same : x ≡ m = cc in
@@ -128,7 +135,8 @@ module _ (f : Frame) (team : ℕ) (cells : List Member) (legal : IsFullyLegal f 
     | inr before ↦ two_apart k own n m q p before here there at is (turn (box_in f m.mac p) (box_in f n.mac q) meets)
   ]
 
-  legal_where : (own : ℕ) (m : Member) (p : Spot) → KeepsRules f (standing_in team m) p → Clear f cells own (box_in f m.mac p) → IsLegalAt (lifted_from f team cells own m.mac) p
+  legal_where : (own : ℕ) (m : Member) (p : Spot) → KeepsRules f (standing_in team m) p → Clear f cells own (box_in f m.mac p)
+      → IsLegalAt (lifted_from f team cells own m.mac) p
   legal_where own m p keeps clear Height = keeps Height (omega arith)
   legal_where own m p keeps clear RowRule = keeps RowRule (omega arith)
   legal_where own m p keeps clear Stand = keeps Stand (omega arith)
@@ -147,7 +155,8 @@ module _ (f : Frame) (team : ℕ) (cells : List Member) (legal : IsFullyLegal f 
     by None is = absurd (not_placed m.place is placed)
     by (Some p) is =
         let keeps : KeepsRules f (standing_in team m) p =
-        each (λ (c : Standing). ForSome c.place (λ p. KeepsRules f c p)) (with_team team cells []) own (standing_in team m) legal.kept (stands_in team cells own m there) p is in
+        each (λ (c : Standing). ForSome c.place (λ p. KeepsRules f c p)) (with_team team cells []) own (standing_in team m) legal.kept
+        (stands_in team cells own m there) p is in
         legal_where own m p keeps (clear own m p there is)
 
 -- in a fully legal design each team's cells are placed and team-legal
@@ -167,7 +176,8 @@ part_tail P c cs team = by (eqb c.team team) where
   by true all = All-tail P c (part_of team cs) all
   by false all = all
 
-pairs_part_tail : (R : Standing → Standing → Type 0) (c : Standing) (cs : List Standing) (team : ℕ) → AllPairs R (part_of team (c ∷ cs)) → AllPairs R (part_of team cs)
+pairs_part_tail : (R : Standing → Standing → Type 0) (c : Standing) (cs : List Standing) (team : ℕ) → AllPairs R (part_of team (c ∷ cs))
+    → AllPairs R (part_of team cs)
 pairs_part_tail R c cs team = by (eqb c.team team) where
   by : (b : Bool) → AllPairs R (cond b (c ∷ part_of team cs) (part_of team cs)) → AllPairs R (part_of team cs)
   by true all = pairs_tail R c (part_of team cs) all
@@ -189,7 +199,8 @@ pairs_by_parts : (R : Standing → Standing → Type 0) (cells : List Standing) 
     → AllPairs (λ a b. a.team ≢ b.team → R a b) cells → AllPairs R cells
 pairs_by_parts R [] parts across = λ i j d less within. absurd (omega arith)
 pairs_by_parts R (c ∷ cs) parts across =
-    AllPairs-cons R c cs first (pairs_by_parts R cs (λ team. pairs_part_tail R c cs team (parts team)) (pairs_tail (λ a b. a.team ≢ b.team → R a b) c cs across))
+    AllPairs-cons R c cs first
+    (pairs_by_parts R cs (λ team. pairs_part_tail R c cs team (parts team)) (pairs_tail (λ a b. a.team ≢ b.team → R a b) c cs across))
   where
     own : All (λ d. eqb d.team c.team ≡ true → R c d) cs
     own = filtered_each (R c) (λ d. eqb d.team c.team) cs

@@ -1,40 +1,35 @@
 -- A run keeps a fully legal committed design, and accepted commits of all teams make one.
-use Rattle.std.proofs.Common.{◌≡◌, ℕ, zero, suc, ◌<◌, List, [], ◌∷◌, map, Bool, true, false, length, Option, Some, None, ◌⊎◌, inl, inr, refl, ap, sym, ◌∙◌, subst, arith}
+use Rattle.std.proofs.Common.{◌≡◌, ℕ, zero, suc, List, [], ◌∷◌, map, Bool, true, false, Option, Some, None, ◌⊎◌, inl, inr, refl, ap, sym, ◌∙◌, subst, arith}
 use Rattle.std.specs.Prelude.{slice_get, MatchBool}
 use Rattle.lf_floorplan.specs.declared.frame.Frame.{Frame}
 use Rattle.lf_floorplan.specs.declared.place.Place.{Place}
 use Rattle.lf_rules.specs.Legalizer.{Legalizer}
 use Rattle.lf_proto.specs.declared.request.Command.{Command}
 use Rattle.lf_proto.specs.declared.request.Command.TheVariants.{To}
-use Rattle.lf_proto.specs.declared.request.Order.{Order}
 use Rattle.lf_proto.specs.declared.request.Order.TheVariants.{Within}
 use Rattle.lf_proto.specs.declared.request.Action.TheVariants.{Change as Changing}
 use Rattle.lf_proto.specs.declared.request.Change.TheVariants.{Commit}
 use Rattle.lf_proto.specs.declared.reply.Reply.{Reply}
 use Rattle.lf_proto.specs.declared.reply.Reply.TheVariants.{Refused}
-use Rattle.lf_proto.specs.declared.reply.Refusal.TheVariants.{OutOfMemory}
 use Rattle.lf_cells.specs.declared.cell.Cell.{Cell}
-use Rattle.lf_rules.specs.Team.{Member, StandsLegal}
+use Rattle.lf_rules.specs.Team.{Member}
 use Rattle.lf_teams.specs.States.{TeamState, FloorState}
-use Rattle.lf_teams.specs.Teams.{setting, team_number, state_at, state_of}
+use Rattle.lf_teams.specs.Teams.{team_number, state_at}
 use Rattle.lf_teams.specs.Outcomes.{is_short}
 use Rattle.lf_teams.specs.VerbLaws.{is_granted}
 use Rattle.lf_teams.specs.Steps.{Answers, RunsShort, Step}
 use Rattle.lf_teams.specs.Runs.{Run}
 use Rattle.lf_teams.specs.Committed.{committed_member, committed_members, AreCommittedLegal, IsCommittedLegal}
-use Rattle.lf_teams.specs.CommittedRuns.{HasTeams, LegalRun, HasCommitted, NumberHasCommitted, AllHaveCommitted, CommitsMakeLegal}
+use Rattle.lf_teams.specs.CommittedRuns.{HasFrameTeams, CommitLasts, LegalRun, HasCommitted, NumberHasCommitted, CommitsMakeLegal}
 use Rattle.lf_teams.proofs.Committing.{Commits, commit_commits}
 use Rattle.lf_teams.proofs.Isolation.{step_frame}
 use Rattle.lf_teams.proofs.Kept.{false_true}
 use Rattle.lf_teams.proofs.Promises.{Ends, ends_good}
-use Rattle.lf_teams.proofs.Standing.{some_one}
-use Rattle.lf_teams.proofs.Stepping.{CommittedAt, step_teams, step_committed, committed_teams, teams_committed, step_keeps}
-
-none_some : {X : Type 0} {x : X} → None ≡ Some x → ⊥
-none_some e = cc
+use Rattle.lf_teams.proofs.Standing.{some_one, none_some}
+use Rattle.lf_teams.proofs.Stepping.{CommittedAt, step_teams, step_committed, teams_committed, step_keeps}
 
 -- a run from a fully legal committed design has one all along
-pub legal_run : (l : Legalizer) (commands : List (Command (List ℕ) Place)) (replies : List Reply) (old new : FloorState) → HasTeams old
+pub legal_run : (l : Legalizer) (commands : List (Command (List ℕ) Place)) (replies : List Reply) (old new : FloorState) → HasFrameTeams old
     → Run l old commands replies new → IsCommittedLegal old → LegalRun l old commands replies new
 legal_run l [] [] old new known run legal = run
 legal_run l [] (r ∷ rs) old new known run legal = absurd run
@@ -58,7 +53,8 @@ abbrev commit_to : List ℕ → ℕ → Command (List ℕ) Place
 commit_to team session = To team (Within session (Changing Commit))
 
 -- after an accepted commit the team's committed places are legal
-module _ (l : Legalizer) (old mid : FloorState) (team : List ℕ) (session : ℕ) (reply : Reply) (known : HasTeams old) (accepted : is_granted reply ≡ true) where
+module _ (l : Legalizer) (old mid : FloorState) (team : List ℕ) (session : ℕ) (reply : Reply) (known : HasFrameTeams old)
+    (accepted : is_granted reply ≡ true) where
   module _ (step : Step l old (commit_to team session) reply mid) (k : ℕ) (named : team_number old.frame team ≡ Some k) where
     end : Ends l mid team Commits
     end = ends_good l old mid (commit_to team session) reply team (Within session (Changing Commit)) Commits known
@@ -73,7 +69,8 @@ module _ (l : Legalizer) (old mid : FloorState) (team : List ℕ) (session : ℕ
 
     pub commit_steps : CommittedAt mid k
     commit_steps s there =
-        let here : slice_get mid.teams k ≡ Some end.state = ap (λ (n : ℕ). slice_get mid.teams n) (sym number_is) ∙ ap (state_at mid.teams) (sym end.named) ∙ end.there in
+        let here : slice_get mid.teams k ≡ Some end.state = ap (λ (n : ℕ). slice_get mid.teams n) (sym number_is)
+        ∙ ap (state_at mid.teams) (sym end.named) ∙ end.there in
         let same : end.state ≡ s = some_one (sym here ∙ there) in
         subst (λ (t : TeamState). AreCommittedLegal mid.frame k t) same
         (subst (λ (n : ℕ). AreCommittedLegal mid.frame n end.state) number_is end.good.committed)
@@ -95,7 +92,8 @@ first_or_later team c r cs rs (suc at) session reply commit answer accepted =
     inr (record { at = at; session = session; reply = reply; commit = commit; answer = answer; accepted = accepted })
 
 -- a team whose committed places are legal, or of which a commit is accepted, has legal ones at the end
-run_commits : (l : Legalizer) (k : ℕ) (commands : List (Command (List ℕ) Place)) (replies : List Reply) (old new : FloorState) → HasTeams old → Run l old commands replies new
+run_commits : (l : Legalizer) (k : ℕ) (commands : List (Command (List ℕ) Place)) (replies : List Reply) (old new : FloorState) → HasFrameTeams old
+    → Run l old commands replies new
     → CommittedAt old k ⊎ NumberHasCommitted old.frame k commands replies → CommittedAt new k
 run_commits l k [] [] old new known run (inl before) = subst (λ (f : FloorState). CommittedAt f k) (sym run) before
 run_commits l k [] [] old new known run (inr later) = absurd (none_some later.committed.commit)
@@ -104,7 +102,8 @@ run_commits l k (c ∷ cs) [] old new known run h = absurd run
 run_commits l k (c ∷ cs) (r ∷ rs) old new known run (inl before) =
     run_commits l k cs rs run.0 new (step_teams l old run.0 c r known run.1) run.2 (inl (step_committed l old run.0 c r known run.1 k before))
 run_commits l k (c ∷ cs) (r ∷ rs) old new known run (inr later) =
-    run_commits l k cs rs run.0 new (step_teams l old run.0 c r known run.1) run.2 (go (first_or_later later.team c r cs rs had.at had.session had.reply had.commit had.answer had.accepted))
+    run_commits l k cs rs run.0 new (step_teams l old run.0 c r known run.1) run.2
+    (go (first_or_later later.team c r cs rs had.at had.session had.reply had.commit had.answer had.accepted))
   where
     had : HasCommitted later.team (c ∷ cs) (r ∷ rs)
     had = later.committed
@@ -119,6 +118,20 @@ run_commits l k (c ∷ cs) (r ∷ rs) old new known run (inr later) =
       committed = rest;
     })
 
+run_frame : (l : Legalizer) (commands : List (Command (List ℕ) Place)) (replies : List Reply) (old new : FloorState) → Run l old commands replies new
+    → new.frame ≡ old.frame
+run_frame l [] [] old new run = ap (λ (f : FloorState). f.frame) run
+run_frame l [] (r ∷ rs) old new run = absurd run
+run_frame l (c ∷ cs) [] old new run = absurd run
+run_frame l (c ∷ cs) (r ∷ rs) old new run = run_frame l cs rs run.0 new run.2 ∙ step_frame l old run.0 c r (is_short r) run.1
+
+-- a commit that was accepted lasts
+pub commit_lasts : CommitLasts
+commit_lasts l old new commands replies known run team number s had named there =
+    let before : team_number old.frame team ≡ Some number = ap (λ (f : Frame). team_number f team) (sym (run_frame l commands replies old new run)) ∙ named in
+    run_commits l number commands replies old new known run (inr (record { team = team; named = before; committed = had })) s
+    (ap (state_at new.teams) (sym named) ∙ there)
+
 -- a team with no cells has no committed place that breaks a rule
 none_stand : (l : Legalizer) (floor : FloorState) (k : ℕ) (s : TeamState) → slice_get floor.teams k ≡ Some s → s.cells ≡ [] → CommittedAt floor k
 none_stand l floor k s there none t here own m at =
@@ -127,12 +140,13 @@ none_stand l floor k s there none t here own m at =
     absurd (none_some (sym (ap (λ (ms : List Member). slice_get ms own) cells) ∙ at))
 
 -- where of each team that has a cell a commit was accepted, the committed design is fully legal
-pub commits_legal : (l : Legalizer) (commands : List (Command (List ℕ) Place)) (replies : List Reply) (old new : FloorState) → HasTeams old
+pub commits_legal : (l : Legalizer) (commands : List (Command (List ℕ) Place)) (replies : List Reply) (old new : FloorState) → HasFrameTeams old
     → Run l old commands replies new → CommitsMakeLegal old commands replies new
 commits_legal l commands replies old new known run all =
     teams_committed new (λ k. run_commits l k commands replies old new known run (start k (slice_get old.teams k) refl))
   where
-    by_cells : (k : ℕ) (s : TeamState) → slice_get old.teams k ≡ Some s → (cells : List Cell) → s.cells ≡ cells → CommittedAt old k ⊎ NumberHasCommitted old.frame k commands replies
+    by_cells : (k : ℕ) (s : TeamState) → slice_get old.teams k ≡ Some s → (cells : List Cell) → s.cells ≡ cells
+        → CommittedAt old k ⊎ NumberHasCommitted old.frame k commands replies
     by_cells k s there [] none = inl (none_stand l old k s there none)
     by_cells k s there (c ∷ cs) some = inr (all k s there (rw some (omega arith)))
 

@@ -31,6 +31,9 @@ some_one {X} {a} {b} e = ap (λ (o : Option X). or_else o) e where
   or_else None = a
   or_else (Some x) = x
 
+pub none_some : {X : Type 0} {x : X} → None ≡ Some x → ⊥
+none_some e = cc
+
 -- the cell of that position is a member there
 pub member_there : (cells : List Cell) (own : ℕ) (m : Member) → slice_get (map member_of cells) own ≡ Some m → (c : Cell) × (slice_get cells own ≡ Some c) × (member_of c ≡ m)
 member_there cells own m there = go (slice_get cells own) refl (sym (slice_get-map member_of cells own) ∙ there) where
@@ -51,7 +54,7 @@ working_is cells own place e = go (slice_get cells own) refl e where
 abbrev no_cell : Cell
 no_cell = record { name = []; mac = 0; working = None; committed = None }
 
-there_within : (cells : List Cell) (own : ℕ) → own < length cells → (c : Cell) × (slice_get cells own ≡ Some c)
+pub there_within : (cells : List Cell) (own : ℕ) → own < length cells → (c : Cell) × (slice_get cells own ≡ Some c)
 there_within [] own within = absurd (omega (arith, within))
 there_within (c ∷ cs) zero within = (c, refl)
 there_within (c ∷ cs) (suc own) within = there_within cs own (omega (arith, within))

@@ -1,6 +1,6 @@
 -- A step, team by team: what it keeps of each, and of the committed design.
-use Rattle.std.proofs.Common.{◌≡◌, ℕ, zero, suc, List, [], ◌∷◌, Bool, true, false, map, length, Option, Some, None, ◌⊎◌, inl, inr, refl, ap, sym, ◌∙◌, subst, arith}
-use Rattle.std.specs.Prelude.{All, slice_get, slice_set, MatchBool, option_map}
+use Rattle.std.proofs.Common.{◌≡◌, ℕ, zero, suc, List, [], ◌∷◌, Bool, true, false, map, Option, Some, None, ◌⊎◌, inl, inr, refl, ap, sym, ◌∙◌, subst}
+use Rattle.std.specs.Prelude.{slice_get, slice_set, MatchBool, option_map}
 use Rattle.std.proofs.lemmas.Option.{slice_get-map}
 use Rattle.lf_floorplan.specs.declared.frame.Frame.{Frame}
 use Rattle.lf_floorplan.specs.declared.place.Place.{Place}
@@ -16,7 +16,7 @@ use Rattle.lf_teams.specs.Teams.{setting, team_number, IsTeamOf}
 use Rattle.lf_teams.specs.Outcomes.{is_short}
 use Rattle.lf_teams.specs.Steps.{ruled, answer_by, answer_at, answer_of, Answers, RunsShort, Step}
 use Rattle.lf_teams.specs.Committed.{committed_members, AreCommittedLegal, IsCommittedLegal, KeepsCommittedLegal}
-use Rattle.lf_teams.specs.CommittedRuns.{HasTeams}
+use Rattle.lf_teams.specs.CommittedRuns.{HasFrameTeams}
 use Rattle.lf_teams.proofs.Answering.{step_of_answer}
 use Rattle.lf_teams.proofs.Committing.{order_keeps}
 use Rattle.lf_teams.proofs.Isolation.{step_frame}
@@ -79,7 +79,8 @@ step_each l old new command reply false step k s there =
 abbrev pub CommittedAt : FloorState → ℕ → Type 0
 CommittedAt floor number = (s : TeamState) → slice_get floor.teams number ≡ Some s → AreCommittedLegal floor.frame number s
 
-module _ (l : Legalizer) (old new : FloorState) (command : Command (List ℕ) Place) (reply : Reply) (known : HasTeams old) (step : Step l old command reply new) where
+module _ (l : Legalizer) (old new : FloorState) (command : Command (List ℕ) Place) (reply : Reply) (known : HasFrameTeams old)
+    (step : Step l old command reply new) where
   frame : new.frame ≡ old.frame
   frame = step_frame l old new command reply (is_short reply) step
 
@@ -90,13 +91,14 @@ module _ (l : Legalizer) (old new : FloorState) (command : Command (List ℕ) Pl
   one_of k s there = each (λ (t : TeamState). IsTeamOf old.frame t) old.teams k s known there
 
   -- the teams stay the frame's
-  pub step_teams : HasTeams new
-  step_teams = all_there (λ (s : TeamState). IsTeamOf new.frame s) new.teams (λ k s there. subst (λ (f : Frame). IsTeamOf f s) (sym frame) (by k s (was k s there))) where
-    by : (k : ℕ) (s : TeamState) → Was l old.frame old.teams k s → IsTeamOf old.frame s
-    by k s w = elim w.is [
-      | inl same ↦ subst (λ (t : TeamState). IsTeamOf old.frame t) (sym same) (one_of k w.old w.there)
-      | inr turn ↦ subst (λ (t : TeamState). IsTeamOf old.frame t) (sym turn.1) (verb_keeps (setting l old.frame k) turn.0 w.old (one_of k w.old w.there))
-    ]
+  pub step_teams : HasFrameTeams new
+  step_teams = all_there (λ (s : TeamState). IsTeamOf new.frame s) new.teams (λ k s there.
+      subst (λ (f : Frame). IsTeamOf f s) (sym frame) (by k s (was k s there))) where
+        by : (k : ℕ) (s : TeamState) → Was l old.frame old.teams k s → IsTeamOf old.frame s
+        by k s w = elim w.is [
+          | inl same ↦ subst (λ (t : TeamState). IsTeamOf old.frame t) (sym same) (one_of k w.old w.there)
+          | inr turn ↦ subst (λ (t : TeamState). IsTeamOf old.frame t) (sym turn.1) (verb_keeps (setting l old.frame k) turn.0 w.old (one_of k w.old w.there))
+        ]
 
   -- a team's legal committed places stay legal
   pub step_committed : (k : ℕ) → CommittedAt old k → CommittedAt new k
@@ -126,12 +128,14 @@ teams_committed floor legal = teams_legal floor.frame (map committed_members flo
     subst (λ (ms : List Member). StandsLegal floor.frame k ms own) found.2 (legal k found.0 found.1 own))
 
 -- a step keeps a fully legal committed design
-pub step_keeps : (l : Legalizer) (old new : FloorState) (command : Command (List ℕ) Place) (reply : Reply) → HasTeams old → Step l old command reply new → KeepsCommittedLegal old new
+pub step_keeps : (l : Legalizer) (old new : FloorState) (command : Command (List ℕ) Place) (reply : Reply) → HasFrameTeams old
+    → Step l old command reply new → KeepsCommittedLegal old new
 step_keeps l old new command reply known step legal =
     teams_committed new (λ k. step_committed l old new command reply known step k (committed_teams old legal k))
 
 -- so does a command that memory sufficed for
-pub answer_keeps : (l : Legalizer) (old new : FloorState) (command : Command (List ℕ) Place) (reply : Reply) → HasTeams old → Answers l old command reply new → KeepsCommittedLegal old new
+pub answer_keeps : (l : Legalizer) (old new : FloorState) (command : Command (List ℕ) Place) (reply : Reply) → HasFrameTeams old
+    → Answers l old command reply new → KeepsCommittedLegal old new
 answer_keeps l old new command reply known answers = step_keeps l old new command reply known (step_of_answer l old new command reply answers)
 
 -- and one that it did not

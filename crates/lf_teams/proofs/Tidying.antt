@@ -22,10 +22,7 @@ use Rattle.lf_cells.specs.Cells.{working_at, as_committed}
 use Rattle.lf_teams.specs.Looks.{place_of_spot, lifted_cell, best_at}
 use Rattle.lf_reports.specs.declared.illegal.BrokenCell.{BrokenCell}
 use Rattle.lf_teams.specs.Changes.{restored, places_in, broken_where, first_unplaced, broken_cells}
-use Rattle.lf_teams.proofs.Standing.{some_one, member_there, place_is, sized_at, stands_where}
-
-none_some : {X : Type 0} {x : X} → None ≡ Some x → ⊥
-none_some e = cc
+use Rattle.lf_teams.proofs.Standing.{some_one, none_some, member_there, place_is, sized_at, stands_where}
 
 -- ---- the macros stay
 

@@ -7,7 +7,7 @@ use Rattle.lf_teams.specs.Teams.{Setting}
 use Rattle.lf_teams.specs.Sessions.{opened, closed, synced}
 use Rattle.lf_teams.specs.Looks.{located, found}
 use Rattle.lf_teams.specs.Changes.{placed, unplaced, legalized, tidied_team, swapped, reverted, undone, committed}
-use Rattle.lf_teams.specs.VerbRows.{HasRoom, SessionRow, StaleRow, UndoRow, SpentRow, BestRow, NoPlaceRow, TidyRow, CommitRow, RefusedRow, SwapRow}
+use Rattle.lf_teams.specs.VerbRows.{HasRoom, SessionRow, StaleRow, UndoRow, SpentRow, BestRow, NoPlaceRow, TidyRow, TidyCommitRow, CommitRow, RefusedRow, SwapRow}
 
 -- a revision is left at each number up to nine
 more_left : (t : Setting) (n : ℕ) → 9 < t.frame.limits.revisions → n < 10 → ltb n t.frame.limits.revisions ≡ true
@@ -68,6 +68,11 @@ no_place_row t target room none stuck =
 pub tidy_row : TidyRow
 unfolding tidied_team located
 tidy_row t p q r room is = rw (left t 0 room (omega arith), is, place_at-some p, place_at-some q, place_at-some r) refl
+
+pub tidy_commit_row : TidyCommitRow
+unfolding tidied_team located committed
+tidy_commit_row t p q r room is none =
+    rw (left t 0 room (omega arith), is, place_at-some p, place_at-some q, place_at-some r, left t 1 room (omega arith), none) refl
 
 pub commit_row : CommitRow
 unfolding committed unplaced reverted located

@@ -11,7 +11,7 @@ use Rattle.lf_proto.specs.declared.request.Change.TheVariants.{Commit}
 use Rattle.lf_cells.specs.declared.cell.Cell.{Cell}
 use Rattle.lf_teams.specs.States.{TeamState, FloorState}
 use Rattle.lf_teams.specs.Teams.{Setting, IsTeamOf, team_number, state_of}
-use Rattle.lf_teams.specs.Outcomes.{Outcome, places_of}
+use Rattle.lf_teams.specs.Outcomes.{places_of}
 use Rattle.lf_teams.specs.Verbs.{outcome_of}
 use Rattle.lf_teams.specs.VerbLaws.{outcome_of_asking, is_accepted, committed_places}
 use Rattle.lf_teams.specs.Designs.{opening}
@@ -45,6 +45,12 @@ abbrev pub LegalMakesTeams : Type 0
 LegalMakesTeams =
     (f : Frame) (teams : List (List Member)) → IsFullyLegal f (standing_from 0 teams) →
     (team : ℕ) (cells : List Member) → slice_get teams team ≡ Some cells → (own : ℕ) → StandsLegal f team cells own
+
+-- the committed design is fully legal exactly where each team's committed places are team-legal
+abbrev pub CommittedByTeams : Type 0
+CommittedByTeams =
+    (floor : FloorState) → IsCommittedLegal floor ↔
+    ((number : ℕ) (s : TeamState) → slice_get floor.teams number ≡ Some s → AreCommittedLegal floor.frame number s)
 
 -- ---- at loading
 

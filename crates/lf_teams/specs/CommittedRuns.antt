@@ -1,7 +1,9 @@
 -- What commands do to the committed design, one after the other.
 use Rattle.std.specs.Prelude.{◌≡◌, ℕ, ◌<◌, List, [], ◌∷◌, length, Bool, true, false, Some, All, slice_get}
 use Rattle.lf_floorplan.specs.declared.frame.Frame.{Frame}
+use Rattle.lf_floorplan.specs.declared.loaded.Loaded.{Loaded}
 use Rattle.lf_floorplan.specs.declared.place.Place.{Place}
+use Rattle.lf_rules.specs.FullyLegal.{IsFullyLegal}
 use Rattle.lf_rules.specs.Legalizer.{Legalizer}
 use Rattle.lf_proto.specs.declared.request.Command.{Command}
 use Rattle.lf_proto.specs.declared.request.Command.TheVariants.{To}
@@ -11,22 +13,24 @@ use Rattle.lf_proto.specs.declared.request.Action.TheVariants.{Change as Changin
 use Rattle.lf_proto.specs.declared.request.Change.TheVariants.{Tidy, Commit}
 use Rattle.lf_proto.specs.declared.reply.Reply.{Reply}
 use Rattle.lf_proto.specs.declared.reply.Reply.TheVariants.{Refused}
-use Rattle.lf_proto.specs.declared.reply.Refusal.TheVariants.{Unplaced, Illegal}
+use Rattle.lf_proto.specs.declared.reply.Refusal.{Refusal}
+use Rattle.lf_proto.specs.declared.reply.Refusal.TheVariants.{NoSession, Stale, RevisionsSpent}
 use Rattle.lf_teams.specs.States.{TeamState, FloorState}
 use Rattle.lf_teams.specs.Teams.{Setting, IsTeamOf, team_number, state_of}
 use Rattle.lf_teams.specs.VerbLaws.{AreLegal, is_change, is_granted, outcome_of_asking}
 use Rattle.lf_teams.specs.Steps.{Step}
 use Rattle.lf_teams.specs.Runs.{Run, asked, told}
-use Rattle.lf_teams.specs.Committed.{IsCommittedLegal, KeepsCommittedLegal}
+use Rattle.lf_teams.specs.Committed.{AreCommittedLegal, IsCommittedLegal, KeepsCommittedLegal, loaded_design}
+use Rattle.lf_teams.specs.Designs.{opening}
 
--- each team is one of the frame
-abbrev pub HasTeams : FloorState → Type 0
-HasTeams floor = All (λ s. IsTeamOf floor.frame s) floor.teams
+-- each team of the floor is one of its frame
+abbrev pub HasFrameTeams : FloorState → Type 0
+HasFrameTeams floor = All (λ s. IsTeamOf floor.frame s) floor.teams
 
 -- a command keeps a fully legal committed design
 abbrev pub StepKeepsCommitted : Type 0
 StepKeepsCommitted =
-    (l : Legalizer) (old new : FloorState) (command : Command (List ℕ) Place) (reply : Reply) → HasTeams old
+    (l : Legalizer) (old new : FloorState) (command : Command (List ℕ) Place) (reply : Reply) → HasFrameTeams old
     → Step l old command reply new → KeepsCommittedLegal old new
 
 -- ---- runs
@@ -42,8 +46,15 @@ LegalRun l old (command ∷ commands) [] new = ⊥
 -- a run from a fully legal committed design has one all along
 abbrev pub RunStaysLegal : Type 0
 RunStaysLegal =
-    (l : Legalizer) (old new : FloorState) (commands : List (Command (List ℕ) Place)) (replies : List Reply) → HasTeams old
+    (l : Legalizer) (old new : FloorState) (commands : List (Command (List ℕ) Place)) (replies : List Reply) → HasFrameTeams old
     → Run l old commands replies new → IsCommittedLegal old → LegalRun l old commands replies new
+
+-- so has each run on a floor that begins with a fully legal loaded design
+abbrev pub LoadedRunStaysLegal : Type 0
+LoadedRunStaysLegal =
+    (l : Legalizer) (design : Loaded) (new : FloorState) (commands : List (Command (List ℕ) Place)) (replies : List Reply)
+    → IsFullyLegal design.frame (loaded_design design)
+    → Run l (opening design) commands replies new → LegalRun l (opening design) commands replies new
 
 -- ---- where each team has committed
 
@@ -55,6 +66,14 @@ pub record HasCommitted (team : List ℕ) (commands : List (Command (List ℕ) P
   pub commit : slice_get commands at ≡ Some (To team (Within session (Changing Commit)))
   pub answer : slice_get replies at ≡ Some reply
   pub accepted : is_granted reply ≡ true
+
+-- after a run in which a commit of a team was accepted, the team's committed places are legal, whatever stood before, and whatever
+-- was asked of it afterwards and of the others
+abbrev pub CommitLasts : Type 0
+CommitLasts =
+    (l : Legalizer) (old new : FloorState) (commands : List (Command (List ℕ) Place)) (replies : List Reply) → HasFrameTeams old
+    → Run l old commands replies new → (team : List ℕ) (number : ℕ) (s : TeamState) → HasCommitted team commands replies
+    → team_number new.frame team ≡ Some number → state_of new team ≡ Some s → AreCommittedLegal new.frame number s
 
 -- a commit of the team of that number was accepted, under its name
 pub record NumberHasCommitted (f : Frame) (number : ℕ) (commands : List (Command (List ℕ) Place)) (replies : List Reply) : Type 0 where
@@ -75,22 +94,28 @@ CommitsMakeLegal old commands replies new = AllHaveCommitted old commands replie
 -- so it is in each run
 abbrev pub RunCommitsMakeLegal : Type 0
 RunCommitsMakeLegal =
-    (l : Legalizer) (old new : FloorState) (commands : List (Command (List ℕ) Place)) (replies : List Reply) → HasTeams old
+    (l : Legalizer) (old new : FloorState) (commands : List (Command (List ℕ) Place)) (replies : List Reply) → HasFrameTeams old
     → Run l old commands replies new → CommitsMakeLegal old commands replies new
 
 -- ---- a commit after a tidy
 
--- the reply names an unplaced cell or a broken rule
-abbrev pub finds_fault : Reply → Bool
-finds_fault (Refused (Unplaced cell)) = true
-finds_fault (Refused (Illegal rule cell other)) = true
-finds_fault _ = false
+-- the refusal is for the session that asks or for the team's revision, whatever the cells are
+abbrev pub is_for_session : Refusal → Bool
+is_for_session NoSession = true
+is_for_session (Stale revision) = true
+is_for_session RevisionsSpent = true
+is_for_session _ = false
 
--- a commit of a team whose cells are all placed and team-legal finds no fault: it is refused for its session or its revision alone
+-- no fault is found in the cells: what was asked is accepted, or refused for its session or the revision alone
+abbrev pub finds_no_fault : Reply → Bool
+finds_no_fault (Refused refusal) = is_for_session refusal
+finds_no_fault _ = true
+
+-- a commit of a team whose cells are all placed and team-legal finds no fault
 abbrev pub LegalCommits : Type 0
 LegalCommits =
     (t : Setting) (session : ℕ) (s : TeamState) → IsTeamOf t.frame s → AreLegal t s
-    → finds_fault (outcome_of_asking t session Commit s).reply ≡ false
+    → finds_no_fault (outcome_of_asking t session Commit s).reply ≡ true
 
 -- among a team's orders and the replies to them: a tidy at i was accepted, a commit at j is asked later, and each change between
 -- them was refused
@@ -110,7 +135,7 @@ pub record TidyThenCommit (orders : List (Order (List ℕ) Place)) (replies : Li
 -- such a commit finds no fault
 abbrev pub TidiedCommits : List (Order (List ℕ) Place) → List Reply → Type 0
 TidiedCommits orders replies =
-    (i j : ℕ) (reply : Reply) → TidyThenCommit orders replies i j → slice_get replies j ≡ Some reply → finds_fault reply ≡ false
+    (i j : ℕ) (reply : Reply) → TidyThenCommit orders replies i j → slice_get replies j ≡ Some reply → finds_no_fault reply ≡ true
 
 -- so it is with each team's orders among these commands; what was answered OutOfMemory is left out
 abbrev pub EachTidiedCommits : FloorState → List (Command (List ℕ) Place) → List Reply → Type 0
@@ -120,5 +145,5 @@ EachTidiedCommits old commands replies =
 -- and in each run
 abbrev pub RunTidiedCommits : Type 0
 RunTidiedCommits =
-    (l : Legalizer) (old new : FloorState) (commands : List (Command (List ℕ) Place)) (replies : List Reply) → HasTeams old
+    (l : Legalizer) (old new : FloorState) (commands : List (Command (List ℕ) Place)) (replies : List Reply) → HasFrameTeams old
     → Run l old commands replies new → EachTidiedCommits old commands replies

@@ -114,6 +114,15 @@ TidyRow =
     (team_after 0 [] (three None None None))
     ≡ (TidyDone 1 3 ∷ At p ∷ At q ∷ At r ∷ [])
 
+-- after a tidy, and a question, the team can be committed
+abbrev pub TidyCommitRow : Type 0
+TidyCommitRow =
+    (t : Setting) (p q r : Place) → HasRoom t →
+    tidied t.legalizer t.frame t.number (map member_of (three None None None)) ≡ Going (map member_of (three (Some p) (Some q) (Some r))) 3 →
+    broken_cells t (three (Some p) (Some q) (Some r)) ≡ [] →
+    replies_to t (change_to Tidy ∷ where_is (codes "a3") ∷ change_to Commit ∷ []) (team_after 0 [] (three None None None))
+    ≡ (TidyDone 1 3 ∷ At r ∷ Revision 2 ∷ [])
+
 -- after a commit, revert brings back what was unplaced
 abbrev pub CommitRow : Type 0
 CommitRow =
@@ -152,6 +161,7 @@ pub record VerbRows : Type 0 where
   pub best : BestRow
   pub no_place : NoPlaceRow
   pub tidy : TidyRow
+  pub tidy_commit : TidyCommitRow
   pub commit : CommitRow
   pub refused : RefusedRow
   pub swap : SwapRow

@@ -1,5 +1,4 @@
 use Rattle.lf_teams.proofs.Stepping.{step_keeps}
-use Rattle.lf_teams.proofs.Promises.{commits_legally}
 use Rattle.lf_teams.proofs.committed_laws.step_keeps_committed.Goals as goal
 
 pub returns : goal.returns

@@ -1,4 +1,4 @@
-use Rattle.lf_teams.proofs.VerbRows.{session_row, stale_row, undo_row, spent_row, best_row, no_place_row, tidy_row, commit_row, refused_row, swap_row}
+use Rattle.lf_teams.proofs.VerbRows.{session_row, stale_row, undo_row, spent_row, best_row, no_place_row, tidy_row, tidy_commit_row, commit_row, refused_row, swap_row}
 use Rattle.lf_teams.proofs.verb_laws.verb_rows.Goals as goal
 
 pub returns : goal.returns
@@ -10,6 +10,7 @@ returns c = record {
   best = best_row;
   no_place = no_place_row;
   tidy = tidy_row;
+  tidy_commit = tidy_commit_row;
   commit = commit_row;
   refused = refused_row;
   swap = swap_row;

@@ -1,0 +1,86 @@
+-- What taking the newest undo entry back makes of a team.
+use Rattle.std.proofs.Common.{◌≡◌, ℕ, zero, suc, ◌+◌, List, [], ◌∷◌, length, map, drop, Option, Some, None, refl, ap, sym, ◌∙◌}
+use Rattle.std.specs.Prelude.{slice_get, slice_set, slice_index_or}
+use Rattle.std.proofs.lemmas.List.{length-map, length-set, get_or-set_same}
+use Rattle.lf_floorplan.specs.declared.place.Place.{Place}
+use Rattle.lf_proto.specs.declared.reply.Reply.TheVariants.{Revision, Refused}
+use Rattle.lf_proto.specs.declared.reply.Reply.{Reply}
+use Rattle.lf_proto.specs.declared.reply.Refusal.TheVariants.{NothingToUndo}
+use Rattle.lf_cells.specs.declared.cell.Cell.{Cell}
+use Rattle.lf_cells.specs.Cells.{Cells, cells_of}
+use Rattle.lf_sessions.specs.Slots.{slots_of}
+use Rattle.lf_undo.specs.declared.moves.Move.{Move}
+use Rattle.lf_undo.specs.Stacks.{Stacks, stack_of}
+use Rattle.lf_undo.specs.Entries.{entries_of, taken_back}
+use Rattle.lf_undo.proofs.Undone.{no_entries, shrink_entries, taken_back_length}
+use Rattle.lf_teams.specs.States.{TeamState}
+use Rattle.lf_teams.specs.Outcomes.{Outcome, Reaches, changed, places_of}
+use Rattle.lf_teams.specs.Changes.{restored, undone, undone_by}
+use Rattle.lf_floor.specs.declared.tables.Tables.{Tables}
+use Rattle.lf_floor.specs.Tables.{Counts, HasRows, HaveMoved, SameButPlaces, own_team, revision_of, taken_up, team_with}
+use Rattle.lf_floor.proofs.Ends.{counted_own, team_of}
+
+places_restored : (places : List (Option Place)) (cells : List Cell) → length places ≡ length cells → places_of (restored places cells) ≡ places
+places_restored [] [] same = refl
+places_restored [] (c ∷ cs) same = absurd cc
+places_restored (p ∷ ps) [] same = absurd cc
+places_restored (p ∷ ps) (c ∷ cs) same = let rest : length ps ≡ length cs = cc in ap (λ (r : List (Option Place)). p ∷ r) (places_restored ps cs rest)
+
+same_restored : (places : List (Option Place)) (cells : List Cell) → SameButPlaces (restored places cells) cells
+same_restored [] cells = refl
+same_restored (p ∷ ps) [] = refl
+same_restored (p ∷ ps) (c ∷ cs) = ap (λ (r : List Cell). taken_up c ∷ r) (same_restored ps cs)
+
+-- the cells at the places before these moves
+abbrev pub cells_before : List Move → List Cell → List Cell
+cells_before moves cells = restored (taken_back moves (places_of cells)) cells
+
+places_before : (moves : List Move) (cells : List Cell) → places_of (cells_before moves cells) ≡ taken_back moves (places_of cells)
+places_before moves cells =
+    places_restored (taken_back moves (places_of cells)) cells (taken_back_length moves (places_of cells) ∙ length-map cells (λ (c : Cell). c.working))
+
+-- the moves have led from there
+pub led_from : (moves : List Move) (cells : List Cell) → HaveMoved (cells_before moves cells) moves cells
+led_from moves cells = record { places = sym (places_before moves cells); same = same_restored (taken_back moves (places_of cells)) cells }
+
+-- the team whose newest entry's moves were taken back
+pub undone_reaches : (k session revision : ℕ) (moves : List Move) (old new : Tables) (undo : Stacks (List Move)) (cells : Cells) → HasRows k old
+    → Some moves ≡ slice_get (stack_of old.undo k) 0 → undo.lists ≡ slice_set old.undo.lists k (drop 1 (stack_of old.undo k))
+    → cells_of cells k ≡ cells_before moves (cells_of old.cells k)
+    → Counts k session (record old { cells = cells; undo = undo }) new → revision ≡ revision_of old k + 1
+    → Reaches (undone session (own_team k old)) (Revision revision) (own_team k new)
+unfolding undone
+undone_reaches k session revision moves old new undo cells rows front lists back counts told =
+    let now = cells_of old.cells k in
+    let before = cells_before moves now in
+    let stack = stack_of old.undo k in
+    let s = own_team k old in
+    let mid : Tables = record old { cells = cells; undo = undo } in
+    let slots = slice_set (slots_of old.sessions k) session (Some (revision_of old k + 1)) in
+    let same : length undo.lists ≡ length old.undo.lists = ap (λ (xs : List (List (List Move))). length xs) lists ∙ length-set old.undo.lists k (drop 1 stack) in
+    let there : HasRows k mid = record { undo = rw same rows.undo; sessions = rows.sessions; revisions = rows.revisions } in
+    let entries : entries_of (places_of before) (drop 1 stack) ≡ entries_of (taken_back moves (places_of now)) (drop 1 stack) =
+    ap (λ (ps : List (Option Place)). entries_of ps (drop 1 stack)) (places_before moves now) in
+    let outcome : undone_by s.entries session s ≡ changed session before (entries_of (taken_back moves (places_of now)) (drop 1 stack)) s =
+    ap (λ (es : List (List (Option Place))). undone_by es session s) (shrink_entries (places_of now) moves stack (sym front)) in
+    let left : stack_of undo k ≡ drop 1 stack =
+    ap (λ (xs : List (List (List Move))). slice_index_or xs k []) lists ∙ get_or-set_same old.undo.lists k (drop 1 stack) [] rows.undo in
+    record {
+      reply_is = ap Revision told ∙ ap (λ (o : Outcome). o.reply) (sym outcome);
+      team_is =
+          counted_own k session mid new there counts
+          ∙ ap (λ (cs : List Cell). team_of cs (revision_of old k + 1) (entries_of (places_of cs) (stack_of undo k)) slots) back
+          ∙ ap (λ (xs : List (List Move)). team_of before (revision_of old k + 1) (entries_of (places_of before) xs) slots) left
+          ∙ ap (λ (es : List (List (Option Place))). team_of before (revision_of old k + 1) es slots) entries
+          ∙ ap (λ (o : Outcome). o.team) (sym outcome);
+    }
+
+-- no entry, nothing to undo
+pub none_reaches : (k session : ℕ) (old : Tables) → None ≡ slice_get (stack_of old.undo k) 0
+    → Reaches (undone session (own_team k old)) (Refused NothingToUndo) (own_team k old)
+unfolding undone
+none_reaches k session old none =
+    let s = own_team k old in
+    let outcome : undone_by s.entries session s ≡ undone_by [] session s =
+    ap (λ (es : List (List (Option Place))). undone_by es session s) (no_entries (places_of (cells_of old.cells k)) (stack_of old.undo k) (sym none)) in
+    record { reply_is = ap (λ (o : Outcome). o.reply) (sym outcome); team_is = ap (λ (o : Outcome). o.team) (sym outcome) }
