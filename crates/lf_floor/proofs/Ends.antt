@@ -1,5 +1,5 @@
 -- What the end of a change makes of the tables.
-use Rattle.std.proofs.Common.{◌≡◌, ◌≢◌, ◌<◌, ℕ, ◌+◌, List, [], ◌∷◌, length, set, take, get_or, Option, Some, None, refl, ap, sym, ◌∙◌}
+use Rattle.std.proofs.Common.{◌≡◌, ◌≢◌, ◌<◌, ℕ, ◌+◌, List, [], ◌∷◌, length, map, set, take, get_or, Option, Some, None, refl, ap, sym, subst, ◌∙◌}
 use Rattle.std.specs.Prelude.{slice_set, slice_index_or}
 use Rattle.std.proofs.lemmas.List.{length-set, get_or-set_same, get_or-set_other}
 use Rattle.lf_floorplan.specs.declared.place.Place.{Place}
@@ -10,10 +10,18 @@ use Rattle.lf_undo.specs.declared.moves.Move.{Move}
 use Rattle.lf_undo.specs.Stacks.{Stacks, stack_of}
 use Rattle.lf_undo.specs.Entries.{entries_of}
 use Rattle.lf_undo.proofs.Undone.{grow_entries}
-use Rattle.lf_teams.specs.Outcomes.{places_of}
+use Rattle.lf_proto.specs.declared.reply.Reply.TheVariants.{Revision, Refused, Tidied as TidyDone}
+use Rattle.lf_proto.specs.declared.reply.Refusal.TheVariants.{NoPlace}
+use Rattle.lf_teams.specs.Changes.{back_to_committed, reverted, tidied_team}
+use Rattle.lf_teams.specs.Outcomes.{Reaches, RunsOut, changed, places_of, recorded, telling}
+use Rattle.lf_teams.specs.Teams.{Setting}
 use Rattle.lf_teams.specs.States.{TeamState}
 use Rattle.lf_floor.specs.declared.tables.Tables.{Tables}
-use Rattle.lf_floor.specs.Tables.{Counts, HasRows, HaveMoved, OthersStay, kept, own_team, revision_of, team_with}
+use Rattle.lf_floor.specs.Tables.{Counts, HasRows, HaveMoved, OthersStay, SameButPlaces, kept, own_team, revision_of, team_with}
+use Rattle.lf_floor.specs.declared.tidy.Tidy.{Tidy}
+use Rattle.lf_floor.specs.declared.tidy.Tidy.TheVariants.{Done, Stopped}
+use Rattle.lf_floor.specs.Tidying.{Tidies}
+use Rattle.lf_floor.proofs.Sending.{tidied_done, tidied_short, tidied_stuck}
 
 -- a team of these parts
 abbrev pub team_of : List Cell → ℕ → List (List (Option Place)) → List (Option ℕ) → TeamState
@@ -111,3 +119,59 @@ back_team k before old new cells revision stack slots =
     ∙ ap (λ (n : ℕ). team_of before n (entries_of (places_of before) (stack_of new.undo k)) (slots_of new.sessions k)) revision
     ∙ ap (λ (xs : List (List Move)). team_of before (revision_of old k) (entries_of (places_of before) xs) (slots_of new.sessions k)) stack
     ∙ ap (λ (ss : List (Option ℕ)). team_of before (revision_of old k) (entries_of (places_of before) (stack_of old.undo k)) ss) slots
+
+-- ---- a change of a whole team
+
+-- no move yet
+pub from_none : (before : List Cell) (moves : List Move) → moves ≡ [] → HaveMoved before moves before
+from_none before moves none = rw none record { places = refl; same = refl }
+
+-- the team that is kept is what the rules record
+pub recorded_team : (t : Setting) (k session : ℕ) (old new : Tables) (cells : Cells) → old.undo.limit ≡ t.frame.limits.undo
+    → own_team k new ≡ kept k session (cells_of old.cells k) (cells_of cells k) (record old { cells = cells })
+    → own_team k new ≡ (recorded t session (cells_of cells k) (own_team k old)).team
+recorded_team t k session old new cells limit is =
+    let s = own_team k old in
+    is ∙ ap (λ (n : ℕ). (changed session (cells_of cells k) (take n (places_of s.cells ∷ s.entries)) s).team) limit
+
+-- the team whose cells are back
+pub back_to : (k : ℕ) (old : Tables) (cells : Cells) → cells_of cells k ≡ cells_of old.cells k → own_team k (record old { cells = cells }) ≡ own_team k old
+back_to k old cells back = ap (λ (cs : List Cell). team_with k cs old) back
+
+-- ---- revert
+
+pub reverted_reaches : (t : Setting) (k session revision : ℕ) (old new : Tables) (cells : Cells) → old.undo.limit ≡ t.frame.limits.undo
+    → cells_of cells k ≡ map back_to_committed (cells_of old.cells k)
+    → own_team k new ≡ kept k session (cells_of old.cells k) (cells_of cells k) (record old { cells = cells }) → revision ≡ revision_of old k + 1
+    → Reaches (reverted t session (own_team k old)) (Revision revision) (own_team k new)
+unfolding reverted
+reverted_reaches t k session revision old new cells limit back is told =
+    let s = own_team k old in
+    record {
+      reply_is = ap Revision told;
+      team_is = recorded_team t k session old new cells limit is ∙ ap (λ (cs : List Cell). (recorded t session cs s).team) back;
+    }
+
+pub reverted_short : (t : Setting) (session : ℕ) (s new : TeamState) → new ≡ s → RunsOut (reverted t session s) s new
+unfolding reverted
+reverted_short t session s new kept = record { kept = kept; may = refl }
+
+-- ---- tidy
+
+pub tidied_reaches : (t : Setting) (k session revision count : ℕ) (old new : Tables) (cells : Cells) (tidy : Tidy) → old.undo.limit ≡ t.frame.limits.undo
+    → Tidies t (cells_of old.cells k) (cells_of cells k) tidy → tidy ≡ Done count → SameButPlaces (cells_of old.cells k) (cells_of cells k)
+    → own_team k new ≡ kept k session (cells_of old.cells k) (cells_of cells k) (record old { cells = cells }) → revision ≡ revision_of old k + 1
+    → Reaches (tidied_team t session (own_team k old)) (TidyDone revision count) (own_team k new)
+tidied_reaches t k session revision count old new cells tidy limit tidies is same left told =
+    let s = own_team k old in
+    let outcome : tidied_team t session s ≡ telling (TidyDone (s.revision + 1) count) (recorded t session (cells_of cells k) s) =
+    tidied_done t session s (cells_of cells k) count (subst (λ (x : Tidy). Tidies t (cells_of old.cells k) (cells_of cells k) x) is tidies) same in
+    rw outcome record { reply_is = ap (λ (n : ℕ). TidyDone n count) told; team_is = recorded_team t k session old new cells limit left }
+
+pub stuck_reaches : (t : Setting) (session own : ℕ) (s new : TeamState) (mid : List Cell) (tidy : Tidy) → Tidies t s.cells mid tidy → tidy ≡ Stopped own → new ≡ s
+    → Reaches (tidied_team t session s) (Refused (NoPlace own)) new
+stuck_reaches t session own s new mid tidy tidies is kept =
+    rw (tidied_stuck t session s mid own (subst (λ (x : Tidy). Tidies t s.cells mid x) is tidies)) record { reply_is = refl; team_is = kept }
+
+pub tidy_short : (t : Setting) (session : ℕ) (s new : TeamState) → new ≡ s → RunsOut (tidied_team t session s) s new
+tidy_short t session s new kept = record { kept = kept; may = tidied_short t session s }

@@ -3,9 +3,10 @@ pub mod FirstIllegal
 pub mod Seeking
 pub mod Rows
 pub mod Moves
-pub mod Ends
 pub mod Swaps
 pub mod Undoing
 pub mod Unplaced
+pub mod Reverting
+pub mod Committing
 pub mod Sending
-pub mod FirstIllegal
+pub mod Ends

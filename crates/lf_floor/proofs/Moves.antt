@@ -6,6 +6,7 @@ use Rattle.std.proofs.lemmas.List.Elements.{All-cons}
 use Rattle.lf_floorplan.specs.declared.frame.Frame.{Frame}
 use Rattle.lf_floorplan.specs.declared.place.Place.{Place}
 use Rattle.lf_cells.specs.declared.cell.Cell.{Cell}
+use Rattle.lf_cells.specs.declared.cell.CellId.{CellId}
 use Rattle.lf_cells.specs.Cells.{Cells, cells_of, id_in, id_of, moved, working_at}
 use Rattle.lf_legalize.specs.Members.{IsSizedCell}
 use Rattle.lf_undo.specs.declared.moves.Move.{Move}
@@ -123,3 +124,14 @@ one_less before now moves n m within read have = record {
 pub all_back : (before now : List Cell) → HaveMoved before [] now → now ≡ before
 all_back before now have =
     sym (restored_is before now have.same) ∙ ap (λ (ps : Places). restored ps before) have.places ∙ restored_is before before refl
+
+-- a cell that is moved to where it stands
+pub not_moved : (cells : List Cell) (own : ℕ) → moved cells own (working_at cells own) ≡ cells
+not_moved [] own = refl
+not_moved (c ∷ cs) zero = refl
+not_moved (c ∷ cs) (suc own) = ap (λ (r : List Cell). c ∷ r) (not_moved cs own)
+
+-- a cell of that id
+pub of_id : {X : Type 0} (look : List Cell → ℕ → X) (table : Cells) (number own : ℕ) (id : CellId) → id ≡ id_of number own
+    → look (cells_of table id.team) id.own ≡ look (cells_of table number) own
+of_id look table number own id is = ap (λ (i : CellId). look (cells_of table i.team) i.own) is

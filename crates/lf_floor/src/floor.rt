@@ -14,7 +14,9 @@ ghost use Rattle.lf_cells.specs.Cells.{working_at};
 ghost use Rattle.lf_teams.specs.Verbs.{takes_memory};
 ghost use Rattle.lf_teams.specs.Designs.{opening};
 ghost use Rattle.lf_teams.specs.Runs.{Run, IsIsolated};
-ghost use Rattle.lf_teams.specs.Steps.{Answers, Gives, KeepsIfRefused, LegalizesLegally, PlacesLegally, TidiesLegally};
+ghost use Rattle.lf_teams.specs.Committed.{IsCommittedLegal};
+ghost use Rattle.lf_teams.specs.CommittedRuns.{CommitsMakeLegal, EachTidiedCommits, LegalRun};
+ghost use Rattle.lf_teams.specs.Steps.{Answers, CommitsLegally, Gives, KeepsIfRefused, LegalizesLegally, PlacesLegally, SwapsLegally, TidiesLegally};
 ghost use Rattle.lf_teams.specs.Steps.{StaysShort, RunsShort, Step, IsTo, answer_at, floor_of};
 
 use crate::surroundings::Surroundings;
@@ -201,8 +203,9 @@ impl<S: Seeker + Drop> Floor<S> {
     ///
     /// `NoTeam` comes before any refusal of a team. `OutOfMemory` stands only in the place of an
     /// accepted change, a broken rule, a best place, the want of one, or a report. A refusal leaves
-    /// the whole floor as it was; after an accepted place or legalize the cell is team-legal, and
-    /// after an accepted tidy every cell of the team is.
+    /// the whole floor as it was; after an accepted place or legalize the cell is team-legal, after
+    /// a swap both cells are, and after a tidy or a commit every cell of the team. A committed design
+    /// that is fully legal stays so, whatever is asked.
     pub fn step(&mut self, request: &Request) -> Reply
         ensures step { (l : Legalizer) → Step l self.old (command_of request.now) result self.new }
         ensures others { (team : List ℕ) → ¬ IsTo team (command_of request.now) → state_of self.new team ≡ state_of self.old team }
@@ -210,6 +213,9 @@ impl<S: Seeker + Drop> Floor<S> {
         ensures placed { (l : Legalizer) → PlacesLegally l (command_of request.now) result self.new }
         ensures legalized { (l : Legalizer) → LegalizesLegally l (command_of request.now) result self.new }
         ensures tidied { (l : Legalizer) → TidiesLegally l (command_of request.now) result self.new }
+        ensures swapped { (l : Legalizer) → SwapsLegally l (command_of request.now) result self.new }
+        ensures committed { (l : Legalizer) → CommitsLegally l (command_of request.now) result self.new }
+        ensures legal { IsCommittedLegal self.old → IsCommittedLegal self.new }
         ensures refused { KeepsIfRefused result self.old self.new }
     {
         legalizer_is_there();
@@ -223,13 +229,23 @@ impl<S: Seeker + Drop> Floor<S> {
 
     /// Answers requests in order, each as `step` does, with one reply to each.
     ///
+    /// A committed design that is fully legal is so after each of them, and one that was not is fully
+    /// legal at the end where each team that has a cell had a commit accepted. A commit that is a
+    /// team's next accepted change after a tidy is never refused for a cell.
+    ///
     /// Memory for all replies is taken first: `Err` where it is refused, and then no request was
     /// answered.
     pub fn run(&mut self, requests: &RequestList) -> Result<Vec<Reply>, AllocError>
         ensures run { (l : Legalizer) → IfOk result (λ replies. Run l self.old requests.now replies.items self.new) }
         ensures isolated { (l : Legalizer) → IfOk result (λ replies. IsIsolated l self.old requests.now replies.items self.new) }
+        ensures legal { (l : Legalizer) → IfOk result (λ replies. IsCommittedLegal self.old → LegalRun l self.old requests.now replies.items self.new) }
+        ensures commits { IfOk result (λ replies. CommitsMakeLegal self.old requests.now replies.items self.new) }
+        ensures tidied { IfOk result (λ replies. EachTidiedCommits self.old requests.now replies.items) }
         ensures err { OnErr result (self.new ≡ self.old) }
     {
+        legalizer_is_there();
+        legal_in_range();
+        self.teams_are_of_the_frame();
         let mut replies = Vec::with_capacity(self.alloc, requests.len())?;
         for i in 0..requests.len() {
             let Some(request) = requests.request(i) else {

@@ -21,8 +21,12 @@ mod wholes;
 
 pub use floor::Floor;
 pub use lf_teams::{
-    best_is_found, change_counts, commit_finds_legal, legalize_makes_legal, look_keeps,
-    never_out_of_memory, only_commit_commits, other_designs_do_not_matter, others_do_not_matter,
-    place_makes_legal, refusal_keeps, revert_after_commit_keeps, stuck_tidy_keeps,
-    swap_makes_legal, tidy_makes_legal, undo_brings_back, verb_keeps_team, verb_rows,
+    best_is_found, change_counts, commit_finds_legal, commit_lasts, commit_makes_committed,
+    committed_by_teams, legal_commits, legal_makes_teams, legalize_makes_legal,
+    loaded_is_committed, loaded_places_are_committed, loaded_run_stays_legal, look_keeps,
+    never_out_of_memory, only_commit_commits, order_keeps_committed, other_designs_do_not_matter,
+    others_do_not_matter, place_makes_legal, refusal_keeps, revert_after_commit_keeps,
+    run_commits_make_legal, run_stays_legal, run_tidied_commits, step_keeps_committed,
+    stuck_tidy_keeps, swap_makes_legal, tidy_makes_legal, undo_brings_back, verb_keeps_team,
+    verb_rows,
 };

@@ -1,9 +1,9 @@
 //! Changes of a whole team: what `revert`, `undo` and `commit` do.
 
-ghost use Rattle.std.specs.Prelude.{◌≡◌, List, IfOk, OnErr, OnOk, map};
+ghost use Rattle.std.specs.Prelude.{◌≡◌, List, IfOk, OnErr, OnOk, map, true};
 ghost use Rattle.lf_rules.specs.Legalizer.{Legalizer};
 ghost use Rattle.lf_cells.specs.declared.cell.Cell.{Cell};
-ghost use Rattle.lf_cells.specs.Cells.{cells_of, committed_at, moved};
+ghost use Rattle.lf_cells.specs.Cells.{as_committed, cells_of, committed_at, moved};
 ghost use Rattle.lf_teams.specs.Outcomes.{Reaches, RunsOut};
 ghost use Rattle.lf_teams.specs.Changes.{back_to_committed, committed, reverted, undone};
 ghost use Rattle.lf_floor.specs.Tables.{CanChange, HasRows, HaveMoved, IsCurrent, OtherCellsStay, OthersStay, own_team, setting_in, team_in};
@@ -13,9 +13,28 @@ use crate::moving::{shift, take_back};
 use crate::surroundings::Surroundings;
 use crate::tables::Tables;
 use lf_cells::CellTable;
+use lf_floorplan::Place;
 use lf_proto::{Refusal, Reply};
 use lf_undo::Moves;
 use std::alloc::AllocError;
+
+/// Whether both are one place.
+fn is_one_place(a: &Place, b: &Place) -> bool
+    ensures { result ≡ true → a.now ≡ b.now }
+{
+    a.x == b.x && a.y == b.y && a.orient == b.orient
+}
+
+/// Whether both stand at one place, or both nowhere.
+fn stand_alike(a: Option<Place>, b: Option<Place>) -> bool
+    ensures { result ≡ true → a ≡ b }
+{
+    match (a, b) {
+        (Some(a), Some(b)) => is_one_place(&a, &b),
+        (None, None) => true,
+        _ => false,
+    }
+}
 
 /// Moves the team's cell of that position to its committed place, where it stands elsewhere, and
 /// notes the move.
@@ -33,7 +52,7 @@ fn move_one_back(
         return Ok(());
     };
     let committed = cells.committed(id);
-    if cells.working(id) == committed {
+    if stand_alike(cells.working(id), committed) {
         return Ok(());
     }
     shift(cells, moves, id, committed)
@@ -50,6 +69,14 @@ fn move_back(cells: &mut CellTable, moves: &mut Moves, number: usize) -> Result<
         move_one_back(cells, moves, number, own)?;
     }
     Ok(())
+}
+
+/// Makes the team's working places its committed ones.
+fn commit_cells(cells: &mut CellTable, number: usize)
+    ensures own { cells_of cells.new number ≡ map as_committed (cells_of cells.old number) }
+    ensures others { OtherCellsStay number cells.old cells.new }
+{
+    cells.commit_team(number);
 }
 
 impl Tables {
@@ -122,7 +149,7 @@ impl Tables {
                 other: illegal.broken.other,
             }));
         }
-        self.cells.commit_team(around.number);
+        commit_cells(&mut self.cells, around.number);
         Ok(Reply::Revision(self.count_change(around.number, session)))
     }
 }

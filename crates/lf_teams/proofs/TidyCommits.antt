@@ -25,7 +25,8 @@ use Rattle.lf_teams.specs.Teams.{Setting, setting, IsTeamOf, trial_of_cell, brok
 use Rattle.lf_teams.specs.Outcomes.{refused}
 use Rattle.lf_teams.specs.Sessions.{seen_at}
 use Rattle.lf_teams.specs.Looks.{lifted_cell}
-use Rattle.lf_teams.specs.Changes.{broken_where, first_unplaced, BrokenCell, broken_cells, committed_unless, committed}
+use Rattle.lf_reports.specs.declared.illegal.BrokenCell.{BrokenCell}
+use Rattle.lf_teams.specs.Changes.{broken_where, first_unplaced, broken_cells, committed_unless, committed}
 use Rattle.lf_teams.specs.Verbs.{unless_spent, outcome_by_slot, outcome_of}
 use Rattle.lf_teams.specs.VerbLaws.{AreLegal, is_change, is_granted}
 use Rattle.lf_teams.specs.Steps.{ruled}

@@ -1,6 +1,8 @@
 use Rattle.std.proofs.Common.{arith, sym}
 use Rattle.lf_proto.specs.Commands.{command_of}
 use Rattle.lf_teams.proofs.Isolation.{run_more, run_all, isolated_from_run}
+use Rattle.lf_teams.proofs.Running.{legal_run, commits_legal}
+use Rattle.lf_teams.proofs.TidyCommits.{tidied_commits}
 use Rattle.lf_floor.proofs.floor.Floor.run.Goals as goal
 
 pub loop-i-preserved : goal.loop-i-preserved
@@ -15,3 +17,15 @@ returns-clause-run g c = λ l. run_all l _ _ _ _ c.loop-i.i (omega arith) (c.loo
 
 pub returns-clause-isolated : goal.returns-clause-isolated
 returns-clause-isolated g c = λ l. isolated_from_run l _ _ _ _ (run_all l _ _ _ _ c.loop-i.i (omega arith) (c.loop-i.invariant.run l))
+
+pub returns-clause-legal : goal.returns-clause-legal
+returns-clause-legal g c = λ l legal.
+    legal_run l _ _ _ _ c.teams_are_of_the_frame.ensures (run_all l _ _ _ _ c.loop-i.i (omega arith) (c.loop-i.invariant.run l)) legal
+
+pub returns-clause-commits : goal.returns-clause-commits
+returns-clause-commits g c = let l = c.legalizer_is_there.ensures in
+    commits_legal l _ _ _ _ c.teams_are_of_the_frame.ensures (run_all l _ _ _ _ c.loop-i.i (omega arith) (c.loop-i.invariant.run l))
+
+pub returns-clause-tidied : goal.returns-clause-tidied
+returns-clause-tidied g c = let l = c.legalizer_is_there.ensures in
+    tidied_commits c.legal_in_range.ensures l _ _ _ _ c.teams_are_of_the_frame.ensures (run_all l _ _ _ _ c.loop-i.i (omega arith) (c.loop-i.invariant.run l))

@@ -3,7 +3,8 @@ use Rattle.lf_proto.specs.Commands.{command_of}
 use Rattle.lf_teams.specs.States.{FloorState}
 use Rattle.lf_teams.specs.Teams.{state_of}
 use Rattle.lf_teams.proofs.Answering.{step_of_answer, others_kept, frame_kept}
-use Rattle.lf_teams.proofs.Promises.{places_legally, legalizes_legally, tidies_legally, keeps_refused}
+use Rattle.lf_teams.proofs.Promises.{places_legally, legalizes_legally, tidies_legally, swaps_legally, commits_legally, keeps_refused}
+use Rattle.lf_teams.proofs.Stepping.{answer_keeps, short_keeps}
 use Rattle.lf_floor.proofs.floor.Floor.step.Goals as goal
 
 pub returns-in-Ok-clause-step : goal.returns-in-Ok-clause-step
@@ -36,6 +37,22 @@ returns-in-Ok-clause-legalized g c = λ l. legalizes_legally l c.legal_in_range.
 pub returns-in-Ok-clause-tidied : goal.returns-in-Ok-clause-tidied
 returns-in-Ok-clause-tidied g c = λ l. tidies_legally l c.legal_in_range.ensures c.args.self.now c.try_step.new.self
     (command_of c.args.request.now) c.in-Ok.reply c.teams_are_of_the_frame.ensures (c.in-Ok.ensures.ok l)
+
+pub returns-in-Ok-clause-swapped : goal.returns-in-Ok-clause-swapped
+returns-in-Ok-clause-swapped g c = λ l. swaps_legally l c.legal_in_range.ensures c.args.self.now c.try_step.new.self
+    (command_of c.args.request.now) c.in-Ok.reply c.teams_are_of_the_frame.ensures (c.in-Ok.ensures.ok l)
+
+pub returns-in-Ok-clause-committed : goal.returns-in-Ok-clause-committed
+returns-in-Ok-clause-committed g c = λ l. commits_legally l c.legal_in_range.ensures c.args.self.now c.try_step.new.self
+    (command_of c.args.request.now) c.in-Ok.reply c.teams_are_of_the_frame.ensures (c.in-Ok.ensures.ok l)
+
+pub returns-in-Ok-clause-legal : goal.returns-in-Ok-clause-legal
+returns-in-Ok-clause-legal g c = let l = c.legalizer_is_there.ensures in answer_keeps l c.args.self.now c.try_step.new.self
+    (command_of c.args.request.now) c.in-Ok.reply c.teams_are_of_the_frame.ensures (c.in-Ok.ensures.ok l)
+
+pub returns-in-Err-clause-legal : goal.returns-in-Err-clause-legal
+returns-in-Err-clause-legal g c = let l = c.legalizer_is_there.ensures in
+    short_keeps l c.args.self.now c.try_step.new.self (command_of c.args.request.now) (c.in-Err.ensures.err l)
 
 pub returns-in-Ok-clause-refused : goal.returns-in-Ok-clause-refused
 returns-in-Ok-clause-refused g c = let l = c.legalizer_is_there.ensures in keeps_refused l c.args.self.now c.try_step.new.self

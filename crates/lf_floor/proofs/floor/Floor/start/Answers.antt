@@ -1,0 +1,20 @@
+use Rattle.std.proofs.Common.{ap, sym, subst, List}
+use Rattle.std.specs.Prelude.{All}
+use Rattle.lf_teams.specs.States.{TeamState}
+use Rattle.lf_teams.specs.Steps.{floor_of}
+use Rattle.lf_teams.specs.Teams.{IsTeamOf}
+use Rattle.lf_teams.proofs.Openings.{opening_whole}
+use Rattle.lf_floor.proofs.Rows.{opened_tables, opened_teams}
+use Rattle.lf_floor.proofs.floor.Floor.start.Goals as goal
+
+pub invariant_of-result : goal.invariant_of-result
+invariant_of-result g c =
+    let design = c.args.loaded in
+    let opens = c.in_ok-tables.ensures {u = tt} in
+    (
+      opened_tables design c.in_ok-tables.tables opens,
+      subst (λ (ts : List TeamState). All (λ t. IsTeamOf design.frame t) ts) (sym (opened_teams design c.in_ok-tables.tables opens)) (opening_whole design).1,
+    )
+
+pub returns : goal.returns
+returns g c = ap (floor_of c.args.loaded.frame) (opened_teams c.args.loaded c.in_ok-tables.tables (c.in_ok-tables.ensures {u = tt}))
