@@ -11,7 +11,7 @@ use lf_proto::{Command, Got, LineFramer, Refusal, Reply, Request, parse_line, re
 use std::alloc::{AllocError, Global};
 use std::io::{Read, Write};
 
-/// The most bytes of a line, and of a reply to an open, place or where.
+/// The most bytes of a line, and room for any reply but a report.
 const LINE: usize = 4096;
 
 /// How the lines ended.

@@ -113,12 +113,18 @@ action-printed team session (Changing Tidy) small plain =
     ap (λ o. o >>= (λ n. Some (To team (Within n (Changing Tidy))))) (session_number-decimal session small)
 action-printed team session (Changing (Unplace cell)) small plain =
     ap (λ o. o >>= (λ n. Some (To team (Within n (Changing (Unplace cell)))))) (session_number-decimal session small)
-action-printed team session Close small plain = absurd plain
-action-printed team session Sync small plain = absurd plain
-action-printed team session (Changing (Swap first second)) small plain = absurd plain
-action-printed team session (Changing Undo) small plain = absurd plain
-action-printed team session (Changing Commit) small plain = absurd plain
-action-printed team session (Changing Revert) small plain = absurd plain
+action-printed team session Close small plain =
+    ap (λ o. o >>= (λ n. Some (To team (Within n Close)))) (session_number-decimal session small)
+action-printed team session Sync small plain =
+    ap (λ o. o >>= (λ n. Some (To team (Within n Sync)))) (session_number-decimal session small)
+action-printed team session (Changing (Swap first second)) small plain =
+    ap (λ o. o >>= (λ n. Some (To team (Within n (Changing (Swap first second)))))) (session_number-decimal session small)
+action-printed team session (Changing Undo) small plain =
+    ap (λ o. o >>= (λ n. Some (To team (Within n (Changing Undo))))) (session_number-decimal session small)
+action-printed team session (Changing Commit) small plain =
+    ap (λ o. o >>= (λ n. Some (To team (Within n (Changing Commit))))) (session_number-decimal session small)
+action-printed team session (Changing Revert) small plain =
+    ap (λ o. o >>= (λ n. Some (To team (Within n (Changing Revert))))) (session_number-decimal session small)
 
 command_in-printed : (command : Command (List ℕ) Place) → IsPlain command → command_in (printed_fields command) ≡ Some command
 command_in-printed Bye plain = absurd plain
@@ -217,12 +223,12 @@ action_names (Changing (Placing cell place)) (cell_is, range) = (record { some =
 action_names (Changing (Legalize cell target)) (cell_is, range) = (record { some = omega arith; visible = refl }, (cell_is, target_names target range))
 action_names (Changing Tidy) plain = (record { some = omega arith; visible = refl }, tt)
 action_names (Changing (Unplace cell)) cell_is = (record { some = omega arith; visible = refl }, (cell_is, tt))
-action_names Close plain = absurd plain
-action_names Sync plain = absurd plain
-action_names (Changing (Swap first second)) plain = absurd plain
-action_names (Changing Undo) plain = absurd plain
-action_names (Changing Commit) plain = absurd plain
-action_names (Changing Revert) plain = absurd plain
+action_names Close plain = (record { some = omega arith; visible = refl }, tt)
+action_names Sync plain = (record { some = omega arith; visible = refl }, tt)
+action_names (Changing (Swap first second)) (first_is, second_is) = (record { some = omega arith; visible = refl }, (first_is, (second_is, tt)))
+action_names (Changing Undo) plain = (record { some = omega arith; visible = refl }, tt)
+action_names (Changing Commit) plain = (record { some = omega arith; visible = refl }, tt)
+action_names (Changing Revert) plain = (record { some = omega arith; visible = refl }, tt)
 
 printed_names : (command : Command (List ℕ) Place) → IsPlain command → AllNames (printed_fields command)
 printed_names Bye plain = absurd plain

@@ -13,15 +13,16 @@ use Rattle.lf_proto.specs.Numbers.{◌>>=◌, session_number, coordinate}
 use Rattle.lf_proto.specs.declared.line.Verb.{Verb}
 use Rattle.lf_proto.specs.declared.line.Verb.TheVariants.{Open as Opens, OfSession}
 use Rattle.lf_proto.specs.declared.line.SessionVerb.{SessionVerb}
-use Rattle.lf_proto.specs.declared.line.SessionVerb.TheVariants.{Check as Checks, Where as Asks, Find as Finds}
+use Rattle.lf_proto.specs.declared.line.SessionVerb.TheVariants.{Close as Closes, Sync as Syncs, Check as Checks, Where as Asks, Find as Finds}
 use Rattle.lf_proto.specs.declared.line.SessionVerb.TheVariants.{Place as Places, Legalize as Legalizes, Tidy as Tidies, Unplace as Unplaces}
+use Rattle.lf_proto.specs.declared.line.SessionVerb.TheVariants.{Swap as Swaps, Undo as Undoes, Commit as Commits, Revert as Reverts}
 use Rattle.lf_proto.specs.declared.request.Command.{Command}
 use Rattle.lf_proto.specs.declared.request.Command.TheVariants.{Bye, To}
 use Rattle.lf_proto.specs.declared.request.Order.TheVariants.{Open, Within}
 use Rattle.lf_proto.specs.declared.request.Action.{Action}
-use Rattle.lf_proto.specs.declared.request.Action.TheVariants.{Check, Where, Find, Change as Changing}
+use Rattle.lf_proto.specs.declared.request.Action.TheVariants.{Close, Sync, Check, Where, Find, Change as Changing}
 use Rattle.lf_proto.specs.declared.request.Change.{Change}
-use Rattle.lf_proto.specs.declared.request.Change.TheVariants.{Place as Placing, Legalize, Tidy, Unplace}
+use Rattle.lf_proto.specs.declared.request.Change.TheVariants.{Place as Placing, Legalize, Tidy, Unplace, Swap, Undo, Commit, Revert}
 
 -- an orientation by its name (LEF/DEF 5.8, DEF COMPONENTS)
 abbrev pub orient_named : List ℕ → Option Orient
@@ -79,6 +80,8 @@ target_of _ = None
 abbrev pub verb_named : List ℕ → Option Verb
 verb_named text =
     cond (bytes_eq text (codes "open")) (Some Opens)
+    (cond (bytes_eq text (codes "close")) (Some (OfSession Closes))
+    (cond (bytes_eq text (codes "sync")) (Some (OfSession Syncs))
     (cond (bytes_eq text (codes "check")) (Some (OfSession Checks))
     (cond (bytes_eq text (codes "where")) (Some (OfSession Asks))
     (cond (bytes_eq text (codes "find")) (Some (OfSession Finds))
@@ -86,12 +89,16 @@ verb_named text =
     (cond (bytes_eq text (codes "legalize")) (Some (OfSession Legalizes))
     (cond (bytes_eq text (codes "tidy")) (Some (OfSession Tidies))
     (cond (bytes_eq text (codes "unplace")) (Some (OfSession Unplaces))
-    None)))))))
+    (cond (bytes_eq text (codes "swap")) (Some (OfSession Swaps))
+    (cond (bytes_eq text (codes "undo")) (Some (OfSession Undoes))
+    (cond (bytes_eq text (codes "commit")) (Some (OfSession Commits))
+    (cond (bytes_eq text (codes "revert")) (Some (OfSession Reverts))
+    None)))))))))))))
 
--- check TEAM N, behind N
-abbrev pub check_of : List (List ℕ) → Option (Action (List ℕ) Place)
-check_of [] = Some Check
-check_of _ = None
+-- VERB TEAM N, behind N: what the verb asks has no fields of its own
+abbrev pub alone_of : Action (List ℕ) Place → List (List ℕ) → Option (Action (List ℕ) Place)
+alone_of action [] = Some action
+alone_of action _ = None
 
 -- where TEAM N CELL, behind N
 abbrev pub where_of : List (List ℕ) → Option (Action (List ℕ) Place)
@@ -119,25 +126,31 @@ legalize_of (cell ∷ fields) = do
   Some (Changing (Legalize cell target))
 legalize_of _ = None
 
--- tidy TEAM N, behind N
-abbrev pub tidy_of : List (List ℕ) → Option (Action (List ℕ) Place)
-tidy_of [] = Some (Changing Tidy)
-tidy_of _ = None
-
 -- unplace TEAM N CELL, behind N
 abbrev pub unplace_of : List (List ℕ) → Option (Action (List ℕ) Place)
 unplace_of (cell ∷ []) = Some (Changing (Unplace cell))
 unplace_of _ = None
 
+-- swap TEAM N CELL CELL, behind N
+abbrev pub swap_of : List (List ℕ) → Option (Action (List ℕ) Place)
+swap_of (first ∷ second ∷ []) = Some (Changing (Swap first second))
+swap_of _ = None
+
 -- what a session asks by a verb and the fields behind its number
 abbrev pub action_by : SessionVerb → List (List ℕ) → Option (Action (List ℕ) Place)
-action_by Checks = check_of
+action_by Closes = alone_of Close
+action_by Syncs = alone_of Sync
+action_by Checks = alone_of Check
 action_by Asks = where_of
 action_by Finds = find_of
 action_by Places = placing_of
 action_by Legalizes = legalize_of
-action_by Tidies = tidy_of
+action_by Tidies = alone_of (Changing Tidy)
 action_by Unplaces = unplace_of
+action_by Swaps = swap_of
+action_by Undoes = alone_of (Changing Undo)
+action_by Commits = alone_of (Changing Commit)
+action_by Reverts = alone_of (Changing Revert)
 
 -- ---- the lines
 
@@ -191,20 +204,18 @@ pub record IsTarget (target : Point) : Type 0 where
 abbrev pub IsPlainChange : Change (List ℕ) Place → Type 0
 IsPlainChange (Placing cell place) = IsName cell × IsInRange place
 IsPlainChange (Legalize cell target) = IsName cell × IsTarget target
-IsPlainChange Tidy = Unit {0}
 IsPlainChange (Unplace cell) = IsName cell
-IsPlainChange _ = ⊥
+IsPlainChange (Swap first second) = IsName first × IsName second
+IsPlainChange _ = Unit {0}
 
 -- what a session can ask by a line
 abbrev pub IsPlainAction : Action (List ℕ) Place → Type 0
-IsPlainAction Check = Unit {0}
 IsPlainAction (Where cell) = IsName cell
 IsPlainAction (Find cell target) = IsName cell × IsTarget target
 IsPlainAction (Changing change) = IsPlainChange change
-IsPlainAction _ = ⊥
+IsPlainAction _ = Unit {0}
 
--- a request that a line can ask: open, check, where, find, place, legalize, tidy or unplace, its names of visible bytes and its numbers
--- of 32 bits
+-- a request that a line can ask, its names of visible bytes and its numbers of 32 bits: any but bye
 abbrev pub IsPlain : Command (List ℕ) Place → Type 0
 IsPlain Bye = ⊥
 IsPlain (To team Open) = IsName team

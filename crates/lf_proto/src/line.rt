@@ -5,7 +5,7 @@ ghost use Rattle.std.specs.List.{list_all};
 ghost use Rattle.lf_proto.specs.Commands.{action_of, command_of};
 ghost use Rattle.lf_proto.specs.Lines.{fields, is_line_byte};
 ghost use Rattle.lf_proto.specs.Requests.{command_in, command_on, orient_named, place_of, place_written, target_of, verb_named};
-ghost use Rattle.lf_proto.specs.Requests.{action_by, check_of, find_of, legalize_of, open_of, placing_of, tidy_of, unplace_of, where_of, within_of};
+ghost use Rattle.lf_proto.specs.Requests.{action_by, alone_of, find_of, legalize_of, open_of, placing_of, swap_of, unplace_of, where_of, within_of};
 ghost use Rattle.lf_proto.specs.Printed.{PassesBlanksAround, PassesBlanksBetween, ReadsBack};
 
 use crate::number::{coordinate_of, session_of};
@@ -29,6 +29,8 @@ enum Verb {
 /// The first word of what a session asks.
 #[derive(Clone, Copy)]
 enum SessionVerb {
+    Close,
+    Sync,
     Check,
     Where,
     Find,
@@ -36,6 +38,10 @@ enum SessionVerb {
     Legalize,
     Tidy,
     Unplace,
+    Swap,
+    Undo,
+    Commit,
+    Revert,
 }
 
 /// The verb of that name.
@@ -44,6 +50,8 @@ fn verb_of(word: &[u8]) -> Option<Verb>
 {
     match word {
         b"open" => Some(Verb::Open),
+        b"close" => Some(Verb::OfSession(SessionVerb::Close)),
+        b"sync" => Some(Verb::OfSession(SessionVerb::Sync)),
         b"check" => Some(Verb::OfSession(SessionVerb::Check)),
         b"where" => Some(Verb::OfSession(SessionVerb::Where)),
         b"find" => Some(Verb::OfSession(SessionVerb::Find)),
@@ -51,6 +59,10 @@ fn verb_of(word: &[u8]) -> Option<Verb>
         b"legalize" => Some(Verb::OfSession(SessionVerb::Legalize)),
         b"tidy" => Some(Verb::OfSession(SessionVerb::Tidy)),
         b"unplace" => Some(Verb::OfSession(SessionVerb::Unplace)),
+        b"swap" => Some(Verb::OfSession(SessionVerb::Swap)),
+        b"undo" => Some(Verb::OfSession(SessionVerb::Undo)),
+        b"commit" => Some(Verb::OfSession(SessionVerb::Commit)),
+        b"revert" => Some(Verb::OfSession(SessionVerb::Revert)),
         _ => None,
     }
 }
@@ -112,14 +124,14 @@ fn last_target(mut fields: Fields<'_>) -> Option<Point>
     })
 }
 
-/// What `check TEAM N` asks, by the fields behind N.
-fn check_action<'a>(mut fields: Fields<'a>) -> Option<Action<&'a [u8]>>
-    ensures { option_map action_of result ≡ check_of fields.entry }
+/// What a verb without fields of its own asks, by the fields behind N.
+fn alone<'a>(action: Action<&'a [u8]>, mut fields: Fields<'a>) -> Option<Action<&'a [u8]>>
+    ensures { option_map action_of result ≡ alone_of (action_of action.entry) fields.entry }
 {
     if fields.next().is_some() {
         return None;
     }
-    Some(Action::Check)
+    Some(action)
 }
 
 /// What `where TEAM N CELL` asks, by the fields behind N.
@@ -160,16 +172,6 @@ fn legalize_action<'a>(mut fields: Fields<'a>) -> Option<Action<&'a [u8]>>
     Some(Action::Change(Change::Legalize { cell, target }))
 }
 
-/// What `tidy TEAM N` asks, by the fields behind N.
-fn tidy_action<'a>(mut fields: Fields<'a>) -> Option<Action<&'a [u8]>>
-    ensures { option_map action_of result ≡ tidy_of fields.entry }
-{
-    if fields.next().is_some() {
-        return None;
-    }
-    Some(Action::Change(Change::Tidy))
-}
-
 /// What `unplace TEAM N CELL` asks, by the fields behind N.
 fn unplace_action<'a>(mut fields: Fields<'a>) -> Option<Action<&'a [u8]>>
     ensures { option_map action_of result ≡ unplace_of fields.entry }
@@ -181,18 +183,36 @@ fn unplace_action<'a>(mut fields: Fields<'a>) -> Option<Action<&'a [u8]>>
     Some(Action::Change(Change::Unplace { cell }))
 }
 
+/// What `swap TEAM N CELL CELL` asks, by the fields behind N.
+fn swap_action<'a>(mut fields: Fields<'a>) -> Option<Action<&'a [u8]>>
+    ensures { option_map action_of result ≡ swap_of fields.entry }
+{
+    let first = fields.next()?;
+    let second = fields.next()?;
+    if fields.next().is_some() {
+        return None;
+    }
+    Some(Action::Change(Change::Swap { first, second }))
+}
+
 /// What a session asks by a verb and the fields behind its number.
 fn action_in<'a>(verb: SessionVerb, fields: Fields<'a>) -> Option<Action<&'a [u8]>>
     ensures { option_map action_of result ≡ action_by verb fields.entry }
 {
     match verb {
-        SessionVerb::Check => check_action(fields),
+        SessionVerb::Close => alone(Action::Close, fields),
+        SessionVerb::Sync => alone(Action::Sync, fields),
+        SessionVerb::Check => alone(Action::Check, fields),
         SessionVerb::Where => where_action(fields),
         SessionVerb::Find => find_action(fields),
         SessionVerb::Place => place_action(fields),
         SessionVerb::Legalize => legalize_action(fields),
-        SessionVerb::Tidy => tidy_action(fields),
+        SessionVerb::Tidy => alone(Action::Change(Change::Tidy), fields),
         SessionVerb::Unplace => unplace_action(fields),
+        SessionVerb::Swap => swap_action(fields),
+        SessionVerb::Undo => alone(Action::Change(Change::Undo), fields),
+        SessionVerb::Commit => alone(Action::Change(Change::Commit), fields),
+        SessionVerb::Revert => alone(Action::Change(Change::Revert), fields),
     }
 }
 

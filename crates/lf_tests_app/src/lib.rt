@@ -10,6 +10,8 @@ mod floors;
 #[cfg(test)]
 mod lines;
 #[cfg(test)]
+mod runs;
+#[cfg(test)]
 mod shelf;
 #[cfg(test)]
 mod tasks;

@@ -13,3 +13,15 @@ returns-in-legalize c =
     let is = text_from_reads c.args.word.now (codes "legalize") (omega arith)
     (omega arith, (omega arith, (omega arith, (omega arith, (omega arith, (omega arith, (omega arith, (omega arith, tt)))))))) in
     rw is refl
+
+pub returns-in-commit : goal.returns-in-commit
+returns-in-commit c =
+    let is = text_from_reads c.args.word.now (codes "commit") (omega arith)
+    (omega arith, (omega arith, (omega arith, (omega arith, (omega arith, (omega arith, tt)))))) in
+    rw is refl
+
+pub returns-in-revert : goal.returns-in-revert
+returns-in-revert c =
+    let is = text_from_reads c.args.word.now (codes "revert") (omega arith)
+    (omega arith, (omega arith, (omega arith, (omega arith, (omega arith, (omega arith, tt)))))) in
+    rw is refl
