@@ -23,11 +23,11 @@ abbrev pub EntriesShrink : Type 0
 EntriesShrink = (now : Places) (moves : List Move) (entries : List (List Move)) →
     slice_get entries 0 ≡ Some moves → entries_of now entries ≡ taken_back moves now ∷ entries_of (taken_back moves now) (drop 1 entries)
 
--- Without a front entry there is no list.
+-- Without a front entry there is no list of places.
 abbrev pub EntriesKeep : Type 0
 EntriesKeep = (now : Places) (entries : List (List Move)) → slice_get entries 0 ≡ None → entries_of now entries ≡ []
 
--- No more than so many entries, before or behind.
+-- Entries cut at a limit stand for the same lists of places, cut there.
 abbrev pub EntriesTake : Type 0
 EntriesTake = (now : Places) (entries : List (List Move)) (limit : ℕ) → entries_of now (take limit entries) ≡ take limit (entries_of now entries)
 
