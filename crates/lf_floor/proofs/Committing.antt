@@ -25,11 +25,13 @@ pub commit_unplaced : (t : Setting) (session cell : ℕ) (s : TeamState) → Som
 unfolding committed
 commit_unplaced t session cell s is = ap (λ (o : Option ℕ). committed_unless o (broken_cells t s.cells) session s) (sym is)
 
-all_placed : (t : Setting) (session : ℕ) (s : TeamState) → None ≡ first_unplaced s.cells → committed t session s ≡ committed_unless None (broken_cells t s.cells) session s
+all_placed : (t : Setting) (session : ℕ) (s : TeamState) → None ≡ first_unplaced s.cells
+    → committed t session s ≡ committed_unless None (broken_cells t s.cells) session s
 unfolding committed
 all_placed t session s none = ap (λ (o : Option ℕ). committed_unless o (broken_cells t s.cells) session s) (sym none)
 
-pub commit_illegal : (t : Setting) (session : ℕ) (s : TeamState) (b : BrokenCell) → None ≡ first_unplaced s.cells → Some b ≡ slice_get (broken_cells t s.cells) 0
+pub commit_illegal : (t : Setting) (session : ℕ) (s : TeamState) (b : BrokenCell) → None ≡ first_unplaced s.cells
+    → Some b ≡ slice_get (broken_cells t s.cells) 0
     → committed t session s ≡ refused (Illegal b.broken.rule b.own b.broken.other) s
 commit_illegal t session s b none first = all_placed t session s none ∙ go (broken_cells t s.cells) first where
   go : (bs : List BrokenCell) → Some b ≡ slice_get bs 0 → committed_unless None bs session s ≡ refused (Illegal b.broken.rule b.own b.broken.other) s
@@ -37,10 +39,11 @@ commit_illegal t session s b none first = all_placed t session s none ∙ go (br
   go (x ∷ xs) e = ap (λ (y : BrokenCell). refused (Illegal y.broken.rule y.own y.broken.other) s) (sym (same_some e))
 
 pub commit_short : (t : Setting) (session : ℕ) (s : TeamState) → None ≡ first_unplaced s.cells → RunsOut (committed t session s) s s
-commit_short t session s none = record { kept = refl; may = ap (λ (o : Outcome). may_be_short o.reply) (all_placed t session s none) ∙ go (broken_cells t s.cells) } where
-  go : (bs : List BrokenCell) → may_be_short (committed_unless None bs session s).reply ≡ true
-  go [] = refl
-  go (x ∷ xs) = refl
+commit_short t session s none =
+    record { kept = refl; may = ap (λ (o : Outcome). may_be_short o.reply) (all_placed t session s none) ∙ go (broken_cells t s.cells) } where
+      go : (bs : List BrokenCell) → may_be_short (committed_unless None bs session s).reply ≡ true
+      go [] = refl
+      go (x ∷ xs) = refl
 
 none_broken : (t : Setting) (session : ℕ) (s : TeamState) → None ≡ first_unplaced s.cells → None ≡ slice_get (broken_cells t s.cells) 0
     → committed t session s ≡ changed session (map as_committed s.cells) s.entries s

@@ -59,7 +59,8 @@ counted_own k session old new rows counts =
 -- ---- a stack changes
 
 -- only the team of that number may differ where its undo stack has changed
-pub others_by_undo : (k : ℕ) (old : Tables) (undo : Stacks (List Move)) (stack : List (List Move)) → undo.lists ≡ slice_set old.undo.lists k stack → undo.limit ≡ old.undo.limit
+pub others_by_undo : (k : ℕ) (old : Tables) (undo : Stacks (List Move)) (stack : List (List Move)) → undo.lists ≡ slice_set old.undo.lists k stack
+    → undo.limit ≡ old.undo.limit
     → OthersStay k old (record old { undo = undo })
 others_by_undo k old undo stack lists limit = record {
   teams = λ other differ.
@@ -84,7 +85,9 @@ others_by_count k session old new counts = record {
       ∙ get_or-set_other old.sessions k other (slice_set (slots_of old.sessions k) session (Some (revision_of old k + 1))) [] differ);
   components = ap (λ (cs : Cells). cs.components) counts.cells;
   undo = ap (λ (u : Stacks (List Move)). length u.lists) counts.undo;
-  sessions = ap (λ (xs : List (List (Option ℕ))). length xs) counts.sessions ∙ length-set old.sessions k (slice_set (slots_of old.sessions k) session (Some (revision_of old k + 1)));
+  sessions =
+      ap (λ (xs : List (List (Option ℕ))). length xs) counts.sessions
+      ∙ length-set old.sessions k (slice_set (slots_of old.sessions k) session (Some (revision_of old k + 1)));
   revisions = ap (λ (xs : List ℕ). length xs) counts.revisions ∙ length-set old.revisions.items k (revision_of old k + 1);
   limit = ap (λ (u : Stacks (List Move)). u.limit) counts.undo;
 }
@@ -92,7 +95,8 @@ others_by_count k session old new counts = record {
 -- ---- a change is kept
 
 -- the rows are there still, where only the undo stacks have changed
-pub rows_by_undo : (k : ℕ) (old : Tables) (undo : Stacks (List Move)) → length undo.lists ≡ length old.undo.lists → HasRows k old → HasRows k (record old { undo = undo })
+pub rows_by_undo : (k : ℕ) (old : Tables) (undo : Stacks (List Move)) → length undo.lists ≡ length old.undo.lists → HasRows k old
+    → HasRows k (record old { undo = undo })
 rows_by_undo k old undo same rows = record { undo = rw same rows.undo; sessions = rows.sessions; revisions = rows.revisions }
 
 -- the team whose moves are kept
@@ -168,7 +172,8 @@ tidied_reaches t k session revision count old new cells tidy limit tidies is sam
     tidied_done t session s (cells_of cells k) count (subst (λ (x : Tidy). Tidies t (cells_of old.cells k) (cells_of cells k) x) is tidies) same in
     rw outcome record { reply_is = ap (λ (n : ℕ). TidyDone n count) told; team_is = recorded_team t k session old new cells limit left }
 
-pub stuck_reaches : (t : Setting) (session own : ℕ) (s new : TeamState) (mid : List Cell) (tidy : Tidy) → Tidies t s.cells mid tidy → tidy ≡ Stopped own → new ≡ s
+pub stuck_reaches : (t : Setting) (session own : ℕ) (s new : TeamState) (mid : List Cell) (tidy : Tidy) → Tidies t s.cells mid tidy → tidy ≡ Stopped own
+    → new ≡ s
     → Reaches (tidied_team t session s) (Refused (NoPlace own)) new
 stuck_reaches t session own s new mid tidy tidies is kept =
     rw (tidied_stuck t session s mid own (subst (λ (x : Tidy). Tidies t s.cells mid x) is tidies)) record { reply_is = refl; team_is = kept }

@@ -113,7 +113,8 @@ one_more before now moves own place old was have = record {
 }
 
 -- the last of the moves that are left is taken back
-pub one_less : (before now : List Cell) (moves : List Move) (n : ℕ) (m : Move) → n < length moves → m ≡ get_or moves n m → HaveMoved before (take (n + 1) moves) now
+pub one_less : (before now : List Cell) (moves : List Move) (n : ℕ) (m : Move) → n < length moves → m ≡ get_or moves n m
+    → HaveMoved before (take (n + 1) moves) now
     → HaveMoved before (take n moves) (moved now m.own m.old)
 one_less before now moves n m within read have = record {
   places = back_one moves n m (places_of now) (places_of (moved now m.own m.old)) within read (places_moved now m.own m.old) ∙ have.places;

@@ -64,7 +64,8 @@ tidy_one_is t cells own moved =
     go (Some c) = refl
 
 -- a cell without a target stays
-pub one_stays : (t : Setting) (cells : List Cell) (own moved : ℕ) → target_at t cells own ≡ None → tidy_one t cells own moved ≡ Going (map member_of cells) moved
+pub one_stays : (t : Setting) (cells : List Cell) (own moved : ℕ) → target_at t cells own ≡ None
+    → tidy_one t cells own moved ≡ Going (map member_of cells) moved
 one_stays t cells own moved none = tidy_one_is t cells own moved ∙ go (slice_get cells own) none where
   go : (o : Option Cell) → option_and_then (λ c. target_of t.legalizer (lifted_cell t cells own c) (option_map spot_of c.working)) o ≡ None
       → one_by o t cells own moved ≡ Going (map member_of cells) moved
@@ -72,7 +73,8 @@ one_stays t cells own moved none = tidy_one_is t cells own moved ∙ go (slice_g
   go (Some c) e = ap (λ (p : Option Point). tidied_to p t.legalizer (lifted_cell t cells own c) (map member_of cells) moved own c.mac) e
 
 -- no cell, nothing to send
-pub none_sent : (t : Setting) (cells : List Cell) (number own moved : ℕ) → id_in cells number own ≡ None → tidy_one t cells own moved ≡ Going (map member_of cells) moved
+pub none_sent : (t : Setting) (cells : List Cell) (number own moved : ℕ) → id_in cells number own ≡ None
+    → tidy_one t cells own moved ≡ Going (map member_of cells) moved
 none_sent t cells number own moved none = tidy_one_is t cells own moved ∙ go (slice_get cells own) none where
   go : (o : Option Cell) → option_map (λ (c : Cell). id_of number own) o ≡ None → one_by o t cells own moved ≡ Going (map member_of cells) moved
   go None e = refl
@@ -143,10 +145,11 @@ on_going t own last moved first old new sent now within sends is going =
 
 places_back : (cells : List Cell) → places_in (map member_of cells) ≡ places_of cells
 places_back [] = refl
-places_back (c ∷ cs) = ap (λ (p : Option Place). p ∷ places_in (map member_of cs)) (at c.working) ∙ ap (λ (r : List (Option Place)). c.working ∷ r) (places_back cs) where
-  at : (o : Option Place) → option_and_then place_of_spot (option_map spot_of o) ≡ o
-  at None = refl
-  at (Some q) = back q
+places_back (c ∷ cs) =
+    ap (λ (p : Option Place). p ∷ places_in (map member_of cs)) (at c.working) ∙ ap (λ (r : List (Option Place)). c.working ∷ r) (places_back cs) where
+      at : (o : Option Place) → option_and_then place_of_spot (option_map spot_of o) ≡ o
+      at None = refl
+      at (Some q) = back q
 
 -- all cells went where they could
 pub tidied_done : (t : Setting) (session : ℕ) (s : TeamState) (new : List Cell) (count : ℕ) → Tidies t s.cells new (Done count) → SameButPlaces s.cells new

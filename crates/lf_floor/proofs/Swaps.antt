@@ -26,7 +26,8 @@ swap_refused t session first second s refusal is =
     go None None e = absurd cc
 
 -- the swap of two cells of the team that are placed
-pub swapped_is : (t : Setting) (session : ℕ) (first second : List ℕ) (a b : ℕ) (s : TeamState) → Some a ≡ cell_named first s.cells → Some b ≡ cell_named second s.cells
+pub swapped_is : (t : Setting) (session : ℕ) (first second : List ℕ) (a b : ℕ) (s : TeamState) → Some a ≡ cell_named first s.cells
+    → Some b ≡ cell_named second s.cells
     → is_some (working_at s.cells a) ≡ true → is_some (working_at s.cells b) ≡ true → swapped t session first second s ≡ swapped_here t session a b s
 unfolding swapped
 swapped_is t session first second a b s named named' placed placed' =

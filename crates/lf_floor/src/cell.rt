@@ -60,7 +60,8 @@ pub(crate) fn best_place<S: Seeker>(
     requires sized { All (IsSizedCell around.now.frame.now) (cells_of cells.now around.now.number) }
     requires few { length (cells_of cells.now around.now.number) ≤ 4000000 }
     ensures best { (l : Legalizer) → IfOk result (λ found. found ≡ best_at (setting_in l around.now) (cells_of cells.now around.now.number) id.own target.now) }
-    ensures spot { (l : Legalizer) → IfOk result (λ found. option_map spot_of found ≡ best_of l around.now.frame.now around.now.number (cells_of cells.now around.now.number) id.own target.now) }
+    ensures spot { (l : Legalizer) → IfOk result (λ found. option_map spot_of found
+        ≡ best_of l around.now.frame.now around.now.number (cells_of cells.now around.now.number) id.own target.now) }
 {
     around
         .seeker
@@ -109,7 +110,8 @@ pub(crate) fn report_text<S>(
     requires sized { All (IsSizedCell around.now.frame.now) (cells_of cells.now around.now.number) }
     requires printed { All (λ c. IsName c.name) (cells_of cells.now around.now.number) }
     requires few { length (cells_of cells.now around.now.number) ≤ 4000000 }
-    ensures { IfOk result (λ text. (l : Legalizer) → text ≡ report_text (report_of l around.now.frame.now (map (listed_of around.now.number) (cells_of cells.now around.now.number)))) }
+    ensures { IfOk result (λ text. (l : Legalizer) → text ≡ report_text
+        (report_of l around.now.frame.now (map (listed_of around.now.number) (cells_of cells.now around.now.number)))) }
 {
     let listed = listed_cells(around.alloc, around.number, cells)?;
     let report = report_on(around.alloc, around.frame, &listed)?;

@@ -25,9 +25,11 @@ impl Tables {
     ) -> Result<u32, AllocError>
         requires rows { HasRows number self.old }
         requires current { IsCurrent number session self.old }
-        ensures ok { (before : List Cell) → HaveMoved before moves (cells_of self.old.cells number) → OnOk result (own_team number self.new ≡ kept number session before (cells_of self.old.cells number) self.old) }
+        ensures ok { (before : List Cell) → HaveMoved before moves (cells_of self.old.cells number) →
+            OnOk result (own_team number self.new ≡ kept number session before (cells_of self.old.cells number) self.old) }
         ensures revision { IfOk result (λ revision. revision ≡ revision_of self.old number + 1) }
-        ensures err { (before : List Cell) → HaveMoved before moves (cells_of self.old.cells number) → OnErr result (own_team number self.new ≡ team_with number before self.old) }
+        ensures err { (before : List Cell) → HaveMoved before moves (cells_of self.old.cells number) →
+            OnErr result (own_team number self.new ≡ team_with number before self.old) }
         ensures others { OthersStay number self.old self.new }
     {
         match self.undo.push(number, moves) {
@@ -52,7 +54,8 @@ impl Tables {
     ) -> Result<u32, AllocError>
         requires rows { HasRows id.team self.old }
         requires current { IsCurrent id.team session self.old }
-        ensures ok { OnOk result (own_team id.team self.new ≡ kept id.team session (cells_of self.old.cells id.team) (moved (cells_of self.old.cells id.team) id.own place) self.old) }
+        ensures ok { OnOk result (own_team id.team self.new ≡ kept id.team session (cells_of self.old.cells id.team)
+            (moved (cells_of self.old.cells id.team) id.own place) self.old) }
         ensures revision { IfOk result (λ revision. revision ≡ revision_of self.old id.team + 1) }
         ensures err { OnErr result (own_team id.team self.new ≡ own_team id.team self.old) }
         ensures others { OthersStay id.team self.old self.new }

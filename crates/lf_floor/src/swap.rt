@@ -50,7 +50,8 @@ fn exchange(
 ) -> Result<(), AllocError>
     requires { second.team ≡ first.team }
     ensures own { OnOk result (cells_of cells.new first.team ≡ exchanged (cells_of cells.old first.team) first.own second.own) }
-    ensures moved { (before : List Cell) → HaveMoved before moves.old (cells_of cells.old first.team) → HaveMoved before moves.new (cells_of cells.new first.team) }
+    ensures moved { (before : List Cell) → HaveMoved before moves.old (cells_of cells.old first.team) →
+        HaveMoved before moves.new (cells_of cells.new first.team) }
     ensures same { SameButPlaces (cells_of cells.old first.team) (cells_of cells.new first.team) }
     ensures others { OtherCellsStay first.team cells.old cells.new }
 {
@@ -68,7 +69,8 @@ fn refusal_at<S>(
 ) -> Result<Option<Refusal>, AllocError>
     requires sized { All (IsSizedCell around.now.frame.now) (cells_of cells.now around.now.number) }
     requires few { length (cells_of cells.now around.now.number) ≤ 4000000 }
-    ensures { (l : Legalizer) → IfOk result (λ refusal. refusal ≡ illegal_by (broken_where (setting_in l around.now) (cells_of cells.now around.now.number) own) own) }
+    ensures { (l : Legalizer) → IfOk result (λ refusal. refusal ≡ illegal_by
+        (broken_where (setting_in l around.now) (cells_of cells.now around.now.number) own) own) }
 {
     match broken_where(around, cells, own)? {
         Some(broken) => Ok(Some(Refusal::Illegal {
@@ -111,8 +113,10 @@ fn try_exchange<S>(
     requires sized { All (IsSizedCell around.now.frame.now) (cells_of cells.old around.now.number) }
     requires few { length (cells_of cells.old around.now.number) ≤ 4000000 }
     ensures own { OnOk result (cells_of cells.new around.now.number ≡ exchanged (cells_of cells.old around.now.number) first.own second.own) }
-    ensures refusal { (l : Legalizer) → IfOk result (λ refusal. refusal ≡ swap_refusal (setting_in l around.now) (cells_of cells.new around.now.number) first.own second.own) }
-    ensures moved { (before : List Cell) → HaveMoved before moves.old (cells_of cells.old around.now.number) → HaveMoved before moves.new (cells_of cells.new around.now.number) }
+    ensures refusal { (l : Legalizer) → IfOk result (λ refusal. refusal
+        ≡ swap_refusal (setting_in l around.now) (cells_of cells.new around.now.number) first.own second.own) }
+    ensures moved { (before : List Cell) → HaveMoved before moves.old (cells_of cells.old around.now.number) →
+        HaveMoved before moves.new (cells_of cells.new around.now.number) }
     ensures others { OtherCellsStay around.now.number cells.old cells.new }
 {
     exchange(cells, moves, first, second)?;

@@ -84,9 +84,11 @@ fn send<S: Seeker>(
 ) -> Result<Sent, AllocError>
     requires sized { All (IsSizedCell around.now.frame.now) (cells_of cells.old around.now.number) }
     requires few { length (cells_of cells.old around.now.number) ≤ 4000000 }
-    ensures ok { (l : Legalizer) → IfOk result (λ sent. Sends (setting_in l around.now) own (cells_of cells.old around.now.number) (cells_of cells.new around.now.number) sent) }
+    ensures ok { (l : Legalizer) → IfOk result (λ sent. Sends (setting_in l around.now) own (cells_of cells.old around.now.number)
+        (cells_of cells.new around.now.number) sent) }
     ensures same { SameButPlaces (cells_of cells.old around.now.number) (cells_of cells.new around.now.number) }
-    ensures moved { (before : List Cell) → HaveMoved before moves.old (cells_of cells.old around.now.number) → HaveMoved before moves.new (cells_of cells.new around.now.number) }
+    ensures moved { (before : List Cell) → HaveMoved before moves.old (cells_of cells.old around.now.number) →
+        HaveMoved before moves.new (cells_of cells.new around.now.number) }
     ensures others { OtherCellsStay around.now.number cells.old cells.new }
 {
     let Some(target) = target_of(around, cells, own)? else {
@@ -112,9 +114,11 @@ fn send_all<S: Seeker>(
 ) -> Result<Tidy, AllocError>
     requires sized { All (IsSizedCell around.now.frame.now) (cells_of cells.old around.now.number) }
     requires few { length (cells_of cells.old around.now.number) ≤ 4000000 }
-    ensures ok { (l : Legalizer) → IfOk result (λ tidy. Tidies (setting_in l around.now) (cells_of cells.old around.now.number) (cells_of cells.new around.now.number) tidy) }
+    ensures ok { (l : Legalizer) → IfOk result (λ tidy. Tidies (setting_in l around.now) (cells_of cells.old around.now.number)
+        (cells_of cells.new around.now.number) tidy) }
     ensures same { SameButPlaces (cells_of cells.old around.now.number) (cells_of cells.new around.now.number) }
-    ensures moved { (before : List Cell) → HaveMoved before moves.old (cells_of cells.old around.now.number) → HaveMoved before moves.new (cells_of cells.new around.now.number) }
+    ensures moved { (before : List Cell) → HaveMoved before moves.old (cells_of cells.old around.now.number) →
+        HaveMoved before moves.new (cells_of cells.new around.now.number) }
     ensures others { OtherCellsStay around.now.number cells.old cells.new }
 {
     let mut moved = 0;

@@ -3,6 +3,7 @@
 ghost use Rattle.std.specs.Prelude.{◌≡◌, ◌≢◌, IfOk, None, OnErr, true};
 ghost use Rattle.lf_rules.specs.Legalizer.{Legalizer};
 ghost use Rattle.lf_proto.specs.declared.request.Order.TheVariants.{Within};
+ghost use Rattle.lf_proto.specs.declared.request.Action.TheVariants.{Change as Changing};
 ghost use Rattle.lf_proto.specs.Commands.{action_of, change_of, order_of};
 ghost use Rattle.lf_sessions.specs.Slots.{seen_at, slots_of};
 ghost use Rattle.lf_teams.specs.Outcomes.{Reaches, RunsOut};
@@ -31,6 +32,7 @@ impl Tables {
             (outcome_of_change (setting_in l around.now) session (change_of change.now) (team_in around.now self.old))
             (team_in around.now self.old) (team_in around.now self.new)) }
         ensures others { OthersStay around.now.number self.old self.new }
+        ensures takes { OnErr result (takes_memory (Within session (Changing (change_of change.now))) ≡ true) }
     {
         match change {
             Change::Place { cell, place } => self.place(around, session, cell, place),
@@ -63,6 +65,7 @@ impl Tables {
             (unless_stale seen (setting_in l around.now) session (change_of change.now) (team_in around.now self.old))
             (team_in around.now self.old) (team_in around.now self.new)) }
         ensures others { OthersStay around.now.number self.old self.new }
+        ensures takes { OnErr result (takes_memory (Within session (Changing (change_of change.now))) ≡ true) }
     {
         let revision = self.revision(around.number);
         if seen != revision {

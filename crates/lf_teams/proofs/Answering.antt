@@ -22,11 +22,13 @@ use Rattle.lf_teams.proofs.Kept.{never_short}
 
 -- ---- the team of a command
 
-answer_none : (l : Legalizer) (floor : FloorState) (name : List ℕ) (order : Order (List ℕ) Place) → None ≡ team_number floor.frame name → answer_of l floor (To name order) ≡ no_team floor
+answer_none : (l : Legalizer) (floor : FloorState) (name : List ℕ) (order : Order (List ℕ) Place) → None ≡ team_number floor.frame name
+    → answer_of l floor (To name order) ≡ no_team floor
 unfolding answer_of
 answer_none l floor name order none = ap (λ (o : Option ℕ). answer_at o l floor order) (sym none)
 
-answer_some : (l : Legalizer) (floor : FloorState) (name : List ℕ) (order : Order (List ℕ) Place) (number : ℕ) → Some number ≡ team_number floor.frame name → answer_of l floor (To name order) ≡ answer_at (Some number) l floor order
+answer_some : (l : Legalizer) (floor : FloorState) (name : List ℕ) (order : Order (List ℕ) Place) (number : ℕ) → Some number ≡ team_number floor.frame name
+    → answer_of l floor (To name order) ≡ answer_at (Some number) l floor order
 unfolding answer_of
 answer_some l floor name order number some = ap (λ (o : Option ℕ). answer_at o l floor order) (sym some)
 
@@ -34,10 +36,13 @@ pub bye_answers : (l : Legalizer) (floor : FloorState) → Answers l floor Bye D
 unfolding answer_of
 bye_answers l floor = record { reply_is = refl; floor_is = refl }
 
-pub none_answers : (l : Legalizer) (floor : FloorState) (name : List ℕ) (order : Order (List ℕ) Place) → None ≡ team_number floor.frame name → Answers l floor (To name order) (Refused NoTeam) floor
-none_answers l floor name order none = let e = answer_none l floor name order none in record { reply_is = sym (ap (λ (a : Answer). a.reply) e); floor_is = sym (ap (λ (a : Answer). a.floor) e) }
+pub none_answers : (l : Legalizer) (floor : FloorState) (name : List ℕ) (order : Order (List ℕ) Place) → None ≡ team_number floor.frame name
+    → Answers l floor (To name order) (Refused NoTeam) floor
+none_answers l floor name order none =
+    let e = answer_none l floor name order none in record { reply_is = sym (ap (λ (a : Answer). a.reply) e); floor_is = sym (ap (λ (a : Answer). a.floor) e) }
 
-pub some_answers : (l : Legalizer) (old new : FloorState) (name : List ℕ) (order : Order (List ℕ) Place) (number : ℕ) (reply : Reply) → Some number ≡ team_number old.frame name
+pub some_answers : (l : Legalizer) (old new : FloorState) (name : List ℕ) (order : Order (List ℕ) Place) (number : ℕ) (reply : Reply)
+    → Some number ≡ team_number old.frame name
     → Gives (answer_at (Some number) l old order) reply new → Answers l old (To name order) reply new
 some_answers l old new name order number reply some given =
     let P : Answer → Type 0 = λ a. Gives a reply new in
@@ -45,7 +50,8 @@ some_answers l old new name order number reply some given =
 
 -- ---- each answer is plain, and one that is short is to an order that takes memory
 
-by_plain : (l : Legalizer) (floor : FloorState) (number : ℕ) (order : Order (List ℕ) Place) (o : Option TeamState) → is_short (answer_by o l floor number order).reply ≡ false
+by_plain : (l : Legalizer) (floor : FloorState) (number : ℕ) (order : Order (List ℕ) Place) (o : Option TeamState)
+    → is_short (answer_by o l floor number order).reply ≡ false
 by_plain l floor number order None = refl
 by_plain l floor number order (Some s) = never_short (setting l floor.frame number) order s
 
@@ -73,7 +79,8 @@ some_short l old new name order number some takes short =
     let P : Answer → Type 0 = λ a. StaysShort a old new in
     takes_some l old new name order takes (subst P (sym (answer_some l old name order number some)) short)
 
-pub step_of_answer : (l : Legalizer) (old new : FloorState) (command : Command (List ℕ) Place) (reply : Reply) → Answers l old command reply new → Step l old command reply new
+pub step_of_answer : (l : Legalizer) (old new : FloorState) (command : Command (List ℕ) Place) (reply : Reply) → Answers l old command reply new
+    → Step l old command reply new
 step_of_answer l old new command reply answers =
     let plain : is_short reply ≡ false = ap is_short answers.reply_is ∙ answer_plain l old command in
     let P : Bool → Type 0 = λ b. MatchBool b (RunsShort l old command new) (Answers l old command reply new) in
@@ -100,25 +107,32 @@ get-set_other (y ∷ ys) zero (suc j) x ne = refl
 get-set_other (y ∷ ys) (suc i) zero x ne = refl
 get-set_other (y ∷ ys) (suc i) (suc j) x ne = get-set_other ys i j x (omega arith)
 
-other_at : (f : Frame) (teams : List TeamState) (a b : List ℕ) (number : ℕ) (s : TeamState) (o : Option ℕ) → team_number f a ≡ Some number → team_number f b ≡ o → a ≢ b → state_at (set teams number s) o ≡ state_at teams o
+other_at : (f : Frame) (teams : List TeamState) (a b : List ℕ) (number : ℕ) (s : TeamState) (o : Option ℕ) → team_number f a ≡ Some number
+    → team_number f b ≡ o → a ≢ b → state_at (set teams number s) o ≡ state_at teams o
 other_at f teams a b number s None ea eb ne = refl
-other_at f teams a b number s (Some there) ea eb ne = get-set_other teams number there s (λ e. ne (one_name f a b number ea (eb ∙ ap (λ (k : ℕ). Some k) (sym e))))
+other_at f teams a b number s (Some there) ea eb ne =
+    get-set_other teams number there s (λ e. ne (one_name f a b number ea (eb ∙ ap (λ (k : ℕ). Some k) (sym e))))
 
-others_by : (l : Legalizer) (floor : FloorState) (name team : List ℕ) (number : ℕ) (order : Order (List ℕ) Place) (o : Option TeamState) → team_number floor.frame name ≡ Some number → name ≢ team → state_of (answer_by o l floor number order).floor team ≡ state_of floor team
+others_by : (l : Legalizer) (floor : FloorState) (name team : List ℕ) (number : ℕ) (order : Order (List ℕ) Place) (o : Option TeamState)
+    → team_number floor.frame name ≡ Some number → name ≢ team → state_of (answer_by o l floor number order).floor team ≡ state_of floor team
 others_by l floor name team number order None named ne = refl
-others_by l floor name team number order (Some s) named ne = other_at floor.frame floor.teams name team number (ruled l floor.frame number order s).team (team_number floor.frame team) named refl ne
+others_by l floor name team number order (Some s) named ne =
+    other_at floor.frame floor.teams name team number (ruled l floor.frame number order s).team (team_number floor.frame team) named refl ne
 
-others_at : (l : Legalizer) (floor : FloorState) (name team : List ℕ) (order : Order (List ℕ) Place) (o : Option ℕ) → team_number floor.frame name ≡ o → name ≢ team → state_of (answer_at o l floor order).floor team ≡ state_of floor team
+others_at : (l : Legalizer) (floor : FloorState) (name team : List ℕ) (order : Order (List ℕ) Place) (o : Option ℕ) → team_number floor.frame name ≡ o
+    → name ≢ team → state_of (answer_at o l floor order).floor team ≡ state_of floor team
 others_at l floor name team order None named ne = refl
 others_at l floor name team order (Some number) named ne = others_by l floor name team number order (slice_get floor.teams number) named ne
 
 -- an answer leaves the other teams as they were
-pub others_kept : (l : Legalizer) (floor : FloorState) (command : Command (List ℕ) Place) (team : List ℕ) → ¬ IsTo team command → state_of (answer_of l floor command).floor team ≡ state_of floor team
+pub others_kept : (l : Legalizer) (floor : FloorState) (command : Command (List ℕ) Place) (team : List ℕ) → ¬ IsTo team command
+    → state_of (answer_of l floor command).floor team ≡ state_of floor team
 unfolding answer_of
 others_kept l floor Bye team other = refl
 others_kept l floor (To name order) team other = others_at l floor name team order (team_number floor.frame name) refl other
 
-frame_by : (l : Legalizer) (floor : FloorState) (number : ℕ) (order : Order (List ℕ) Place) (o : Option TeamState) → (answer_by o l floor number order).floor.frame ≡ floor.frame
+frame_by : (l : Legalizer) (floor : FloorState) (number : ℕ) (order : Order (List ℕ) Place) (o : Option TeamState)
+    → (answer_by o l floor number order).floor.frame ≡ floor.frame
 frame_by l floor number order None = refl
 frame_by l floor number order (Some s) = refl
 
@@ -134,13 +148,15 @@ frame_kept l floor (To name order) = frame_at l floor order (team_number floor.f
 
 -- ---- the team's own answer
 
-own_at : (l : Legalizer) (floor : FloorState) (team : List ℕ) (number : ℕ) (order : Order (List ℕ) Place) (s : TeamState) → team_number floor.frame team ≡ Some number → slice_get floor.teams number ≡ Some s
+own_at : (l : Legalizer) (floor : FloorState) (team : List ℕ) (number : ℕ) (order : Order (List ℕ) Place) (s : TeamState)
+    → team_number floor.frame team ≡ Some number → slice_get floor.teams number ≡ Some s
     → answer_of l floor (To team order) ≡ settled floor number (ruled l floor.frame number order s)
 own_at l floor team number order s named there =
     answer_some l floor team order number (sym named) ∙ ap (λ (o : Option TeamState). answer_by o l floor number order) there
 
 -- a command to a team is answered by its outcome there, which is its state afterwards
-pub own_answer : (l : Legalizer) (floor : FloorState) (team : List ℕ) (number : ℕ) (order : Order (List ℕ) Place) (s : TeamState) → team_number floor.frame team ≡ Some number → state_of floor team ≡ Some s
+pub own_answer : (l : Legalizer) (floor : FloorState) (team : List ℕ) (number : ℕ) (order : Order (List ℕ) Place) (s : TeamState)
+    → team_number floor.frame team ≡ Some number → state_of floor team ≡ Some s
     → ((answer_of l floor (To team order)).reply ≡ (ruled l floor.frame number order s).reply) × (state_of (answer_of l floor (To team order)).floor team ≡ Some (ruled l floor.frame number order s).team)
 own_answer l floor team number order s named has =
     let there : slice_get floor.teams number ≡ Some s = ap (state_at floor.teams) (sym named) ∙ has in

@@ -48,13 +48,15 @@ pub record Leaves (t : Setting) (s : TeamState) (May : ℕ → Type 0) (P : Orde
   pub finds : (session : ℕ) (name : List ℕ) (target : Point) (place : Place) → P (Within session (Find name target)) (record { reply = At place; team = s })
   pub places : (session own : ℕ) (name : List ℕ) (place : Place) → May session → cell_named name s.cells ≡ Some own → broken_at t s.cells own place ≡ None
       → P (asking session (PlaceAt name place)) (recorded t session (moved s.cells own (Some place)) s)
-  pub legalizes : (session own : ℕ) (name : List ℕ) (target : Point) (place : Place) → May session → cell_named name s.cells ≡ Some own → best_at t s.cells own target ≡ Some place
+  pub legalizes : (session own : ℕ) (name : List ℕ) (target : Point) (place : Place) → May session → cell_named name s.cells ≡ Some own
+      → best_at t s.cells own target ≡ Some place
       → P (asking session (Legalize name target)) (telling (Legalized (s.revision + 1) place) (recorded t session (moved s.cells own (Some place)) s))
   pub tidies : (session count : ℕ) (members : List Member) → May session → tidied t.legalizer t.frame t.number (map member_of s.cells) ≡ Going members count
       → P (asking session Tidy) (telling (TidyDone (s.revision + 1) count) (recorded t session (restored (places_in members) s.cells) s))
   pub unplaces : (session own : ℕ) (name : List ℕ) → May session → cell_named name s.cells ≡ Some own
       → P (asking session (Unplace name)) (recorded t session (moved s.cells own None) s)
-  pub swaps : (session first second : ℕ) (name other : List ℕ) (place place' : Place) → May session → cell_named name s.cells ≡ Some first → cell_named other s.cells ≡ Some second
+  pub swaps : (session first second : ℕ) (name other : List ℕ) (place place' : Place) → May session → cell_named name s.cells ≡ Some first
+      → cell_named other s.cells ≡ Some second
       → working_at s.cells first ≡ Some place → working_at s.cells second ≡ Some place'
       → broken_where t (exchanged s.cells first second) first ≡ None → broken_where t (exchanged s.cells first second) second ≡ None
       → P (asking session (Swap name other)) (recorded t session (exchanged s.cells first second) s)
@@ -106,16 +108,19 @@ module _ (t : Setting) (s : TeamState) (May : ℕ → Type 0) (P : Order (List �
     swap_unless p q at_n at_m None (Some c) e_b e_c = leaves.refusal _ (Illegal c.rule m c.other) refl
     swap_unless p q at_n at_m None None e_b e_c = leaves.swaps session n m name other p q may first second at_n at_m e_b e_c
 
-    swap_from : (p q : Option Place) → working_at s.cells n ≡ p → working_at s.cells m ≡ q → P (asking session (Swap name other)) (swapped_from p q t session n m s)
+    swap_from : (p q : Option Place) → working_at s.cells n ≡ p → working_at s.cells m ≡ q
+        → P (asking session (Swap name other)) (swapped_from p q t session n m s)
     swap_from None q at_n at_m = leaves.refusal _ (Unplaced n) refl
     swap_from (Some p) None at_n at_m = leaves.refusal _ (Unplaced m) refl
-    swap_from (Some p) (Some q) at_n at_m = swap_unless p q at_n at_m (broken_where t (exchanged s.cells n m) n) (broken_where t (exchanged s.cells n m) m) refl refl
+    swap_from (Some p) (Some q) at_n at_m =
+        swap_unless p q at_n at_m (broken_where t (exchanged s.cells n m) n) (broken_where t (exchanged s.cells n m) m) refl refl
 
   module _ (session : ℕ) (may : May session) where
     placed_by : (name : List ℕ) (place : Place) → P (asking session (PlaceAt name place)) (placed t session name place s)
     unfolding placed
     placed_by name place = own (cell_named name s.cells) refl where
-      unless : (n : ℕ) (b : Option Broken) → cell_named name s.cells ≡ Some n → broken_at t s.cells n place ≡ b → P (asking session (PlaceAt name place)) (placed_unless b n t.frame.limits session place s)
+      unless : (n : ℕ) (b : Option Broken) → cell_named name s.cells ≡ Some n → broken_at t s.cells n place ≡ b
+          → P (asking session (PlaceAt name place)) (placed_unless b n t.frame.limits session place s)
       unless n None named e = leaves.places session n name place may named e
       unless n (Some b) named e = leaves.refusal _ (Illegal b.rule n b.other) refl
 
@@ -126,7 +131,8 @@ module _ (t : Setting) (s : TeamState) (May : ℕ → Type 0) (P : Order (List �
     legalized_by : (name : List ℕ) (target : Point) → P (asking session (Legalize name target)) (legalized t session name target s)
     unfolding legalized
     legalized_by name target = own (cell_named name s.cells) refl where
-      at : (n : ℕ) (o : Option Place) → cell_named name s.cells ≡ Some n → best_at t s.cells n target ≡ o → P (asking session (Legalize name target)) (legalized_at o t session n s)
+      at : (n : ℕ) (o : Option Place) → cell_named name s.cells ≡ Some n → best_at t s.cells n target ≡ o
+          → P (asking session (Legalize name target)) (legalized_at o t session n s)
       at n None named e = leaves.refusal _ (NoPlace n) refl
       at n (Some place) named e = leaves.legalizes session n name target place may named e
 
@@ -170,7 +176,8 @@ module _ (t : Setting) (s : TeamState) (May : ℕ → Type 0) (P : Order (List �
     committed_all : P (asking session Commit) (committed t session s)
     unfolding committed
     committed_all = go (first_unplaced s.cells) (broken_cells t s.cells) refl refl where
-      go : (o : Option ℕ) (bs : List BrokenCell) → first_unplaced s.cells ≡ o → broken_cells t s.cells ≡ bs → P (asking session Commit) (committed_unless o bs session s)
+      go : (o : Option ℕ) (bs : List BrokenCell) → first_unplaced s.cells ≡ o → broken_cells t s.cells ≡ bs
+          → P (asking session Commit) (committed_unless o bs session s)
       go (Some n) bs u b = leaves.refusal _ (Unplaced n) refl
       go None (c ∷ cs) u b = leaves.refusal _ (Illegal c.broken.rule c.own c.broken.other) refl
       go None [] u b = leaves.commits session may u b

@@ -86,7 +86,8 @@ seen_set [] session old new e = absurd cc
 seen_set (x ∷ xs) zero old new e = refl
 seen_set (x ∷ xs) (suc k) old new e = seen_set xs k old new e
 
-seen_other : (slots : List (Option ℕ)) (session other : ℕ) (new : Option ℕ) → other ≢ session → seen_at (slice_set slots session new) other ≡ seen_at slots other
+seen_other : (slots : List (Option ℕ)) (session other : ℕ) (new : Option ℕ) → other ≢ session
+    → seen_at (slice_set slots session new) other ≡ seen_at slots other
 seen_other [] session other new differ = refl
 seen_other (x ∷ xs) zero zero new differ = absurd (differ refl)
 seen_other (x ∷ xs) zero (suc other) new differ = refl
@@ -110,7 +111,8 @@ refused_counts t s (Within session (Where name)) r = tt
 refused_counts t s (Within session (Find name target)) r = tt
 refused_counts t s (Within session (Changing change)) r = λ denied. absurd (false_true denied)
 
-counts : (t : Setting) (session : ℕ) (s : TeamState) (reply : Reply) (cells : List Cell) (entries : List (List (Option Place))) → MayChange t session s → told_revision reply ≡ Some (s.revision + 1)
+counts : (t : Setting) (session : ℕ) (s : TeamState) (reply : Reply) (cells : List Cell) (entries : List (List (Option Place))) → MayChange t session s
+    → told_revision reply ≡ Some (s.revision + 1)
     → CountsOne t session s (record { reply = reply; team = (changed session cells entries s).team })
 counts t session s reply cells entries may told = record {
   allowed = may;
@@ -173,12 +175,14 @@ look_kept t verb s = verb_by t s (λ v o. LooksOnly s v o) record {
 abbrev pub IsFixed : {X : Type 0} → (Cell → X) → Type 0
 IsFixed part = (c : Cell) (place : Option Place) → part (record c { working = place }) ≡ part c
 
-pub moved_part : {X : Type 0} (part : Cell → X) → IsFixed part → (cells : List Cell) (own : ℕ) (place : Option Place) → map part (moved cells own place) ≡ map part cells
+pub moved_part : {X : Type 0} (part : Cell → X) → IsFixed part → (cells : List Cell) (own : ℕ) (place : Option Place)
+    → map part (moved cells own place) ≡ map part cells
 moved_part part fixed [] own place = refl
 moved_part part fixed (c ∷ cs) zero place = ap (λ x. x ∷ map part cs) (fixed c place)
 moved_part part fixed (c ∷ cs) (suc own) place = ap (λ xs. part c ∷ xs) (moved_part part fixed cs own place)
 
-pub restored_part : {X : Type 0} (part : Cell → X) → IsFixed part → (places : List (Option Place)) (cells : List Cell) → map part (restored places cells) ≡ map part cells
+pub restored_part : {X : Type 0} (part : Cell → X) → IsFixed part → (places : List (Option Place)) (cells : List Cell)
+    → map part (restored places cells) ≡ map part cells
 restored_part part fixed [] cells = refl
 restored_part part fixed (place ∷ places) [] = refl
 restored_part part fixed (place ∷ places) (c ∷ cs) =
@@ -188,9 +192,11 @@ pub back_part : {X : Type 0} (part : Cell → X) → IsFixed part → (cells : L
 back_part part fixed [] = refl
 back_part part fixed (c ∷ cs) = ap (λ x. x ∷ map part (map back_to_committed cs)) (fixed c c.committed) ∙ ap (λ xs. part c ∷ xs) (back_part part fixed cs)
 
-pub exchanged_part : {X : Type 0} (part : Cell → X) → IsFixed part → (cells : List Cell) (first second : ℕ) → map part (exchanged cells first second) ≡ map part cells
+pub exchanged_part : {X : Type 0} (part : Cell → X) → IsFixed part → (cells : List Cell) (first second : ℕ)
+    → map part (exchanged cells first second) ≡ map part cells
 exchanged_part part fixed cells first second =
-    moved_part part fixed (moved cells first (working_at cells second)) second (working_at cells first) ∙ moved_part part fixed cells first (working_at cells second)
+    moved_part part fixed (moved cells first (working_at cells second)) second (working_at cells first)
+    ∙ moved_part part fixed cells first (working_at cells second)
 
 pub committed_macs : (cells : List Cell) → map (λ c. c.mac) (map as_committed cells) ≡ map (λ c. c.mac) cells
 committed_macs [] = refl

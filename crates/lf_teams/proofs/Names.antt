@@ -39,10 +39,14 @@ pub fence_is : (f : Frame) (name : List ℕ) (i : ℕ) → Some i ≡ position (
 unfolding or_outside
 fence_is f name i found = sym (number_is f name ∙ ap (λ (o : Option ℕ). or_outside o name (length f.teams)) (sym found))
 
-pub outside_is : (f : Frame) (name : List ℕ) → None ≡ position (λ (t : Team). bytes_eq t.name name) f.teams → bytes_eq ground_name name ≡ true → Some (length f.teams) ≡ team_number f name
+pub outside_is : (f : Frame) (name : List ℕ) → None ≡ position (λ (t : Team). bytes_eq t.name name) f.teams → bytes_eq ground_name name ≡ true
+    → Some (length f.teams) ≡ team_number f name
 unfolding or_outside
-outside_is f name none same = sym (number_is f name ∙ ap (λ (o : Option ℕ). or_outside o name (length f.teams)) (sym none) ∙ ap (λ (b : Bool). cond b (Some (length f.teams)) None) same)
+outside_is f name none same =
+    sym (number_is f name ∙ ap (λ (o : Option ℕ). or_outside o name (length f.teams)) (sym none) ∙ ap (λ (b : Bool). cond b (Some (length f.teams)) None) same)
 
-pub unknown_is : (f : Frame) (name : List ℕ) → None ≡ position (λ (t : Team). bytes_eq t.name name) f.teams → bytes_eq ground_name name ≡ false → None ≡ team_number f name
+pub unknown_is : (f : Frame) (name : List ℕ) → None ≡ position (λ (t : Team). bytes_eq t.name name) f.teams → bytes_eq ground_name name ≡ false
+    → None ≡ team_number f name
 unfolding or_outside
-unknown_is f name none other = sym (number_is f name ∙ ap (λ (o : Option ℕ). or_outside o name (length f.teams)) (sym none) ∙ ap (λ (b : Bool). cond b (Some (length f.teams)) None) other)
+unknown_is f name none other =
+    sym (number_is f name ∙ ap (λ (o : Option ℕ). or_outside o name (length f.teams)) (sym none) ∙ ap (λ (b : Bool). cond b (Some (length f.teams)) None) other)

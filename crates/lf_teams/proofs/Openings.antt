@@ -47,16 +47,20 @@ named_within f team number named =
     rw names at found.0
 
 -- a team begins with its own cells
-pub opening_is : (design : Loaded) (team : List ℕ) (number : ℕ) → team_number design.frame team ≡ Some number → state_of (opening design) team ≡ Some (opening_team design number)
+pub opening_is : (design : Loaded) (team : List ℕ) (number : ℕ) → team_number design.frame team ≡ Some number
+    → state_of (opening design) team ≡ Some (opening_team design number)
 opening_is design team number named =
-    ap (state_at (opening design).teams) named ∙ team_of design 0 (length design.frame.teams + 1) number (named_within design.frame team number named) ∙ ap (λ (n : ℕ). Some (opening_team design n)) (zero-add number)
+    ap (state_at (opening design).teams) named ∙ team_of design 0 (length design.frame.teams + 1) number (named_within design.frame team number named)
+    ∙ ap (λ (n : ℕ). Some (opening_team design n)) (zero-add number)
 
 fresh : ℕ → List Cell → TeamState
 fresh sessions cells = record { cells = cells; revision = 0; entries = []; slots = replicate sessions None }
 
-same_opening : (a b : Loaded) (number : ℕ) → a.frame ≡ b.frame → own_cells number a.cells ≡ own_cells number b.cells → opening_team a number ≡ opening_team b number
+same_opening : (a b : Loaded) (number : ℕ) → a.frame ≡ b.frame → own_cells number a.cells ≡ own_cells number b.cells
+    → opening_team a number ≡ opening_team b number
 unfolding fresh
-same_opening a b number frames own = ap (λ (f : Frame). fresh f.limits.sessions (own_cells number a.cells)) frames ∙ ap (λ (cs : List Cell). fresh b.frame.limits.sessions cs) own
+same_opening a b number frames own =
+    ap (λ (f : Frame). fresh f.limits.sessions (own_cells number a.cells)) frames ∙ ap (λ (cs : List Cell). fresh b.frame.limits.sessions cs) own
 
 -- two designs that agree for a team begin with one state of it
 pub agreeing_is : (a b : Loaded) (team : List ℕ) (agree : AgreeFor team a b) → state_of (opening b) team ≡ Some (opening_team a agree.number)
@@ -96,8 +100,10 @@ opened_team design number =
     let known : All (λ (c : LoadedCell). IsSizedCell design.frame (opening_cell c)) design.cells = λ i d within. sized_cell design.frame (get_or design.cells i d) (design.cells_known i d within) in
     let few : length own ≤ length design.cells = length-filter-le (λ (c : LoadedCell). eqb c.team number) design.cells in
     record {
-      sized = All-map (λ (c : Cell). IsSizedCell design.frame c) opening_cell own (All-filter (λ (c : LoadedCell). eqb c.team number) (λ (c : LoadedCell). IsSizedCell design.frame (opening_cell c)) design.cells known);
-      printed = All-map (λ (c : Cell). IsName c.name) opening_cell own (All-filter (λ (c : LoadedCell). eqb c.team number) (λ (c : LoadedCell). IsName c.name) design.cells (λ i d within. (design.cells_known i d within).name_printed));
+      sized =
+          All-map (λ (c : Cell). IsSizedCell design.frame c) opening_cell own (All-filter (λ (c : LoadedCell). eqb c.team number) (λ (c : LoadedCell). IsSizedCell design.frame (opening_cell c)) design.cells known);
+      printed =
+          All-map (λ (c : Cell). IsName c.name) opening_cell own (All-filter (λ (c : LoadedCell). eqb c.team number) (λ (c : LoadedCell). IsName c.name) design.cells (λ i d within. (design.cells_known i d within).name_printed));
       names_differ =
           pairs_map (λ (c : Cell). c.name) (λ a b. a ≢ b) (map opening_cell own)
           (pairs_map opening_cell (λ (a : Cell) (b : Cell). a.name ≢ b.name) own
@@ -112,17 +118,20 @@ opened_team design number =
 
 opened_teams : (design : Loaded) (number more : ℕ) → All (λ s. IsTeamOf design.frame s) (opening_teams design number more)
 opened_teams design number zero = λ i d within. absurd (omega arith)
-opened_teams design number (suc more) = All-cons (λ (s : TeamState). IsTeamOf design.frame s) (opening_team design number) (opening_teams design (number + 1) more) (opened_team design number) (opened_teams design (number + 1) more)
+opened_teams design number (suc more) =
+    All-cons (λ (s : TeamState). IsTeamOf design.frame s) (opening_team design number) (opening_teams design (number + 1) more) (opened_team design number) (opened_teams design (number + 1) more)
 
 pub count_teams : (design : Loaded) (number more : ℕ) → length (opening_teams design number more) ≡ more
 count_teams design number zero = refl
 count_teams design number (suc more) = ap suc (count_teams design (number + 1) more)
 
-pub opening_whole : (design : Loaded) → (length (opening design).teams ≡ length design.frame.teams + 1) × All (λ s. IsTeamOf design.frame s) (opening design).teams
+pub opening_whole : (design : Loaded)
+    → (length (opening design).teams ≡ length design.frame.teams + 1) × All (λ s. IsTeamOf design.frame s) (opening design).teams
 opening_whole design = (count_teams design 0 (length design.frame.teams + 1), opened_teams design 0 (length design.frame.teams + 1))
 
 -- the team of each number
-pub opened_at : (design : Loaded) (from more : ℕ) (i : ℕ) (d : TeamState) → i < more → get_or (opening_teams design from more) i d ≡ opening_team design (from + i)
+pub opened_at : (design : Loaded) (from more : ℕ) (i : ℕ) (d : TeamState) → i < more
+    → get_or (opening_teams design from more) i d ≡ opening_team design (from + i)
 opened_at design from zero i d l = absurd (omega arith)
 opened_at design from (suc more) zero d l = ap (λ (n : ℕ). opening_team design n) (sym (add-zero from))
 opened_at design from (suc more) (suc i) d l =

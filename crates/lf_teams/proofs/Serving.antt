@@ -14,7 +14,8 @@ use Rattle.lf_teams.specs.States.{TeamState}
 use Rattle.lf_teams.specs.Steps.{ruled, answer_by, Gives, StaysShort, floor_of}
 
 -- whatever holds of the team before and of its outcome holds of the team afterwards
-pub kept_by : (P : TeamState → Type 0) (o : Outcome) (old new : TeamState) (result : Result Reply AllocError) → IfOk result (λ reply. Reaches o reply new) → OnErr result (RunsOut o old new) → P old → P o.team → P new
+pub kept_by : (P : TeamState → Type 0) (o : Outcome) (old new : TeamState) (result : Result Reply AllocError) → IfOk result (λ reply. Reaches o reply new)
+    → OnErr result (RunsOut o old new) → P old → P o.team → P new
 kept_by P o old new (Ok reply) ok err before after = subst P (sym ok.team_is) after
 kept_by P o old new (Err e) ok err before after = subst P (sym err.kept) before
 

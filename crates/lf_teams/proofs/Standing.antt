@@ -35,7 +35,8 @@ pub none_some : {X : Type 0} {x : X} → None ≡ Some x → ⊥
 none_some e = cc
 
 -- the cell of that position is a member there
-pub member_there : (cells : List Cell) (own : ℕ) (m : Member) → slice_get (map member_of cells) own ≡ Some m → (c : Cell) × (slice_get cells own ≡ Some c) × (member_of c ≡ m)
+pub member_there : (cells : List Cell) (own : ℕ) (m : Member) → slice_get (map member_of cells) own ≡ Some m
+    → (c : Cell) × (slice_get cells own ≡ Some c) × (member_of c ≡ m)
 member_there cells own m there = go (slice_get cells own) refl (sym (slice_get-map member_of cells own) ∙ there) where
   go : (o : Option Cell) → slice_get cells own ≡ o → option_map member_of o ≡ Some m → (c : Cell) × (slice_get cells own ≡ Some c) × (member_of c ≡ m)
   go None is e = absurd cc
@@ -45,9 +46,11 @@ pub member_is : (cells : List Cell) (own : ℕ) (c : Cell) → slice_get cells o
 member_is cells own c there = slice_get-map member_of cells own ∙ ap (λ (o : Option Cell). option_map member_of o) there
 
 -- a placed cell of that position
-pub working_is : (cells : List Cell) (own : ℕ) (place : Place) → working_at cells own ≡ Some place → (c : Cell) × (slice_get cells own ≡ Some c) × (c.working ≡ Some place)
+pub working_is : (cells : List Cell) (own : ℕ) (place : Place) → working_at cells own ≡ Some place
+    → (c : Cell) × (slice_get cells own ≡ Some c) × (c.working ≡ Some place)
 working_is cells own place e = go (slice_get cells own) refl e where
-  go : (o : Option Cell) → slice_get cells own ≡ o → option_and_then (λ (c : Cell). c.working) o ≡ Some place → (c : Cell) × (slice_get cells own ≡ Some c) × (c.working ≡ Some place)
+  go : (o : Option Cell) → slice_get cells own ≡ o → option_and_then (λ (c : Cell). c.working) o ≡ Some place
+      → (c : Cell) × (slice_get cells own ≡ Some c) × (c.working ≡ Some place)
   go None is e = absurd cc
   go (Some c) is e = (c, is, e)
 
@@ -63,7 +66,8 @@ there_within (c ∷ cs) (suc own) within = there_within cs own (omega (arith, wi
 pub named_there : (name : List ℕ) (cells : List Cell) (own : ℕ) → cell_named name cells ≡ Some own → (c : Cell) × (slice_get cells own ≡ Some c)
 named_there name cells own named = there_within cells own (position-Some (λ (c : Cell). bytes_eq c.name name) cells own no_cell named).0
 
-from_named : (name : List ℕ) (i : ℕ) (cells : List Cell) → position_from (λ (c : Cell). bytes_eq c.name name) i cells ≡ position_from (λ m. bytes_eq m name) i (map (λ (c : Cell). c.name) cells)
+from_named : (name : List ℕ) (i : ℕ) (cells : List Cell)
+    → position_from (λ (c : Cell). bytes_eq c.name name) i cells ≡ position_from (λ m. bytes_eq m name) i (map (λ (c : Cell). c.name) cells)
 from_named name i [] = refl
 from_named name i (c ∷ cs) = ap (λ (o : Option ℕ). cond (bytes_eq c.name name) (Some i) o) (from_named name (i + 1) cs)
 
@@ -97,7 +101,8 @@ place_is in_range c p sized legal =
 
 -- ---- standing at a legal place
 
-pub sized_at : (f : Frame) (cells : List Cell) (own : ℕ) (c : Cell) → All (λ c. IsSizedCell f c) cells → slice_get cells own ≡ Some c → IsSized f (macro_of f c.mac)
+pub sized_at : (f : Frame) (cells : List Cell) (own : ℕ) (c : Cell) → All (λ c. IsSizedCell f c) cells → slice_get cells own ≡ Some c
+    → IsSized f (macro_of f c.mac)
 sized_at f cells own c all there =
     subst (λ (d : Cell). IsSized f (macro_of f d.mac)) (get_or_from_slice_get cells own c c there) (all own c (slice_get_within cells own c there)).sized
 
@@ -117,7 +122,8 @@ unbroken t cells own c place there sized none =
     subst (λ (o : Option Broken). IsVerdict trial o) verdict (t.legalizer.finds_first_broken trial sized)
 
 -- a placed cell that breaks no rule where it stands
-pub stands_where : (t : Setting) (cells : List Cell) (own : ℕ) (place : Place) → All (λ c. IsSizedCell t.frame c) cells → working_at cells own ≡ Some place → broken_where t cells own ≡ None
+pub stands_where : (t : Setting) (cells : List Cell) (own : ℕ) (place : Place) → All (λ c. IsSizedCell t.frame c) cells → working_at cells own ≡ Some place
+    → broken_where t cells own ≡ None
     → StandsLegal t.frame t.number (map member_of cells) own
 stands_where t cells own place sized placed none =
     let found = working_is cells own place placed in
@@ -126,7 +132,8 @@ stands_where t cells own place sized placed none =
 
 -- ---- one cell that is moved
 
-pub moved_here : (cells : List Cell) (own : ℕ) (place : Option Place) (c : Cell) → slice_get cells own ≡ Some c → slice_get (moved cells own place) own ≡ Some (record c { working = place })
+pub moved_here : (cells : List Cell) (own : ℕ) (place : Option Place) (c : Cell) → slice_get cells own ≡ Some c
+    → slice_get (moved cells own place) own ≡ Some (record c { working = place })
 moved_here [] own place c there = absurd cc
 moved_here (d ∷ ds) zero place c there = ap (λ (x : Cell). Some (record x { working = place })) (some_one there)
 moved_here (d ∷ ds) (suc own) place c there = moved_here ds own place c there
@@ -145,11 +152,13 @@ own_dropped : (f : Frame) (own mac : ℕ) (place : Option Spot) (rest : List Pla
 own_dropped f own mac None rest = refl
 own_dropped f own mac (Some p) rest = rw (eq-eqb own own refl) refl
 
-kept_beside : (f : Frame) (own n mac : ℕ) (place : Option Spot) (a b : List Placed) → beside own a ≡ beside own b → beside own (with_box f n mac place a) ≡ beside own (with_box f n mac place b)
+kept_beside : (f : Frame) (own n mac : ℕ) (place : Option Spot) (a b : List Placed) → beside own a ≡ beside own b
+    → beside own (with_box f n mac place a) ≡ beside own (with_box f n mac place b)
 kept_beside f own n mac None a b same = same
 kept_beside f own n mac (Some p) a b same = rw same refl
 
-beside_from : (f : Frame) (cells : List Cell) (n k : ℕ) (place : Option Place) → beside (n + k) (boxes_from f n (map member_of (moved cells k place))) ≡ beside (n + k) (boxes_from f n (map member_of cells))
+beside_from : (f : Frame) (cells : List Cell) (n k : ℕ) (place : Option Place)
+    → beside (n + k) (boxes_from f n (map member_of (moved cells k place))) ≡ beside (n + k) (boxes_from f n (map member_of cells))
 beside_from f [] n k place = refl
 beside_from f (c ∷ cs) n zero place =
     let at : n + 0 ≡ n = omega arith in
@@ -160,13 +169,15 @@ beside_from f (c ∷ cs) n (suc k) place =
     rw at (kept_beside f (n + 1 + k) n c.mac (option_map spot_of c.working) (boxes_from f (n + 1) (map member_of (moved cs k place))) (boxes_from f (n + 1) (map member_of cs)) (beside_from f cs (n + 1) k place))
 
 -- the boxes beside a cell do not ask where it stands
-pub beside_moved : (f : Frame) (cells : List Cell) (own : ℕ) (place : Option Place) → boxes_beside f (map member_of (moved cells own place)) own ≡ boxes_beside f (map member_of cells) own
+pub beside_moved : (f : Frame) (cells : List Cell) (own : ℕ) (place : Option Place)
+    → boxes_beside f (map member_of (moved cells own place)) own ≡ boxes_beside f (map member_of cells) own
 beside_moved f cells own place =
     let at : 0 + own ≡ own = omega arith in
     rw at at (beside_from f cells 0 own place)
 
 -- a cell that goes to a legal place stands there
-pub stands_moved : (t : Setting) (cells : List Cell) (own : ℕ) (c : Cell) (place : Place) → slice_get cells own ≡ Some c → IsLegalAt (lifted_cell t cells own c) (spot_of place)
+pub stands_moved : (t : Setting) (cells : List Cell) (own : ℕ) (c : Cell) (place : Place) → slice_get cells own ≡ Some c
+    → IsLegalAt (lifted_cell t cells own c) (spot_of place)
     → StandsLegal t.frame t.number (map member_of (moved cells own (Some place))) own
 stands_moved t cells own c place there legal =
     let P : List Placed → Type 0 = λ others. IsLegalAt (record { frame = t.frame; team = t.number; mac = macro_of t.frame c.mac; others = others }) (spot_of place) in

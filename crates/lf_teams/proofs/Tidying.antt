@@ -29,7 +29,8 @@ use Rattle.lf_teams.proofs.Standing.{some_one, none_some, member_there, place_is
 abbrev macs : List Member → List ℕ
 macs members = map (λ (m : Member). m.mac) members
 
-set_macs : (cells : List Member) (own : ℕ) (m : Member) (place : Option Spot) → slice_get cells own ≡ Some m → macs (slice_set cells own (record { mac = m.mac; place = place })) ≡ macs cells
+set_macs : (cells : List Member) (own : ℕ) (m : Member) (place : Option Spot) → slice_get cells own ≡ Some m
+    → macs (slice_set cells own (record { mac = m.mac; place = place })) ≡ macs cells
 set_macs [] own m place there = refl
 set_macs (x ∷ xs) zero m place there = ap (λ (n : ℕ). n ∷ macs xs) (sym (ap (λ (y : Member). y.mac) (some_one there)))
 set_macs (x ∷ xs) (suc own) m place there = ap (λ (ns : List ℕ). x.mac ∷ ns) (set_macs xs own m place there)
@@ -38,15 +39,18 @@ abbrev SameMacs : List Member → Tidied → Type 0
 SameMacs cells (Going new moved) = macs new ≡ macs cells
 SameMacs cells (Stuck own) = Unit {0}
 
-sent_macs : (old cells : List Member) (found : Option Spot) (moved own : ℕ) (m : Member) → macs cells ≡ macs old → slice_get cells own ≡ Some m → SameMacs old (sent_to found cells moved own m.mac)
+sent_macs : (old cells : List Member) (found : Option Spot) (moved own : ℕ) (m : Member) → macs cells ≡ macs old → slice_get cells own ≡ Some m
+    → SameMacs old (sent_to found cells moved own m.mac)
 sent_macs old cells None moved own m same there = tt
 sent_macs old cells (Some p) moved own m same there = set_macs cells own m (Some p) there ∙ same
 
-aimed_macs : (l : Legalizer) (c : Lifted) (old cells : List Member) (target : Option Point) (moved own : ℕ) (m : Member) → macs cells ≡ macs old → slice_get cells own ≡ Some m → SameMacs old (tidied_to target l c cells moved own m.mac)
+aimed_macs : (l : Legalizer) (c : Lifted) (old cells : List Member) (target : Option Point) (moved own : ℕ) (m : Member) → macs cells ≡ macs old
+    → slice_get cells own ≡ Some m → SameMacs old (tidied_to target l c cells moved own m.mac)
 aimed_macs l c old cells None moved own m same there = same
 aimed_macs l c old cells (Some target) moved own m same there = sent_macs old cells (l.best_place c target) moved own m same there
 
-own_macs : (l : Legalizer) (f : Frame) (team : ℕ) (old cells : List Member) (moved own : ℕ) (o : Option Member) → macs cells ≡ macs old → slice_get cells own ≡ o → SameMacs old (tidied_own o l f team cells moved own)
+own_macs : (l : Legalizer) (f : Frame) (team : ℕ) (old cells : List Member) (moved own : ℕ) (o : Option Member) → macs cells ≡ macs old
+    → slice_get cells own ≡ o → SameMacs old (tidied_own o l f team cells moved own)
 own_macs l f team old cells moved own None same there = same
 own_macs l f team old cells moved own (Some m) same there =
     let c = lifted_from f team cells own m.mac in aimed_macs l c old cells (target_of l c m.place) moved own m same there
@@ -55,7 +59,8 @@ cell_macs : (l : Legalizer) (f : Frame) (team : ℕ) (old : List Member) (t : Ti
 cell_macs l f team old (Stuck stuck) own same = tt
 cell_macs l f team old (Going cells moved) own same = own_macs l f team old cells moved own (slice_get cells own) same refl
 
-from_macs : (l : Legalizer) (f : Frame) (team : ℕ) (old : List Member) (own count : ℕ) (t : Tidied) → SameMacs old t → SameMacs old (tidied_from l f team own count t)
+from_macs : (l : Legalizer) (f : Frame) (team : ℕ) (old : List Member) (own count : ℕ) (t : Tidied) → SameMacs old t
+    → SameMacs old (tidied_from l f team own count t)
 from_macs l f team old own zero t same = same
 from_macs l f team old own (suc count) t same = from_macs l f team old (own + 1) count (tidy_cell l f team t own) (cell_macs l f team old t own same)
 
@@ -82,7 +87,8 @@ placed_member c m mac at =
     same_member c.mac m.mac (option_map spot_of (option_and_then place_of_spot m.place)) m.place (sym mac) place
 
 -- where each cell stands at a place of the program, the team's cells are the tidied ones
-restored_members : (new : List Member) (cells : List Cell) → macs new ≡ macs (map member_of cells) → ((k : ℕ) (m : Member) → slice_get new k ≡ Some m → IsPlacedAt m)
+restored_members : (new : List Member) (cells : List Cell) → macs new ≡ macs (map member_of cells)
+    → ((k : ℕ) (m : Member) → slice_get new k ≡ Some m → IsPlacedAt m)
     → map member_of (restored (places_in new) cells) ≡ new
 restored_members [] [] same at = refl
 restored_members [] (c ∷ cs) same at = absurd cc
@@ -97,7 +103,8 @@ module _ (t : Setting) (cells : List Cell) (sized : All (λ c. IsSizedCell t.fra
   sized_members : All (λ m. IsSized t.frame (macro_of t.frame m.mac)) (map member_of cells)
   sized_members = All-map (λ (m : Member). IsSized t.frame (macro_of t.frame m.mac)) member_of cells (λ i d within. (sized i d within).sized)
 
-  mac_there : (new : List Member) (k : ℕ) (m : Member) → macs new ≡ macs (map member_of cells) → slice_get new k ≡ Some m → IsSized t.frame (macro_of t.frame m.mac)
+  mac_there : (new : List Member) (k : ℕ) (m : Member) → macs new ≡ macs (map member_of cells) → slice_get new k ≡ Some m
+      → IsSized t.frame (macro_of t.frame m.mac)
   mac_there new k m same there = go (slice_get cells k) refl where
     old : option_map (λ (x : Member). x.mac) (slice_get (map member_of cells) k) ≡ Some m.mac
     old =
@@ -130,7 +137,8 @@ module _ (t : Setting) (cells : List Cell) (sized : All (λ c. IsSizedCell t.fra
       subst (λ (ms : List Member). StandsLegal t.frame t.number ms own) (sym (restored_members new cells same at)) (legal own)
 
   -- the place that is found for a cell is its best place, and none is found only where none is team-legal
-  pub best_choice : (own : ℕ) (c : Cell) (target : Point) → slice_get cells own ≡ Some c → IsChoice (lifted_cell t cells own c) target (option_map spot_of (best_at t cells own target))
+  pub best_choice : (own : ℕ) (c : Cell) (target : Point) → slice_get cells own ≡ Some c
+      → IsChoice (lifted_cell t cells own c) target (option_map spot_of (best_at t cells own target))
   best_choice own c target there =
       subst (λ (o : Option Place). IsChoice lifted target (option_map spot_of o)) (sym found) (by (t.legalizer.best_place lifted target) (t.legalizer.finds_best_place lifted target whole))
     where
@@ -141,7 +149,8 @@ module _ (t : Setting) (cells : List Cell) (sized : All (λ c. IsSizedCell t.fra
       whole = sized_at t.frame cells own c sized there
 
       found : best_at t cells own target ≡ option_and_then place_of_spot (t.legalizer.best_place lifted target)
-      found = ap (λ (o : Option Cell). option_and_then (λ (d : Cell). option_and_then place_of_spot (t.legalizer.best_place (lifted_cell t cells own d) target)) o) there
+      found =
+          ap (λ (o : Option Cell). option_and_then (λ (d : Cell). option_and_then place_of_spot (t.legalizer.best_place (lifted_cell t cells own d) target)) o) there
 
       by : (o : Option Spot) → IsChoice lifted target o → IsChoice lifted target (option_map spot_of (option_and_then place_of_spot o))
       by None choice = choice
@@ -150,7 +159,8 @@ module _ (t : Setting) (cells : List Cell) (sized : All (λ c. IsSizedCell t.fra
           subst (λ (q : Option Spot). IsChoice lifted target q) (sym (ap (λ (q : Option Place). option_map spot_of q) place.1 ∙ ap (λ (s : Spot). Some s) place.2)) choice
 
   -- the place that is found is team-legal
-  pub best_legal : (own : ℕ) (c : Cell) (target : Point) (place : Place) → slice_get cells own ≡ Some c → best_at t cells own target ≡ Some place → IsLegalAt (lifted_cell t cells own c) (spot_of place)
+  pub best_legal : (own : ℕ) (c : Cell) (target : Point) (place : Place) → slice_get cells own ≡ Some c → best_at t cells own target ≡ Some place
+      → IsLegalAt (lifted_cell t cells own c) (spot_of place)
   best_legal own c target place there is =
       let choice = subst (λ (o : Option Place). IsChoice (lifted_cell t cells own c) target (option_map spot_of o)) is (best_choice own c target there) in
       choice.legal
@@ -171,10 +181,11 @@ none_first i (d ∷ ds) none k c there = go (is_none d.working) refl none (λ re
 
 -- where no cell is the first unplaced one, each is placed
 each_placed : (cells : List Cell) → first_unplaced cells ≡ None → (k : ℕ) (c : Cell) → slice_get cells k ≡ Some c → (place : Place) × (c.working ≡ Some place)
-each_placed cells none k c there = go c.working refl (none_first 0 cells (sym (position_from-zero (λ (c : Cell). is_none c.working) cells) ∙ none) k c there) where
-  go : (o : Option Place) → c.working ≡ o → is_none o ≡ false → (place : Place) × (c.working ≡ Some place)
-  go None is e = absurd cc
-  go (Some place) is e = (place, is)
+each_placed cells none k c there =
+    go c.working refl (none_first 0 cells (sym (position_from-zero (λ (c : Cell). is_none c.working) cells) ∙ none) k c there) where
+      go : (o : Option Place) → c.working ≡ o → is_none o ≡ false → (place : Place) × (c.working ≡ Some place)
+      go None is e = absurd cc
+      go (Some place) is e = (place, is)
 
 no_cons : {Y : Type 0} (o : Option Y) (ys : List Y) → cons_option o ys ≡ [] → (o ≡ None) × (ys ≡ [])
 no_cons None ys e = (refl, e)
@@ -212,7 +223,8 @@ pub committed_stand : (t : Setting) (cells : List Cell) → All (λ c. IsSizedCe
 committed_stand t cells sized placed unbroken own =
     subst (λ (ms : List Member). StandsLegal t.frame t.number ms own) (sym (committed_members cells)) (λ m there. one m there (member_there cells own m there))
   where
-    one : (m : Member) → slice_get (map member_of cells) own ≡ Some m → ((c : Cell) × (slice_get cells own ≡ Some c) × (member_of c ≡ m)) → MatchOption m.place ⊥ (λ p. IsLegalAt (lifted_from t.frame t.number (map member_of cells) own m.mac) p)
+    one : (m : Member) → slice_get (map member_of cells) own ≡ Some m → ((c : Cell) × (slice_get cells own ≡ Some c) × (member_of c ≡ m))
+        → MatchOption m.place ⊥ (λ p. IsLegalAt (lifted_from t.frame t.number (map member_of cells) own m.mac) p)
     one m there found =
         let at = each_placed cells placed own found.0 found.1 in
         let works : working_at cells own ≡ Some at.0 = ap (λ (o : Option Cell). option_and_then (λ (c : Cell). c.working) o) found.1 ∙ at.1 in

@@ -31,7 +31,8 @@ IsChange _ = ⊥
 
 -- ---- a session that may change
 
-slot_is : (t : Setting) (session : ℕ) (change : Change (List ℕ) Place) (s : TeamState) (o : Option ℕ) → o ≡ Some s.revision → s.revision < t.frame.limits.revisions
+slot_is : (t : Setting) (session : ℕ) (change : Change (List ℕ) Place) (s : TeamState) (o : Option ℕ) → o ≡ Some s.revision
+    → s.revision < t.frame.limits.revisions
     → outcome_by_slot o t session (Changing change) s ≡ outcome_of_change t session change s
 slot_is t session change s None seen left = absurd cc
 slot_is t session change s (Some n) seen left =
@@ -47,7 +48,8 @@ pub may_is : (t : Setting) (session : ℕ) (change : Change (List ℕ) Place) (s
     → outcome_of_asking t session change s ≡ outcome_of_change t session change s
 may_is t session change s may = slot_is t session change s (seen_at s.slots session) may.seen may.left
 
-pub stuck_is : (t : Setting) (session stuck : ℕ) (s : TeamState) → MayChange t session s → tidied t.legalizer t.frame t.number (map member_of s.cells) ≡ Stuck stuck
+pub stuck_is : (t : Setting) (session stuck : ℕ) (s : TeamState) → MayChange t session s
+    → tidied t.legalizer t.frame t.number (map member_of s.cells) ≡ Stuck stuck
     → outcome_of_asking t session Tidy s ≡ refused (NoPlace stuck) s
 unfolding tidied_team
 stuck_is t session stuck s may is = may_is t session Tidy s may ∙ ap (λ (d : Tidied). tidied_by d t session s) is
@@ -84,7 +86,8 @@ refused_records t s (Within session (Where name)) r = tt
 refused_records t s (Within session (Find name target)) r = tt
 refused_records t s (Within session (Changing change)) r = λ recorded denied. absurd (false_true denied)
 
-records : (t : Setting) (session : ℕ) (s : TeamState) (cells : List Cell) → map (λ c. c.mac) cells ≡ map (λ c. c.mac) s.cells → IsRecorded t s (recorded t session cells s).team
+records : (t : Setting) (session : ℕ) (s : TeamState) (cells : List Cell) → map (λ c. c.mac) cells ≡ map (λ c. c.mac) s.cells
+    → IsRecorded t s (recorded t session cells s).team
 records t session s cells same = record { entries = refl; many = same_length s.cells cells same }
 
 pub change_recorded : (t : Setting) (verb : Order (List ℕ) Place) (s : TeamState) → Records t s verb (outcome_of t verb s)
@@ -100,7 +103,8 @@ change_recorded t verb s = verb_by t s (λ v o. Records t s v o) record {
   legalizes = λ session own name target place may named e is accepted. records t session s _ (moved_part (λ c. c.mac) (λ c p. refl) s.cells own (Some place));
   tidies = λ session count members may e is accepted. records t session s _ (restored_part (λ c. c.mac) (λ c p. refl) (places_in members) s.cells);
   unplaces = λ session own name may named is accepted. records t session s _ (moved_part (λ c. c.mac) (λ c p. refl) s.cells own None);
-  swaps = λ session first second name other p q may named named' at at' e e' is accepted. records t session s _ (exchanged_part (λ c. c.mac) (λ c p. refl) s.cells first second);
+  swaps =
+      λ session first second name other p q may named named' at at' e e' is accepted. records t session s _ (exchanged_part (λ c. c.mac) (λ c p. refl) s.cells first second);
   undoes = λ session old entries may e is. absurd (false_true is);
   commits = λ session may u b is. absurd (false_true is);
   reverts = λ session may is accepted. records t session s _ (back_part (λ c. c.mac) (λ c p. refl) s.cells);
@@ -114,7 +118,8 @@ undone_leads t other s new is =
     let P : List (List (Option Place)) → Type 0 = λ e. Leads (undone_by e other new) (places_of s.cells) in
     subst P (sym entries) record { told = refl; places_are = restored_places s.cells new.cells is.many }
 
-pub undo_leads : (t : Setting) (session other : ℕ) (change : Change (List ℕ) Place) (s : TeamState) → is_recorded change ≡ true → is_accepted (outcome_of_asking t session change s) ≡ true
+pub undo_leads : (t : Setting) (session other : ℕ) (change : Change (List ℕ) Place) (s : TeamState) → is_recorded change ≡ true
+    → is_accepted (outcome_of_asking t session change s) ≡ true
     → MayChange t other (outcome_of_asking t session change s).team → Leads (outcome_of_asking t other Undo (outcome_of_asking t session change s).team) (places_of s.cells)
 undo_leads t session other change s is accepted may =
     let after = (outcome_of_asking t session change s).team in

@@ -87,7 +87,8 @@ module _ (cells : List Cell) (first second : ℕ) (p q : Place) (at_first : work
 
 module _ (t : Setting) (s : TeamState) (known : IsTeamOf t.frame s) (in_range : LegalInRange) where
   sized_like : (cells : List Cell) → map (λ c. c.mac) cells ≡ map (λ c. c.mac) s.cells → All (λ c. IsSizedCell t.frame c) cells
-  sized_like cells macs i d within = sized_as t.frame (get_or s.cells i d) (get_or cells i d) (mac_at s.cells cells macs i d) (known.sized i d (rw (same_length s.cells cells macs) at within))
+  sized_like cells macs i d within =
+      sized_as t.frame (get_or s.cells i d) (get_or cells i d) (mac_at s.cells cells macs i d) (known.sized i d (rw (same_length s.cells cells macs) at within))
 
   placed_legal : (own : ℕ) (name : List ℕ) (place : Place) → cell_named name s.cells ≡ Some own → broken_at t s.cells own place ≡ None
       → (team : TeamState) → team.cells ≡ moved s.cells own (Some place) → HasLegal t name team
@@ -96,8 +97,11 @@ module _ (t : Setting) (s : TeamState) (known : IsTeamOf t.frame s) (in_range : 
       let legal = unbroken t s.cells own found.0 place found.1 (sized_at t.frame s.cells own found.0 known.sized found.1) none in
       record {
         own = own;
-        named = ap (cell_named name) is ∙ named_alike name s.cells (moved s.cells own (Some place)) (moved_part (λ c. c.name) (λ c p. refl) s.cells own (Some place)) ∙ named;
-        legal = subst (λ (cs : List Cell). StandsLegal t.frame t.number (map member_of cs) own) (sym is) (stands_moved t s.cells own found.0 place found.1 legal);
+        named =
+            ap (cell_named name) is
+            ∙ named_alike name s.cells (moved s.cells own (Some place)) (moved_part (λ c. c.name) (λ c p. refl) s.cells own (Some place)) ∙ named;
+        legal =
+            subst (λ (cs : List Cell). StandsLegal t.frame t.number (map member_of cs) own) (sym is) (stands_moved t s.cells own found.0 place found.1 legal);
       }
 
   legalized_legal : (own : ℕ) (name : List ℕ) (target : Point) (place : Place) → cell_named name s.cells ≡ Some own → best_at t s.cells own target ≡ Some place
@@ -106,15 +110,21 @@ module _ (t : Setting) (s : TeamState) (known : IsTeamOf t.frame s) (in_range : 
       let found = named_there name s.cells own named in
       record {
         own = own;
-        named = ap (cell_named name) is ∙ named_alike name s.cells (moved s.cells own (Some place)) (moved_part (λ c. c.name) (λ c p. refl) s.cells own (Some place)) ∙ named;
-        legal = subst (λ (cs : List Cell). StandsLegal t.frame t.number (map member_of cs) own) (sym is) (stands_moved t s.cells own found.0 place found.1 (best_legal t s.cells known.sized in_range own found.0 target place found.1 best));
+        named =
+            ap (cell_named name) is
+            ∙ named_alike name s.cells (moved s.cells own (Some place)) (moved_part (λ c. c.name) (λ c p. refl) s.cells own (Some place)) ∙ named;
+        legal =
+            subst (λ (cs : List Cell). StandsLegal t.frame t.number (map member_of cs) own) (sym is) (stands_moved t s.cells own found.0 place found.1 (best_legal t s.cells known.sized in_range own found.0 target place found.1 best));
       }
 
-  exchanged_legal : (first second own : ℕ) (name : List ℕ) (place : Place) → cell_named name s.cells ≡ Some own → working_at (exchanged s.cells first second) own ≡ Some place
+  exchanged_legal : (first second own : ℕ) (name : List ℕ) (place : Place) → cell_named name s.cells ≡ Some own
+      → working_at (exchanged s.cells first second) own ≡ Some place
       → broken_where t (exchanged s.cells first second) own ≡ None → (team : TeamState) → team.cells ≡ exchanged s.cells first second → HasLegal t name team
   exchanged_legal first second own name place named stands none team is = record {
     own = own;
-    named = ap (cell_named name) is ∙ named_alike name s.cells (exchanged s.cells first second) (exchanged_part (λ c. c.name) (λ c p. refl) s.cells first second) ∙ named;
+    named =
+        ap (cell_named name) is
+        ∙ named_alike name s.cells (exchanged s.cells first second) (exchanged_part (λ c. c.name) (λ c p. refl) s.cells first second) ∙ named;
     legal = subst (λ (cs : List Cell). StandsLegal t.frame t.number (map member_of cs) own) (sym is)
         (stands_where t (exchanged s.cells first second) own place (sized_like (exchanged s.cells first second) (exchanged_part (λ c. c.mac) (λ c p. refl) s.cells first second)) stands none);
   }

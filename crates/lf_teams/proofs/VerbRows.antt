@@ -76,7 +76,8 @@ tidy_commit_row t p q r room is none =
 
 pub commit_row : CommitRow
 unfolding committed unplaced reverted located
-commit_row t p q r room none = rw (left t 1 room (omega arith), none, left t 2 room (omega arith), left t 3 room (omega arith), left t 3 room (omega arith)) refl
+commit_row t p q r room none =
+    rw (left t 1 room (omega arith), none, left t 2 room (omega arith), left t 3 room (omega arith), left t 3 room (omega arith)) refl
 
 pub refused_row : RefusedRow
 unfolding committed placed swapped

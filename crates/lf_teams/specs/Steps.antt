@@ -61,7 +61,7 @@ answer_of l floor (To team order) = answer_at (team_number floor.frame team) l f
 
 -- ---- a step
 
--- the commands that take no memory, so that OutOfMemory is never told: bye, open, close, sync and where
+-- the commands that take no memory, so that OutOfMemory is never told: bye, open, close, sync, where and undo
 abbrev pub TakesNone : Command (List ℕ) Place → Type 0
 TakesNone Bye = Unit {0}
 TakesNone (To team order) = takes_memory order ≡ false

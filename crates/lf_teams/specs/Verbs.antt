@@ -64,10 +64,11 @@ outcome_of t (Within session verb) s = outcome_by_slot (seen_at s.slots session)
 
 -- ---- memory
 
--- the orders that may take memory: all but open, close, sync and where
+-- the orders that may take memory: all but open, close, sync, where and undo
 abbrev pub takes_memory : Order (List ℕ) Place → Bool
 takes_memory Open = false
 takes_memory (Within session Close) = false
 takes_memory (Within session Sync) = false
 takes_memory (Within session (Where name)) = false
+takes_memory (Within session (Changing Undo)) = false
 takes_memory _ = true

@@ -85,7 +85,8 @@ module _ {T A : Type 0} where
       (last.link, last.found)
 
   -- a change of a team's chain, by what a contract sees before it
-  told : {inside : Inside T A} {now : Stacks T} {team : ℕ} {c : Chain} → IsTeam inside now team c → (later : Slab (Link T)) (after : List Chain) (f : List T → List T) →
+  told : {inside : Inside T A} {now : Stacks T} {team : ℕ} {c : Chain} → IsTeam inside now team c
+      → (later : Slab (Link T)) (after : List Chain) (f : List T → List T) →
       Become later after inside.limit (set (map (chain_values inside.links) inside.chains.items) team (f (chain_values inside.links c))) →
       Become later after inside.limit (set now.lists team (f (stack_of now team)))
   told {inside} {now} {team} {c} t later after f become =
@@ -93,7 +94,8 @@ module _ {T A : Type 0} where
       (ap (λ (ls : List (List T)). set ls team (f (chain_values inside.links c))) t.shown ∙ ap (λ (xs : List T). set now.lists team (f xs)) (sym t.stack))
       become
 
-  pub newest_gone : {inside : Inside T A} {now : Stacks T} {team : ℕ} {c : Chain} → IsTeam inside now team c → (later : Slab (Link T)) (link : Link T) → 0 < c.depth →
+  pub newest_gone : {inside : Inside T A} {now : Stacks T} {team : ℕ} {c : Chain} → IsTeam inside now team c → (later : Slab (Link T)) (link : Link T)
+      → 0 < c.depth →
       get inside.links c.newest ≡ Some link → Updates inside.links later c.newest None →
       Become later (set inside.chains.items team (record { newest = link.older; depth = c.depth - 1 })) inside.limit
       (set now.lists team (drop 1 (stack_of now team)))

@@ -9,4 +9,5 @@ pub returns-then-not-is_outside-clause-found : goal.returns-then-not-is_outside-
 returns-then-not-is_outside-clause-found c = unknown_is c.args.frame.now c.args.name.now c.in-None.ensures.found (sym c.if-not-is_outside.ensures)
 
 pub returns-else-not-is_outside-clause-found : goal.returns-else-not-is_outside-clause-found
-returns-else-not-is_outside-clause-found c = rw c.len.ensures (outside_is c.args.frame.now c.args.name.now c.in-None.ensures.found (sym c.if-not-is_outside.ensures))
+returns-else-not-is_outside-clause-found c =
+    rw c.len.ensures (outside_is c.args.frame.now c.args.name.now c.in-None.ensures.found (sym c.if-not-is_outside.ensures))

@@ -14,7 +14,8 @@ invariant-loop-own g l = record {
       → tidied_from j l.around.frame.now l.around.number l.own (l.own-end - l.own) (Going (map member_of (cells_of l.cells l.around.number)) l.moved)
       ≡ tidied j l.around.frame.now l.around.number (map member_of (cells_of l.initial.cells l.around.number));
   same : SameButPlaces (cells_of l.initial.cells l.around.number) (cells_of l.cells l.around.number);
-  moved : (before : List Cell) → HaveMoved before l.initial.moves (cells_of l.initial.cells l.around.number) → HaveMoved before l.moves (cells_of l.cells l.around.number);
+  moved : (before : List Cell) → HaveMoved before l.initial.moves (cells_of l.initial.cells l.around.number)
+      → HaveMoved before l.moves (cells_of l.cells l.around.number);
   others : OtherCellsStay l.around.number l.initial.cells l.cells;
   few : l.moved ≤ l.own;
 }

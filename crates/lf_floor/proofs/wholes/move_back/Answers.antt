@@ -23,7 +23,8 @@ loop-own-preserved c =
       back = (c.in_ok-move_one_back.ensures {u = tt}).own
           ∙ ap (λ (cs : List Cell). moved cs own (committed_at cs own)) c.loop-own.invariant.back ∙ one_more_back own first;
       moved = λ before have. c.move_one_back.ensures.moved before (c.loop-own.invariant.moved before have);
-      others = cells_through c.args.number c.args.cells.now c.loop-own.cells c.move_one_back.new.cells c.loop-own.invariant.others c.move_one_back.ensures.others;
+      others =
+          cells_through c.args.number c.args.cells.now c.loop-own.cells c.move_one_back.new.cells c.loop-own.invariant.others c.move_one_back.ensures.others;
     }
 
 pub returns-clause-own : goal.returns-clause-own

@@ -7,7 +7,8 @@ use Rattle.lf_floor.proofs.floor.Floor.run.Goals as goal
 
 pub loop-i-preserved : goal.loop-i-preserved
 loop-i-preserved g c = record {
-  run = λ l rest new later. rw c.push_within.ensures.items (run_more l c.args.self.now c.loop-i.self c.step-reply.new.self c.args.requests.now c.loop-i.replies.items c.loop-i.i (command_of c.in-Some.request) c.step-reply.result (c.loop-i.invariant.run l) (sym c.in-Some.ensures) (c.step-reply.ensures.step l) rest new later);
+  run =
+      λ l rest new later. rw c.push_within.ensures.items (run_more l c.args.self.now c.loop-i.self c.step-reply.new.self c.args.requests.now c.loop-i.replies.items c.loop-i.i (command_of c.in-Some.request) c.step-reply.result (c.loop-i.invariant.run l) (sym c.in-Some.ensures) (c.step-reply.ensures.step l) rest new later);
   count = omega arith;
   room = omega arith;
 }

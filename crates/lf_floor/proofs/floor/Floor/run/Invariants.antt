@@ -9,7 +9,8 @@ use Rattle.lf_floor.proofs.floor.Floor.run.Given as goal
 -- whatever run goes on from here makes, with the replies so far, a run from the start
 abbrev pub invariant-loop-i : goal.invariant-loop-i
 invariant-loop-i g l = record {
-  run : (j : Legalizer) (rest : List Reply) (new : FloorState) → Run j l.self (drop l.i l.requests) rest new → Run j l.fn.self l.requests (l.replies.items ++ rest) new;
+  run : (j : Legalizer) (rest : List Reply) (new : FloorState) → Run j l.self (drop l.i l.requests) rest new
+      → Run j l.fn.self l.requests (l.replies.items ++ rest) new;
   count : vec_len l.replies ≡ l.i;
   room : length l.requests ≤ vec_capacity l.replies;
 }
