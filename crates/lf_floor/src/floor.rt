@@ -202,7 +202,8 @@ impl<S: Seeker + Drop> Floor<S> {
     /// team changes.
     ///
     /// `NoTeam` comes before any refusal of a team. `OutOfMemory` stands only in the place of an
-    /// accepted change, a broken rule, a best place, the want of one, or a report. A refusal leaves
+    /// accepted change, a broken rule, a best place, the want of one, or a report, and never in that of
+    /// an undo. A refusal leaves
     /// the whole floor as it was; after an accepted place or legalize the cell is team-legal, after
     /// a swap both cells are, and after a tidy or a commit every cell of the team. A committed design
     /// that is fully legal stays so, whatever is asked.
