@@ -97,19 +97,49 @@ fn name_in<'a>(floor: &'a Floor<PlainSeeker>, reply: &Reply) -> &'a [u8] {
     }
 }
 
-/// Whether the replies to A are the ones expected, where the lines are run over the design of this DEF text.
-fn replies_are(alloc: Global, def: &[u8], lines: &[&[u8]]) -> Result<bool, Fail> {
-    let mut floor = floor_of(alloc, def)?;
-    let requests = requests_of(alloc, lines)?;
-    let replies = floor.run(&requests)?;
-    let mut text = Vec::new(alloc);
+/// Puts the text of the replies to A behind the others.
+fn put_replies(
+    floor: &Floor<PlainSeeker>,
+    requests: &RequestList,
+    replies: &[Reply],
+    text: &mut Vec<u8>,
+) -> Result<(), AllocError> {
     for (i, reply) in replies.iter().enumerate() {
-        let request = requests.request(i).ok_or("a request for the reply")?;
-        if is_to(&request, b"A") {
-            reply_text(reply, name_in(&floor, reply), b"", &mut text)?;
+        if requests
+            .request(i)
+            .is_some_and(|request| is_to(&request, b"A"))
+        {
+            reply_text(reply, name_in(floor, reply), b"", text)?;
         }
     }
-    Ok(text.as_slice() == REPLIES_TO_A)
+    Ok(())
+}
+
+/// The text of the replies to A, where the requests are run.
+fn ran(
+    alloc: Global,
+    floor: &mut Floor<PlainSeeker>,
+    requests: &RequestList,
+) -> Result<Vec<u8>, AllocError> {
+    let replies = floor.run(requests)?;
+    let mut text = Vec::new(alloc);
+    put_replies(floor, requests, &replies, &mut text)?;
+    Ok(text)
+}
+
+/// Whether the replies to A are the ones expected, where the requests are run on the floor.
+fn runs(
+    alloc: Global,
+    mut floor: Floor<PlainSeeker>,
+    requests: &RequestList,
+) -> Result<bool, AllocError> {
+    Ok(ran(alloc, &mut floor, requests)?.as_slice() == REPLIES_TO_A)
+}
+
+/// Whether the replies to A are the ones expected, where the lines are run over the design of this DEF text.
+fn replies_are(alloc: Global, def: &[u8], lines: &[&[u8]]) -> Result<bool, Fail> {
+    let requests = requests_of(alloc, lines)?;
+    Ok(runs(alloc, floor_of(alloc, def)?, &requests)?)
 }
 
 #[test]
