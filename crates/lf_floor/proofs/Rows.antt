@@ -1,6 +1,6 @@
 -- The teams of a floor, whose parts stand in tables of all teams.
 use Rattle.std.proofs.Common.{◌≡◌, ◌≢◌, ◌<◌, ℕ, ◌+◌, List, [], length, map, set, get_or, Option, Some, None, ⊎_elim, refl, ap, sym, ◌∙◌, zero-add, subst}
-use Rattle.std.specs.Prelude.{slice_get, slice_set, slice_index_or, replicate, option_and_then, All}
+use Rattle.std.specs.Prelude.{◌↔◌, slice_get, slice_set, slice_index_or, replicate, option_and_then, All}
 use Rattle.std.specs.List.{range_with_len}
 use Rattle.std.proofs.lemmas.List.{length-set, length-replicate, get_or-replicate, get_or-set_same, get_or-set_other}
 use Rattle.std.proofs.lemmas.List.FromFn.{length-map-range_with_len, get_or-map-range_with_len, fill_by_all}
@@ -19,7 +19,10 @@ use Rattle.lf_teams.specs.Outcomes.{places_of}
 use Rattle.lf_teams.specs.States.{TeamState, FloorState}
 use Rattle.lf_teams.specs.Steps.{floor_of}
 use Rattle.lf_teams.specs.Teams.{team_number, state_at, state_of, IsTeamOf}
-use Rattle.lf_teams.specs.Designs.{opening_team, opening_teams}
+use Rattle.lf_rules.specs.FullyLegal.{IsFullyLegal}
+use Rattle.lf_teams.specs.Committed.{IsCommittedLegal, StandAsLoaded, loaded_design}
+use Rattle.lf_teams.specs.Designs.{opening, opening_team, opening_teams}
+use Rattle.lf_teams.proofs.Loading.{loaded_committed, loaded_places}
 use Rattle.lf_teams.proofs.Openings.{opened_at, opening_whole}
 use Rattle.lf_floor.specs.declared.tables.Tables.{Tables}
 use Rattle.lf_floor.specs.Tables.{AreOpening, AreTablesOf, IsServed, OtherCellsStay, OthersStay, own_team, revision_of, team_with, teams_in}
@@ -166,3 +169,12 @@ module _ (design : Loaded) (tables : Tables) (opens : AreOpening design tables) 
     revisions = revisions_are;
     limit = opens.limit;
   }
+
+  opened_floor : floor_of design.frame (teams_in tables) ≡ opening design
+  opened_floor = ap (floor_of design.frame) opened_teams
+
+  pub opened_as_loaded : StandAsLoaded design (floor_of design.frame (teams_in tables))
+  opened_as_loaded = subst (λ (f : FloorState). StandAsLoaded design f) (sym opened_floor) (loaded_places design)
+
+  pub opened_legal : IsCommittedLegal (floor_of design.frame (teams_in tables)) ↔ IsFullyLegal design.frame (loaded_design design)
+  opened_legal = subst (λ (f : FloorState). IsCommittedLegal f ↔ IsFullyLegal design.frame (loaded_design design)) (sym opened_floor) (loaded_committed design)

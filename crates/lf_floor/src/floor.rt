@@ -1,10 +1,11 @@
 //! The floor of all teams.
 
-ghost use Rattle.std.specs.Prelude.{◌≡◌, ◌<◌, ◌≤◌, ◌+◌, ◌++◌, ◌∷◌, [], bytes_eq, position, ℕ, List, All};
+ghost use Rattle.std.specs.Prelude.{◌≡◌, ◌↔◌, ◌<◌, ◌≤◌, ◌+◌, ◌++◌, ◌∷◌, [], bytes_eq, position, ℕ, List, All};
 ghost use Rattle.std.specs.Prelude.{IfOk, IfSome, OnOk, OnErr, Some, option_and_then, option_map, replicate, true, length, vec_len, vec_capacity};
 ghost use Rattle.lf_floorplan.specs.Bounds.{IsName};
 ghost use Rattle.lf_floorplan.specs.Fences.{ground_name};
 ghost use Rattle.lf_rules.specs.Legalizer.{Legalizer};
+ghost use Rattle.lf_rules.specs.FullyLegal.{IsFullyLegal};
 ghost use Rattle.lf_proto.specs.Commands.{command_of, order_of};
 ghost use Rattle.lf_teams.specs.States.{TeamState};
 ghost use Rattle.lf_floor.specs.Tables.{AreTablesOf, teams_in};
@@ -14,7 +15,7 @@ ghost use Rattle.lf_cells.specs.Cells.{working_at};
 ghost use Rattle.lf_teams.specs.Verbs.{takes_memory};
 ghost use Rattle.lf_teams.specs.Designs.{opening};
 ghost use Rattle.lf_teams.specs.Runs.{Run, IsIsolated};
-ghost use Rattle.lf_teams.specs.Committed.{IsCommittedLegal};
+ghost use Rattle.lf_teams.specs.Committed.{IsCommittedLegal, StandAsLoaded, loaded_design};
 ghost use Rattle.lf_teams.specs.CommittedRuns.{CommitsMakeLegal, EachTidiedCommits, LegalRun};
 ghost use Rattle.lf_teams.specs.Steps.{Answers, CommitsLegally, Gives, KeepsIfRefused, LegalizesLegally, PlacesLegally, SwapsLegally, TidiesLegally};
 ghost use Rattle.lf_teams.specs.Steps.{StaysShort, RunsShort, Step, IsTo, answer_at, floor_of};
@@ -132,7 +133,9 @@ impl<S: Drop> Floor<S> {
     ///
     /// `Err` where memory is refused; the design and the seeker are then gone.
     pub fn start(alloc: Global, loaded: Loaded, seeker: S) -> Result<Floor<S>, AllocError>
-        ensures { IfOk result (λ floor. floor ≡ opening loaded) }
+        ensures opens { IfOk result (λ floor. floor ≡ opening loaded) }
+        ensures committed { IfOk result (λ floor. StandAsLoaded loaded floor) }
+        ensures legal { IfOk result (λ floor. IsCommittedLegal floor ↔ IsFullyLegal loaded.frame (loaded_design loaded)) }
     {
         let tables = Tables::opening(alloc, &loaded)?;
         let Loaded { frame, cells: _ } = loaded;

@@ -67,12 +67,15 @@ pub record StandAt (s : TeamState) (places : List (Option Place)) : Type 0 where
   pub working : places_of s.cells ≡ places
   pub committed : committed_places s ≡ places
 
--- each team begins with its cells at their places in the DEF text, in loading order, and has committed them there
-abbrev pub LoadedPlacesAreCommitted : Type 0
-LoadedPlacesAreCommitted =
-    (design : Loaded) (team : List ℕ) (number : ℕ) (s : TeamState) →
-    team_number design.frame team ≡ Some number → state_of (opening design) team ≡ Some s →
+-- each team's cells are at their places in the DEF text, in loading order, and are committed there
+abbrev pub StandAsLoaded : Loaded → FloorState → Type 0
+StandAsLoaded design floor =
+    (team : List ℕ) (number : ℕ) (s : TeamState) → team_number design.frame team ≡ Some number → state_of floor team ≡ Some s →
     StandAt s (map (λ c. c.place) (filter (λ c. c.team == number) design.cells))
+
+-- so they begin
+abbrev pub LoadedPlacesAreCommitted : Type 0
+LoadedPlacesAreCommitted = (design : Loaded) → StandAsLoaded design (opening design)
 
 -- ---- orders
 

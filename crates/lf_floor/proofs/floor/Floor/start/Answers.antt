@@ -4,7 +4,7 @@ use Rattle.lf_teams.specs.States.{TeamState}
 use Rattle.lf_teams.specs.Steps.{floor_of}
 use Rattle.lf_teams.specs.Teams.{IsTeamOf}
 use Rattle.lf_teams.proofs.Openings.{opening_whole}
-use Rattle.lf_floor.proofs.Rows.{opened_tables, opened_teams}
+use Rattle.lf_floor.proofs.Rows.{opened_as_loaded, opened_legal, opened_tables, opened_teams}
 use Rattle.lf_floor.proofs.floor.Floor.start.Goals as goal
 
 pub invariant_of-result : goal.invariant_of-result
@@ -15,5 +15,11 @@ invariant_of-result g c =
       subst (λ (ts : List TeamState). All (λ t. IsTeamOf design.frame t) ts) (sym (opened_teams design c.in_ok-tables.tables opens)) (opening_whole design).1,
     )
 
-pub returns : goal.returns
-returns g c = ap (floor_of c.args.loaded.frame) (opened_teams c.args.loaded c.in_ok-tables.tables (c.in_ok-tables.ensures {u = tt}))
+pub returns-clause-opens : goal.returns-clause-opens
+returns-clause-opens g c = ap (floor_of c.args.loaded.frame) (opened_teams c.args.loaded c.in_ok-tables.tables (c.in_ok-tables.ensures {u = tt}))
+
+pub returns-clause-committed : goal.returns-clause-committed
+returns-clause-committed g c = opened_as_loaded c.args.loaded c.in_ok-tables.tables (c.in_ok-tables.ensures {u = tt})
+
+pub returns-clause-legal : goal.returns-clause-legal
+returns-clause-legal g c = opened_legal c.args.loaded c.in_ok-tables.tables (c.in_ok-tables.ensures {u = tt})
