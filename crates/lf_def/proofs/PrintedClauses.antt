@@ -21,7 +21,8 @@ use Rattle.lf_def.specs.Components.{located_rest, is_placement_word, clause, up_
 use Rattle.lf_def.specs.Components.{no_component, component}
 use Rattle.lf_def.specs.Laws.{placement_without_places, without_places}
 use Rattle.lf_def.specs.Ranges.{IsLocation}
-use Rattle.lf_def.specs.Printed.{WritesNumbers, orient_word, kind_word, HasPlace}
+use Rattle.lf_orient.specs.Words.{orient_word}
+use Rattle.lf_def.specs.Printed.{WritesNumbers, kind_word, HasPlace}
 use Rattle.lf_def.specs.PrintedComponents.{PrintedComponent, IsInner, IsOtherClause, IsPrintedEntry, clauses_tokens, printed_place, place_words}
 use Rattle.lf_def.specs.PrintedComponents.{placement_tokens, entry_tokens, EntryReadsBack}
 use Rattle.lf_def.proofs.Places.{located_bare, bare_parts, parts_at, component_at, stop_plays_no_part}

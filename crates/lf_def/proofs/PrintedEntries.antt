@@ -21,7 +21,8 @@ use Rattle.lf_def.specs.declared.rows.Sites.{Sites}
 use Rattle.lf_def.specs.Coordinates.{dbu_of, dbu, up_to, count, point_rest, point, rect_between, rect_rest, rect, orient_of}
 use Rattle.lf_def.specs.Rows.{row_end, step, sites, sites_from, row}
 use Rattle.lf_def.specs.Ranges.{IsCoordinate, HasCoordinates, IsCount, IsRow, IsRect}
-use Rattle.lf_def.specs.Printed.{WritesNumbers, IsWord, ReadsBack, orient_word, rect_words, step_words, row_words, IsPrintedRow}
+use Rattle.lf_orient.specs.Words.{orient_word}
+use Rattle.lf_def.specs.Printed.{WritesNumbers, IsWord, ReadsBack, rect_words, step_words, row_words, IsPrintedRow}
 use Rattle.lf_lex.proofs.Back.{Back, back_pure, back_bind, back_first, back_yes, back_no, back_given, token_with}
 use Rattle.lf_def.proofs.Following.{point_at}
 

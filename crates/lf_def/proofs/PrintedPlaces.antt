@@ -23,7 +23,8 @@ use Rattle.lf_def.specs.Components.{located_rest, placed, unplaced, is_placement
 use Rattle.lf_def.specs.Components.{component_token, no_component, component}
 use Rattle.lf_def.specs.Laws.{placement_without_places, without_places}
 use Rattle.lf_def.specs.Ranges.{IsLocation}
-use Rattle.lf_def.specs.Printed.{WritesNumbers, orient_word, kind_word, location_words, placement_words, component_words, HasPlace, IsPrintedComponent}
+use Rattle.lf_orient.specs.Words.{orient_word}
+use Rattle.lf_def.specs.Printed.{WritesNumbers, kind_word, location_words, placement_words, component_words, HasPlace, IsPrintedComponent}
 use Rattle.lf_def.specs.Printed.{ComponentReadsBack}
 use Rattle.lf_def.specs.PrintedComponents.{place_words}
 use Rattle.lf_def.proofs.Places.{located_bare, bare_parts, component_at, parts_at}

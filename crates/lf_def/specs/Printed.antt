@@ -3,8 +3,7 @@ use Rattle.std.specs.Prelude.{◌≡◌, ◌≢◌, ℕ, List, [], ◌∷◌, �
 use Rattle.lf_units.specs.declared.area.Point.{Point}
 use Rattle.lf_units.specs.declared.area.Rect.{Rect}
 use Rattle.lf_units.specs.Number.{fixed_of}
-use Rattle.lf_orient.specs.declared.Orient.{Orient}
-use Rattle.lf_orient.specs.declared.Orient.TheVariants.{N, W, S, E, FN, FW, FS, FE}
+use Rattle.lf_orient.specs.Words.{orient_word}
 use Rattle.lf_lex.specs.Tokens.{Lexed, Lexeme, plain, with_tokens}
 use Rattle.lf_lex.specs.Reading.{Reader, taken, IsName}
 use Rattle.lf_lex.specs.Splices.{word_of}
@@ -31,16 +30,6 @@ WritesNumbers print = (x : ℤ) → IsCoordinate x → fixed_of (print x) 0 2147
 pub record IsWord (n : List ℕ) : Type 0 where
   pub name : IsName n
   pub other : n ≢ codes ";"
-
-abbrev pub orient_word : Orient → List ℕ
-orient_word N = codes "N"
-orient_word W = codes "W"
-orient_word S = codes "S"
-orient_word E = codes "E"
-orient_word FN = codes "FN"
-orient_word FW = codes "FW"
-orient_word FS = codes "FS"
-orient_word FE = codes "FE"
 
 -- ( x1 y1 ) ( x2 y2 ): the lower left corner, and the upper right one
 abbrev pub rect_words : (ℤ → List ℕ) → Rect → List (List ℕ) → List (List ℕ)

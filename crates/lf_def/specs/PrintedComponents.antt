@@ -11,7 +11,8 @@ use Rattle.lf_def.specs.declared.components.PlacementKind.TheVariants.{Fixed, Co
 use Rattle.lf_def.specs.Components.{component}
 use Rattle.lf_def.specs.Laws.{without_places}
 use Rattle.lf_def.specs.Ranges.{IsLocation}
-use Rattle.lf_def.specs.Printed.{orient_word, kind_word, IsPrintedComponent}
+use Rattle.lf_orient.specs.Words.{orient_word}
+use Rattle.lf_def.specs.Printed.{kind_word, IsPrintedComponent}
 
 -- a component, and what its entry holds besides
 pub record PrintedComponent : Type 0 where

@@ -4,6 +4,7 @@
 
 ghost use Rattle.std.specs.Prelude.{◌≡◌, ◌↔◌, IsTrue};
 ghost use Rattle.lf_orient.specs.Orientation.{flipped_over_x, flipped_over_y, is_allowed, EqualUnder, rail_below, other_rail};
+ghost use Rattle.lf_orient.specs.Words.{orient_word};
 
 /// The eight orientations of a DEF text: north, west, south, east, and each of them flipped
 /// (LEF/DEF 5.8, DEF COMPONENTS and ROW).
@@ -40,6 +41,22 @@ pub struct Symmetry {
 pub enum Rail {
     Ground,
     Power,
+}
+
+/// The word by which a DEF text and a reply name an orientation (LEF/DEF 5.8, DEF COMPONENTS).
+pub fn orient_word(orient: Orient) -> &'static [u8]
+    ensures { result.now ≡ orient_word orient }
+{
+    match orient {
+        Orient::N => b"N",
+        Orient::W => b"W",
+        Orient::S => b"S",
+        Orient::E => b"E",
+        Orient::FN => b"FN",
+        Orient::FW => b"FW",
+        Orient::FS => b"FS",
+        Orient::FE => b"FE",
+    }
 }
 
 /// Whether a macro of this symmetry may stand in this orientation: as it is drawn it always may.

@@ -19,7 +19,8 @@ use Rattle.lf_proto.proofs.Places.{place_written-some, target_of-some}
 use Rattle.lf_proto.specs.Lines.{is_blank, is_line_byte, fields, is_visible, IsName}
 use Rattle.lf_proto.specs.Numbers.{◌>>=◌, digits, below, session_number, negative, positive, coordinate}
 use Rattle.lf_proto.specs.Printed.{target_words, action_words, printed_fields, printed, ReadsBack}
-use Rattle.lf_proto.specs.ReplyText.{orient_text, place_words}
+use Rattle.lf_orient.specs.Words.{orient_word}
+use Rattle.lf_proto.specs.ReplyText.{place_words}
 use Rattle.lf_proto.specs.Requests.{command_in, orient_named, place_written, target_of, IsInRange, IsTarget, IsPlainAction, IsPlain}
 use Rattle.lf_proto.specs.declared.request.Command.{Command}
 use Rattle.lf_proto.specs.declared.request.Command.TheVariants.{Bye, To}
@@ -73,7 +74,7 @@ coordinate-signed_decimal (negsuc n) low high =
     let small : suc n < 2 ^ 31 = omega (arith, ints) in
     negative-decimal (suc n) small
 
-orient_named-text : (o : Orient) → orient_named (orient_text o) ≡ Some o
+orient_named-text : (o : Orient) → orient_named (orient_word o) ≡ Some o
 orient_named-text N = refl
 orient_named-text W = refl
 orient_named-text S = refl
@@ -83,9 +84,9 @@ orient_named-text FW = refl
 orient_named-text FS = refl
 orient_named-text FE = refl
 
-place_written-printed : (p : Place) → IsInRange p → place_written (signed_decimal p.x) (signed_decimal p.y) (orient_text p.orient) ≡ Some p
+place_written-printed : (p : Place) → IsInRange p → place_written (signed_decimal p.x) (signed_decimal p.y) (orient_word p.orient) ≡ Some p
 place_written-printed p range =
-    place_written-some (signed_decimal p.x) (signed_decimal p.y) (orient_text p.orient) p
+    place_written-some (signed_decimal p.x) (signed_decimal p.y) (orient_word p.orient) p
     (coordinate-signed_decimal p.x p.x_in_def range.x_in_range)
     (coordinate-signed_decimal p.y p.y_in_def range.y_in_range)
     (orient_named-text p.orient)
@@ -189,7 +190,7 @@ signed_name (negsuc n) low high =
     let small : suc n < 2 ^ 31 = omega (arith, ints) in
     record { some = omega arith; visible = (decimal_name (suc n) (omega arith)).visible }
 
-orient_name : (o : Orient) → IsName (orient_text o)
+orient_name : (o : Orient) → IsName (orient_word o)
 orient_name N = record { some = omega arith; visible = refl }
 orient_name W = record { some = omega arith; visible = refl }
 orient_name S = record { some = omega arith; visible = refl }

@@ -2,8 +2,7 @@
 use Rattle.std.specs.Prelude.{ℕ, List, [], ◌∷◌, ◌++◌, length, Option, None, Some, codes, decimal}
 use Rattle.std.specs.Fmt.{signed_decimal}
 use Rattle.std.specs.List.{join_with_byte}
-use Rattle.lf_orient.specs.declared.Orient.{Orient}
-use Rattle.lf_orient.specs.declared.Orient.TheVariants.{N, W, S, E, FN, FW, FS, FE}
+use Rattle.lf_orient.specs.Words.{orient_word}
 use Rattle.lf_floorplan.specs.declared.place.Place.{Place}
 use Rattle.lf_rules.specs.declared.rule.Rule.{Rule}
 use Rattle.lf_rules.specs.Legality.{number_of}
@@ -16,20 +15,9 @@ use Rattle.lf_proto.specs.declared.reply.Refusal.TheVariants.{BadRequest, NoTeam
 abbrev pub line_text : List (List ℕ) → List ℕ
 line_text words = join_with_byte 32 words ++ 10 ∷ []
 
--- the name of an orientation (LEF/DEF 5.8, DEF COMPONENTS)
-abbrev pub orient_text : Orient → List ℕ
-orient_text N = codes "N"
-orient_text W = codes "W"
-orient_text S = codes "S"
-orient_text E = codes "E"
-orient_text FN = codes "FN"
-orient_text FW = codes "FW"
-orient_text FS = codes "FS"
-orient_text FE = codes "FE"
-
 -- a place: its corner and its orientation
 abbrev pub place_words : Place → List (List ℕ)
-place_words place = signed_decimal place.x ∷ signed_decimal place.y ∷ orient_text place.orient ∷ []
+place_words place = signed_decimal place.x ∷ signed_decimal place.y ∷ orient_word place.orient ∷ []
 
 -- the other cell's name, where there is another cell
 abbrev pub other_words : Option ℕ → List ℕ → List (List ℕ)

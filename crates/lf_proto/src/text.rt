@@ -2,12 +2,12 @@
 
 ghost use Rattle.std.specs.Prelude.{◌≡◌, ◌<◌, ◌≤◌, ◌+◌, ◌++◌, [], ◌∷◌, OnOk, OnErr, IsOk, codes, length, map, take, vec_len, vec_capacity};
 ghost use Rattle.std.specs.List.{flat_map};
-ghost use Rattle.lf_proto.specs.ReplyText.{illegal_words, line_text, orient_text, refusal_words, reply_line, reply_text, text_behind};
+ghost use Rattle.lf_proto.specs.ReplyText.{illegal_words, line_text, refusal_words, reply_line, reply_text, text_behind};
 ghost use Rattle.lf_proto.specs.Words.{spaced, word_text};
 
 use crate::reply::{Refusal, Reply};
 use itoa::Buffer;
-use lf_orient::Orient;
+use lf_orient::orient_word;
 use lf_rules::Rule;
 use std::alloc::AllocError;
 
@@ -18,22 +18,6 @@ enum Word<'a> {
     Number(u32),
     Length(usize),
     Signed(i32),
-}
-
-/// The name of an orientation.
-fn orient_name(orient: Orient) -> &'static [u8]
-    ensures { result.now ≡ orient_text orient }
-{
-    match orient {
-        Orient::N => b"N",
-        Orient::W => b"W",
-        Orient::S => b"S",
-        Orient::E => b"E",
-        Orient::FN => b"FN",
-        Orient::FW => b"FW",
-        Orient::FS => b"FS",
-        Orient::FE => b"FE",
-    }
 }
 
 /// Appends the bytes; an `Err` changes nothing.
@@ -229,7 +213,7 @@ fn put_reply_line(
             &[
                 Word::Signed(place.x),
                 Word::Signed(place.y),
-                Word::Text(orient_name(place.orient)),
+                Word::Text(orient_word(place.orient)),
             ],
         ),
         Reply::Legalized {
@@ -242,7 +226,7 @@ fn put_reply_line(
                 Word::Number(*revision),
                 Word::Signed(best.x),
                 Word::Signed(best.y),
-                Word::Text(orient_name(best.orient)),
+                Word::Text(orient_word(best.orient)),
             ],
         ),
         Reply::Tidied { revision, moved } => put_line(
