@@ -1,6 +1,7 @@
 //! The tokens of LEF and DEF texts, and the words that both readers read them by.
 #![tactic(auto)]
 
+mod block;
 mod fault;
 mod laws;
 mod lexer;
@@ -8,6 +9,7 @@ mod read;
 mod scan;
 mod tokens;
 
+pub use block::{Block, read_block};
 pub use fault::{FaultNumber, LoadFault, ReadError, ReadFault};
 pub use laws::{passing_takes_tokens, words_read_alike};
 pub use lexer::{Lexer, cuts_at_tokens, kinds_follow_texts, slices_in_order, splices_tokens};

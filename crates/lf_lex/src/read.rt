@@ -6,8 +6,9 @@ ghost use Rattle.std.specs.List.{list_all};
 ghost use Rattle.lf_lex.specs.Tokens.{lexeme, is_word_byte, IsSpelled};
 ghost use Rattle.lf_lex.specs.declared.fault.FaultNumber.TheVariants.{Unexpected};
 ghost use Rattle.lf_lex.specs.Reading as reading;
-ghost use Rattle.lf_lex.specs.Reading.{Reads, Fails, IsFault, IsName, turn, taken};
+ghost use Rattle.lf_lex.specs.Reading.{Reads, Fails, IsFault, IsName, taken};
 
+use crate::block::{Block, read_block};
 use crate::fault::{FaultNumber, ReadError, ReadFault};
 use crate::lexer::Lexer;
 use crate::tokens::{LexFault, Token, TokenKind};
@@ -147,13 +148,22 @@ pub fn end_name(lexer: &mut Lexer, due: &[u8]) -> Result<(), ReadError>
     }
 }
 
-#[tactic(auto, unfolding(crate::specs::Reading::passed_token))]
-fn passed_token(lexer: &mut Lexer) -> Result<bool, ReadError>
-    ensures read { Reads (turn tt) result (reading.passed_token tt) lexer.old lexer.new }
-    ensures fault { IfErr result IsFault }
-{
-    let token = token(lexer)?;
-    Ok(!is(b";", &token))
+/// What is passed over up to a `;`.
+#[derive(Drop)]
+struct ToSemicolon;
+
+impl Block for ToSemicolon {
+    type State = ();
+
+    ghost statement = { λ _. reading.passed_token };
+
+    ghost fails = { IsFault };
+
+    #[tactic(auto, unfolding(crate::specs::Reading::passed_token))]
+    fn turn(&self, lexer: &mut Lexer, _state: &mut ()) -> Result<bool, ReadError> {
+        let token = token(lexer)?;
+        Ok(!is(b";", &token))
+    }
 }
 
 /// Past the next `;`.
@@ -161,32 +171,32 @@ pub fn to_semicolon(lexer: &mut Lexer) -> Result<(), ReadError>
     ensures read { Reads (λ x. x) result reading.to_semicolon lexer.old lexer.new }
     ensures fault { IfErr result IsFault }
 {
-    while passed_token(lexer)? {}
-    Ok(())
+    read_block(lexer, &ToSemicolon, &mut ())
 }
 
-#[tactic(auto, unfolding(crate::specs::Reading::passed_to_end))]
-fn passed_to_end(lexer: &mut Lexer, due: &[u8], behind_end: &mut bool) -> Result<bool, ReadError>
-    ensures read { Reads (turn behind_end.new) result
-        (reading.passed_to_end due.now behind_end.old) lexer.old lexer.new }
-    ensures fault { IfErr result IsFault }
-{
-    let token = token(lexer)?;
-    if *behind_end && is(due, &token) {
-        return Ok(false);
+/// What is passed over up to an END that stands directly before the name that is due. Its state: whether the last
+/// token was END.
+#[derive(Drop)]
+struct ToEnd<'d> {
+    due: &'d [u8],
+}
+
+impl<'d> Block for ToEnd<'d> {
+    type State = bool;
+
+    ghost statement = { λ block. reading.passed_to_end block.due.now };
+
+    ghost fails = { IsFault };
+
+    #[tactic(auto, unfolding(crate::specs::Reading::passed_to_end))]
+    fn turn(&self, lexer: &mut Lexer, behind_end: &mut bool) -> Result<bool, ReadError> {
+        let token = token(lexer)?;
+        if *behind_end && is(self.due, &token) {
+            return Ok(false);
+        }
+        *behind_end = is(b"END", &token);
+        Ok(true)
     }
-    *behind_end = is(b"END", &token);
-    Ok(true)
-}
-
-fn up_to_end(lexer: &mut Lexer, due: &[u8]) -> Result<bool, ReadError>
-    ensures read { Reads (λ x. x) result
-        (reading.block (reading.passed_to_end due.now) false) lexer.old lexer.new }
-    ensures fault { IfErr result IsFault }
-{
-    let mut behind_end = false;
-    while passed_to_end(lexer, due, &mut behind_end)? {}
-    Ok(behind_end)
 }
 
 /// Past the next END that stands directly before the name, and past that name.
@@ -195,17 +205,28 @@ pub fn to_end(lexer: &mut Lexer, due: &[u8]) -> Result<(), ReadError>
     ensures read { Reads (λ x. x) result (reading.to_end due.now) lexer.old lexer.new }
     ensures fault { IfErr result IsFault }
 {
-    up_to_end(lexer, due)?;
-    Ok(())
+    let mut behind_end = false;
+    read_block(lexer, &ToEnd { due }, &mut behind_end)
 }
 
-#[tactic(auto, unfolding(crate::specs::Reading::passed_to_word))]
-fn passed_to_word(lexer: &mut Lexer, due: &[u8]) -> Result<bool, ReadError>
-    ensures read { Reads (turn tt) result (reading.passed_to_word due.now tt) lexer.old lexer.new }
-    ensures fault { IfErr result IsFault }
-{
-    let token = token(lexer)?;
-    Ok(!is(due, &token))
+/// What is passed over up to the word that is due.
+#[derive(Drop)]
+struct ToWord<'d> {
+    due: &'d [u8],
+}
+
+impl<'d> Block for ToWord<'d> {
+    type State = ();
+
+    ghost statement = { λ block. reading.passed_to_word block.due.now };
+
+    ghost fails = { IsFault };
+
+    #[tactic(auto, unfolding(crate::specs::Reading::passed_to_word))]
+    fn turn(&self, lexer: &mut Lexer, _state: &mut ()) -> Result<bool, ReadError> {
+        let token = token(lexer)?;
+        Ok(!is(self.due, &token))
+    }
 }
 
 /// Past the next such word.
@@ -213,6 +234,5 @@ pub fn to_word(lexer: &mut Lexer, due: &[u8]) -> Result<(), ReadError>
     ensures read { Reads (λ x. x) result (reading.to_word due.now) lexer.old lexer.new }
     ensures fault { IfErr result IsFault }
 {
-    while passed_to_word(lexer, due)? {}
-    Ok(())
+    read_block(lexer, &ToWord { due }, &mut ())
 }

@@ -1,0 +1,46 @@
+//! Blocks: statement after statement, up to the last.
+
+ghost use Rattle.std.specs.Prelude.{⊤, IfErr};
+ghost use Rattle.lf_lex.specs.declared.fault.ReadError.{ReadError};
+ghost use Rattle.lf_lex.specs.Reading as reading;
+ghost use Rattle.lf_lex.specs.Reading.{Reads, Statement};
+
+use crate::fault::ReadError;
+use crate::lexer::Lexer;
+
+/// A block: how each of its statements is read.
+pub trait Block {
+    /// What the statements that were read say.
+    type State;
+
+    // What a statement reads, given what is known before it.
+    ghost statement: { Self → Statement Self.State };
+
+    // What each statement keeps of what is known.
+    ghost keeps: { Self → Self.State → Type 0 } = { λ _ _. ⊤ };
+
+    // What a failure may be.
+    ghost fails: { ReadError → Type 0 } = { λ _. ⊤ };
+
+    /// Reads a statement; whether more follow.
+    fn turn(&self, lexer: &mut Lexer, state: &mut Self::State) -> Result<bool, ReadError>
+        requires kept { keeps self.now state.old }
+        ensures read { Reads (reading.turn state.new) result (statement self.now state.old) lexer.old lexer.new }
+        ensures fault { IfErr result fails }
+        ensures kept { keeps self.now state.new };
+}
+
+/// Reads statement after statement, up to the last.
+pub fn read_block<B: Block>(
+    lexer: &mut Lexer,
+    block: &B,
+    state: &mut B::State,
+) -> Result<(), ReadError>
+    requires kept { B.keeps block.now state.old }
+    ensures read { Reads (λ _. state.new) result (reading.block (B.statement block.now) state.old) lexer.old lexer.new }
+    ensures fault { IfErr result B.fails }
+    ensures kept { B.keeps block.now state.new }
+{
+    while block.turn(lexer, state)? {}
+    Ok(())
+}
