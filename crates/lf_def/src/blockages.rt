@@ -2,13 +2,16 @@
 
 ghost use Rattle.std.specs.Prelude.{◌≡◌, All, IfOk, IfSome};
 ghost use Rattle.lf_lex.specs.Tokens.{lexeme};
-ghost use Rattle.lf_lex.specs.Reading.{Reads, ReadsOn, block, turn};
+ghost use Rattle.lf_lex.specs.Reading.{Reads, ReadsOn, turn};
 ghost use Rattle.lf_def.specs.Blockages as grammar;
 ghost use Rattle.lf_def.specs.Ranges.{IsRect, IsBlockage};
 
 use crate::coordinates::rect;
 use crate::entries::Due;
-use lf_lex::{FaultNumber, Lexer, ReadError, Token, end_name, fault_at, is, to_semicolon, token};
+use lf_lex::{
+    Block, FaultNumber, Lexer, ReadError, Token, end_name, fault_at, is, read_block, to_semicolon,
+    token,
+};
 use lf_units::{Rect, Sequence};
 use std::alloc::Global;
 
@@ -110,24 +113,22 @@ fn blockage_from(
     }
 }
 
-#[tactic(auto, unfolding(crate::specs::Blockages::blockage_token))]
-fn blockage_token(lexer: &mut Lexer, parts: &mut BlockageParts) -> Result<bool, ReadError>
-    requires rects { All IsRect parts.old.rects }
-    ensures read { Reads (turn parts.new) result (grammar.blockage_token parts.old) lexer.old lexer.new }
-    ensures rects { All IsRect parts.new.rects }
-{
-    let token = token(lexer)?;
-    blockage_from(lexer, parts, &token)
-}
+/// The tokens of a placement blockage behind PLACEMENT, up to its `;`.
+#[derive(Drop)]
+struct BlockageTokens;
 
-/// The tokens of a placement blockage behind PLACEMENT, with its `;`.
-fn blockage_rest(lexer: &mut Lexer, parts: &mut BlockageParts) -> Result<(), ReadError>
-    requires rects { All IsRect parts.old.rects }
-    ensures read { Reads (λ _. parts.new) result (block grammar.blockage_token parts.old) lexer.old lexer.new }
-    ensures rects { All IsRect parts.new.rects }
-{
-    while blockage_token(lexer, parts)? {}
-    Ok(())
+impl Block for BlockageTokens {
+    type State = BlockageParts;
+
+    ghost statement = { λ _. grammar.blockage_token };
+
+    ghost keeps = { λ _ parts. All IsRect parts.rects };
+
+    #[tactic(auto, unfolding(crate::specs::Blockages::blockage_token))]
+    fn turn(&self, lexer: &mut Lexer, parts: &mut BlockageParts) -> Result<bool, ReadError> {
+        let token = token(lexer)?;
+        blockage_from(lexer, parts, &token)
+    }
 }
 
 /// What is known of a placement blockage behind PLACEMENT.
@@ -158,7 +159,7 @@ fn read_blockage(alloc: Global, lexer: &mut Lexer) -> Result<Option<Blockage>, R
         return Err(fault_at(FaultNumber::Unexpected, token.line));
     }
     let mut parts = no_blockage(alloc);
-    blockage_rest(lexer, &mut parts)?;
+    read_block(lexer, &BlockageTokens, &mut parts)?;
     Ok(Some(Blockage {
         soft: parts.soft,
         partial: parts.partial,
@@ -166,43 +167,38 @@ fn read_blockage(alloc: Global, lexer: &mut Lexer) -> Result<Option<Blockage>, R
     }))
 }
 
-/// An entry, or END BLOCKAGES; whether more follow.
-#[tactic(auto, unfolding(crate::specs::Blockages::blockage_or_end))]
-fn blockage_or_end(
+/// The entries of a BLOCKAGES section, up to its END.
+#[derive(Drop)]
+struct BlockageEntries {
     alloc: Global,
-    lexer: &mut Lexer,
-    blockages: &mut Sequence<Blockage>,
-) -> Result<bool, ReadError>
-    requires range { All IsBlockage blockages.old }
-    ensures read { Reads (turn blockages.new) result (grammar.blockage_or_end blockages.old) lexer.old lexer.new }
-    ensures range { All IsBlockage blockages.new }
-{
-    let token = token(lexer)?;
-    if is(b"-", &token) {
-        if let Some(blockage) = read_blockage(alloc, lexer)? {
-            blockages.push(blockage)?;
-        }
-        return Ok(true);
-    }
-    if is(b"END", &token) {
-        end_name(lexer, b"BLOCKAGES")?;
-        return Ok(false);
-    }
-    Err(fault_at(FaultNumber::Unexpected, token.line))
 }
 
-/// The entries of a section, and its END.
-fn blockage_entries(
-    alloc: Global,
-    lexer: &mut Lexer,
-    blockages: &mut Sequence<Blockage>,
-) -> Result<(), ReadError>
-    requires range { All IsBlockage blockages.old }
-    ensures read { Reads (λ _. blockages.new) result (block grammar.blockage_or_end blockages.old) lexer.old lexer.new }
-    ensures range { All IsBlockage blockages.new }
-{
-    while blockage_or_end(alloc, lexer, blockages)? {}
-    Ok(())
+impl Block for BlockageEntries {
+    type State = Sequence<Blockage>;
+
+    ghost statement = { λ _. grammar.blockage_or_end };
+
+    ghost keeps = { λ _ blockages. All IsBlockage blockages };
+
+    #[tactic(auto, unfolding(crate::specs::Blockages::blockage_or_end))]
+    fn turn(
+        &self,
+        lexer: &mut Lexer,
+        blockages: &mut Sequence<Blockage>,
+    ) -> Result<bool, ReadError> {
+        let token = token(lexer)?;
+        if is(b"-", &token) {
+            if let Some(blockage) = read_blockage(self.alloc, lexer)? {
+                blockages.push(blockage)?;
+            }
+            return Ok(true);
+        }
+        if is(b"END", &token) {
+            end_name(lexer, b"BLOCKAGES")?;
+            return Ok(false);
+        }
+        Err(fault_at(FaultNumber::Unexpected, token.line))
+    }
 }
 
 /// A BLOCKAGES section behind its keyword: its blockages go behind the others.
@@ -217,5 +213,5 @@ pub(crate) fn blockages(
     ensures range { All IsBlockage blockages.new }
 {
     to_semicolon(lexer)?;
-    blockage_entries(alloc, lexer, blockages)
+    read_block(lexer, &BlockageEntries { alloc }, blockages)
 }

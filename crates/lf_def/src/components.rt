@@ -1,17 +1,15 @@
 //! Components, and where their placement clauses stand in the text.
 
-ghost use Rattle.std.specs.Prelude.{◌≡◌, All, IfOk, IfSome, codes};
+ghost use Rattle.std.specs.Prelude.{◌≡◌, All, IfOk, IfSome};
 ghost use Rattle.lf_lex.specs.Tokens.{lexeme};
-ghost use Rattle.lf_lex.specs.Reading.{Reads, ReadsOn, block, turn};
-ghost use Rattle.lf_def.specs.Entries.{entry_or_end};
+ghost use Rattle.lf_lex.specs.Reading.{Reads, ReadsOn, turn};
 ghost use Rattle.lf_def.specs.Components as grammar;
 ghost use Rattle.lf_def.specs.Ranges.{IsCoordinate, IsLocation, IsPlacement, IsComponent};
 
 use crate::coordinates::{orient_of, point_rest};
-use crate::entries::Due;
+use crate::entries::{Due, Entry, section};
 use lf_lex::{
-    FaultNumber, Lexer, ReadError, Token, end_name, fault_at, is, keyword, name, to_semicolon,
-    token,
+    Block, FaultNumber, Lexer, ReadError, Token, fault_at, is, keyword, name, read_block, token,
 };
 use lf_orient::Orient;
 use lf_units::{Name, Sequence};
@@ -249,89 +247,58 @@ fn component_from(
     }
 }
 
-#[tactic(auto, unfolding(crate::specs::Components::component_token))]
-fn component_token(lexer: &mut Lexer, parts: &mut ComponentParts) -> Result<bool, ReadError>
-    requires range { IfSome parts.old.placement (λ p. IsPlacement p) }
-    ensures read { Reads (turn parts.new) result (grammar.component_token parts.old) lexer.old lexer.new }
-    ensures range { IfSome parts.new.placement (λ p. IsPlacement p) }
-{
-    let token = token(lexer)?;
-    component_from(lexer, parts, &token)
+/// The tokens of a component behind its macro, up to its `;`.
+#[derive(Drop)]
+struct ComponentTokens;
+
+impl Block for ComponentTokens {
+    type State = ComponentParts;
+
+    ghost statement = { λ _. grammar.component_token };
+
+    ghost keeps = { λ _ parts. IfSome parts.placement (λ p. IsPlacement p) };
+
+    #[tactic(auto, unfolding(crate::specs::Components::component_token))]
+    fn turn(&self, lexer: &mut Lexer, parts: &mut ComponentParts) -> Result<bool, ReadError> {
+        let token = token(lexer)?;
+        component_from(lexer, parts, &token)
+    }
 }
 
-/// The tokens of a component behind its macro, with its `;`.
-fn component_parts(lexer: &mut Lexer) -> Result<ComponentParts, ReadError>
-    ensures read { Reads (λ p. p) result (block grammar.component_token grammar.no_component) lexer.old lexer.new }
-    ensures range { IfOk result (λ parts. IfSome parts.placement (λ p. IsPlacement p)) }
+/// What is known of a component behind its macro.
+fn no_component() -> ComponentParts
+    ensures { result ≡ grammar.no_component }
 {
-    let mut parts = ComponentParts {
+    ComponentParts {
         placement: None,
         due: Due::Item,
         point: false,
         plus: 0,
         semicolon: 0,
-    };
-    while component_token(lexer, &mut parts)? {}
-    Ok(parts)
-}
-
-/// A component behind its minus.
-#[tactic(auto, unfolding(crate::specs::Components::component))]
-fn read_component(alloc: Global, lexer: &mut Lexer) -> Result<Component, ReadError>
-    ensures read { Reads (λ c. c) result grammar.component lexer.old lexer.new }
-    ensures range { IfOk result (λ c. IsComponent c) }
-{
-    let component = name(lexer)?;
-    let mac = name(lexer)?;
-    let parts = component_parts(lexer)?;
-    Ok(Component {
-        name: Name::from_slice(alloc, component.text)?,
-        mac: Name::from_slice(alloc, mac.text)?,
-        placement: parts.placement,
-        semicolon: parts.semicolon,
-    })
-}
-
-/// An entry, or END COMPONENTS; whether more follow.
-#[tactic(auto, unfolding(crate::specs::Entries::entry_or_end))]
-fn component_or_end(
-    alloc: Global,
-    lexer: &mut Lexer,
-    components: &mut Sequence<Component>,
-) -> Result<bool, ReadError>
-    requires range { All IsComponent components.old }
-    ensures read { Reads (turn components.new) result (entry_or_end (codes "COMPONENTS") grammar.component components.old) lexer.old lexer.new }
-    ensures range { All IsComponent components.new }
-{
-    let token = token(lexer)?;
-    if is(b"-", &token) {
-        let component = read_component(alloc, lexer)?;
-        components.push(component)?;
-        return Ok(true);
     }
-    if is(b"END", &token) {
-        end_name(lexer, b"COMPONENTS")?;
-        return Ok(false);
-    }
-    Err(fault_at(FaultNumber::Unexpected, token.line))
 }
 
-/// The entries of a section, and its END.
-fn component_entries(
-    alloc: Global,
-    lexer: &mut Lexer,
-    components: &mut Sequence<Component>,
-) -> Result<(), ReadError>
-    requires range { All IsComponent components.old }
-    ensures read { Reads (λ _. components.new) result (block (entry_or_end (codes "COMPONENTS") grammar.component) components.old) lexer.old lexer.new }
-    ensures range { All IsComponent components.new }
-{
-    while component_or_end(alloc, lexer, components)? {}
-    Ok(())
+impl Entry for Component {
+    ghost entry = { grammar.component };
+
+    ghost keeps = { IsComponent };
+
+    #[tactic(auto, unfolding(crate::specs::Components::component))]
+    fn read(alloc: Global, lexer: &mut Lexer) -> Result<Component, ReadError> {
+        let component = name(lexer)?;
+        let mac = name(lexer)?;
+        let mut parts = no_component();
+        read_block(lexer, &ComponentTokens, &mut parts)?;
+        Ok(Component {
+            name: Name::from_slice(alloc, component.text)?,
+            mac: Name::from_slice(alloc, mac.text)?,
+            placement: parts.placement,
+            semicolon: parts.semicolon,
+        })
+    }
 }
 
 /// A COMPONENTS section behind its keyword: its components go behind the others.
-#[tactic(auto, unfolding(crate::specs::Entries::section))]
 pub(crate) fn components(
     alloc: Global,
     lexer: &mut Lexer,
@@ -341,6 +308,5 @@ pub(crate) fn components(
     ensures read { Reads (λ _. components.new) result (grammar.components components.old) lexer.old lexer.new }
     ensures range { All IsComponent components.new }
 {
-    to_semicolon(lexer)?;
-    component_entries(alloc, lexer, components)
+    section(alloc, lexer, b"COMPONENTS", components)
 }

@@ -1,13 +1,17 @@
 //! What the sections of DEF share: entries that begin with a minus, and clauses that begin with a plus.
 
-ghost use Rattle.std.specs.Prelude.{◌≡◌, Ok, OnOk, OnErr, MatchResult};
+ghost use Rattle.std.specs.Prelude.{◌≡◌, Ok, All, IfOk, OnOk, OnErr, MatchResult};
 ghost use Rattle.lf_lex.specs.Tokens.{lexeme, IsSpelled};
-ghost use Rattle.lf_lex.specs.Reading.{Fails, IsName, first_stands};
+ghost use Rattle.lf_lex.specs.Reading.{Fails, IsName, Reader, Reads, first_stands};
 ghost use Rattle.lf_def.specs.Entries as grammar;
 
-use lf_lex::{FaultNumber, ReadError, Token, fault_at, is_word};
-use lf_units::Name;
+use lf_lex::{
+    Block, FaultNumber, Lexer, ReadError, Token, end_name, fault_at, is, is_word, read_block,
+    to_semicolon, token,
+};
+use lf_units::{Name, Sequence};
 use std::alloc::{AllocError, Global};
+use std::marker::PhantomData;
 
 /// What is due in an entry where neither `;` nor `+` stands.
 #[derive(Clone, Copy, Debug, PartialEq, Eq)]
@@ -50,4 +54,70 @@ pub(crate) fn keep_first(
         *first = Some(Name::from_slice(alloc, text)?);
     }
     Ok(())
+}
+
+/// What the entries of a section are.
+pub(crate) trait Entry: Sized + Drop {
+    // An entry behind its minus.
+    ghost entry: { Reader Self };
+
+    // What is true of each.
+    ghost keeps: { Self → Type 0 };
+
+    /// Reads an entry behind its minus.
+    fn read(alloc: Global, lexer: &mut Lexer) -> Result<Self, ReadError>
+        ensures read { Reads (λ e. e) result entry lexer.old lexer.new }
+        ensures range { IfOk result (λ e. keeps e) };
+}
+
+/// The entries of the section of that keyword, up to its END.
+#[derive(Drop)]
+struct Entries<'k, E> {
+    alloc: Global,
+    keyword: &'k [u8],
+    entry: PhantomData<E>,
+}
+
+impl<'k, E: Entry> Block for Entries<'k, E> {
+    type State = Sequence<E>;
+
+    ghost statement = { λ section. grammar.entry_or_end section.keyword.now E.entry };
+
+    ghost keeps = { λ _ entries. All E.keeps entries };
+
+    #[tactic(auto, unfolding(crate::specs::Entries::entry_or_end))]
+    fn turn(&self, lexer: &mut Lexer, entries: &mut Sequence<E>) -> Result<bool, ReadError> {
+        let token = token(lexer)?;
+        if is(b"-", &token) {
+            let entry = E::read(self.alloc, lexer)?;
+            entries.push(entry)?;
+            return Ok(true);
+        }
+        if is(b"END", &token) {
+            end_name(lexer, self.keyword)?;
+            return Ok(false);
+        }
+        Err(fault_at(FaultNumber::Unexpected, token.line))
+    }
+}
+
+/// A section behind its keyword: its entries go behind the others.
+#[tactic(auto, unfolding(crate::specs::Entries::section))]
+pub(crate) fn section<E: Entry>(
+    alloc: Global,
+    lexer: &mut Lexer,
+    keyword: &[u8],
+    entries: &mut Sequence<E>,
+) -> Result<(), ReadError>
+    requires range { All E.keeps entries.old }
+    ensures read { Reads (λ _. entries.new) result (grammar.section keyword.now E.entry entries.old) lexer.old lexer.new }
+    ensures range { All E.keeps entries.new }
+{
+    to_semicolon(lexer)?;
+    let block = Entries {
+        alloc,
+        keyword,
+        entry: PhantomData,
+    };
+    read_block(lexer, &block, entries)
 }

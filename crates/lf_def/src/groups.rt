@@ -1,16 +1,13 @@
 //! Groups: which components belong to a region.
 
-ghost use Rattle.std.specs.Prelude.{◌≡◌, All, IfOk, IfSome, codes};
+ghost use Rattle.std.specs.Prelude.{◌≡◌, All, IfSome};
 ghost use Rattle.lf_lex.specs.Tokens.{lexeme, IsSpelled};
-ghost use Rattle.lf_lex.specs.Reading.{Reads, ReadsOn, IsName, block, turn};
-ghost use Rattle.lf_def.specs.Entries.{entry_or_end};
+ghost use Rattle.lf_lex.specs.Reading.{Reads, ReadsOn, IsName, turn};
 ghost use Rattle.lf_def.specs.Groups as grammar;
 ghost use Rattle.lf_def.specs.Ranges.{IsGroup, AreGroupParts};
 
-use crate::entries::{Due, check_name, keep_first};
-use lf_lex::{
-    FaultNumber, Lexer, ReadError, Token, end_name, fault_at, is, name, to_semicolon, token,
-};
+use crate::entries::{Due, Entry, check_name, keep_first, section};
+use lf_lex::{Block, FaultNumber, Lexer, ReadError, Token, fault_at, is, name, read_block, token};
 use lf_units::{Name, Sequence};
 use std::alloc::Global;
 
@@ -119,24 +116,24 @@ fn group_from(
     }
 }
 
-#[tactic(auto, unfolding(crate::specs::Groups::group_token))]
-fn group_token(alloc: Global, lexer: &mut Lexer, parts: &mut GroupParts) -> Result<bool, ReadError>
-    requires names { AreGroupParts parts.old }
-    ensures read { Reads (turn parts.new) result (grammar.group_token parts.old) lexer.old lexer.new }
-    ensures names { AreGroupParts parts.new }
-{
-    let token = token(lexer)?;
-    group_from(alloc, lexer, parts, &token)
+/// The tokens of a group behind its name, up to its `;`.
+#[derive(Drop)]
+struct GroupTokens {
+    alloc: Global,
 }
 
-/// The tokens of a group behind its name, with its `;`.
-fn group_rest(alloc: Global, lexer: &mut Lexer, parts: &mut GroupParts) -> Result<(), ReadError>
-    requires names { AreGroupParts parts.old }
-    ensures read { Reads (λ _. parts.new) result (block grammar.group_token parts.old) lexer.old lexer.new }
-    ensures names { AreGroupParts parts.new }
-{
-    while group_token(alloc, lexer, parts)? {}
-    Ok(())
+impl Block for GroupTokens {
+    type State = GroupParts;
+
+    ghost statement = { λ _. grammar.group_token };
+
+    ghost keeps = { λ _ parts. AreGroupParts parts };
+
+    #[tactic(auto, unfolding(crate::specs::Groups::group_token))]
+    fn turn(&self, lexer: &mut Lexer, parts: &mut GroupParts) -> Result<bool, ReadError> {
+        let token = token(lexer)?;
+        group_from(self.alloc, lexer, parts, &token)
+    }
 }
 
 /// What is known of a group behind its name.
@@ -151,62 +148,25 @@ fn no_group(alloc: Global) -> GroupParts
     }
 }
 
-/// A group behind its minus.
-#[tactic(auto, unfolding(crate::specs::Groups::group))]
-fn read_group(alloc: Global, lexer: &mut Lexer) -> Result<Group, ReadError>
-    ensures read { Reads (λ g. g) result grammar.group lexer.old lexer.new }
-    ensures range { IfOk result (λ g. IsGroup g) }
-{
-    let name = name(lexer)?;
-    let mut parts = no_group(alloc);
-    group_rest(alloc, lexer, &mut parts)?;
-    Ok(Group {
-        name: Name::from_slice(alloc, name.text)?,
-        patterns: parts.patterns,
-        region: parts.region,
-    })
-}
+impl Entry for Group {
+    ghost entry = { grammar.group };
 
-/// An entry, or END GROUPS; whether more follow.
-#[tactic(auto, unfolding(crate::specs::Entries::entry_or_end))]
-fn group_or_end(
-    alloc: Global,
-    lexer: &mut Lexer,
-    groups: &mut Sequence<Group>,
-) -> Result<bool, ReadError>
-    requires range { All IsGroup groups.old }
-    ensures read { Reads (turn groups.new) result (entry_or_end (codes "GROUPS") grammar.group groups.old) lexer.old lexer.new }
-    ensures range { All IsGroup groups.new }
-{
-    let token = token(lexer)?;
-    if is(b"-", &token) {
-        let group = read_group(alloc, lexer)?;
-        groups.push(group)?;
-        return Ok(true);
-    }
-    if is(b"END", &token) {
-        end_name(lexer, b"GROUPS")?;
-        return Ok(false);
-    }
-    Err(fault_at(FaultNumber::Unexpected, token.line))
-}
+    ghost keeps = { IsGroup };
 
-/// The entries of a section, and its END.
-fn group_entries(
-    alloc: Global,
-    lexer: &mut Lexer,
-    groups: &mut Sequence<Group>,
-) -> Result<(), ReadError>
-    requires range { All IsGroup groups.old }
-    ensures read { Reads (λ _. groups.new) result (block (entry_or_end (codes "GROUPS") grammar.group) groups.old) lexer.old lexer.new }
-    ensures range { All IsGroup groups.new }
-{
-    while group_or_end(alloc, lexer, groups)? {}
-    Ok(())
+    #[tactic(auto, unfolding(crate::specs::Groups::group))]
+    fn read(alloc: Global, lexer: &mut Lexer) -> Result<Group, ReadError> {
+        let name = name(lexer)?;
+        let mut parts = no_group(alloc);
+        read_block(lexer, &GroupTokens { alloc }, &mut parts)?;
+        Ok(Group {
+            name: Name::from_slice(alloc, name.text)?,
+            patterns: parts.patterns,
+            region: parts.region,
+        })
+    }
 }
 
 /// A GROUPS section behind its keyword: its groups go behind the others.
-#[tactic(auto, unfolding(crate::specs::Entries::section))]
 pub(crate) fn groups(
     alloc: Global,
     lexer: &mut Lexer,
@@ -216,6 +176,5 @@ pub(crate) fn groups(
     ensures read { Reads (λ _. groups.new) result (grammar.groups groups.old) lexer.old lexer.new }
     ensures range { All IsGroup groups.new }
 {
-    to_semicolon(lexer)?;
-    group_entries(alloc, lexer, groups)
+    section(alloc, lexer, b"GROUPS", groups)
 }

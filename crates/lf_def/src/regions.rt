@@ -1,18 +1,15 @@
 //! Regions: fences and guides.
 
-ghost use Rattle.std.specs.Prelude.{◌≡◌, ◌<◌, length, Ok, All, IfOk, IfErr, MatchResult, codes};
+ghost use Rattle.std.specs.Prelude.{◌≡◌, ◌<◌, length, Ok, All, IfOk, IfErr, MatchResult};
 ghost use Rattle.lf_lex.specs.Tokens.{lexeme};
-ghost use Rattle.lf_lex.specs.Reading.{Reads, ReadsOn, Fails, block, turn};
+ghost use Rattle.lf_lex.specs.Reading.{Reads, ReadsOn, Fails, turn};
 ghost use Rattle.lf_lex.specs.declared.fault.ReadError.TheVariants.{Memory};
-ghost use Rattle.lf_def.specs.Entries.{entry_or_end};
 ghost use Rattle.lf_def.specs.Regions as grammar;
 ghost use Rattle.lf_def.specs.Ranges.{IsRect, IsRegion};
 
 use crate::coordinates::{rect, rect_rest};
-use crate::entries::Due;
-use lf_lex::{
-    FaultNumber, Lexer, ReadError, Token, end_name, fault_at, is, name, to_semicolon, token,
-};
+use crate::entries::{Due, Entry, section};
+use lf_lex::{Block, FaultNumber, Lexer, ReadError, Token, fault_at, is, name, read_block, token};
 use lf_units::{Name, Rect, Sequence};
 use std::alloc::Global;
 
@@ -136,28 +133,22 @@ fn region_from(lexer: &mut Lexer, parts: &mut RegionParts, token: &Token) -> Res
     }
 }
 
-#[tactic(auto, unfolding(crate::specs::Regions::region_token))]
-fn region_token(lexer: &mut Lexer, parts: &mut RegionParts) -> Result<bool, ReadError>
-    requires rects { All IsRect parts.old.rects }
-    requires some { 0 < length parts.old.rects }
-    ensures read { Reads (turn parts.new) result (grammar.region_token parts.old) lexer.old lexer.new }
-    ensures rects { All IsRect parts.new.rects }
-    ensures some { 0 < length parts.new.rects }
-{
-    let token = token(lexer)?;
-    region_from(lexer, parts, &token)
-}
+/// The tokens of a region behind its first rectangle, up to its `;`.
+#[derive(Drop)]
+struct RegionTokens;
 
-/// The tokens of a region behind its first rectangle, with its `;`.
-fn region_rest(lexer: &mut Lexer, parts: &mut RegionParts) -> Result<(), ReadError>
-    requires rects { All IsRect parts.old.rects }
-    requires some { 0 < length parts.old.rects }
-    ensures read { Reads (λ _. parts.new) result (block grammar.region_token parts.old) lexer.old lexer.new }
-    ensures rects { All IsRect parts.new.rects }
-    ensures some { 0 < length parts.new.rects }
-{
-    while region_token(lexer, parts)? {}
-    Ok(())
+impl Block for RegionTokens {
+    type State = RegionParts;
+
+    ghost statement = { λ _. grammar.region_token };
+
+    ghost keeps = { λ _ parts. All IsRect parts.rects × (0 < length parts.rects) };
+
+    #[tactic(auto, unfolding(crate::specs::Regions::region_token))]
+    fn turn(&self, lexer: &mut Lexer, parts: &mut RegionParts) -> Result<bool, ReadError> {
+        let token = token(lexer)?;
+        region_from(lexer, parts, &token)
+    }
 }
 
 /// What is known of a region behind its first rectangle.
@@ -177,63 +168,26 @@ fn first_rect(alloc: Global, rect: Rect) -> Result<RegionParts, ReadError>
     })
 }
 
-/// A region behind its minus.
-#[tactic(auto, unfolding(crate::specs::Regions::region))]
-fn read_region(alloc: Global, lexer: &mut Lexer) -> Result<Region, ReadError>
-    ensures read { Reads (λ r. r) result grammar.region lexer.old lexer.new }
-    ensures range { IfOk result (λ r. IsRegion r) }
-{
-    let name = name(lexer)?;
-    let rect = rect(lexer)?;
-    let mut parts = first_rect(alloc, rect)?;
-    region_rest(lexer, &mut parts)?;
-    Ok(Region {
-        name: Name::from_slice(alloc, name.text)?,
-        kind: parts.kind,
-        rects: parts.rects,
-    })
-}
+impl Entry for Region {
+    ghost entry = { grammar.region };
 
-/// An entry, or END REGIONS; whether more follow.
-#[tactic(auto, unfolding(crate::specs::Entries::entry_or_end))]
-fn region_or_end(
-    alloc: Global,
-    lexer: &mut Lexer,
-    regions: &mut Sequence<Region>,
-) -> Result<bool, ReadError>
-    requires range { All IsRegion regions.old }
-    ensures read { Reads (turn regions.new) result (entry_or_end (codes "REGIONS") grammar.region regions.old) lexer.old lexer.new }
-    ensures range { All IsRegion regions.new }
-{
-    let token = token(lexer)?;
-    if is(b"-", &token) {
-        let region = read_region(alloc, lexer)?;
-        regions.push(region)?;
-        return Ok(true);
-    }
-    if is(b"END", &token) {
-        end_name(lexer, b"REGIONS")?;
-        return Ok(false);
-    }
-    Err(fault_at(FaultNumber::Unexpected, token.line))
-}
+    ghost keeps = { IsRegion };
 
-/// The entries of a section, and its END.
-fn region_entries(
-    alloc: Global,
-    lexer: &mut Lexer,
-    regions: &mut Sequence<Region>,
-) -> Result<(), ReadError>
-    requires range { All IsRegion regions.old }
-    ensures read { Reads (λ _. regions.new) result (block (entry_or_end (codes "REGIONS") grammar.region) regions.old) lexer.old lexer.new }
-    ensures range { All IsRegion regions.new }
-{
-    while region_or_end(alloc, lexer, regions)? {}
-    Ok(())
+    #[tactic(auto, unfolding(crate::specs::Regions::region))]
+    fn read(alloc: Global, lexer: &mut Lexer) -> Result<Region, ReadError> {
+        let name = name(lexer)?;
+        let rect = rect(lexer)?;
+        let mut parts = first_rect(alloc, rect)?;
+        read_block(lexer, &RegionTokens, &mut parts)?;
+        Ok(Region {
+            name: Name::from_slice(alloc, name.text)?,
+            kind: parts.kind,
+            rects: parts.rects,
+        })
+    }
 }
 
 /// A REGIONS section behind its keyword: its regions go behind the others.
-#[tactic(auto, unfolding(crate::specs::Entries::section))]
 pub(crate) fn regions(
     alloc: Global,
     lexer: &mut Lexer,
@@ -243,6 +197,5 @@ pub(crate) fn regions(
     ensures read { Reads (λ _. regions.new) result (grammar.regions regions.old) lexer.old lexer.new }
     ensures range { All IsRegion regions.new }
 {
-    to_semicolon(lexer)?;
-    region_entries(alloc, lexer, regions)
+    section(alloc, lexer, b"REGIONS", regions)
 }

@@ -15,8 +15,8 @@ use crate::parts::DocParts;
 use crate::regions::regions;
 use crate::rows::{Row, read_row};
 use lf_lex::{
-    FaultNumber, Lexer, ReadError, Token, fault_at, is, is_any_word, to_end, to_semicolon, to_word,
-    token,
+    Block, FaultNumber, Lexer, ReadError, Token, fault_at, is, is_any_word, read_block, to_end,
+    to_semicolon, to_word, token,
 };
 use lf_units::Sequence;
 use std::alloc::Global;
@@ -151,14 +151,24 @@ fn statement_from(
     Ok(true)
 }
 
-#[tactic(auto, unfolding(crate::specs::Document::statement))]
-fn statement(alloc: Global, lexer: &mut Lexer, parts: &mut DocParts) -> Result<bool, ReadError>
-    requires range { AreParts parts.old }
-    ensures read { Reads (turn parts.new) result (grammar.statement parts.old) lexer.old lexer.new }
-    ensures range { AreParts parts.new }
-{
-    let first = token(lexer)?;
-    statement_from(alloc, lexer, parts, &first)
+/// The statements of a text, up to END DESIGN.
+#[derive(Drop)]
+struct Statements {
+    alloc: Global,
+}
+
+impl Block for Statements {
+    type State = DocParts;
+
+    ghost statement = { λ _. grammar.statement };
+
+    ghost keeps = { λ _ parts. AreParts parts };
+
+    #[tactic(auto, unfolding(crate::specs::Document::statement))]
+    fn turn(&self, lexer: &mut Lexer, parts: &mut DocParts) -> Result<bool, ReadError> {
+        let first = token(lexer)?;
+        statement_from(self.alloc, lexer, parts, &first)
+    }
 }
 
 /// What is known before the first statement.
@@ -176,7 +186,8 @@ fn no_parts(alloc: Global) -> DocParts
     }
 }
 
-/// The statements of a text up to END DESIGN.
+/// What the statements of a text up to END DESIGN say.
+#[tactic(auto, using(lf_lex::proofs::Turns::fails_too))]
 pub(crate) fn read_statements(alloc: Global, text: &[u8]) -> Result<DocParts, ReadError>
     ensures ok { IfOk result (λ parts. grammar.parts_of text.now ≡ Ok parts) }
     ensures fault { IfErr result (λ e. Fails e (grammar.parts_of text.now)) }
@@ -184,6 +195,6 @@ pub(crate) fn read_statements(alloc: Global, text: &[u8]) -> Result<DocParts, Re
 {
     let mut lexer = Lexer::new(text);
     let mut parts = no_parts(alloc);
-    while statement(alloc, &mut lexer, &mut parts)? {}
+    read_block(&mut lexer, &Statements { alloc }, &mut parts)?;
     Ok(parts)
 }
