@@ -2,7 +2,7 @@
 
 ghost use Rattle.std.specs.Prelude.{◌≡◌, IfOk, IfSome};
 ghost use Rattle.lf_lex.specs.Tokens.{lexeme};
-ghost use Rattle.lf_lex.specs.Reading.{Reads, ReadsOn, block, turn};
+ghost use Rattle.lf_lex.specs.Reading.{Reads, ReadsOn, turn};
 ghost use Rattle.lf_lef.specs.Lengths.{HasRange};
 ghost use Rattle.lf_lef.specs.Macros as grammar;
 ghost use Rattle.lf_lef.specs.MacroRange.{HasRanges};
@@ -11,7 +11,9 @@ use crate::lengths::{keep_first, origin, size};
 use crate::pins::{Pin, rail_of, read_pin};
 use crate::sites::{no_point, symmetry};
 use lf_floorplan::Macro;
-use lf_lex::{Lexer, ReadError, Token, end_name, is, to_end, to_semicolon, token};
+use lf_lex::{
+    Block, Lexer, ReadError, Token, end_name, is, read_block, to_end, to_semicolon, token,
+};
 use lf_orient::{Rail, Symmetry};
 use lf_units::{Name, Point, Sequence};
 use std::alloc::Global;
@@ -25,26 +27,26 @@ pub struct MacroParts {
     pub pins: Sequence<Pin>,
 }
 
-#[tactic(auto, unfolding(crate::specs::Macros::passed_statement))]
-fn passed_statement(lexer: &mut Lexer) -> Result<bool, ReadError>
-    ensures { Reads (turn tt) result (grammar.passed_statement tt) lexer.old lexer.new }
-{
-    let token = token(lexer)?;
-    if is(b"END", &token) {
-        return Ok(false);
-    }
-    if !is(b";", &token) {
-        to_semicolon(lexer)?;
-    }
-    Ok(true)
-}
+/// The statements of OBS or DENSITY, which are passed over.
+#[derive(Drop)]
+struct PassedStatements;
 
-/// OBS or DENSITY behind its keyword.
-fn passed_group(lexer: &mut Lexer) -> Result<(), ReadError>
-    ensures { Reads (λ x. x) result grammar.passed_group lexer.old lexer.new }
-{
-    while passed_statement(lexer)? {}
-    Ok(())
+impl Block for PassedStatements {
+    type State = ();
+
+    ghost statement = { λ _. grammar.passed_statement };
+
+    #[tactic(auto, unfolding(crate::specs::Macros::passed_statement))]
+    fn turn(&self, lexer: &mut Lexer, _state: &mut ()) -> Result<bool, ReadError> {
+        let token = token(lexer)?;
+        if is(b"END", &token) {
+            return Ok(false);
+        }
+        if !is(b";", &token) {
+            to_semicolon(lexer)?;
+        }
+        Ok(true)
+    }
 }
 
 /// A statement of a macro that says nothing of it, of which the first token was read.
@@ -53,7 +55,7 @@ fn passed_from(lexer: &mut Lexer, token: &Token) -> Result<(), ReadError>
     ensures { ReadsOn (λ x. x) result (grammar.passed_from (lexeme token.now)) lexer.old lexer.new }
 {
     if is(b"OBS", token) || is(b"DENSITY", token) {
-        passed_group(lexer)
+        read_block(lexer, &PassedStatements, &mut ())
     } else if is(b"TIMING", token) {
         to_end(lexer, b"TIMING")
     } else if !is(b";", token) {
@@ -99,20 +101,25 @@ fn macro_statement_from(
     Ok(true)
 }
 
-#[tactic(auto, unfolding(crate::specs::Macros::macro_statement))]
-fn macro_statement(
+/// The statements of the macro of that name.
+#[derive(Drop)]
+struct MacroStatements<'n> {
     alloc: Global,
-    lexer: &mut Lexer,
-    name: &[u8],
-    parts: &mut MacroParts,
-) -> Result<bool, ReadError>
-    requires range { HasRanges parts.old.size parts.old.origin }
-    ensures read { Reads (turn parts.new) result
-        (grammar.macro_statement name.now parts.old) lexer.old lexer.new }
-    ensures range { HasRanges parts.new.size parts.new.origin }
-{
-    let token = token(lexer)?;
-    macro_statement_from(alloc, lexer, name, parts, &token)
+    name: &'n [u8],
+}
+
+impl<'n> Block for MacroStatements<'n> {
+    type State = MacroParts;
+
+    ghost statement = { λ mac. grammar.macro_statement mac.name.now };
+
+    ghost keeps = { λ _ parts. HasRanges parts.size parts.origin };
+
+    #[tactic(auto, unfolding(crate::specs::Macros::macro_statement))]
+    fn turn(&self, lexer: &mut Lexer, parts: &mut MacroParts) -> Result<bool, ReadError> {
+        let token = token(lexer)?;
+        macro_statement_from(self.alloc, lexer, self.name, parts, &token)
+    }
 }
 
 /// What is known of a macro before its first statement.
@@ -137,7 +144,7 @@ pub(crate) fn macro_parts(
     ensures range { IfOk result (λ parts. HasRanges parts.size parts.origin) }
 {
     let mut parts = no_parts(alloc);
-    while macro_statement(alloc, lexer, name, &mut parts)? {}
+    read_block(lexer, &MacroStatements { alloc, name }, &mut parts)?;
     Ok(parts)
 }
 

@@ -3,12 +3,12 @@
 ghost use Rattle.std.specs.Prelude.{◌≡◌, [], ◌+ℤ◌};
 ghost use Rattle.std.specs.List.{list_any};
 ghost use Rattle.lf_lex.specs.Tokens.{lexeme};
-ghost use Rattle.lf_lex.specs.Reading.{Reads, ReadsOn, block, turn};
+ghost use Rattle.lf_lex.specs.Reading.{Reads, ReadsOn, turn};
 ghost use Rattle.lf_lef.specs.Pins as grammar;
 
 use crate::lengths::{micros, point, point_from};
 use crate::sites::one_word;
-use lf_lex::{Lexer, ReadError, Token, end_name, is, name, to_semicolon, token};
+use lf_lex::{Block, Lexer, ReadError, Token, end_name, is, name, read_block, to_semicolon, token};
 use lf_orient::Rail;
 use lf_units::Sequence;
 use std::alloc::Global;
@@ -103,22 +103,20 @@ fn port_statement_from(
     Ok(true)
 }
 
-#[tactic(auto, unfolding(crate::specs::Pins::port_statement))]
-fn port_statement(lexer: &mut Lexer, reaches: &mut Sequence<Reach>) -> Result<bool, ReadError>
-    ensures { Reads (turn reaches.new) result
-        (grammar.port_statement reaches.old) lexer.old lexer.new }
-{
-    let token = token(lexer)?;
-    port_statement_from(lexer, reaches, &token)
-}
+/// The statements of a port: its rectangles go behind the others.
+#[derive(Drop)]
+struct PortStatements;
 
-/// A port behind its keyword: its rectangles go behind the others.
-fn port(lexer: &mut Lexer, reaches: &mut Sequence<Reach>) -> Result<(), ReadError>
-    ensures { Reads (λ _. reaches.new) result
-        (block grammar.port_statement reaches.old) lexer.old lexer.new }
-{
-    while port_statement(lexer, reaches)? {}
-    Ok(())
+impl Block for PortStatements {
+    type State = Sequence<Reach>;
+
+    ghost statement = { λ _. grammar.port_statement };
+
+    #[tactic(auto, unfolding(crate::specs::Pins::port_statement))]
+    fn turn(&self, lexer: &mut Lexer, reaches: &mut Sequence<Reach>) -> Result<bool, ReadError> {
+        let token = token(lexer)?;
+        port_statement_from(lexer, reaches, &token)
+    }
 }
 
 /// The use that a word names.
@@ -153,28 +151,29 @@ fn pin_statement_from(
         let word = one_word(lexer)?;
         pin.supply = pin.supply.or(Some(use_named(word)));
     } else if is(b"PORT", token) {
-        port(lexer, &mut pin.reaches)?;
+        read_block(lexer, &PortStatements, &mut pin.reaches)?;
     } else if !is(b";", token) {
         to_semicolon(lexer)?;
     }
     Ok(true)
 }
 
-#[tactic(auto, unfolding(crate::specs::Pins::pin_statement))]
-fn pin_statement(lexer: &mut Lexer, name: &[u8], pin: &mut Pin) -> Result<bool, ReadError>
-    ensures { Reads (turn pin.new) result
-        (grammar.pin_statement name.now pin.old) lexer.old lexer.new }
-{
-    let token = token(lexer)?;
-    pin_statement_from(lexer, name, pin, &token)
+/// The statements of the pin of that name.
+#[derive(Drop)]
+struct PinStatements<'n> {
+    name: &'n [u8],
 }
 
-fn pin_body(lexer: &mut Lexer, name: &[u8], pin: &mut Pin) -> Result<(), ReadError>
-    ensures { Reads (λ _. pin.new) result
-        (block (grammar.pin_statement name.now) pin.old) lexer.old lexer.new }
-{
-    while pin_statement(lexer, name, pin)? {}
-    Ok(())
+impl<'n> Block for PinStatements<'n> {
+    type State = Pin;
+
+    ghost statement = { λ pin. grammar.pin_statement pin.name.now };
+
+    #[tactic(auto, unfolding(crate::specs::Pins::pin_statement))]
+    fn turn(&self, lexer: &mut Lexer, pin: &mut Pin) -> Result<bool, ReadError> {
+        let token = token(lexer)?;
+        pin_statement_from(lexer, self.name, pin, &token)
+    }
 }
 
 /// `PIN name`, its statements and `END name`, behind its keyword.
@@ -187,7 +186,7 @@ pub(crate) fn read_pin(alloc: Global, lexer: &mut Lexer) -> Result<Pin, ReadErro
         supply: None,
         reaches: Sequence::new(alloc),
     };
-    pin_body(lexer, name.text, &mut pin)?;
+    read_block(lexer, &PinStatements { name: name.text }, &mut pin)?;
     Ok(pin)
 }
 

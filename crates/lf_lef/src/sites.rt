@@ -2,15 +2,15 @@
 
 ghost use Rattle.std.specs.Prelude.{◌≡◌, IfSome, IfOk, OnOk};
 ghost use Rattle.lf_lex.specs.Tokens.{lexeme};
-ghost use Rattle.lf_lex.specs.Reading.{Reads, ReadsOn, block, turn};
+ghost use Rattle.lf_lex.specs.Reading.{Reads, ReadsOn, turn};
 ghost use Rattle.lf_lef.specs.Lengths.{HasRange};
 ghost use Rattle.lf_lef.specs.Sites as grammar;
 
 use crate::lengths::{keep_first, size};
 use lf_floorplan::Site;
 use lf_lex::{
-    FaultNumber, Lexer, ReadError, Token, end_name, fault_at, is, keyword, to_semicolon, token,
-    word,
+    Block, FaultNumber, Lexer, ReadError, Token, end_name, fault_at, is, keyword, read_block,
+    to_semicolon, token, word,
 };
 use lf_orient::Symmetry;
 use lf_units::{Name, Point};
@@ -33,23 +33,30 @@ pub(crate) fn one_word<'a>(lexer: &mut Lexer<'a>) -> Result<&'a [u8], ReadError>
     Ok(word.text)
 }
 
-#[tactic(auto, unfolding(crate::specs::Sites::symmetry_word))]
-fn symmetry_word(lexer: &mut Lexer, symmetry: &mut Symmetry) -> Result<bool, ReadError>
-    ensures { Reads (turn symmetry.new) result
-        (grammar.symmetry_word symmetry.old) lexer.old lexer.new }
-{
-    let token = token(lexer)?;
-    if is(b";", &token) {
-        return Ok(false);
+/// The words behind SYMMETRY, up to the `;`.
+#[derive(Drop)]
+struct SymmetryWords;
+
+impl Block for SymmetryWords {
+    type State = Symmetry;
+
+    ghost statement = { λ _. grammar.symmetry_word };
+
+    #[tactic(auto, unfolding(crate::specs::Sites::symmetry_word))]
+    fn turn(&self, lexer: &mut Lexer, symmetry: &mut Symmetry) -> Result<bool, ReadError> {
+        let token = token(lexer)?;
+        if is(b";", &token) {
+            return Ok(false);
+        }
+        if is(b"X", &token) {
+            symmetry.x = true;
+        } else if is(b"Y", &token) {
+            symmetry.y = true;
+        } else if !is(b"R90", &token) {
+            return Err(fault_at(FaultNumber::Unexpected, token.line));
+        }
+        Ok(true)
     }
-    if is(b"X", &token) {
-        symmetry.x = true;
-    } else if is(b"Y", &token) {
-        symmetry.y = true;
-    } else if !is(b"R90", &token) {
-        return Err(fault_at(FaultNumber::Unexpected, token.line));
-    }
-    Ok(true)
 }
 
 /// `SYMMETRY {X | Y | R90} .. ;` behind its keyword.
@@ -57,7 +64,7 @@ pub(crate) fn symmetry(lexer: &mut Lexer) -> Result<Symmetry, ReadError>
     ensures { Reads (λ s. s) result grammar.symmetry lexer.old lexer.new }
 {
     let mut symmetry = Symmetry { x: false, y: false };
-    while symmetry_word(lexer, &mut symmetry)? {}
+    read_block(lexer, &SymmetryWords, &mut symmetry)?;
     Ok(symmetry)
 }
 
@@ -93,15 +100,24 @@ fn site_statement_from(
     Ok(true)
 }
 
-#[tactic(auto, unfolding(crate::specs::Sites::site_statement))]
-fn site_statement(lexer: &mut Lexer, name: &[u8], parts: &mut SiteParts) -> Result<bool, ReadError>
-    requires range { IfSome parts.old.size (λ p. HasRange p) }
-    ensures read { Reads (turn parts.new) result
-        (grammar.site_statement name.now parts.old) lexer.old lexer.new }
-    ensures range { IfSome parts.new.size (λ p. HasRange p) }
-{
-    let first = token(lexer)?;
-    site_statement_from(lexer, name, parts, &first)
+/// The statements of the site of that name.
+#[derive(Drop)]
+struct SiteStatements<'n> {
+    name: &'n [u8],
+}
+
+impl<'n> Block for SiteStatements<'n> {
+    type State = SiteParts;
+
+    ghost statement = { λ site. grammar.site_statement site.name.now };
+
+    ghost keeps = { λ _ parts. IfSome parts.size (λ p. HasRange p) };
+
+    #[tactic(auto, unfolding(crate::specs::Sites::site_statement))]
+    fn turn(&self, lexer: &mut Lexer, parts: &mut SiteParts) -> Result<bool, ReadError> {
+        let first = token(lexer)?;
+        site_statement_from(lexer, self.name, parts, &first)
+    }
 }
 
 /// The statements of a site, and its END name.
@@ -114,7 +130,7 @@ pub(crate) fn site_parts(lexer: &mut Lexer, name: &[u8]) -> Result<SiteParts, Re
         symmetry: None,
         size: None,
     };
-    while site_statement(lexer, name, &mut parts)? {}
+    read_block(lexer, &SiteStatements { name }, &mut parts)?;
     Ok(parts)
 }
 
