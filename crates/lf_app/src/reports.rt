@@ -4,14 +4,13 @@ ghost use Rattle.std.specs.Prelude.{◌≡◌, ◌++◌, [], ◌∷◌, ◌↔�
 ghost use Rattle.std.specs.Io.KnownBytes.{Appends};
 ghost use Rattle.lf_rules.specs.Legalizer.{Legalizer};
 ghost use Rattle.lf_rules.specs.Reports.{IsClean, IsTold};
-ghost use Rattle.lf_proto.specs.ReportText.{report_text};
 ghost use Rattle.lf_app.specs.Checks.{IsLegalDesign, def_places, design_report, report_line};
 ghost use Rattle.lf_app.specs.Exits.{IsEarly};
 ghost use Rattle.lf_app.specs.Faults.{IsReportFault};
 
 use crate::faults::{Fault, memory_fault};
 use lf_frame::{Cell, Loaded, Place};
-use lf_proto::{Text, report_json};
+use lf_proto::report_json;
 use lf_reports::check_all;
 use lf_rules::Report;
 use std::alloc::{AllocError, Global};
@@ -41,31 +40,15 @@ fn is_clean(report: &Report) -> bool
     report.unplaced == 0 && report.violations.is_empty()
 }
 
-/// The text and a line feed.
-fn as_line(alloc: Global, text: &Text) -> Result<Vec<u8>, AllocError>
-    ensures { IfOk result (λ line. line.items ≡ text.now ++ 10 ∷ []) }
-{
-    let mut line = Vec::with_capacity(alloc, text.as_bytes().len() + 1)?;
-    line.extend_from_slice(text.as_bytes())?;
-    line.push(b'\n')?;
-    Ok(line)
-}
-
-/// The text of the report and a line feed.
-fn report_line(alloc: Global, report: &Report) -> Result<Vec<u8>, AllocError>
-    requires { All IsTold report.now.violations }
-    ensures { IfOk result (λ line. line.items ≡ report_text report.now ++ 10 ∷ []) }
-{
-    let text = report_json(alloc, report)?;
-    as_line(alloc, &text)
-}
-
-/// Writes the line in one piece and flushes.
-fn put_line<'f, W: Write>(writer: &mut W, line: &[u8]) -> Result<(), Fault<'f>>
-    ensures ok { OnOk result (Appends (W.contents writer.old) (W.contents writer.new) line.now) }
+/// Writes the text and a line feed, and flushes.
+fn put_line<'f, W: Write>(writer: &mut W, text: &[u8]) -> Result<(), Fault<'f>>
+    ensures ok { OnOk result (Appends (W.contents writer.old) (W.contents writer.new) (text.now ++ 10 ∷ [])) }
     ensures err { IfErr result (λ fault. fault ≡ Fault.Output) }
 {
-    if writer.write_all(line).is_err() {
+    if writer.write_all(text).is_err() {
+        return Err(Fault::Output);
+    }
+    if writer.write_all(b"\n").is_err() {
         return Err(Fault::Output);
     }
     if writer.flush().is_err() {
@@ -91,9 +74,9 @@ pub(crate) fn report_design<'f, W: Write>(
     let Ok(report) = design_report(alloc, loaded) else {
         return Err(memory_fault());
     };
-    let Ok(line) = report_line(alloc, &report) else {
+    let Ok(text) = report_json(alloc, &report) else {
         return Err(memory_fault());
     };
-    put_line(writer, &line)?;
+    put_line(writer, text.as_bytes())?;
     Ok(is_clean(&report))
 }
