@@ -9,13 +9,13 @@ ghost use Rattle.lf_def.specs.Ranges.{IsCoordinate, IsLocation, IsPlacement, IsC
 
 use crate::coordinates::{orient_of, point_rest};
 use crate::entries::Due;
+use crate::text_name::TextName;
 use lf_lex::{
     FaultNumber, Lexer, ReadError, Token, end_name, fault_at, is, keyword, name, to_semicolon,
     token,
 };
 use lf_orient::Orient;
-use lf_units::{Name, Sequence};
-use std::alloc::Global;
+use lf_units::Sequence;
 
 /// What a placement clause says (LEF/DEF 5.8, DEF COMPONENTS).
 #[derive(Clone, Copy, Debug, PartialEq, Eq)]
@@ -46,12 +46,12 @@ pub struct Placement {
     pub stop: usize,
 }
 
-/// A component (LEF/DEF 5.8, DEF COMPONENTS).
+/// A component (LEF/DEF 5.8, DEF COMPONENTS), whose names its text lends.
 #[derive(Drop)]
-pub struct Component {
-    pub name: Name,
+pub struct Component<'a> {
+    pub name: TextName<'a>,
     /// The name of its macro.
-    pub mac: Name,
+    pub mac: TextName<'a>,
     /// Its placement clause; a component without one is unplaced.
     pub placement: Option<Placement>,
     /// The offset of its `;` in the text.
@@ -277,7 +277,7 @@ fn component_parts(lexer: &mut Lexer) -> Result<ComponentParts, ReadError>
 
 /// A component behind its minus.
 #[tactic(auto, unfolding(crate::specs::Components::component))]
-fn read_component(alloc: Global, lexer: &mut Lexer) -> Result<Component, ReadError>
+fn read_component<'a>(lexer: &mut Lexer<'a>) -> Result<Component<'a>, ReadError>
     ensures read { Reads (λ c. c) result grammar.component lexer.old lexer.new }
     ensures range { IfOk result (λ c. IsComponent c) }
 {
@@ -285,8 +285,8 @@ fn read_component(alloc: Global, lexer: &mut Lexer) -> Result<Component, ReadErr
     let mac = name(lexer)?;
     let parts = component_parts(lexer)?;
     Ok(Component {
-        name: Name::from_slice(alloc, component.text)?,
-        mac: Name::from_slice(alloc, mac.text)?,
+        name: TextName::new(component.text),
+        mac: TextName::new(mac.text),
         placement: parts.placement,
         semicolon: parts.semicolon,
     })
@@ -294,10 +294,9 @@ fn read_component(alloc: Global, lexer: &mut Lexer) -> Result<Component, ReadErr
 
 /// An entry, or END COMPONENTS; whether more follow.
 #[tactic(auto, unfolding(crate::specs::Entries::entry_or_end))]
-fn component_or_end(
-    alloc: Global,
-    lexer: &mut Lexer,
-    components: &mut Sequence<Component>,
+fn component_or_end<'a>(
+    lexer: &mut Lexer<'a>,
+    components: &mut Sequence<Component<'a>>,
 ) -> Result<bool, ReadError>
     requires range { All IsComponent components.old }
     ensures read { Reads (turn components.new) result (entry_or_end (codes "COMPONENTS") grammar.component components.old) lexer.old lexer.new }
@@ -305,7 +304,7 @@ fn component_or_end(
 {
     let token = token(lexer)?;
     if is(b"-", &token) {
-        let component = read_component(alloc, lexer)?;
+        let component = read_component(lexer)?;
         components.push(component)?;
         return Ok(true);
     }
@@ -317,30 +316,28 @@ fn component_or_end(
 }
 
 /// The entries of a section, and its END.
-fn component_entries(
-    alloc: Global,
-    lexer: &mut Lexer,
-    components: &mut Sequence<Component>,
+fn component_entries<'a>(
+    lexer: &mut Lexer<'a>,
+    components: &mut Sequence<Component<'a>>,
 ) -> Result<(), ReadError>
     requires range { All IsComponent components.old }
     ensures read { Reads (λ _. components.new) result (block (entry_or_end (codes "COMPONENTS") grammar.component) components.old) lexer.old lexer.new }
     ensures range { All IsComponent components.new }
 {
-    while component_or_end(alloc, lexer, components)? {}
+    while component_or_end(lexer, components)? {}
     Ok(())
 }
 
 /// A COMPONENTS section behind its keyword: its components go behind the others.
 #[tactic(auto, unfolding(crate::specs::Entries::section))]
-pub(crate) fn components(
-    alloc: Global,
-    lexer: &mut Lexer,
-    components: &mut Sequence<Component>,
+pub(crate) fn components<'a>(
+    lexer: &mut Lexer<'a>,
+    components: &mut Sequence<Component<'a>>,
 ) -> Result<(), ReadError>
     requires range { All IsComponent components.old }
     ensures read { Reads (λ _. components.new) result (grammar.components components.old) lexer.old lexer.new }
     ensures range { All IsComponent components.new }
 {
     to_semicolon(lexer)?;
-    component_entries(alloc, lexer, components)
+    component_entries(lexer, components)
 }
