@@ -1,19 +1,21 @@
 //! Components, and where their placement clauses stand in the text.
 
-ghost use Rattle.std.specs.Prelude.{◌≡◌, All, IfOk, IfSome};
+ghost use Rattle.std.specs.Prelude.{◌≡◌, All, IfOk, IfSome, codes};
 ghost use Rattle.lf_lex.specs.Tokens.{lexeme};
-ghost use Rattle.lf_lex.specs.Reading.{Reads, ReadsOn, turn};
+ghost use Rattle.lf_lex.specs.Reading.{Reads, ReadsOn, block, turn};
+ghost use Rattle.lf_def.specs.Entries.{entry_or_end};
 ghost use Rattle.lf_def.specs.Components as grammar;
 ghost use Rattle.lf_def.specs.Ranges.{IsCoordinate, IsLocation, IsPlacement, IsComponent};
 
 use crate::coordinates::{orient_of, point_rest};
-use crate::entries::{Due, Entry, section};
+use crate::entries::Due;
+use crate::text_name::TextName;
 use lf_lex::{
-    Block, FaultNumber, Lexer, ReadError, Token, fault_at, is, keyword, name, read_block, token,
+    Block, FaultNumber, Lexer, ReadError, Token, end_name, fault_at, is, keyword, name, read_block,
+    to_semicolon, token,
 };
 use lf_orient::Orient;
-use lf_units::{Name, Sequence};
-use std::alloc::Global;
+use lf_units::Sequence;
 
 /// What a placement clause says (LEF/DEF 5.8, DEF COMPONENTS).
 #[derive(Clone, Copy, Debug, PartialEq, Eq)]
@@ -44,12 +46,12 @@ pub struct Placement {
     pub stop: usize,
 }
 
-/// A component (LEF/DEF 5.8, DEF COMPONENTS).
+/// A component (LEF/DEF 5.8, DEF COMPONENTS), whose names its text lends.
 #[derive(Drop)]
-pub struct Component {
-    pub name: Name,
+pub struct Component<'a> {
+    pub name: TextName<'a>,
     /// The name of its macro.
-    pub mac: Name,
+    pub mac: TextName<'a>,
     /// Its placement clause; a component without one is unplaced.
     pub placement: Option<Placement>,
     /// The offset of its `;` in the text.
@@ -278,35 +280,70 @@ fn no_component() -> ComponentParts
     }
 }
 
-impl Entry for Component {
-    ghost entry = { grammar.component };
+/// A component behind its minus.
+#[tactic(auto, unfolding(crate::specs::Components::component))]
+fn read_component<'a>(lexer: &mut Lexer<'a>) -> Result<Component<'a>, ReadError>
+    ensures read { Reads (λ c. c) result grammar.component lexer.old lexer.new }
+    ensures range { IfOk result (λ c. IsComponent c) }
+{
+    let component = name(lexer)?;
+    let mac = name(lexer)?;
+    let mut parts = no_component();
+    read_block(lexer, &ComponentTokens, &mut parts)?;
+    Ok(Component {
+        name: TextName::new(component.text),
+        mac: TextName::new(mac.text),
+        placement: parts.placement,
+        semicolon: parts.semicolon,
+    })
+}
 
-    ghost keeps = { IsComponent };
-
-    #[tactic(auto, unfolding(crate::specs::Components::component))]
-    fn read(alloc: Global, lexer: &mut Lexer) -> Result<Component, ReadError> {
-        let component = name(lexer)?;
-        let mac = name(lexer)?;
-        let mut parts = no_component();
-        read_block(lexer, &ComponentTokens, &mut parts)?;
-        Ok(Component {
-            name: Name::from_slice(alloc, component.text)?,
-            mac: Name::from_slice(alloc, mac.text)?,
-            placement: parts.placement,
-            semicolon: parts.semicolon,
-        })
+/// An entry, or END COMPONENTS; whether more follow.
+#[tactic(auto, unfolding(crate::specs::Entries::entry_or_end))]
+fn component_or_end<'a>(
+    lexer: &mut Lexer<'a>,
+    components: &mut Sequence<Component<'a>>,
+) -> Result<bool, ReadError>
+    requires range { All IsComponent components.old }
+    ensures read { Reads (turn components.new) result (entry_or_end (codes "COMPONENTS") grammar.component components.old) lexer.old lexer.new }
+    ensures range { All IsComponent components.new }
+{
+    let token = token(lexer)?;
+    if is(b"-", &token) {
+        let component = read_component(lexer)?;
+        components.push(component)?;
+        return Ok(true);
     }
+    if is(b"END", &token) {
+        end_name(lexer, b"COMPONENTS")?;
+        return Ok(false);
+    }
+    Err(fault_at(FaultNumber::Unexpected, token.line))
+}
+
+/// The entries of a section, and its END. They borrow the text, so this loop is its own.
+fn component_entries<'a>(
+    lexer: &mut Lexer<'a>,
+    components: &mut Sequence<Component<'a>>,
+) -> Result<(), ReadError>
+    requires range { All IsComponent components.old }
+    ensures read { Reads (λ _. components.new) result (block (entry_or_end (codes "COMPONENTS") grammar.component) components.old) lexer.old lexer.new }
+    ensures range { All IsComponent components.new }
+{
+    while component_or_end(lexer, components)? {}
+    Ok(())
 }
 
 /// A COMPONENTS section behind its keyword: its components go behind the others.
-pub(crate) fn components(
-    alloc: Global,
-    lexer: &mut Lexer,
-    components: &mut Sequence<Component>,
+#[tactic(auto, unfolding(crate::specs::Entries::section))]
+pub(crate) fn components<'a>(
+    lexer: &mut Lexer<'a>,
+    components: &mut Sequence<Component<'a>>,
 ) -> Result<(), ReadError>
     requires range { All IsComponent components.old }
     ensures read { Reads (λ _. components.new) result (grammar.components components.old) lexer.old lexer.new }
     ensures range { All IsComponent components.new }
 {
-    section(alloc, lexer, b"COMPONENTS", components)
+    to_semicolon(lexer)?;
+    component_entries(lexer, components)
 }

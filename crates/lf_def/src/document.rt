@@ -25,7 +25,7 @@ pub struct DefDoc<'a> {
     pub rows: Sequence<Row>,
     pub regions: Sequence<Region>,
     pub groups: Sequence<Group>,
-    pub components: Sequence<Component>,
+    pub components: Sequence<Component<'a>>,
     pub blockages: Sequence<Blockage>,
     pub ghost read: { IsReadFrom text.now header rows regions groups components blockages },
     pub ghost header_range: { IsHeader header } by { Prim.hlevel props },

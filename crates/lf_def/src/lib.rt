@@ -15,6 +15,7 @@ mod regions;
 mod rows;
 mod sample;
 mod statements;
+mod text_name;
 mod texts;
 
 pub use blockages::Blockage;
@@ -31,4 +32,5 @@ pub use laws::{
 pub use regions::{Region, RegionKind};
 pub use rows::Row;
 pub use sample::W_DEF;
+pub use text_name::TextName;
 pub use texts::read_def;

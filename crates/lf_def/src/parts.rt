@@ -10,11 +10,11 @@ use lf_units::Sequence;
 
 /// What the statements that were read say.
 #[derive(Drop)]
-pub struct DocParts {
+pub struct DocParts<'a> {
     pub header: HeaderParts,
     pub rows: Sequence<Row>,
     pub regions: Sequence<Region>,
     pub groups: Sequence<Group>,
-    pub components: Sequence<Component>,
+    pub components: Sequence<Component<'a>>,
     pub blockages: Sequence<Blockage>,
 }

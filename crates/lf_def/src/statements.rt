@@ -15,8 +15,8 @@ use crate::parts::DocParts;
 use crate::regions::regions;
 use crate::rows::{Row, read_row};
 use lf_lex::{
-    Block, FaultNumber, Lexer, ReadError, Token, fault_at, is, is_any_word, read_block, to_end,
-    to_semicolon, to_word, token,
+    FaultNumber, Lexer, ReadError, Token, fault_at, is, is_any_word, to_end, to_semicolon, to_word,
+    token,
 };
 use lf_units::Sequence;
 use std::alloc::Global;
@@ -102,10 +102,10 @@ fn add_row(alloc: Global, lexer: &mut Lexer, rows: &mut Sequence<Row>) -> Result
 
 /// A row or a section, of which the keyword was read, or a statement that is passed over.
 #[tactic(auto, unfolding(crate::specs::Document::body_statement))]
-fn body_statement(
+fn body_statement<'a>(
     alloc: Global,
-    lexer: &mut Lexer,
-    parts: &mut DocParts,
+    lexer: &mut Lexer<'a>,
+    parts: &mut DocParts<'a>,
     token: &Token,
 ) -> Result<(), ReadError>
     requires range { AreParts parts.old }
@@ -119,7 +119,7 @@ fn body_statement(
     } else if is(b"GROUPS", token) {
         groups(alloc, lexer, &mut parts.groups)
     } else if is(b"COMPONENTS", token) {
-        components(alloc, lexer, &mut parts.components)
+        components(lexer, &mut parts.components)
     } else if is(b"BLOCKAGES", token) {
         blockages(alloc, lexer, &mut parts.blockages)
     } else {
@@ -129,10 +129,10 @@ fn body_statement(
 
 /// A statement of the text, of which the first token was read; whether more follow.
 #[tactic(auto, unfolding(crate::specs::Document::statement_from))]
-fn statement_from(
+fn statement_from<'a>(
     alloc: Global,
-    lexer: &mut Lexer,
-    parts: &mut DocParts,
+    lexer: &mut Lexer<'a>,
+    parts: &mut DocParts<'a>,
     token: &Token,
 ) -> Result<bool, ReadError>
     requires range { AreParts parts.old }
@@ -151,28 +151,22 @@ fn statement_from(
     Ok(true)
 }
 
-/// The statements of a text, up to END DESIGN.
-#[derive(Drop)]
-struct Statements {
+#[tactic(auto, unfolding(crate::specs::Document::statement))]
+fn statement<'a>(
     alloc: Global,
-}
-
-impl Block for Statements {
-    type State = DocParts;
-
-    ghost statement = { λ _. grammar.statement };
-
-    ghost keeps = { λ _ parts. AreParts parts };
-
-    #[tactic(auto, unfolding(crate::specs::Document::statement))]
-    fn turn(&self, lexer: &mut Lexer, parts: &mut DocParts) -> Result<bool, ReadError> {
-        let first = token(lexer)?;
-        statement_from(self.alloc, lexer, parts, &first)
-    }
+    lexer: &mut Lexer<'a>,
+    parts: &mut DocParts<'a>,
+) -> Result<bool, ReadError>
+    requires range { AreParts parts.old }
+    ensures read { Reads (turn parts.new) result (grammar.statement parts.old) lexer.old lexer.new }
+    ensures range { AreParts parts.new }
+{
+    let first = token(lexer)?;
+    statement_from(alloc, lexer, parts, &first)
 }
 
 /// What is known before the first statement.
-fn no_parts(alloc: Global) -> DocParts
+fn no_parts<'a>(alloc: Global) -> DocParts<'a>
     ensures parts { result ≡ grammar.no_parts }
     ensures range { AreParts result }
 {
@@ -186,15 +180,14 @@ fn no_parts(alloc: Global) -> DocParts
     }
 }
 
-/// What the statements of a text up to END DESIGN say.
-#[tactic(auto, using(lf_lex::proofs::Turns::fails_too))]
-pub(crate) fn read_statements(alloc: Global, text: &[u8]) -> Result<DocParts, ReadError>
+/// The statements of a text up to END DESIGN.
+pub(crate) fn read_statements<'a>(alloc: Global, text: &'a [u8]) -> Result<DocParts<'a>, ReadError>
     ensures ok { IfOk result (λ parts. grammar.parts_of text.now ≡ Ok parts) }
     ensures fault { IfErr result (λ e. Fails e (grammar.parts_of text.now)) }
     ensures range { IfOk result (λ parts. AreParts parts) }
 {
     let mut lexer = Lexer::new(text);
     let mut parts = no_parts(alloc);
-    read_block(&mut lexer, &Statements { alloc }, &mut parts)?;
+    while statement(alloc, &mut lexer, &mut parts)? {}
     Ok(parts)
 }
