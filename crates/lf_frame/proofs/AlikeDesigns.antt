@@ -1,6 +1,7 @@
--- Loading answers the same for inputs that differ in where components stand in the text alone.
+-- Loading answers the same for inputs that differ in where movable components stand alone.
 use Rattle.std.proofs.Common.{◌≡◌, ℕ, ◌+◌, inl, inr, Bool, true, false, List, [], ◌∷◌, ◌++◌, map, Option, None, Some, refl, sym, ◌∙◌, ap, subst}
-use Rattle.std.specs.Prelude.{filter_map, flat_map, MatchOption}
+use Rattle.std.specs.Prelude.{filter_map, flat_map, MatchOption, option_map}
+use Rattle.std.specs.Option.{option_and_then}
 use Rattle.std.specs.List.{AllZip}
 use Rattle.lf_units.specs.declared.area.Point.{Point}
 use Rattle.lf_units.specs.declared.area.Rect.{Rect}
@@ -11,7 +12,10 @@ use Rattle.lf_lef.specs.Contents.{Contents, macro_names}
 use Rattle.lf_names.specs.Names.{position_of}
 use Rattle.lf_def.specs.declared.components.Component.{Component}
 use Rattle.lf_def.specs.declared.components.Placement.{Placement}
-use Rattle.lf_def.specs.Laws.{without_places}
+use Rattle.lf_def.specs.declared.components.Location.{Location}
+use Rattle.lf_def.specs.declared.components.PlacementKind.{PlacementKind}
+use Rattle.lf_def.specs.declared.components.PlacementKind.TheVariants.{Fixed, Cover, Placed, Unplaced}
+use Rattle.lf_def.specs.Laws.{placement_without_places, without_places}
 use Rattle.lf_floorplan.specs.declared.frame.Frame.{Frame}
 use Rattle.lf_floorplan.specs.declared.loaded.Cell.{Cell}
 use Rattle.lf_floorplan.specs.declared.loaded.Loaded.{Loaded}
@@ -20,12 +24,12 @@ use Rattle.lf_floorplan.specs.Sizes.{size_in_dbu}
 use Rattle.lf_claims.specs.Refusals.{BearsEarlierName, IsClaimedTwice}
 use Rattle.lf_refusals.specs.Refusals.{HasBadStep, MeetsEarlierRow, HasNoMacro, HasNoSize, HasPartUnits, IsComponentTooMany, EndsTooFar}
 use Rattle.lf_refusals.specs.Findings.{Inputs, units_in, core_in, Finding, NameOfFirst, InTurn, OfCore, WhereWhole, OfPitch, CoreHasPartUnits, Finds}
-use Rattle.lf_frame.specs.Loads.{fixed_box, blocked, obstacles_in, movables_from, IsFrameOf, IsCellOf, IsLoadedFrom}
-use Rattle.lf_frame.specs.Alike.{AreAlike, FindAlike, AcceptedAlike, RefusedAlike, LoadedAlike}
-use Rattle.lf_frame.proofs.AlikeEntries.{Same, SameAll, name_same, mac_same, movable_same, location_same, name_alike, no_macro_respects, no_size_respects, part_units_respects, earlier_name_respects, claimed_twice_respects, too_many_respects}
+use Rattle.lf_frame.specs.Loads.{location, fixed_box, blocked, obstacles_in, movables_from, IsFrameOf, IsCellOf, IsLoadedFrom}
+use Rattle.lf_frame.specs.Alike.{settled, AreAlike, FindAlike, AcceptedAlike, RefusedAlike, LoadedAlike}
+use Rattle.lf_frame.proofs.AlikeEntries.{Same, SameAll, settled_without, name_same, mac_same, movable_same, name_alike, no_macro_respects, no_size_respects, part_units_respects, earlier_name_respects, claimed_twice_respects, too_many_respects}
 
 -- the inputs with these components
-abbrev with_components : Inputs → List Component → Inputs
+abbrev pub with_components : Inputs → List Component → Inputs
 with_components i cs = record i { document = record i.document { components = cs } }
 
 -- inputs that are alike differ in their components alone
@@ -43,8 +47,16 @@ but_components i j alike = λ d. record {
   limits = alike.limits d;
 }
 
-components_alike : (i j : Inputs) → AreAlike i j → SameAll i.document.components j.document.components
+components_alike : (i j : Inputs) → AreAlike i j → map without_places i.document.components ≡ map without_places j.document.components
 components_alike i j alike = ap (λ d. d.components) alike.document
+
+-- components whose positions alone differ are the same
+pub same_without : (xs ys : List Component) → map without_places xs ≡ map without_places ys → SameAll xs ys
+same_without xs ys same = sym (of_map xs) ∙ ap (map settled) same ∙ of_map ys
+  where
+    of_map : (cs : List Component) → map settled (map without_places cs) ≡ map settled cs
+    of_map [] = refl
+    of_map (c ∷ cs) = rw (settled_without c, of_map cs)
 
 -- what the one finding is, the other is too
 abbrev Carries : Finding → Finding → Type 0
@@ -74,8 +86,8 @@ core_units_same i xs ys found = by (core_in i)
     by None h = h
     by (Some core) h = record { whole = h.whole; part = h.part }
 
--- what a refusal finds does not turn on where components stand in the text
-finds_same : (i : Inputs) (xs ys : List Component) → SameAll xs ys → (n : FaultNumber) →
+-- what a refusal finds does not turn on where movable components stand
+pub finds_same : (i : Inputs) (xs ys : List Component) → SameAll xs ys → (n : FaultNumber) →
     Carries (Finds (with_components i xs) n) (Finds (with_components i ys) n)
 finds_same i xs ys same NoUnits = λ found h. h
 finds_same i xs ys same NoSite = λ found h. h
@@ -111,7 +123,7 @@ finds_same i xs ys same OutOfMemory = λ found h. h
 
 pub find_alike : FindAlike
 find_alike i j alike n found h =
-    finds_same j i.document.components j.document.components (components_alike i j alike) n found (subst (λ k. Finds k n found) (but_components i j alike) h)
+    finds_same j i.document.components j.document.components (same_without i.document.components j.document.components (components_alike i j alike)) n found (subst (λ k. Finds k n found) (but_components i j alike) h)
 
 pub accepted_alike : AcceptedAlike
 accepted_alike i j alike h n = find_alike i j alike n None (h n)
@@ -129,25 +141,33 @@ refused_alike i j alike fault h = record {
 
 -- A frame and cells.
 
-box_without : (library : Contents) (units : ℕ) (c : Component) → fixed_box library units (without_places c) ≡ fixed_box library units c
-box_without library units c = by c.placement
+box_settled : (library : Contents) (units : ℕ) (c : Component) → fixed_box library units (settled c) ≡ fixed_box library units c
+box_settled library units c = by c.placement
   where
-    by : (p : Option Placement) → fixed_box library units (without_places (record c { placement = p })) ≡ fixed_box library units (record c { placement = p })
+    by : (p : Option Placement) → fixed_box library units (settled (record c { placement = p })) ≡ fixed_box library units (record c { placement = p })
     by None = refl
-    by (Some p) = refl
+    by (Some p) = kinds p.kind p.place p.start p.stop
+      where
+        kinds : (kind : PlacementKind) (place : Option Location) (start stop : ℕ) →
+            fixed_box library units (settled (record c { placement = Some (record { kind = kind; place = place; start = start; stop = stop }) }))
+            ≡ fixed_box library units (record c { placement = Some (record { kind = kind; place = place; start = start; stop = stop }) })
+        kinds Fixed place start stop = refl
+        kinds Cover place start stop = refl
+        kinds Placed place start stop = refl
+        kinds Unplaced place start stop = refl
 
-boxes_without : (library : Contents) (units : ℕ) (cs : List Component) →
-    filter_map (fixed_box library units) (map without_places cs) ≡ filter_map (fixed_box library units) cs
-boxes_without library units [] = refl
-boxes_without library units (c ∷ cs) = rw (box_without library units c, boxes_without library units cs)
+boxes_settled : (library : Contents) (units : ℕ) (cs : List Component) →
+    filter_map (fixed_box library units) (map settled cs) ≡ filter_map (fixed_box library units) cs
+boxes_settled library units [] = refl
+boxes_settled library units (c ∷ cs) = rw (box_settled library units c, boxes_settled library units cs)
 
 obstacles_same : (i : Inputs) (xs ys : List Component) → SameAll xs ys → obstacles_in (with_components i xs) ≡ obstacles_in (with_components i ys)
 obstacles_same i xs ys same =
     let box : Component → Option Rect = fixed_box i.library (units_in i) in
-    let boxes : filter_map box xs ≡ filter_map box ys = sym (boxes_without i.library (units_in i) xs) ∙ ap (filter_map box) same ∙ boxes_without i.library (units_in i) ys in
+    let boxes : filter_map box xs ≡ filter_map box ys = sym (boxes_settled i.library (units_in i) xs) ∙ ap (filter_map box) same ∙ boxes_settled i.library (units_in i) ys in
     ap (λ l. l ++ flat_map blocked i.document.blockages) boxes
 
-frame_same : (i : Inputs) (xs ys : List Component) → SameAll xs ys → (f : Frame) → IsFrameOf (with_components i xs) f → IsFrameOf (with_components i ys) f
+pub frame_same : (i : Inputs) (xs ys : List Component) → SameAll xs ys → (f : Frame) → IsFrameOf (with_components i xs) f → IsFrameOf (with_components i ys) f
 frame_same i xs ys same f is = record {
   site = is.site;
   rows = is.rows;
@@ -158,43 +178,59 @@ frame_same i xs ys same f is = record {
   limits = is.limits;
 }
 
-cell_same : (i : Inputs) (xs ys : List Component) (k : ℕ) (a b : Component) (c : Cell) → Same a b → IsCellOf (with_components i xs) (k, a) c →
-    IsCellOf (with_components i ys) (k, b) c
-cell_same i xs ys k a b c same is = record {
-  name = is.name ∙ name_same a b same;
-  team = subst (λ name. IsTeamOf i.document.regions i.document.groups name c.team) (name_same a b same) is.team;
-  mac = subst (λ name. position_of (macro_names i.library.macros) name ≡ Some c.mac) (mac_same a b same) is.mac;
-  place = is.place ∙ location_same a b same;
-  component = is.component;
-}
-
 -- cells that fit the movable ones of some components fit those of the same components
-cells_same : (P Q : ℕ × Component → Cell → Type 0) → ((k : ℕ) (a b : Component) (c : Cell) → Same a b → P (k, a) c → Q (k, b) c) →
-    (k : ℕ) (xs ys : List Component) → SameAll xs ys → (cells : List Cell) → AllZip P (movables_from k xs) cells → AllZip Q (movables_from k ys) cells
-cells_same P Q made k [] [] same cells zip = by cells zip
+pub cells_same : (kept : Component → Component) → ((a b : Component) → kept a ≡ kept b → Same a b) → (P Q : ℕ × Component → Cell → Type 0) →
+    ((k : ℕ) (a b : Component) (c : Cell) → kept a ≡ kept b → P (k, a) c → Q (k, b) c) →
+    (k : ℕ) (xs ys : List Component) → map kept xs ≡ map kept ys → (cells : List Cell) → AllZip P (movables_from k xs) cells → AllZip Q (movables_from k ys) cells
+cells_same kept alike P Q made k [] [] same cells zip = by cells zip
   where
     by : (cells : List Cell) → AllZip P [] cells → AllZip Q [] cells
     by [] none = none
     by (c ∷ cs) none = none
-cells_same P Q made k [] (b ∷ ys) same cells zip = absurd (cc)
-cells_same P Q made k (a ∷ xs) [] same cells zip = absurd (cc)
-cells_same P Q made k (a ∷ xs) (b ∷ ys) same cells zip =
-    let one : Same a b = cc in
-    let others : SameAll xs ys = cc in
-    by (is_movable a) refl (sym (movable_same a b one)) one cells zip (cells_same P Q made (k + 1) xs ys others)
+cells_same kept alike P Q made k [] (b ∷ ys) same cells zip = absurd (cc)
+cells_same kept alike P Q made k (a ∷ xs) [] same cells zip = absurd (cc)
+cells_same kept alike P Q made k (a ∷ xs) (b ∷ ys) same cells zip =
+    let one : kept a ≡ kept b = cc in
+    let others : map kept xs ≡ map kept ys = cc in
+    by (is_movable a) refl (sym (movable_same a b (alike a b one))) one cells zip (cells_same kept alike P Q made (k + 1) xs ys others)
   where
-    by : (t : Bool) → is_movable a ≡ t → is_movable b ≡ is_movable a → Same a b → (cells : List Cell) → AllZip P (movables_from k (a ∷ xs)) cells →
+    by : (t : Bool) → is_movable a ≡ t → is_movable b ≡ is_movable a → kept a ≡ kept b → (cells : List Cell) → AllZip P (movables_from k (a ∷ xs)) cells →
         ((rest : List Cell) → AllZip P (movables_from (k + 1) xs) rest → AllZip Q (movables_from (k + 1) ys) rest) → AllZip Q (movables_from k (b ∷ ys)) cells
-    by true is alike one [] zip rest = absurd (rw is at zip)
-    by true is alike one (c ∷ cs) zip rest = let pair = rw is at zip in rw (alike, is) (made k a b c one pair.0, rest cs pair.1)
-    by false is alike one cells zip rest = rw (alike, is) (rest cells (rw is at zip))
+    by true is movable one [] zip rest = absurd (rw is at zip)
+    by true is movable one (c ∷ cs) zip rest = let pair = rw is at zip in rw (movable, is) (made k a b c one pair.0, rest cs pair.1)
+    by false is movable one cells zip rest = rw (movable, is) (rest cells (rw is at zip))
 
-loaded_same : (i : Inputs) (xs ys : List Component) → SameAll xs ys → (l : Loaded) → IsLoadedFrom (with_components i xs) l →
+-- Positions alone.
+
+one_without : (a b : Component) → without_places a ≡ without_places b → Same a b
+one_without a b same = sym (settled_without a) ∙ ap settled same ∙ settled_without b
+
+place_without : (p : Option Placement) → option_and_then (λ q. q.place) (option_map placement_without_places p) ≡ option_and_then (λ q. q.place) p
+place_without None = refl
+place_without (Some p) = refl
+
+location_without : (a b : Component) → without_places a ≡ without_places b → location a ≡ location b
+location_without a b same = sym (place_without a.placement) ∙ ap location same ∙ place_without b.placement
+
+cell_without : (i : Inputs) (xs ys : List Component) (k : ℕ) (a b : Component) (c : Cell) → without_places a ≡ without_places b →
+    IsCellOf (with_components i xs) (k, a) c → IsCellOf (with_components i ys) (k, b) c
+cell_without i xs ys k a b c same is =
+    let alike : Same a b = one_without a b same in
+    record {
+      name = is.name ∙ name_same a b alike;
+      team = subst (λ name. IsTeamOf i.document.regions i.document.groups name c.team) (name_same a b alike) is.team;
+      mac = subst (λ name. position_of (macro_names i.library.macros) name ≡ Some c.mac) (mac_same a b alike) is.mac;
+      place = is.place ∙ location_without a b same;
+      component = is.component;
+    }
+
+loaded_same : (i : Inputs) (xs ys : List Component) → map without_places xs ≡ map without_places ys → (l : Loaded) → IsLoadedFrom (with_components i xs) l →
     IsLoadedFrom (with_components i ys) l
 loaded_same i xs ys same l h = record {
-  accepted = λ n. finds_same i xs ys same n None (h.accepted n);
-  frame = frame_same i xs ys same l.frame h.frame;
-  cells = cells_same (IsCellOf (with_components i xs)) (IsCellOf (with_components i ys)) (cell_same i xs ys) 0 xs ys same l.cells h.cells;
+  accepted = λ n. finds_same i xs ys (same_without xs ys same) n None (h.accepted n);
+  frame = frame_same i xs ys (same_without xs ys same) l.frame h.frame;
+  cells =
+      cells_same without_places one_without (IsCellOf (with_components i xs)) (IsCellOf (with_components i ys)) (cell_without i xs ys) 0 xs ys same l.cells h.cells;
 }
 
 pub loaded_alike : LoadedAlike

@@ -1,7 +1,6 @@
--- Lists of components that differ in where these stand in the text alone: the same entry is the first to break a rule.
+-- Lists of components that differ in where the movable ones stand alone: the same entry is the first to break a rule.
 use Rattle.std.proofs.Common.{◌≡◌, ℕ, ◌<◌, Bool, false, List, [], ◌∷◌, length, map, take, get_or, Option, None, Some, refl, sym, ◌∙◌, ap, subst, arith}
 use Rattle.std.specs.Prelude.{slice_get, option_map, IsSomeAnd}
-use Rattle.std.specs.Option.{option_and_then}
 use Rattle.std.proofs.lemmas.List.{take-map, get_or-map, length-map}
 use Rattle.std.proofs.lemmas.Option.{slice_get-map}
 use Rattle.lf_def.specs.declared.regions.Region.{Region}
@@ -9,7 +8,9 @@ use Rattle.lf_def.specs.declared.groups.Group.{Group}
 use Rattle.lf_def.specs.declared.components.Component.{Component}
 use Rattle.lf_def.specs.declared.components.Placement.{Placement}
 use Rattle.lf_def.specs.declared.components.PlacementKind.{PlacementKind}
-use Rattle.lf_def.specs.Laws.{placement_without_places, without_places}
+use Rattle.lf_def.specs.declared.components.PlacementKind.TheVariants.{Fixed, Cover, Placed, Unplaced}
+use Rattle.lf_def.specs.declared.components.Location.{Location}
+use Rattle.lf_def.specs.Laws.{without_places}
 use Rattle.lf_lef.specs.Contents.{Contents}
 use Rattle.lf_claims.specs.Entries.{FirstIs}
 use Rattle.lf_claims.specs.Teams.{is_fixed_kind, is_cover_kind, says, is_fixed, is_cover, is_movable}
@@ -17,26 +18,48 @@ use Rattle.lf_refusals.specs.Loading.{at_place, macro_named, has_size, IsWholeSi
 use Rattle.lf_claims.specs.Refusals.{BearsEarlierName, HasTwoFences, IsClaimedTwice}
 use Rattle.lf_refusals.specs.Refusals.{HasNoMacro, HasNoSize, HasPartUnits, IsComponentTooMany}
 use Rattle.lf_refusals.specs.Findings.{NameOfFirst}
-use Rattle.lf_frame.specs.Loads.{location}
+use Rattle.lf_frame.specs.Alike.{settled}
 use Rattle.lf_units.proofs.Any.{name_of_any, any_of_name}
 
--- they are the same component, but for where it stands
+-- they are the same component, but that a movable one may stand elsewhere
 abbrev pub Same : Component → Component → Type 0
-Same a b = without_places a ≡ without_places b
+Same a b = settled a ≡ settled b
 
--- they are the same components, but for where these stand
+-- they are the same components, but that the movable ones may stand elsewhere
 abbrev pub SameAll : List Component → List Component → Type 0
-SameAll xs ys = map without_places xs ≡ map without_places ys
+SameAll xs ys = map settled xs ≡ map settled ys
 
--- What is said of a component, its positions apart, is said of every one that is the same.
+-- What is said of every component is said of every one that is the same.
 
-says_without : (is_kind : PlacementKind → Bool) (p : Option Placement) → says is_kind (option_map placement_without_places p) ≡ says is_kind p
-says_without is_kind None = refl
-says_without is_kind (Some p) = refl
+abbrev settled_placement : Option Placement → Option Placement
+settled_placement p = (settled (record { name = []; mac = []; placement = p; semicolon = 0 })).placement
 
-place_without : (p : Option Placement) → option_and_then (λ q. q.place) (option_map placement_without_places p) ≡ option_and_then (λ q. q.place) p
-place_without None = refl
-place_without (Some p) = refl
+says_settled : (is_kind : PlacementKind → Bool) → is_kind Placed ≡ false → is_kind Unplaced ≡ false → (p : Option Placement) → says is_kind (settled_placement p) ≡ says is_kind p
+says_settled is_kind placed unplaced None = refl
+says_settled is_kind placed unplaced (Some p) = by p.kind p.place p.start p.stop
+  where
+    by : (kind : PlacementKind) (place : Option Location) (start stop : ℕ) →
+        says is_kind (settled_placement (Some (record { kind = kind; place = place; start = start; stop = stop }))) ≡ is_kind kind
+    by Fixed place start stop = refl
+    by Cover place start stop = refl
+    by Placed place start stop = sym placed
+    by Unplaced place start stop = sym unplaced
+
+-- a component whose positions are left out is the same
+pub settled_without : (c : Component) → settled (without_places c) ≡ settled c
+settled_without c = by c.placement
+  where
+    by : (p : Option Placement) → settled (without_places (record c { placement = p })) ≡ settled (record c { placement = p })
+    by None = refl
+    by (Some p) = kinds p.kind p.place p.start p.stop
+      where
+        kinds : (kind : PlacementKind) (place : Option Location) (start stop : ℕ) →
+            settled (without_places (record c { placement = Some (record { kind = kind; place = place; start = start; stop = stop }) }))
+            ≡ settled (record c { placement = Some (record { kind = kind; place = place; start = start; stop = stop }) })
+        kinds Fixed place start stop = refl
+        kinds Cover place start stop = refl
+        kinds Placed place start stop = refl
+        kinds Unplaced place start stop = refl
 
 pub name_same : (a b : Component) → Same a b → a.name ≡ b.name
 name_same a b same = ap (λ c. c.name) same
@@ -45,40 +68,37 @@ pub mac_same : (a b : Component) → Same a b → a.mac ≡ b.mac
 mac_same a b same = ap (λ c. c.mac) same
 
 pub fixed_same : (a b : Component) → Same a b → is_fixed a ≡ is_fixed b
-fixed_same a b same = sym (says_without is_fixed_kind a.placement) ∙ ap is_fixed same ∙ says_without is_fixed_kind b.placement
+fixed_same a b same = sym (says_settled is_fixed_kind refl refl a.placement) ∙ ap is_fixed same ∙ says_settled is_fixed_kind refl refl b.placement
 
 pub cover_same : (a b : Component) → Same a b → is_cover a ≡ is_cover b
-cover_same a b same = sym (says_without is_cover_kind a.placement) ∙ ap is_cover same ∙ says_without is_cover_kind b.placement
+cover_same a b same = sym (says_settled is_cover_kind refl refl a.placement) ∙ ap is_cover same ∙ says_settled is_cover_kind refl refl b.placement
 
 pub movable_same : (a b : Component) → Same a b → is_movable a ≡ is_movable b
 movable_same a b same = rw (fixed_same a b same, cover_same a b same)
 
-pub location_same : (a b : Component) → Same a b → location a ≡ location b
-location_same a b same = sym (place_without a.placement) ∙ ap location same ∙ place_without b.placement
-
 -- Of lists that are the same, the same stands at each place.
 
 pub length_same : (xs ys : List Component) → SameAll xs ys → length xs ≡ length ys
-length_same xs ys same = sym (length-map xs without_places) ∙ ap length same ∙ length-map ys without_places
+length_same xs ys same = sym (length-map xs settled) ∙ ap length same ∙ length-map ys settled
 
 take_same : (xs ys : List Component) (k : ℕ) → SameAll xs ys → SameAll (take k xs) (take k ys)
-take_same xs ys k same = sym (take-map without_places k xs) ∙ ap (take k) same ∙ take-map without_places k ys
+take_same xs ys k same = sym (take-map settled k xs) ∙ ap (take k) same ∙ take-map settled k ys
 
 entry_same : (xs ys : List Component) (k : ℕ) (d : Component) → SameAll xs ys → k < length ys → Same (get_or xs k d) (get_or ys k d)
 entry_same xs ys k d same within =
     let there : k < length xs = omega (arith, length_same xs ys same) in
-    sym (get_or-map without_places xs k d d there) ∙ ap (λ l. get_or l k d) same ∙ get_or-map without_places ys k d d within
+    sym (get_or-map settled xs k d d there) ∙ ap (λ l. get_or l k d) same ∙ get_or-map settled ys k d d within
 
--- the names that components bear, in which their positions play no part
-names_same : (name_of : Component → List ℕ) → ((c : Component) → name_of (without_places c) ≡ name_of c) → (xs ys : List Component) → SameAll xs ys →
+-- the names that components bear
+names_same : (name_of : Component → List ℕ) → ((c : Component) → name_of (settled c) ≡ name_of c) → (xs ys : List Component) → SameAll xs ys →
     map name_of xs ≡ map name_of ys
 names_same name_of without xs ys same = of_map xs ∙ ap (map name_of) same ∙ sym (of_map ys)
   where
-    of_map : (cs : List Component) → map name_of cs ≡ map name_of (map without_places cs)
+    of_map : (cs : List Component) → map name_of cs ≡ map name_of (map settled cs)
     of_map [] = refl
     of_map (c ∷ cs) = rw (without c, of_map cs)
 
--- positions play no part in whether an entry breaks the rule
+-- where movable components stand plays no part in whether an entry breaks the rule
 abbrev pub Respects : (List Component → Component → Type 0) → Type 0
 Respects breaks = (xs ys : List Component) (a b : Component) → SameAll xs ys → Same a b → breaks xs a → breaks ys b
 
@@ -102,14 +122,14 @@ first_alike breaks respects xs ys same (Some n) first =
           first.none_before k d before (broken_same breaks respects ys xs (sym same) k d there broken);
     }
 
-named_alike : (name_of : Component → List ℕ) → ((c : Component) → name_of (without_places c) ≡ name_of c) → (xs ys : List Component) → SameAll xs ys →
+named_alike : (name_of : Component → List ℕ) → ((c : Component) → name_of (settled c) ≡ name_of c) → (xs ys : List Component) → SameAll xs ys →
     (place : Option ℕ) → option_map name_of (at_place xs place) ≡ option_map name_of (at_place ys place)
 named_alike name_of without xs ys same None = refl
 named_alike name_of without xs ys same (Some n) =
     sym (slice_get-map name_of xs n) ∙ ap (λ l. slice_get l n) (names_same name_of without xs ys same) ∙ slice_get-map name_of ys n
 
 -- the first component that breaks a rule bears the same name
-pub name_alike : (name_of : Component → List ℕ) → ((c : Component) → name_of (without_places c) ≡ name_of c) → (breaks : List Component → Component → Type 0) →
+pub name_alike : (name_of : Component → List ℕ) → ((c : Component) → name_of (settled c) ≡ name_of c) → (breaks : List Component → Component → Type 0) →
     Respects breaks →
     (xs ys : List Component) → SameAll xs ys → (found : Option (List ℕ)) → NameOfFirst name_of breaks xs found → NameOfFirst name_of breaks ys found
 name_alike name_of without breaks respects xs ys same found n = record {
@@ -118,7 +138,7 @@ name_alike name_of without breaks respects xs ys same found n = record {
   name = n.name ∙ named_alike name_of without xs ys same n.place;
 }
 
--- Positions play no part in any rule for components.
+-- Where movable components stand plays no part in any rule for components.
 
 pub no_macro_respects : (library : Contents) → Respects (HasNoMacro library)
 no_macro_respects library xs ys a b all same h = (sym (cover_same a b same) ∙ h.0, subst (λ m. macro_named library m ≡ None) (mac_same a b same) h.1)

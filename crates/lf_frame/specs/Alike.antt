@@ -1,11 +1,17 @@
 -- Inputs of loading that differ in nothing but where components stand in the DEF text: loading answers the same for both.
-use Rattle.std.specs.Prelude.{◌≡◌, ℕ, List, Option}
+use Rattle.std.specs.Prelude.{◌≡◌, ℕ, List, Option, None, cond, option_map}
 use Rattle.lf_lex.specs.declared.fault.FaultNumber.{FaultNumber}
 use Rattle.lf_lex.specs.declared.fault.LoadFault.{LoadFault}
-use Rattle.lf_def.specs.Laws.{document_without_places}
+use Rattle.lf_def.specs.declared.components.Component.{Component}
+use Rattle.lf_def.specs.Laws.{placement_without_places, document_without_places}
+use Rattle.lf_claims.specs.Teams.{is_movable}
 use Rattle.lf_floorplan.specs.declared.loaded.Loaded.{Loaded}
 use Rattle.lf_refusals.specs.Findings.{Inputs, Finds, IsAccepted, IsFault}
 use Rattle.lf_frame.specs.Loads.{IsLoadedFrom}
+
+-- what teams cannot change of a component: all but the placement of a movable one; its positions in the text are left out
+abbrev pub settled : Component → Component
+settled c = record { name = c.name; mac = c.mac; placement = cond (is_movable c) None (option_map placement_without_places c.placement); semicolon = 0 }
 
 -- they differ in the byte positions of components and of their placement clauses alone
 pub record AreAlike (i j : Inputs) : Type 0 where

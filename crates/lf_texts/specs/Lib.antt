@@ -1,2 +1,4 @@
 pub mod Clauses
 pub mod TeamText
+pub mod Words
+pub mod Entries

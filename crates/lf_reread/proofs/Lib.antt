@@ -1,0 +1,6 @@
+pub mod Fronts
+pub mod Lines
+pub mod Words
+pub mod TeamParts
+pub mod Frames
+pub mod Elsewhere

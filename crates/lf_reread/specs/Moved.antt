@@ -1,0 +1,51 @@
+-- Designs that are loaded again with their movable components elsewhere (DEF COMPONENTS).
+use Rattle.std.specs.Prelude.{◌≡◌, List, None, Option, map, option_map}
+use Rattle.lf_def.specs.declared.components.Location.{Location}
+use Rattle.lf_def.specs.Document.{Document}
+use Rattle.lf_def.specs.Laws.{document_without_places}
+use Rattle.lf_floorplan.specs.declared.frame.Frame.{Frame}
+use Rattle.lf_floorplan.specs.declared.loaded.Cell.{Cell}
+use Rattle.lf_floorplan.specs.declared.loaded.Loaded.{Loaded}
+use Rattle.lf_refusals.specs.Findings.{Inputs, IsAccepted}
+use Rattle.lf_frame.specs.Loads.{location, movables, as_location, IsFrameOf, IsLoadedFrom}
+use Rattle.lf_frame.specs.Alike.{settled}
+
+-- what teams cannot change of a document
+abbrev pub settled_document : Document → Document
+settled_document d = record d { components = map settled d.components }
+
+-- they differ in the placement of movable components alone, which stay movable, and in where components stand in the text
+pub record DifferInPlaces (i j : Inputs) : Type 0 where
+  pub library : i.library ≡ j.library
+  pub document : settled_document i.document ≡ settled_document j.document
+  pub limits : i.limits ≡ j.limits
+
+-- where the movable components of a document stand, in their order; an unplaced one stands nowhere
+abbrev pub movable_locations : Document → List (Option Location)
+movable_locations d = map (λ e. location e.1) (movables d.components)
+
+-- the cell without its place
+abbrev pub unplaced : Cell → Cell
+unplaced c = record c { place = None }
+
+-- the frame is the same, and the cells differ from the others in their places alone, which are these
+pub record IsElsewhere (l m : Loaded) (places : List (Option Location)) : Type 0 where
+  pub frame : m.frame ≡ l.frame
+  pub cells : map unplaced m.cells ≡ map unplaced l.cells
+  pub at_places : map (λ c. option_map as_location c.place) m.cells ≡ places
+
+-- Documents that differ in byte positions alone differ in nothing that teams cannot change.
+abbrev pub PositionsAreNotSettled : Type 0
+PositionsAreNotSettled = (a b : Document) → document_without_places a ≡ document_without_places b → settled_document a ≡ settled_document b
+
+-- Of inputs that differ in places alone, where one is accepted the other is.
+abbrev pub AcceptedElsewhere : Type 0
+AcceptedElsewhere = (i j : Inputs) → DifferInPlaces i j → IsAccepted i → IsAccepted j
+
+-- Of inputs that differ in places alone, the frame of one is the frame of the other.
+abbrev pub FrameStays : Type 0
+FrameStays = (i j : Inputs) → DifferInPlaces i j → (f : Frame) → IsFrameOf i f → IsFrameOf j f
+
+-- Of inputs that differ in places alone, the designs have one frame, and cells that differ in their places alone; these are the document's.
+abbrev pub LoadedElsewhere : Type 0
+LoadedElsewhere = (i j : Inputs) → DifferInPlaces i j → (l m : Loaded) → IsLoadedFrom i l → IsLoadedFrom j m → IsElsewhere l m (movable_locations j.document)

@@ -1,0 +1,23 @@
+//! What is true of written texts.
+
+ghost use Rattle.lf_reread.specs.Moved.{AcceptedElsewhere, FrameStays, LoadedElsewhere, PositionsAreNotSettled};
+ghost use Rattle.lf_reread.specs.TeamDocument.{TeamTextReadsBack};
+
+/// The DEF text of a team reads back: its header, the team's fence as its one region, the group that binds the
+/// team's cells to it by their names, and the cells at their working places, in loading order. It has no rows
+/// and no blockages.
+///
+/// A group's pattern cannot be `+`, so where the team has a fence, none of its cells may bear that name.
+pub fn team_text_reads_back()
+    ensures { TeamTextReadsBack }
+{}
+
+/// A design may be loaded again with its movable components elsewhere: a document that differs from an accepted
+/// one in their placements alone, and in where components stand in the text, is accepted; the design has the same
+/// frame, and cells that differ in their places alone, which are those of the document.
+pub fn moved_designs_load_alike()
+    ensures positions { PositionsAreNotSettled }
+    ensures accepted { AcceptedElsewhere }
+    ensures frame { FrameStays }
+    ensures loaded { LoadedElsewhere }
+{}

@@ -1,0 +1,6 @@
+//! What written texts say when they are read again, and what a design is that is loaded from them.
+#![tactic(auto)]
+
+mod laws;
+
+pub use laws::{moved_designs_load_alike, team_text_reads_back};

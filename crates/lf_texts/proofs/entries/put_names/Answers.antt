@@ -1,0 +1,14 @@
+use Rattle.std.proofs.Common.{◌++◌, ap, ◌∙◌}
+use Rattle.std.specs.List.{flat_map}
+use Rattle.lf_cells.specs.Cells.{cell_at}
+use Rattle.lf_texts.specs.Entries.{spaced_name}
+use Rattle.lf_texts.proofs.Lines.{put_all}
+use Rattle.lf_texts.proofs.ByIds.{names_by_ids}
+use Rattle.lf_texts.proofs.entries.put_names.Goals as goal
+
+pub returns : goal.returns
+returns c =
+    put_all (λ id. spaced_name (cell_at c.args.cells.now id)) c.args.out.now.items c.loop-id.out.items c.cells_of-id-items.result.now c.loop-id.id-index
+    c.loop-id-test.false c.loop-id.invariant
+    ∙ ap (λ ids. c.args.out.now.items ++ flat_map (λ id. spaced_name (cell_at c.args.cells.now id)) ids) c.cells_of-id-items.ensures
+    ∙ ap (λ l. c.args.out.now.items ++ l) (names_by_ids c.args.cells.now c.args.team)

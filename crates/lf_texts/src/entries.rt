@@ -1,0 +1,193 @@
+//! The entries of a team's sections: its fence, its cells and its group.
+
+ghost use Rattle.std.specs.Prelude.{◌≡◌, ◌++◌, OnOk, map};
+ghost use Rattle.std.specs.List.{flat_map};
+ghost use Rattle.lf_floorplan.specs.Boxes.{macro_of};
+ghost use Rattle.lf_lex.specs.Splices.{spaced};
+ghost use Rattle.lf_cells.specs.Cells.{cell_at, cells_of};
+ghost use Rattle.lf_texts.specs.Entries.{component_line, placed_words, spaced_name};
+ghost use Rattle.lf_texts.specs.TeamText.{component_words, group_words, line_of, rect_words, region_words};
+
+use crate::words::{Word, put, put_line, put_spaced};
+use lf_cells::{CellId, CellTable};
+use lf_floorplan::{Frame, Place, Team};
+use lf_orient::orient_word;
+use lf_units::Rect;
+use std::alloc::AllocError;
+
+/// Appends the points of a rectangle: its lower left corner, and its upper right one.
+fn put_rect(out: &mut Vec<u8>, rect: &Rect) -> Result<(), AllocError>
+    ensures { OnOk result (out.new.items ≡ out.old.items ++ spaced (rect_words rect.now)) }
+{
+    put_spaced(
+        out,
+        &[
+            Word::Text(b"("),
+            Word::Length(rect.x1),
+            Word::Length(rect.y1),
+            Word::Text(b")"),
+            Word::Text(b"("),
+            Word::Length(rect.x2),
+            Word::Length(rect.y2),
+            Word::Text(b")"),
+        ],
+    )
+}
+
+/// Appends the points of the rectangles.
+fn put_rects(out: &mut Vec<u8>, rects: &[Rect]) -> Result<(), AllocError>
+    ensures { OnOk result (out.new.items ≡ out.old.items ++ spaced (flat_map rect_words rects.now)) }
+{
+    for rect in rects {
+        put_rect(out, rect)?;
+    }
+    Ok(())
+}
+
+/// Appends the line of a fence.
+pub(crate) fn put_region(out: &mut Vec<u8>, fence: &Team) -> Result<(), AllocError>
+    ensures { OnOk result (out.new.items ≡ out.old.items ++ line_of (region_words fence.now)) }
+{
+    put(out, b"-")?;
+    put_spaced(out, &[Word::Text(fence.name.as_bytes())])?;
+    put_rects(out, fence.rects.as_slice())?;
+    put_spaced(
+        out,
+        &[
+            Word::Text(b"+"),
+            Word::Text(b"TYPE"),
+            Word::Text(b"FENCE"),
+            Word::Text(b";"),
+        ],
+    )?;
+    put(out, b"\n")
+}
+
+/// The name of the macro of that number; no byte where the frame has no such macro.
+fn macro_name(frame: &Frame, number: usize) -> &[u8]
+    ensures { result.now ≡ (macro_of frame.now number).name }
+{
+    match frame.macros.as_slice().get(number) {
+        Some(found) => found.name.as_bytes(),
+        None => b"",
+    }
+}
+
+/// Appends the line of a component with that name, macro and place.
+fn put_component_at<'x>(
+    out: &mut Vec<u8>,
+    name: &'x [u8],
+    macro_name: &'x [u8],
+    place: Option<Place>,
+) -> Result<(), AllocError>
+    ensures { OnOk result (out.new.items ≡ out.old.items ++ line_of (placed_words name.now macro_name.now place)) }
+{
+    match place {
+        None => put_line(
+            out,
+            b"-",
+            &[
+                Word::Text(name),
+                Word::Text(macro_name),
+                Word::Text(b"+"),
+                Word::Text(b"UNPLACED"),
+                Word::Text(b";"),
+            ],
+        ),
+        Some(place) => put_line(
+            out,
+            b"-",
+            &[
+                Word::Text(name),
+                Word::Text(macro_name),
+                Word::Text(b"+"),
+                Word::Text(b"PLACED"),
+                Word::Text(b"("),
+                Word::Length(i64::from(place.x)),
+                Word::Length(i64::from(place.y)),
+                Word::Text(b")"),
+                Word::Text(orient_word(place.orient)),
+                Word::Text(b";"),
+            ],
+        ),
+    }
+}
+
+/// Appends the line of the cell's component, at its working place.
+fn put_component(
+    out: &mut Vec<u8>,
+    frame: &Frame,
+    cells: &CellTable,
+    id: CellId,
+) -> Result<(), AllocError>
+    ensures { OnOk result (out.new.items ≡ out.old.items ++ component_line frame.now (cell_at cells.now id)) }
+{
+    match cells.cell(id) {
+        Some(facts) => put_component_at(
+            out,
+            facts.name,
+            macro_name(frame, facts.mac),
+            cells.working(id),
+        ),
+        None => Ok(()),
+    }
+}
+
+/// Appends the lines of the components of the team's cells, in loading order.
+pub(crate) fn put_components(
+    out: &mut Vec<u8>,
+    frame: &Frame,
+    cells: &CellTable,
+    team: usize,
+) -> Result<(), AllocError>
+    ensures { OnOk result (out.new.items ≡ out.old.items ++ flat_map line_of (map (component_words frame.now) (cells_of cells.now team))) }
+{
+    for id in cells.cells_of(team) {
+        put_component(out, frame, cells, *id)?;
+    }
+    Ok(())
+}
+
+/// Appends a space and the cell's name.
+fn put_name(out: &mut Vec<u8>, cells: &CellTable, id: CellId) -> Result<(), AllocError>
+    ensures { OnOk result (out.new.items ≡ out.old.items ++ spaced_name (cell_at cells.now id)) }
+{
+    match cells.cell(id) {
+        Some(facts) => put_spaced(out, &[Word::Text(facts.name)]),
+        None => Ok(()),
+    }
+}
+
+/// Appends the names of the team's cells, in loading order, a space before each.
+fn put_names(out: &mut Vec<u8>, cells: &CellTable, team: usize) -> Result<(), AllocError>
+    ensures { OnOk result (out.new.items ≡ out.old.items ++ spaced (map (λ c. c.name) (cells_of cells.now team))) }
+{
+    for id in cells.cells_of(team) {
+        put_name(out, cells, *id)?;
+    }
+    Ok(())
+}
+
+/// Appends the line of the group that binds the team's cells to the fence.
+pub(crate) fn put_group(
+    out: &mut Vec<u8>,
+    fence: &Team,
+    cells: &CellTable,
+    team: usize,
+) -> Result<(), AllocError>
+    ensures { OnOk result (out.new.items ≡ out.old.items ++ line_of (group_words fence.now (cells_of cells.now team))) }
+{
+    put(out, b"-")?;
+    put_spaced(out, &[Word::Text(fence.name.as_bytes())])?;
+    put_names(out, cells, team)?;
+    put_spaced(
+        out,
+        &[
+            Word::Text(b"+"),
+            Word::Text(b"REGION"),
+            Word::Text(fence.name.as_bytes()),
+            Word::Text(b";"),
+        ],
+    )?;
+    put(out, b"\n")
+}
