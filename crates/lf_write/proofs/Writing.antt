@@ -1,0 +1,96 @@
+-- The exported text, change by change.
+use Rattle.std.proofs.Common.{◌≡◌, ℕ, ◌+◌, ◌-◌, ◌<◌, ◌≤◌, Bool, true, false, cond, List, [], ◌∷◌, ◌++◌, length, get_or, take, drop, Option, Some, None, refl, sym, ap, ◌∙◌, arith}
+use Rattle.std.specs.Prelude.{slice_get, filter_map, All}
+use Rattle.std.specs.List.{cons_option}
+use Rattle.std.specs.Option.{option_and_then}
+use Rattle.std.proofs.lemmas.List.{append_assoc, append-nil, drop-drop, drop_all, drop_more}
+use Rattle.std.proofs.lemmas.Option.{slice_get_read}
+use Rattle.lf_lex.specs.Splices.{Splice, spliced, Rising}
+use Rattle.lf_floorplan.specs.declared.place.Place.{Place}
+use Rattle.lf_def.specs.declared.components.Component.{Component}
+use Rattle.lf_write.specs.Export.{stands_at, clause_splice, change, change_at, changes, exported}
+use Rattle.lf_write.proofs.Positions.{Given}
+
+-- what is written before a place of the text, and what the changes that are left make of the rest
+pub record Written (text : List ℕ) (cs : List Component) (places : Given) (i at : ℕ) (out : List ℕ) : Type 0 where
+  pub rising : Rising at (length text) (changes cs (drop i places))
+  pub whole : out ++ spliced at (changes cs (drop i places)) (drop at text) ≡ spliced 0 (changes cs places) text
+
+pub written_first : (text : List ℕ) (cs : List Component) (places : Given) (out : List ℕ) → Rising 0 (length text) (changes cs places) → out ≡ []
+    → Written text cs places 0 0 out
+written_first text cs places out r e = record { rising = r; whole = rw e refl }
+
+-- the first change that is left
+first_left : (cs : List Component) (places : Given) (i : ℕ) (g : ℕ × Option Place) (c : Component) → i < length places → g ≡ get_or places i g
+    → g.0 < length cs → c ≡ get_or cs g.0 c
+    → changes cs (drop i places) ≡ cons_option (change c g.1) (changes cs (drop (i + 1) places))
+first_left cs places i g c lt is_it within is_component =
+    ap (λ (z : Given). changes cs z) (drop_more places i g lt)
+    ∙ ap (λ (z : ℕ × Option Place). cons_option (change_at cs z) (changes cs (drop (i + 1) places))) (sym is_it)
+    ∙ ap (λ (z : Option Component). cons_option (option_and_then (λ d. change d g.1) z) (changes cs (drop (i + 1) places)))
+    (slice_get_read cs (length cs) g.0 c refl within is_component)
+
+abbrev pub splice_for : Component → Option Place → Splice
+splice_for c given = clause_splice c.placement c.semicolon given
+
+standing : (c : Component) (given : Option Place) (ss : List Splice) → stands_at c given ≡ true → cons_option (change c given) ss ≡ ss
+standing c given ss e = rw e refl
+
+moving : (c : Component) (given : Option Place) (ss : List Splice) → stands_at c given ≡ false → cons_option (change c given) ss ≡ splice_for c given ∷ ss
+moving c given ss e = rw e refl
+
+pub written_standing : (text : List ℕ) (cs : List Component) (places : Given) (i at : ℕ) (out : List ℕ) (g : ℕ × Option Place) (c : Component)
+    → i < length places → g ≡ get_or places i g → g.0 < length cs → c ≡ get_or cs g.0 c → stands_at c g.1 ≡ true
+    → Written text cs places i at out → Written text cs places (i + 1) at out
+written_standing text cs places i at out g c lt is_it within is_component stands w =
+    let e = first_left cs places i g c lt is_it within is_component ∙ standing c g.1 (changes cs (drop (i + 1) places)) stands in
+    record { rising = rw e at w.rising; whole = rw e at w.whole }
+
+rising_within : (at len : ℕ) (ss : List Splice) → Rising at len ss → at ≤ len
+rising_within at len [] h = h
+rising_within at len (s ∷ ss) h = omega (arith, h.0, h.1, rising_within s.stop len ss h.2)
+
+-- what is left begins with the change of this component
+pub ready : (text : List ℕ) (cs : List Component) (places : Given) (i at : ℕ) (out : List ℕ) (g : ℕ × Option Place) (c : Component)
+    → i < length places → g ≡ get_or places i g → g.0 < length cs → c ≡ get_or cs g.0 c → stands_at c g.1 ≡ false
+    → Written text cs places i at out
+    → (at ≤ (splice_for c g.1).start) × ((splice_for c g.1).start ≤ length text)
+ready text cs places i at out g c lt is_it within is_component moves w =
+    let e = first_left cs places i g c lt is_it within is_component ∙ moving c g.1 (changes cs (drop (i + 1) places)) moves in
+    let r = rw e at w.rising in
+    (r.0, omega (arith, r.1, rising_within (splice_for c g.1).stop (length text) (changes cs (drop (i + 1) places)) r.2))
+
+one_made : (text : List ℕ) (at : ℕ) (out out' : List ℕ) (s : Splice) (ss : List Splice) → at ≤ s.start → s.start ≤ s.stop
+    → out' ≡ out ++ (take (s.start - at) (drop at text) ++ s.new)
+    → out' ++ spliced s.stop ss (drop s.stop text) ≡ out ++ spliced at (s ∷ ss) (drop at text)
+unfolding spliced
+one_made text at out out' s ss le le' e =
+    let front = take (s.start - at) (drop at text) in
+    let behind : drop (s.stop - at) (drop at text) ≡ drop s.stop text =
+    let sum : at + (s.stop - at) ≡ s.stop = omega (arith, le, le') in drop-drop (s.stop - at) at text ∙ ap (λ (n : ℕ). drop n text) sum in
+    ap (λ (z : List ℕ). z ++ spliced s.stop ss (drop s.stop text)) e
+    ∙ append_assoc out (take (s.start - at) (drop at text) ++ s.new) (spliced s.stop ss (drop s.stop text))
+    ∙ ap (λ (z : List ℕ). out ++ z) (append_assoc (take (s.start - at) (drop at text)) s.new (spliced s.stop ss (drop s.stop text)))
+    ∙ ap (λ (z : List ℕ). out ++ (take (s.start - at) (drop at text) ++ (s.new ++ spliced s.stop ss z))) (sym behind)
+
+pub written_change : (text : List ℕ) (cs : List Component) (places : Given) (i at stop : ℕ) (out out' : List ℕ) (g : ℕ × Option Place) (c : Component)
+    → i < length places → g ≡ get_or places i g → g.0 < length cs → c ≡ get_or cs g.0 c → stands_at c g.1 ≡ false
+    → Written text cs places i at out
+    → out' ≡ out ++ (take ((splice_for c g.1).start - at) (drop at text) ++ (splice_for c g.1).new) → stop ≡ (splice_for c g.1).stop
+    → Written text cs places (i + 1) stop out'
+written_change text cs places i at stop out out' g c lt is_it within is_component moves w e stop_is =
+    let f = first_left cs places i g c lt is_it within is_component ∙ moving c g.1 (changes cs (drop (i + 1) places)) moves in
+    let r = rw f at w.rising in
+    let made = one_made text at out out' (splice_for c g.1) (changes cs (drop (i + 1) places)) r.0 r.1 e in
+    rw stop_is (record { rising = r.2; whole = made ∙ rw f at w.whole })
+
+pub written_last : (text : List ℕ) (cs : List Component) (places : Given) (i at : ℕ) (out : List ℕ) → length places ≤ i → Written text cs places i at out
+    → (at ≤ length text) × (out ++ drop at text ≡ exported text cs places)
+unfolding spliced
+written_last text cs places i at out past w =
+    let none : drop i places ≡ [] = drop_all i places past in
+    (rising_within at (length text) (changes cs (drop i places)) w.rising, rw none at w.whole)
+
+pub in_list : (cs : List Component) (places : Given) (i : ℕ) (g : ℕ × Option Place) → All (λ g. g.0 < length cs) places → i < length places
+    → g ≡ get_or places i g → g.0 < length cs
+in_list cs places i g all lt is_it = rw is_it (all i g lt)

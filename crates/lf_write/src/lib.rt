@@ -1,0 +1,7 @@
+//! Writes a DEF text with components at the places that they are given; every other byte stays.
+#![tactic(auto)]
+
+mod clause;
+mod text;
+
+pub use text::export;
