@@ -2,6 +2,7 @@
 #![tactic(auto)]
 
 mod clause;
+mod laws;
 mod text;
 
 pub use text::export;
