@@ -6,5 +6,6 @@ pub mod Positions
 pub mod Reading
 pub mod Renewed
 pub mod Spans
+pub mod Standing
 pub mod Statements
 pub mod Writing

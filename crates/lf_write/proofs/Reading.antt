@@ -1,7 +1,9 @@
 -- The exported text reads as the document with the given places in it.
-use Rattle.std.proofs.Common.{◌≡◌, ℕ, ◌+◌, ◌<◌, ◌≤◌, Bool, true, false, List, [], ◌∷◌, ◌++◌, map, length, Option, Some, None, Result, Ok, Err, refl, sym, ap, ◌∙◌, arith}
-use Rattle.std.specs.Prelude.{IfSome, ◌==◌}
-use Rattle.std.proofs.lemmas.List.{append-nil, map-append}
+use Rattle.std.proofs.Common.{◌≡◌, ℕ, ◌+◌, ◌<◌, ◌≤◌, Bool, true, false, cond, List, [], ◌∷◌, ◌++◌, map, length, Option, Some, None, Result, Ok, Err, refl, sym, ap, ◌∙◌, arith}
+use Rattle.std.specs.Prelude.{IfSome, All, ◌==◌}
+use Rattle.std.proofs.lemmas.List.{append-nil}
+use Rattle.std.proofs.lemmas.List.Elements.{All-head, All-tail}
+use Rattle.lf_floorplan.specs.declared.place.Place.{Place}
 use Rattle.lf_lex.specs.declared.fault.ReadFault.{ReadFault}
 use Rattle.lf_lex.specs.Tokens.{Lexed, Lexeme, Plain, plain, with_tokens, tokens_of}
 use Rattle.lf_lex.specs.Splices.{Splice, Edited, spliced}
@@ -13,10 +15,11 @@ use Rattle.lf_def.specs.Document.{Document, document_of, document_from, statemen
 use Rattle.lf_def.specs.Laws.{document_without_places}
 use Rattle.lf_def.proofs.Places.{bare_doc}
 use Rattle.lf_def.proofs.Same.{document_at, said}
-use Rattle.lf_write.specs.Export.{Rise, changes, exported, given_places}
+use Rattle.lf_write.specs.Export.{Rise, given_to, exported, given_places}
 use Rattle.lf_write.proofs.Positions.{Given, changes_from, changes_are}
 use Rattle.lf_write.proofs.Edits.{edited_both, all_made}
 use Rattle.lf_write.proofs.Entries.{HavePlaces}
+use Rattle.lf_write.proofs.Renewed.{HasPlace}
 use Rattle.lf_write.proofs.Statements.{placed_doc, all_of, statement_made}
 
 bare_alike : (s s' : DocParts) → bare_doc s' ≡ bare_doc s → document_without_places (document_at s') ≡ document_without_places (document_at s)
@@ -60,3 +63,12 @@ changes_read places h text d e =
 pub reads_back : (places : Given) → HavePlaces places → (text : List ℕ) (d : Document) → document_of text ≡ Ok d → Rise 0 (length d.components) places
     → ReadsAs (exported text d.components places) (given_places places d)
 reads_back places h text d e rise = rw (changes_are places d.components rise) (changes_read places h text d e)
+
+-- places whose coordinates fit are found to fit
+pub have_places : (places : Given) → All (λ g. HasPlace g.1) places → HavePlaces places
+have_places [] fit n = tt
+have_places (g ∷ places) fit n = by_test (g.0 == n) (have_places places (All-tail (λ (x : ℕ × Option Place). HasPlace x.1) g places fit) n)
+  where
+    by_test : (test : Bool) → IfSome (given_to places n) (λ given. HasPlace given) → IfSome (cond test (Some g.1) (given_to places n)) (λ given. HasPlace given)
+    by_test true h = All-head (λ (x : ℕ × Option Place). HasPlace x.1) g places fit
+    by_test false h = h

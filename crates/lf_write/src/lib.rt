@@ -5,4 +5,5 @@ mod clause;
 mod laws;
 mod text;
 
+pub use laws::{components_stand_where_they_are, exports_read_back, nothing_changes};
 pub use text::export;

@@ -4,8 +4,11 @@ ghost use Rattle.std.specs.Prelude.{◌≡◌, ◌++◌, ◌≤◌, ◌<◌, ◌
 ghost use Rattle.lf_lex.specs.Splices.{Rising};
 ghost use Rattle.lf_write.specs.Export.{CanBeGiven, exported, changes, clause_splice};
 ghost use Rattle.lf_write.specs.Export as spec;
+ghost use Rattle.lf_write.specs.Laws.{FitsText, ReadsBack};
+ghost use Rattle.lf_def.specs.Contents.{contents};
 
 use crate::clause::put_clause;
+use crate::laws::exports_read_back;
 use lf_def::{Component, DefDoc, Location, components_rise};
 use lf_floorplan::Place;
 use lf_orient::orient_word;
@@ -82,6 +85,16 @@ fn put_change(
     }
 }
 
+/// The coordinates of a place are such as a DEF text can hold.
+fn fits_text(place: &Option<Place>)
+    ensures { FitsText place.now }
+{
+    if let Some(place) = place {
+        let _x = place.x;
+        let _y = place.y;
+    }
+}
+
 /// The text with these components given these places.
 fn text_with(
     alloc: Global,
@@ -91,11 +104,13 @@ fn text_with(
 ) -> Result<Vec<u8>, AllocError>
     requires listed { All (λ g. g.0 < length components.now) places.now }
     requires rising { Rising 0 (length text.now) (changes components.now places.now) }
-    ensures { IfOk result (λ out. out.items ≡ exported text.now components.now places.now) }
+    ensures bytes { IfOk result (λ out. out.items ≡ exported text.now components.now places.now) }
+    ensures fit { OnOk result (All (λ g. FitsText g.1) places.now) }
 {
     let mut out = Vec::with_capacity(alloc, text.len())?;
     let mut at = 0;
     for (position, place) in places {
+        fits_text(place);
         let component = &components[*position];
         if !stands_at(component, place) {
             at = put_change(&mut out, text, at, component, place)?;
@@ -111,7 +126,8 @@ fn text_with(
 /// stays, and so does each component that stands at its place already.
 ///
 /// A component is listed by its position among all components of the text; positions rise, and no listed component
-/// is FIXED or COVER. `Err` where memory is refused.
+/// is FIXED or COVER. Reading the text again gives the document with these places in it, but for where its
+/// components stand in the text. `Err` where memory is refused.
 pub fn export(
     alloc: Global,
     document: &DefDoc<'_>,
@@ -119,7 +135,9 @@ pub fn export(
 ) -> Result<Vec<u8>, AllocError>
     requires places { CanBeGiven document.now.components places.now }
     ensures bytes { IfOk result (λ text. text.items ≡ exported document.now.text.now document.now.components places.now) }
+    ensures again { IfOk result (λ text. ReadsBack text.items places.now (contents document.now)) }
 {
     components_rise();
+    exports_read_back();
     text_with(alloc, document.text, document.components.as_slice(), places)
 }
