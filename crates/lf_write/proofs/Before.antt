@@ -1,8 +1,7 @@
 -- Up to the placement clause of a component, and where it has none up to its semicolon: what was read leads on to any clause.
-use Rattle.std.proofs.Common.{◌≡◌, ◌⊎◌, ℕ, zero, suc, ◌<◌, Bool, true, false, ◌&&◌, ◌||◌, cond, List, [], ◌∷◌, ◌++◌, map, length, Option, Some, None, Result, Ok, Err, inl, inr, refl, sym, ap, ◌∙◌, arith}
+use Rattle.std.proofs.Common.{◌≡◌, ◌⊎◌, ℕ, zero, suc, Bool, true, false, ◌||◌, cond, List, [], ◌∷◌, ◌++◌, map, Option, Some, None, Result, Ok, inl, inr, refl, sym, ap, ◌∙◌, arith}
 use Rattle.std.specs.Prelude.{codes}
 use Rattle.std.specs.Str.{bytes_eq}
-use Rattle.std.specs.Option.{option_map}
 use Rattle.std.proofs.lemmas.Slice.Eq.{bytes_eq-Decides}
 use Rattle.std.proofs.lemmas.List.{append_assoc, append-nil, map-append}
 use Rattle.lf_orient.specs.declared.Orient.{Orient}
@@ -11,8 +10,8 @@ use Rattle.lf_lex.specs.declared.fault.FaultNumber.TheVariants.{Unexpected}
 use Rattle.lf_lex.specs.declared.fault.ReadFault.{ReadFault}
 use Rattle.lf_lex.specs.Tokens.{Lexed, Lexeme, Plain, plain, with_token, with_tokens}
 use Rattle.lf_lex.specs.Splices.{LastIs, is_word_text}
-use Rattle.lf_lex.specs.Reading.{◌>>=◌, Taken, Turn, taken, turn, fault_at, token, is, keyword, statements}
-use Rattle.lf_lex.proofs.Runs.{TurnsAgain, turn_bare, ok_is, with_both, same_run, turns_follow}
+use Rattle.lf_lex.specs.Reading.{◌>>=◌, Taken, Turn, taken, turn, fault_at, is, keyword, statements}
+use Rattle.lf_lex.proofs.Runs.{turn_bare, ok_is, with_both, same_run, turns_follow}
 use Rattle.lf_lex.proofs.Back.{BackAt, TurnsAt, at_more}
 use Rattle.lf_def.specs.declared.entries.Due.{Due}
 use Rattle.lf_def.specs.declared.entries.Due.TheVariants.{Item, Keyword, Rest, Separator}
@@ -26,7 +25,7 @@ use Rattle.lf_def.specs.Components.{component_token, no_component}
 use Rattle.lf_def.specs.Laws.{IsPlace, LastEnds}
 use Rattle.lf_def.proofs.Clauses.{bind_ok, token_ok, if_ok, located_ok, MoreRun}
 use Rattle.lf_def.proofs.Places.{bare_parts, component_token_follows, component_token_goes}
-use Rattle.lf_write.proofs.Behind.{swap, Behind, behind_clause}
+use Rattle.lf_write.proofs.Behind.{swap, behind_clause}
 
 -- The placement clause that was read.
 
@@ -343,37 +342,44 @@ Outcome r l m y = ((y.placement ≡ None) × Bare r l m y) ⊎ ((p : Placement) 
 outcome_behind : (r run : List Lexeme) (l n m : Lexed) (y : ComponentParts) → l ≡ with_tokens run n → Outcome (r ++ run) n m y → Outcome r l m y
 outcome_behind r run l n m y w (inl o) =
     let f = o.1 in
-    inl (o.0, record {
-      front = run ++ f.front;
-      last = f.last;
-      whole = w ∙ ap (λ (z : Lexed). with_tokens run z) f.whole ∙ sym (with_both run (f.front ++ f.last ∷ []) m)
-          ∙ ap (λ (z : List Lexeme). with_tokens z m) (sym (append_assoc run f.front (f.last ∷ [])));
-      last_is = f.last_is;
-      semicolon = f.semicolon;
-      old = f.old;
-      none = f.none;
-      reached = let e = append_assoc r run f.front in rw e at f.reached;
-    })
+    inl (
+      o.0,
+      record {
+        front = run ++ f.front;
+        last = f.last;
+        whole = w ∙ ap (λ (z : Lexed). with_tokens run z) f.whole ∙ sym (with_both run (f.front ++ f.last ∷ []) m)
+            ∙ ap (λ (z : List Lexeme). with_tokens z m) (sym (append_assoc run f.front (f.last ∷ [])));
+        last_is = f.last_is;
+        semicolon = f.semicolon;
+        old = f.old;
+        none = f.none;
+        reached = let e = append_assoc r run f.front in rw e at f.reached;
+      },
+    )
 outcome_behind r run l n m y w (inr o) =
     let f = o.2 in
-    inr (o.0, o.1, record {
-      run = run ++ f.run;
-      whole = w ∙ ap (λ (z : Lexed). with_tokens run z) f.whole ∙ sym (with_both run f.run m);
-      front = f.front;
-      plus = f.plus;
-      word = f.word;
-      more = f.more;
-      after = f.after;
-      tokens = sym (append_assoc r run f.run) ∙ f.tokens;
-      start = f.start;
-      last = f.last;
-      old = f.old;
-      none = f.none;
-      reached = f.reached;
-      state = f.state;
-      due = f.due;
-      behind = f.behind;
-    })
+    inr (
+      o.0,
+      o.1,
+      record {
+        run = run ++ f.run;
+        whole = w ∙ ap (λ (z : Lexed). with_tokens run z) f.whole ∙ sym (with_both run f.run m);
+        front = f.front;
+        plus = f.plus;
+        word = f.word;
+        more = f.more;
+        after = f.after;
+        tokens = sym (append_assoc r run f.run) ∙ f.tokens;
+        start = f.start;
+        last = f.last;
+        old = f.old;
+        none = f.none;
+        reached = f.reached;
+        state = f.state;
+        due = f.due;
+        behind = f.behind;
+      },
+    )
 
 nil_behind : (more point : List Lexeme) → point ≡ [] → more ++ point ≡ more
 nil_behind more point e = rw e (append-nil more)
@@ -403,41 +409,48 @@ found n r l rest m s y t f e =
     (b.whole ∙ ap (λ (z : Lexed). with_tokens b.point z) g.whole)) in
     let e2 : with_tokens f.read.more (with_tokens b.point (with_tokens g.run m)) ≡ with_tokens ((f.read.more ++ b.point) ++ g.run) m =
     sym (with_both f.read.more b.point (with_tokens g.run m)) ∙ sym (with_both (f.read.more ++ b.point) g.run m) in
-    inr (b.placed, b.placement, record {
-      run = f.word ∷ ((f.read.more ++ b.point) ++ g.run);
-      whole = e1 ∙ ap (λ (z : Lexed). with_token f.word z) e2;
-      front = f.plus.front;
-      plus = f.plus.last;
-      word = f.word;
-      more = f.read.more ++ b.point;
-      after = g.run;
-      tokens = ap (λ (z : List Lexeme). z ++ f.word ∷ ((f.read.more ++ b.point) ++ g.run)) f.plus.whole
-          ∙ append_assoc f.plus.front (f.plus.last ∷ []) (f.word ∷ ((f.read.more ++ b.point) ++ g.run));
-      start = k.1 ∙ f.read.start ∙ f.plus.start;
-      last = k.0;
-      old = f.plus.old;
-      none = f.plus.none;
-      reached = f.plus.reached;
-      state = t.state;
-      due = f.due;
-      behind = λ q c s' a p x.
-          let h = turns_follow bare_parts component_token component_token_follows component_token_goes b.turns (swap q c t.state) s' (swap q c y) b.rest m a (b.same q c) in
-          h.again p (x ∙ ap (λ (z : List Lexeme). map plain z) (same_run g.run h.run b.rest m g.whole h.whole));
-    })
+    inr (
+      b.placed,
+      b.placement,
+      record {
+        run = f.word ∷ ((f.read.more ++ b.point) ++ g.run);
+        whole = e1 ∙ ap (λ (z : Lexed). with_token f.word z) e2;
+        front = f.plus.front;
+        plus = f.plus.last;
+        word = f.word;
+        more = f.read.more ++ b.point;
+        after = g.run;
+        tokens = ap (λ (z : List Lexeme). z ++ f.word ∷ ((f.read.more ++ b.point) ++ g.run)) f.plus.whole
+            ∙ append_assoc f.plus.front (f.plus.last ∷ []) (f.word ∷ ((f.read.more ++ b.point) ++ g.run));
+        start = k.1 ∙ f.read.start ∙ f.plus.start;
+        last = k.0;
+        old = f.plus.old;
+        none = f.plus.none;
+        reached = f.plus.reached;
+        state = t.state;
+        due = f.due;
+        behind = λ q c s' a p x.
+            let h = turns_follow bare_parts component_token component_token_follows component_token_goes b.turns (swap q c t.state) s' (swap q c y) b.rest m a (b.same q c) in
+            h.again p (x ∙ ap (λ (z : List Lexeme). map plain z) (same_run g.run h.run b.rest m g.whole h.whole));
+      },
+    )
 
 stopped_at : (r : List Lexeme) (l rest m : Lexed) (s y : ComponentParts) (t : Turn ComponentParts) → Before r s → StopsAt l rest s t → t.state ≡ y → rest ≡ m
     → Outcome r l m y
 stopped_at r l rest m s y t b f e g =
-    inl (sym (ap (λ (z : ComponentParts). z.placement) e) ∙ f.none, record {
-      front = [];
-      last = f.last;
-      whole = f.whole ∙ ap (λ (z : Lexed). with_token f.last z) g;
-      last_is = f.last_is;
-      semicolon = sym (ap (λ (z : ComponentParts). z.semicolon) e) ∙ f.semicolon;
-      old = s;
-      none = b.none;
-      reached = let k = append-nil r in rw (sym k) at b.reached;
-    })
+    inl (
+      sym (ap (λ (z : ComponentParts). z.placement) e) ∙ f.none,
+      record {
+        front = [];
+        last = f.last;
+        whole = f.whole ∙ ap (λ (z : Lexed). with_token f.last z) g;
+        last_is = f.last_is;
+        semicolon = sym (ap (λ (z : ComponentParts). z.semicolon) e) ∙ f.semicolon;
+        old = s;
+        none = b.none;
+        reached = let k = append-nil r in rw (sym k) at b.reached;
+      },
+    )
 
 taken_end : (n : ℕ) (t : Turn ComponentParts) (rest m : Lexed) (y : ComponentParts) → t.more ≡ false
     → cond t.more (statements component_token n t.state rest) (taken t.state rest) ≡ taken y m → (t.state ≡ y) × (rest ≡ m)

@@ -1,12 +1,12 @@
 -- What stands behind the placement clause of a component is read alike, whatever the clause says.
-use Rattle.std.proofs.Common.{◌≡◌, ◌⊎◌, ℕ, zero, suc, Bool, true, false, ◌&&◌, cond, List, [], ◌∷◌, ◌++◌, Option, Some, None, Result, Ok, Err, inl, inr, refl, sym, ap, ◌∙◌}
+use Rattle.std.proofs.Common.{◌≡◌, ◌⊎◌, ℕ, zero, suc, Bool, true, false, ◌&&◌, cond, List, [], ◌∷◌, Option, Some, None, Result, Ok, inl, inr, refl, sym, ap, ◌∙◌}
 use Rattle.std.specs.Prelude.{codes}
 use Rattle.std.specs.Str.{bytes_eq}
 use Rattle.std.specs.Option.{option_map}
 use Rattle.std.proofs.lemmas.Slice.Eq.{bytes_eq-Decides}
 use Rattle.lf_lex.specs.declared.fault.ReadFault.{ReadFault}
 use Rattle.lf_lex.specs.Tokens.{Lexed, Lexeme, with_token, with_tokens}
-use Rattle.lf_lex.specs.Reading.{◌>>=◌, Taken, Turn, taken, turn, token, is, statements}
+use Rattle.lf_lex.specs.Reading.{◌>>=◌, Taken, Turn, taken, turn, is, statements}
 use Rattle.lf_lex.proofs.Runs.{ok_is}
 use Rattle.lf_lex.proofs.Splicing.{and_true}
 use Rattle.lf_def.specs.declared.entries.Due.{Due}
@@ -15,7 +15,7 @@ use Rattle.lf_def.specs.declared.components.ComponentParts.{ComponentParts}
 use Rattle.lf_def.specs.declared.components.Placement.{Placement}
 use Rattle.lf_def.specs.Components.{is_placement_word, only_placement, clause, up_to_stop, unplaced_point, component_part, component_from, component_token}
 use Rattle.lf_def.specs.Laws.{IsPlace, LastEnds}
-use Rattle.lf_def.proofs.Clauses.{bind_ok, token_ok, if_ok, PlaceRun, located_ok}
+use Rattle.lf_def.proofs.Clauses.{bind_ok, token_ok, if_ok, located_ok}
 
 -- what is known of a component, with another clause
 abbrev pub swap : Placement → Bool → ComponentParts → ComponentParts

@@ -1,10 +1,9 @@
 -- What splices make of tokens, statement after statement.
-use Rattle.std.proofs.Common.{◌≡◌, ℕ, zero, suc, ◌<◌, Bool, true, false, cond, List, [], ◌∷◌, ◌++◌, map, length, Result, Ok, Err, refl, sym, ap, ◌∙◌, arith}
-use Rattle.std.proofs.lemmas.List.{append_assoc, append-nil, map-append}
-use Rattle.lf_lex.specs.declared.fault.ReadFault.{ReadFault}
+use Rattle.std.proofs.Common.{◌≡◌, ℕ, zero, suc, ◌<◌, Bool, true, false, cond, List, [], ◌∷◌, ◌++◌, map, length, refl, sym, ap, ◌∙◌}
+use Rattle.std.proofs.lemmas.List.{append_assoc, map-append}
 use Rattle.lf_lex.specs.Tokens.{Lexed, Lexeme, Plain, plain, with_tokens}
 use Rattle.lf_lex.specs.Splices.{Splice, Makes, Edited, word_of}
-use Rattle.lf_lex.specs.Reading.{Reader, Statement, Taken, Turn, taken, turn, statements}
+use Rattle.lf_lex.specs.Reading.{Reader, Statement, Turn, taken, turn, statements}
 use Rattle.lf_lex.proofs.Runs.{turn_bare, ok_is, with_both}
 use Rattle.lf_lex.proofs.Back.{BackAt, TurnsAt, at_last, at_more}
 use Rattle.lf_def.proofs.Clauses.{bind_ok}

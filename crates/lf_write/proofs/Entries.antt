@@ -1,16 +1,15 @@
 -- What splices make of a COMPONENTS section.
-use Rattle.std.proofs.Common.{◌≡◌, ℕ, suc, ◌+◌, ◌<◌, Bool, true, false, cond, List, [], ◌∷◌, ◌++◌, map, length, Option, Some, None, Result, Ok, Err, refl, sym, ap, ◌∙◌, arith}
-use Rattle.std.specs.Prelude.{codes, IfSome, option_map}
+use Rattle.std.proofs.Common.{◌≡◌, ℕ, ◌+◌, Bool, true, false, cond, List, [], ◌∷◌, ◌++◌, map, length, Option, Some, None, Result, Err, refl, sym, ap, ◌∙◌, arith}
+use Rattle.std.specs.Prelude.{codes, IfSome}
 use Rattle.std.specs.List.{cons_option, enumerate_from}
 use Rattle.std.proofs.lemmas.List.{append-nil}
 use Rattle.lf_lex.specs.declared.fault.ReadFault.{ReadFault}
 use Rattle.lf_lex.specs.Tokens.{Lexed, Lexeme, Plain, plain, with_token, with_tokens}
 use Rattle.lf_lex.specs.Splices.{Splice, Edited}
-use Rattle.lf_lex.specs.Reading.{◌>>=◌, Taken, Turn, taken, turn, is, end_name, to_semicolon, block}
+use Rattle.lf_lex.specs.Reading.{◌>>=◌, Taken, Turn, taken, turn, is, end_name, to_semicolon}
 use Rattle.lf_lex.proofs.Runs.{same, turn_bare, ok_is, with_both}
 use Rattle.lf_lex.proofs.Back.{BackAt, at_bind, at_map, at_first, at_yes, at_no, at_block}
 use Rattle.lf_lex.proofs.Following.{is_alike, to_semicolon_follows, end_name_follows}
-use Rattle.lf_floorplan.specs.declared.place.Place.{Place}
 use Rattle.lf_def.specs.declared.components.Component.{Component}
 use Rattle.lf_def.specs.Entries.{entry_or_end, section}
 use Rattle.lf_def.specs.Components.{component, components}
@@ -20,7 +19,7 @@ use Rattle.lf_def.proofs.Places.{bare_list, components_grow}
 use Rattle.lf_write.specs.Export.{given_to, perhaps_with_place, with_places}
 use Rattle.lf_write.proofs.Positions.{Given, change_of, changes_from}
 use Rattle.lf_write.proofs.Renewed.{HasPlace, changed}
-use Rattle.lf_write.proofs.Edits.{Made, MadeTurn, AllMade, edited_behind, edited_both, all_made, same_turn}
+use Rattle.lf_write.proofs.Edits.{MadeTurn, edited_behind, all_made, same_turn}
 
 -- every place that is given has coordinates that a text can hold
 abbrev pub HavePlaces : Given → Type 0

@@ -1,5 +1,5 @@
 -- The exported text reads as the document with the given places in it.
-use Rattle.std.proofs.Common.{◌≡◌, ℕ, ◌+◌, ◌<◌, ◌≤◌, Bool, true, false, cond, List, [], ◌∷◌, ◌++◌, map, length, Option, Some, None, Result, Ok, Err, refl, sym, ap, ◌∙◌, arith}
+use Rattle.std.proofs.Common.{◌≡◌, ℕ, Bool, true, false, cond, List, [], ◌∷◌, ◌++◌, map, length, Option, Some, Result, Ok, refl, sym, ap, ◌∙◌}
 use Rattle.std.specs.Prelude.{IfSome, All, ◌==◌}
 use Rattle.std.proofs.lemmas.List.{append-nil}
 use Rattle.std.proofs.lemmas.List.Elements.{All-head, All-tail}
@@ -7,7 +7,7 @@ use Rattle.lf_floorplan.specs.declared.place.Place.{Place}
 use Rattle.lf_lex.specs.declared.fault.ReadFault.{ReadFault}
 use Rattle.lf_lex.specs.Tokens.{Lexed, Lexeme, Plain, plain, with_tokens, tokens_of}
 use Rattle.lf_lex.specs.Splices.{Splice, Edited, spliced}
-use Rattle.lf_lex.specs.Reading.{Taken, taken, behind, block, value_of}
+use Rattle.lf_lex.specs.Reading.{Taken, behind, block, value_of}
 use Rattle.lf_lex.proofs.Splicing.{edited_tokens}
 use Rattle.lf_lex.proofs.Back.{halves, at_block}
 use Rattle.lf_def.specs.declared.parts.DocParts.{DocParts}
@@ -57,8 +57,12 @@ changes_read places h text d e =
     let there : tokens_of (spliced 0 g.made text) ≡ with_tokens c.front rest = ap (λ (z : List Lexeme). behind z (tokens_of (spliced 0 g.made text))) c.whole in
     let one = ap (λ (z : Lexed). document_from (value_of (block statement no_parts z))) there
     ∙ ap (λ (z : Result (Taken DocParts) ReadFault). document_from (value_of z)) (a.takes rest) in
-    rw made_is (document_at a.value, one, bare_alike (placed_doc places s.parts) a.value a.alike
-    ∙ ap (λ (z : Document). document_without_places (given_places places z)) s.gives)
+    rw made_is (
+      document_at a.value,
+      one,
+      bare_alike (placed_doc places s.parts) a.value a.alike
+          ∙ ap (λ (z : Document). document_without_places (given_places places z)) s.gives,
+    )
 
 pub reads_back : (places : Given) → HavePlaces places → (text : List ℕ) (d : Document) → document_of text ≡ Ok d → Rise 0 (length d.components) places
     → ReadsAs (exported text d.components places) (given_places places d)

@@ -1,5 +1,5 @@
 -- A component whose placement clause is written anew reads as the component at its new place.
-use Rattle.std.proofs.Common.{◌≡◌, ◌⊎◌, ℕ, suc, Bool, true, false, ◌&&◌, cond, List, [], ◌∷◌, ◌++◌, map, length, Option, Some, None, Result, Ok, inl, inr, refl, sym, ap, ◌∙◌, arith}
+use Rattle.std.proofs.Common.{◌≡◌, ℕ, Bool, true, false, List, [], ◌∷◌, ◌++◌, map, Option, Some, None, inl, inr, refl, sym, ap, ◌∙◌, arith}
 use Rattle.std.specs.Prelude.{codes, IfSome}
 use Rattle.std.specs.List.{list_all, cons_option}
 use Rattle.std.specs.Option.{option_map}
@@ -9,8 +9,8 @@ use Rattle.lf_orient.specs.declared.Orient.{Orient}
 use Rattle.lf_orient.specs.declared.Orient.TheVariants.{N, W, S, E, FN, FW, FS, FE}
 use Rattle.lf_orient.specs.Words.{orient_word}
 use Rattle.lf_lex.specs.Tokens.{Lexed, Lexeme, Plain, plain, with_tokens}
-use Rattle.lf_lex.specs.Splices.{Splice, Makes, Edited, is_word_text, word_of}
-use Rattle.lf_lex.specs.Reading.{Taken, Turn, taken, turn, is, name, block}
+use Rattle.lf_lex.specs.Splices.{Makes, Edited, is_word_text, word_of}
+use Rattle.lf_lex.specs.Reading.{taken, turn, is, name, block}
 use Rattle.lf_lex.proofs.Runs.{turn_bare, ok_is, with_both}
 use Rattle.lf_lex.proofs.Back.{BackAt, TurnsAt, back_pure, at_bind, at_map, at_first, at_yes, at_no, at_last, at_more, at_block}
 use Rattle.lf_lex.proofs.BackWords.{is_at}
@@ -33,9 +33,9 @@ use Rattle.lf_def.proofs.Places.{bare_parts, parts_at, component_at, component_f
 use Rattle.lf_def.proofs.PrintedNumbers.{decimals_are_read, decimals_are_words}
 use Rattle.lf_def.proofs.PrintedPlaces.{is_unplaced, clause_at, none_is}
 use Rattle.lf_texts.specs.Clauses.{clause_words}
-use Rattle.lf_write.specs.Export.{as_location, placement_at, stands_at, clause_splice, change, with_place, perhaps_with_place}
+use Rattle.lf_write.specs.Export.{as_location, placement_at, stands_at, clause_splice, perhaps_with_place}
 use Rattle.lf_write.proofs.Behind.{swap}
-use Rattle.lf_write.proofs.Before.{Reaches, Bare, Found, Outcome, parts_found}
+use Rattle.lf_write.proofs.Before.{Bare, Found, Outcome, parts_found}
 use Rattle.lf_write.proofs.Positions.{change_of}
 
 -- the coordinates of a place are some that a text can hold

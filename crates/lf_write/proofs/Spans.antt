@@ -1,5 +1,5 @@
 -- Changes of components stand one behind the other within the text.
-use Rattle.std.proofs.Common.{◌≡◌, ℕ, ◌+◌, ◌-◌, ◌<◌, ◌≤◌, Bool, true, false, cond, List, [], ◌∷◌, ◌++◌, length, Option, Some, None, Ok, refl, sym, ap, ◌∙◌, arith}
+use Rattle.std.proofs.Common.{◌≡◌, ℕ, ◌+◌, ◌≤◌, Bool, true, false, List, [], ◌∷◌, length, Option, Some, None, refl, arith}
 use Rattle.std.specs.List.{cons_option}
 use Rattle.lf_lex.specs.Splices.{Splice, Rising}
 use Rattle.lf_floorplan.specs.declared.place.Place.{Place}

@@ -1,5 +1,5 @@
 -- A component stands at a place where its location is that place.
-use Rattle.std.proofs.Common.{◌≡◌, ◌↔◌, ℕ, Bool, true, false, ◌&&◌, List, ℤ, Option, Some, None, Result, Ok, refl, sym, ap, ◌∙◌}
+use Rattle.std.proofs.Common.{◌≡◌, ◌↔◌, ℕ, Bool, true, ◌&&◌, List, ℤ, Option, Some, None, Result, Ok, refl, sym, ap, ◌∙◌}
 use Rattle.std.specs.Prelude.{bytes_eq, IsTrue, option_map}
 use Rattle.std.specs.Ordering.{int_eq}
 use Rattle.std.proofs.lemmas.Bool.Decides.{Decides-int_eq}
@@ -60,9 +60,10 @@ stands_by : (at : Option Location) (given : Option Place) → (is_at at given �
 stands_by None None = ((λ h. refl), (λ h. refl))
 stands_by None (Some p) = ((λ h. absurd cc), (λ h. absurd cc))
 stands_by (Some l) None = ((λ h. absurd cc), (λ h. absurd cc))
-stands_by (Some l) (Some p) =
-    ((λ h. ap (λ (z : Location). Some z) (found_there l p h)),
-    (λ h. ap (λ (z : Location). is_at (Some z) (Some p)) (some_same l (as_location p) h) ∙ is_there p))
+stands_by (Some l) (Some p) = (
+  (λ h. ap (λ (z : Location). Some z) (found_there l p h)),
+  (λ h. ap (λ (z : Location). is_at (Some z) (Some p)) (some_same l (as_location p) h) ∙ is_there p),
+)
 
 pub stands_there : (c : Component) (given : Option Place) → IsTrue (stands_at c given) ↔ (location c ≡ option_map as_location given)
 stands_there c given = stands_by (location c) given

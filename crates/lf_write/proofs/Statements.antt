@@ -1,14 +1,14 @@
 -- What splices make of the statements of a text.
-use Rattle.std.proofs.Common.{◌≡◌, ℕ, suc, ◌+◌, ◌<◌, ◌≤◌, Bool, true, false, cond, List, [], ◌∷◌, ◌++◌, map, length, Option, Some, None, Result, Ok, Err, refl, sym, ap, ◌∙◌, arith}
+use Rattle.std.proofs.Common.{◌≡◌, ℕ, ◌<◌, Bool, true, false, cond, List, [], ◌∷◌, map, length, Result, Ok, Err, refl, sym, ap, ◌∙◌, arith}
 use Rattle.std.specs.Prelude.{codes}
 use Rattle.std.proofs.lemmas.List.{append-nil}
 use Rattle.std.proofs.lemmas.Slice.Eq.{bytes_eq-Decides}
 use Rattle.lf_lex.specs.declared.fault.ReadFault.{ReadFault}
-use Rattle.lf_lex.specs.Tokens.{Lexed, Lexeme, Plain, plain, with_token, with_tokens}
+use Rattle.lf_lex.specs.Tokens.{Lexed, Lexeme, plain, with_token, with_tokens}
 use Rattle.lf_lex.specs.Splices.{Splice}
-use Rattle.lf_lex.specs.Reading.{◌>>=◌, Taken, Turn, taken, turn, token, is}
-use Rattle.lf_lex.proofs.Runs.{same_run, turn_bare, ok_is, length_both}
-use Rattle.lf_lex.proofs.Back.{BackAt, at_map, at_same, at_first}
+use Rattle.lf_lex.specs.Reading.{◌>>=◌, Taken, Turn, taken, turn, is}
+use Rattle.lf_lex.proofs.Runs.{same_run, turn_bare, ok_is}
+use Rattle.lf_lex.proofs.Back.{at_map, at_same, at_first}
 use Rattle.lf_lex.proofs.Following.{text_alike}
 use Rattle.lf_def.specs.declared.components.Component.{Component}
 use Rattle.lf_def.specs.declared.parts.DocParts.{DocParts}
@@ -24,7 +24,7 @@ use Rattle.lf_def.proofs.Places.{bare_list, bare_doc, statement_follows, stateme
 use Rattle.lf_write.specs.Export.{with_places}
 use Rattle.lf_write.proofs.Positions.{Given, changes_from}
 use Rattle.lf_write.proofs.Edits.{MadeTurn, edited_behind, same_turn}
-use Rattle.lf_write.proofs.Entries.{HavePlaces, SectionMade, section_made}
+use Rattle.lf_write.proofs.Entries.{HavePlaces, section_made}
 
 -- Of other statements components are no part.
 

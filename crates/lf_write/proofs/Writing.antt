@@ -1,9 +1,9 @@
 -- The exported text, change by change.
-use Rattle.std.proofs.Common.{◌≡◌, ℕ, ◌+◌, ◌-◌, ◌<◌, ◌≤◌, Bool, true, false, cond, List, [], ◌∷◌, ◌++◌, length, get_or, take, drop, Option, Some, None, refl, sym, ap, ◌∙◌, arith}
-use Rattle.std.specs.Prelude.{slice_get, filter_map, All, IfSome, ◌==◌}
+use Rattle.std.proofs.Common.{◌≡◌, ℕ, ◌+◌, ◌-◌, ◌<◌, ◌≤◌, Bool, true, false, List, [], ◌∷◌, ◌++◌, length, get_or, take, drop, Option, Some, None, refl, sym, ap, ◌∙◌, arith}
+use Rattle.std.specs.Prelude.{slice_get, All, IfSome, ◌==◌}
 use Rattle.std.specs.List.{cons_option}
 use Rattle.std.specs.Option.{option_and_then}
-use Rattle.std.proofs.lemmas.List.{append_assoc, append-nil, drop-drop, drop_all, drop_more, get_or_default}
+use Rattle.std.proofs.lemmas.List.{append_assoc, drop-drop, drop_all, drop_more, get_or_default}
 use Rattle.std.proofs.lemmas.Option.{slice_get_read}
 use Rattle.std.proofs.lemmas.List.Elements.{All-head, All-tail}
 use Rattle.std.proofs.lemmas.Bool.Decides.{nat_tests}
@@ -133,6 +133,7 @@ one_looked {places = places} {i = i} {g = g} lt is_it fits l = record { fit = λ
     same_place k d e =
         let f : get_or places k d ≡ g = ap (λ (n : ℕ). get_or places n d) e ∙ get_or_default places i d g lt ∙ sym is_it in
         rw f fits
+
     by_place : (k : ℕ) (d : ℕ × Option Place) → k < i + 1 → k < length places → (test : Bool) → (k == i) ≡ test → FitsText (get_or places k d).1
     by_place k d h within true t = let e : k ≡ i = grind (arith, nat_tests, t) in same_place k d e
     by_place k d h within false t = let lower : k < i = grind (arith, nat_tests, t, h) in l.fit k d lower within

@@ -1,7 +1,7 @@
 -- The exported text: the document's text with the placement clauses of components that are given other places written anew
 -- (LEF/DEF 5.8, DEF COMPONENTS).
 use Rattle.std.specs.Prelude.{◌≢◌, ℕ, ◌+◌, ◌≤◌, ◌<◌, ◌==◌, Bool, true, false, ◌&&◌, List, [], ◌∷◌, ◌++◌, map, length, All, IfSome, Option, Some, None, codes}
-use Rattle.std.specs.Prelude.{bytes_eq, filter_map, slice_get, option_map, if◌then◌else◌}
+use Rattle.std.specs.Prelude.{bytes_eq, filter_map, slice_get, if◌then◌else◌}
 use Rattle.std.specs.Option.{option_and_then}
 use Rattle.std.specs.Ordering.{int_eq}
 use Rattle.std.specs.List.{enumerate_from}

@@ -1,4 +1,4 @@
-use Rattle.std.proofs.Common.{◌≡◌, ℕ, length, List, Result, Ok, Err, sym}
+use Rattle.std.proofs.Common.{◌≡◌, length, Result, Ok, Err}
 use Rattle.std.specs.Prelude.{IfOk, OnOk}
 use Rattle.lf_def.specs.Contents.{contents}
 use Rattle.lf_write.specs.Export.{exported}
