@@ -1,0 +1,11 @@
+pub mod Before
+pub mod Behind
+pub mod Edits
+pub mod Entries
+pub mod Positions
+pub mod Reading
+pub mod Renewed
+pub mod Spans
+pub mod Standing
+pub mod Statements
+pub mod Writing

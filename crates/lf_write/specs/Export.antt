@@ -1,0 +1,103 @@
+-- The exported text: the document's text with the placement clauses of components that are given other places written anew
+-- (LEF/DEF 5.8, DEF COMPONENTS).
+use Rattle.std.specs.Prelude.{◌≢◌, ℕ, ◌+◌, ◌≤◌, ◌<◌, ◌==◌, Bool, true, false, ◌&&◌, List, [], ◌∷◌, ◌++◌, map, length, All, IfSome, Option, Some, None, codes}
+use Rattle.std.specs.Prelude.{bytes_eq, filter_map, slice_get, if◌then◌else◌}
+use Rattle.std.specs.Option.{option_and_then}
+use Rattle.std.specs.Ordering.{int_eq}
+use Rattle.std.specs.List.{enumerate_from}
+use Rattle.lf_orient.specs.Words.{orient_word}
+use Rattle.lf_lex.specs.Splices.{Splice, spliced, joined}
+use Rattle.lf_floorplan.specs.declared.place.Place.{Place}
+use Rattle.lf_def.specs.declared.components.Component.{Component}
+use Rattle.lf_def.specs.declared.components.Location.{Location}
+use Rattle.lf_def.specs.declared.components.Placement.{Placement}
+use Rattle.lf_def.specs.declared.components.PlacementKind.TheVariants.{Fixed, Cover, Placed, Unplaced}
+use Rattle.lf_def.specs.Document.{Document}
+use Rattle.lf_texts.specs.Clauses.{clause_words}
+
+-- Places that are given: a component by its position among all components of the text, and its place; None unplaces it.
+
+-- a component that is neither FIXED nor COVER
+abbrev pub IsMovable : Component → Type 0
+IsMovable c = IfSome c.placement (λ p. (p.kind ≢ Fixed) × (p.kind ≢ Cover))
+
+-- positions that rise, from one on and below another
+abbrev pub Rise : ℕ → ℕ → List (ℕ × Option Place) → Type 0
+Rise from to [] = Unit {0}
+Rise from to (g ∷ gs) = (from ≤ g.0) × (g.0 < to) × Rise (g.0 + 1) to gs
+
+-- places that components can be given: their positions rise and lie in the document, and the components are movable
+pub record CanBeGiven (components : List Component) (places : List (ℕ × Option Place)) : Type 0 where
+  pub rise : Rise 0 (length components) places
+  pub movable : All (λ g. IfSome (slice_get components g.0) (λ c. IsMovable c)) places
+
+-- Whether a component stands at a place already.
+
+-- where a component stands; one without a clause, or UNPLACED, stands nowhere
+abbrev pub location : Component → Option Location
+location c = option_and_then (λ p. p.place) c.placement
+
+-- the location is the place
+abbrev pub is_at : Option Location → Option Place → Bool
+is_at None None = true
+is_at (Some at) (Some p) = int_eq at.x p.x && int_eq at.y p.y && bytes_eq (orient_word at.orient) (orient_word p.orient)
+is_at _ _ = false
+
+abbrev pub stands_at : Component → Option Place → Bool
+stands_at c given = is_at (location c) given
+
+-- What is written.
+
+-- the new clause in the place of the old one; where there is none, the new clause and a space directly before the semicolon
+abbrev pub clause_splice : Option Placement → ℕ → Option Place → Splice
+clause_splice None semicolon given = record { start = semicolon; stop = semicolon; new = joined (clause_words given) ++ codes " " }
+clause_splice (Some old) semicolon given = record { start = old.start; stop = old.stop; new = joined (clause_words given) }
+
+-- what is replaced where the component is given this place: nothing, where it stands there
+abbrev pub change : Component → Option Place → Option Splice
+change c given = if stands_at c given then None else Some (clause_splice c.placement c.semicolon given)
+
+-- what is replaced where the component of that position is given that place
+abbrev pub change_at : List Component → ℕ × Option Place → Option Splice
+change_at components g = option_and_then (λ c. change c g.1) (slice_get components g.0)
+
+-- what is replaced, one change behind the other
+abbrev pub changes : List Component → List (ℕ × Option Place) → List Splice
+changes components places = filter_map (change_at components) places
+
+-- The text with these components given these places.
+abbrev pub exported : List ℕ → List Component → List (ℕ × Option Place) → List ℕ
+exported text components places = spliced 0 (changes components places) text
+
+-- What the exported text says.
+
+-- a place as the document has it
+abbrev pub as_location : Place → Location
+as_location p = record { x = p.x; y = p.y; orient = p.orient }
+
+-- PLACED there, or UNPLACED
+abbrev pub placement_at : Option Place → Placement
+placement_at None = record { kind = Unplaced; place = None; start = 0; stop = 0 }
+placement_at (Some p) = record { kind = Placed; place = Some (as_location p); start = 0; stop = 0 }
+
+-- the component, at the place that it is given
+abbrev pub with_place : Option Place → Component → Component
+with_place given c = if stands_at c given then c else record c { placement = Some (placement_at given) }
+
+-- the place that is given to the component of that position, if one is
+abbrev pub given_to : List (ℕ × Option Place) → ℕ → Option (Option Place)
+given_to [] position = None
+given_to (g ∷ gs) position = if g.0 == position then Some g.1 else given_to gs position
+
+-- a component, at the place that it may be given
+abbrev pub perhaps_with_place : Option (Option Place) → Component → Component
+perhaps_with_place None c = c
+perhaps_with_place (Some given) c = with_place given c
+
+-- each component at the place that it is given; the others stay
+abbrev pub with_places : List (ℕ × Option Place) → List Component → List Component
+with_places places components = map (λ e. perhaps_with_place (given_to places e.0) e.1) (enumerate_from 0 components)
+
+-- The document with these places in it.
+abbrev pub given_places : List (ℕ × Option Place) → Document → Document
+given_places places d = record d { components = with_places places d.components }
