@@ -6,13 +6,14 @@ use Rattle.std.specs.List.{range_with_len}
 use Rattle.std.proofs.lemmas.List.{same_lists, length-map}
 use Rattle.std.proofs.lemmas.List.FromFn.{length-range_with_len, get_or-map-range_with_len}
 use Rattle.lf_floorplan.specs.declared.loaded.Cell.{Cell as LoadedCell}
-use Rattle.lf_floorplan.specs.Design.{CellsNamed}
+use Rattle.lf_floorplan.specs.Design.{CellsNamed, ComponentsRise}
 use Rattle.lf_cells.specs.declared.cell.Cell.{Cell}
 use Rattle.lf_cells.specs.declared.slots.Slot.{Slot}
 use Rattle.lf_cells.specs.declared.parts.Parts.{Parts}
 use Rattle.lf_cells.specs.Openings.{opening_cell, own_cells, own_components}
 use Rattle.lf_cells.specs.Slots.{opening_slot, cell_in, cells_in, components_in, own_slots, AreIndexed, AreTakenIn}
 use Rattle.lf_cells.proofs.Lists.{map_within}
+use Rattle.lf_cells.proofs.Owners.{owners_rise}
 
 seen_own : (number n : ℕ) (names : List (List ℕ)) (cells : List LoadedCell)
     → ((k : ℕ) (d : LoadedCell) → k < length cells → get_or names (n + k) [] ≡ (get_or cells k d).name)
@@ -74,8 +75,9 @@ get_or_first : (cells : List LoadedCell) → 0 < length cells → LoadedCell
 get_or_first [] within = absurd (omega (arith, within))
 get_or_first (c ∷ cs) within = c
 
-pub opened_index : (cells : List LoadedCell) (count : ℕ) (p : Parts) → CellsNamed cells → AreTakenIn cells count p → AreIndexed p
-opened_index cells count p named taken = record { differ = differ; many = many; index = taken.index; ids = taken.ids }
+pub opened_index : (cells : List LoadedCell) (count : ℕ) (p : Parts) → CellsNamed cells → ComponentsRise cells → AreTakenIn cells count p → AreIndexed p
+opened_index cells count p named rise taken =
+    record { differ = differ; many = many; index = taken.index; rise = owners_rise cells count p rise taken; ids = taken.ids }
   where
     many : length p.names ≡ length p.owners.items
     many = ap (λ (ns : List (List ℕ)). length ns) taken.names ∙ length-map cells (λ (c : LoadedCell). c.name) ∙ sym taken.many

@@ -1,5 +1,6 @@
 -- The cells of all teams as contracts see them (LEF/DEF 5.8, DEF COMPONENTS).
-use Rattle.std.specs.Prelude.{ℕ, zero, suc, List, [], ◌∷◌, Option, position, bytes_eq, option_map, option_and_then, slice_get, slice_index_or, map, length}
+use Rattle.std.specs.Prelude.{◌↔◌, ℕ, zero, suc, ◌<◌, List, [], ◌∷◌, Option, position, bytes_eq, option_map, option_and_then, slice_get, slice_index, slice_index_or}
+use Rattle.std.specs.Prelude.{map, length, AllPairs, Contains, IsSome}
 use Rattle.std.specs.List.{range_with_len}
 use Rattle.lf_floorplan.specs.declared.place.Place.{Place}
 use Rattle.lf_cells.specs.declared.cell.Cell.{Cell}
@@ -26,6 +27,17 @@ cell_at table id = slice_get (cells_of table id.team) id.own
 -- the position of that cell's entry
 abbrev pub component_at : Cells → CellId → Option ℕ
 component_at table id = slice_get (components_of table id.team) id.own
+
+-- the same, and 0 where there is no such cell
+abbrev pub position_of : Cells → CellId → ℕ
+position_of table id = slice_index (components_of table id.team) id.own
+
+-- the ids of all cells, of whatever team, in loading order: the positions of their entries rise, and they are the ids that stand for
+-- a cell, and those that stand for an entry
+pub record AreAll (table : Cells) (ids : List CellId) : Type 0 where
+  pub rise : AllPairs (λ id later. position_of table id < position_of table later) ids
+  pub cells : (id : CellId) → Contains ids id ↔ IsSome (cell_at table id)
+  pub entries : (id : CellId) → Contains ids id ↔ IsSome (component_at table id)
 
 -- the id of the team's cell of that position
 abbrev pub id_of : ℕ → ℕ → CellId

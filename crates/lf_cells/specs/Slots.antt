@@ -1,6 +1,6 @@
 -- How a table keeps its cells.
-use Rattle.std.specs.Prelude.{◌≡◌, ◌≢◌, ◌↔◌, ℕ, zero, suc, ◌+◌, ◌==◌, if◌then◌else◌, List, []}
-use Rattle.std.specs.Prelude.{◌∷◌, ◌++◌, Option, Some, map, length, slice_get, slice_set, slice_index_or, AllPairs}
+use Rattle.std.specs.Prelude.{◌≡◌, ◌≢◌, ◌↔◌, ℕ, zero, suc, ◌+◌, ◌<◌, ◌==◌, if◌then◌else◌, List, []}
+use Rattle.std.specs.Prelude.{◌∷◌, ◌++◌, Option, Some, map, length, slice_get, slice_set, slice_index, slice_index_or, AllPairs}
 use Rattle.std.specs.List.{range_with_len}
 use Rattle.lf_floorplan.specs.declared.place.Place.{Place}
 use Rattle.lf_floorplan.specs.declared.loaded.Cell.{Cell as LoadedCell}
@@ -67,6 +67,10 @@ slot_at teams id = slice_get (slice_index_or teams id.team []) id.own
 abbrev pub label_at : List (List ℕ) → CellId → Option ℕ
 label_at labels id = slice_get (slice_index_or labels id.team []) id.own
 
+-- the position of the entry of an id's cell; 0 where there is no such cell
+abbrev pub position_in : List (List ℕ) → CellId → ℕ
+position_in components id = slice_index (slice_index_or components id.team []) id.own
+
 -- each name has its owner, the cell whose name it is, and no other cell has the name
 pub record IsIndex (owners : List CellId) (labels : List (List ℕ)) : Type 0 where
   pub owned : (id : CellId) (label : ℕ) → (slice_get owners label ≡ Some id) ↔ (label_at labels id ≡ Some label)
@@ -75,11 +79,12 @@ pub record IsIndex (owners : List CellId) (labels : List (List ℕ)) : Type 0 wh
 pub record AreListed (ids : List (List CellId)) (labels : List (List ℕ)) : Type 0 where
   pub listed : (team : ℕ) → slice_index_or ids team [] ≡ map (λ own. id_of team own) (range_with_len 0 (length (slice_index_or labels team [])))
 
--- the names differ, each has one owner, and each team has the ids of its cells
+-- the names differ, each has one owner, the owners stand in the order of their entries, and each team has the ids of its cells
 pub record AreIndexed (p : Parts) : Type 0 where
   pub differ : AllPairs (λ name later. name ≢ later) p.names
   pub many : length p.names ≡ length p.owners.items
   pub index : IsIndex p.owners.items (labels_in p.teams.items)
+  pub rise : AllPairs (λ id later. position_in (components_in p.teams.items) id < position_in (components_in p.teams.items) later) p.owners.items
   pub ids : AreListed p.ids.items (labels_in p.teams.items)
 
 -- ---- filling a table

@@ -1,7 +1,7 @@
 //! The table of all teams' cells.
 
 ghost use Rattle.std.specs.Prelude.{◌≡◌, ◌+◌, ◌<◌, [], IfOk, IfSome, length, map, option_map, slice_get, slice_set};
-ghost use Rattle.lf_cells.specs.Cells.{cells_of, cell_named, cell_at, component_at, id_in, ids_of, standing_of, working_at, committed_at, moved, as_committed};
+ghost use Rattle.lf_cells.specs.Cells.{AreAll, cells_of, cell_named, cell_at, component_at, id_in, ids_of, standing_of, working_at, committed_at, moved, as_committed};
 ghost use Rattle.lf_cells.specs.Openings.{opening_cells, opening_components};
 
 use crate::cell::{CellFacts, CellId, Standing};
@@ -75,6 +75,14 @@ impl CellTable {
         ensures { result.now ≡ ids_of team (cells_of self.now team) }
     {
         self.parts.ids_of(team)
+    }
+
+    /// The ids of all cells, of whatever team, in loading order: along them the positions of the cells' entries among
+    /// all COMPONENTS rise.
+    pub fn all(&self) -> &[CellId]
+        ensures { AreAll self.now result.now }
+    {
+        self.parts.owners.as_slice()
     }
 
     /// The id of the team's cell of that position, the first at 0; none where the team has no such

@@ -10,3 +10,4 @@ pub mod Reverting
 pub mod Committing
 pub mod Sending
 pub mod Ends
+pub mod Places

@@ -10,7 +10,7 @@ use Rattle.lf_floorplan.specs.declared.frame.Frame.{Frame}
 use Rattle.lf_floorplan.specs.declared.loaded.Loaded.{Loaded}
 use Rattle.lf_cells.specs.declared.cell.Cell.{Cell}
 use Rattle.lf_cells.specs.Cells.{Cells, cells_of}
-use Rattle.lf_cells.specs.Openings.{own_cells}
+use Rattle.lf_cells.specs.Openings.{own_cells, own_components}
 use Rattle.lf_undo.specs.Stacks.{stack_of}
 use Rattle.lf_undo.specs.Entries.{entries_of}
 use Rattle.lf_undo.specs.declared.moves.Move.{Move}
@@ -25,7 +25,7 @@ use Rattle.lf_teams.specs.Designs.{opening, opening_team, opening_teams}
 use Rattle.lf_teams.proofs.Loading.{loaded_committed, loaded_places}
 use Rattle.lf_teams.proofs.Openings.{opened_at, opening_whole}
 use Rattle.lf_floor.specs.declared.tables.Tables.{Tables}
-use Rattle.lf_floor.specs.Tables.{AreOpening, AreTablesOf, IsServed, OtherCellsStay, OthersStay, own_team, revision_of, team_with, teams_in}
+use Rattle.lf_floor.specs.Tables.{AreOpening, AreTablesOf, IsServed, OtherCellsStay, OthersStay, floor_in, own_team, revision_of, team_with, teams_in}
 
 -- ---- one team among all
 
@@ -67,7 +67,7 @@ one_changed old new k others =
 
 -- what is seen of a team of that number is what is seen of its cells
 pub cells_seen : {Y : Type 0} (F : List Cell → Option Y) (f : Frame) (tables : Tables) (view : FloorState) (team : List ℕ) (number : ℕ)
-    → floor_of f (teams_in tables) ≡ view → Some number ≡ team_number f team → number < length tables.revisions.items
+    → floor_in f tables ≡ view → Some number ≡ team_number f team → number < length tables.revisions.items
     → option_and_then (λ (s : TeamState). F s.cells) (state_of view team) ≡ F (cells_of tables.cells number)
 cells_seen {Y} F f tables view team number is named within =
     ap (λ (v : FloorState). seen v) (sym is)
@@ -124,6 +124,7 @@ cells_through number a b c ab bc =
 -- the tables keep their rows
 pub tables_kept : (f : Frame) (number : ℕ) (old new : Tables) → OthersStay number old new → AreTablesOf f old → AreTablesOf f new
 tables_kept f number old new others of_frame = record {
+  components = ap (λ (cs : List (List ℕ)). length cs) others.components ∙ of_frame.components;
   undo = others.undo ∙ of_frame.undo;
   sessions = others.sessions ∙ of_frame.sessions;
   revisions = others.revisions ∙ of_frame.revisions;
@@ -164,17 +165,20 @@ module _ (design : Loaded) (tables : Tables) (opens : AreOpening design tables) 
 
   pub opened_tables : AreTablesOf design.frame tables
   opened_tables = record {
+    components = ap (λ (cs : List (List ℕ)). length cs) opens.components ∙ length-map-range_with_len (λ (number : ℕ). own_components number design.cells) 0 count;
     undo = ap (λ (xs : List (List (List Move))). length xs) opens.undo ∙ length-replicate count [];
     sessions = ap (λ (xs : List (List (Option ℕ))). length xs) opens.sessions ∙ length-replicate count (replicate design.frame.limits.sessions None);
     revisions = revisions_are;
     limit = opens.limit;
   }
 
-  opened_floor : floor_of design.frame (teams_in tables) ≡ opening design
-  opened_floor = ap (floor_of design.frame) opened_teams
+  pub opened_floor : floor_in design.frame tables ≡ opening design
+  opened_floor =
+      ap (floor_of design.frame tables.cells.components) opened_teams
+      ∙ ap (λ (cs : List (List ℕ)). floor_of design.frame cs (opening_teams design 0 count)) opens.components
 
-  pub opened_as_loaded : StandAsLoaded design (floor_of design.frame (teams_in tables))
+  pub opened_as_loaded : StandAsLoaded design (floor_in design.frame tables)
   opened_as_loaded = subst (λ (f : FloorState). StandAsLoaded design f) (sym opened_floor) (loaded_places design)
 
-  pub opened_legal : IsCommittedLegal (floor_of design.frame (teams_in tables)) ↔ IsFullyLegal design.frame (loaded_design design)
+  pub opened_legal : IsCommittedLegal (floor_in design.frame tables) ↔ IsFullyLegal design.frame (loaded_design design)
   opened_legal = subst (λ (f : FloorState). IsCommittedLegal f ↔ IsFullyLegal design.frame (loaded_design design)) (sym opened_floor) (loaded_committed design)

@@ -6,12 +6,13 @@ use Rattle.lf_floorplan.specs.declared.loaded.Loaded.{Loaded}
 use Rattle.lf_rules.specs.Legalizer.{Legalizer}
 use Rattle.lf_cells.specs.declared.cell.Cell.{Cell}
 use Rattle.lf_cells.specs.Cells.{Cells, cells_of}
-use Rattle.lf_cells.specs.Openings.{opening_cells}
+use Rattle.lf_cells.specs.Openings.{opening_cells, opening_components}
 use Rattle.lf_sessions.specs.Slots.{seen_at, slots_of, with_slot}
 use Rattle.lf_undo.specs.Stacks.{stack_of}
 use Rattle.lf_undo.specs.Entries.{entries_of, taken_back}
 use Rattle.lf_undo.specs.declared.moves.Move.{Move}
-use Rattle.lf_teams.specs.States.{TeamState}
+use Rattle.lf_teams.specs.States.{FloorState, TeamState}
+use Rattle.lf_teams.specs.Steps.{floor_of}
 use Rattle.lf_teams.specs.Teams.{IsTeamOf, Setting, setting}
 use Rattle.lf_teams.specs.Outcomes.{changed, places_of}
 use Rattle.lf_floor.specs.declared.surroundings.Surroundings.{Surroundings}
@@ -49,6 +50,10 @@ setting_in l around = setting l around.frame.now around.number
 abbrev pub teams_in : Tables → List TeamState
 teams_in tables = map (λ number. own_team number tables) (range_with_len 0 (length tables.revisions.items))
 
+-- the floor that the tables are, in that frame
+abbrev pub floor_in : Frame → Tables → FloorState
+floor_in f tables = floor_of f tables.cells.components (teams_in tables)
+
 -- ---- what a verb may rely on, and what it leaves
 
 -- each table has a row for the team of that number
@@ -59,6 +64,7 @@ pub record HasRows (number : ℕ) (tables : Tables) : Type 0 where
 
 -- the tables have a row for each team of the frame, and an undo stack takes as many entries as the limits allow
 pub record AreTablesOf (f : Frame) (tables : Tables) : Type 0 where
+  pub components : length tables.cells.components ≡ length f.teams + 1
   pub undo : length tables.undo.lists ≡ length f.teams + 1
   pub sessions : length tables.sessions ≡ length f.teams + 1
   pub revisions : length tables.revisions.items ≡ length f.teams + 1
@@ -126,6 +132,7 @@ kept number session before now tables =
 
 pub record AreOpening (design : Loaded) (tables : Tables) : Type 0 where
   pub cells : tables.cells.cells ≡ opening_cells design
+  pub components : tables.cells.components ≡ opening_components design
   pub undo : tables.undo.lists ≡ replicate (length design.frame.teams + 1) []
   pub limit : tables.undo.limit ≡ design.frame.limits.undo
   pub sessions : tables.sessions ≡ replicate (length design.frame.teams + 1) (replicate design.frame.limits.sessions None)

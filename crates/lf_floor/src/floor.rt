@@ -8,7 +8,8 @@ ghost use Rattle.lf_rules.specs.Legalizer.{Legalizer};
 ghost use Rattle.lf_rules.specs.FullyLegal.{IsFullyLegal};
 ghost use Rattle.lf_proto.specs.Commands.{command_of, order_of};
 ghost use Rattle.lf_teams.specs.States.{TeamState};
-ghost use Rattle.lf_floor.specs.Tables.{AreTablesOf, teams_in};
+ghost use Rattle.lf_teams.specs.Places.{AreCommittedPlaces};
+ghost use Rattle.lf_floor.specs.Tables.{AreTablesOf, floor_in, teams_in};
 ghost use Rattle.lf_teams.specs.Teams.{IsTeamOf, team_number, state_of};
 ghost use Rattle.lf_teams.specs.Outcomes.{name_at};
 ghost use Rattle.lf_cells.specs.Cells.{working_at};
@@ -18,8 +19,9 @@ ghost use Rattle.lf_teams.specs.Runs.{Run, IsIsolated};
 ghost use Rattle.lf_teams.specs.Committed.{IsCommittedLegal, StandAsLoaded, loaded_design};
 ghost use Rattle.lf_teams.specs.CommittedRuns.{CommitsMakeLegal, EachTidiedCommits, LegalRun};
 ghost use Rattle.lf_teams.specs.Steps.{Answers, CommitsLegally, Gives, KeepsIfRefused, LegalizesLegally, PlacesLegally, SwapsLegally, TidiesLegally};
-ghost use Rattle.lf_teams.specs.Steps.{StaysShort, RunsShort, Step, IsTo, answer_at, floor_of};
+ghost use Rattle.lf_teams.specs.Steps.{StaysShort, RunsShort, Step, IsTo, answer_at};
 
+use crate::committed::all_committed;
 use crate::surroundings::Surroundings;
 use crate::tables::Tables;
 use lf_floorplan::{Frame, Loaded, Place};
@@ -32,8 +34,8 @@ use std::marker::Model;
 /// The teams of a design in their common frame: the fence teams in the frame's order, and last `-`,
 /// the team of the ground outside all fences.
 ///
-/// Contracts see the frame and each team's state: who seeks best places plays no part in what is
-/// answered.
+/// Contracts see the frame, each team's state and where the cells' entries stand among all COMPONENTS:
+/// who seeks best places plays no part in what is answered.
 #[derive(Drop)]
 pub struct Floor<S> {
     alloc: Global,
@@ -45,12 +47,12 @@ pub struct Floor<S> {
 impl<S> Model for Floor<S> {
     ghost use Rattle.std.specs.Prelude.{All};
     ghost use Rattle.lf_teams.specs.States.{FloorState};
-    ghost use Rattle.lf_floor.specs.Tables.{AreTablesOf, teams_in};
+    ghost use Rattle.lf_floor.specs.Tables.{AreTablesOf, floor_in, teams_in};
     ghost use Rattle.lf_teams.specs.Teams.{IsTeamOf};
 
     ghost Value = { FloorState };
 
-    ghost view = { λ f. record { frame = f.frame; teams = teams_in f.tables } };
+    ghost view = { λ f. floor_in f.frame f.tables };
 
     ghost invariant = { λ f. AreTablesOf f.frame f.tables × All (λ t. IsTeamOf f.frame t) (teams_in f.tables) };
 }
@@ -101,11 +103,11 @@ fn serve_at<S: Seeker>(
     requires tables { AreTablesOf around.now.frame.now tables.old }
     requires teams { All (λ t. IsTeamOf around.now.frame.now t) (teams_in tables.old) }
     ensures ok { (l : Legalizer) → IfOk result (λ reply. Gives
-        (answer_at (Some around.now.number) l (floor_of around.now.frame.now (teams_in tables.old)) (order_of order.now))
-        reply (floor_of around.now.frame.now (teams_in tables.new))) }
+        (answer_at (Some around.now.number) l (floor_in around.now.frame.now tables.old) (order_of order.now))
+        reply (floor_in around.now.frame.now tables.new)) }
     ensures err { (l : Legalizer) → OnErr result (StaysShort
-        (answer_at (Some around.now.number) l (floor_of around.now.frame.now (teams_in tables.old)) (order_of order.now))
-        (floor_of around.now.frame.now (teams_in tables.old)) (floor_of around.now.frame.now (teams_in tables.new))) }
+        (answer_at (Some around.now.number) l (floor_in around.now.frame.now tables.old) (order_of order.now))
+        (floor_in around.now.frame.now tables.old) (floor_in around.now.frame.now tables.new)) }
     ensures takes { OnErr result (takes_memory (order_of order.now) ≡ true) }
     ensures tables { AreTablesOf around.now.frame.now tables.new }
     ensures teams { All (λ t. IsTeamOf around.now.frame.now t) (teams_in tables.new) }
@@ -170,6 +172,16 @@ impl<S: Drop> Floor<S> {
         Some(self.tables.cells.cell(id)?.name)
     }
 
+    /// All movable components, by the positions of their entries among all COMPONENTS of the DEF text,
+    /// which rise, each with the committed place of its cell; none where that is unplaced.
+    ///
+    /// `Err` where memory is refused.
+    pub fn committed_places(&self) -> Result<Vec<(usize, Option<Place>)>, AllocError>
+        ensures { IfOk result (λ places. AreCommittedPlaces self.now places.items) }
+    {
+        all_committed(self.alloc, &self.tables.cells)
+    }
+
     /// Each team is one of the frame: what the floor keeps in its type.
     fn teams_are_of_the_frame(&self)
         ensures { All (λ s. IsTeamOf self.now.frame s) self.now.teams }
@@ -214,6 +226,7 @@ impl<S: Seeker + Drop> Floor<S> {
         ensures step { (l : Legalizer) → Step l self.old (command_of request.now) result self.new }
         ensures others { (team : List ℕ) → ¬ IsTo team (command_of request.now) → state_of self.new team ≡ state_of self.old team }
         ensures frame { self.new.frame ≡ self.old.frame }
+        ensures components { self.new.components ≡ self.old.components }
         ensures placed { (l : Legalizer) → PlacesLegally l (command_of request.now) result self.new }
         ensures legalized { (l : Legalizer) → LegalizesLegally l (command_of request.now) result self.new }
         ensures tidied { (l : Legalizer) → TidiesLegally l (command_of request.now) result self.new }
@@ -245,6 +258,7 @@ impl<S: Seeker + Drop> Floor<S> {
         ensures legal { (l : Legalizer) → IfOk result (λ replies. IsCommittedLegal self.old → LegalRun l self.old requests.now replies.items self.new) }
         ensures commits { IfOk result (λ replies. CommitsMakeLegal self.old requests.now replies.items self.new) }
         ensures tidied { IfOk result (λ replies. EachTidiedCommits self.old requests.now replies.items) }
+        ensures components { self.new.components ≡ self.old.components }
         ensures err { OnErr result (self.new ≡ self.old) }
     {
         legalizer_is_there();

@@ -1,17 +1,18 @@
-//! Questions, which change nothing: what `where`, `check` and `find` tell.
+//! Questions, which change nothing: what `where`, `check`, `def` and `find` tell.
 
 ghost use Rattle.std.specs.Prelude.{IfOk, OnErr};
 ghost use Rattle.lf_rules.specs.Legalizer.{Legalizer};
 ghost use Rattle.lf_teams.specs.Teams.{IsTeamOf};
 ghost use Rattle.lf_floor.specs.Tables.{own_team, setting_in, team_in};
 ghost use Rattle.lf_teams.specs.Outcomes.{Reaches, RunsOut};
-ghost use Rattle.lf_teams.specs.Looks.{checked, found, located};
+ghost use Rattle.lf_teams.specs.Looks.{checked, found, located, written};
 
 use crate::cell::{best_place, report_text};
 use crate::surroundings::Surroundings;
 use crate::tables::Tables;
 use lf_legalize::Seeker;
-use lf_proto::{Refusal, Reply};
+use lf_proto::{Refusal, Reply, Text};
+use lf_texts::team_def;
 use lf_units::Point;
 use std::alloc::AllocError;
 
@@ -44,6 +45,20 @@ impl Tables {
     {
         let text = report_text(around, &self.cells)?;
         Ok(Reply::Report(text))
+    }
+
+    /// Tells the team's DEF text, its cells at their working places.
+    #[tactic(auto, unfolding(lf_teams::specs::Looks::written))]
+    pub(crate) fn write_def<S>(&self, around: &Surroundings<'_, S>) -> Result<Reply, AllocError>
+        ensures ok { (l : Legalizer) → IfOk result (λ reply. Reaches
+            (written (setting_in l around.now) (team_in around.now self.now))
+            reply (team_in around.now self.now)) }
+        ensures err { (l : Legalizer) → OnErr result (RunsOut
+            (written (setting_in l around.now) (team_in around.now self.now))
+            (team_in around.now self.now) (team_in around.now self.now)) }
+    {
+        let text = team_def(around.alloc, around.frame, &self.cells, around.number)?;
+        Ok(Reply::Def(Text::from_bytes(text)))
     }
 
     /// Tells the best place of a cell: `NoCell` where the team has none of that name, else `NoPlace`

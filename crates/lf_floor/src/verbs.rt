@@ -100,6 +100,7 @@ impl Tables {
             Action::Close => Ok(self.close(around.number, session)),
             Action::Sync => Ok(self.sync(around.number, session)),
             Action::Check => self.check(around),
+            Action::Def => self.write_def(around),
             Action::Where { cell } => Ok(self.locate(around.number, cell)),
             Action::Find { cell, target } => self.find(around, cell, target),
             Action::Change(change) => self.change(around, session, seen, change),

@@ -26,7 +26,7 @@ use Rattle.lf_proto.specs.declared.request.Command.{Command}
 use Rattle.lf_proto.specs.declared.request.Command.TheVariants.{Bye, To}
 use Rattle.lf_proto.specs.declared.request.Order.TheVariants.{Open, Within}
 use Rattle.lf_proto.specs.declared.request.Action.{Action}
-use Rattle.lf_proto.specs.declared.request.Action.TheVariants.{Close, Sync, Check, Where, Find, Change as Changing}
+use Rattle.lf_proto.specs.declared.request.Action.TheVariants.{Close, Sync, Check, Def, Where, Find, Change as Changing}
 use Rattle.lf_proto.specs.declared.request.Change.TheVariants.{Place as Placing, Legalize, Tidy, Unplace, Swap, Undo, Commit, Revert}
 
 -- the digits of a number that has at most ten
@@ -103,6 +103,7 @@ ReadsWithin team session action = command_in (printed_fields (To team (Within se
 
 action-printed : (team : List ℕ) (session : ℕ) (action : Action (List ℕ) Place) → session < 2 ^ 32 → IsPlainAction action → ReadsWithin team session action
 action-printed team session Check small plain = ap (λ o. o >>= (λ n. Some (To team (Within n Check)))) (session_number-decimal session small)
+action-printed team session Def small plain = ap (λ o. o >>= (λ n. Some (To team (Within n Def)))) (session_number-decimal session small)
 action-printed team session (Where cell) small plain = ap (λ o. o >>= (λ n. Some (To team (Within n (Where cell))))) (session_number-decimal session small)
 action-printed team session (Find cell target) small (cell_is, range) =
     rw (session_number-decimal session small, target_of-printed target range) refl
@@ -128,7 +129,7 @@ action-printed team session (Changing Revert) small plain =
     ap (λ o. o >>= (λ n. Some (To team (Within n (Changing Revert))))) (session_number-decimal session small)
 
 command_in-printed : (command : Command (List ℕ) Place) → IsPlain command → command_in (printed_fields command) ≡ Some command
-command_in-printed Bye plain = absurd plain
+command_in-printed Bye plain = refl
 command_in-printed (To team Open) plain = refl
 command_in-printed (To team (Within session action)) (team_is, small, plain) = action-printed team session action small plain
 
@@ -218,6 +219,7 @@ ActionNames action = IsName (action_words action).0 × AllNames (action_words ac
 
 action_names : (action : Action (List ℕ) Place) → IsPlainAction action → ActionNames action
 action_names Check plain = (record { some = omega arith; visible = refl }, tt)
+action_names Def plain = (record { some = omega arith; visible = refl }, tt)
 action_names (Where cell) cell_is = (record { some = omega arith; visible = refl }, (cell_is, tt))
 action_names (Find cell target) (cell_is, range) = (record { some = omega arith; visible = refl }, (cell_is, target_names target range))
 action_names (Changing (Placing cell place)) (cell_is, range) = (record { some = omega arith; visible = refl }, (cell_is, place_names place range))
@@ -232,7 +234,7 @@ action_names (Changing Commit) plain = (record { some = omega arith; visible = r
 action_names (Changing Revert) plain = (record { some = omega arith; visible = refl }, tt)
 
 printed_names : (command : Command (List ℕ) Place) → IsPlain command → AllNames (printed_fields command)
-printed_names Bye plain = absurd plain
+printed_names Bye plain = (record { some = omega arith; visible = refl }, tt)
 printed_names (To team Open) plain = (record { some = omega arith; visible = refl }, (plain, tt))
 printed_names (To team (Within session action)) (team_is, small, plain) =
     let names = action_names action plain in

@@ -7,7 +7,7 @@ use Rattle.lf_proto.specs.declared.request.Command.TheVariants.{Bye, To}
 use Rattle.lf_proto.specs.declared.request.Order.{Order}
 use Rattle.lf_proto.specs.declared.request.Order.TheVariants.{Open, Within}
 use Rattle.lf_proto.specs.declared.request.Action.{Action}
-use Rattle.lf_proto.specs.declared.request.Action.TheVariants.{Close, Sync, Check, Where, Find, Change as Changing}
+use Rattle.lf_proto.specs.declared.request.Action.TheVariants.{Close, Sync, Check, Def, Where, Find, Change as Changing}
 use Rattle.lf_proto.specs.declared.request.Change.{Change}
 use Rattle.lf_proto.specs.declared.request.Change.TheVariants.{Place as Placing, Legalize, Tidy, Unplace, Swap, Undo, Commit, Revert}
 
@@ -27,6 +27,7 @@ abbrev pub action_of : Action (Bor (List ℕ)) Place → Action (List ℕ) Place
 action_of Close = Close
 action_of Sync = Sync
 action_of Check = Check
+action_of Def = Def
 action_of (Where cell) = Where cell.now
 action_of (Find cell target) = Find cell.now target
 action_of (Changing change) = Changing (change_of change)

@@ -11,7 +11,7 @@ use Rattle.lf_proto.specs.declared.request.Command.{Command}
 use Rattle.lf_proto.specs.declared.request.Command.TheVariants.{Bye, To}
 use Rattle.lf_proto.specs.declared.request.Order.TheVariants.{Open, Within}
 use Rattle.lf_proto.specs.declared.request.Action.{Action}
-use Rattle.lf_proto.specs.declared.request.Action.TheVariants.{Close, Sync, Check, Where, Find, Change as Changing}
+use Rattle.lf_proto.specs.declared.request.Action.TheVariants.{Close, Sync, Check, Def, Where, Find, Change as Changing}
 use Rattle.lf_proto.specs.declared.request.Change.{Change}
 use Rattle.lf_proto.specs.declared.request.Change.TheVariants.{Place as Placing, Legalize, Tidy, Unplace, Swap, Undo, Commit, Revert}
 
@@ -35,11 +35,12 @@ abbrev pub action_words : Action (List ℕ) Place → List ℕ × List (List ℕ
 action_words Close = (codes "close", [])
 action_words Sync = (codes "sync", [])
 action_words Check = (codes "check", [])
+action_words Def = (codes "def", [])
 action_words (Where cell) = (codes "where", cell ∷ [])
 action_words (Find cell target) = (codes "find", cell ∷ target_words target)
 action_words (Changing change) = change_words change
 
--- the fields of a request: open TEAM, or the verb, TEAM N, and the verb's own fields
+-- the fields of a request: bye, or open TEAM, or the verb, TEAM N, and the verb's own fields
 abbrev pub printed_fields : Command (List ℕ) Place → List (List ℕ)
 printed_fields Bye = codes "bye" ∷ []
 printed_fields (To team Open) = codes "open" ∷ team ∷ []

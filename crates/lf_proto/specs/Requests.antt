@@ -11,16 +11,16 @@ use Rattle.lf_floorplan.specs.declared.place.Place.{Place}
 use Rattle.lf_proto.specs.Lines.{fields, is_line_byte, IsName}
 use Rattle.lf_proto.specs.Numbers.{◌>>=◌, session_number, coordinate}
 use Rattle.lf_proto.specs.declared.line.Verb.{Verb}
-use Rattle.lf_proto.specs.declared.line.Verb.TheVariants.{Open as Opens, OfSession}
+use Rattle.lf_proto.specs.declared.line.Verb.TheVariants.{Bye as Byes, Open as Opens, OfSession}
 use Rattle.lf_proto.specs.declared.line.SessionVerb.{SessionVerb}
-use Rattle.lf_proto.specs.declared.line.SessionVerb.TheVariants.{Close as Closes, Sync as Syncs, Check as Checks, Where as Asks, Find as Finds}
+use Rattle.lf_proto.specs.declared.line.SessionVerb.TheVariants.{Close as Closes, Sync as Syncs, Check as Checks, Def as Defs, Where as Asks, Find as Finds}
 use Rattle.lf_proto.specs.declared.line.SessionVerb.TheVariants.{Place as Places, Legalize as Legalizes, Tidy as Tidies, Unplace as Unplaces}
 use Rattle.lf_proto.specs.declared.line.SessionVerb.TheVariants.{Swap as Swaps, Undo as Undoes, Commit as Commits, Revert as Reverts}
 use Rattle.lf_proto.specs.declared.request.Command.{Command}
 use Rattle.lf_proto.specs.declared.request.Command.TheVariants.{Bye, To}
 use Rattle.lf_proto.specs.declared.request.Order.TheVariants.{Open, Within}
 use Rattle.lf_proto.specs.declared.request.Action.{Action}
-use Rattle.lf_proto.specs.declared.request.Action.TheVariants.{Close, Sync, Check, Where, Find, Change as Changing}
+use Rattle.lf_proto.specs.declared.request.Action.TheVariants.{Close, Sync, Check, Def, Where, Find, Change as Changing}
 use Rattle.lf_proto.specs.declared.request.Change.{Change}
 use Rattle.lf_proto.specs.declared.request.Change.TheVariants.{Place as Placing, Legalize, Tidy, Unplace, Swap, Undo, Commit, Revert}
 
@@ -79,10 +79,12 @@ target_of _ = None
 -- a verb by its name
 abbrev pub verb_named : List ℕ → Option Verb
 verb_named text =
-    cond (bytes_eq text (codes "open")) (Some Opens)
+    cond (bytes_eq text (codes "bye")) (Some Byes)
+    (cond (bytes_eq text (codes "open")) (Some Opens)
     (cond (bytes_eq text (codes "close")) (Some (OfSession Closes))
     (cond (bytes_eq text (codes "sync")) (Some (OfSession Syncs))
     (cond (bytes_eq text (codes "check")) (Some (OfSession Checks))
+    (cond (bytes_eq text (codes "def")) (Some (OfSession Defs))
     (cond (bytes_eq text (codes "where")) (Some (OfSession Asks))
     (cond (bytes_eq text (codes "find")) (Some (OfSession Finds))
     (cond (bytes_eq text (codes "place")) (Some (OfSession Places))
@@ -93,7 +95,7 @@ verb_named text =
     (cond (bytes_eq text (codes "undo")) (Some (OfSession Undoes))
     (cond (bytes_eq text (codes "commit")) (Some (OfSession Commits))
     (cond (bytes_eq text (codes "revert")) (Some (OfSession Reverts))
-    None)))))))))))))
+    None)))))))))))))))
 
 -- VERB TEAM N, behind N: what the verb asks has no fields of its own
 abbrev pub alone_of : Action (List ℕ) Place → List (List ℕ) → Option (Action (List ℕ) Place)
@@ -141,6 +143,7 @@ abbrev pub action_by : SessionVerb → List (List ℕ) → Option (Action (List 
 action_by Closes = alone_of Close
 action_by Syncs = alone_of Sync
 action_by Checks = alone_of Check
+action_by Defs = alone_of Def
 action_by Asks = where_of
 action_by Finds = find_of
 action_by Places = placing_of
@@ -153,6 +156,11 @@ action_by Commits = alone_of (Changing Commit)
 action_by Reverts = alone_of (Changing Revert)
 
 -- ---- the lines
+
+-- bye, and nothing more
+abbrev pub bye_of : List (List ℕ) → Option (Command (List ℕ) Place)
+bye_of [] = Some Bye
+bye_of _ = None
 
 -- open TEAM, behind the verb
 abbrev pub open_of : List (List ℕ) → Option (Command (List ℕ) Place)
@@ -169,6 +177,7 @@ within_of verb _ = None
 
 -- what a verb asks, by the fields behind it
 abbrev pub asked_by : Verb → List (List ℕ) → Option (Command (List ℕ) Place)
+asked_by Byes = bye_of
 asked_by Opens = open_of
 asked_by (OfSession verb) = within_of verb
 
@@ -215,8 +224,8 @@ IsPlainAction (Find cell target) = IsName cell × IsTarget target
 IsPlainAction (Changing change) = IsPlainChange change
 IsPlainAction _ = Unit {0}
 
--- a request that a line can ask, its names of visible bytes and its numbers of 32 bits: any but bye
+-- a request that a line can ask: its names are of visible bytes, and its numbers of 32 bits
 abbrev pub IsPlain : Command (List ℕ) Place → Type 0
-IsPlain Bye = ⊥
+IsPlain Bye = Unit {0}
 IsPlain (To team Open) = IsName team
 IsPlain (To team (Within session action)) = IsName team × (session < 2 ^ 32) × IsPlainAction action

@@ -5,7 +5,7 @@ ghost use Rattle.std.specs.List.{list_all};
 ghost use Rattle.lf_proto.specs.Commands.{action_of, command_of};
 ghost use Rattle.lf_proto.specs.Lines.{fields, is_line_byte};
 ghost use Rattle.lf_proto.specs.Requests.{command_in, command_on, orient_named, place_of, place_written, target_of, verb_named};
-ghost use Rattle.lf_proto.specs.Requests.{action_by, alone_of, find_of, legalize_of, open_of, placing_of, swap_of, unplace_of, where_of, within_of};
+ghost use Rattle.lf_proto.specs.Requests.{action_by, alone_of, bye_of, find_of, legalize_of, open_of, placing_of, swap_of, unplace_of, where_of, within_of};
 ghost use Rattle.lf_proto.specs.Printed.{PassesBlanksAround, PassesBlanksBetween, ReadsBack};
 
 use crate::number::{coordinate_of, session_of};
@@ -22,6 +22,7 @@ pub struct BadRequest;
 /// The first word of a request.
 #[derive(Clone, Copy)]
 enum Verb {
+    Bye,
     Open,
     OfSession(SessionVerb),
 }
@@ -32,6 +33,7 @@ enum SessionVerb {
     Close,
     Sync,
     Check,
+    Def,
     Where,
     Find,
     Place,
@@ -49,10 +51,12 @@ fn verb_of(word: &[u8]) -> Option<Verb>
     ensures { result ≡ verb_named word.now }
 {
     match word {
+        b"bye" => Some(Verb::Bye),
         b"open" => Some(Verb::Open),
         b"close" => Some(Verb::OfSession(SessionVerb::Close)),
         b"sync" => Some(Verb::OfSession(SessionVerb::Sync)),
         b"check" => Some(Verb::OfSession(SessionVerb::Check)),
+        b"def" => Some(Verb::OfSession(SessionVerb::Def)),
         b"where" => Some(Verb::OfSession(SessionVerb::Where)),
         b"find" => Some(Verb::OfSession(SessionVerb::Find)),
         b"place" => Some(Verb::OfSession(SessionVerb::Place)),
@@ -203,6 +207,7 @@ fn action_in<'a>(verb: SessionVerb, fields: Fields<'a>) -> Option<Action<&'a [u8
         SessionVerb::Close => alone(Action::Close, fields),
         SessionVerb::Sync => alone(Action::Sync, fields),
         SessionVerb::Check => alone(Action::Check, fields),
+        SessionVerb::Def => alone(Action::Def, fields),
         SessionVerb::Where => where_action(fields),
         SessionVerb::Find => find_action(fields),
         SessionVerb::Place => place_action(fields),
@@ -214,6 +219,16 @@ fn action_in<'a>(verb: SessionVerb, fields: Fields<'a>) -> Option<Action<&'a [u8
         SessionVerb::Commit => alone(Action::Change(Change::Commit), fields),
         SessionVerb::Revert => alone(Action::Change(Change::Revert), fields),
     }
+}
+
+/// The request of `bye`, without the verb.
+fn bye_request<'a>(mut fields: Fields<'a>) -> Option<Request<'a>>
+    ensures { option_map command_of result ≡ bye_of fields.entry }
+{
+    if fields.next().is_some() {
+        return None;
+    }
+    Some(Command::Bye)
 }
 
 /// The request of `open TEAM`, without the verb.
@@ -248,6 +263,7 @@ fn request_in<'a>(mut fields: Fields<'a>) -> Option<Request<'a>>
     ensures { option_map command_of result ≡ command_in fields.entry }
 {
     match verb_of(fields.next()?)? {
+        Verb::Bye => bye_request(fields),
         Verb::Open => open_request(fields),
         Verb::OfSession(verb) => session_request(verb, fields),
     }

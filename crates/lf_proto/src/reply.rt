@@ -6,18 +6,18 @@ use lf_floorplan::Place;
 use lf_rules::Rule;
 use std::marker::Model;
 
-/// A text that a reply carries. Contracts see its bytes.
+/// A text that a reply carries, of any bytes. Contracts see its bytes.
 #[derive(Drop)]
 pub struct Text {
-    text: String,
+    bytes: Vec<u8>,
 }
 
 impl Model for Text {
-    ghost use Rattle.std.specs.Prelude.{List, ℕ, string_bytes};
+    ghost use Rattle.std.specs.Prelude.{List, ℕ};
 
     ghost Value = { List ℕ };
 
-    ghost view = { λ t. string_bytes t.text };
+    ghost view = { λ t. t.bytes.items };
 }
 
 impl Text {
@@ -25,14 +25,23 @@ impl Text {
     pub fn from_string(text: String) -> Self
         ensures { result ≡ string_bytes text }
     {
-        Text { text }
+        Text {
+            bytes: text.into_bytes(),
+        }
+    }
+
+    /// The text of these bytes, without a copy.
+    pub fn from_bytes(bytes: Vec<u8>) -> Self
+        ensures { result ≡ bytes.items }
+    {
+        Text { bytes }
     }
 
     /// The bytes, lent.
     pub fn as_bytes(&self) -> &[u8]
         ensures { result.now ≡ self.now }
     {
-        self.text.as_bytes()
+        self.bytes.as_slice()
     }
 }
 

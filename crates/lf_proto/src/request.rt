@@ -35,6 +35,8 @@ pub enum Action<N, P = Place> {
     Sync,
     /// The report of the team's cells.
     Check,
+    /// The DEF text of the team, its cells at their working places.
+    Def,
     /// The working place of a cell.
     Where { cell: N },
     /// The best place of a cell for a target; nothing is changed.
@@ -105,6 +107,7 @@ impl Action<&[u8]> {
             Action::Close => Action::Close,
             Action::Sync => Action::Sync,
             Action::Check => Action::Check,
+            Action::Def => Action::Def,
             Action::Where { cell } => Action::Where {
                 cell: Name::from_slice(alloc, cell)?,
             },
@@ -185,6 +188,7 @@ impl Action<Name> {
             Action::Close => Action::Close,
             Action::Sync => Action::Sync,
             Action::Check => Action::Check,
+            Action::Def => Action::Def,
             Action::Where { cell } => Action::Where {
                 cell: cell.as_bytes(),
             },

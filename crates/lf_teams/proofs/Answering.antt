@@ -131,20 +131,29 @@ unfolding answer_of
 others_kept l floor Bye team other = refl
 others_kept l floor (To name order) team other = others_at l floor name team order (team_number floor.frame name) refl other
 
-frame_by : (l : Legalizer) (floor : FloorState) (number : ℕ) (order : Order (List ℕ) Place) (o : Option TeamState)
-    → (answer_by o l floor number order).floor.frame ≡ floor.frame
-frame_by l floor number order None = refl
-frame_by l floor number order (Some s) = refl
+-- what no change of the teams changes no answer changes
+module _ {Y : Type 0} (part : FloorState → Y) (apart : (floor : FloorState) (teams : List TeamState) → part (record floor { teams = teams }) ≡ part floor) where
+  part_by : (l : Legalizer) (floor : FloorState) (number : ℕ) (order : Order (List ℕ) Place) (o : Option TeamState)
+      → part (answer_by o l floor number order).floor ≡ part floor
+  part_by l floor number order None = refl
+  part_by l floor number order (Some s) = apart floor _
 
-frame_at : (l : Legalizer) (floor : FloorState) (order : Order (List ℕ) Place) (o : Option ℕ) → (answer_at o l floor order).floor.frame ≡ floor.frame
-frame_at l floor order None = refl
-frame_at l floor order (Some number) = frame_by l floor number order (slice_get floor.teams number)
+  part_at : (l : Legalizer) (floor : FloorState) (order : Order (List ℕ) Place) (o : Option ℕ) → part (answer_at o l floor order).floor ≡ part floor
+  part_at l floor order None = refl
+  part_at l floor order (Some number) = part_by l floor number order (slice_get floor.teams number)
+
+  part_kept : (l : Legalizer) (floor : FloorState) (command : Command (List ℕ) Place) → part (answer_of l floor command).floor ≡ part floor
+  unfolding answer_of
+  part_kept l floor Bye = refl
+  part_kept l floor (To name order) = part_at l floor order (team_number floor.frame name)
 
 -- no answer changes the frame
 pub frame_kept : (l : Legalizer) (floor : FloorState) (command : Command (List ℕ) Place) → (answer_of l floor command).floor.frame ≡ floor.frame
-unfolding answer_of
-frame_kept l floor Bye = refl
-frame_kept l floor (To name order) = frame_at l floor order (team_number floor.frame name)
+frame_kept = part_kept (λ (f : FloorState). f.frame) (λ floor teams. refl)
+
+-- no answer changes the positions of entries
+pub components_kept : (l : Legalizer) (floor : FloorState) (command : Command (List ℕ) Place) → (answer_of l floor command).floor.components ≡ floor.components
+components_kept = part_kept (λ (f : FloorState). f.components) (λ floor teams. refl)
 
 -- ---- the team's own answer
 

@@ -7,7 +7,7 @@ use Rattle.lf_floorplan.specs.declared.place.Place.{Place}
 use Rattle.lf_rules.specs.declared.rule.Broken.{Broken}
 use Rattle.lf_rules.specs.Team.{Member}
 use Rattle.lf_rules.specs.Tidy.{Tidied, Going, Stuck, tidied}
-use Rattle.lf_proto.specs.declared.reply.Reply.TheVariants.{Done, Revision, At, Legalized, Tidied as TidyDone, Report, Refused}
+use Rattle.lf_proto.specs.declared.reply.Reply.TheVariants.{Done, Revision, At, Legalized, Tidied as TidyDone, Report, Def as DefText, Refused}
 use Rattle.lf_proto.specs.declared.reply.Refusal.{Refusal}
 use Rattle.lf_proto.specs.declared.reply.Refusal.TheVariants.{NoSession, Stale, NoCell, Unplaced, Illegal, NoPlace, NothingToUndo, RevisionsSpent, SessionsFull}
 use Rattle.lf_teams.specs.States.{TeamState}
@@ -17,12 +17,12 @@ use Rattle.lf_legalize.specs.Members.{member_of}
 use Rattle.lf_proto.specs.declared.request.Order.{Order}
 use Rattle.lf_proto.specs.declared.request.Order.TheVariants.{Open, Within}
 use Rattle.lf_proto.specs.declared.request.Action.{Action}
-use Rattle.lf_proto.specs.declared.request.Action.TheVariants.{Close, Sync, Check, Where, Find, Change as Changing}
+use Rattle.lf_proto.specs.declared.request.Action.TheVariants.{Close, Sync, Check, Def, Where, Find, Change as Changing}
 use Rattle.lf_proto.specs.declared.request.Change.{Change}
 use Rattle.lf_proto.specs.declared.request.Change.TheVariants.{Place as PlaceAt, Legalize, Tidy, Unplace, Swap, Undo, Commit, Revert}
 use Rattle.lf_teams.specs.Outcomes.{Outcome, is_short, refused, changed, recorded, telling}
 use Rattle.lf_teams.specs.Sessions.{with_slot, seen_at, opened, opened_at, closed, synced}
-use Rattle.lf_teams.specs.Looks.{checked, located, located_own, located_at, best_at, found, found_own, found_at}
+use Rattle.lf_teams.specs.Looks.{checked, written, located, located_own, located_at, best_at, found, found_own, found_at}
 use Rattle.lf_reports.specs.declared.illegal.BrokenCell.{BrokenCell}
 use Rattle.lf_teams.specs.Changes.{placed, placed_own, placed_unless, unplaced, unplaced_own, unplaced_from, legalized, legalized_own, legalized_at, restored, places_in, tidied_by, tidied_team, broken_where, exchanged, swapped_unless, swapped_from, swapped_own, swapped, back_to_committed, reverted, undone_by, undone, first_unplaced, broken_cells, committed_unless, committed}
 use Rattle.lf_teams.specs.Verbs.{outcome_of_change, unless_spent, unless_stale, outcome_within, outcome_by_slot, outcome_of}
@@ -44,6 +44,7 @@ pub record Leaves (t : Setting) (s : TeamState) (May : ℕ → Type 0) (P : Orde
   pub closes : (session : ℕ) → P (Within session Close) (record { reply = Done; team = with_slot session None s })
   pub syncs : (session : ℕ) → P (Within session Sync) (record { reply = Revision s.revision; team = with_slot session (Some s.revision) s })
   pub checks : (session : ℕ) (text : List ℕ) → P (Within session Check) (record { reply = Report text; team = s })
+  pub defs : (session : ℕ) (text : List ℕ) → P (Within session Def) (record { reply = DefText text; team = s })
   pub tells : (session : ℕ) (name : List ℕ) (place : Place) → P (Within session (Where name)) (record { reply = At place; team = s })
   pub finds : (session : ℕ) (name : List ℕ) (target : Point) (place : Place) → P (Within session (Find name target)) (record { reply = At place; team = s })
   pub places : (session own : ℕ) (name : List ℕ) (place : Place) → May session → cell_named name s.cells ≡ Some own → broken_at t s.cells own place ≡ None
@@ -77,6 +78,10 @@ module _ (t : Setting) (s : TeamState) (May : ℕ → Type 0) (P : Order (List �
   checked_by : (session : ℕ) → P (Within session Check) (checked t s)
   unfolding checked
   checked_by session = leaves.checks session _
+
+  written_by : (session : ℕ) → P (Within session Def) (written t s)
+  unfolding written
+  written_by session = leaves.defs session _
 
   located_by : (session : ℕ) (name : List ℕ) → P (Within session (Where name)) (located name s)
   unfolding located
@@ -216,6 +221,7 @@ module _ (t : Setting) (s : TeamState) (May : ℕ → Type 0) (P : Order (List �
   session_by session seen Close may = leaves.closes session
   session_by session seen Sync may = leaves.syncs session
   session_by session seen Check may = checked_by session
+  session_by session seen Def may = written_by session
   session_by session seen (Where name) may = located_by session name
   session_by session seen (Find name target) may = found_by session name target
   session_by session seen (Changing change) may = stale_by session seen change may

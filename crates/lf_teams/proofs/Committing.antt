@@ -56,6 +56,7 @@ module _ (t : Setting) (s : TeamState) (known : IsTeamOf t.frame s) where
     closes = λ session. before;
     syncs = λ session. before;
     checks = λ session text. before;
+    defs = λ session text. before;
     tells = λ session name place. before;
     finds = λ session name target place. before;
     places = λ session own name place left named e. alike t s _ (moved_part committed_member (λ c p. refl) s.cells own (Some place)) before;
@@ -84,6 +85,7 @@ module _ (t : Setting) (s : TeamState) (known : IsTeamOf t.frame s) where
     closes = λ session is. absurd (false_true is);
     syncs = λ session is. absurd (false_true is);
     checks = λ session text is. absurd (false_true is);
+    defs = λ session text is. absurd (false_true is);
     tells = λ session name place is. absurd (false_true is);
     finds = λ session name target place is. absurd (false_true is);
     places = λ session own name place left named e is. absurd (false_true is);

@@ -14,7 +14,7 @@ use Rattle.lf_teams.specs.Teams.{Setting, IsTeamOf}
 use Rattle.lf_legalize.specs.Members.{IsSizedCell}
 use Rattle.lf_proto.specs.declared.request.Order.{Order}
 use Rattle.lf_proto.specs.declared.request.Order.TheVariants.{Open, Within}
-use Rattle.lf_proto.specs.declared.request.Action.TheVariants.{Close, Sync, Check, Where, Find, Change as Changing}
+use Rattle.lf_proto.specs.declared.request.Action.TheVariants.{Close, Sync, Check, Def, Where, Find, Change as Changing}
 use Rattle.lf_teams.specs.Outcomes.{Outcome, is_short, refused, places_of, changed, with_entry, recorded}
 use Rattle.lf_cells.specs.Cells.{moved, working_at, as_committed}
 use Rattle.lf_teams.specs.Sessions.{with_slot, seen_at}
@@ -32,6 +32,7 @@ plain t s = record {
   closes = λ session. refl;
   syncs = λ session. refl;
   checks = λ session text. refl;
+  defs = λ session text. refl;
   tells = λ session name place. refl;
   finds = λ session name target place. refl;
   places = λ session own name place left named e. refl;
@@ -64,6 +65,7 @@ refused_leaves t s = record {
   closes = λ session. granted s _ refl;
   syncs = λ session. granted s _ refl;
   checks = λ session text. granted s _ refl;
+  defs = λ session text. granted s _ refl;
   tells = λ session name place. granted s _ refl;
   finds = λ session name target place. granted s _ refl;
   places = λ session own name place left named e. granted s _ refl;
@@ -107,6 +109,7 @@ refused_counts t s Open r = tt
 refused_counts t s (Within session Close) r = tt
 refused_counts t s (Within session Sync) r = tt
 refused_counts t s (Within session Check) r = tt
+refused_counts t s (Within session Def) r = tt
 refused_counts t s (Within session (Where name)) r = tt
 refused_counts t s (Within session (Find name target)) r = tt
 refused_counts t s (Within session (Changing change)) r = λ denied. absurd (false_true denied)
@@ -131,6 +134,7 @@ change_counted t verb s = verb_by t s (λ v o. Counts t s v o) record {
   closes = λ session. tt;
   syncs = λ session. tt;
   checks = λ session text. tt;
+  defs = λ session text. tt;
   tells = λ session name place. tt;
   finds = λ session name target place. tt;
   places = λ session own name place may named e accepted. counts t session s _ _ _ may refl;
@@ -157,6 +161,7 @@ look_kept t verb s = verb_by t s (λ v o. LooksOnly s v o) record {
   closes = λ session denied. same_cells s _;
   syncs = λ session denied. same_cells s _;
   checks = λ session text denied. same_cells s s.slots;
+  defs = λ session text denied. same_cells s s.slots;
   tells = λ session name place denied. same_cells s s.slots;
   finds = λ session name target place denied. same_cells s s.slots;
   places = λ session own name place may named e denied. absurd (false_true (sym denied));
@@ -333,6 +338,7 @@ stays_one t s h = record {
   closes = λ session. with_slot_team t s session None tt h;
   syncs = λ session. with_slot_team t s session (Some s.revision) (omega arith) h;
   checks = λ session text. h;
+  defs = λ session text. h;
   tells = λ session name place. h;
   finds = λ session name target place. h;
   places = λ session own name place left named e. recorded_team t s session _ h left (alike_moved s.cells own (Some place));
@@ -365,6 +371,7 @@ committed_stay t verb s = verb_by t s (λ v o. StayCommitted s v o) record {
   closes = λ session other. refl;
   syncs = λ session other. refl;
   checks = λ session text other. refl;
+  defs = λ session text other. refl;
   tells = λ session name place other. refl;
   finds = λ session name target place other. refl;
   places = λ session own name place may named e other. moved_part (λ c. c.committed) (λ c p. refl) s.cells own (Some place);

@@ -11,6 +11,7 @@ pub mod Loading
 pub mod Committing
 pub mod VerbBack
 pub mod Standing
+pub mod Places
 pub mod Tidying
 pub mod VerbLegal
 pub mod VerbRows

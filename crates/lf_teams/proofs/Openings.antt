@@ -77,13 +77,13 @@ sized_cell f c known = go (slice_get_some f.macros c.mac known.mac_known) where
       let is : macro_of f c.mac ≡ found.0 = ap (λ (o : Option Macro). unwrap_or o no_macro) found.1 in
       record { known = known.mac_known; sized = rw is (known.mac_sized found.0 found.1) }
 
-map_at : {X Y : Type 0} (f : X → Y) (xs : List X) (i : ℕ) (d : Y) (e : X) → i < length xs → get_or (map f xs) i d ≡ f (get_or xs i e)
+pub map_at : {X Y : Type 0} (f : X → Y) (xs : List X) (i : ℕ) (d : Y) (e : X) → i < length xs → get_or (map f xs) i d ≡ f (get_or xs i e)
 map_at f [] i d e within = absurd (omega (arith, within))
 map_at f (x ∷ xs) zero d e within = refl
 map_at f (x ∷ xs) (suc i) d e within = map_at f xs i d e (omega (arith, within))
 
 -- what holds of each two elements' parts holds of each two parts
-pairs_map : {X Y : Type 0} (f : X → Y) (R : Y → Y → Type 0) (xs : List X) → AllPairs (λ a b. R (f a) (f b)) xs → AllPairs R (map f xs)
+pub pairs_map : {X Y : Type 0} (f : X → Y) (R : Y → Y → Type 0) (xs : List X) → AllPairs (λ a b. R (f a) (f b)) xs → AllPairs R (map f xs)
 pairs_map f R [] all i j d less within = absurd (omega (arith, within))
 pairs_map f R (x ∷ xs) all i j d less within =
     let inside : j < length (x ∷ xs) = rw (length-map (x ∷ xs) f) at within in

@@ -6,7 +6,7 @@ use Rattle.lf_rules.specs.Tidy.{Tidied, Stuck, tidied}
 use Rattle.lf_proto.specs.declared.request.Order.{Order}
 use Rattle.lf_proto.specs.declared.request.Order.TheVariants.{Open, Within}
 use Rattle.lf_proto.specs.declared.request.Action.{Action}
-use Rattle.lf_proto.specs.declared.request.Action.TheVariants.{Close, Sync, Check, Where, Find, Change as Changing}
+use Rattle.lf_proto.specs.declared.request.Action.TheVariants.{Close, Sync, Check, Def, Where, Find, Change as Changing}
 use Rattle.lf_proto.specs.declared.request.Change.{Change}
 use Rattle.lf_proto.specs.declared.request.Change.TheVariants.{Tidy, Undo, Commit, Revert}
 use Rattle.lf_teams.specs.Outcomes.{Outcome, refused, with_entry, places_of, recorded}
@@ -82,6 +82,7 @@ refused_records t s Open r = tt
 refused_records t s (Within session Close) r = tt
 refused_records t s (Within session Sync) r = tt
 refused_records t s (Within session Check) r = tt
+refused_records t s (Within session Def) r = tt
 refused_records t s (Within session (Where name)) r = tt
 refused_records t s (Within session (Find name target)) r = tt
 refused_records t s (Within session (Changing change)) r = λ recorded denied. absurd (false_true denied)
@@ -97,6 +98,7 @@ change_recorded t verb s = verb_by t s (λ v o. Records t s v o) record {
   closes = λ session. tt;
   syncs = λ session. tt;
   checks = λ session text. tt;
+  defs = λ session text. tt;
   tells = λ session name place. tt;
   finds = λ session name target place. tt;
   places = λ session own name place may named e is accepted. records t session s _ (moved_part (λ c. c.mac) (λ c p. refl) s.cells own (Some place));
@@ -143,6 +145,7 @@ commit_copies t verb s = verb_by t s (λ v o. Commits s v o) record {
   closes = λ session is. absurd (false_true is);
   syncs = λ session is. absurd (false_true is);
   checks = λ session text is. absurd (false_true is);
+  defs = λ session text is. absurd (false_true is);
   tells = λ session name place is. absurd (false_true is);
   finds = λ session name target place is. absurd (false_true is);
   places = λ session own name place may named e is. absurd (false_true is);

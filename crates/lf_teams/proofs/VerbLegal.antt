@@ -14,7 +14,7 @@ use Rattle.lf_legalize.specs.Members.{IsSizedCell, member_of}
 use Rattle.lf_cells.specs.Cells.{cell_named, moved, working_at}
 use Rattle.lf_proto.specs.declared.request.Order.{Order}
 use Rattle.lf_proto.specs.declared.request.Order.TheVariants.{Open, Within}
-use Rattle.lf_proto.specs.declared.request.Action.TheVariants.{Close, Sync, Check, Where, Find, Change as Changing}
+use Rattle.lf_proto.specs.declared.request.Action.TheVariants.{Close, Sync, Check, Def, Where, Find, Change as Changing}
 use Rattle.lf_proto.specs.declared.request.Change.{Change}
 use Rattle.lf_proto.specs.declared.request.Change.TheVariants.{Place as PlaceAt, Legalize, Tidy, Swap, Commit}
 use Rattle.lf_teams.specs.Outcomes.{Outcome, refused}
@@ -45,6 +45,7 @@ refused_legal t s Open r = tt
 refused_legal t s (Within session Close) r = tt
 refused_legal t s (Within session Sync) r = tt
 refused_legal t s (Within session Check) r = tt
+refused_legal t s (Within session Def) r = tt
 refused_legal t s (Within session (Where name)) r = tt
 refused_legal t s (Within session (Find name target)) r = tt
 refused_legal t s (Within session (Changing change)) r = λ denied. absurd (false_true denied)
@@ -136,6 +137,7 @@ module _ (t : Setting) (s : TeamState) (known : IsTeamOf t.frame s) (in_range : 
     closes = λ session. tt;
     syncs = λ session. tt;
     checks = λ session text. tt;
+    defs = λ session text. tt;
     tells = λ session name place. tt;
     finds = λ session name target place. tt;
     places = λ session own name place left named e accepted. placed_legal own name place named e _ refl;

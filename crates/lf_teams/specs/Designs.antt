@@ -1,7 +1,7 @@
 -- The floor with which a loaded design begins.
 use Rattle.std.specs.Prelude.{◌≡◌, ℕ, zero, suc, ◌+◌, List, [], ◌∷◌, Some, None, length, replicate}
 use Rattle.lf_floorplan.specs.declared.loaded.Loaded.{Loaded}
-use Rattle.lf_cells.specs.Openings.{own_cells}
+use Rattle.lf_cells.specs.Openings.{own_cells, opening_components}
 use Rattle.lf_teams.specs.States.{TeamState, FloorState}
 use Rattle.lf_teams.specs.Teams.{team_number}
 
@@ -16,7 +16,8 @@ opening_teams design number (suc more) = opening_team design number ∷ opening_
 
 -- the floor as it is loaded: the fence teams in the frame's order, and last the team of the ground
 abbrev pub opening : Loaded → FloorState
-opening design = record { frame = design.frame; teams = opening_teams design 0 (length design.frame.teams + 1) }
+opening design =
+    record { frame = design.frame; teams = opening_teams design 0 (length design.frame.teams + 1); components = opening_components design }
 
 -- two designs agree for a team: they have one frame, in which the name is a team's, and the team has the same cells in both
 pub record AgreeFor (team : List ℕ) (a b : Loaded) : Type 0 where

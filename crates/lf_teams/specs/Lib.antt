@@ -10,6 +10,7 @@ pub mod Steps
 pub mod Runs
 pub mod Designs
 pub mod Committed
+pub mod Places
 pub mod CommittedRuns
 pub mod Laws
 pub mod VerbRows

@@ -1,4 +1,4 @@
--- Questions, which change nothing: what where, check and find come to.
+-- Questions, which change nothing: what where, check, def and find come to.
 use Rattle.std.specs.Prelude.{ℕ, List, Option, Some, None, map, slice_get}
 use Rattle.lf_units.specs.declared.area.Point.{Point}
 use Rattle.lf_floorplan.specs.declared.place.Place.{Place}
@@ -8,9 +8,10 @@ use Rattle.lf_rules.specs.Team.{lifted_from}
 use Rattle.lf_proto.specs.Numbers.{◌>>=◌}
 use Rattle.lf_proto.specs.ReportText.{report_text}
 use Rattle.lf_proto.specs.Requests.{place_at}
-use Rattle.lf_proto.specs.declared.reply.Reply.TheVariants.{At, Report}
+use Rattle.lf_proto.specs.declared.reply.Reply.TheVariants.{At, Report, Def}
 use Rattle.lf_proto.specs.declared.reply.Refusal.TheVariants.{NoCell, Unplaced, NoPlace}
 use Rattle.lf_cells.specs.declared.cell.Cell.{Cell}
+use Rattle.lf_texts.specs.TeamText.{team_text}
 use Rattle.lf_teams.specs.States.{TeamState}
 use Rattle.lf_teams.specs.Teams.{Setting, listed_of}
 use Rattle.lf_cells.specs.Cells.{cell_named, working_at}
@@ -34,6 +35,10 @@ located name s = located_own (cell_named name s.cells) s
 -- check: the report of the team's cells at their working places
 unfoldable pub checked : Setting → TeamState → Outcome
 checked t s = record { reply = Report (report_text (report_of t.legalizer t.frame (map (listed_of t.number) s.cells))); team = s }
+
+-- def: the team's DEF text, its cells at their working places
+unfoldable pub written : Setting → TeamState → Outcome
+written t s = record { reply = Def (team_text t.frame t.number s.cells); team = s }
 
 -- ---- the best place of a cell
 

@@ -3,7 +3,7 @@ use Rattle.std.specs.Prelude.{◌≡◌, ℕ, ◌+◌, List, ◌∷◌, Option, 
 use Rattle.lf_floorplan.specs.declared.place.Place.{Place}
 use Rattle.lf_floorplan.specs.declared.limits.Limits.{Limits}
 use Rattle.lf_proto.specs.declared.reply.Reply.{Reply}
-use Rattle.lf_proto.specs.declared.reply.Reply.TheVariants.{Revision, At, Legalized, Tidied as TidyDone, Report, Refused}
+use Rattle.lf_proto.specs.declared.reply.Reply.TheVariants.{Revision, At, Legalized, Tidied as TidyDone, Report, Def, Refused}
 use Rattle.lf_proto.specs.declared.reply.Refusal.{Refusal}
 use Rattle.lf_proto.specs.declared.reply.Refusal.TheVariants.{Illegal, NoPlace, OutOfMemory}
 use Rattle.lf_cells.specs.declared.cell.Cell.{Cell}
@@ -32,7 +32,7 @@ is_short (Refused OutOfMemory) = true
 is_short _ = false
 
 -- the replies that OutOfMemory may stand in for: those to an accepted change, which keeps what it needs for undo, a broken rule
--- and a best place, for which the boxes of the other cells are collected, that a cell has none, and a report. Sync and where
+-- and a best place, for which the boxes of the other cells are collected, that a cell has none, a report and a DEF text. Sync and where
 -- have such replies too, and take no memory
 abbrev pub may_be_short : Reply → Bool
 may_be_short (Revision revision) = true
@@ -40,6 +40,7 @@ may_be_short (Legalized revision place) = true
 may_be_short (TidyDone revision count) = true
 may_be_short (At place) = true
 may_be_short (Report text) = true
+may_be_short (Def text) = true
 may_be_short (Refused (Illegal rule cell other)) = true
 may_be_short (Refused (NoPlace cell)) = true
 may_be_short _ = false

@@ -13,8 +13,10 @@ pub record TeamState : Type 0 where
   pub entries : List (List (Option Place))
   pub slots : List (Option ℕ)
 
--- a floor: its frame, and a state for each team: the fence teams in the frame's order, and last the team of the ground
--- outside all fences
+-- a floor: its frame; a state for each team: the fence teams in the frame's order, and last the team of the ground outside all
+-- fences; and for each team the positions of its cells' entries among all COMPONENTS of the DEF text, which no command changes. They are
+-- no part of a team's state: what stands in the text between its cells is no business of the team
 pub record FloorState : Type 0 where
   pub frame : Frame
   pub teams : List TeamState
+  pub components : List (List ℕ)

@@ -19,9 +19,9 @@ use Rattle.lf_teams.specs.Outcomes.{Outcome, is_short, may_be_short, places_of}
 use Rattle.lf_teams.specs.Verbs.{outcome_of, takes_memory}
 use Rattle.lf_teams.specs.VerbLaws.{is_granted, AreLegal, HasLegal, committed_places}
 
--- the floor of that frame and these teams
-abbrev pub floor_of : Frame → List TeamState → FloorState
-floor_of f teams = record { frame = f; teams = teams }
+-- the floor of that frame, with these positions of entries and these teams
+abbrev pub floor_of : Frame → List (List ℕ) → List TeamState → FloorState
+floor_of f components teams = record { frame = f; teams = teams; components = components }
 
 -- the reply to a command, and the floor afterwards
 pub record Answer : Type 0 where

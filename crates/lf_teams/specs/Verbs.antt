@@ -10,7 +10,7 @@ use Rattle.lf_floorplan.specs.declared.place.Place.{Place}
 use Rattle.lf_proto.specs.declared.request.Order.{Order}
 use Rattle.lf_proto.specs.declared.request.Order.TheVariants.{Open, Within}
 use Rattle.lf_proto.specs.declared.request.Action.{Action}
-use Rattle.lf_proto.specs.declared.request.Action.TheVariants.{Close, Sync, Check, Where, Find, Change as Changing}
+use Rattle.lf_proto.specs.declared.request.Action.TheVariants.{Close, Sync, Check, Def, Where, Find, Change as Changing}
 use Rattle.lf_proto.specs.declared.request.Change.{Change}
 use Rattle.lf_proto.specs.declared.request.Change.TheVariants.{Place as PlaceAt, Legalize, Tidy, Unplace, Swap, Undo, Commit, Revert}
 use Rattle.lf_proto.specs.declared.reply.Refusal.TheVariants.{NoSession, Stale, RevisionsSpent}
@@ -18,7 +18,7 @@ use Rattle.lf_teams.specs.States.{TeamState}
 use Rattle.lf_teams.specs.Teams.{Setting}
 use Rattle.lf_teams.specs.Outcomes.{Outcome, refused}
 use Rattle.lf_teams.specs.Sessions.{seen_at, opened, closed, synced}
-use Rattle.lf_teams.specs.Looks.{checked, located, found}
+use Rattle.lf_teams.specs.Looks.{checked, written, located, found}
 use Rattle.lf_teams.specs.Changes.{placed, legalized, tidied_team, unplaced, swapped, undone, committed, reverted}
 
 -- ---- what each verb comes to
@@ -48,6 +48,7 @@ abbrev pub outcome_within : ℕ → Setting → ℕ → Action (List ℕ) Place 
 outcome_within seen t session Close s = closed session s
 outcome_within seen t session Sync s = synced session s
 outcome_within seen t session Check s = checked t s
+outcome_within seen t session Def s = written t s
 outcome_within seen t session (Where name) s = located name s
 outcome_within seen t session (Find name target) s = found t name target s
 outcome_within seen t session (Changing change) s = unless_stale seen t session change s

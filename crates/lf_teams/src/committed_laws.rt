@@ -1,6 +1,7 @@
 //! Laws on the committed design.
 
 ghost use Rattle.lf_teams.specs.Committed.{CommitMakesCommitted, CommittedByTeams, LegalMakesTeams, LoadedIsCommitted, LoadedPlacesAreCommitted, OrderKeepsCommitted};
+ghost use Rattle.lf_teams.specs.Places.{PlacesBeginAsLoaded, PlacesFollowDesign};
 ghost use Rattle.lf_teams.specs.CommittedRuns.{CommitLasts, LegalCommits, LoadedRunStaysLegal, RunCommitsMakeLegal, RunStaysLegal, RunTidiedCommits, StepKeepsCommitted};
 
 use lf_rules::legal_in_range;
@@ -24,6 +25,17 @@ pub fn loaded_is_committed()
 /// committed them there.
 pub fn loaded_places_are_committed()
     ensures { LoadedPlacesAreCommitted }
+{}
+
+/// On a floor with the entries of a loaded design, whatever was asked since, the committed places are
+/// those of the design's cells, in loading order.
+pub fn places_follow_design()
+    ensures { PlacesFollowDesign }
+{}
+
+/// When a floor begins, the committed places are the cells' places in the DEF text, in loading order.
+pub fn places_begin_as_loaded()
+    ensures { PlacesBeginAsLoaded }
 {}
 
 /// A team whose committed places are legal keeps that, whatever is asked of it.

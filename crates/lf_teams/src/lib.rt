@@ -9,8 +9,8 @@ mod verb_laws;
 pub use committed_laws::{
     commit_lasts, commit_makes_committed, committed_by_teams, legal_commits, legal_makes_teams,
     loaded_is_committed, loaded_places_are_committed, loaded_run_stays_legal,
-    order_keeps_committed, run_commits_make_legal, run_stays_legal, run_tidied_commits,
-    step_keeps_committed,
+    order_keeps_committed, places_begin_as_loaded, places_follow_design, run_commits_make_legal,
+    run_stays_legal, run_tidied_commits, step_keeps_committed,
 };
 pub use laws::{other_designs_do_not_matter, others_do_not_matter};
 pub use verb_laws::{

@@ -8,7 +8,15 @@ invariant_of-self c =
     let p = c.self.inside.parts in
     let same : labels_in c.commit_cells.new.teams.items ≡ labels_in p.teams.items =
     ap labels_in c.commit_cells.ensures ∙ labels_all_committed p.teams.items c.args.team in
-    record { differ = c.self.invariant.differ; many = c.self.invariant.many; index = rw same c.self.invariant.index; ids = rw same c.self.invariant.ids }
+    let entries : components_in c.commit_cells.new.teams.items ≡ components_in p.teams.items =
+    ap components_in c.commit_cells.ensures ∙ components_all_committed p.teams.items c.args.team in
+    record {
+      differ = c.self.invariant.differ;
+      many = c.self.invariant.many;
+      index = rw same c.self.invariant.index;
+      rise = rw entries c.self.invariant.rise;
+      ids = rw same c.self.invariant.ids;
+    }
 
 pub returns-then-team-len-clause-cells : goal.returns-then-team-len-clause-cells
 returns-then-team-len-clause-cells c =

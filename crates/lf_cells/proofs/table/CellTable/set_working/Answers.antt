@@ -8,7 +8,15 @@ invariant_of-self c =
     let p = c.self.inside.parts in
     let same : labels_in c.move_cell.new.teams.items ≡ labels_in p.teams.items =
     ap labels_in c.move_cell.ensures ∙ labels_all_moved p.teams.items c.args.id.team c.args.id.own c.args.place in
-    record { differ = c.self.invariant.differ; many = c.self.invariant.many; index = rw same c.self.invariant.index; ids = rw same c.self.invariant.ids }
+    let entries : components_in c.move_cell.new.teams.items ≡ components_in p.teams.items =
+    ap components_in c.move_cell.ensures ∙ components_all_moved p.teams.items c.args.id.team c.args.id.own c.args.place in
+    record {
+      differ = c.self.invariant.differ;
+      many = c.self.invariant.many;
+      index = rw same c.self.invariant.index;
+      rise = rw entries c.self.invariant.rise;
+      ids = rw same c.self.invariant.ids;
+    }
 
 pub returns-then-team-len-clause-cells : goal.returns-then-team-len-clause-cells
 returns-then-team-len-clause-cells c =

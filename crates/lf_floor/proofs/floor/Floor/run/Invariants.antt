@@ -11,6 +11,7 @@ abbrev pub invariant-loop-i : goal.invariant-loop-i
 invariant-loop-i g l = record {
   run : (j : Legalizer) (rest : List Reply) (new : FloorState) → Run j l.self (drop l.i l.requests) rest new
       → Run j l.fn.self l.requests (l.replies.items ++ rest) new;
+  components : l.self.components ≡ l.fn.self.components;
   count : vec_len l.replies ≡ l.i;
   room : length l.requests ≤ vec_capacity l.replies;
 }

@@ -1,10 +1,9 @@
-use Rattle.std.proofs.Common.{ap, sym, subst, List}
+use Rattle.std.proofs.Common.{sym, subst, List}
 use Rattle.std.specs.Prelude.{All}
 use Rattle.lf_teams.specs.States.{TeamState}
-use Rattle.lf_teams.specs.Steps.{floor_of}
 use Rattle.lf_teams.specs.Teams.{IsTeamOf}
 use Rattle.lf_teams.proofs.Openings.{opening_whole}
-use Rattle.lf_floor.proofs.Rows.{opened_as_loaded, opened_legal, opened_tables, opened_teams}
+use Rattle.lf_floor.proofs.Rows.{opened_as_loaded, opened_floor, opened_legal, opened_tables, opened_teams}
 use Rattle.lf_floor.proofs.floor.Floor.start.Goals as goal
 
 pub invariant_of-result : goal.invariant_of-result
@@ -16,7 +15,7 @@ invariant_of-result g c =
     )
 
 pub returns-clause-opens : goal.returns-clause-opens
-returns-clause-opens g c = ap (floor_of c.args.loaded.frame) (opened_teams c.args.loaded c.in_ok-tables.tables (c.in_ok-tables.ensures {u = tt}))
+returns-clause-opens g c = opened_floor c.args.loaded c.in_ok-tables.tables (c.in_ok-tables.ensures {u = tt})
 
 pub returns-clause-committed : goal.returns-clause-committed
 returns-clause-committed g c = opened_as_loaded c.args.loaded c.in_ok-tables.tables (c.in_ok-tables.ensures {u = tt})

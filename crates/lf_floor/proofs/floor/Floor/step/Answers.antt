@@ -2,7 +2,7 @@ use Rattle.std.proofs.Common.{ap, ◌∙◌}
 use Rattle.lf_proto.specs.Commands.{command_of}
 use Rattle.lf_teams.specs.States.{FloorState}
 use Rattle.lf_teams.specs.Teams.{state_of}
-use Rattle.lf_teams.proofs.Answering.{step_of_answer, others_kept, frame_kept}
+use Rattle.lf_teams.proofs.Answering.{step_of_answer, others_kept, frame_kept, components_kept}
 use Rattle.lf_teams.proofs.Promises.{places_legally, legalizes_legally, tidies_legally, swaps_legally, commits_legally, keeps_refused}
 use Rattle.lf_teams.proofs.Stepping.{answer_keeps, short_keeps}
 use Rattle.lf_floor.proofs.floor.Floor.step.Goals as goal
@@ -20,11 +20,19 @@ returns-in-Ok-clause-frame g c =
     let l = c.legalizer_is_there.ensures in
     ap (λ (f : FloorState). f.frame) (c.in-Ok.ensures.ok l).floor_is ∙ frame_kept l c.args.self.now (command_of c.args.request.now)
 
+pub returns-in-Ok-clause-components : goal.returns-in-Ok-clause-components
+returns-in-Ok-clause-components g c =
+    let l = c.legalizer_is_there.ensures in
+    ap (λ (f : FloorState). f.components) (c.in-Ok.ensures.ok l).floor_is ∙ components_kept l c.args.self.now (command_of c.args.request.now)
+
 pub returns-in-Err-clause-others : goal.returns-in-Err-clause-others
 returns-in-Err-clause-others g c = λ team other. ap (λ (f : FloorState). state_of f team) (c.in-Err.ensures.err c.legalizer_is_there.ensures).short.kept
 
 pub returns-in-Err-clause-frame : goal.returns-in-Err-clause-frame
 returns-in-Err-clause-frame g c = ap (λ (f : FloorState). f.frame) (c.in-Err.ensures.err c.legalizer_is_there.ensures).short.kept
+
+pub returns-in-Err-clause-components : goal.returns-in-Err-clause-components
+returns-in-Err-clause-components g c = ap (λ (f : FloorState). f.components) (c.in-Err.ensures.err c.legalizer_is_there.ensures).short.kept
 
 pub returns-in-Ok-clause-placed : goal.returns-in-Ok-clause-placed
 returns-in-Ok-clause-placed g c = λ l. places_legally l c.legal_in_range.ensures c.args.self.now c.try_step.new.self

@@ -1,7 +1,6 @@
 use Rattle.std.proofs.lemmas.Result.{IfOk-weaker}
 use Rattle.lf_proto.specs.Commands.{order_of}
-use Rattle.lf_teams.specs.Steps.{floor_of}
-use Rattle.lf_floor.specs.Tables.{teams_in}
+use Rattle.lf_floor.specs.Tables.{floor_in}
 use Rattle.lf_teams.proofs.Answering.{bye_answers, none_answers, some_answers, some_short}
 use Rattle.lf_teams.proofs.Serving.{on_err_both}
 use Rattle.lf_floor.proofs.floor.Floor.try_step.Goals as goal
@@ -11,22 +10,22 @@ returns-in-Bye-clause-ok g c = λ l. rw c.in-Bye.is (bye_answers l c.args.self.n
 
 pub returns-in_default-clause-ok : goal.returns-in_default-clause-ok
 returns-in_default-clause-ok g c = λ l.
-    let old = floor_of c.self.inside.frame (teams_in c.self.inside.tables) in
+    let old = floor_in c.self.inside.frame c.self.inside.tables in
     rw (← c.self.view_is, c.in-To.is)
     (none_answers l old c.in-To.team.now (order_of c.in-To.order) (c.in_default.ensures {u = tt}).found)
 
 pub returns-in-Some-clause-ok : goal.returns-in-Some-clause-ok
 returns-in-Some-clause-ok g c = λ l.
-    let old = floor_of c.self.inside.frame (teams_in c.self.inside.tables) in
-    let new = floor_of c.self.inside.frame (teams_in c.serve_at.new.tables) in
+    let old = floor_in c.self.inside.frame c.self.inside.tables in
+    let new = floor_in c.self.inside.frame c.serve_at.new.tables in
     rw (← c.self.view_is, c.in-To.is) (IfOk-weaker c.serve_at.result _ _
     (λ reply given. some_answers l old new c.in-To.team.now (order_of c.in-To.order) c.in-Some.number reply (c.in-Some.ensures {u = tt}).found given)
     (c.serve_at.ensures.ok l))
 
 pub returns-in-Some-clause-err : goal.returns-in-Some-clause-err
 returns-in-Some-clause-err g c = λ l.
-    let old = floor_of c.self.inside.frame (teams_in c.self.inside.tables) in
-    let new = floor_of c.self.inside.frame (teams_in c.serve_at.new.tables) in
+    let old = floor_in c.self.inside.frame c.self.inside.tables in
+    let new = floor_in c.self.inside.frame c.serve_at.new.tables in
     rw (← c.self.view_is, c.in-To.is) (on_err_both c.serve_at.result
     (λ takes short. some_short l old new c.in-To.team.now (order_of c.in-To.order) c.in-Some.number
     (c.in-Some.ensures {u = tt}).found takes short) c.serve_at.ensures.takes (c.serve_at.ensures.err l))
