@@ -260,6 +260,7 @@ fn put_reply(
     ensures ok { OnOk result (out.new.items ≡ out.old.items ++ reply_text reply.now cell_name.now other_name.now) }
     ensures kept { take (vec_len out.old) out.new.items ≡ out.old.items }
     ensures full { OnErr result (vec_capacity out.old < vec_len out.old + length (reply_text reply.now cell_name.now other_name.now)) }
+    ensures capacity { vec_capacity out.old ≤ vec_capacity out.new }
 {
     put_reply_line(reply, cell_name, other_name, out)?;
     put(out, text_behind(reply))
@@ -278,6 +279,7 @@ pub fn reply_text(
     ensures ok { OnOk result (out.new.items ≡ out.old.items ++ reply_text reply.now cell_name.now other_name.now) }
     ensures err { OnErr result (out.new.items ≡ out.old.items) }
     ensures succeeds { vec_len out.old + length (reply_text reply.now cell_name.now other_name.now) ≤ vec_capacity out.old → IsOk result }
+    ensures capacity { vec_capacity out.old ≤ vec_capacity out.new }
 {
     let before = out.len();
     let written = put_reply(reply, cell_name, other_name, out);

@@ -1,0 +1,49 @@
+//! Where exported texts go.
+
+ghost use Rattle.std.specs.Prelude.{◌≡◌, ℕ, List, Option, None, OnErr, OnOk};
+ghost use Rattle.lf_files.specs.Shelf.{Put, Puts};
+
+use crate::replacing::{is_special, replace, write_through};
+use std::rt::Files;
+
+/// A text was not put into its file, which is as it was.
+#[derive(Clone, Copy, Debug, PartialEq, Eq)]
+pub struct Unwritten;
+
+/// Where exported texts go, by the paths of their files.
+pub trait Exports {
+    // The texts that were put, the last one in front, where they are known.
+    ghost puts: { Self → Option (List Put) } = { λ _. None };
+
+    /// Puts the text into the file of that path, in the place of what stood there.
+    fn put(&mut self, path: &str, text: &[u8]) -> Result<(), Unwritten>
+        ensures ok { OnOk result (Puts (puts self.old) (puts self.new) path.now text.now) }
+        ensures err { OnErr result (puts self.new ≡ puts self.old) };
+}
+
+/// The files of a runtime. Contracts know nothing of what they hold.
+#[derive(Clone, Copy)]
+pub struct FileExports<'a, T> {
+    files: &'a T,
+}
+
+impl<'a, T> FileExports<'a, T> {
+    /// The files of this runtime.
+    pub fn new(files: &'a T) -> Self {
+        FileExports { files }
+    }
+}
+
+impl<'a, T: Files + AllocGlobal> Exports for FileExports<'a, T> {
+    fn put(&mut self, path: &str, text: &[u8]) -> Result<(), Unwritten> {
+        let written = if is_special(self.files, path) {
+            write_through(self.files, path, text)
+        } else {
+            replace(self.files, path, text)
+        };
+        match written {
+            Ok(()) => Ok(()),
+            Err(_) => Err(Unwritten),
+        }
+    }
+}

@@ -1,0 +1,7 @@
+pub mod Known
+pub mod Cuttings
+pub mod Fitting
+pub mod Reporting
+pub mod Steps
+pub mod Finishing
+pub mod Telling

@@ -1,0 +1,52 @@
+use Rattle.std.proofs.Common.{◌≡◌, ◌+◌, ◌≤◌, arith, refl, rules, take, length, [], Some, None, List, ℕ, subst, sym, Option}
+use Rattle.std.specs.Io.KnownBytes.{Consumes}
+use Rattle.lf_server.specs.Devices.{writer}
+use Rattle.lf_server.specs.Progress.{Goes}
+use Rattle.lf_server.proofs.Known.{Consumes-none}
+use Rattle.lf_server.proofs.Steps.{goes_none}
+use Rattle.lf_server.proofs.Finishing.{goes_start, keeps_itself, read_end, read_fault, read_on, read_stop}
+use Rattle.lf_server.proofs.serving.serve_lines.Goals as goal
+
+pub loop-reads_left-init : goal.loop-reads_left-init
+loop-reads_left-init g c = record {
+  counted = omega arith;
+  counts = omega arith;
+  room = c.requires.room;
+  sink = refl;
+  source = refl;
+  goes = λ l. ([], Consumes-none (g.S.Source.remaining c.args.source.now), goes_start l _ c.args.left.now c.args.floor.now c.args.framer.now.pending c.requires.fresh);
+}
+
+pub returns-in_default-clause-serves : goal.returns-in_default-clause-serves
+returns-in_default-clause-serves g c = λ l.
+    let h = c.loop-reads_left.invariant.goes l in
+    read_fault l (g.S.Source.remaining c.args.source.now) (g.S.Source.remaining c.loop-reads_left.source) (g.S.Source.remaining c.read.new.self) _ _ c.args.left.now c.loop-reads_left.left c.args.floor.now c.loop-reads_left.floor c.loop-reads_left.framer.pending h.0 h.1 c.in_default.ensures.bytes h.2
+
+pub returns-then-count-eq0-clause-serves : goal.returns-then-count-eq0-clause-serves
+returns-then-count-eq0-clause-serves g c = λ l.
+    let h = c.loop-reads_left.invariant.goes l in
+    read_end l c.finish.result (g.S.Source.remaining c.args.source.now) (g.S.Source.remaining c.loop-reads_left.source) (g.S.Source.remaining c.read.new.self) _ _ _ c.args.left.now c.loop-reads_left.left c.finish.new.left c.args.floor.now c.loop-reads_left.floor c.finish.new.floor c.loop-reads_left.framer.pending
+    h.0 c.read.new.buffer c.in-Ok.count c.if-count-eq0.true h.1 c.in-Ok.ensures.bytes.0 (c.in-Ok.ensures.bytes.1 c.if-count-eq0.true (omega (arith, c.read.auto.buffer))) h.2 (c.finish.ensures.serves l)
+
+pub returns-in-Some-clause-serves : goal.returns-in-Some-clause-serves
+returns-in-Some-clause-serves g c = λ l.
+    let h = c.loop-reads_left.invariant.goes l in
+    read_stop l c.in-Some.ending (g.S.Source.remaining c.args.source.now) (g.S.Source.remaining c.loop-reads_left.source) (g.S.Source.remaining c.read.new.self) _ _ _ c.args.left.now c.loop-reads_left.left c.pump.new.left c.args.floor.now c.loop-reads_left.floor c.pump.new.floor c.loop-reads_left.framer.pending
+    h.0 (take c.in-Ok.count c.read.new.buffer) h.1 c.in-Ok.ensures.bytes.0 h.2 (c.in-Some.ensures.serves l)
+
+pub loop-reads_left-preserved : goal.loop-reads_left-preserved
+loop-reads_left-preserved g c = record {
+  counted = omega (arith, c.loop-reads_left.invariant.counted, c.read.ensures.counted, c.loop-reads_left-test.true);
+  counts = omega (arith, c.pump.ensures.left, c.loop-reads_left.invariant.counts);
+  room = c.pump.ensures.room;
+  sink = search rules;
+  source = search rules;
+  goes = λ l. let h = c.loop-reads_left.invariant.goes l in
+      read_on l (g.S.Source.remaining c.args.source.now) (g.S.Source.remaining c.loop-reads_left.source) (g.S.Source.remaining c.read.new.self) _ _ _ c.args.left.now c.loop-reads_left.left c.pump.new.left c.args.floor.now c.loop-reads_left.floor c.pump.new.floor c.loop-reads_left.framer.pending c.pump.new.framer.pending
+      h.0 (take c.in-Ok.count c.read.new.buffer) h.1 c.in-Ok.ensures.bytes.0 h.2 (c.in-None.ensures.serves l);
+}
+
+pub returns-clause-serves : goal.returns-clause-serves
+returns-clause-serves g c = λ l.
+    let h = c.loop-reads_left.invariant.goes l in
+    read_fault l (g.S.Source.remaining c.args.source.now) (g.S.Source.remaining c.loop-reads_left.source) (g.S.Source.remaining c.loop-reads_left.source) _ _ c.args.left.now c.loop-reads_left.left c.args.floor.now c.loop-reads_left.floor c.loop-reads_left.framer.pending h.0 h.1 (keeps_itself (g.S.Source.remaining c.loop-reads_left.source)) h.2

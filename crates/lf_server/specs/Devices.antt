@@ -1,0 +1,24 @@
+-- What a connection's writer shows: the bytes that it holds, whether all of them are flushed, and whether a call has failed.
+use Rattle.std.specs.Prelude.{◌≡◌, ℕ, Bool, true, List, take, Option}
+use Rattle.std.specs.Io.KnownBytes.{Appends}
+
+-- the bytes where they are known, whether everything written is flushed, and whether a call has failed
+pub record Writer : Type 0 where
+  pub contents : Option (List ℕ)
+  pub flushed : Bool
+  pub failed : Bool
+
+abbrev pub writer : Option (List ℕ) → Bool → Bool → Writer
+writer contents flushed failed = record { contents = contents; flushed = flushed; failed = failed }
+
+-- the text was written whole, behind what stood there, and everything is flushed; no call failed
+pub record Sends (old new : Writer) (text : List ℕ) : Type 0 where
+  pub written : Appends old.contents new.contents text
+  pub flushed : new.flushed ≡ true
+  pub healthy : new.failed ≡ old.failed
+
+-- a front of the text was written, perhaps nothing or all of it, and then a call failed
+pub record Breaks (old new : Writer) (text : List ℕ) : Type 0 where
+  pub count : ℕ
+  pub written : Appends old.contents new.contents (take count text)
+  pub failed : new.failed ≡ true

@@ -1,0 +1,121 @@
+-- What the lines of a connection ask, and what is answered to each.
+use Rattle.std.specs.Prelude.{◌≡◌, ◌⊎◌, ℕ, Bool, true, false, List, [], ◌∷◌, ◌++◌, map, Option, Some, None, option_and_then, unwrap_or, MatchOption}
+use Rattle.lf_floorplan.specs.declared.place.Place.{Place}
+use Rattle.lf_rules.specs.Legalizer.{Legalizer}
+use Rattle.lf_proto.specs.declared.request.Command.{Command}
+use Rattle.lf_proto.specs.declared.request.Command.TheVariants.{Bye, To}
+use Rattle.lf_proto.specs.declared.reply.Reply.{Reply}
+use Rattle.lf_proto.specs.declared.reply.Reply.TheVariants.{Report, Def, Refused}
+use Rattle.lf_proto.specs.declared.reply.Refusal.TheVariants.{BadRequest, Unplaced, NoPlace, Illegal, OutOfMemory}
+use Rattle.lf_proto.specs.ReplyText.{reply_text}
+use Rattle.lf_proto.specs.Requests.{command_on}
+use Rattle.lf_teams.specs.States.{FloorState}
+use Rattle.lf_teams.specs.Teams.{state_of}
+use Rattle.lf_teams.specs.Outcomes.{name_at}
+use Rattle.lf_teams.specs.Steps.{Step}
+use Rattle.lf_server.specs.Devices.{Writer, Sends, Breaks}
+
+-- a line without its line end, or None where it is over the limit
+abbrev pub Line : Type 0
+Line = Option (List ℕ)
+
+-- the request of a line; one over the limit asks nothing
+abbrev pub asked_on : Line → Option (Command (List ℕ) Place)
+asked_on line = option_and_then command_on line
+
+-- the request is 'bye'
+abbrev pub asks_end : Option (Command (List ℕ) Place) → Bool
+asks_end (Some Bye) = true
+asks_end (Some (To team order)) = false
+asks_end None = false
+
+abbrev pub is_bye : Line → Bool
+is_bye line = asks_end (asked_on line)
+
+-- ---- the text of a reply
+
+-- the positions of the cells that a reply names: the cell, and the other one
+abbrev pub cells_in : Reply → Option ℕ × Option ℕ
+cells_in (Refused (Unplaced cell)) = (Some cell, None)
+cells_in (Refused (NoPlace cell)) = (Some cell, None)
+cells_in (Refused (Illegal rule cell other)) = (Some cell, other)
+cells_in _ = (None, None)
+
+-- the name of the team's cell of that position, and no byte where there is none
+abbrev pub name_in : FloorState → List ℕ → Option ℕ → List ℕ
+name_in floor team None = []
+name_in floor team (Some own) = unwrap_or (option_and_then (λ s. name_at s.cells own) (state_of floor team)) []
+
+-- the text of a reply to a command of the team
+abbrev pub text_of : FloorState → List ℕ → Reply → List ℕ
+text_of floor team reply = reply_text reply (name_in floor team (cells_in reply).0) (name_in floor team (cells_in reply).1)
+
+-- the team that a command is to; 'bye' is to none
+abbrev pub team_of : Command (List ℕ) Place → List ℕ
+team_of Bye = []
+team_of (To team order) = team
+
+-- the reply carries a text of any length: a report, or a team's DEF text
+abbrev pub is_long : Reply → Bool
+is_long (Report text) = true
+is_long (Def text) = true
+is_long _ = false
+
+-- ---- one line
+
+-- a line, the reply to it, and the reply's text
+pub record Exchange : Type 0 where
+  pub line : Line
+  pub reply : Reply
+  pub text : List ℕ
+
+-- what is no request is answered BadRequest, and the floor stays
+pub record RefusesLine (old : FloorState) (reply : Reply) (text : List ℕ) (new : FloorState) : Type 0 where
+  pub reply_is : reply ≡ Refused BadRequest
+  pub text_is : text ≡ reply_text reply [] []
+  pub kept : new ≡ old
+
+-- a request is one step of the floor, with this reply and its text
+pub record StepsOn (l : Legalizer) (old : FloorState) (command : Command (List ℕ) Place) (reply : Reply) (text : List ℕ) (new : FloorState) : Type 0 where
+  pub step : Step l old command reply new
+  pub text_is : text ≡ text_of new (team_of command) reply
+
+-- what was asked is answered with this reply and text, and the floor goes from old to new
+abbrev pub AnswersTo : Legalizer → FloorState → Option (Command (List ℕ) Place) → Reply → List ℕ → FloorState → Type 0
+AnswersTo l old asked reply text new = MatchOption asked (RefusesLine old reply text new) (λ command. StepsOn l old command reply text new)
+
+-- ---- many lines
+
+-- line after line: each is answered, and its reply's text is written whole and flushed before the next line is acted on; so the floor
+-- and the writer go from old to new
+abbrev pub Exchanges : Legalizer → FloorState → Writer → List Exchange → FloorState → Writer → Type 0
+Exchanges l old before [] new after = (new ≡ old) × (after ≡ before)
+Exchanges l old before (e ∷ later) new after =
+    (mid : FloorState) × (between : Writer) × AnswersTo l old (asked_on e.line) e.reply e.text mid × Sends before between e.text
+    × Exchanges l mid between later new after
+
+-- the same, but of the last text only a front was written
+pub record BreaksOff (l : Legalizer) (old : FloorState) (before : Writer) (done : List Exchange) (new : FloorState) (after : Writer) : Type 0 where
+  pub earlier : List Exchange
+  pub last : Exchange
+  pub mid : FloorState
+  pub between : Writer
+  pub done_are : done ≡ earlier ++ last ∷ []
+  pub exchanged : Exchanges l old before earlier mid between
+  pub answers : AnswersTo l mid (asked_on last.line) last.reply last.text new
+  pub breaks : Breaks between after last.text
+
+abbrev pub lines : List Exchange → List Line
+lines done = map (λ e. e.line) done
+
+-- ---- what is told in the place of a long text
+
+-- what is told of a reply: the reply, or OutOfMemory in the place of a long text
+abbrev pub StandsIn : Reply → Reply → Type 0
+StandsIn reply told = (told ≡ reply) ⊎ ((is_long reply ≡ true) × (told ≡ Refused OutOfMemory))
+
+-- the text of what is told of the reply
+pub record Tells (floor : FloorState) (team : List ℕ) (reply : Reply) (text : List ℕ) : Type 0 where
+  pub told : Reply
+  pub stands_in : StandsIn reply told
+  pub text_is : text ≡ text_of floor team told

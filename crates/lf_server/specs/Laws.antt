@@ -1,0 +1,75 @@
+-- What serving does to the teams: the lines are commands, and each team is told what its own orders come to.
+use Rattle.std.specs.Prelude.{◌≡◌, ℕ, List, [], ◌∷◌, Option, Some, None, ◌&&◌, not, bytes_eq, if◌then◌else◌}
+use Rattle.lf_floorplan.specs.declared.loaded.Loaded.{Loaded}
+use Rattle.lf_floorplan.specs.declared.place.Place.{Place}
+use Rattle.lf_rules.specs.Legalizer.{Legalizer}
+use Rattle.lf_proto.specs.declared.request.Command.{Command}
+use Rattle.lf_proto.specs.declared.request.Command.TheVariants.{Bye, To}
+use Rattle.lf_proto.specs.declared.reply.Reply.{Reply}
+use Rattle.lf_teams.specs.States.{TeamState, FloorState}
+use Rattle.lf_teams.specs.Teams.{state_of}
+use Rattle.lf_teams.specs.Designs.{AgreeFor, opening}
+use Rattle.lf_teams.specs.Outcomes.{is_short}
+use Rattle.lf_teams.specs.Runs.{Run, asked}
+use Rattle.lf_server.specs.Devices.{Writer}
+use Rattle.lf_server.specs.Exchanges.{Exchange, asked_on}
+use Rattle.lf_server.specs.Endings.{Comes}
+use Rattle.lf_server.specs.declared.serving.Ending.{Ending}
+
+-- ---- lines as commands
+
+abbrev pub with_command : Option (Command (List ℕ) Place) → List (Command (List ℕ) Place) → List (Command (List ℕ) Place)
+with_command None later = later
+with_command (Some command) later = command ∷ later
+
+-- the commands of the lines, in their order; a line that is no request is none
+abbrev pub commands : List Exchange → List (Command (List ℕ) Place)
+commands [] = []
+commands (e ∷ later) = with_command (asked_on e.line) (commands later)
+
+abbrev pub with_reply : Option (Command (List ℕ) Place) → Reply → List Reply → List Reply
+with_reply None reply later = later
+with_reply (Some command) reply later = reply ∷ later
+
+-- the replies to them
+abbrev pub replies : List Exchange → List Reply
+replies [] = []
+replies (e ∷ later) = with_reply (asked_on e.line) e.reply (replies later)
+
+-- however serving ends, the floor has gone through a run of the commands of the lines acted on, with these replies
+abbrev pub ServingRuns : Type 0
+ServingRuns =
+    (l : Legalizer) (ending : Ending) (old new : FloorState) (before after : Writer) (done : List Exchange)
+    → Comes ending l old before done new after → Run l old (commands done) (replies done) new
+
+-- ---- what a team is told, byte for byte
+
+-- the text of a reply to the team of that name, other than OutOfMemory, in front of the later ones
+abbrev pub told_before : List ℕ → Option (Command (List ℕ) Place) → Exchange → List (List ℕ) → List (List ℕ)
+told_before team None e later = later
+told_before team (Some Bye) e later = later
+told_before team (Some (To name order)) e later = if bytes_eq name team && not (is_short e.reply) then e.text ∷ later else later
+
+-- the texts of the replies to the team of that name, without OutOfMemory
+abbrev pub texts_told : List ℕ → List Exchange → List (List ℕ)
+texts_told team [] = []
+texts_told team (e ∷ later) = told_before team (asked_on e.line) e (texts_told team later)
+
+-- in two servings of floors of one frame, a team that begins in the same state and asks the same is told the same texts, byte for
+-- byte, whatever the other teams have and ask; what was answered OutOfMemory counts as not asked
+abbrev pub TextsAreOwn : Type 0
+TextsAreOwn =
+    (l : Legalizer) (team : List ℕ) (end end' : Ending) (a a' b b' : FloorState) (v v' w w' : Writer) (done others : List Exchange) (s : TeamState)
+    → Comes end l a v done a' v' → Comes end' l b w others b' w'
+    → a.frame ≡ b.frame → state_of a team ≡ Some s → state_of b team ≡ Some s
+    → asked team (commands done) (replies done) ≡ asked team (commands others) (replies others)
+    → texts_told team done ≡ texts_told team others
+
+-- the same from two loaded designs that agree for the team
+abbrev pub TextsOfDesigns : Type 0
+TextsOfDesigns =
+    (l : Legalizer) (team : List ℕ) (end end' : Ending) (a b : Loaded) (a' b' : FloorState) (v v' w w' : Writer) (done others : List Exchange)
+    → AgreeFor team a b
+    → Comes end l (opening a) v done a' v' → Comes end' l (opening b) w others b' w'
+    → asked team (commands done) (replies done) ≡ asked team (commands others) (replies others)
+    → texts_told team done ≡ texts_told team others

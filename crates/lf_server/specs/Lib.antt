@@ -1,0 +1,6 @@
+pub mod Devices
+pub mod Exchanges
+pub mod Endings
+pub mod Progress
+pub mod Connections
+pub mod Laws

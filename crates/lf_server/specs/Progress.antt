@@ -1,0 +1,100 @@
+-- How far serving has come, and how it stops: what the loops keep.
+use Rattle.std.specs.Prelude.{◌≡◌, ℕ, ◌+◌, ◌-◌, Bool, IfSome, true, false, List, [], ◌∷◌, ◌++◌, length, Option, Some, None, ◌⊎◌}
+use Rattle.std.specs.List.{slice_split}
+use Rattle.std.specs.Io.KnownBytes.{Consumes}
+use Rattle.lf_floorplan.specs.declared.place.Place.{Place}
+use Rattle.lf_rules.specs.Legalizer.{Legalizer}
+use Rattle.lf_proto.specs.declared.reply.Reply.{Reply}
+use Rattle.lf_proto.specs.declared.framer.Got.{Got}
+use Rattle.lf_proto.specs.declared.framer.Got.TheVariants.{More, Line as IsLine, TooLong}
+use Rattle.lf_proto.specs.declared.request.Command.{Command}
+use Rattle.lf_proto.specs.Stream.{is_line_feed, lines_in, lines_of}
+use Rattle.lf_teams.specs.States.{FloorState}
+use Rattle.lf_server.specs.Devices.{Writer, Sends, Breaks}
+use Rattle.lf_server.specs.Exchanges.{AnswersTo, Exchange, Exchanges, Line, asked_on, is_bye, lines}
+use Rattle.lf_server.specs.Endings.{ActedOn, Comes, NoneIsBye, ended_lines}
+use Rattle.lf_server.specs.declared.serving.Ending.{Ending}
+use Rattle.lf_server.specs.declared.serving.Ending.TheVariants.{Done, Bye, ReadFault, WriteFault, TooManyLines, OutOfMemory}
+
+-- the pieces between line feeds
+abbrev pub pieces : List ℕ → List (List ℕ)
+pieces bytes = slice_split is_line_feed bytes
+
+-- the pieces, with more bytes in front of the first
+abbrev pub with_front : List ℕ → List (List ℕ) → List (List ℕ)
+with_front run [] = run ∷ []
+with_front run (p ∷ parts) = (run ++ p) ∷ parts
+
+-- the lines of what is held and the pieces that come: None is held where it is over the limit
+abbrev pub lines_from : Option (List ℕ) → List (List ℕ) → List (Option (List ℕ))
+lines_from (Some held) parts = lines_in (with_front held parts)
+lines_from None [] = None ∷ []
+lines_from None (p ∷ []) = None ∷ []
+lines_from None (p ∷ q ∷ parts) = None ∷ lines_in (q ∷ parts)
+
+-- what the framer gave
+abbrev pub Given : Got → List ℕ → Line → Type 0
+Given got bytes line = ((got ≡ IsLine) × (line ≡ Some bytes)) ⊎ ((got ≡ TooLong) × (line ≡ None))
+
+-- ---- one line
+
+-- what was asked was answered with this text
+pub record IsAnswered (l : Legalizer) (old : FloorState) (asked : Option (Command (List ℕ) Place)) (text : List ℕ) (new : FloorState) : Type 0 where
+  pub reply : Reply
+  pub answers : AnswersTo l old asked reply text new
+
+-- what was written of the one reply, by how the connection goes on
+abbrev pub ExchangeEnds : Option Ending → Writer → Writer → Line → List ℕ → Type 0
+ExchangeEnds None w w' line text = Sends w w' text × (is_bye line ≡ false)
+ExchangeEnds (Some Bye) w w' line text = Sends w w' text × (is_bye line ≡ true)
+ExchangeEnds (Some WriteFault) w w' line text = Breaks w w' text
+ExchangeEnds (Some _) w w' line text = ⊥
+
+-- a line was acted on
+pub record IsExchanged (l : Legalizer) (stop : Option Ending) (w w' : Writer) (old new : FloorState) (line : Line) : Type 0 where
+  pub reply : Reply
+  pub text : List ℕ
+  pub answers : AnswersTo l old (asked_on line) reply text new
+  pub ends : ExchangeEnds stop w w' line text
+
+-- ---- many
+
+-- bytes on hand became these, lines were acted on, and serving goes on
+pub record Goes (l : Legalizer) (w w' : Writer) (left left' : ℕ) (old new : FloorState) (held held' : Option (List ℕ)) (from to : List ℕ) : Type 0 where
+  pub done : List Exchange
+  pub exchanged : Exchanges l old w done new w'
+  pub counts : left ≡ length done + left'
+  pub no_bye : NoneIsBye (lines done)
+  pub goes_on : (rest : List ℕ) → lines_from held (pieces (from ++ rest)) ≡ lines done ++ lines_from held' (pieces (to ++ rest))
+
+-- the lines acted on where serving stops in the midst of the input, or at its end
+abbrev pub StopsAt : Ending → ℕ → List Line → List Line → Type 0
+StopsAt ReadFault limit all acted = ⊥
+StopsAt OutOfMemory limit all acted = ⊥
+StopsAt ending limit all acted = ActedOn ending limit all [] acted
+
+-- of these lines some were acted on, and serving stops
+pub record Stops (l : Legalizer) (ending : Ending) (w w' : Writer) (left left' : ℕ) (old new : FloorState) (all : List Line) : Type 0 where
+  pub done : List Exchange
+  pub comes : Comes ending l old w done new w'
+  pub counts : left ≡ length done + left'
+  pub stops : StopsAt ending left all (lines done)
+
+-- the input was served to an ending
+pub record Finishes (l : Legalizer) (ending : Ending) (input rest : Option (List ℕ)) (w w' : Writer) (left left' : ℕ) (old new : FloorState) : Type 0 where
+  pub read : List ℕ
+  pub reads : Consumes input rest read
+  pub done : List Exchange
+  pub comes : Comes ending l old w done new w'
+  pub counts : left ≡ length done + left'
+  pub acted_on : IfSome input (λ bytes. ActedOn ending left (lines_of bytes) (ended_lines read) (lines done))
+
+-- the replies told as answered
+abbrev pub told_answered : Ending → ℕ → ℕ
+told_answered WriteFault lines = lines - 1
+told_answered _ lines = lines
+
+-- whether a call of the writer has failed, by how serving ends: it has at a fault of the writer alone
+abbrev pub SinkAt : Ending → Bool → Bool → Type 0
+SinkAt WriteFault old new = new ≡ true
+SinkAt _ old new = new ≡ old

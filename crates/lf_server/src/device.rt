@@ -1,0 +1,56 @@
+//! What bytes come from and go to.
+
+ghost use Rattle.std.specs.Prelude.{◌≡◌, ◌<◌, ◌≤◌, ◌+◌, ℕ, List, Option, Bool, ◌||◌, IfOk, OnOk, length, is_err, false, true};
+ghost use Rattle.std.specs.Io.{ReadsAtMost, WritesAtMost};
+ghost use Rattle.std.specs.Io.KnownBytes.{ReadConsumes, WriteAppends, Keeps};
+
+/// A call of a device failed.
+#[derive(Clone, Copy, Debug, PartialEq, Eq)]
+pub struct DeviceFault;
+
+/// Where bytes come from.
+pub trait Source {
+    /// The bytes that reads will give from here on, where they are known.
+    ghost remaining: { Self → Option (List ℕ) };
+
+    /// How many reads were made.
+    ghost reads: { Self → ℕ };
+
+    /// Whether a call has failed.
+    ghost has_failed: { Self → Bool };
+
+    /// Reads into the front of the buffer; 0 bytes are the end of the input.
+    fn read(&mut self, buffer: &mut [u8]) -> Result<usize, DeviceFault>
+        requires countable { reads self.old < 18446744073709551615 }
+        ensures bound { ReadsAtMost result buffer.new }
+        ensures bytes { ReadConsumes (remaining self.old) (remaining self.new) result buffer.new }
+        ensures counted { reads self.new ≡ reads self.old + 1 }
+        ensures failed { has_failed self.new ≡ (has_failed self.old || is_err result) };
+}
+
+/// Where bytes go.
+pub trait Sink {
+    /// The bytes that the sink holds, where they are known.
+    ghost contents: { Self → Option (List ℕ) };
+
+    /// Whether everything written is flushed.
+    ghost is_flushed: { Self → Bool };
+
+    /// Whether a call has failed.
+    ghost has_failed: { Self → Bool };
+
+    /// Takes a front of the bytes, at least one.
+    fn write(&mut self, bytes: &[u8]) -> Result<usize, DeviceFault>
+        requires { 0 < length bytes.now }
+        ensures bound { WritesAtMost result bytes.now }
+        ensures some { IfOk result (λ n. 0 < n) }
+        ensures bytes { WriteAppends (contents self.old) (contents self.new) result bytes.now }
+        ensures flushed { is_flushed self.new ≡ false }
+        ensures failed { has_failed self.new ≡ (has_failed self.old || is_err result) };
+
+    /// Sees to it that everything written has gone out.
+    fn flush(&mut self) -> Result<(), DeviceFault>
+        ensures bytes { Keeps (contents self.old) (contents self.new) }
+        ensures flushed { OnOk result (is_flushed self.new ≡ true) }
+        ensures failed { has_failed self.new ≡ (has_failed self.old || is_err result) };
+}

@@ -1,0 +1,285 @@
+//! The loop that serves lines.
+
+ghost use Rattle.std.specs.Prelude.{◌≡◌, ◌≢◌, ◌<◌, ◌≤◌, ◌+◌, ◌++◌, ◌∷◌, ◌⊎◌, [], OnErr, OnOk, IfSome, MatchOption, Some, None, List, ℕ, length, take, drop, option_map, true, false, vec_capacity};
+ghost use Rattle.std.specs.Io.KnownBytes.{Appends};
+ghost use Rattle.lf_rules.specs.Legalizer.{Legalizer};
+ghost use Rattle.lf_server.specs.Devices.{writer};
+ghost use Rattle.lf_server.specs.Endings.{Serves};
+ghost use Rattle.lf_server.specs.Progress.{Finishes, Given, Goes, IsExchanged, SinkAt, Stops, lines_from, pieces, told_answered};
+
+use crate::device::{DeviceFault, Sink, Source};
+use crate::reply::{answer, is_end, request_in};
+use lf_floor::Floor;
+use lf_legalize::Seeker;
+use lf_proto::{Got, LineFramer};
+use std::alloc::Global;
+
+/// The most bytes of a line, and of a reply that is no report.
+const LINE: usize = 4096;
+
+/// How serving a connection ended.
+#[derive(Clone, Copy, Debug, PartialEq, Eq)]
+pub enum Ending {
+    /// The input came to its end.
+    Done,
+    /// A line said `bye`.
+    Bye,
+    /// The reader failed, or the bound on reads was met.
+    ReadFault,
+    /// The writer failed, or took no byte.
+    WriteFault,
+    /// A line followed the last one allowed.
+    TooManyLines,
+    /// There was no memory for the buffers, and nothing was read.
+    OutOfMemory,
+}
+
+/// How a connection was served: the lines acted on, the replies written and flushed, and the ending.
+#[derive(Clone, Copy, Debug, PartialEq, Eq)]
+pub struct Served {
+    pub lines: u64,
+    pub answered: u64,
+    pub ending: Ending,
+}
+
+/// The most lines acted on, and the most reads.
+#[derive(Clone, Copy, Debug, PartialEq, Eq)]
+pub struct ServeLimits {
+    pub lines: u64,
+    pub reads: u64,
+}
+
+/// Writes all the bytes, in as many calls as it takes, and flushes them.
+fn write_all<W: Sink>(sink: &mut W, bytes: &[u8]) -> Result<(), DeviceFault>
+    ensures ok { OnOk result (Appends (W.contents sink.old) (W.contents sink.new) bytes.now) }
+    ensures flushed { OnOk result (W.is_flushed sink.new ≡ true) }
+    ensures healthy { OnOk result (W.has_failed sink.new ≡ W.has_failed sink.old) }
+    ensures front { OnErr result ((n : ℕ) × Appends (W.contents sink.old) (W.contents sink.new) (take n bytes.now)) }
+    ensures failed { OnErr result (W.has_failed sink.new ≡ true) }
+{
+    let mut at = 0;
+    while at < bytes.len() {
+        at += sink.write(&bytes[at..])?;
+    }
+    sink.flush()
+}
+
+/// The line that the framer gave, or nothing where it wants more; the inner nothing is a line over the limit.
+fn line_given(framer: &LineFramer, got: Got) -> Option<Option<&[u8]>>
+    ensures { MatchOption result (got ≡ Got.More) (λ line. Given got framer.now.line (option_map (λ bytes. bytes.now) line)) }
+{
+    match got {
+        Got::More => None,
+        Got::Line => Some(Some(framer.line())),
+        Got::TooLong => Some(None),
+    }
+}
+
+/// Answers one line and writes the reply; says how the connection ends, if it does.
+fn exchange<K: Seeker + Drop, W: Sink>(
+    floor: &mut Floor<K>,
+    sink: &mut W,
+    text: &mut Vec<u8>,
+    line: Option<&[u8]>,
+) -> Option<Ending>
+    requires room { 4096 ≤ vec_capacity text.old }
+    ensures room { 4096 ≤ vec_capacity text.new }
+    ensures never { IfSome result (λ ending. (ending ≢ Ending.ReadFault) × (ending ≢ Ending.OutOfMemory)) }
+    ensures health { MatchOption result (W.has_failed sink.new ≡ W.has_failed sink.old) (λ ending. SinkAt ending (W.has_failed sink.old) (W.has_failed sink.new)) }
+    ensures serves { (l : Legalizer) → IsExchanged l result (writer (W.contents sink.old) (W.is_flushed sink.old) (W.has_failed sink.old)) (writer (W.contents sink.new) (W.is_flushed sink.new) (W.has_failed sink.new)) floor.old floor.new (option_map (λ bytes. bytes.now) line.entry) }
+{
+    let request = request_in(line);
+    answer(floor, &request, text);
+    if write_all(sink, text.as_slice()).is_err() {
+        return Some(Ending::WriteFault);
+    }
+    if is_end(&request) {
+        return Some(Ending::Bye);
+    }
+    None
+}
+
+/// Takes the piece up to its first line feed, and answers the line that ends there, if one may be acted on.
+fn take_line<K: Seeker + Drop, W: Sink>(
+    floor: &mut Floor<K>,
+    sink: &mut W,
+    framer: &mut LineFramer,
+    text: &mut Vec<u8>,
+    left: &mut u64,
+    piece: &[u8],
+) -> (usize, Option<Ending>)
+    requires room { 4096 ≤ vec_capacity text.old }
+    ensures room { 4096 ≤ vec_capacity text.new }
+    ensures used { result.0 ≤ length piece.now }
+    ensures some { 0 < length piece.now → 0 < result.0 }
+    ensures left { left.new ≤ left.old }
+    ensures never { IfSome result.1 (λ ending. (ending ≢ Ending.ReadFault) × (ending ≢ Ending.OutOfMemory)) }
+    ensures health { MatchOption result.1 (W.has_failed sink.new ≡ W.has_failed sink.old) (λ ending. SinkAt ending (W.has_failed sink.old) (W.has_failed sink.new)) }
+    ensures serves { (l : Legalizer) → MatchOption result.1 (Goes l (writer (W.contents sink.old) (W.is_flushed sink.old) (W.has_failed sink.old)) (writer (W.contents sink.new) (W.is_flushed sink.new) (W.has_failed sink.new)) left.old left.new floor.old floor.new framer.old.pending framer.new.pending piece.now (drop result.0 piece.now)) (λ ending. (rest : List ℕ) → Stops l ending (writer (W.contents sink.old) (W.is_flushed sink.old) (W.has_failed sink.old)) (writer (W.contents sink.new) (W.is_flushed sink.new) (W.has_failed sink.new)) left.old left.new floor.old floor.new (lines_from framer.old.pending (pieces (piece.now ++ rest)))) }
+{
+    let fed = framer.feed(piece);
+    let Some(line) = line_given(framer, fed.got) else {
+        return (fed.used, None);
+    };
+    if *left == 0 {
+        return (fed.used, Some(Ending::TooManyLines));
+    }
+    *left -= 1;
+    (fed.used, exchange(floor, sink, text, line))
+}
+
+/// Answers the lines that end in a piece.
+fn pump<K: Seeker + Drop, W: Sink>(
+    floor: &mut Floor<K>,
+    sink: &mut W,
+    framer: &mut LineFramer,
+    text: &mut Vec<u8>,
+    left: &mut u64,
+    piece: &[u8],
+) -> Option<Ending>
+    requires room { 4096 ≤ vec_capacity text.old }
+    ensures room { 4096 ≤ vec_capacity text.new }
+    ensures left { left.new ≤ left.old }
+    ensures never { IfSome result (λ ending. (ending ≢ Ending.ReadFault) × (ending ≢ Ending.OutOfMemory)) }
+    ensures health { MatchOption result (W.has_failed sink.new ≡ W.has_failed sink.old) (λ ending. SinkAt ending (W.has_failed sink.old) (W.has_failed sink.new)) }
+    ensures serves { (l : Legalizer) → MatchOption result (Goes l (writer (W.contents sink.old) (W.is_flushed sink.old) (W.has_failed sink.old)) (writer (W.contents sink.new) (W.is_flushed sink.new) (W.has_failed sink.new)) left.old left.new floor.old floor.new framer.old.pending framer.new.pending piece.now []) (λ ending. (rest : List ℕ) → Stops l ending (writer (W.contents sink.old) (W.is_flushed sink.old) (W.has_failed sink.old)) (writer (W.contents sink.new) (W.is_flushed sink.new) (W.has_failed sink.new)) left.old left.new floor.old floor.new (lines_from framer.old.pending (pieces (piece.now ++ rest)))) }
+{
+    let mut at = 0;
+    while at < piece.len() {
+        let (used, stop) = take_line(floor, sink, framer, text, left, &piece[at..]);
+        at += used;
+        match stop {
+            Some(ending) => return Some(ending),
+            None => {}
+        }
+    }
+    None
+}
+
+/// Answers what is left at the end of the input.
+fn finish<K: Seeker + Drop, W: Sink>(
+    floor: &mut Floor<K>,
+    sink: &mut W,
+    framer: &mut LineFramer,
+    text: &mut Vec<u8>,
+    left: &mut u64,
+) -> Ending
+    requires room { 4096 ≤ vec_capacity text.old }
+    ensures left { left.new ≤ left.old }
+    ensures never { (result ≢ Ending.ReadFault) × (result ≢ Ending.OutOfMemory) }
+    ensures health { SinkAt result (W.has_failed sink.old) (W.has_failed sink.new) }
+    ensures serves { (l : Legalizer) → Stops l result (writer (W.contents sink.old) (W.is_flushed sink.old) (W.has_failed sink.old)) (writer (W.contents sink.new) (W.is_flushed sink.new) (W.has_failed sink.new)) left.old left.new floor.old floor.new (lines_from framer.old.pending ([] ∷ [])) }
+{
+    let got = framer.finish();
+    let Some(line) = line_given(framer, got) else {
+        return Ending::Done;
+    };
+    if *left == 0 {
+        return Ending::TooManyLines;
+    }
+    *left -= 1;
+    match exchange(floor, sink, text, line) {
+        Some(ending) => ending,
+        None => Ending::Done,
+    }
+}
+
+/// Reads the input piece by piece and answers its lines, in at most so many reads.
+fn serve_lines<K: Seeker + Drop, S: Source, W: Sink>(
+    floor: &mut Floor<K>,
+    source: &mut S,
+    sink: &mut W,
+    framer: &mut LineFramer,
+    text: &mut Vec<u8>,
+    left: &mut u64,
+    reads: u64,
+) -> Ending
+    requires fresh { framer.old.pending ≡ Some [] }
+    requires countable { S.reads source.old + reads ≤ 18446744073709551615 }
+    requires room { 4096 ≤ vec_capacity text.old }
+    ensures left { left.new ≤ left.old }
+    ensures reads { S.reads source.new ≤ S.reads source.old + reads }
+    ensures read_fault { result ≡ Ending.ReadFault → (S.has_failed source.new ≡ true) ⊎ (S.reads source.new ≡ S.reads source.old + reads) }
+    ensures readable { result ≢ Ending.ReadFault → S.has_failed source.new ≡ S.has_failed source.old }
+    ensures some { result ≢ Ending.OutOfMemory }
+    ensures health { SinkAt result (W.has_failed sink.old) (W.has_failed sink.new) }
+    ensures serves { (l : Legalizer) → Finishes l result (S.remaining source.old) (S.remaining source.new) (writer (W.contents sink.old) (W.is_flushed sink.old) (W.has_failed sink.old)) (writer (W.contents sink.new) (W.is_flushed sink.new) (W.has_failed sink.new)) left.old left.new floor.old floor.new }
+{
+    let mut buffer = [0u8; LINE];
+    let mut reads_left = reads;
+    while reads_left > 0 {
+        reads_left -= 1;
+        let Ok(count) = source.read(&mut buffer) else {
+            return Ending::ReadFault;
+        };
+        if count == 0 {
+            return finish(floor, sink, framer, text, left);
+        }
+        match pump(floor, sink, framer, text, left, &buffer[..count]) {
+            Some(ending) => return ending,
+            None => {}
+        }
+    }
+    Ending::ReadFault
+}
+
+/// What is told of a connection: where the last reply was not written, it is not counted as answered.
+fn told(lines: u64, ending: Ending) -> Served
+    ensures lines { result.lines ≡ lines }
+    ensures ending { result.ending ≡ ending }
+    ensures answered { result.answered ≡ told_answered ending lines }
+{
+    let answered = match ending {
+        Ending::WriteFault => lines.saturating_sub(1),
+        Ending::OutOfMemory => lines,
+        Ending::Done => lines,
+        Ending::Bye => lines,
+        Ending::ReadFault => lines,
+        Ending::TooManyLines => lines,
+    };
+    Served {
+        lines,
+        answered,
+        ending,
+    }
+}
+
+/// Serves the lines of the source until it ends, a line says `bye`, a device fails or a limit is met: one reply to
+/// each line acted on, in order, each flushed before the next line is acted on.
+pub fn serve<K: Seeker + Drop, S: Source, W: Sink>(
+    alloc: Global,
+    floor: &mut Floor<K>,
+    source: &mut S,
+    sink: &mut W,
+    limits: ServeLimits,
+) -> Served
+    requires readable { S.has_failed source.old ≡ false }
+    requires writable { W.has_failed sink.old ≡ false }
+    requires countable { S.reads source.old + limits.reads ≤ 18446744073709551615 }
+    ensures serves { (l : Legalizer) → Serves l limits.lines floor.old (S.remaining source.old) (S.remaining source.new) (writer (W.contents sink.old) (W.is_flushed sink.old) (W.has_failed sink.old)) (writer (W.contents sink.new) (W.is_flushed sink.new) (W.has_failed sink.new)) result floor.new }
+    ensures lines { result.lines ≤ limits.lines }
+    ensures reads { S.reads source.new ≤ S.reads source.old + limits.reads }
+    ensures read_fault { result.ending ≡ Ending.ReadFault → (S.has_failed source.new ≡ true) ⊎ (S.reads source.new ≡ S.reads source.old + limits.reads) }
+    ensures readable { result.ending ≢ Ending.ReadFault → S.has_failed source.new ≡ false }
+    ensures write_fault { result.ending ≡ Ending.WriteFault → W.has_failed sink.new ≡ true }
+    ensures writable { result.ending ≢ Ending.WriteFault → W.has_failed sink.new ≡ false }
+    ensures unread { result.ending ≡ Ending.OutOfMemory → source.new ≡ source.old }
+{
+    let Ok(mut framer) = LineFramer::new(alloc) else {
+        return told(0, Ending::OutOfMemory);
+    };
+    let Ok(mut text) = Vec::with_capacity(alloc, LINE) else {
+        return told(0, Ending::OutOfMemory);
+    };
+    let mut left = limits.lines;
+    let ending = serve_lines(
+        floor,
+        source,
+        sink,
+        &mut framer,
+        &mut text,
+        &mut left,
+        limits.reads,
+    );
+    told(limits.lines - left, ending)
+}
