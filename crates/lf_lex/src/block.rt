@@ -8,9 +8,9 @@ ghost use Rattle.lf_lex.specs.Reading.{Reads, Statement};
 use crate::fault::ReadError;
 use crate::lexer::Lexer;
 
-/// A block: how each of its statements is read.
+/// A block of statements: how each of them is read.
 pub trait Block {
-    /// What the statements that were read say.
+    /// What is known of the block: what the statements that were read say.
     type State;
 
     // What a statement reads, given what is known before it.
@@ -22,7 +22,9 @@ pub trait Block {
     // What a failure may be.
     ghost fails: { ReadError → Type 0 } = { λ _. ⊤ };
 
-    /// Reads a statement; whether more follow.
+    /// Reads a statement, and puts what it says into the state; whether more follow.
+    ///
+    /// `Err` is a fault of the text with its line, or want of memory.
     fn turn(&self, lexer: &mut Lexer, state: &mut Self::State) -> Result<bool, ReadError>
         requires kept { keeps self.now state.old }
         ensures read { Reads (reading.turn state.new) result (statement self.now state.old) lexer.old lexer.new }
@@ -31,6 +33,8 @@ pub trait Block {
 }
 
 /// Reads statement after statement, up to the last.
+///
+/// `Err` is that of the first statement that fails; of the state nothing is promised then but what statements keep.
 pub fn read_block<B: Block>(
     lexer: &mut Lexer,
     block: &B,
