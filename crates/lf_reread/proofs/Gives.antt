@@ -1,9 +1,9 @@
 -- What a reader gives, where the tokens are spelled as a text has them: values of which something is true, and such tokens behind.
-use Rattle.std.proofs.Common.{◌≡◌, ℕ, zero, suc, Bool, true, false, cond, List, [], ◌∷◌, ◌++◌, length, Result, Ok, Err, refl, sym, ap, ◌∙◌, subst}
+use Rattle.std.proofs.Common.{◌≡◌, ℕ, zero, suc, Bool, true, false, cond, List, [], ◌∷◌, ◌++◌, length, Result, Ok, Err, refl, subst}
 use Rattle.std.specs.Prelude.{All}
 use Rattle.std.proofs.lemmas.List.Elements.{All-head, All-tail}
 use Rattle.lf_lex.specs.declared.fault.ReadFault.{ReadFault}
-use Rattle.lf_lex.specs.Tokens.{Lexed, Lexeme, with_tokens}
+use Rattle.lf_lex.specs.Tokens.{Lexed, Lexeme}
 use Rattle.lf_lex.specs.Reading.{◌>>=◌, Reader, Taken, Turn, Statement, taken, turn, token, first_of, behind, statements, block}
 use Rattle.lf_lex.proofs.Runs.{left, ok_is}
 use Rattle.lf_def.proofs.Local.{Local}

@@ -7,3 +7,4 @@ pub mod Elsewhere
 pub mod ReadTokens
 pub mod Gives
 pub mod ReadNames
+pub mod LoadedTeams

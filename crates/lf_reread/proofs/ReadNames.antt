@@ -1,5 +1,5 @@
 -- What a DEF text says is spelled as a text has it: names are words, and quoted texts end with their marks.
-use Rattle.std.proofs.Common.{◌≡◌, ◌≢◌, ℕ, ◌≤◌, Bool, true, false, ◌&&◌, List, [], ◌∷◌, ◌++◌, length, Option, Some, None, Result, Ok, Err, refl, sym, ap, ◌∙◌, subst, arith}
+use Rattle.std.proofs.Common.{◌≡◌, ◌≢◌, ℕ, ◌≤◌, Bool, true, false, List, [], ◌∷◌, ◌++◌, length, Option, Some, None, Result, Ok, Err, refl, ap, ◌∙◌, subst, arith}
 use Rattle.std.specs.Prelude.{All, IfSome, codes, nat_lt, not, is_some, unwrap_or}
 use Rattle.std.specs.Str.{bytes_eq}
 use Rattle.std.specs.List.{list_all}
@@ -8,29 +8,26 @@ use Rattle.std.proofs.lemmas.List.Elements.{All-nil, All-cons, All-append}
 use Rattle.lf_lex.specs.declared.tokens.TokenKind.{TokenKind}
 use Rattle.lf_lex.specs.declared.tokens.TokenKind.TheVariants.{Word, Quoted}
 use Rattle.lf_lex.specs.declared.fault.ReadFault.{ReadFault}
-use Rattle.lf_lex.specs.Tokens.{Lexeme, Lexed, is_word_byte, tokens_of}
+use Rattle.lf_lex.specs.Tokens.{Lexeme, is_word_byte, tokens_of}
 use Rattle.lf_lex.specs.Splices.{is_word_text}
-use Rattle.lf_lex.specs.Reading.{IsName, Reader, Taken, Turn, taken, turn, token, is, is_word, kind_is_word, keyword, word, name, end_name, to_semicolon, block, value_of, first_stands}
+use Rattle.lf_lex.specs.Reading.{Reader, Taken, Turn, taken, turn, token, is, is_word, kind_is_word, keyword, word, name, end_name, to_semicolon, block, value_of, first_stands}
 use Rattle.lf_lex.proofs.Splicing.{and_true}
 use Rattle.lf_lex.proofs.Following.{keyword_follows, end_name_follows, to_semicolon_follows}
 use Rattle.lf_def.specs.declared.entries.Due.{Due}
 use Rattle.lf_def.specs.declared.entries.Due.TheVariants.{Item, Keyword, Rest, Separator}
 use Rattle.lf_def.specs.declared.header.HeaderParts.{HeaderParts}
 use Rattle.lf_def.specs.declared.regions.Region.{Region}
-use Rattle.lf_def.specs.declared.groups.Group.{Group}
 use Rattle.lf_def.specs.declared.groups.GroupParts.{GroupParts}
-use Rattle.lf_def.specs.declared.components.Component.{Component}
 use Rattle.lf_def.specs.declared.parts.DocParts.{DocParts}
 use Rattle.lf_def.specs.Coordinates.{rect}
 use Rattle.lf_def.specs.Entries.{entry_or_end, section, name_of}
-use Rattle.lf_def.specs.Header.{version, quoted, design, units, is_header, header_statement, no_header}
+use Rattle.lf_def.specs.Header.{version, quoted, design, units, is_header, header_statement}
 use Rattle.lf_def.specs.Rows.{with_row}
 use Rattle.lf_def.specs.Regions.{region, region_token, first_rect, regions}
 use Rattle.lf_def.specs.Groups.{group, group_token, group_from, group_part, with_pattern, with_region, no_group, groups}
 use Rattle.lf_def.specs.Components.{component, component_token, no_component, components}
 use Rattle.lf_def.specs.Blockages.{blockages}
-use Rattle.lf_def.specs.Document.{Document, document_of, document_from, statement, statement_from, body_statement, passed_from, end_design, no_parts}
-use Rattle.lf_def.specs.Printed.{IsWord}
+use Rattle.lf_def.specs.Document.{Document, document_from, statement, statement_from, body_statement, passed_from, end_design, no_parts}
 use Rattle.lf_def.proofs.Following.{rect_follows, units_follows, region_token_follows, region_token_goes}
 use Rattle.lf_def.proofs.Places.{component_token_goes, with_row_follows, blockages_alike, passed_follows}
 use Rattle.lf_def.proofs.Local.{local_of, local_block}

@@ -2,3 +2,4 @@ pub mod Spelled
 pub mod TeamDocument
 pub mod Moved
 pub mod ReadDocuments
+pub mod LoadedTeams

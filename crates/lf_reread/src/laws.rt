@@ -1,5 +1,6 @@
 //! What is true of written texts.
 
+ghost use Rattle.lf_reread.specs.LoadedTeams.{LoadedTeamsReadBack};
 ghost use Rattle.lf_reread.specs.Moved.{AcceptedElsewhere, FrameStays, LoadedElsewhere, PositionsAreNotSettled};
 ghost use Rattle.lf_reread.specs.ReadDocuments.{ReadIsSpelled};
 ghost use Rattle.lf_reread.specs.TeamDocument.{TeamTextReadsBack};
@@ -27,4 +28,12 @@ pub fn moved_designs_load_alike()
 /// brackets are quoted texts with their marks, and no group is bound to a region named by a parenthesis.
 pub fn read_documents_are_spelled()
     ensures { ReadIsSpelled }
+{}
+
+/// Of a design that is loaded from a text that was read, the DEF text of a team with its cells, wherever they
+/// stand now, reads back.
+///
+/// In a team with a fence no cell may be named `+`, which no pattern of a group can be.
+pub fn loaded_teams_read_back()
+    ensures { LoadedTeamsReadBack }
 {}
