@@ -33,11 +33,13 @@ gives_pure P x h l m y spelled e = let r = ok_is x l y m e in (subst P r.0 h, su
 pub gives_fault : {A : Type 0} (P : A → Type 0) (f : ReadFault) → Gives P (λ l. Err f)
 gives_fault P f l m x spelled e = absurd cc
 
-pub gives_choose : {A : Type 0} (P : A → Type 0) (c : Bool) (r s : Reader A) → (c ≡ true → Gives P r) → (c ≡ false → Gives P s) → Gives P (λ l. cond c (r l) (s l))
+pub gives_choose : {A : Type 0} (P : A → Type 0) (c : Bool) (r s : Reader A) → (c ≡ true → Gives P r) → (c ≡ false → Gives P s)
+    → Gives P (λ l. cond c (r l) (s l))
 gives_choose P true r s f g = f refl
 gives_choose P false r s f g = g refl
 
-pub gives_given : {A B : Type 0} (P : B → Type 0) (o : Result A ReadFault) (k : A → Reader B) → ((v : A) → o ≡ Ok v → Gives P (k v)) → Gives P (λ l. o >>= λ v. k v l)
+pub gives_given : {A B : Type 0} (P : B → Type 0) (o : Result A ReadFault) (k : A → Reader B) → ((v : A) → o ≡ Ok v → Gives P (k v))
+    → Gives P (λ l. o >>= λ v. k v l)
 gives_given P (Err q) k next l m x spelled e = absurd cc
 gives_given P (Ok v) k next l m x spelled e = next v refl l m x spelled e
 
@@ -60,7 +62,8 @@ first_gives (t ∷ ts) l m x spelled e =
 pub token_gives : Gives IsSpelledToken token
 token_gives l m x spelled e = first_gives l.tokens l m x spelled e
 
-statements_give : {S : Type 0} (P Q : S → Type 0) (statement : Statement S) → ((s : S) → P s → Gives (λ t. P t.state × (t.more ≡ false → Q t.state)) (statement s))
+statements_give : {S : Type 0} (P Q : S → Type 0) (statement : Statement S)
+    → ((s : S) → P s → Gives (λ t. P t.state × (t.more ≡ false → Q t.state)) (statement s))
     → (n : ℕ) (s : S) → P s → Gives Q (statements statement n s)
 unfolding statements
 statements_give P Q statement each zero s h = λ l m x spelled e. absurd cc
@@ -71,7 +74,8 @@ statements_give {S = S} P Q statement each (suc n) s h =
     (λ stop. gives_pure Q t.state (k.1 stop)))
 
 -- of statement after statement: what each keeps, and what is true where the last ends
-pub block_gives : {S : Type 0} (P Q : S → Type 0) (statement : Statement S) → ((s : S) → P s → Gives (λ t. P t.state × (t.more ≡ false → Q t.state)) (statement s))
+pub block_gives : {S : Type 0} (P Q : S → Type 0) (statement : Statement S)
+    → ((s : S) → P s → Gives (λ t. P t.state × (t.more ≡ false → Q t.state)) (statement s))
     → (s : S) → P s → Gives Q (block statement s)
 block_gives P Q statement each s h l m x spelled e = statements_give P Q statement each (suc (length l.tokens)) s h l m x spelled e
 

@@ -48,10 +48,12 @@ at_place P xs n x all is = subst P (get_or_from_slice_get xs n x x is) (all n x 
 
 -- A cell's macro.
 
-macro_named : (f : Frame) (macros : List Macro) (name : List ℕ) (n : ℕ) → f.macros ≡ macros → position_of (macro_names macros) name ≡ Some n → (macro_of f n).name ≡ name
+macro_named : (f : Frame) (macros : List Macro) (name : List ℕ) (n : ℕ) → f.macros ≡ macros → position_of (macro_names macros) name ≡ Some n
+    → (macro_of f n).name ≡ name
 macro_named f macros name n same at =
     let there : option_map (λ (m : Macro). m.name) (slice_get f.macros n) ≡ Some name =
-    sym (slice_get-map (λ (m : Macro). m.name) f.macros n) ∙ ap (λ (ms : List Macro). slice_get (macro_names ms) n) same ∙ stands_there (macro_names macros) name n at in
+    sym (slice_get-map (λ (m : Macro). m.name) f.macros n) ∙ ap (λ (ms : List Macro). slice_get (macro_names ms) n) same
+    ∙ stands_there (macro_names macros) name n at in
     by (slice_get f.macros n) there
   where
     by : (o : Option Macro) → option_map (λ (m : Macro). m.name) o ≡ Some name → (unwrap_or o no_macro).name ≡ name
@@ -61,14 +63,16 @@ macro_named f macros name n same at =
 -- A team's name.
 
 -- a fence that claims a component is no parenthesis
-not_parenthesis : (regions : List Region) (groups : List Group) (name fence : List ℕ) → All IsBindable groups → Any (λ g. Claims regions g name fence) groups → fence ≢ codes "("
+not_parenthesis : (regions : List Region) (groups : List Group) (name fence : List ℕ) → All IsBindable groups → Any (λ g. Claims regions g name fence) groups
+    → fence ≢ codes "("
 not_parenthesis regions groups name fence all (k, g, within, is, claims) e =
     let bindable : IsBindable g = subst IsBindable is (all k g within) in
     let other : IfSome (Some fence) (λ n. n ≢ codes "(") = subst (λ o. IfSome o (λ n. n ≢ codes "(")) claims.bound bindable in
     other e
 
 -- the fence of a number, in the document and in the frame
-same_fence : (regions : List Region) (f : Frame) (number : ℕ) (t : Team) (fence : List ℕ) → f.teams ≡ map frame_team (fences regions) → slice_get f.teams number ≡ Some t
+same_fence : (regions : List Region) (f : Frame) (number : ℕ) (t : Team) (fence : List ℕ) → f.teams ≡ map frame_team (fences regions)
+    → slice_get f.teams number ≡ Some t
     → slice_get (fence_names regions) number ≡ Some fence → t.name ≡ fence
 same_fence regions f number t fence teams there named =
     let one : option_map frame_team (slice_get (fences regions) number) ≡ Some t =
@@ -89,7 +93,8 @@ team_name i f name number t is bindable (inl one) there e =
     not_parenthesis i.document.regions i.document.groups name one.fence bindable one.claimed (sym fence ∙ e)
 team_name i f name number t is bindable (inr ground) there e =
     let within : number < length f.teams = slice_get_within f.teams number t there in
-    let many : length f.teams ≡ length (fences i.document.regions) = ap (λ (ts : List Team). length ts) is.teams ∙ length-map (fences i.document.regions) frame_team in
+    let many : length f.teams ≡ length (fences i.document.regions) = ap (λ (ts : List Team). length ts) is.teams
+    ∙ length-map (fences i.document.regions) frame_team in
     absurd (omega (arith, ground.1))
 
 -- Cells.
@@ -99,7 +104,8 @@ record IsSpelledLoaded (f : Frame) (c : LoadedCell) : Type 0 where
   mac_spelled : IsSpelledName (macro_of f c.mac).name
   team_bindable : (t : Team) → slice_get f.teams c.team ≡ Some t → t.name ≢ codes "("
 
-spelled_cell : (i : Inputs) (f : Frame) → IsFrameOf i f → All IsBindable i.document.groups → (entry : ℕ × Component) (c : LoadedCell) → IsSpelledComponent entry.1
+spelled_cell : (i : Inputs) (f : Frame) → IsFrameOf i f → All IsBindable i.document.groups → (entry : ℕ × Component) (c : LoadedCell)
+    → IsSpelledComponent entry.1
     → IsCellOf i entry c → IsSpelledLoaded f c
 spelled_cell i f is bindable entry c spelled of = record {
   name_spelled = subst IsSpelledName (sym of.name) spelled.name_spelled;
@@ -109,7 +115,8 @@ spelled_cell i f is bindable entry c spelled of = record {
 
 spelled_cells : (i : Inputs) (l : Loaded) → IsLoadedFrom i l → IsSpelledDocument i.document → All (IsSpelledLoaded l.frame) l.cells
 spelled_cells i l from spelled =
-    zip_all (IsCellOf i) (λ e. IsSpelledComponent e.1) (IsSpelledLoaded l.frame) (spelled_cell i l.frame from.frame spelled.groups) (movables i.document.components) l.cells
+    zip_all (IsCellOf i) (λ e. IsSpelledComponent e.1) (IsSpelledLoaded l.frame) (spelled_cell i l.frame from.frame spelled.groups)
+    (movables i.document.components) l.cells
     (All-filter (λ e. is_movable e.1) (λ e. IsSpelledComponent e.1) (enumerate_from 0 i.document.components)
     (numbered_all IsSpelledComponent 0 i.document.components spelled.components))
     from.cells

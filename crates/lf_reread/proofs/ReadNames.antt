@@ -1,5 +1,6 @@
 -- What a DEF text says is spelled as a text has it: names are words, and quoted texts end with their marks.
-use Rattle.std.proofs.Common.{◌≡◌, ◌≢◌, ℕ, ◌≤◌, Bool, true, false, List, [], ◌∷◌, ◌++◌, length, Option, Some, None, Result, Ok, Err, refl, ap, ◌∙◌, subst, arith}
+use Rattle.std.proofs.Common.{◌≡◌, ◌≢◌, ℕ, ◌≤◌, Bool, true, false, List, [], ◌∷◌, ◌++◌, length, Option, Some, None, Result, Ok, Err, refl, ap, ◌∙◌, subst}
+use Rattle.std.proofs.Common.{arith}
 use Rattle.std.specs.Prelude.{All, IfSome, codes, nat_lt, not, is_some, unwrap_or}
 use Rattle.std.specs.Str.{bytes_eq}
 use Rattle.std.specs.List.{list_all}
@@ -10,7 +11,8 @@ use Rattle.lf_lex.specs.declared.tokens.TokenKind.TheVariants.{Word, Quoted}
 use Rattle.lf_lex.specs.declared.fault.ReadFault.{ReadFault}
 use Rattle.lf_lex.specs.Tokens.{Lexeme, is_word_byte, tokens_of}
 use Rattle.lf_lex.specs.Splices.{is_word_text}
-use Rattle.lf_lex.specs.Reading.{Reader, Taken, Turn, taken, turn, token, is, is_word, kind_is_word, keyword, word, name, end_name, to_semicolon, block, value_of, first_stands}
+use Rattle.lf_lex.specs.Reading.{Reader, Taken, Turn, taken, turn, token, is, is_word, kind_is_word, keyword, word, name, end_name, to_semicolon, block}
+use Rattle.lf_lex.specs.Reading.{value_of, first_stands}
 use Rattle.lf_lex.proofs.Splicing.{and_true}
 use Rattle.lf_lex.proofs.Following.{keyword_follows, end_name_follows, to_semicolon_follows}
 use Rattle.lf_def.specs.declared.entries.Due.{Due}
@@ -35,7 +37,8 @@ use Rattle.lf_def.proofs.Kept.{component_token_local}
 use Rattle.lf_reread.specs.Spelled.{IsSpelledWord, IsSpelledName, IsQuotedText}
 use Rattle.lf_reread.specs.ReadDocuments.{IsSpelledComponent, IsBindable, IsSpelledDocument, ReadIsSpelled}
 use Rattle.lf_reread.proofs.ReadTokens.{IsSpelledToken, spelled_from}
-use Rattle.lf_reread.proofs.Gives.{Gives, Anything, Keeps, gives_local, gives_pure, gives_fault, gives_choose, gives_given, gives_bind, token_gives, block_gives, gives_turn}
+use Rattle.lf_reread.proofs.Gives.{Gives, Anything, Keeps, gives_local, gives_pure, gives_fault, gives_choose, gives_given, gives_bind, token_gives}
+use Rattle.lf_reread.proofs.Gives.{block_gives, gives_turn}
 
 -- Words and names.
 
@@ -63,7 +66,8 @@ word_gives : Gives (λ t. IsSpelledWord t.text) word
 unfolding word
 word_gives =
     gives_bind IsSpelledToken (λ t. IsSpelledWord t.text) token _ token_gives
-    (λ t k. gives_choose (λ u. IsSpelledWord u.text) (is_word t) _ _ (λ h. gives_pure (λ u. IsSpelledWord u.text) t (word_is t k h)) (λ _. gives_fault (λ u. IsSpelledWord u.text) _))
+    (λ t k. gives_choose (λ u. IsSpelledWord u.text) (is_word t) _ _ (λ h. gives_pure (λ u. IsSpelledWord u.text) t (word_is t k h))
+    (λ _. gives_fault (λ u. IsSpelledWord u.text) _))
 
 bytes_of_word : (w : List ℕ) → is_word_text w ≡ true → list_all is_word_byte w ≡ true
 bytes_of_word [] h = refl
@@ -170,7 +174,8 @@ header_gives s t h =
 
 -- Sections.
 
-entry_gives : {A : Type 0} (P : A → Type 0) (due : List ℕ) (entry : Reader A) → Gives P entry → (s : List A) → All P s → Gives (Keeps (All P)) (entry_or_end due entry s)
+entry_gives : {A : Type 0} (P : A → Type 0) (due : List ℕ) (entry : Reader A) → Gives P entry → (s : List A) → All P s
+    → Gives (Keeps (All P)) (entry_or_end due entry s)
 unfolding entry_or_end
 entry_gives {A = A} P due entry f s h =
     gives_bind IsSpelledToken (Keeps (All P)) token _ token_gives
@@ -197,7 +202,8 @@ region_gives =
     gives_bind (λ t. IsSpelledName t.text) RegionIsSpelled name _ name_gives
     (λ n k. gives_bind Anything RegionIsSpelled rect _ (gives_local rect (local_of rect rect_follows))
     (λ r _. gives_bind Anything RegionIsSpelled (block region_token (first_rect r)) _
-    (gives_local (block region_token (first_rect r)) (local_block region_token (λ s. local_of (region_token s) (region_token_follows s)) region_token_goes (first_rect r)))
+    (gives_local (block region_token (first_rect r))
+    (local_block region_token (λ s. local_of (region_token s) (region_token_follows s)) region_token_goes (first_rect r)))
     (λ p _. gives_pure RegionIsSpelled (record { name = n.text; kind = p.kind; rects = p.rects }) k)))
 
 component_gives : Gives IsSpelledComponent component
@@ -217,7 +223,8 @@ PartsAreBindable p = IfSome p.region (λ n. n ≢ codes "(")
 
 pattern_gives : (s : GroupParts) (t : Lexeme) → PartsAreBindable s → Gives (Keeps PartsAreBindable) (with_pattern s t)
 unfolding with_pattern
-pattern_gives s t h = gives_given (Keeps PartsAreBindable) (name_of t) _ (λ p _. gives_turn PartsAreBindable (record s { patterns = s.patterns ++ p ∷ [] }) true h)
+pattern_gives s t h = gives_given (Keeps PartsAreBindable) (name_of t) _
+    (λ p _. gives_turn PartsAreBindable (record s { patterns = s.patterns ++ p ∷ [] }) true h)
 
 binding_gives : (s : GroupParts) → PartsAreBindable s → Gives (Keeps PartsAreBindable) (with_region s)
 unfolding with_region
@@ -231,7 +238,8 @@ part_gives : (due : Due) (s : GroupParts) (t : Lexeme) → PartsAreBindable s �
 unfolding group_part
 part_gives Item s t h = pattern_gives s t h
 part_gives Keyword s t h =
-    gives_choose (Keeps PartsAreBindable) (is (codes "REGION") t) _ _ (λ _. binding_gives s h) (λ _. gives_turn PartsAreBindable (record s { due = Rest }) true h)
+    gives_choose (Keeps PartsAreBindable) (is (codes "REGION") t) _ _ (λ _. binding_gives s h)
+    (λ _. gives_turn PartsAreBindable (record s { due = Rest }) true h)
 part_gives Rest s t h = gives_turn PartsAreBindable s true h
 part_gives Separator s t h = gives_fault (Keeps PartsAreBindable) _
 
@@ -250,7 +258,8 @@ group_gives : Gives IsBindable group
 unfolding group
 group_gives =
     gives_bind (λ t. IsSpelledName t.text) IsBindable name _ name_gives
-    (λ n _. gives_bind PartsAreBindable IsBindable (block group_token no_group) _ (block_gives PartsAreBindable PartsAreBindable group_token group_token_gives no_group tt)
+    (λ n _. gives_bind PartsAreBindable IsBindable (block group_token no_group) _
+    (block_gives PartsAreBindable PartsAreBindable group_token group_token_gives no_group tt)
     (λ p k. gives_pure IsBindable (record { name = n.text; patterns = p.patterns; region = p.region }) k))
 
 -- The whole text.
@@ -285,11 +294,13 @@ body_gives s t h =
     (λ _. gives_bind Anything AreSpelledParts (with_row s.rows) _ (gives_local (with_row s.rows) (local_of (with_row s.rows) (with_row_follows s.rows)))
     (λ x _. gives_pure AreSpelledParts (record s { rows = x }) (as_before (record s { rows = x }) h)))
     (λ _. gives_choose AreSpelledParts (is (codes "REGIONS") t) _ _
-    (λ _. gives_bind (All RegionIsSpelled) AreSpelledParts (regions s.regions) _ (section_gives RegionIsSpelled (codes "REGIONS") region region_gives s.regions h.regions_spelled)
+    (λ _. gives_bind (All RegionIsSpelled) AreSpelledParts (regions s.regions) _
+    (section_gives RegionIsSpelled (codes "REGIONS") region region_gives s.regions h.regions_spelled)
     (λ x k. gives_pure AreSpelledParts (record s { regions = x })
     (record { header_spelled = h.header_spelled; regions_spelled = k; groups_bindable = h.groups_bindable; components_spelled = h.components_spelled })))
     (λ _. gives_choose AreSpelledParts (is (codes "GROUPS") t) _ _
-    (λ _. gives_bind (All IsBindable) AreSpelledParts (groups s.groups) _ (section_gives IsBindable (codes "GROUPS") group group_gives s.groups h.groups_bindable)
+    (λ _. gives_bind (All IsBindable) AreSpelledParts (groups s.groups) _
+    (section_gives IsBindable (codes "GROUPS") group group_gives s.groups h.groups_bindable)
     (λ x k. gives_pure AreSpelledParts (record s { groups = x })
     (record { header_spelled = h.header_spelled; regions_spelled = h.regions_spelled; groups_bindable = k; components_spelled = h.components_spelled })))
     (λ _. gives_choose AreSpelledParts (is (codes "COMPONENTS") t) _ _
@@ -350,8 +361,10 @@ named_design (Some n) h there = h
 said_by : (parts : DocParts) (d : Document) → IsNamed parts → document_from (Ok parts) ≡ Ok d → IsSpelledDocument d
 said_by parts d h e = subst IsSpelledDocument (one _ d e) (record {
   version = or_else IsSpelledWord parts.header.version (codes "5.8") h.0.header_spelled.version_spelled (record { spelled = refl; other = λ x. absurd cc });
-  divider = or_else IsQuotedText parts.header.divider (codes "\"/\"") h.0.header_spelled.divider_closed (record { more = codes "/\""; text = refl; closed = refl });
-  brackets = or_else IsQuotedText parts.header.brackets (codes "\"[]\"") h.0.header_spelled.brackets_closed (record { more = codes "[]\""; text = refl; closed = refl });
+  divider = or_else IsQuotedText parts.header.divider (codes "\"/\"") h.0.header_spelled.divider_closed
+      (record { more = codes "/\""; text = refl; closed = refl });
+  brackets = or_else IsQuotedText parts.header.brackets (codes "\"[]\"") h.0.header_spelled.brackets_closed
+      (record { more = codes "[]\""; text = refl; closed = refl });
   design = named_design parts.header.design h.0.header_spelled.design_spelled h.1;
   regions = h.0.regions_spelled;
   groups = h.0.groups_bindable;
@@ -367,4 +380,5 @@ read_is_spelled text d e = by (block statement no_parts (tokens_of text)) refl e
     by : (o : Result (Taken DocParts) ReadFault) → block statement no_parts (tokens_of text) ≡ o → document_from (value_of o) ≡ Ok d → IsSpelledDocument d
     by (Err f) read e = absurd cc
     by (Ok t) read e =
-        said_by t.value d (block_gives AreSpelledParts IsNamed statement statement_gives no_parts nothing_known (tokens_of text) t.rest t.value (spelled_from 0 0 1 text) read).0 e
+        said_by t.value d (block_gives AreSpelledParts IsNamed statement statement_gives no_parts nothing_known (tokens_of text) t.rest t.value
+        (spelled_from 0 0 1 text) read).0 e

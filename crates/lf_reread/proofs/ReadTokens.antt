@@ -1,5 +1,6 @@
 -- The tokens of a text: a word begins no comment and no quoted text, and a quoted text ends with its closing mark.
-use Rattle.std.proofs.Common.{◌≡◌, ◌==◌, ℕ, zero, suc, ◌+◌, ◌≤◌, Bool, true, false, cond, List, [], ◌∷◌, length, take, Option, Some, None, refl, ap, sym, ◌∙◌, append-nil, arith}
+use Rattle.std.proofs.Common.{◌≡◌, ◌==◌, ℕ, zero, suc, ◌+◌, ◌≤◌, Bool, true, false, cond, List, [], ◌∷◌, length, take, Option, Some, None, refl, ap, sym, ◌∙◌}
+use Rattle.std.proofs.Common.{append-nil, arith}
 use Rattle.std.specs.Prelude.{All}
 use Rattle.std.specs.Option.{option_map_or}
 use Rattle.std.specs.List.{list_all}
@@ -7,7 +8,8 @@ use Rattle.std.proofs.lemmas.Bool.Decides.{nat_tests}
 use Rattle.std.proofs.lemmas.List.Elements.{All-nil, All-cons}
 use Rattle.lf_lex.specs.declared.tokens.TokenKind.TheVariants.{Word, Quoted}
 use Rattle.lf_lex.specs.declared.tokens.LexFault.TheVariants.{BadToken, UnexpectedEnd}
-use Rattle.lf_lex.specs.Tokens.{Lexed, Lexeme, is_white, is_line_feed, is_word_byte, line_feeds, comment_len, word_len, quoted_len, with_token, token_at, stopped}
+use Rattle.lf_lex.specs.Tokens.{Lexed, Lexeme, is_white, is_line_feed, is_word_byte, line_feeds, comment_len, word_len, quoted_len, with_token, token_at}
+use Rattle.lf_lex.specs.Tokens.{stopped}
 use Rattle.lf_lex.specs.Tokens.{tokens_from}
 use Rattle.lf_lex.specs.Splices.{is_word_text}
 use Rattle.lf_lex.proofs.Cutting.{closing_in_front}
@@ -44,7 +46,8 @@ long_take zero bytes le = refl
 long_take (suc n) [] le = absurd (omega arith)
 long_take (suc n) (b ∷ bytes) le = omega (arith, long_take n bytes (omega arith))
 
-quoted_at : (at line b more : ℕ) (bytes : List ℕ) → (b == 34) ≡ true → quoted_len false bytes ≡ Some more → IsSpelledToken (token_at Quoted at line b bytes more)
+quoted_at : (at line b more : ℕ) (bytes : List ℕ) → (b == 34) ≡ true → quoted_len false bytes ≡ Some more
+    → IsSpelledToken (token_at Quoted at line b bytes more)
 quoted_at at line b more bytes h closed =
     let front = closing_in_front false more more bytes [] closed (omega arith) in
     record {
@@ -53,7 +56,8 @@ quoted_at at line b more bytes h closed =
         more = take more bytes;
         text = ap (λ (c : ℕ). c ∷ take more bytes) (is_quote b h);
         closed =
-            ap (λ (l : List ℕ). quoted_len false l) (sym (append-nil (take more bytes))) ∙ front.0 ∙ ap (λ (n : ℕ). Some n) (sym (long_take more bytes front.1));
+            ap (λ (l : List ℕ). quoted_len false l) (sym (append-nil (take more bytes))) ∙ front.0
+            ∙ ap (λ (n : ℕ). Some n) (sym (long_take more bytes front.1));
       };
     }
 
@@ -70,7 +74,8 @@ spelled_from zero at line (b ∷ bytes) =
     (with_token (token_at Word at line b bytes (word_len bytes)) (tokens_from (word_len bytes) (at + 1) line bytes))
     (stopped (BadToken line) (line + line_feeds bytes))
     (rest 0 (line + 1)) (rest 0 line) (rest (comment_len bytes) line)
-    (λ h. option_at (λ x. All IsSpelledToken x.tokens) quoted (quoted_len false bytes) (stopped (UnexpectedEnd (line + line_feeds bytes)) (line + line_feeds bytes))
+    (λ h. option_at (λ x. All IsSpelledToken x.tokens) quoted (quoted_len false bytes)
+    (stopped (UnexpectedEnd (line + line_feeds bytes)) (line + line_feeds bytes))
     (λ n closed. All-cons IsSpelledToken (token_at Quoted at line b bytes n) _ (quoted_at at line b n bytes h closed) (rest n line)) (All-nil IsSpelledToken))
     (λ hash quote all. All-cons IsSpelledToken (token_at Word at line b bytes (word_len bytes)) _ (word_at at line b (word_len bytes) bytes hash quote all)
     (rest (word_len bytes) line))
