@@ -6,7 +6,9 @@ use Rattle.std.specs.List.{AllZip}
 use Rattle.lf_units.specs.declared.area.Point.{Point}
 use Rattle.lf_units.specs.declared.area.Rect.{Rect}
 use Rattle.lf_lex.specs.declared.fault.FaultNumber.{FaultNumber}
-use Rattle.lf_lex.specs.declared.fault.FaultNumber.TheVariants.{BadToken, UnexpectedEnd, Unexpected, BadNumber, WrongEnd, UnknownStatement, NoUnits, NoSite, NoRows, VerticalRow, BadStep, RowOrient, RowsOverlap, NoMacro, NoSize, NotWhole, SecondName, SecondRegion, NoRegion, TeamName, FencesOverlap, TwoFences, TooMany, OutOfMemory}
+use Rattle.lf_lex.specs.declared.fault.FaultNumber.TheVariants.{BadToken, UnexpectedEnd, Unexpected, BadNumber, WrongEnd, UnknownStatement, NoUnits, NoSite}
+use Rattle.lf_lex.specs.declared.fault.FaultNumber.TheVariants.{NoRows, VerticalRow, BadStep, RowOrient, RowsOverlap, NoMacro, NoSize, NotWhole, SecondName}
+use Rattle.lf_lex.specs.declared.fault.FaultNumber.TheVariants.{SecondRegion, NoRegion, TeamName, FencesOverlap, TwoFences, TooMany, OutOfMemory}
 use Rattle.lf_floorplan.specs.declared.sites.Site.{Site}
 use Rattle.lf_lef.specs.Contents.{Contents, macro_names}
 use Rattle.lf_names.specs.Names.{position_of}
@@ -26,7 +28,8 @@ use Rattle.lf_refusals.specs.Refusals.{HasBadStep, MeetsEarlierRow, HasNoMacro, 
 use Rattle.lf_refusals.specs.Findings.{Inputs, units_in, core_in, Finding, NameOfFirst, InTurn, OfCore, WhereWhole, OfPitch, CoreHasPartUnits, Finds}
 use Rattle.lf_frame.specs.Loads.{location, fixed_box, blocked, obstacles_in, movables_from, IsFrameOf, IsCellOf, IsLoadedFrom}
 use Rattle.lf_frame.specs.Alike.{settled, AreAlike, FindAlike, AcceptedAlike, RefusedAlike, LoadedAlike}
-use Rattle.lf_frame.proofs.AlikeEntries.{Same, SameAll, settled_without, name_same, mac_same, movable_same, name_alike, no_macro_respects, no_size_respects, part_units_respects, earlier_name_respects, claimed_twice_respects, too_many_respects}
+use Rattle.lf_frame.proofs.AlikeEntries.{Same, SameAll, settled_without, name_same, mac_same, movable_same, name_alike, no_macro_respects, no_size_respects}
+use Rattle.lf_frame.proofs.AlikeEntries.{part_units_respects, earlier_name_respects, claimed_twice_respects, too_many_respects}
 
 -- the inputs with these components
 abbrev pub with_components : Inputs → List Component → Inputs
@@ -99,14 +102,16 @@ finds_same i xs ys same RowsOverlap = pitch_same i xs ys (λ core pitch. NameOfF
 finds_same i xs ys same NoMacro = name_alike (λ c. c.mac) (λ c. refl) (HasNoMacro i.library) (no_macro_respects i.library) xs ys same
 finds_same i xs ys same NoSize = name_alike (λ c. c.mac) (λ c. refl) (HasNoSize i.library) (no_size_respects i.library) xs ys same
 finds_same i xs ys same NotWhole =
-    turn_carries _ _ _ _ (core_units_same i xs ys) (name_alike (λ c. c.mac) (λ c. refl) (HasPartUnits i.library (units_in i)) (part_units_respects i.library (units_in i)) xs ys same)
+    turn_carries _ _ _ _ (core_units_same i xs ys)
+    (name_alike (λ c. c.mac) (λ c. refl) (HasPartUnits i.library (units_in i)) (part_units_respects i.library (units_in i)) xs ys same)
 finds_same i xs ys same SecondName = name_alike (λ c. c.name) (λ c. refl) BearsEarlierName earlier_name_respects xs ys same
 finds_same i xs ys same SecondRegion = λ found h. h
 finds_same i xs ys same NoRegion = λ found h. h
 finds_same i xs ys same TeamName = λ found h. h
 finds_same i xs ys same FencesOverlap = λ found h. h
 finds_same i xs ys same TwoFences =
-    name_alike (λ c. c.name) (λ c. refl) (IsClaimedTwice i.document.regions i.document.groups) (claimed_twice_respects i.document.regions i.document.groups) xs ys same
+    name_alike (λ c. c.name) (λ c. refl) (IsClaimedTwice i.document.regions i.document.groups)
+    (claimed_twice_respects i.document.regions i.document.groups) xs ys same
 finds_same i xs ys same TooMany =
     turn_carries _ _ _ _ (λ found h. h) (
     turn_carries _ _ _ _ (λ found h. h) (
@@ -123,7 +128,8 @@ finds_same i xs ys same OutOfMemory = λ found h. h
 
 pub find_alike : FindAlike
 find_alike i j alike n found h =
-    finds_same j i.document.components j.document.components (same_without i.document.components j.document.components (components_alike i j alike)) n found (subst (λ k. Finds k n found) (but_components i j alike) h)
+    finds_same j i.document.components j.document.components (same_without i.document.components j.document.components (components_alike i j alike)) n found
+    (subst (λ k. Finds k n found) (but_components i j alike) h)
 
 pub accepted_alike : AcceptedAlike
 accepted_alike i j alike h n = find_alike i j alike n None (h n)
@@ -164,7 +170,8 @@ boxes_settled library units (c ∷ cs) = rw (box_settled library units c, boxes_
 obstacles_same : (i : Inputs) (xs ys : List Component) → SameAll xs ys → obstacles_in (with_components i xs) ≡ obstacles_in (with_components i ys)
 obstacles_same i xs ys same =
     let box : Component → Option Rect = fixed_box i.library (units_in i) in
-    let boxes : filter_map box xs ≡ filter_map box ys = sym (boxes_settled i.library (units_in i) xs) ∙ ap (filter_map box) same ∙ boxes_settled i.library (units_in i) ys in
+    let boxes : filter_map box xs ≡ filter_map box ys = sym (boxes_settled i.library (units_in i) xs) ∙ ap (filter_map box) same
+    ∙ boxes_settled i.library (units_in i) ys in
     ap (λ l. l ++ flat_map blocked i.document.blockages) boxes
 
 pub frame_same : (i : Inputs) (xs ys : List Component) → SameAll xs ys → (f : Frame) → IsFrameOf (with_components i xs) f → IsFrameOf (with_components i ys) f
@@ -181,7 +188,8 @@ frame_same i xs ys same f is = record {
 -- cells that fit the movable ones of some components fit those of the same components
 pub cells_same : (kept : Component → Component) → ((a b : Component) → kept a ≡ kept b → Same a b) → (P Q : ℕ × Component → Cell → Type 0) →
     ((k : ℕ) (a b : Component) (c : Cell) → kept a ≡ kept b → P (k, a) c → Q (k, b) c) →
-    (k : ℕ) (xs ys : List Component) → map kept xs ≡ map kept ys → (cells : List Cell) → AllZip P (movables_from k xs) cells → AllZip Q (movables_from k ys) cells
+    (k : ℕ) (xs ys : List Component) → map kept xs ≡ map kept ys → (cells : List Cell) → AllZip P (movables_from k xs) cells
+    → AllZip Q (movables_from k ys) cells
 cells_same kept alike P Q made k [] [] same cells zip = by cells zip
   where
     by : (cells : List Cell) → AllZip P [] cells → AllZip Q [] cells
@@ -230,8 +238,10 @@ loaded_same i xs ys same l h = record {
   accepted = λ n. finds_same i xs ys (same_without xs ys same) n None (h.accepted n);
   frame = frame_same i xs ys (same_without xs ys same) l.frame h.frame;
   cells =
-      cells_same without_places one_without (IsCellOf (with_components i xs)) (IsCellOf (with_components i ys)) (cell_without i xs ys) 0 xs ys same l.cells h.cells;
+      cells_same without_places one_without (IsCellOf (with_components i xs)) (IsCellOf (with_components i ys))
+      (cell_without i xs ys) 0 xs ys same l.cells h.cells;
 }
 
 pub loaded_alike : LoadedAlike
-loaded_alike i j alike l h = loaded_same j i.document.components j.document.components (components_alike i j alike) l (subst (λ k. IsLoadedFrom k l) (but_components i j alike) h)
+loaded_alike i j alike l h = loaded_same j i.document.components j.document.components (components_alike i j alike) l
+    (subst (λ k. IsLoadedFrom k l) (but_components i j alike) h)

@@ -34,7 +34,8 @@ SameAll xs ys = map settled xs ≡ map settled ys
 abbrev settled_placement : Option Placement → Option Placement
 settled_placement p = (settled (record { name = []; mac = []; placement = p; semicolon = 0 })).placement
 
-says_settled : (is_kind : PlacementKind → Bool) → is_kind Placed ≡ false → is_kind Unplaced ≡ false → (p : Option Placement) → says is_kind (settled_placement p) ≡ says is_kind p
+says_settled : (is_kind : PlacementKind → Bool) → is_kind Placed ≡ false → is_kind Unplaced ≡ false → (p : Option Placement)
+    → says is_kind (settled_placement p) ≡ says is_kind p
 says_settled is_kind placed unplaced None = refl
 says_settled is_kind placed unplaced (Some p) = by p.kind p.place p.start p.stop
   where
@@ -104,7 +105,8 @@ Respects breaks = (xs ys : List Component) (a b : Component) → SameAll xs ys �
 
 broken_same : (breaks : List Component → Component → Type 0) → Respects breaks → (xs ys : List Component) → SameAll xs ys → (k : ℕ) (d : Component) →
     k < length ys → breaks (take k xs) (get_or xs k d) → breaks (take k ys) (get_or ys k d)
-broken_same breaks respects xs ys same k d within = respects (take k xs) (take k ys) (get_or xs k d) (get_or ys k d) (take_same xs ys k same) (entry_same xs ys k d same within)
+broken_same breaks respects xs ys same k d within = respects (take k xs) (take k ys) (get_or xs k d) (get_or ys k d) (take_same xs ys k same)
+    (entry_same xs ys k d same within)
 
 -- the same entry is the first to break the rule
 first_alike : (breaks : List Component → Component → Type 0) → Respects breaks → (xs ys : List Component) → SameAll xs ys → (place : Option ℕ) →

@@ -108,7 +108,8 @@ pub loaded_elsewhere : LoadedElsewhere
 loaded_elsewhere i j differ l m from_i from_j =
     let moved = subst (λ k. AllZip (IsCellOf k) (movables i.document.components) l.cells) (but_components i j differ) from_i.cells in
     let but : AllZip (IsCellBut j) (movables j.document.components) l.cells =
-    cells_same settled (λ a b same. same) (IsCellOf (with_components j i.document.components)) (IsCellBut j) (cell_but j i.document.components) 0 i.document.components
+    cells_same settled (λ a b same. same) (IsCellOf (with_components j i.document.components)) (IsCellBut j)
+    (cell_but j i.document.components) 0 i.document.components
     j.document.components (components_same i j differ) l.cells moved in
     record {
       frame = frame_is_one j m.frame l.frame from_j.frame (frame_stays i j differ l.frame from_i.frame);

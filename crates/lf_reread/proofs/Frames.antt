@@ -96,7 +96,8 @@ kept_is_one : (x : Fields) (k h : Kept x) → k ≡ h
 kept_is_one x = hlevel props
 
 by_fields : (f g : Frame) → fields_of f ≡ fields_of g → f ≡ g
-by_fields f g e = ap frame_with (Σ_path {u = (fields_of f, kept_of f)} {v = (fields_of g, kept_of g)} e (to_path_p (λ i. Kept (e i)) (kept_is_one (fields_of g) _ (kept_of g))))
+by_fields f g e = ap frame_with
+    (Σ_path {u = (fields_of f, kept_of f)} {v = (fields_of g, kept_of g)} e (to_path_p (λ i. Kept (e i)) (kept_is_one (fields_of g) _ (kept_of g))))
 
 length_is_one : (a b t : ℤ) → a *ℤ pos 1000000 ≡ t → b *ℤ pos 1000000 ≡ t → a ≡ b
 length_is_one a b t e h = omega (arith, ints)

@@ -37,7 +37,8 @@ line_front words rest h =
     ∙ joined_front 0 1 words (10 ∷ rest) h refl
     ∙ ap (λ (y : List Plain). map word_of words ++ y) (feed_front rest)
 
-pub lines_front : (lines : List (List (List ℕ))) (rest : List ℕ) → All AreWords lines → read (flat_map line_of lines ++ rest) ≡ flat_map (map word_of) lines ++ read rest
+pub lines_front : (lines : List (List (List ℕ))) (rest : List ℕ) → All AreWords lines
+    → read (flat_map line_of lines ++ rest) ≡ flat_map (map word_of) lines ++ read rest
 lines_front [] rest h = refl
 lines_front (l ∷ ls) rest h =
     ap read (append_assoc (line_of l) (flat_map line_of ls) rest)
@@ -53,7 +54,8 @@ quoted_front more rest closed =
     ap (λ (l : List ℕ). quoted_len false (l ++ rest)) (sym front) ∙ (closing_in_front false (length more) (length more) more rest closed (omega arith)).0 in
     let behind = after_front (length more) 1 1 (more ++ rest) (long more rest) in
     let rest-is : plains (tokens_from (length more) 1 1 (more ++ rest)) ≡ read rest =
-    ap plains behind ∙ ap (λ (l : List ℕ). plains (tokens_from 0 (1 + length more) (1 + line_feeds (take (length more) (more ++ rest))) l)) (drop-append_seam more rest)
+    ap plains behind ∙ ap (λ (l : List ℕ). plains (tokens_from 0 (1 + length more) (1 + line_feeds (take (length more) (more ++ rest))) l))
+    (drop-append_seam more rest)
     ∙ moved 0 (1 + length more) 0 (1 + line_feeds (take (length more) (more ++ rest))) 1 rest in
     let first-is : plain (token_at Quoted 0 1 34 (more ++ rest) (length more)) ≡ quoted_of (34 ∷ more) =
     ap (λ (l : List ℕ). quoted_of (34 ∷ l)) (take-append_seam more rest) in
@@ -87,4 +89,5 @@ quoted_line keyword q more rest word is closed =
     regroup keyword more rest =
         ap (λ (l : List ℕ). l ++ rest) (append_assoc keyword (32 ∷ ((34 ∷ more) ++ (32 ∷ 59 ∷ []))) (10 ∷ []))
         ∙ append_assoc keyword ((32 ∷ ((34 ∷ more) ++ (32 ∷ 59 ∷ []))) ++ 10 ∷ []) rest
-        ∙ ap (λ (l : List ℕ). keyword ++ (32 ∷ 34 ∷ l)) (ap (λ (l : List ℕ). l ++ rest) (append_assoc more (32 ∷ 59 ∷ []) (10 ∷ [])) ∙ append_assoc more (32 ∷ 59 ∷ 10 ∷ []) rest)
+        ∙ ap (λ (l : List ℕ). keyword ++ (32 ∷ 34 ∷ l))
+        (ap (λ (l : List ℕ). l ++ rest) (append_assoc more (32 ∷ 59 ∷ []) (10 ∷ [])) ∙ append_assoc more (32 ∷ 59 ∷ 10 ∷ []) rest)

@@ -4,3 +4,7 @@ pub mod Words
 pub mod TeamParts
 pub mod Frames
 pub mod Elsewhere
+pub mod ReadTokens
+pub mod Gives
+pub mod ReadNames
+pub mod LoadedTeams

@@ -41,7 +41,8 @@ pub section_tokens : {A : Type 0} (keyword : List ℕ) (words : A → List (List
 section_tokens keyword words xs entries is =
     words_of_lines (section_lines keyword entries)
     ∙ ap (λ (y : List (List ℕ)). map word_of (keyword ∷ decimal (length entries) ∷ codes ";" ∷ y))
-    (ap (λ (es : List (List (List ℕ))). flat_map (λ (l : List (List ℕ)). l) (es ++ (codes "END" ∷ keyword ∷ []) ∷ [])) is ∙ entry_lines words xs (codes "END" ∷ keyword ∷ []))
+    (ap (λ (es : List (List (List ℕ))). flat_map (λ (l : List (List ℕ)). l) (es ++ (codes "END" ∷ keyword ∷ []) ∷ [])) is
+    ∙ entry_lines words xs (codes "END" ∷ keyword ∷ []))
 
 -- Entries.
 
@@ -61,7 +62,8 @@ component_lines f (c ∷ cs) =
 rects_are : (rs : List Rect) (rest : List (List ℕ)) → flat_map text.rect_words rs ++ rest ≡ rects_words signed_decimal rs rest
 rects_are [] rest = refl
 rects_are (r ∷ rs) rest =
-    ap (λ (l : List (List ℕ)). codes "(" ∷ signed_decimal r.x1 ∷ signed_decimal r.y1 ∷ codes ")" ∷ codes "(" ∷ signed_decimal r.x2 ∷ signed_decimal r.y2 ∷ codes ")" ∷ l) (rects_are rs rest)
+    ap (λ (l : List (List ℕ)). codes "(" ∷ signed_decimal r.x1 ∷ signed_decimal r.y1 ∷ codes ")"
+    ∷ codes "(" ∷ signed_decimal r.x2 ∷ signed_decimal r.y2 ∷ codes ")" ∷ l) (rects_are rs rest)
 
 pub region_lines : (t : Team) → text.region_words t ∷ [] ≡ map (λ x. codes "-" ∷ print.region_words signed_decimal x) (region_of t ∷ [])
 region_lines t = ap (λ (l : List (List ℕ)). (codes "-" ∷ t.name ∷ l) ∷ []) (rects_are t.rects (kind_words (Some Fence)))
@@ -78,4 +80,5 @@ pub count_is_word : (n : ℕ) → n ≤ 4000000 → is_word_text (decimal n) ≡
 count_is_word n le = decimals_are_words (pos n) (small n le)
 
 pub count_is_other : (n : ℕ) → n ≤ 4000000 → decimal n ≢ codes ";"
-count_is_other n le e = let read : fixed_of (codes ";") 0 2147483647 ≡ Ok (pos n) = ap (λ (w : List ℕ). fixed_of w 0 2147483647) (sym e) ∙ decimals_are_read (pos n) (small n le) in cc
+count_is_other n le e = let read : fixed_of (codes ";") 0 2147483647 ≡ Ok (pos n) = ap (λ (w : List ℕ). fixed_of w 0 2147483647) (sym e)
+    ∙ decimals_are_read (pos n) (small n le) in cc

@@ -1,5 +1,6 @@
 -- The text of a team as a printed text: its parts, and that each can be printed.
-use Rattle.std.proofs.Common.{◌≡◌, ◌≢◌, ℕ, ◌≤◌, true, List, [], ◌∷◌, ◌++◌, All, map, length, get_or, Option, Some, None, refl, ap, sym, ◌∙◌, append_assoc, append-nil, subst, arith}
+use Rattle.std.proofs.Common.{◌≡◌, ◌≢◌, ℕ, ◌≤◌, true, List, [], ◌∷◌, ◌++◌, All, map, length, get_or, Option, Some, None, refl, ap, sym, ◌∙◌, append_assoc}
+use Rattle.std.proofs.Common.{append-nil, subst, arith}
 use Rattle.std.specs.Prelude.{codes, decimal, IfSome, IsSome, slice_get}
 use Rattle.std.specs.List.{flat_map}
 use Rattle.std.specs.Fmt.{signed_decimal}
@@ -13,7 +14,8 @@ use Rattle.lf_def.specs.Ranges.{IsRect, IsLocation}
 use Rattle.lf_def.specs.Printed.{IsWord, IsPattern, IsRegionName, IsPrintedRegion, IsPrintedGroup, IsPrintedComponent, HasPlace}
 use Rattle.lf_def.specs.Printed as print
 use Rattle.lf_def.specs.Document.{Document, no_parts}
-use Rattle.lf_def.specs.PrintedTexts.{with_parts, Part, version_is, divider_is, brackets_are, design_is, units_are, regions_section, groups_section, components_section, part_tokens, text_tokens, IsPrintedPart, printed_document, SaysPlacesApart}
+use Rattle.lf_def.specs.PrintedTexts.{with_parts, Part, version_is, divider_is, brackets_are, design_is, units_are, regions_section, groups_section}
+use Rattle.lf_def.specs.PrintedTexts.{components_section, part_tokens, text_tokens, IsPrintedPart, printed_document, SaysPlacesApart}
 use Rattle.lf_def.proofs.PrintedNumbers.{decimals_are_read}
 use Rattle.lf_def.proofs.PrintedTexts.{parts_read_back}
 use Rattle.lf_floorplan.specs.declared.frame.Frame.{Frame}
@@ -44,7 +46,8 @@ group_parts (Some t) [] = []
 group_parts (Some t) (c ∷ cs) = groups_section (decimal 1) (group_of t (c ∷ cs) ∷ []) ∷ []
 
 abbrev section_parts : Frame → Option Team → List Cell → List Part
-section_parts f fence cells = region_parts fence ++ components_section (decimal (length (map (text.component_words f) cells))) (map (component_of f) cells) ∷ group_parts fence cells
+section_parts f fence cells = region_parts fence
+    ++ components_section (decimal (length (map (text.component_words f) cells))) (map (component_of f) cells) ∷ group_parts fence cells
 
 -- the parts from one of the header's statements on
 abbrev from_units : Frame → Option Team → List Cell → List Part
@@ -82,14 +85,16 @@ group_tokens (Some t) (c ∷ cs) =
     (section_tokens (codes "GROUPS") print.group_words (group_of t (c ∷ cs) ∷ []) (text.group_words t (c ∷ cs) ∷ []) (group_lines t (c ∷ cs)))
 
 component_tokens : (f : Frame) (fence : Option Team) (cells : List Cell)
-    → flat_map (map word_of) (section_lines (codes "COMPONENTS") (map (text.component_words f) cells) ++ (text.group_lines fence cells ++ (codes "END" ∷ codes "DESIGN" ∷ []) ∷ []))
+    → flat_map (map word_of) (section_lines (codes "COMPONENTS") (map (text.component_words f) cells)
+    ++ (text.group_lines fence cells ++ (codes "END" ∷ codes "DESIGN" ∷ []) ∷ []))
     ≡ tokens_of_parts (components_section (decimal (length (map (text.component_words f) cells))) (map (component_of f) cells) ∷ group_parts fence cells)
 component_tokens f fence cells =
     let lines : List (List (List ℕ)) = map (text.component_words f) cells in
     flat_map-append (map word_of) (section_lines (codes "COMPONENTS") lines) (text.group_lines fence cells ++ (codes "END" ∷ codes "DESIGN" ∷ []) ∷ [])
     ∙ ap (λ (y : List Plain). y ++ flat_map (map word_of) (text.group_lines fence cells ++ (codes "END" ∷ codes "DESIGN" ∷ []) ∷ []))
     (section_tokens (codes "COMPONENTS") (print.component_words signed_decimal) (map (component_of f) cells) lines (component_lines f cells))
-    ∙ ap (λ (y : List Plain). part_tokens signed_decimal (components_section (decimal (length lines)) (map (component_of f) cells)) ++ y) (group_tokens fence cells)
+    ∙ ap (λ (y : List Plain). part_tokens signed_decimal (components_section (decimal (length lines)) (map (component_of f) cells)) ++ y)
+    (group_tokens fence cells)
 
 section_text_tokens : (f : Frame) (fence : Option Team) (cells : List Cell)
     → flat_map (map word_of) (section_text f fence cells) ≡ tokens_of_parts (section_parts f fence cells)
@@ -130,7 +135,8 @@ divider_line h = (codes "DIVIDERCHAR" ∷ h.divider ∷ codes ";" ∷ []) ∷ br
 -- the tokens of the header's lines, and of what stands behind them
 header_tokens : (h : Header) (rest : List ℕ) → IsSpelledHeader h → IsWithin h.units 20000
     → read (flat_map line_of (text.header_lines h) ++ rest)
-    ≡ part_tokens signed_decimal (version_is h.version) ++ (part_tokens signed_decimal (divider_is h.divider) ++ (part_tokens signed_decimal (brackets_are h.brackets)
+    ≡ part_tokens signed_decimal (version_is h.version)
+    ++ (part_tokens signed_decimal (divider_is h.divider) ++ (part_tokens signed_decimal (brackets_are h.brackets)
     ++ (part_tokens signed_decimal (design_is h.design) ++ (part_tokens signed_decimal (units_are h.units) ++ read rest))))
 header_tokens h rest spelled count =
     head (codes "VERSION" ∷ h.version ∷ codes ";" ∷ []) (divider_line h) rest (part_tokens signed_decimal (version_is h.version))
@@ -150,12 +156,14 @@ header_tokens h rest spelled count =
     (λ more. line_front (codes "UNITS" ∷ codes "DISTANCE" ∷ codes "MICRONS" ∷ decimal h.units ∷ codes ";" ∷ []) more
     (one_more (decimal h.units) (codes ";" ∷ []) (count_is_word h.units (omega (arith, count.most))) refl))))))
   where
-    head : (l : List (List ℕ)) (ls : List (List (List ℕ))) (rest : List ℕ) (tokens : List Plain) → ((more : List ℕ) → read (line_of l ++ more) ≡ tokens ++ read more)
+    head : (l : List (List ℕ)) (ls : List (List (List ℕ))) (rest : List ℕ) (tokens : List Plain)
+        → ((more : List ℕ) → read (line_of l ++ more) ≡ tokens ++ read more)
         → read (flat_map line_of (l ∷ ls) ++ rest) ≡ tokens ++ read (flat_map line_of ls ++ rest)
     head l ls rest tokens each = ap read (append_assoc (line_of l) (flat_map line_of ls) rest) ∙ each (flat_map line_of ls ++ rest)
 
 text_tokens_are : (f : Frame) (fence : Option Team) (cells : List Cell) → IsSpelledHeader f.header → IsWithin f.header.units 20000
-    → IfSome fence (λ t. (is_word_text t.name ≡ true) × All IsRect t.rects) → length (map (text.component_words f) cells) ≤ 4000000 → All (IsSpelledCell f) cells
+    → IfSome fence (λ t. (is_word_text t.name ≡ true) × All IsRect t.rects) → length (map (text.component_words f) cells) ≤ 4000000
+    → All (IsSpelledCell f) cells
     → read (flat_map line_of (team_lines f fence cells)) ≡ tokens_of_parts (parts f fence cells)
 text_tokens_are f fence cells header count h few each =
     let sections : read (flat_map line_of (section_text f fence cells)) ≡ tokens_of_parts (section_parts f fence cells) =
@@ -212,7 +220,8 @@ one_part p h = All-cons IsPrintedPart p [] h (All-nil IsPrintedPart)
 abbrev FenceIsSpelled : List Cell → Team → Type 0
 FenceIsSpelled cells t = IsSpelledName t.name × CanBeBound t.name cells
 
-region_parts_printed : (fence : Option Team) (cells : List Cell) → IfSome fence (FenceIsSpelled cells) → IfSome fence IsFence → All IsPrintedPart (region_parts fence)
+region_parts_printed : (fence : Option Team) (cells : List Cell) → IfSome fence (FenceIsSpelled cells) → IfSome fence IsFence
+    → All IsPrintedPart (region_parts fence)
 region_parts_printed None cells spelled whole = All-nil IsPrintedPart
 region_parts_printed (Some t) cells spelled whole =
     one_part (regions_section (decimal 1) (region_of t ∷ []))
@@ -278,11 +287,16 @@ says : (f : Frame) (fence : Option Team) (cells : List Cell) → IsSpelledHeader
 says f fence cells header spelled whole few each =
     let many : length (map (text.component_words f) cells) ≤ 4000000 = omega (arith, length-map cells (text.component_words f)) in
     subst (λ (d : Document). SaysPlacesApart (flat_map line_of (team_lines f fence cells)) d) (parts_say f fence cells)
-    (parts_read_back signed_decimal decimals_are_read (parts f fence cells) (parts_printed f fence cells header f.units_in_range spelled whole many each) (named f fence cells)
-    (flat_map line_of (team_lines f fence cells))
-    ([], text_tokens_are f fence cells header f.units_in_range (words fence spelled whole) many each ∙ sym (append-nil (tokens_of_parts (parts f fence cells)))))
+    (parts_read_back signed_decimal decimals_are_read (parts f fence cells) (parts_printed f fence cells header f.units_in_range spelled whole many each)
+    (named f fence cells)
+    (flat_map line_of (team_lines f fence cells)) (
+      [],
+      text_tokens_are f fence cells header f.units_in_range (words fence spelled whole) many each
+          ∙ sym (append-nil (tokens_of_parts (parts f fence cells))),
+    ))
   where
-    words : (fence : Option Team) → IfSome fence (FenceIsSpelled cells) → IfSome fence IsFence → IfSome fence (λ t. (is_word_text t.name ≡ true) × All IsRect t.rects)
+    words : (fence : Option Team) → IfSome fence (FenceIsSpelled cells) → IfSome fence IsFence
+        → IfSome fence (λ t. (is_word_text t.name ≡ true) × All IsRect t.rects)
     words None h g = tt
     words (Some t) h g = (h.0.spelled, λ k d within. rect_in_range (get_or t.rects k d) (g.rects_in_def k d within))
 

@@ -75,7 +75,8 @@ rect_in_range r h = record {
 
 rect_is_words : (r : Rect) → IsRect r → AreWords (text.rect_words r)
 rect_is_words r h =
-    one_more (signed_decimal r.x1) (signed_decimal r.y1 ∷ codes ")" ∷ codes "(" ∷ signed_decimal r.x2 ∷ signed_decimal r.y2 ∷ codes ")" ∷ []) (decimals_are_words r.x1 h.x1)
+    one_more (signed_decimal r.x1) (signed_decimal r.y1 ∷ codes ")" ∷ codes "(" ∷ signed_decimal r.x2 ∷ signed_decimal r.y2 ∷ codes ")" ∷ [])
+    (decimals_are_words r.x1 h.x1)
     (one_more (signed_decimal r.y1) (codes ")" ∷ codes "(" ∷ signed_decimal r.x2 ∷ signed_decimal r.y2 ∷ codes ")" ∷ []) (decimals_are_words r.y1 h.y1)
     (one_more (signed_decimal r.x2) (signed_decimal r.y2 ∷ codes ")" ∷ []) (decimals_are_words r.x2 h.x2)
     (one_more (signed_decimal r.y2) (codes ")" ∷ []) (decimals_are_words r.y2 h.y2) refl)))
@@ -107,11 +108,13 @@ section_is_words : (keyword : List ℕ) (entries : List (List (List ℕ))) → i
     → All AreWords (section_lines keyword entries)
 section_is_words keyword entries word few each =
     All-cons AreWords (keyword ∷ decimal (length entries) ∷ codes ";" ∷ []) (entries ++ (codes "END" ∷ keyword ∷ []) ∷ [])
-    (one_more keyword (decimal (length entries) ∷ codes ";" ∷ []) word (one_more (decimal (length entries)) (codes ";" ∷ []) (count_is_word (length entries) few) refl))
+    (one_more keyword (decimal (length entries) ∷ codes ";" ∷ []) word
+    (one_more (decimal (length entries)) (codes ";" ∷ []) (count_is_word (length entries) few) refl))
     (All-append AreWords entries ((codes "END" ∷ keyword ∷ []) ∷ []) each
     (All-cons AreWords (codes "END" ∷ keyword ∷ []) [] (one_more keyword [] word refl) (All-nil AreWords)))
 
-pub region_lines_are_words : (fence : Option Team) → IfSome fence (λ t. (is_word_text t.name ≡ true) × All IsRect t.rects) → All AreWords (text.region_lines fence)
+pub region_lines_are_words : (fence : Option Team) → IfSome fence (λ t. (is_word_text t.name ≡ true) × All IsRect t.rects)
+    → All AreWords (text.region_lines fence)
 region_lines_are_words None h = All-nil AreWords
 region_lines_are_words (Some t) h =
     section_is_words (codes "REGIONS") (text.region_words t ∷ []) refl (omega arith)

@@ -1,3 +1,5 @@
 pub mod Spelled
 pub mod TeamDocument
 pub mod Moved
+pub mod ReadDocuments
+pub mod LoadedTeams

@@ -1,6 +1,8 @@
 //! What is true of written texts.
 
+ghost use Rattle.lf_reread.specs.LoadedTeams.{LoadedTeamsReadBack};
 ghost use Rattle.lf_reread.specs.Moved.{AcceptedElsewhere, FrameStays, LoadedElsewhere, PositionsAreNotSettled};
+ghost use Rattle.lf_reread.specs.ReadDocuments.{ReadIsSpelled};
 ghost use Rattle.lf_reread.specs.TeamDocument.{TeamTextReadsBack};
 
 /// The DEF text of a team reads back: its header, the team's fence as its one region, the group that binds the
@@ -20,4 +22,18 @@ pub fn moved_designs_load_alike()
     ensures accepted { AcceptedElsewhere }
     ensures frame { FrameStays }
     ensures loaded { LoadedElsewhere }
+{}
+
+/// What a DEF text says is spelled as a text has it: its names are words other than a semicolon, its divider and
+/// brackets are quoted texts with their marks, and no group is bound to a region named by a parenthesis.
+pub fn read_documents_are_spelled()
+    ensures { ReadIsSpelled }
+{}
+
+/// Of a design that is loaded from a text that was read, the DEF text of a team with its cells, wherever they
+/// stand now, reads back.
+///
+/// In a team with a fence no cell may be named `+`, which no pattern of a group can be.
+pub fn loaded_teams_read_back()
+    ensures { LoadedTeamsReadBack }
 {}

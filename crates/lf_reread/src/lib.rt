@@ -3,4 +3,7 @@
 
 mod laws;
 
-pub use laws::{moved_designs_load_alike, team_text_reads_back};
+pub use laws::{
+    loaded_teams_read_back, moved_designs_load_alike, read_documents_are_spelled,
+    team_text_reads_back,
+};

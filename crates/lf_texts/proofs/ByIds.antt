@@ -16,7 +16,8 @@ use Rattle.lf_texts.proofs.Lines.{spaced_map}
 
 seam : (pre rest : List Cell) (c : Cell) → slice_get (pre ++ c ∷ rest) (length pre) ≡ Some c
 seam pre rest c =
-    slice_get-get_or (pre ++ c ∷ rest) (length pre) c (omega (arith, length-append pre (c ∷ rest))) ∙ ap (λ (x : Cell). Some x) (get_or-append_seam pre c rest c)
+    slice_get-get_or (pre ++ c ∷ rest) (length pre) c (omega (arith, length-append pre (c ∷ rest)))
+    ∙ ap (λ (x : Cell). Some x) (get_or-append_seam pre c rest c)
 
 -- what is said of the cells at positions from one on is said of the cells that stand there
 from : (g : Option Cell → List ℕ) (h : Cell → List ℕ) → ((c : Cell) → g (Some c) ≡ h c) → (rest pre all : List Cell) (n : ℕ)
@@ -37,7 +38,8 @@ by_ids g h same table team =
     ∙ from g h same (cells_of table team) [] (cells_of table team) 0 refl refl
 
 pub lines_by_ids : (f : Frame) (table : Cells) (team : ℕ)
-    → flat_map (λ id. component_line f (cell_at table id)) (ids_of team (cells_of table team)) ≡ flat_map line_of (map (component_words f) (cells_of table team))
+    → flat_map (λ id. component_line f (cell_at table id)) (ids_of team (cells_of table team))
+    ≡ flat_map line_of (map (component_words f) (cells_of table team))
 lines_by_ids f table team =
     by_ids (component_line f) (λ (c : Cell). line_of (component_words f c)) (λ c. refl) table team
     ∙ sym (flat_map-map line_of (component_words f) (cells_of table team))

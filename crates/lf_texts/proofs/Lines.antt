@@ -21,7 +21,8 @@ spaced_flat f (x ∷ xs) = spaced_append (f x) (flat_map f xs) ∙ ap (λ (l : L
 -- Pieces one behind the other.
 
 -- all pieces
-pub put_all : {X : Type 0} (g : X → List ℕ) (old a : List ℕ) (xs : List X) (i : ℕ) → length xs ≤ i → a ≡ old ++ flat_map g (take i xs) → a ≡ old ++ flat_map g xs
+pub put_all : {X : Type 0} (g : X → List ℕ) (old a : List ℕ) (xs : List X) (i : ℕ) → length xs ≤ i → a ≡ old ++ flat_map g (take i xs)
+    → a ≡ old ++ flat_map g xs
 put_all g old a xs i past so_far = so_far ∙ ap (λ ys. old ++ flat_map g ys) (take_all i xs past)
 
 -- lines behind lines
@@ -39,7 +40,8 @@ put_others old a new xs ys so_far others =
     ∙ ap (λ (b : List ℕ). old ++ b) (sym (flat_map-append line_of xs ys))
 
 -- five lines, and three
-pub put_five : (old a b c d new : List ℕ) (l1 l2 l3 l4 l5 : List (List ℕ)) → a ≡ old ++ line_of l1 → b ≡ a ++ line_of l2 → c ≡ b ++ line_of l3 → d ≡ c ++ line_of l4
+pub put_five : (old a b c d new : List ℕ) (l1 l2 l3 l4 l5 : List (List ℕ)) → a ≡ old ++ line_of l1 → b ≡ a ++ line_of l2 → c ≡ b ++ line_of l3
+    → d ≡ c ++ line_of l4
     → new ≡ d ++ line_of l5 → new ≡ old ++ flat_map line_of (l1 ∷ l2 ∷ l3 ∷ l4 ∷ l5 ∷ [])
 put_five old a b c d new l1 l2 l3 l4 l5 e1 e2 e3 e4 e5 =
     put_lines old d new (l1 ∷ l2 ∷ l3 ∷ l4 ∷ []) l5
@@ -50,7 +52,8 @@ pub put_three : (old a b new : List ℕ) (l1 l2 l3 : List (List ℕ)) → a ≡ 
 put_three old a b new l1 l2 l3 e1 e2 e3 = put_lines old b new (l1 ∷ l2 ∷ []) l3 (put_lines old a b (l1 ∷ []) l2 (put_one old a l1 e1) e2) e3
 
 -- the lines of a section: the first, those of the entries, and the last
-pub put_section : (old a b new : List ℕ) (first last : List (List ℕ)) (entries : List (List (List ℕ))) → a ≡ old ++ line_of first → b ≡ a ++ flat_map line_of entries
+pub put_section : (old a b new : List ℕ) (first last : List (List ℕ)) (entries : List (List (List ℕ))) → a ≡ old ++ line_of first
+    → b ≡ a ++ flat_map line_of entries
     → new ≡ b ++ line_of last → new ≡ old ++ flat_map line_of (first ∷ (entries ++ last ∷ []))
 put_section old a b new first last entries e1 e2 e3 =
     put_lines old b new (first ∷ entries) last (put_others old a b (first ∷ []) entries (put_one old a first e1) e2) e3
@@ -69,12 +72,14 @@ put_whole empty a b c d new l1 l2 l3 l4 last none e1 e2 e3 e4 e5 =
     regroup a b c d e = simp append_assoc
 
 -- a line of words in parts: the first word, a second, words in between, the words at the end, and a line feed
-pub put_in_parts : (old a b c d new first second : List ℕ) (between last : List (List ℕ)) → a ≡ old ++ first → b ≡ a ++ spaced (second ∷ []) → c ≡ b ++ spaced between
+pub put_in_parts : (old a b c d new first second : List ℕ) (between last : List (List ℕ)) → a ≡ old ++ first → b ≡ a ++ spaced (second ∷ [])
+    → c ≡ b ++ spaced between
     → d ≡ c ++ spaced last → new ≡ d ++ 10 ∷ [] → new ≡ old ++ line_of (first ∷ second ∷ (between ++ last))
 put_in_parts old a b c d new first second between last e1 e2 e3 e4 e5 =
     let words : spaced (second ∷ (between ++ last)) ≡ spaced (second ∷ []) ++ (spaced between ++ spaced last) =
     spaced_append (second ∷ []) (between ++ last) ∙ ap (λ (l : List ℕ). spaced (second ∷ []) ++ l) (spaced_append between last) in
-    e5 ∙ ap (λ (l : List ℕ). l ++ 10 ∷ []) (e4 ∙ ap (λ (l : List ℕ). l ++ spaced last) (e3 ∙ ap (λ (l : List ℕ). l ++ spaced between) (e2 ∙ ap (λ (l : List ℕ). l ++ spaced (second ∷ [])) e1)))
+    e5 ∙ ap (λ (l : List ℕ). l ++ 10 ∷ [])
+    (e4 ∙ ap (λ (l : List ℕ). l ++ spaced last) (e3 ∙ ap (λ (l : List ℕ). l ++ spaced between) (e2 ∙ ap (λ (l : List ℕ). l ++ spaced (second ∷ [])) e1)))
     ∙ regroup old first (spaced (second ∷ [])) (spaced between) (spaced last) (10 ∷ [])
     ∙ ap (λ (l : List ℕ). old ++ ((first ++ l) ++ 10 ∷ [])) (sym words)
   where

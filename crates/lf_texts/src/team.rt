@@ -71,7 +71,8 @@ fn put_cells(
     cells: &CellTable,
     team: usize,
 ) -> Result<(), AllocError>
-    ensures { OnOk result (out.new.items ≡ out.old.items ++ flat_map line_of (section_lines (codes "COMPONENTS") (map (component_words frame.now) (cells_of cells.now team)))) }
+    ensures { OnOk result (out.new.items ≡ out.old.items
+        ++ flat_map line_of (section_lines (codes "COMPONENTS") (map (component_words frame.now) (cells_of cells.now team)))) }
 {
     put_begin(out, b"COMPONENTS", cells.count_of(team))?;
     put_components(out, frame, cells, team)?;

@@ -10,7 +10,8 @@ use Rattle.lf_texts.proofs.entries.put_region.Goals as goal
 pub returns : goal.returns
 returns c =
     on_ok_weaker c.put-2.result
-    (put_in_parts c.args.out.now.items c.put.new.out.items c.put_spaced.new.out.items c.put_rects.new.out.items c.put_spaced-2.new.out.items c.put-2.new.out.items
+    (put_in_parts c.args.out.now.items c.put.new.out.items c.put_spaced.new.out.items c.put_rects.new.out.items
+    c.put_spaced-2.new.out.items c.put-2.new.out.items
     (codes "-") c.args.fence.now.name (flat_map rect_words c.args.fence.now.rects) (codes "+" ∷ codes "TYPE" ∷ codes "FENCE" ∷ codes ";" ∷ [])
     c.in_ok-put.ensures
     (c.in_ok-put_spaced.ensures ∙ ap (λ n. c.put.new.out.items ++ spaced (n ∷ [])) c.as_bytes.ensures)

@@ -11,7 +11,8 @@ use Rattle.lf_texts.proofs.Lines.{put_three}
 use Rattle.lf_texts.proofs.team.put_groups.Goals as goal
 
 -- a team with cells has a group
-has_group : (fence : Team) (cells : List Cell) (n : ℕ) → n ≡ length cells → (n ≡ 0 → ⊥) → group_lines (Some fence) cells ≡ section_lines (codes "GROUPS") (group_words fence cells ∷ [])
+has_group : (fence : Team) (cells : List Cell) (n : ℕ) → n ≡ length cells → (n ≡ 0 → ⊥)
+    → group_lines (Some fence) cells ≡ section_lines (codes "GROUPS") (group_words fence cells ∷ [])
 has_group fence [] n long some = absurd (some long)
 has_group fence (c ∷ cs) n long some = refl
 

@@ -8,7 +8,8 @@ use Rattle.lf_texts.proofs.team.team_def.Goals as goal
 pub returns : goal.returns
 unfolding team_text
 returns c =
-    put_whole c.new-out.result.items c.put_header.new.out.items c.put_regions.new.out.items c.put_cells.new.out.items c.put_groups.new.out.items c.put_end.new.out.items
+    put_whole c.new-out.result.items c.put_header.new.out.items c.put_regions.new.out.items
+    c.put_cells.new.out.items c.put_groups.new.out.items c.put_end.new.out.items
     (header_lines c.args.frame.now.header) (region_lines (slice_get c.args.frame.now.teams c.args.team))
     (section_lines (codes "COMPONENTS") (map (component_words c.args.frame.now) (cells_of c.args.cells.now c.args.team)))
     (group_lines (slice_get c.args.frame.now.teams c.args.team) (cells_of c.args.cells.now c.args.team)) (codes "END" ∷ codes "DESIGN" ∷ [])

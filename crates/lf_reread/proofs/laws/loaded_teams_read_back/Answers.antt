@@ -1,0 +1,5 @@
+use Rattle.lf_reread.proofs.LoadedTeams.{loaded_read_back}
+use Rattle.lf_reread.proofs.laws.loaded_teams_read_back.Goals as goal
+
+pub returns : goal.returns
+returns c = loaded_read_back
