@@ -82,7 +82,7 @@ turn_unread_by cs s t m more k (Err q) kept e = absurd cc
 turn_unread_by cs s t m more k (Ok x) kept e =
     let f = ok_is (turn (k x.value) more) x.rest t m e in (
       ap (λ (z : Turn DocParts). taken (turn (with_components cs z.state) z.more) x.rest) f.0
-      ∙ ap (λ (z : Lexed). taken (turn (with_components cs t.state) t.more) z) f.1,
+          ∙ ap (λ (z : Lexed). taken (turn (with_components cs t.state) t.more) z) f.1,
       sym (ap (λ (z : Turn DocParts). z.state.components) f.0) ∙ kept x.value,
     )
 
