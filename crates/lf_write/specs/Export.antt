@@ -53,6 +53,7 @@ abbrev pub clause_splice : Option Placement → ℕ → Option Place → Splice
 clause_splice None semicolon given = record { start = semicolon; stop = semicolon; new = joined (clause_words given) ++ codes " " }
 clause_splice (Some old) semicolon given = record { start = old.start; stop = old.stop; new = joined (clause_words given) }
 
+-- the clause of the component, written anew
 abbrev pub splice_of : Component → Option Place → Splice
 splice_of c given = clause_splice c.placement c.semicolon given
 
