@@ -1,5 +1,6 @@
 -- Up to the placement clause of a component, and where it has none up to its semicolon: what was read leads on to any clause.
-use Rattle.std.proofs.Common.{◌≡◌, ◌⊎◌, ℕ, zero, suc, Bool, true, false, ◌||◌, cond, List, [], ◌∷◌, ◌++◌, map, Option, Some, None, Result, Ok, inl, inr, refl, sym, ap, ◌∙◌, arith}
+use Rattle.std.proofs.Common.{◌≡◌, ◌⊎◌, ℕ, zero, suc, Bool, true, false, ◌||◌, cond, List, [], ◌∷◌, ◌++◌, map, Option, Some, None, Result, Ok, inl}
+use Rattle.std.proofs.Common.{inr, refl, sym, ap, ◌∙◌, arith}
 use Rattle.std.specs.Prelude.{codes}
 use Rattle.std.specs.Str.{bytes_eq}
 use Rattle.std.proofs.lemmas.Slice.Eq.{bytes_eq-Decides}
@@ -20,12 +21,13 @@ use Rattle.lf_def.specs.declared.components.Placement.{Placement}
 use Rattle.lf_def.specs.declared.components.PlacementKind.{PlacementKind}
 use Rattle.lf_def.specs.declared.components.PlacementKind.TheVariants.{Fixed, Cover, Placed}
 use Rattle.lf_def.specs.Coordinates.{orient_of}
-use Rattle.lf_def.specs.Components.{located_rest, placed, unplaced, is_placement_word, placement, only_placement, clause, up_to_stop, component_part, component_from}
+use Rattle.lf_def.specs.Components.{located_rest, placed, unplaced, is_placement_word, placement, only_placement, clause, up_to_stop, component_part}
+use Rattle.lf_def.specs.Components.{component_from}
 use Rattle.lf_def.specs.Components.{component_token, no_component}
 use Rattle.lf_def.specs.Laws.{IsPlace, LastEnds}
 use Rattle.lf_def.proofs.Clauses.{bind_ok, token_ok, if_ok, located_ok, MoreRun}
 use Rattle.lf_def.proofs.Places.{bare_parts, component_token_follows, component_token_goes}
-use Rattle.lf_write.proofs.Behind.{swap, behind_clause}
+use Rattle.lf_write.proofs.Behind.{placed_state, swap, behind_clause}
 
 -- The placement clause that was read.
 
@@ -92,7 +94,8 @@ kind_ok false false false false plus t l m p x y z u w e = absurd cc
 only_ok : (first : Option Placement) (plus : ℕ) (t : Lexeme) (l m : Lexed) (p : Placement) → is_placement_word t ≡ true
     → only_placement first plus t l ≡ taken p m → MoreRun plus t l m p
 unfolding only_placement placement
-only_ok None plus t l m p w e = kind_ok (is (codes "FIXED") t) (is (codes "COVER") t) (is (codes "PLACED") t) (is (codes "UNPLACED") t) plus t l m p refl refl refl refl w e
+only_ok None plus t l m p w e = kind_ok (is (codes "FIXED") t) (is (codes "COVER") t) (is (codes "PLACED") t)
+    (is (codes "UNPLACED") t) plus t l m p refl refl refl refl w e
 only_ok (Some first) plus t l m p w e = absurd cc
 
 -- Its last token is a word.
@@ -245,16 +248,17 @@ passes r l m n s s1 u t b h w none plus due e =
       };
     })
 
-at_clause : (c : Bool) (r : List Lexeme) (l m n : Lexed) (s : ComponentParts) (u : Lexeme) (t : Turn ComponentParts) → Before r s → component_token s l ≡ taken t m
+at_clause : (c : Bool) (r : List Lexeme) (l m n : Lexed) (s : ComponentParts) (u : Lexeme) (t : Turn ComponentParts) → Before r s
+    → component_token s l ≡ taken t m
     → l ≡ with_token u n → s.due ≡ Keyword → is_placement_word u ≡ c
     → cond {A = Result (Taken (Turn ComponentParts)) ReadFault} c
-    (only_placement s.placement s.plus u n >>= λ x. taken (turn (record s { placement = Some x.value; due = Separator; point = is (codes "UNPLACED") u }) true) x.rest)
+    (only_placement s.placement s.plus u n >>= λ x. taken (turn (placed_state s u x.value) true) x.rest)
     (taken (turn (record s { due = Rest }) true) n) ≡ taken t m
     → TurnBefore r l m s t
 at_clause true r l m n s u t b h w due is_word e =
     let a = bind_ok (only_placement s.placement s.plus u n) _ _ e in
     let f = only_ok s.placement s.plus u n a.0.rest a.0.value is_word a.1 in
-    let d = ok_is (turn (record s { placement = Some a.0.value; due = Separator; point = is (codes "UNPLACED") u }) true) a.0.rest t m a.2 in
+    let d = ok_is (turn (placed_state s u a.0.value) true) a.0.rest t m a.2 in
     inr (inr (record {
       word = u;
       next = n;
@@ -270,7 +274,8 @@ at_clause true r l m n s u t b h w due is_word e =
 at_clause false r l m n s u t b h w due is_word e =
     passes r l m n s (record s { due = Rest }) u t b h w b.none (λ z. absurd (rest_not_keyword z)) (λ z. rest_not_separator z) e
 
-at_part : (due : Due) (r : List Lexeme) (l m n : Lexed) (s : ComponentParts) (u : Lexeme) (t : Turn ComponentParts) → Before r s → component_token s l ≡ taken t m
+at_part : (due : Due) (r : List Lexeme) (l m n : Lexed) (s : ComponentParts) (u : Lexeme) (t : Turn ComponentParts) → Before r s
+    → component_token s l ≡ taken t m
     → l ≡ with_token u n → s.due ≡ due → component_part due s u n ≡ taken t m → TurnBefore r l m s t
 unfolding component_part clause
 at_part Item r l m n s u t b h w due e = passes r l m n s s u t b h w b.none (λ z. absurd (item_not_keyword (sym due ∙ z))) b.due e
@@ -278,7 +283,8 @@ at_part Keyword r l m n s u t b h w due e = at_clause (is_placement_word u) r l 
 at_part Rest r l m n s u t b h w due e = passes r l m n s s u t b h w b.none (λ z. absurd (rest_not_keyword (sym due ∙ z))) b.due e
 at_part Separator r l m n s u t b h w due e = absurd (b.due due)
 
-at_from : (c d : Bool) (r : List Lexeme) (l m n : Lexed) (s : ComponentParts) (u : Lexeme) (t : Turn ComponentParts) → Before r s → component_token s l ≡ taken t m
+at_from : (c d : Bool) (r : List Lexeme) (l m n : Lexed) (s : ComponentParts) (u : Lexeme) (t : Turn ComponentParts) → Before r s
+    → component_token s l ≡ taken t m
     → l ≡ with_token u n → is (codes ";") u ≡ c
     → cond {A = Result (Taken (Turn ComponentParts)) ReadFault} c (taken (turn (record s { semicolon = u.start }) false) n)
     (cond d (taken (turn (record s { due = Keyword; plus = u.start }) true) n) (component_part s.due s u n)) ≡ taken t m → TurnBefore r l m s t
@@ -297,7 +303,8 @@ at_from false true r l m n s u t b h w last e =
     (λ z. record { front = r; last = u; whole = refl; start = refl; old = s; none = b.none; reached = b.reached }) (λ z. keyword_not_separator z) e
 at_from false false r l m n s u t b h w last e = at_part s.due r l m n s u t b h w refl e
 
-turn_before : (r : List Lexeme) (l m : Lexed) (s : ComponentParts) (t : Turn ComponentParts) → Before r s → component_token s l ≡ taken t m → TurnBefore r l m s t
+turn_before : (r : List Lexeme) (l m : Lexed) (s : ComponentParts) (t : Turn ComponentParts) → Before r s → component_token s l ≡ taken t m
+    → TurnBefore r l m s t
 unfolding component_token component_from
 turn_before r l m s t b h =
     let a = token_ok l _ _ h in
@@ -387,9 +394,11 @@ nil_behind more point e = rw e (append-nil more)
 nil_before : (more point : List Lexeme) → more ≡ [] → more ++ point ≡ point
 nil_before more point e = rw e refl
 
-all_ends : (word : Lexeme) (more point : List Lexeme) (p placed : Placement) (unplaced_word : Bool) → ((is (codes "UNPLACED") word ≡ true) × (more ≡ [])) ⊎ IsPlace more
+all_ends : (word : Lexeme) (more point : List Lexeme) (p placed : Placement) (unplaced_word : Bool)
+    → ((is (codes "UNPLACED") word ≡ true) × (more ≡ [])) ⊎ IsPlace more
     → LastEnds p.stop word more → (unplaced_word ≡ true → more ≡ [])
-    → ((point ≡ []) × (placed ≡ p)) ⊎ ((unplaced_word ≡ true) × IsPlace point × (placed ≡ up_to_stop placed.stop p) × ((u : Lexeme) → LastEnds placed.stop u point))
+    → ((point ≡ []) × (placed ≡ p)) ⊎ ((unplaced_word ≡ true) × IsPlace point × (placed ≡ up_to_stop placed.stop p)
+    × ((u : Lexeme) → LastEnds placed.stop u point))
     → (LastIs placed.stop word (more ++ point)) × (placed.start ≡ p.start)
 all_ends word more point p placed unplaced_word is_more ends bare (inl h) =
     (rw (h.1, nil_behind more point h.0) (clause_ends p.stop word more is_more ends), ap (λ (z : Placement). z.start) h.1)
@@ -430,7 +439,8 @@ found n r l rest m s y t f e =
         state = t.state;
         due = f.due;
         behind = λ q c s' a p x.
-            let h = turns_follow bare_parts component_token component_token_follows component_token_goes b.turns (swap q c t.state) s' (swap q c y) b.rest m a (b.same q c) in
+            let h = turns_follow bare_parts component_token component_token_follows component_token_goes b.turns (swap q c t.state) s' (swap q c y) b.rest m a
+            (b.same q c) in
             h.again p (x ∙ ap (λ (z : List Lexeme). map plain z) (same_run g.run h.run b.rest m g.whole h.whole));
       },
     )

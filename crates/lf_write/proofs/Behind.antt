@@ -1,5 +1,6 @@
 -- What stands behind the placement clause of a component is read alike, whatever the clause says.
-use Rattle.std.proofs.Common.{◌≡◌, ◌⊎◌, ℕ, zero, suc, Bool, true, false, ◌&&◌, cond, List, [], ◌∷◌, Option, Some, None, Result, Ok, inl, inr, refl, sym, ap, ◌∙◌}
+use Rattle.std.proofs.Common.{◌≡◌, ◌⊎◌, ℕ, zero, suc, Bool, true, false, ◌&&◌, cond, List, [], ◌∷◌, Option, Some, None, Result, Ok, inl, inr, refl}
+use Rattle.std.proofs.Common.{sym, ap, ◌∙◌}
 use Rattle.std.specs.Prelude.{codes}
 use Rattle.std.specs.Str.{bytes_eq}
 use Rattle.std.specs.Option.{option_map}
@@ -20,6 +21,10 @@ use Rattle.lf_def.proofs.Clauses.{bind_ok, token_ok, if_ok, located_ok}
 -- what is known of a component, with another clause
 abbrev pub swap : Placement → Bool → ComponentParts → ComponentParts
 swap q b s = record s { placement = Some q; point = b }
+
+-- what is known behind the word and the place of the clause
+abbrev pub placed_state : ComponentParts → Lexeme → Placement → ComponentParts
+placed_state s u p = record s { placement = Some p; due = Separator; point = is (codes "UNPLACED") u }
 
 -- one turn behind the clause: with another clause the turn is the same
 pub record Swaps (q : Placement) (b : Bool) (s : ComponentParts) (t : Turn ComponentParts) : Type 0 where
@@ -55,22 +60,26 @@ keyword_not : Keyword ≡ Separator → ⊥
 keyword_not e = cc
 
 -- a second placement clause is a fault
-no_second : (first : Option Placement) (p : Placement) (plus : ℕ) (u : Lexeme) (l : Lexed) (x : Taken Placement) → first ≡ Some p → only_placement first plus u l ≡ Ok x → ⊥
+no_second : (first : Option Placement) (p : Placement) (plus : ℕ) (u : Lexeme) (l : Lexed) (x : Taken Placement) → first ≡ Some p
+    → only_placement first plus u l ≡ Ok x → ⊥
 unfolding only_placement
 no_second None p plus u l x e h = cc
 no_second (Some first) p plus u l x e h = cc
 
-swap_clause : (c : Bool) (q : Placement) (b : Bool) (n m : Lexed) (s : ComponentParts) (u : Lexeme) (t : Turn ComponentParts) (p : Placement) → s.placement ≡ Some p
+swap_clause : (c : Bool) (q : Placement) (b : Bool) (n m : Lexed) (s : ComponentParts) (u : Lexeme) (t : Turn ComponentParts) (p : Placement)
+    → s.placement ≡ Some p
     → cond {A = Result (Taken (Turn ComponentParts)) ReadFault} c
-    (only_placement s.placement s.plus u n >>= λ x. taken (turn (record s { placement = Some x.value; due = Separator; point = is (codes "UNPLACED") u }) true) x.rest)
+    (only_placement s.placement s.plus u n >>= λ x. taken (turn (placed_state s u x.value) true) x.rest)
     (taken (turn (record s { due = Rest }) true) n) ≡ taken t m
     → Same q b (cond {A = Result (Taken (Turn ComponentParts)) ReadFault} c
-    (only_placement (Some q) s.plus u n >>= λ x. taken (turn (record (swap q b s) { placement = Some x.value; due = Separator; point = is (codes "UNPLACED") u }) true) x.rest)
+    (only_placement (Some q) s.plus u n >>= λ x. taken (turn (placed_state (swap q b s) u x.value) true) x.rest)
     (taken (turn (record (swap q b s) { due = Rest }) true) n)) s t m
-swap_clause true q b n m s u t p has e = let a = bind_ok (only_placement s.placement s.plus u n) _ _ e in absurd (no_second s.placement p s.plus u n a.0 has a.1)
+swap_clause true q b n m s u t p has e = let a = bind_ok (only_placement s.placement s.plus u n) _ _ e in absurd
+    (no_second s.placement p s.plus u n a.0 has a.1)
 swap_clause false q b n m s u t p has e = same q b s (record s { due = Rest }) true n m t refl (λ x y. rest_not y) e
 
-swap_part : (due : Due) (q : Placement) (b : Bool) (n m : Lexed) (s : ComponentParts) (u : Lexeme) (t : Turn ComponentParts) (p : Placement) → s.placement ≡ Some p
+swap_part : (due : Due) (q : Placement) (b : Bool) (n m : Lexed) (s : ComponentParts) (u : Lexeme) (t : Turn ComponentParts) (p : Placement)
+    → s.placement ≡ Some p
     → (due ≡ Separator → (s.point && is (codes "(") u) ≡ false) → s.due ≡ due → component_part due s u n ≡ taken t m
     → Same q b (component_part due (swap q b s) u n) s t m
 unfolding component_part clause
@@ -79,7 +88,8 @@ swap_part Keyword q b n m s u t p has point d e = swap_clause (is_placement_word
 swap_part Rest q b n m s u t p has point d e = same q b s s true n m t refl (λ x y. rest_not (sym d ∙ y)) e
 swap_part Separator q b n m s u t p has point d e = let a = if_ok (s.point && is (codes "(") u) _ _ _ e in absurd (not_either (sym (point refl) ∙ a.0))
 
-swap_from : (c d : Bool) (q : Placement) (b : Bool) (n m : Lexed) (s : ComponentParts) (u : Lexeme) (t : Turn ComponentParts) (p : Placement) → s.placement ≡ Some p
+swap_from : (c d : Bool) (q : Placement) (b : Bool) (n m : Lexed) (s : ComponentParts) (u : Lexeme) (t : Turn ComponentParts) (p : Placement)
+    → s.placement ≡ Some p
     → (s.due ≡ Separator → (s.point && is (codes "(") u) ≡ false)
     → cond {A = Result (Taken (Turn ComponentParts)) ReadFault} c (taken (turn (record s { semicolon = u.start }) false) n)
     (cond d (taken (turn (record s { due = Keyword; plus = u.start }) true) n) (component_part s.due s u n)) ≡ taken t m
@@ -99,7 +109,8 @@ swap_first q b n m s u t p has point e = swap_from (is (codes ";") u) (is (codes
 abbrev SameTurns : Placement → Bool → ℕ → Lexed → Lexed → ComponentParts → ComponentParts → Placement → Type 0
 SameTurns q b n l m s y p = (statements component_token n (swap q b s) l ≡ taken (swap q b y) m) × (y.placement ≡ Some p)
 
-swap_next : (n : ℕ) (q : Placement) (b : Bool) (m rest : Lexed) (s y : ComponentParts) (p : Placement) (t : Turn ComponentParts) → Swaps q b s t → s.placement ≡ Some p
+swap_next : (n : ℕ) (q : Placement) (b : Bool) (m rest : Lexed) (s y : ComponentParts) (p : Placement) (t : Turn ComponentParts) → Swaps q b s t
+    → s.placement ≡ Some p
     → (t.state.placement ≡ Some p → (t.state.due ≡ Separator → ⊥) → statements component_token n t.state rest ≡ taken y m → SameTurns q b n rest m t.state y p)
     → (more : Bool) → t.more ≡ more → cond more (statements component_token n t.state rest) (taken t.state rest) ≡ taken y m
     → (cond more (statements component_token n (swap q b t.state) rest) (taken (swap q b t.state) rest) ≡ taken (swap q b y) m) × (y.placement ≡ Some p)
@@ -111,16 +122,19 @@ swap_next n q b m rest s y p t f has next false more_is e =
     )
 
 -- a turn, and what is read behind it
-turn_then : (n : ℕ) (s s1 : ComponentParts) (l rest : Lexed) (more : Bool) (r : Result (Taken ComponentParts) ReadFault) → component_token s l ≡ taken (turn s1 more) rest
+turn_then : (n : ℕ) (s s1 : ComponentParts) (l rest : Lexed) (more : Bool) (r : Result (Taken ComponentParts) ReadFault)
+    → component_token s l ≡ taken (turn s1 more) rest
     → cond more (statements component_token n s1 rest) (taken s1 rest) ≡ r → statements component_token (suc n) s l ≡ r
 unfolding statements
 turn_then n s s1 l rest more r e f = rw e f
 
-first_turn : (s : ComponentParts) (l n m : Lexed) (u : Lexeme) (t : Turn ComponentParts) → l ≡ with_token u n → component_from s u n ≡ taken t m → component_token s l ≡ taken t m
+first_turn : (s : ComponentParts) (l n m : Lexed) (u : Lexeme) (t : Turn ComponentParts) → l ≡ with_token u n → component_from s u n ≡ taken t m
+    → component_token s l ≡ taken t m
 unfolding component_token
 first_turn s l n m u t w e = rw w e
 
-swap_all : (n : ℕ) (q : Placement) (b : Bool) (l m : Lexed) (s y : ComponentParts) (p : Placement) → s.placement ≡ Some p → (s.due ≡ Separator → s.point ≡ false)
+swap_all : (n : ℕ) (q : Placement) (b : Bool) (l m : Lexed) (s y : ComponentParts) (p : Placement) → s.placement ≡ Some p
+    → (s.due ≡ Separator → s.point ≡ false)
     → statements component_token n s l ≡ taken y m → SameTurns q b n l m s y p
 unfolding statements component_token
 swap_all zero q b l m s y p has point e = absurd cc
@@ -128,7 +142,8 @@ swap_all (suc n) q b l m s y p has point e =
     let a = bind_ok (component_token s l) _ _ e in
     let u = token_ok l _ _ a.1 in
     let f = swap_first q b u.1 a.0.rest s u.0 a.0.value p has (λ h. no_point s.point (is (codes "(") u.0) (point h)) u.3 in
-    let g = swap_next n q b m a.0.rest s y p a.0.value f.1 has (λ h k x. swap_all n q b a.0.rest m a.0.value.state y p h (λ z. absurd (k z)) x) a.0.value.more refl a.2 in
+    let g = swap_next n q b m a.0.rest s y p a.0.value f.1 has (λ h k x. swap_all n q b a.0.rest m a.0.value.state y p h
+    (λ z. absurd (k z)) x) a.0.value.more refl a.2 in
     (turn_then n (swap q b s) (swap q b a.0.value.state) l a.0.rest a.0.value.more _ (first_turn (swap q b s) l u.1 a.0.rest u.0 _ u.2 f.0) g.0, g.1)
   where
     no_point : (x y : Bool) → x ≡ false → (x && y) ≡ false
@@ -141,7 +156,8 @@ pub record Behind (l m : Lexed) (s y : ComponentParts) (p : Placement) : Type 0 
   pub rest : Lexed
   pub whole : l ≡ with_tokens point rest
   pub placed : Placement
-  pub point_is : ((point ≡ []) × (placed ≡ p)) ⊎ ((s.point ≡ true) × IsPlace point × (placed ≡ up_to_stop placed.stop p) × ((u : Lexeme) → LastEnds placed.stop u point))
+  pub point_is : ((point ≡ []) × (placed ≡ p)) ⊎ ((s.point ≡ true) × IsPlace point × (placed ≡ up_to_stop placed.stop p)
+      × ((u : Lexeme) → LastEnds placed.stop u point))
   pub placement : y.placement ≡ Some placed
   pub turns : ℕ
   pub same : (q : Placement) (b : Bool) → statements component_token turns (swap q b s) rest ≡ taken (swap q b y) m
@@ -234,7 +250,8 @@ behind_by : (n : ℕ) (l n1 m : Lexed) (s y : ComponentParts) (p : Placement) (u
     → s.due ≡ Separator → l ≡ with_token u n1 → component_from s u n1 ≡ taken t rest
     → cond t.more (statements component_token n t.state rest) (taken t.state rest) ≡ taken y m
     → (test : Bool) → (s.point && is (codes "(") u) ≡ test → Behind l m s y p
-behind_by n l n1 m s y p u rest t has due w e k true h = with_point n l n1 m s y p u rest t has due w h (point_turn s n1 rest t (point_from s u n1 rest t due h e)) k
+behind_by n l n1 m s y p u rest t has due w e k true h = with_point n l n1 m s y p u rest t has due w h
+    (point_turn s n1 rest t (point_from s u n1 rest t due h e)) k
 behind_by n l n1 m s y p u rest t has due w e k false h = record {
   point = [];
   rest = l;

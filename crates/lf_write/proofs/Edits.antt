@@ -57,7 +57,8 @@ pub record Made {S A D E : Type 0} (like : S → D) (bare : A → E) (reader : S
   pub again : (s' : S) → like s' ≡ like s → BackAt bare (reader s') tokens x
 
 -- One turn, where `all` is the splices of what is known and `place` what becomes of it.
-pub record MadeTurn {S D : Type 0} (bare : S → D) (place : S → S) (all : S → List Splice) (statement : Statement S) (l m : Lexed) (s : S) (t : Turn S) : Type 0 where
+pub record MadeTurn {S D : Type 0} (bare : S → D) (place : S → S) (all : S → List Splice) (statement : Statement S) (l m : Lexed) (s : S)
+    (t : Turn S) : Type 0 where
   pub made : List Splice
   pub grown : all t.state ≡ all s ++ made
   pub run : List Lexeme

@@ -1,5 +1,6 @@
 -- What splices make of a COMPONENTS section.
-use Rattle.std.proofs.Common.{◌≡◌, ℕ, ◌+◌, Bool, true, false, cond, List, [], ◌∷◌, ◌++◌, map, length, Option, Some, None, Result, Err, refl, sym, ap, ◌∙◌, arith}
+use Rattle.std.proofs.Common.{◌≡◌, ℕ, ◌+◌, Bool, true, false, cond, List, [], ◌∷◌, ◌++◌, map, length, Option, Some, None, Result, Err, refl, sym, ap}
+use Rattle.std.proofs.Common.{◌∙◌, arith}
 use Rattle.std.specs.Prelude.{codes, IfSome}
 use Rattle.std.specs.List.{cons_option, enumerate_from}
 use Rattle.std.proofs.lemmas.List.{append-nil}
@@ -53,7 +54,8 @@ keyword = codes "COMPONENTS"
 abbrev Entry : Given → Lexed → Lexed → List Component → Turn (List Component) → Type 0
 Entry places l m s t = MadeTurn bare_list (with_places places) (changes_from 0 places) (entry_or_end keyword component) l m s t
 
-one_entry : (places : Given) → HavePlaces places → (l n m : Lexed) (s : List Component) (c : Component) (u : Lexeme) → l ≡ with_token u n → is (codes "-") u ≡ true
+one_entry : (places : Given) → HavePlaces places → (l n m : Lexed) (s : List Component) (c : Component) (u : Lexeme) → l ≡ with_token u n
+    → is (codes "-") u ≡ true
     → component n ≡ taken c m → Entry places l m s (turn (s ++ c ∷ []) true)
 unfolding entry_or_end
 one_entry places h l n m s c u w minus e =
@@ -78,7 +80,8 @@ one_entry places h l n m s c u w minus e =
           ∙ ap bare_list (sym (placed_end 0 (length s) places s c (omega arith)))))));
     }
 
-last_entry : (places : Given) (l n m : Lexed) (s : List Component) (u : Lexeme) (x : Unit {0}) → l ≡ with_token u n → is (codes "-") u ≡ false → is (codes "END") u ≡ true
+last_entry : (places : Given) (l n m : Lexed) (s : List Component) (u : Lexeme) (x : Unit {0}) → l ≡ with_token u n → is (codes "-") u ≡ false
+    → is (codes "END") u ≡ true
     → end_name keyword n ≡ taken x m → Entry places l m s (turn s false)
 unfolding entry_or_end
 last_entry places l n m s u x w minus end e =
@@ -96,7 +99,8 @@ last_entry places l n m s u x w minus end e =
           at_first (turn_bare bare_list) _ (plain u) (map plain f.run) (turn (with_places places s) false) (λ t' e'.
           at_no (turn_bare bare_list) (is (codes "-") t') _ _ (map plain f.run) (turn (with_places places s) false) (is_alike (codes "-") u t' e' ∙ minus)
           (at_yes (turn_bare bare_list) (is (codes "END") t') _ _ (map plain f.run) (turn (with_places places s) false) (is_alike (codes "END") u t' e' ∙ end)
-          (at_map same (turn_bare bare_list) (end_name keyword) (λ (z : Unit {0}). turn s' false) (map plain f.run) x (turn (with_places places s) false) f.again
+          (at_map same (turn_bare bare_list) (end_name keyword) (λ (z : Unit {0}). turn s' false) (map plain f.run) x
+          (turn (with_places places s) false) f.again
           (λ z ez. ap (λ (v : List Component). turn v false) a))));
     }
 

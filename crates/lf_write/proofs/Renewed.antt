@@ -101,10 +101,12 @@ new_clause (Some p) h s y none rest next s' a =
     let words = map word_of (kind_word Placed ∷ place_words signed_decimal (Some (as_location p))) in
     at_more bare_parts component_token s' due_word y (word_of (codes "+") ∷ []) (words ++ rest) (omega arith) (plus_back s s' a) (λ s1 a1.
     at_more bare_parts component_token s1 (behind_new (Some p)) y words rest (omega arith)
-    (clause_at signed_decimal decimals_are_read Placed (Some (as_location p)) h s1 (none_alike due_word s1 none a1) (due_alike due_word s1 Keyword refl a1)) next)
+    (clause_at signed_decimal decimals_are_read Placed (Some (as_location p)) h s1 (none_alike due_word s1 none a1)
+    (due_alike due_word s1 Keyword refl a1)) next)
 
 -- the semicolon
-stop_back : (s' y : ComponentParts) (u : Lexeme) → is (codes ";") u ≡ true → Alike y s' → BackAt (turn_bare bare_parts) (component_token s') (plain u ∷ []) (turn y false)
+stop_back : (s' y : ComponentParts) (u : Lexeme) → is (codes ";") u ≡ true → Alike y s'
+    → BackAt (turn_bare bare_parts) (component_token s') (plain u ∷ []) (turn y false)
 unfolding component_token component_from
 stop_back s' y u h a =
     at_first (turn_bare bare_parts) _ (plain u) [] (turn y false)
@@ -156,12 +158,14 @@ makes_other p semicolon given q plus middle after e f = rw e f
 three_runs : (a b front : List Lexeme) (rest : List Plain) → map plain (a ++ (b ++ front)) ++ rest ≡ map plain a ++ (map plain b ++ (map plain front ++ rest))
 three_runs a b front rest =
     ap (λ (z : List Plain). z ++ rest) (map-append plain a (b ++ front) ∙ ap (λ (z : List Plain). map plain a ++ z) (map-append plain b front))
-    ∙ append_assoc (map plain a) (map plain b ++ map plain front) rest ∙ ap (λ (z : List Plain). map plain a ++ z) (append_assoc (map plain b) (map plain front) rest)
+    ∙ append_assoc (map plain a) (map plain b ++ map plain front) rest
+    ∙ ap (λ (z : List Plain). map plain a ++ z) (append_assoc (map plain b) (map plain front) rest)
 
 three_wholes : (a b front back : List Lexeme) (l1 l2 l3 m : Lexed) → l1 ≡ with_tokens a l2 → l2 ≡ with_tokens b l3 → l3 ≡ with_tokens (front ++ back) m
     → l1 ≡ with_tokens ((a ++ (b ++ front)) ++ back) m
 three_wholes a b front back l1 l2 l3 m e f g =
-    e ∙ ap (λ (z : Lexed). with_tokens a z) (f ∙ ap (λ (z : Lexed). with_tokens b z) g ∙ sym (with_both b (front ++ back) m)) ∙ sym (with_both a (b ++ (front ++ back)) m)
+    e ∙ ap (λ (z : Lexed). with_tokens a z) (f ∙ ap (λ (z : Lexed). with_tokens b z) g ∙ sym (with_both b (front ++ back) m))
+    ∙ sym (with_both a (b ++ (front ++ back)) m)
     ∙ ap (λ (z : List Lexeme). with_tokens z m)
     (ap (λ (z : List Lexeme). a ++ z) (sym (append_assoc b front back)) ∙ sym (append_assoc a (b ++ front) back))
 
@@ -187,7 +191,8 @@ swap_is : (q : Placement) (b : Bool) (s : ComponentParts) → s.due ≡ Separato
 swap_is q b s e = rw e refl
 
 -- where it has one
-other_one : (given : Option Place) → HasPlace given → (l1 l2 l3 m : Lexed) (c : Component) (na nb : Lexeme) (a b : List Lexeme) (y : ComponentParts) (p : Placement)
+other_one : (given : Option Place) → HasPlace given → (l1 l2 l3 m : Lexed) (c : Component) (na nb : Lexeme) (a b : List Lexeme) (y : ComponentParts)
+    (p : Placement)
     → l1 ≡ with_tokens a l2 → l2 ≡ with_tokens b l3 → BackAt plain name (map plain a) na → BackAt plain name (map plain b) nb
     → na.text ≡ c.name → nb.text ≡ c.mac → c.placement ≡ y.placement → y.placement ≡ Some p → Found [] l3 m y p → Renewed l1 m c given
 other_one given h l1 l2 l3 m c na nb a b y p wa wb fa fb ea eb placement is_placed f =
@@ -228,7 +233,8 @@ renewed given h l m c e =
     let fb = name_follows a.0.rest b.0.rest b.0.value b.1 in
     let o = parts_found _ b.0.rest d.0.rest d.0.value d.1 in
     by_outcome given h l a.0.rest b.0.rest m c a.0.value b.0.value fa.run fb.run d.0.value fa.whole fb.whole fa.again fb.again
-    (ap (λ (z : Component). z.name) g.0) (ap (λ (z : Component). z.mac) g.0) (sym (ap (λ (z : Component). z.placement) g.0)) (sym (ap (λ (z : Component). z.semicolon) g.0))
+    (ap (λ (z : Component). z.name) g.0) (ap (λ (z : Component). z.mac) g.0) (sym (ap (λ (z : Component). z.placement) g.0))
+    (sym (ap (λ (z : Component). z.semicolon) g.0))
     (rw g.1 at o)
 
 -- A component that may be given a place: what the splices make of its tokens, and what is read from that.

@@ -1,5 +1,5 @@
 -- A component stands at a place where its location is that place.
-use Rattle.std.proofs.Common.{◌≡◌, ◌↔◌, ℕ, Bool, true, ◌&&◌, List, ℤ, Option, Some, None, Result, Ok, refl, sym, ap, ◌∙◌}
+use Rattle.std.proofs.Common.{◌≡◌, ◌↔◌, ℕ, Bool, true, false, ◌&&◌, List, ℤ, Option, Some, None, Result, Ok, refl, sym, ap, ◌∙◌}
 use Rattle.std.specs.Prelude.{bytes_eq, IsTrue, option_map}
 use Rattle.std.specs.Ordering.{int_eq}
 use Rattle.std.proofs.lemmas.Bool.Decides.{Decides-int_eq}
@@ -14,7 +14,7 @@ use Rattle.lf_floorplan.specs.declared.place.Place.{Place}
 use Rattle.lf_def.specs.declared.components.Component.{Component}
 use Rattle.lf_def.specs.declared.components.Location.{Location}
 use Rattle.lf_def.specs.Coordinates.{orient_of}
-use Rattle.lf_write.specs.Export.{location, as_location, is_at, stands_at}
+use Rattle.lf_write.specs.Export.{location, as_location, is_at, stands_at, with_place}
 
 read_word : (o : Orient) → orient_of (token_with (orient_word o)) ≡ Ok o
 read_word N = refl
@@ -67,3 +67,13 @@ stands_by (Some l) (Some p) = (
 
 pub stands_there : (c : Component) (given : Option Place) → IsTrue (stands_at c given) ↔ (location c ≡ option_map as_location given)
 stands_there c given = stands_by (location c) given
+
+given_by : (c : Component) (given : Option Place) (test : Bool) → stands_at c given ≡ test
+    → (location (with_place given c) ≡ option_map as_location given) × ((with_place given c).name ≡ c.name) × ((with_place given c).mac ≡ c.mac)
+given_by c given true e = rw e ((stands_there c given).0 e, refl, refl)
+given_by c None false e = rw e (refl, refl, refl)
+given_by c (Some p) false e = rw e (refl, refl, refl)
+
+pub given_stands : (c : Component) (given : Option Place)
+    → (location (with_place given c) ≡ option_map as_location given) × ((with_place given c).name ≡ c.name) × ((with_place given c).mac ≡ c.mac)
+given_stands c given = given_by c given (stands_at c given) refl

@@ -67,19 +67,22 @@ body_by false false false false false cs s t l m x h f = unread_by cs s x m (λ 
 body_unread : (cs : List Component) (s : DocParts) (t : Lexeme) (l m : Lexed) (x : DocParts) → is (codes "COMPONENTS") t ≡ false
     → body_statement s t l ≡ taken x m → Unread cs s (body_statement (with_components cs s) t l) x m
 unfolding body_statement
-body_unread cs s t l m x h e = body_by (is (codes "ROW") t) (is (codes "REGIONS") t) (is (codes "GROUPS") t) (is (codes "COMPONENTS") t) (is (codes "BLOCKAGES") t)
+body_unread cs s t l m x h e = body_by (is (codes "ROW") t) (is (codes "REGIONS") t) (is (codes "GROUPS") t) (is (codes "COMPONENTS") t)
+    (is (codes "BLOCKAGES") t)
     cs s t l m x h e
 
 abbrev TurnUnread : List Component → DocParts → Result (Taken (Turn DocParts)) ReadFault → Turn DocParts → Lexed → Type 0
 TurnUnread cs s reading t m = (reading ≡ taken (turn (with_components cs t.state) t.more) m) × (t.state.components ≡ s.components)
 
-turn_unread_by : {A : Type 0} (cs : List Component) (s : DocParts) (t : Turn DocParts) (m : Lexed) (more : Bool) (k : A → DocParts) (r : Result (Taken A) ReadFault)
+turn_unread_by : {A : Type 0} (cs : List Component) (s : DocParts) (t : Turn DocParts) (m : Lexed) (more : Bool) (k : A → DocParts)
+    (r : Result (Taken A) ReadFault)
     → ((x : A) → (k x).components ≡ s.components) → (r >>= λ x. taken (turn (k x.value) more) x.rest) ≡ taken t m
     → TurnUnread cs s (r >>= λ x. taken (turn (with_components cs (k x.value)) more) x.rest) t m
 turn_unread_by cs s t m more k (Err q) kept e = absurd cc
 turn_unread_by cs s t m more k (Ok x) kept e =
     let f = ok_is (turn (k x.value) more) x.rest t m e in (
-      ap (λ (z : Turn DocParts). taken (turn (with_components cs z.state) z.more) x.rest) f.0 ∙ ap (λ (z : Lexed). taken (turn (with_components cs t.state) t.more) z) f.1,
+      ap (λ (z : Turn DocParts). taken (turn (with_components cs z.state) z.more) x.rest) f.0
+          ∙ ap (λ (z : Lexed). taken (turn (with_components cs t.state) t.more) z) f.1,
       sym (ap (λ (z : Turn DocParts). z.state.components) f.0) ∙ kept x.value,
     )
 
@@ -118,7 +121,8 @@ from_unread : (cs : List Component) (s : DocParts) (l m : Lexed) (u : Lexeme) (t
 unfolding statement_from
 from_unread cs s l m u t h e = from_by (is (codes "END") u) (is_header u) cs s l m u t h e
 
-statement_unread : (cs : List Component) (s : DocParts) (l n m : Lexed) (u : Lexeme) (t : Turn DocParts) → l ≡ with_token u n → is (codes "COMPONENTS") u ≡ false
+statement_unread : (cs : List Component) (s : DocParts) (l n m : Lexed) (u : Lexeme) (t : Turn DocParts) → l ≡ with_token u n
+    → is (codes "COMPONENTS") u ≡ false
     → statement_from s u n ≡ taken t m → TurnUnread cs s (statement (with_components cs s) l) t m
 unfolding statement
 statement_unread cs s l n m u t w h e = rw w (from_unread cs s n m u t h e)
@@ -147,7 +151,8 @@ other_made places l m s t kept e =
       tokens = map plain f.run;
       edited = refl;
       some = λ more.
-          let goes : statement (placed_doc places s) l ≡ taken (turn (placed_doc places t.state) true) m = e ∙ ap (λ (b : Bool). taken (turn (placed_doc places t.state) b) m) more in
+          let goes : statement (placed_doc places s) l ≡ taken (turn (placed_doc places t.state) true) m = e
+          ∙ ap (λ (b : Bool). taken (turn (placed_doc places t.state) b) m) more in
           some_run f.run l m f.whole (statement_goes (placed_doc places s) (placed_doc places t.state) l m goes);
       again = λ s' a p x.
           let g = statement_follows (placed_doc places s) s' a l m (turn (placed_doc places t.state) t.more) e in
@@ -211,7 +216,8 @@ by_keyword places h l n m s t u w e false k =
     other_made places l m s t f.1
     (f.0 ∙ ap (λ (z : List Component). taken (turn (with_components (with_places places z) t.state) t.more) m) (sym f.1))
 
-pub statement_made : (places : Given) → HavePlaces places → (s : DocParts) (l m : Lexed) (t : Turn DocParts) → statement s l ≡ taken t m → OneMade places l m s t
+pub statement_made : (places : Given) → HavePlaces places → (s : DocParts) (l m : Lexed) (t : Turn DocParts) → statement s l ≡ taken t m
+    → OneMade places l m s t
 unfolding statement
 statement_made places h s l m t e =
     let a = token_ok l _ _ e in

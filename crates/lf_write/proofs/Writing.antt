@@ -1,5 +1,6 @@
 -- The exported text, change by change.
-use Rattle.std.proofs.Common.{◌≡◌, ℕ, ◌+◌, ◌-◌, ◌<◌, ◌≤◌, Bool, true, false, List, [], ◌∷◌, ◌++◌, length, get_or, take, drop, Option, Some, None, refl, sym, ap, ◌∙◌, arith}
+use Rattle.std.proofs.Common.{◌≡◌, ℕ, ◌+◌, ◌-◌, ◌<◌, ◌≤◌, Bool, true, false, List, [], ◌∷◌, ◌++◌, length, get_or, take, drop, Option, Some, None}
+use Rattle.std.proofs.Common.{refl, sym, ap, ◌∙◌, arith}
 use Rattle.std.specs.Prelude.{slice_get, All, IfSome, ◌==◌}
 use Rattle.std.specs.List.{cons_option}
 use Rattle.std.specs.Option.{option_and_then}
@@ -10,7 +11,7 @@ use Rattle.std.proofs.lemmas.Bool.Decides.{nat_tests}
 use Rattle.lf_lex.specs.Splices.{Splice, spliced, Rising}
 use Rattle.lf_floorplan.specs.declared.place.Place.{Place}
 use Rattle.lf_def.specs.declared.components.Component.{Component}
-use Rattle.lf_write.specs.Export.{stands_at, clause_splice, change, change_at, changes, exported}
+use Rattle.lf_write.specs.Export.{stands_at, splice_of, change, change_at, changes, exported}
 use Rattle.lf_write.specs.Laws.{FitsText}
 use Rattle.lf_write.proofs.Positions.{Given}
 
@@ -43,13 +44,10 @@ first_left cs places i g c k =
     ∙ ap (λ (z : Option Component). cons_option (option_and_then (λ d. change d g.1) z) (changes cs (drop (i + 1) places)))
     (slice_get_read cs (length cs) g.0 c refl k.within k.component)
 
-abbrev pub splice_for : Component → Option Place → Splice
-splice_for c given = clause_splice c.placement c.semicolon given
-
 standing : (c : Component) (given : Option Place) (ss : List Splice) → stands_at c given ≡ true → cons_option (change c given) ss ≡ ss
 standing c given ss e = rw e refl
 
-moving : (c : Component) (given : Option Place) (ss : List Splice) → stands_at c given ≡ false → cons_option (change c given) ss ≡ splice_for c given ∷ ss
+moving : (c : Component) (given : Option Place) (ss : List Splice) → stands_at c given ≡ false → cons_option (change c given) ss ≡ splice_of c given ∷ ss
 moving c given ss e = rw e refl
 
 pub written_standing : {text : List ℕ} {cs : List Component} {places : Given} {i at : ℕ} {out : List ℕ} {g : ℕ × Option Place} {c : Component}
@@ -65,11 +63,11 @@ rising_within at len (s ∷ ss) h = omega (arith, h.0, h.1, rising_within s.stop
 -- what is left begins with the change of this component
 pub ready : {text : List ℕ} {cs : List Component} {places : Given} {i at : ℕ} {out : List ℕ} {g : ℕ × Option Place} {c : Component}
     → Listed cs places i g c → stands_at c g.1 ≡ false → Written text cs places i at out
-    → (at ≤ (splice_for c g.1).start) × ((splice_for c g.1).start ≤ length text)
+    → (at ≤ (splice_of c g.1).start) × ((splice_of c g.1).start ≤ length text)
 ready {text = text} {cs = cs} {places = places} {i = i} {g = g} {c = c} k moves w =
     let e = first_left cs places i g c k ∙ moving c g.1 (changes cs (drop (i + 1) places)) moves in
     let r = rw e at w.rising in
-    (r.0, omega (arith, r.1, rising_within (splice_for c g.1).stop (length text) (changes cs (drop (i + 1) places)) r.2))
+    (r.0, omega (arith, r.1, rising_within (splice_of c g.1).stop (length text) (changes cs (drop (i + 1) places)) r.2))
 
 one_made : (text : List ℕ) (at : ℕ) (out out' : List ℕ) (s : Splice) (ss : List Splice) → at ≤ s.start → s.start ≤ s.stop
     → out' ≡ out ++ (take (s.start - at) (drop at text) ++ s.new)
@@ -86,12 +84,12 @@ one_made text at out out' s ss le le' e =
 
 pub written_change : {text : List ℕ} {cs : List Component} {places : Given} {i at stop : ℕ} {out out' : List ℕ} {g : ℕ × Option Place} {c : Component}
     → Listed cs places i g c → stands_at c g.1 ≡ false → Written text cs places i at out
-    → out' ≡ out ++ (take ((splice_for c g.1).start - at) (drop at text) ++ (splice_for c g.1).new) → stop ≡ (splice_for c g.1).stop
+    → out' ≡ out ++ (take ((splice_of c g.1).start - at) (drop at text) ++ (splice_of c g.1).new) → stop ≡ (splice_of c g.1).stop
     → Written text cs places (i + 1) stop out'
 written_change {text = text} {cs = cs} {places = places} {i = i} {at = at} {out = out} {out' = out'} {g = g} {c = c} k moves w e stop_is =
     let f = first_left cs places i g c k ∙ moving c g.1 (changes cs (drop (i + 1) places)) moves in
     let r = rw f at w.rising in
-    let made = one_made text at out out' (splice_for c g.1) (changes cs (drop (i + 1) places)) r.0 r.1 e in
+    let made = one_made text at out out' (splice_of c g.1) (changes cs (drop (i + 1) places)) r.0 r.1 e in
     rw stop_is (record { rising = r.2; whole = made ∙ rw f at w.whole })
 
 pub written_last : {text : List ℕ} {cs : List Component} {places : Given} {i at : ℕ} {out : List ℕ} → length places ≤ i → Written text cs places i at out

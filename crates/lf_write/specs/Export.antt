@@ -53,9 +53,13 @@ abbrev pub clause_splice : Option Placement → ℕ → Option Place → Splice
 clause_splice None semicolon given = record { start = semicolon; stop = semicolon; new = joined (clause_words given) ++ codes " " }
 clause_splice (Some old) semicolon given = record { start = old.start; stop = old.stop; new = joined (clause_words given) }
 
+-- the clause of the component, written anew
+abbrev pub splice_of : Component → Option Place → Splice
+splice_of c given = clause_splice c.placement c.semicolon given
+
 -- what is replaced where the component is given this place: nothing, where it stands there
 abbrev pub change : Component → Option Place → Option Splice
-change c given = if stands_at c given then None else Some (clause_splice c.placement c.semicolon given)
+change c given = if stands_at c given then None else Some (splice_of c given)
 
 -- what is replaced where the component of that position is given that place
 abbrev pub change_at : List Component → ℕ × Option Place → Option Splice

@@ -5,7 +5,7 @@ use Rattle.lf_def.specs.declared.components.Component.{Component}
 use Rattle.lf_def.specs.Ranges.{IsLocation}
 use Rattle.lf_def.specs.Document.{Document, document_of}
 use Rattle.lf_def.specs.Laws.{document_without_places}
-use Rattle.lf_write.specs.Export.{Rise, location, as_location, stands_at, exported, given_places}
+use Rattle.lf_write.specs.Export.{Rise, location, as_location, stands_at, with_place, exported, given_places}
 
 -- the coordinates of a place that is given are such as a DEF text can hold
 abbrev pub FitsText : Option Place → Type 0
@@ -29,3 +29,8 @@ NothingChanges = (text : List ℕ) (components : List Component) (places : List 
 -- A component stands at a place where its location is that place, and at none where it has none.
 abbrev pub StandsThere : Type 0
 StandsThere = (c : Component) (given : Option Place) → IsTrue (stands_at c given) ↔ (location c ≡ option_map as_location given)
+
+-- A component that is given a place stands there, and is what it was besides.
+abbrev pub GivenStands : Type 0
+GivenStands = (c : Component) (given : Option Place) → (location (with_place given c) ≡ option_map as_location given)
+    × ((with_place given c).name ≡ c.name) × ((with_place given c).mac ≡ c.mac)

@@ -2,7 +2,7 @@
 
 ghost use Rattle.std.specs.Prelude.{◌≡◌, ◌++◌, ◌≤◌, ◌<◌, ◌-◌, All, OnOk, IfOk, take, drop, length};
 ghost use Rattle.lf_lex.specs.Splices.{Rising};
-ghost use Rattle.lf_write.specs.Export.{CanBeGiven, exported, changes, clause_splice};
+ghost use Rattle.lf_write.specs.Export.{CanBeGiven, exported, changes, splice_of};
 ghost use Rattle.lf_write.specs.Export as spec;
 ghost use Rattle.lf_write.specs.Laws.{FitsText, ReadsBack};
 ghost use Rattle.lf_def.specs.Contents.{contents};
@@ -65,10 +65,11 @@ fn put_change(
     component: &Component,
     place: &Option<Place>,
 ) -> Result<usize, AllocError>
-    requires order { at ≤ (clause_splice component.now.placement component.now.semicolon place.now).start }
-    requires within { (clause_splice component.now.placement component.now.semicolon place.now).start ≤ length text.now }
-    ensures bytes { OnOk result (out.new.items ≡ out.old.items ++ (take ((clause_splice component.now.placement component.now.semicolon place.now).start - at) (drop at text.now) ++ (clause_splice component.now.placement component.now.semicolon place.now).new)) }
-    ensures behind { IfOk result (λ stop. stop ≡ (clause_splice component.now.placement component.now.semicolon place.now).stop) }
+    requires order { at ≤ (splice_of component.now place.now).start }
+    requires within { (splice_of component.now place.now).start ≤ length text.now }
+    ensures bytes { OnOk result (out.new.items ≡ out.old.items
+        ++ (take ((splice_of component.now place.now).start - at) (drop at text.now) ++ (splice_of component.now place.now).new)) }
+    ensures behind { IfOk result (λ stop. stop ≡ (splice_of component.now place.now).stop) }
 {
     match &component.placement {
         Some(old) => {

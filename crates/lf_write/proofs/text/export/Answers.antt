@@ -24,6 +24,7 @@ pub returns-clause-again : goal.returns-clause-again
 returns-clause-again c =
     let d = c.args.document.now in
     let bytes = rw c.as_slice.ensures at c.text_with.ensures.bytes in
-    from_both c.text_with.result (λ text. text.items ≡ exported d.text.now d.components c.args.places.now) (λ text. ReadsBack text.items c.args.places.now (contents d))
+    from_both c.text_with.result (λ text. text.items ≡ exported d.text.now d.components c.args.places.now)
+    (λ text. ReadsBack text.items c.args.places.now (contents d))
     (λ text e fit. rw e (c.exports_read_back.ensures d.text.now (contents d) c.args.places.now d.read c.requires.places.rise fit))
     bytes c.text_with.ensures.fit
