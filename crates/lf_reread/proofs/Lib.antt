@@ -4,3 +4,5 @@ pub mod Words
 pub mod TeamParts
 pub mod Frames
 pub mod Elsewhere
+pub mod Given
+pub mod Again

@@ -1,3 +1,4 @@
 pub mod Spelled
 pub mod TeamDocument
 pub mod Moved
+pub mod Exports
