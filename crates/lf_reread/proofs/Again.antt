@@ -1,5 +1,5 @@
 -- A design that is exported with its cells at other places is loaded again as the design at these places.
-use Rattle.std.proofs.Common.{◌≡◌, ℕ, ◌+◌, ◌<◌, ◌≤◌, Bool, true, false, List, [], ◌∷◌, map, length, Option, Some, None, ℤ, negsuc, refl, sym, ap, ◌∙◌, arith}
+use Rattle.std.proofs.Common.{◌≡◌, ℕ, ◌+◌, ◌<◌, Bool, true, false, List, [], ◌∷◌, map, length, Option, Some, None, negsuc, refl, sym, ap, ◌∙◌, arith}
 use Rattle.std.specs.Prelude.{◌==◌, option_map, if◌then◌else◌, ◌<ℤ◌}
 use Rattle.std.specs.Option.{option_and_then}
 use Rattle.std.specs.List.{enumerate_from}
@@ -8,25 +8,20 @@ use Rattle.std.proofs.Math.Path.{Σ_path, to_path_p}
 use Rattle.std.proofs.lemmas.Bool.Decides.{nat_tests}
 use Rattle.lf_floorplan.specs.declared.place.Place.{Place}
 use Rattle.lf_floorplan.specs.declared.loaded.Cell.{Cell}
-use Rattle.lf_floorplan.specs.declared.loaded.Loaded.{Loaded}
 use Rattle.lf_def.specs.declared.components.Component.{Component}
 use Rattle.lf_def.specs.declared.components.Location.{Location}
 use Rattle.lf_def.specs.declared.components.Placement.{Placement}
-use Rattle.lf_def.specs.declared.components.PlacementKind.{PlacementKind}
-use Rattle.lf_def.specs.declared.components.PlacementKind.TheVariants.{Fixed, Cover, Placed, Unplaced}
 use Rattle.lf_def.specs.Document.{Document}
 use Rattle.lf_def.specs.Laws.{placement_without_places, without_places, document_without_places}
 use Rattle.lf_claims.specs.Teams.{is_movable}
-use Rattle.lf_refusals.specs.Findings.{Inputs}
-use Rattle.lf_frame.specs.Loads.{location, movables, movables_from, as_location, IsLoadedFrom}
+use Rattle.lf_frame.specs.Loads.{location, movables_from, as_location}
 use Rattle.lf_frame.specs.Alike.{settled}
 use Rattle.lf_frame.proofs.AlikeEntries.{movable_same, settled_without}
 use Rattle.lf_write.specs.Export.{Rise, stands_at, placement_at, with_place, given_to, perhaps_with_place, given_places}
-use Rattle.lf_write.specs.Laws.{FitsText}
 use Rattle.lf_write.proofs.Reading.{reads_back, have_places}
 use Rattle.lf_write.proofs.Standing.{stands_there}
-use Rattle.lf_reread.specs.Moved.{DifferInPlaces, settled_document, movable_locations, unplaced}
-use Rattle.lf_reread.specs.Exports.{AreForCells, with_document, ExportsLoadAgain}
+use Rattle.lf_reread.specs.Moved.{DifferInPlaces, settled_document, movable_locations}
+use Rattle.lf_reread.specs.Exports.{with_document, ExportsLoadAgain}
 use Rattle.lf_reread.proofs.Elsewhere.{positions_not_settled, accepted_elsewhere, loaded_elsewhere}
 use Rattle.lf_reread.proofs.Given.{Given, AreForMovables, by_first, rising, for_movables}
 

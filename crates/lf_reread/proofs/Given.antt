@@ -1,6 +1,6 @@
--- Places for the cells of a loaded design: which components are given them, and where these stand then.
+-- Places for the cells of a loaded design: which components are given them.
 use Rattle.std.proofs.Common.{◌≡◌, ℕ, ◌+◌, ◌≤◌, suc, Bool, true, false, List, [], ◌∷◌, map, length, Option, Some, None, All, refl, ap, ◌∙◌, arith}
-use Rattle.std.specs.Prelude.{◌<◌, IfSome, slice_get}
+use Rattle.std.specs.Prelude.{IfSome, slice_get}
 use Rattle.std.specs.List.{AllZip}
 use Rattle.std.proofs.lemmas.List.Elements.{All-nil, All-cons}
 use Rattle.lf_floorplan.specs.declared.place.Place.{Place}
@@ -26,7 +26,7 @@ AreForMovables n cs places = map (λ g. g.0) places ≡ map (λ e. e.0) (movable
 
 -- Movable components.
 
-pub neither : (c : Component) → is_movable c ≡ true → IsMovable c
+neither : (c : Component) → is_movable c ≡ true → IsMovable c
 neither c = by c.placement
   where
     by : (p : Option Placement) → is_movable (record c { placement = p }) ≡ true → IsMovable (record c { placement = p })

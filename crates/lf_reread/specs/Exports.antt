@@ -1,4 +1,4 @@
--- Loaded designs whose cells are given places: the exported text, loaded again.
+-- Loaded designs whose cells are given places: the exported text, loaded again (DEF COMPONENTS).
 use Rattle.std.specs.Prelude.{◌≡◌, ℕ, List, All, Option, map, Ok}
 use Rattle.lf_def.specs.Document.{Document, document_of}
 use Rattle.lf_floorplan.specs.declared.place.Place.{Place}

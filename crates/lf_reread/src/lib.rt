@@ -4,5 +4,6 @@
 mod laws;
 
 pub use laws::{
-    exported_designs_load_alike, loaded_cells_can_be_given, moved_designs_load_alike, team_text_reads_back,
+    exported_designs_load_alike, loaded_cells_can_be_given, moved_designs_load_alike,
+    team_text_reads_back,
 };
