@@ -8,3 +8,5 @@ pub mod ReadTokens
 pub mod Gives
 pub mod ReadNames
 pub mod LoadedTeams
+pub mod Given
+pub mod Again

@@ -3,3 +3,4 @@ pub mod TeamDocument
 pub mod Moved
 pub mod ReadDocuments
 pub mod LoadedTeams
+pub mod Exports

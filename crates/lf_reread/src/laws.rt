@@ -1,6 +1,7 @@
 //! What is true of written texts.
 
 ghost use Rattle.lf_reread.specs.LoadedTeams.{LoadedTeamsReadBack};
+ghost use Rattle.lf_reread.specs.Exports.{ExportsLoadAgain, LoadedCanBeGiven};
 ghost use Rattle.lf_reread.specs.Moved.{AcceptedElsewhere, FrameStays, LoadedElsewhere, PositionsAreNotSettled};
 ghost use Rattle.lf_reread.specs.ReadDocuments.{ReadIsSpelled};
 ghost use Rattle.lf_reread.specs.TeamDocument.{TeamTextReadsBack};
@@ -36,4 +37,17 @@ pub fn read_documents_are_spelled()
 /// In a team with a fence no cell may be named `+`, which no pattern of a group can be.
 pub fn loaded_teams_read_back()
     ensures { LoadedTeamsReadBack }
+{}
+
+/// The cells of a loaded design can be given places: their components lie in the document in the order of the
+/// cells, and are neither FIXED nor COVER.
+pub fn loaded_cells_can_be_given()
+    ensures { LoadedCanBeGiven }
+{}
+
+/// An export of a loaded design, in which each cell is given a place, loads again: the exported text reads, what
+/// it says is accepted with the same library and limits, and the design that is loaded from it has the same frame
+/// and the same cells at the given places. The places have to be some that a DEF text can hold.
+pub fn exported_designs_load_alike()
+    ensures { ExportsLoadAgain }
 {}

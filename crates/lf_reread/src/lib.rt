@@ -4,6 +4,6 @@
 mod laws;
 
 pub use laws::{
-    loaded_teams_read_back, moved_designs_load_alike, read_documents_are_spelled,
-    team_text_reads_back,
+    exported_designs_load_alike, loaded_cells_can_be_given, loaded_teams_read_back,
+    moved_designs_load_alike, read_documents_are_spelled, team_text_reads_back,
 };
