@@ -8,3 +8,4 @@ pub mod ReadTokens
 pub mod Gives
 pub mod ReadNames
 pub mod LoadedTeams
+pub mod OwnCells
