@@ -10,3 +10,4 @@ pub mod ReadNames
 pub mod LoadedTeams
 pub mod Given
 pub mod Again
+pub mod OwnCells

@@ -1,11 +1,12 @@
 -- The cells of a team of a loaded design, wherever they stand now, and that the team's text reads back.
-use Rattle.std.specs.Prelude.{◌≡◌, ◌≢◌, ℕ, ◌≤◌, List, All, Contains, IfSome, IsSome, Ok, codes, length, slice_get}
+use Rattle.std.specs.Prelude.{◌≡◌, ◌≢◌, ℕ, ◌≤◌, List, All, Contains, IfSome, IsSome, Ok, codes, length, map, slice_get}
 use Rattle.lf_def.specs.Document.{document_of}
 use Rattle.lf_def.specs.PrintedTexts.{SaysPlacesApart}
 use Rattle.lf_def.specs.Ranges.{IsLocation}
 use Rattle.lf_floorplan.specs.declared.loaded.Cell.{Cell as LoadedCell}
 use Rattle.lf_floorplan.specs.declared.loaded.Loaded.{Loaded}
 use Rattle.lf_cells.specs.declared.cell.Cell.{Cell}
+use Rattle.lf_cells.specs.Openings.{own_cells}
 use Rattle.lf_refusals.specs.Findings.{Inputs}
 use Rattle.lf_frame.specs.Loads.{as_location, IsLoadedFrom}
 use Rattle.lf_texts.specs.TeamText.{team_text}
@@ -25,6 +26,20 @@ pub record AreTeamCells (l : Loaded) (number : ℕ) (cells : List Cell) : Type 0
   pub few : length cells ≤ 4000000
   pub own : All (IsCellOfTeam l number) cells
   pub no_plus : IsSome (slice_get l.frame.teams number) → All (λ c. c.name ≢ codes "+") cells
+
+-- the name and the macro of a cell, which no command changes
+abbrev pub lasting : Cell → List ℕ × ℕ
+lasting c = (c.name, c.mac)
+
+-- the cells of the team of that number, in loading order, wherever they stand
+pub record AreOwnCells (l : Loaded) (number : ℕ) (cells : List Cell) : Type 0 where
+  pub same : map lasting cells ≡ map lasting (own_cells number l.cells)
+  pub places : All (λ c. IfSome c.working (λ p. IsLocation (as_location p))) cells
+  pub no_plus : IsSome (slice_get l.frame.teams number) → All (λ c. c.name ≢ codes "+") cells
+
+-- All cells of a team are cells of the team.
+abbrev pub OwnCellsAreTeamCells : Type 0
+OwnCellsAreTeamCells = (l : Loaded) (number : ℕ) (cells : List Cell) → AreOwnCells l number cells → AreTeamCells l number cells
 
 -- Of a design that is loaded from a text that was read, the text of a team reads back.
 abbrev pub LoadedTeamsReadBack : Type 0

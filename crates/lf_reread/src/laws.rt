@@ -1,7 +1,7 @@
 //! What is true of written texts.
 
-ghost use Rattle.lf_reread.specs.LoadedTeams.{LoadedTeamsReadBack};
 ghost use Rattle.lf_reread.specs.Exports.{ExportsLoadAgain, LoadedCanBeGiven};
+ghost use Rattle.lf_reread.specs.LoadedTeams.{LoadedTeamsReadBack, OwnCellsAreTeamCells};
 ghost use Rattle.lf_reread.specs.Moved.{AcceptedElsewhere, FrameStays, LoadedElsewhere, PositionsAreNotSettled};
 ghost use Rattle.lf_reread.specs.ReadDocuments.{ReadIsSpelled};
 ghost use Rattle.lf_reread.specs.TeamDocument.{TeamTextReadsBack};
@@ -34,9 +34,11 @@ pub fn read_documents_are_spelled()
 /// Of a design that is loaded from a text that was read, the DEF text of a team with its cells, wherever they
 /// stand now, reads back.
 ///
-/// In a team with a fence no cell may be named `+`, which no pattern of a group can be.
+/// In a team with a fence no cell may be named `+`, which no pattern of a group can be. Cells with the names and
+/// the macros of the team's cells as they were loaded are cells of the team.
 pub fn loaded_teams_read_back()
-    ensures { LoadedTeamsReadBack }
+    ensures texts { LoadedTeamsReadBack }
+    ensures cells { OwnCellsAreTeamCells }
 {}
 
 /// The cells of a loaded design can be given places: their components lie in the document in the order of the
