@@ -71,9 +71,10 @@ abbrev pub status_of : Fault → ℕ
 status_of (Refused fault) = 1
 status_of _ = 3
 
--- the fault of lines that did not end with the input; none where they did
+-- the fault of lines that ended neither with the input nor with 'bye'; none where they did
 abbrev pub ending_fault : Ending → Option Fault
 ending_fault ending.Done = None
+ending_fault ending.Bye = None
 ending_fault ending.ReadFault = Some ReadFault
 ending_fault ending.WriteFault = Some WriteFault
 ending_fault ending.OutOfMemory = Some OutOfMemory

@@ -5,7 +5,7 @@ use Rattle.lf_rules.specs.Legalizer.{Legalizer}
 use Rattle.lf_proto.specs.declared.request.Command.{Command}
 use Rattle.lf_proto.specs.declared.request.Command.TheVariants.{Bye, To}
 use Rattle.lf_proto.specs.declared.reply.Reply.{Reply}
-use Rattle.lf_proto.specs.declared.reply.Reply.TheVariants.{Report, Refused}
+use Rattle.lf_proto.specs.declared.reply.Reply.TheVariants.{Report, Def, Refused}
 use Rattle.lf_proto.specs.declared.reply.Refusal.TheVariants.{BadRequest, Unplaced, NoPlace, Illegal, OutOfMemory}
 use Rattle.lf_proto.specs.ReplyText.{reply_text}
 use Rattle.lf_proto.specs.Requests.{command_on}
@@ -35,14 +35,15 @@ abbrev pub team_of : Command (List ℕ) Place → List ℕ
 team_of Bye = []
 team_of (To team order) = team
 
--- the reply is a report
-abbrev pub is_report : Reply → Bool
-is_report (Report text) = true
-is_report _ = false
+-- the reply carries a text: it is a report or a DEF text
+abbrev pub has_text : Reply → Bool
+has_text (Report text) = true
+has_text (Def text) = true
+has_text _ = false
 
--- what is told of a reply: the reply, or OutOfMemory in the place of a report
+-- what is told of a reply: the reply, or OutOfMemory in the place of one that carries a text
 abbrev pub StandsIn : Reply → Reply → Type 0
-StandsIn reply told = (told ≡ reply) ⊎ ((is_report reply ≡ true) × (told ≡ Refused OutOfMemory))
+StandsIn reply told = (told ≡ reply) ⊎ ((has_text reply ≡ true) × (told ≡ Refused OutOfMemory))
 
 -- the text of what is told of the reply is put behind the others
 pub record Tells (floor : FloorState) (team : List ℕ) (reply : Reply) (before after : List ℕ) : Type 0 where

@@ -178,12 +178,12 @@ pub(crate) fn unread_fault<'a>(unread: Unread) -> Fault<'a>
     }
 }
 
-/// The fault of lines that did not end with the input; none where they did.
+/// The fault of lines that ended neither with the input nor with `bye`; none where they did.
 pub(crate) fn ending_fault<'a>(ending: Ending) -> Option<Fault<'a>>
     ensures { result ≡ ending_fault ending }
 {
     match ending {
-        Ending::Done => None,
+        Ending::Done | Ending::Bye => None,
         Ending::ReadFault => Some(Fault::ReadFault),
         Ending::WriteFault => Some(Fault::WriteFault),
         Ending::OutOfMemory => Some(Fault::OutOfMemory),

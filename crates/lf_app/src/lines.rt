@@ -3,7 +3,7 @@
 ghost use Rattle.std.specs.Prelude.{◌≡◌, ◌++◌, OnErr, OnOk, option_map};
 ghost use Rattle.lf_rules.specs.Legalizer.{Legalizer};
 ghost use Rattle.lf_proto.specs.Commands.{command_of};
-ghost use Rattle.lf_app.specs.Lines.{AnswersLine, Tells, cells_in, is_report, name_in, team_of, text_of};
+ghost use Rattle.lf_app.specs.Lines.{AnswersLine, Tells, cells_in, has_text, name_in, team_of, text_of};
 
 use lf_floor::Floor;
 use lf_legalize::PlainSeeker;
@@ -11,7 +11,7 @@ use lf_proto::{Command, Got, LineFramer, Refusal, Reply, Request, parse_line, re
 use std::alloc::{AllocError, Global};
 use std::io::{Read, Write};
 
-/// The most bytes of a line, and room for any reply but a report.
+/// The most bytes of a line, and room for any reply but one that carries a text.
 const LINE: usize = 4096;
 
 /// How the lines ended.
@@ -19,6 +19,8 @@ const LINE: usize = 4096;
 pub enum Ending {
     /// The input came to its end.
     Done,
+    /// A line was `bye`; nothing behind it was answered.
+    Bye,
     /// The reader failed.
     ReadFault,
     /// The writer failed, or took no byte.
@@ -68,15 +70,15 @@ fn put_reply(
     )
 }
 
-/// Whether the reply is a report.
-fn is_report(reply: &Reply) -> bool
-    ensures { result ≡ is_report reply.now }
+/// Whether the reply carries a text.
+fn has_text(reply: &Reply) -> bool
+    ensures { result ≡ has_text reply.now }
 {
-    matches!(reply, Reply::Report(_))
+    matches!(reply, Reply::Report(_) | Reply::Def(_))
 }
 
-/// Puts the text of a reply behind the others; a report that finds no memory is answered by that refusal, for which
-/// the buffer has room.
+/// Puts the text of a reply behind the others; one that carries a text and finds no memory is answered by that refusal,
+/// for which the buffer has room.
 fn put_told(
     floor: &Floor<PlainSeeker>,
     team: &[u8],
@@ -86,7 +88,7 @@ fn put_told(
     ensures { OnOk result (Tells floor.now team.now reply.now text.old.items text.new.items) }
 {
     match put_reply(floor, team, reply, text) {
-        Err(_) if is_report(reply) => {
+        Err(_) if has_text(reply) => {
             put_reply(floor, team, &Reply::Refused(Refusal::OutOfMemory), text)
         }
         put => put,
@@ -132,7 +134,15 @@ fn line_given(framer: &LineFramer, got: Got) -> Option<Option<&[u8]>> {
     }
 }
 
-/// Answers the line that the framer gave, if it gave one, and writes the reply.
+/// Whether the line ends the connection.
+fn is_bye(line: Option<&[u8]>) -> bool {
+    match line {
+        Some(bytes) => matches!(parse_line(bytes), Ok(Command::Bye)),
+        None => false,
+    }
+}
+
+/// Answers the line that the framer gave, if it gave one, and writes the reply; `Err` where nothing more is answered.
 fn answer_given<W: Write>(
     floor: &mut Floor<PlainSeeker>,
     framer: &LineFramer,
@@ -149,6 +159,9 @@ fn answer_given<W: Write>(
     }
     if writer.write_all(text).is_err() || writer.flush().is_err() {
         return Err(Ending::WriteFault);
+    }
+    if is_bye(line) {
+        return Err(Ending::Bye);
     }
     Ok(())
 }
@@ -170,7 +183,7 @@ fn answer_piece<W: Write>(
     Ok(())
 }
 
-/// Answers the lines of the reader, one reply to each, until the input ends or a device fails.
+/// Answers the lines of the reader, one reply to each, until the input ends, a line is `bye` or a device fails.
 ///
 /// Memory for one line and one reply is taken before the first read, so a line of any length is answered in
 /// bounded memory.

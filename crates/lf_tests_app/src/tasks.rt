@@ -34,7 +34,7 @@ fn told(status: u8) -> Exit {
 fn a_line_that_is_no_request_is_refused(rt: HostRuntime) -> Result<(), Fail> {
     let mut input = Vec::from_slice(
         rt.alloc(),
-        b"open A\n\nwhere A 0\nplace A 0 a1 2147483648 0 N\ndef A 0\n\xff\x00\nopen A\r\n",
+        b"open A\n\nwhere A 0\nplace A 0 a1 2147483648 0 N\ndef A\n\xff\x00\nopen A\r\n",
     )?;
     input.extend_from_slice(b"open A")?;
     for _ in 0..4091 {
