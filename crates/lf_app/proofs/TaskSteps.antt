@@ -6,9 +6,9 @@ use Rattle.lf_floorplan.specs.declared.loaded.Loaded.{Loaded}
 use Rattle.lf_app.specs.declared.faults.Exit.{Exit}
 use Rattle.lf_app.specs.declared.faults.Fault.{Fault}
 use Rattle.lf_app.specs.declared.faults.Fault.TheVariants.{Refused, File, ReadFault, WriteFault, OutOfMemory, Output}
-use Rattle.lf_app.specs.declared.command.Task.{Task}
-use Rattle.lf_app.specs.declared.command.Task.TheVariants.{Demo, Replay, Check}
-use Rattle.lf_app.specs.Command.{IsCheck, Job, as_job, check, demo, replay}
+use Rattle.lf_command.specs.declared.command.Task.{Task}
+use Rattle.lf_command.specs.declared.command.Task.TheVariants.{Demo, Replay, Check}
+use Rattle.lf_command.specs.Command.{IsCheck, Job, as_job, check, demo, replay}
 use Rattle.lf_app.specs.Designs.{Gives}
 use Rattle.lf_app.specs.Exits.{Ends, IsOutcome}
 use Rattle.lf_app.specs.Faults.{IsDone, IsFailure}

@@ -10,7 +10,7 @@ use Rattle.lf_app.specs.declared.faults.Fault.TheVariants.{Refused, File}
 use Rattle.lf_app.specs.declared.faults.Exit.{Exit}
 use Rattle.lf_app.specs.declared.lines.Ending.{Ending}
 use Rattle.lf_app.specs.Checks.{IsLegalDesign, report_line}
-use Rattle.lf_app.specs.Command.{Job, demo, replay, check}
+use Rattle.lf_command.specs.Command.{Job, demo, replay, check}
 use Rattle.lf_app.specs.Designs.{Gives, IsDesignFault, IsDesignOf, IsTextDesign, IsTextFault}
 use Rattle.lf_app.specs.Faults.{IsDone, IsReportFault, ending_fault, fault_line, no_memory, status_of}
 

@@ -9,8 +9,8 @@ use Rattle.clap.specs.declared.builder.value_parser.ValueParser.TheVariants as p
 use Rattle.clap.specs.declared.parser.matches.Found.{Found}
 use Rattle.clap.specs.declared.parser.matches.ValueSource.TheVariants.{CommandLine}
 use Rattle.clap.specs.declared.builder.action.ArgAction.TheVariants.{Append}
-use Rattle.lf_app.specs.declared.command.Subcommand.TheVariants.{Replay, Check}
-use Rattle.lf_app.specs.Command.{word_of}
+use Rattle.lf_command.specs.declared.command.Subcommand.TheVariants.{Replay, Check}
+use Rattle.lf_command.specs.Command.{word_of}
 
 -- the path of the DEF text
 abbrev pub def_rule : Rule

@@ -1,6 +1,6 @@
 use Rattle.std.proofs.Common.{◌<◌, ◌∙◌, length, sym, rules}
-use Rattle.lf_app.proofs.Arguments.{designs, inner_paths, no_inner, no_job, paths_behind}
-use Rattle.lf_app.proofs.command.task_of.Goals as goal
+use Rattle.lf_command.proofs.Arguments.{designs, inner_paths, no_inner, no_job, paths_behind}
+use Rattle.lf_command.proofs.command.task_of.Goals as goal
 
 pub returns-in_default-clause-err : goal.returns-in_default-clause-err
 returns-in_default-clause-err c = λ job is has.

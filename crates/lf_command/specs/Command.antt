@@ -1,9 +1,9 @@
 -- The jobs that the words of a command line name.
 use Rattle.std.specs.Prelude.{◌==◌, ℕ, Bool, false, List, [], ◌∷◌, map, Option, Some, None, option_map, option_and_then, bytes_eq, codes, if◌then◌else◌}
-use Rattle.lf_app.specs.declared.command.Task.{Task}
-use Rattle.lf_app.specs.declared.command.Task.TheVariants.{Demo, Replay, Check}
-use Rattle.lf_app.specs.declared.command.Subcommand.{Subcommand}
-use Rattle.lf_app.specs.declared.command.Subcommand.TheVariants as subcommand
+use Rattle.lf_command.specs.declared.command.Task.{Task}
+use Rattle.lf_command.specs.declared.command.Task.TheVariants.{Demo, Replay, Check}
+use Rattle.lf_command.specs.declared.command.Subcommand.{Subcommand}
+use Rattle.lf_command.specs.declared.command.Subcommand.TheVariants as subcommand
 
 -- what a command line asks for, with the paths as they are written: of the DEF text and of the LEF texts in order
 pub data Job : Type 0 where

@@ -1,7 +1,7 @@
 use Rattle.std.proofs.Common.{arith, sym, ◌∙◌}
 use Rattle.std.proofs.lemmas.Bool.{false≢true}
-use Rattle.lf_app.proofs.Paths.{at_end, differs, goes_back, goes_on}
-use Rattle.lf_app.proofs.command.are_paths.Goals as goal
+use Rattle.lf_command.proofs.Paths.{at_end, differs, goes_back, goes_on}
+use Rattle.lf_command.proofs.command.are_paths.Goals as goal
 
 pub returns-then-ne : goal.returns-then-ne
 returns-then-ne c =

@@ -17,10 +17,10 @@ use Rattle.clap.specs.declared.parser.matches.Found.{Found}
 use Rattle.std.specs.Borrow.{Bor}
 use Rattle.clap.proofs.WalkLemmas.{first_value-rows, raw_values-rows}
 use Rattle.clap.proofs.OnLiterals.{clap_on_literals}
-use Rattle.lf_app.specs.CommandLine.{command_line, def_row, design_line, found_paths, lef_row}
-use Rattle.lf_app.specs.Command.{Job, is_option, job_of, paths_of, subcommand_named, word_of}
-use Rattle.lf_app.specs.declared.command.Subcommand.{Subcommand}
-use Rattle.lf_app.specs.declared.command.Subcommand.TheVariants.{Replay, Check}
+use Rattle.lf_command.specs.CommandLine.{command_line, def_row, design_line, found_paths, lef_row}
+use Rattle.lf_command.specs.Command.{Job, is_option, job_of, paths_of, subcommand_named, word_of}
+use Rattle.lf_command.specs.declared.command.Subcommand.{Subcommand}
+use Rattle.lf_command.specs.declared.command.Subcommand.TheVariants.{Replay, Check}
 
 -- ---- the demo
 

@@ -12,7 +12,7 @@ use Rattle.std.proofs.lemmas.List.{length-drop, length-map}
 use Rattle.std.proofs.Math.ListN.{drop_of_length-le}
 use Rattle.std.proofs.Math.Numerals.{suc-eq-add-one}
 use Rattle.std.proofs.Math.Seq.{drop-cons}
-use Rattle.lf_app.specs.Command.{is_option, paths_of}
+use Rattle.lf_command.specs.Command.{is_option, paths_of}
 
 abbrev Word : Type 0
 Word = Bor (List ℕ)

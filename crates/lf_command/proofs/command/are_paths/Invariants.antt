@@ -1,7 +1,7 @@
 use Rattle.std.proofs.Common.{◌≡◌, ◌≤◌, length, drop, map, Some}
 use Rattle.std.specs.Prelude.{◌↔◌}
-use Rattle.lf_app.specs.Command.{paths_of}
-use Rattle.lf_app.proofs.command.are_paths.Given as goal
+use Rattle.lf_command.specs.Command.{paths_of}
+use Rattle.lf_command.proofs.command.are_paths.Given as goal
 
 -- the paths that are left are those of the words that are left exactly where all of them are
 abbrev pub invariant-loop-i : goal.invariant-loop-i

@@ -5,9 +5,9 @@ ghost use Rattle.clap.specs.Matches.{found_of};
 ghost use Rattle.clap.specs.Simple.{HasMatchesOf, app_of};
 ghost use Rattle.clap.specs.Walk.{rule_of};
 ghost use Rattle.clap.specs.declared.builder.command.Command.TheViews.{out-Command};
-ghost use Rattle.lf_app.specs.declared.command.UsageFault.TheVariants.{Usage, OutOfMemory};
-ghost use Rattle.lf_app.specs.CommandLine.{command_line, def_rule, design_line, found_paths, lef_rule};
-ghost use Rattle.lf_app.specs.Command.{Job, as_job, is_option, job_of, job_on, job_over, paths_of, subcommand_named};
+ghost use Rattle.lf_command.specs.declared.command.UsageFault.TheVariants.{Usage, OutOfMemory};
+ghost use Rattle.lf_command.specs.CommandLine.{command_line, def_rule, design_line, found_paths, lef_rule};
+ghost use Rattle.lf_command.specs.Command.{Job, as_job, is_option, job_of, job_on, job_over, paths_of, subcommand_named};
 
 use clap::error::ErrorKind;
 use clap::{Arg, ArgAction, ArgMatches, Command};
