@@ -295,6 +295,19 @@ pub record IsJob (chosen : Subcommand) (name : Text) (words : List Text) : Type 
   pub found : (found : Found) → rows_of found ≡ rows → found_given found ≡ given
   pub is_taken : takes command_line (name ∷ word_of chosen ∷ words) ≡ true
 
+-- the words of a subcommand whose level passes are taken
+taken_at : (chosen : Subcommand) (name : Text) (words : List Text) → level_passes (leaf chosen) [] nothing_held words false ≡ true
+    → takes command_line (name ∷ word_of chosen ∷ words) ≡ true
+taken_at chosen name words level =
+    takes_is name (word_of chosen) words ∙ ap (top_closes (word_of chosen) words) (top_walk chosen words) ∙ top_closes_at chosen words level
+
+-- and give the rows that its walk ends with
+rows_at : (chosen : Subcommand) (name : Text) (words : List Text) (w : Walk) (rows : List Row) → Leads chosen start words w → finished (leaf chosen).rules w.held ≡ rows
+    → subcommand_of command_line (name ∷ word_of chosen ∷ words) ≡ Some (word_of chosen, rows)
+rows_at chosen name words w rows way is =
+    ap (λ (w : Walk). entered (built command_line) w.stopped) (top_walk chosen words) ∙ entered_is chosen words
+    ∙ ap (λ (w : Walk). Some (word_of chosen, finished (leaf chosen).rules w.held)) way.walks ∙ ap (λ (rs : List Row). Some (word_of chosen, rs)) is
+
 is_job_at : (chosen : Subcommand) (name : Text) (words : List Text) (given : Given) → given_by chosen words ≡ Some given → length words ≤ usize_max → Needs chosen given
     → IsJob chosen name words
 is_job_at chosen name words given e few need =
@@ -321,12 +334,9 @@ is_job_at chosen name words given e few need =
       given = given;
       is_given = e;
       rows = done chosen a.pending a.rows;
-      is_rows = ap (λ (w : Walk). entered (built command_line) w.stopped) (top_walk chosen words) ∙ entered_is chosen words
-          ∙ ap (λ (w : Walk). Some (word_of chosen, finished (leaf chosen).rules w.held)) end.1.walks
-          ∙ ap (λ (rs : List Row). Some (word_of chosen, rs)) rows;
+      is_rows = rows_at chosen name words end.0 (done chosen a.pending a.rows) end.1 rows;
       found = λ found is. found_is found given need.def need.lef need.lefs (done chosen a.pending a.rows) need.paths holds is;
-      is_taken = takes_is name (word_of chosen) words ∙ ap (top_closes (word_of chosen) words) (top_walk chosen words)
-          ∙ top_closes_at chosen words (level_passes_all chosen words end.0 end.1 closed);
+      is_taken = taken_at chosen name words (level_passes_all chosen words end.0 end.1 closed);
     }
   where
     nothing_seen : (s : Setting) → seen (name_of s) [] ≡ option_map (value_row s) (value_of s nothing)
