@@ -1,6 +1,6 @@
 -- What the reader of arguments makes of the words of a job.
 use Rattle.std.proofs.Common.{◌≡◌, ℕ, ◌<◌, ◌≤◌, ◌-◌, ◌&&◌, arith, Bool, true, false, List, [], ◌∷◌, ◌++◌, map, length, take, drop, slice_index_or, Option, Some, None, is_some, unwrap_or, option_map, codes, nat_le, nat_lt, refl, sym, ap, ap₂, subst, ◌∙◌}
-use Rattle.std.specs.Prelude.{fold, option_and_then, option_to_list, ⊤}
+use Rattle.std.specs.Prelude.{fold, ⊤}
 use Rattle.std.specs.Borrow.{Bor}
 use Rattle.std.specs.List.{list_all}
 use Rattle.std.specs.Str.{bytes_eq}
@@ -17,7 +17,7 @@ use Rattle.clap.specs.declared.parser.matches.Found.{Found}
 use Rattle.clap.proofs.OnLiterals.{clap_on_literals}
 use Rattle.clap.proofs.WalkLemmas.{first_value-rows, raw_values-rows}
 use Rattle.lf_command.specs.Command.{Given, Job, given_by, has_setting, job_by, job_of, job_on, job_over, nothing, number_in, number_of, is_number, service_of, subcommand_named, value_of, word_of}
-use Rattle.lf_command.specs.CommandLine.{command_line, def_row, found_given, lef_row, name_of, value_row}
+use Rattle.lf_command.specs.CommandLine.{command_line, found_given, name_of, value_row}
 use Rattle.lf_command.specs.declared.words.Next.TheVariants.{Any}
 use Rattle.lf_command.specs.declared.words.Setting.{Setting}
 use Rattle.lf_command.specs.declared.words.Setting.TheVariants.{Export, Port, Connections}
@@ -25,7 +25,7 @@ use Rattle.lf_command.specs.declared.words.Subcommand.{Subcommand}
 use Rattle.lf_command.specs.declared.words.Subcommand.TheVariants.{Replay, Serve, Check}
 use Rattle.lf_command.proofs.Numbers.{from_number}
 use Rattle.lf_command.proofs.Rows.{seen}
-use Rattle.lf_command.proofs.Steps.{Pending, at, done, held, leaf, resting, settles, value_passes}
+use Rattle.lf_command.proofs.Steps.{Pending, at, done, held, leaf, value_passes}
 use Rattle.lf_command.proofs.Walks.{At, Fits, Holds, Leads, arrives, few_paths}
 
 -- ---- the demo
@@ -77,6 +77,7 @@ serves given s e is = by given.port refl given.connections refl
       (port, has_port, number_passes Port 65535 p port is_p (omega arith)),
       (connections, has_connections, number_passes Connections 1000000 c connections is_c (omega arith)),
     )
+
     by : (p : Option Text) → given.port ≡ p → (c : Option Text) → given.connections ≡ c → Served Serve given
     by None is_p c is_c = let same : None ≡ s = sym (rw is_p refl) ∙ e in absurd (false≢true (ap is_some same ∙ is))
     by (Some port) is_p None is_c = outer (number_in 1 65535 port) refl
@@ -107,6 +108,7 @@ fits chosen given served few = record { values = values chosen served; few = few
   where
     passes_as : (s : Setting) (value other : Text) → value_of s given ≡ Some value → value_of s given ≡ Some other → value_passes s other ≡ true → value_passes s value ≡ true
     passes_as s value other e also passes = ap (λ (o : Option Text). value_passes s (unwrap_or o value)) (sym e ∙ also) ∙ passes
+
     values : (c : Subcommand) → Served c given → (s : Setting) (value : Text) → has_setting c s ≡ true → value_of s given ≡ Some value → value_passes s value ≡ true
     values c served Export value has e = refl
     values Serve served Port value has e = passes_as Port value served.0.0 e served.0.1 served.0.2

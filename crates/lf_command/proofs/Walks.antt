@@ -1,8 +1,7 @@
 -- What the reader of arguments makes of the words that give something.
-use Rattle.std.proofs.Common.{◌≡◌, ◌⊎◌, inl, inr, ℕ, ◌≤◌, ◌+◌, ◌==◌, arith, Bool, true, false, List, [], ◌∷◌, ◌++◌, length, take, drop, Option, Some, None, is_some, unwrap_or, option_map, codes, nat_le, refl, sym, ap, subst, ◌∙◌}
-use Rattle.std.specs.Prelude.{fold, option_and_then}
+use Rattle.std.proofs.Common.{◌≡◌, ◌⊎◌, inl, inr, ℕ, ◌≤◌, ◌+◌, ◌==◌, arith, Bool, true, false, List, [], ◌∷◌, ◌++◌, length, take, drop, Option, Some, None, is_some, unwrap_or, option_map, codes, refl, sym, ap, subst, ◌∙◌}
+use Rattle.std.specs.Prelude.{fold}
 use Rattle.std.specs.List.{list_all}
-use Rattle.std.specs.Option.{option_or}
 use Rattle.std.specs.Str.{bytes_eq}
 use Rattle.std.proofs.lemmas.Bool.{false≢true, le-leb}
 use Rattle.std.proofs.lemmas.List.{length-append}
@@ -12,7 +11,7 @@ use Rattle.clap.specs.Takes.{walk_passes}
 use Rattle.clap.specs.Walk.{Row, Text, Walk, has_row, idle, option, positional, walked, without}
 use Rattle.clap.specs.declared.builder.value_parser.Reading.TheVariants.{AsWritten}
 use Rattle.clap.proofs.OnLiterals.{clap_on_literals}
-use Rattle.lf_command.specs.Command.{Given, flag_of, given_behind, has_setting, is_option, option_at, option_of, read_end, read_word, set, text_behind, value_of, with_option, with_path, with_text}
+use Rattle.lf_command.specs.Command.{Given, flag_of, given_behind, has_setting, is_option, option_at, option_of, read_end, read_word, set, value_of, with_option, with_path, with_text}
 use Rattle.lf_command.specs.CommandLine.{def_row, lef_row, name_of, value_row}
 use Rattle.lf_command.specs.declared.words.Next.{Next}
 use Rattle.lf_command.specs.declared.words.Next.TheVariants.{Any, Value, Path}
@@ -317,18 +316,22 @@ goes_behind chosen word given fits = (
 goes_end : (chosen : Subcommand) (given : Given) → Goes chosen (codes "--") given Any (given, Path)
 goes_end chosen given fits = (
   fits,
-  λ w a. (at a.rows a.pending (resting a.b) a.position true, rw a.is (end_word chosen a.b a.rows a.pending a.position), record {
-    rows = a.rows;
-    pending = a.pending;
-    b = a.b;
-    position = a.position;
-    paths = a.paths;
-    is = refl;
-    is_paths = a.is_paths;
-    holds = a.holds;
-    settled = a.settled;
-    stands = a.stands;
-  }),
+  λ w a. (
+    at a.rows a.pending (resting a.b) a.position true,
+    rw a.is (end_word chosen a.b a.rows a.pending a.position),
+    record {
+      rows = a.rows;
+      pending = a.pending;
+      b = a.b;
+      position = a.position;
+      paths = a.paths;
+      is = refl;
+      is_paths = a.is_paths;
+      holds = a.holds;
+      settled = a.settled;
+      stands = a.stands;
+    },
+  ),
 )
 
 -- ---- an option
@@ -352,8 +355,10 @@ pends_value (def ∷ lefs) position Connections value is = (is, inl refl)
 goes_option : (chosen : Subcommand) (given : Given) (s : Setting) → has_setting chosen s ≡ true → Goes chosen (flag_of s) given Any (given, Value s)
 goes_option chosen given s has fits = (
   fits,
-  λ w a. (at (done chosen a.pending a.rows) (Some (name_of s, [])) (option (name_of s)) a.position false,
-    rw a.is (option_word chosen s a.b a.rows a.pending a.position has a.settled), record {
+  λ w a. (
+    at (done chosen a.pending a.rows) (Some (name_of s, [])) (option (name_of s)) a.position false,
+    rw a.is (option_word chosen s a.b a.rows a.pending a.position has a.settled),
+    record {
       rows = done chosen a.pending a.rows;
       position = a.position;
       paths = a.paths;
@@ -362,7 +367,8 @@ goes_option chosen given s has fits = (
       has = has;
       holds = a.holds;
       stands = position_of a.paths a.pending a.b a.position a.stands;
-    }),
+    },
+  ),
 )
 
 goes_option_with : (chosen : Subcommand) (given : Given) (s : Setting) (value : Text) → has_setting chosen s ≡ true → value_of s given ≡ None
@@ -393,19 +399,23 @@ goes_value : (chosen : Subcommand) (given : Given) (s : Setting) (word : Text) �
     → Goes chosen word given (Value s) (set s word given, Any)
 goes_value chosen given s word path none fits = (
   fits_value chosen s word given none fits,
-  λ w a. (at a.rows (Some (name_of s, word ∷ [])) idle a.position false, rw a.is (value_word chosen s a.rows a.position word a.has path), record {
-    rows = a.rows;
-    pending = Some (name_of s, word ∷ []);
-    b = false;
-    position = a.position;
-    paths = a.paths;
-    is = refl;
-    is_paths = same_paths s word given ∙ a.is_paths;
-    holds = rw (done_value chosen s a.rows word a.has) (holds_value a.paths given s word a.rows a.holds none);
-    settled = settles_value chosen s a.rows word a.has (row_missing (name_of s) a.rows (no_value a.paths given s a.rows a.holds none))
-        (fits.values s word a.has (is_set s word given));
-    stands = pends_value a.paths a.position s word a.stands;
-  }),
+  λ w a. (
+    at a.rows (Some (name_of s, word ∷ [])) idle a.position false,
+    rw a.is (value_word chosen s a.rows a.position word a.has path),
+    record {
+      rows = a.rows;
+      pending = Some (name_of s, word ∷ []);
+      b = false;
+      position = a.position;
+      paths = a.paths;
+      is = refl;
+      is_paths = same_paths s word given ∙ a.is_paths;
+      holds = rw (done_value chosen s a.rows word a.has) (holds_value a.paths given s word a.rows a.holds none);
+      settled = settles_value chosen s a.rows word a.has (row_missing (name_of s) a.rows (no_value a.paths given s a.rows a.holds none))
+          (fits.values s word a.has (is_set s word given));
+      stands = pends_value a.paths a.position s word a.stands;
+    },
+  ),
 )
 
 -- ---- words

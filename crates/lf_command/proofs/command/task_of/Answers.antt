@@ -1,4 +1,4 @@
-use Rattle.std.proofs.Common.{◌<◌, ◌≤◌, ◌≡◌, ◌∙◌, Some, ap, length, sym, rules}
+use Rattle.std.proofs.Common.{◌<◌, ◌≤◌, ◌∙◌, ap, length, sym, rules}
 use Rattle.clap.specs.Lexer.{usize_max}
 use Rattle.lf_command.specs.Command.{given_by, job_by}
 use Rattle.lf_command.proofs.Arguments.{behind, inner_given, no_inner, no_job, words_behind}
