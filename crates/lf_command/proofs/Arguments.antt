@@ -70,7 +70,8 @@ serves given s e is = by given.port refl given.connections refl
   where
     inner : (port connections : Text) → given.port ≡ Some port → given.connections ≡ Some connections → (p : Option ℕ) → number_in 1 65535 port ≡ p
         → (c : Option ℕ) → number_in 1 1000000 connections ≡ c → Served Serve given
-    inner port connections has_port has_connections None is_p c is_c = let same : None ≡ s = sym (rw (has_port, is_p) refl) ∙ e in absurd (false≢true (ap is_some same ∙ is))
+    inner port connections has_port has_connections None is_p c is_c = let same : None ≡ s = sym (rw (has_port, is_p) refl)
+        ∙ e in absurd (false≢true (ap is_some same ∙ is))
     inner port connections has_port has_connections (Some p) is_p None is_c =
         let same : None ≡ s = sym (rw (has_port, is_p, has_connections, is_c) refl) ∙ e in absurd (false≢true (ap is_some same ∙ is))
     inner port connections has_port has_connections (Some p) is_p (Some c) is_c = (
@@ -97,7 +98,8 @@ served_of Serve def lefs given job e = by (service_of given) refl
     by (Some s) is = serves given (Some s) is refl
     by None is = let same : None ≡ Some job = sym (rw is refl) ∙ e in absurd (false≢true (ap is_some same))
 
-needs : (chosen : Subcommand) (given : Given) (job : Job) (paths : List Text) → given.paths ≡ paths → job_over chosen paths given ≡ Some job → Needs chosen given
+needs : (chosen : Subcommand) (given : Given) (job : Job) (paths : List Text) → given.paths ≡ paths → job_over chosen paths given ≡ Some job
+    → Needs chosen given
 needs chosen given job [] is e = absurd (false≢true (ap is_some e))
 needs chosen given job (def ∷ []) is e = absurd (false≢true (ap is_some e))
 needs chosen given job (def ∷ lef ∷ lefs) is e =
@@ -106,10 +108,12 @@ needs chosen given job (def ∷ lef ∷ lefs) is e =
 fits : (chosen : Subcommand) (given : Given) → Served chosen given → length given.paths ≤ usize_max → Fits chosen given
 fits chosen given served few = record { values = values chosen served; few = few }
   where
-    passes_as : (s : Setting) (value other : Text) → value_of s given ≡ Some value → value_of s given ≡ Some other → value_passes s other ≡ true → value_passes s value ≡ true
+    passes_as : (s : Setting) (value other : Text) → value_of s given ≡ Some value → value_of s given ≡ Some other → value_passes s other ≡ true
+        → value_passes s value ≡ true
     passes_as s value other e also passes = ap (λ (o : Option Text). value_passes s (unwrap_or o value)) (sym e ∙ also) ∙ passes
 
-    values : (c : Subcommand) → Served c given → (s : Setting) (value : Text) → has_setting c s ≡ true → value_of s given ≡ Some value → value_passes s value ≡ true
+    values : (c : Subcommand) → Served c given → (s : Setting) (value : Text) → has_setting c s ≡ true → value_of s given ≡ Some value
+        → value_passes s value ≡ true
     values c served Export value has e = refl
     values Serve served Port value has e = passes_as Port value served.0.0 e served.0.1 served.0.2
     values Serve served Connections value has e = passes_as Connections value served.1.0 e served.1.1 served.1.2
@@ -164,7 +168,8 @@ valid Replay given def lef lefs rows served h = rw (h.def, h.lefs) refl
 valid Check given def lef lefs rows served h = rw (h.def, h.lefs) refl
 valid Serve given def lef lefs rows served h =
     let port : seen (codes "port") rows ≡ Some (value_row Port served.0.0) = h.values Port ∙ ap (option_map (value_row Port)) served.0.1 in
-    let connections : seen (codes "connections") rows ≡ Some (value_row Connections served.1.0) = h.values Connections ∙ ap (option_map (value_row Connections)) served.1.1 in
+    let connections : seen (codes "connections") rows ≡ Some (value_row Connections served.1.0) = h.values Connections
+    ∙ ap (option_map (value_row Connections)) served.1.1 in
     rw (h.def, h.lefs, port, connections) refl
 
 abbrev start : Walk
@@ -175,13 +180,15 @@ abbrev closes : Subcommand → Walk → Bool
 closes chosen w = settle_passes (leaf chosen).rules (leaf chosen).args_override_self w.held
     && (list_all default_passes (leaf chosen).rules && is_valid (leaf chosen) (finished (leaf chosen).rules w.held) false)
 
-closes_at : (chosen : Subcommand) (w : Walk) (trailing : Bool) (given : Given) (def lef : Text) (lefs : List Text) → given.paths ≡ def ∷ lef ∷ lefs → Served chosen given
+closes_at : (chosen : Subcommand) (w : Walk) (trailing : Bool) (given : Given) (def lef : Text) (lefs : List Text) → given.paths ≡ def ∷ lef ∷ lefs
+    → Served chosen given
     → At chosen given trailing w → closes chosen w ≡ true
 closes_at chosen w trailing given def lef lefs paths served a =
     let h : Holds (def ∷ lef ∷ lefs) given (done chosen a.pending a.rows) =
     subst (λ (ps : List Text). Holds ps given (done chosen a.pending a.rows)) (sym a.is_paths ∙ paths) a.holds in
     let is : is_valid (leaf chosen) (finished (leaf chosen).rules (held a.rows a.pending)) false ≡ true =
-    ap (λ (rows : List Row). is_valid (leaf chosen) rows false) (finished_is chosen a.rows a.pending) ∙ valid chosen given def lef lefs (done chosen a.pending a.rows) served h in
+    ap (λ (rows : List Row). is_valid (leaf chosen) rows false) (finished_is chosen a.rows a.pending)
+    ∙ valid chosen given def lef lefs (done chosen a.pending a.rows) served h in
     ap (closes chosen) a.is ∙ ap₂ (λ (x y : Bool). x && y) a.settled (ap₂ (λ (x y : Bool). x && y) (defaults_pass chosen) is)
 
 level_passes_all : (chosen : Subcommand) (words : List Text) (w : Walk) → Leads chosen start words w → closes chosen w ≡ true
@@ -231,7 +238,8 @@ top_closes sub words w = entered_passes (built command_line) w.stopped
     && (settle_passes top.rules top.args_override_self w.held && (list_all default_passes top.rules
     && is_valid top (finished top.rules w.held) (is_some (entered (built command_line) w.stopped)))))
 
-takes_is : (name sub : Text) (words : List Text) → takes command_line (name ∷ sub ∷ words) ≡ top_closes sub words (walk top.rules names nothing_held (sub ∷ words))
+takes_is : (name sub : Text) (words : List Text)
+    → takes command_line (name ∷ sub ∷ words) ≡ top_closes sub words (walk top.rules names nothing_held (sub ∷ words))
 unfolding clap_on_literals
 takes_is name sub words = refl
 
@@ -243,7 +251,8 @@ top_closes_at Serve words level = ap₂ (λ (a b : Bool). a && (b && true)) leve
 top_closes_at Check words level = ap₂ (λ (a b : Bool). a && (b && true)) level (top_passes Check words)
 
 entered_is : (chosen : Subcommand) (words : List Text)
-    → entered (built command_line) (Some (word_of chosen, words)) ≡ Some (word_of chosen, finished (leaf chosen).rules (walk (leaf chosen).rules [] nothing_held words).held)
+    → entered (built command_line) (Some (word_of chosen, words))
+    ≡ Some (word_of chosen, finished (leaf chosen).rules (walk (leaf chosen).rules [] nothing_held words).held)
 unfolding clap_on_literals
 entered_is Replay words = refl
 entered_is Serve words = refl
@@ -266,7 +275,8 @@ found_is found given def lef lefs rows paths h is =
     let more = raw_values-rows found (codes "lef") ∙ ap (all_of (codes "lef")) is ∙ the_lefs in
     let export = first_value-rows found (codes "export") ∙ first (codes "export") ∙ value_is Export given.export rows (h.values Export) in
     let port = first_value-rows found (codes "port") ∙ first (codes "port") ∙ value_is Port given.port rows (h.values Port) in
-    let connections = first_value-rows found (codes "connections") ∙ first (codes "connections") ∙ value_is Connections given.connections rows (h.values Connections) in
+    let connections = first_value-rows found (codes "connections") ∙ first (codes "connections")
+    ∙ value_is Connections given.connections rows (h.values Connections) in
     rw (one, more, export, port, connections, ← paths) refl
 
 -- ---- all command lines
@@ -304,13 +314,15 @@ taken_at chosen name words level =
     takes_is name (word_of chosen) words ∙ ap (top_closes (word_of chosen) words) (top_walk chosen words) ∙ top_closes_at chosen words level
 
 -- and give the rows that its walk ends with
-rows_at : (chosen : Subcommand) (name : Text) (words : List Text) (w : Walk) (rows : List Row) → Leads chosen start words w → finished (leaf chosen).rules w.held ≡ rows
+rows_at : (chosen : Subcommand) (name : Text) (words : List Text) (w : Walk) (rows : List Row) → Leads chosen start words w
+    → finished (leaf chosen).rules w.held ≡ rows
     → subcommand_of command_line (name ∷ word_of chosen ∷ words) ≡ Some (word_of chosen, rows)
 rows_at chosen name words w rows way is =
     ap (λ (w : Walk). entered (built command_line) w.stopped) (top_walk chosen words) ∙ entered_is chosen words
     ∙ ap (λ (w : Walk). Some (word_of chosen, finished (leaf chosen).rules w.held)) way.walks ∙ ap (λ (rs : List Row). Some (word_of chosen, rs)) is
 
-is_job_at : (chosen : Subcommand) (name : Text) (words : List Text) (given : Given) → given_by chosen words ≡ Some given → length words ≤ usize_max → Needs chosen given
+is_job_at : (chosen : Subcommand) (name : Text) (words : List Text) (given : Given) → given_by chosen words ≡ Some given → length words ≤ usize_max
+    → Needs chosen given
     → IsJob chosen name words
 is_job_at chosen name words given e few need =
     let count : length given.paths ≤ usize_max = omega (arith, few, few_paths chosen words nothing given Any e) in
@@ -331,7 +343,8 @@ is_job_at chosen name words given e few need =
     let closed : closes chosen end.0 ≡ true = closes_at chosen end.0 end.2.0 given need.def need.lef need.lefs need.paths need.served a in
     let holds : Holds (need.def ∷ need.lef ∷ need.lefs) given (done chosen a.pending a.rows) =
     subst (λ (ps : List Text). Holds ps given (done chosen a.pending a.rows)) (sym a.is_paths ∙ need.paths) a.holds in
-    let rows : finished (leaf chosen).rules end.0.held ≡ done chosen a.pending a.rows = ap (λ (w : Walk). finished (leaf chosen).rules w.held) a.is ∙ finished_is chosen a.rows a.pending in
+    let rows : finished (leaf chosen).rules end.0.held ≡ done chosen a.pending a.rows = ap (λ (w : Walk). finished (leaf chosen).rules w.held) a.is
+    ∙ finished_is chosen a.rows a.pending in
     record {
       given = given;
       is_given = e;
@@ -346,7 +359,8 @@ is_job_at chosen name words given e few need =
     nothing_seen Port = refl
     nothing_seen Connections = refl
 
-pub is_job : (chosen : Subcommand) (name : Text) (words : List Text) (job : Job) → job_by chosen words ≡ Some job → length words ≤ usize_max → IsJob chosen name words
+pub is_job : (chosen : Subcommand) (name : Text) (words : List Text) (job : Job) → job_by chosen words ≡ Some job → length words ≤ usize_max
+    → IsJob chosen name words
 is_job chosen name words job e few = by (given_by chosen words) refl
   where
     by : (g : Option Given) → given_by chosen words ≡ g → IsJob chosen name words
@@ -361,7 +375,8 @@ Word = Bor (List ℕ)
 abbrev pub texts : List Word → List Text
 texts = map (λ word. word.now)
 
-takes_word : (name word : Text) (job : Job) → job_of (name ∷ word ∷ []) ≡ Some job → (b : Bool) → bytes_eq word (codes "demo") ≡ b → takes command_line (name ∷ word ∷ []) ≡ true
+takes_word : (name word : Text) (job : Job) → job_of (name ∷ word ∷ []) ≡ Some job → (b : Bool) → bytes_eq word (codes "demo") ≡ b
+    → takes command_line (name ∷ word ∷ []) ≡ true
 takes_word name word job e false is = let same : None ≡ Some job = sym (rw is refl) ∙ e in absurd (false≢true (ap is_some same))
 takes_word name word job e true is = ap (λ (w : Text). takes command_line (name ∷ w ∷ [])) ((bytes_eq-Decides word (codes "demo")).0 is) ∙ takes_demo name
 
@@ -380,14 +395,16 @@ takes_job (name ∷ word ∷ []) job e few = takes_word name word job e (bytes_e
 takes_job (name ∷ word ∷ next ∷ rest) job e few = takes_over name word next rest job e (omega (arith, few)) (subcommand_named word) refl
 
 -- words that are taken in no parse have no job
-pub no_job_taken : (words : List Word) (r : Option Job) → job_of (texts words) ≡ r → length words ≤ usize_max → (takes command_line (texts words) ≡ true → ⊥) → job_of (texts words) ≡ None
+pub no_job_taken : (words : List Word) (r : Option Job) → job_of (texts words) ≡ r → length words ≤ usize_max
+    → (takes command_line (texts words) ≡ true → ⊥) → job_of (texts words) ≡ None
 no_job_taken words None is few refused = is
 no_job_taken words (Some job) is few refused =
     let many : length (texts words) ≡ length words = simp length-map in
     absurd (refused (takes_job (texts words) job is (omega (arith, few, many))))
 
 -- of three words or more, whose second names no subcommand, there is no job
-pub no_job : (words : List Word) (d : Word) (job : Job) → 2 < length words → subcommand_named (slice_index_or words 1 d).now ≡ None → job_of (texts words) ≡ Some job → ⊥
+pub no_job : (words : List Word) (d : Word) (job : Job) → 2 < length words → subcommand_named (slice_index_or words 1 d).now ≡ None
+    → job_of (texts words) ≡ Some job → ⊥
 no_job [] d job more none e = omega (arith, more)
 no_job (name ∷ []) d job more none e = omega (arith, more)
 no_job (name ∷ word ∷ []) d job more none e = omega (arith, more)
@@ -435,12 +452,14 @@ is_built : is_simple command_line ≡ true
 unfolding clap_on_literals
 is_built = refl
 
-met_rows : (chosen : Subcommand) (matches : ArgMatches) (words : List Text) (job : Job) (r : IsBehind chosen words job) → HasMatchesOf command_line words matches
+met_rows : (chosen : Subcommand) (matches : ArgMatches) (words : List Text) (job : Job) (r : IsBehind chosen words job)
+    → HasMatchesOf command_line words matches
     → option_map (λ p. p.1) (subcommand_rows_of matches) ≡ Some r.rows
 met_rows chosen matches words job r has = ap (option_map (λ p. p.1)) ((has is_built).1 ∙ r.is_rows)
 
 -- the subcommand's matches hold what is given
-pub inner_given : (chosen : Subcommand) (matches inner : ArgMatches) (words : List Text) (job : Job) (r : IsBehind chosen words job) → HasMatchesOf command_line words matches
+pub inner_given : (chosen : Subcommand) (matches inner : ArgMatches) (words : List Text) (job : Job) (r : IsBehind chosen words job)
+    → HasMatchesOf command_line words matches
     → Some (rows_of (found_of inner)) ≡ option_map (λ p. p.1) (subcommand_rows_of matches)
     → given_by chosen (drop 2 words) ≡ Some (found_given (found_of inner))
 inner_given chosen matches inner words job r has rows =
@@ -448,6 +467,7 @@ inner_given chosen matches inner words job r has rows =
     r.is_given ∙ ap (λ (g : Given). Some g) (sym (r.found (found_of inner) is))
 
 -- and there is one
-pub no_inner : (chosen : Subcommand) (matches : ArgMatches) (words : List Text) (job : Job) (r : IsBehind chosen words job) → HasMatchesOf command_line words matches
+pub no_inner : (chosen : Subcommand) (matches : ArgMatches) (words : List Text) (job : Job) (r : IsBehind chosen words job)
+    → HasMatchesOf command_line words matches
     → None ≡ option_map (λ p. p.1) (subcommand_rows_of matches) → ⊥
 no_inner chosen matches words job r has rows = false≢true (ap is_some (rows ∙ met_rows chosen matches words job r has))

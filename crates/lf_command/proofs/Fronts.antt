@@ -18,7 +18,8 @@ has_front : (front rest word : List ℕ) → word ≡ front ++ rest → bytes_eq
 has_front front rest word is = (bytes_eq-Decides (take (length front) word) front).1 (ap (take (length front)) is ∙ take-append_seam front rest)
 
 -- what is left of a word without its front
-pub strip_is : (front word : List ℕ) (r : Option (Bor (List ℕ))) → MatchOption r (FindsTextPrefix front word None) (λ x. StripsPrefix (FindsTextPrefix front) word x.now)
+pub strip_is : (front word : List ℕ) (r : Option (Bor (List ℕ)))
+    → MatchOption r (FindsTextPrefix front word None) (λ x. StripsPrefix (FindsTextPrefix front) word x.now)
     → option_map (λ text. text.now) r ≡ text_behind front word
 strip_is front word None lacks = by (bytes_eq (take (length front) word) front) refl
   where

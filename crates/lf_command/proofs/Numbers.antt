@@ -64,7 +64,8 @@ number_none least most k text not_read fits = by (number_in least most text) ref
         absurd (not_read (from_true text said.0, omega (arith, high, fits)))
 
 -- a number out of the bounds
-pub number_out : (least most n : ℕ) (text : List ℕ) → n ≡ digits_value 10 (without_leading_plus text) → (n < least) ⊎ (most < n) → None ≡ number_in least most text
+pub number_out : (least most n : ℕ) (text : List ℕ) → n ≡ digits_value 10 (without_leading_plus text) → (n < least) ⊎ (most < n)
+    → None ≡ number_in least most text
 number_out least most n text is out = by (number_in least most text) refl out
   where
     by : (r : Option ℕ) → number_in least most text ≡ r → (n < least) ⊎ (most < n) → None ≡ number_in least most text

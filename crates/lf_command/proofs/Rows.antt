@@ -40,14 +40,18 @@ without_missing id (r ∷ rows) e = by (bytes_eq r.id id) refl (without_missing 
     by true is deeper = let same : Some r ≡ None = sym (rw is refl) ∙ e in absurd (false≢true (sym (ap is_some same)))
     by false is deeper = rw (is, deeper (sym (rw is refl) ∙ e)) refl
 
+abbrev pub first_row : Text → Reading → List Text → Row
+first_row id how values = record { id = id; values = values; count = None; source = Some CommandLine; reading = how }
+
 -- what is seen of an argument that had no row
 pub seen_first : (id : Text) (how : Reading) (values : List Text) (rows : List Row) → seen id rows ≡ None
-    → seen id (put id how values rows) ≡ Some (record { id = id; values = values; count = None; source = Some CommandLine; reading = how })
+    → seen id (put id how values rows) ≡ Some (first_row id how values)
 seen_first id how values [] e = rw (same_text id) refl
 seen_first id how values (r ∷ rows) e = by (bytes_eq r.id id) refl (seen_first id how values rows)
   where
-    by : (b : Bool) → bytes_eq r.id id ≡ b → (seen id rows ≡ None → seen id (put id how values rows) ≡ Some (record { id = id; values = values; count = None; source = Some CommandLine; reading = how }))
-        → seen id (put id how values (r ∷ rows)) ≡ Some (record { id = id; values = values; count = None; source = Some CommandLine; reading = how })
+    by : (b : Bool) → bytes_eq r.id id ≡ b
+        → (seen id rows ≡ None → seen id (put id how values rows) ≡ Some (first_row id how values))
+        → seen id (put id how values (r ∷ rows)) ≡ Some (first_row id how values)
     by true is deeper = let same : Some r ≡ None = sym (rw is refl) ∙ e in absurd (false≢true (sym (ap is_some same)))
     by false is deeper = rw (is, is) (deeper (sym (rw is refl) ∙ e))
 
@@ -60,7 +64,8 @@ pub seen_more : (id : Text) (how : Reading) (values : List Text) (rows : List Ro
 seen_more id how values [] row e = absurd (false≢true (ap is_some e))
 seen_more id how values (r ∷ rows) row e = by (bytes_eq r.id id) refl (seen_more id how values rows row)
   where
-    by : (b : Bool) → bytes_eq r.id id ≡ b → (seen id rows ≡ Some row → seen id (put id how values rows) ≡ Some (more values row)) → seen id (put id how values (r ∷ rows)) ≡ Some (more values row)
+    by : (b : Bool) → bytes_eq r.id id ≡ b → (seen id rows ≡ Some row → seen id (put id how values rows) ≡ Some (more values row))
+        → seen id (put id how values (r ∷ rows)) ≡ Some (more values row)
     by true is deeper = let same : Some r ≡ Some row = sym (rw is refl) ∙ e in rw (is, is) (ap (λ o. Some (more values (unwrap_or o row))) same)
     by false is deeper = rw (is, is) (deeper (sym (rw is refl) ∙ e))
 
@@ -70,7 +75,8 @@ pub seen_other : (id other : Text) (how : Reading) (values : List Text) (rows : 
 seen_other id other how values [] differ = rw differ refl
 seen_other id other how values (r ∷ rows) differ = by (bytes_eq r.id id) refl (seen_other id other how values rows differ)
   where
-    by : (b : Bool) → bytes_eq r.id id ≡ b → (seen other (put id how values rows) ≡ seen other rows) → seen other (put id how values (r ∷ rows)) ≡ seen other (r ∷ rows)
+    by : (b : Bool) → bytes_eq r.id id ≡ b → (seen other (put id how values rows) ≡ seen other rows)
+        → seen other (put id how values (r ∷ rows)) ≡ seen other (r ∷ rows)
     by true is deeper =
         let not_other : bytes_eq r.id other ≡ false = ap (λ (t : Text). bytes_eq t other) ((bytes_eq-Decides r.id id).0 is) ∙ differ in
         rw (is, not_other) refl
@@ -90,6 +96,7 @@ pub put_twice : (id : Text) (how : Reading) (values others : List Text) (rows : 
 put_twice id how values others [] = rw (same_text id) refl
 put_twice id how values others (r ∷ rows) = by (bytes_eq r.id id) refl (put_twice id how values others rows)
   where
-    by : (b : Bool) → bytes_eq r.id id ≡ b → (put id how (values ++ others) rows ≡ put id how others (put id how values rows)) → put id how (values ++ others) (r ∷ rows) ≡ put id how others (put id how values (r ∷ rows))
+    by : (b : Bool) → bytes_eq r.id id ≡ b → (put id how (values ++ others) rows ≡ put id how others (put id how values rows))
+        → put id how (values ++ others) (r ∷ rows) ≡ put id how others (put id how values (r ∷ rows))
     by true is deeper = rw (is, is) (ap (λ (x : Row). x ∷ rows) (more_twice values others r))
     by false is deeper = rw (is, is) (ap (λ (xs : List Row). r ∷ xs) deeper)

@@ -61,14 +61,16 @@ pub record IsPath (word : Text) : Type 0 where
 
 -- ---- paths
 
-pub first_path : (chosen : Subcommand) (rows : List Row) (p : Pending) (word : Text) → IsPath word → pends (codes "def") p ≡ false → settles chosen p rows ≡ true
+pub first_path : (chosen : Subcommand) (rows : List Row) (p : Pending) (word : Text) → IsPath word → pends (codes "def") p ≡ false
+    → settles chosen p rows ≡ true
     → Step chosen (at rows p idle 1 false) word (at (done chosen p rows) (Some (codes "def", word ∷ [])) idle 2 false)
 unfolding clap_on_literals
 first_path Replay rows p word h e s = record { walks = rw (h.end, h.long, h.short, e) refl; passes = rw (h.end, h.long, h.short, e, s) refl }
 first_path Serve rows p word h e s = record { walks = rw (h.end, h.long, h.short, e) refl; passes = rw (h.end, h.long, h.short, e, s) refl }
 first_path Check rows p word h e s = record { walks = rw (h.end, h.long, h.short, e) refl; passes = rw (h.end, h.long, h.short, e, s) refl }
 
-pub first_behind : (chosen : Subcommand) (rows : List Row) (p : Pending) (w : Waiting) (word : Text) → pends (codes "def") p ≡ false → settles chosen p rows ≡ true
+pub first_behind : (chosen : Subcommand) (rows : List Row) (p : Pending) (w : Waiting) (word : Text) → pends (codes "def") p ≡ false
+    → settles chosen p rows ≡ true
     → Step chosen (at rows p w 1 true) word (at (done chosen p rows) (Some (codes "def", word ∷ [])) idle 2 true)
 unfolding clap_on_literals
 first_behind Replay rows p w word e s = record { walks = rw e refl; passes = rw (e, s) refl }
@@ -80,7 +82,8 @@ abbrev pub resting : Bool → Waiting
 resting true = positional
 resting false = idle
 
-pub next_path : (chosen : Subcommand) (b : Bool) (rows : List Row) (p : Pending) (word : Text) → IsPath word → pends (codes "lef") p ≡ false → settles chosen p rows ≡ true
+pub next_path : (chosen : Subcommand) (b : Bool) (rows : List Row) (p : Pending) (word : Text) → IsPath word → pends (codes "lef") p ≡ false
+    → settles chosen p rows ≡ true
     → Step chosen (at rows p (resting b) 2 false) word (at (done chosen p rows) (Some (codes "lef", word ∷ [])) positional 2 false)
 unfolding clap_on_literals
 next_path Replay true rows p word h e s = record { walks = rw (h.end, h.long, h.short, e) refl; passes = rw (h.end, h.long, h.short, e, s) refl }
@@ -90,7 +93,8 @@ next_path Serve false rows p word h e s = record { walks = rw (h.end, h.long, h.
 next_path Check true rows p word h e s = record { walks = rw (h.end, h.long, h.short, e) refl; passes = rw (h.end, h.long, h.short, e, s) refl }
 next_path Check false rows p word h e s = record { walks = rw (h.end, h.long, h.short, e) refl; passes = rw (h.end, h.long, h.short, e, s) refl }
 
-pub next_behind : (chosen : Subcommand) (rows : List Row) (p : Pending) (w : Waiting) (word : Text) → pends (codes "lef") p ≡ false → settles chosen p rows ≡ true
+pub next_behind : (chosen : Subcommand) (rows : List Row) (p : Pending) (w : Waiting) (word : Text) → pends (codes "lef") p ≡ false
+    → settles chosen p rows ≡ true
     → Step chosen (at rows p w 2 true) word (at (done chosen p rows) (Some (codes "lef", word ∷ [])) positional 2 true)
 unfolding clap_on_literals
 next_behind Replay rows p w word e s = record { walks = rw e refl; passes = rw (e, s) refl }
@@ -134,8 +138,10 @@ value_passes Export = accepts false parser.String
 value_passes Port = accepts false (parser.Unsigned 1 65535)
 value_passes Connections = accepts false (parser.Unsigned 1 1000000)
 
-pub option_word : (chosen : Subcommand) (setting : Setting) (b : Bool) (rows : List Row) (p : Pending) (position : ℕ) → has_setting chosen setting ≡ true → settles chosen p rows ≡ true
-    → Step chosen (at rows p (resting b) position false) (flag_of setting) (at (done chosen p rows) (Some (name_of setting, [])) (option (name_of setting)) position false)
+pub option_word : (chosen : Subcommand) (setting : Setting) (b : Bool) (rows : List Row) (p : Pending) (position : ℕ) → has_setting chosen setting ≡ true
+    → settles chosen p rows ≡ true
+    → Step chosen (at rows p (resting b) position false) (flag_of setting)
+    (at (done chosen p rows) (Some (name_of setting, [])) (option (name_of setting)) position false)
 unfolding clap_on_literals
 option_word Replay Export true rows p position has settled = record { walks = refl; passes = rw settled refl }
 option_word Replay Export false rows p position has settled = record { walks = refl; passes = rw settled refl }
@@ -151,7 +157,8 @@ option_word Check Export b rows p position has settled = absurd (false≢true ha
 option_word Check Port b rows p position has settled = absurd (false≢true has)
 option_word Check Connections b rows p position has settled = absurd (false≢true has)
 
-pub option_with_value : (chosen : Subcommand) (setting : Setting) (b : Bool) (rows : List Row) (p : Pending) (position : ℕ) (value : Text) → has_setting chosen setting ≡ true
+pub option_with_value : (chosen : Subcommand) (setting : Setting) (b : Bool) (rows : List Row) (p : Pending) (position : ℕ) (value : Text)
+    → has_setting chosen setting ≡ true
     → settles chosen p rows ≡ true → has_row (name_of setting) (done chosen p rows) ≡ false → value_passes setting value ≡ true
     → Step chosen (at rows p (resting b) position false) ((flag_of setting ++ codes "=") ++ value)
     (at (done chosen (Some (name_of setting, value ∷ [])) (done chosen p rows)) None idle position false)
@@ -171,7 +178,8 @@ option_with_value Check Port b rows p position value has settled new passes = ab
 option_with_value Check Connections b rows p position value has settled new passes = absurd (false≢true has)
 
 pub value_word : (chosen : Subcommand) (setting : Setting) (rows : List Row) (position : ℕ) (word : Text) → has_setting chosen setting ≡ true → IsPath word
-    → Step chosen (at rows (Some (name_of setting, [])) (option (name_of setting)) position false) word (at rows (Some (name_of setting, word ∷ [])) idle position false)
+    → Step chosen (at rows (Some (name_of setting, [])) (option (name_of setting)) position false) word
+    (at rows (Some (name_of setting, word ∷ [])) idle position false)
 unfolding clap_on_literals
 value_word Replay Export rows position word has h = record { walks = rw (h.end, h.long, h.short) refl; passes = rw (h.end, h.long, h.short) refl }
 value_word Serve Export rows position word has h = record { walks = rw (h.end, h.long, h.short) refl; passes = rw (h.end, h.long, h.short) refl }
@@ -185,7 +193,8 @@ value_word Check Connections rows position word has h = absurd (false≢true has
 
 -- ---- what is pending is used
 
-pub settles_value : (chosen : Subcommand) (setting : Setting) (rows : List Row) (value : Text) → has_setting chosen setting ≡ true → has_row (name_of setting) rows ≡ false → value_passes setting value ≡ true
+pub settles_value : (chosen : Subcommand) (setting : Setting) (rows : List Row) (value : Text) → has_setting chosen setting ≡ true
+    → has_row (name_of setting) rows ≡ false → value_passes setting value ≡ true
     → settles chosen (Some (name_of setting, value ∷ [])) rows ≡ true
 unfolding clap_on_literals
 settles_value Replay Export rows value has new passes = rw (new, passes) refl
@@ -198,13 +207,15 @@ settles_value Check Export rows value has new passes = absurd (false≢true has)
 settles_value Check Port rows value has new passes = absurd (false≢true has)
 settles_value Check Connections rows value has new passes = absurd (false≢true has)
 
-pub settles_def : (chosen : Subcommand) (rows : List Row) (def : Text) → has_row (codes "def") rows ≡ false → settles chosen (Some (codes "def", def ∷ [])) rows ≡ true
+pub settles_def : (chosen : Subcommand) (rows : List Row) (def : Text) → has_row (codes "def") rows ≡ false
+    → settles chosen (Some (codes "def", def ∷ [])) rows ≡ true
 unfolding clap_on_literals
 settles_def Replay rows def new = rw new refl
 settles_def Serve rows def new = rw new refl
 settles_def Check rows def new = rw new refl
 
-pub settles_lefs : (chosen : Subcommand) (rows : List Row) (lef : Text) (lefs : List Text) → nat_le 1 (length (lef ∷ lefs)) ≡ true → nat_le (length (lef ∷ lefs)) usize_max ≡ true → list_all (λ value. true) lefs ≡ true
+pub settles_lefs : (chosen : Subcommand) (rows : List Row) (lef : Text) (lefs : List Text) → nat_le 1 (length (lef ∷ lefs)) ≡ true
+    → nat_le (length (lef ∷ lefs)) usize_max ≡ true → list_all (λ value. true) lefs ≡ true
     → settles chosen (Some (codes "lef", lef ∷ lefs)) rows ≡ true
 unfolding clap_on_literals
 settles_lefs Replay rows lef lefs least most all = rw (least, most, all) refl

@@ -27,4 +27,5 @@ pub texts_same : (xs ys : List Word) → texts xs ≡ texts ys → pointwise (λ
 texts_same [] [] e = refl
 texts_same [] (y ∷ ys) e = let lengths : 0 ≡ length (texts (y ∷ ys)) = ap (λ (l : List (List ℕ)). length l) e in absurd (omega (arith, lengths))
 texts_same (x ∷ xs) [] e = let lengths : length (texts (x ∷ xs)) ≡ 0 = ap (λ (l : List (List ℕ)). length l) e in absurd (omega (arith, lengths))
-texts_same (x ∷ xs) (y ∷ ys) e = and_from (bytes_eq x.now y.now) _ ((bytes_eq-Decides x.now y.now).1 (ap (λ l. slice_index_or l 0 []) e)) (texts_same xs ys (ap (λ l. drop 1 l) e))
+texts_same (x ∷ xs) (y ∷ ys) e =
+    and_from (bytes_eq x.now y.now) _ ((bytes_eq-Decides x.now y.now).1 (ap (λ l. slice_index_or l 0 []) e)) (texts_same xs ys (ap (λ l. drop 1 l) e))

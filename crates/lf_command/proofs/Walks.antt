@@ -170,7 +170,8 @@ fits_path chosen path given f = record {
   few = let more : length (given.paths ++ path ∷ []) ≡ length given.paths + 1 = length-append given.paths (path ∷ []) in omega (arith, more, f.few);
 }
 
-kept : (s t : Setting) (value other : Text) (given : Given) → value_of s given ≡ None → value_of t given ≡ Some other → value_of t (set s value given) ≡ Some other
+kept : (s t : Setting) (value other : Text) (given : Given) → value_of s given ≡ None → value_of t given ≡ Some other
+    → value_of t (set s value given) ≡ Some other
 kept Export Export value other given none e = absurd (false≢true (ap is_some (sym none ∙ e)))
 kept Export Port value other given none e = e
 kept Export Connections value other given none e = e
@@ -234,7 +235,8 @@ new_lef chosen given word def lefs trailing rows some h = record {
 }
 
 more_lefs : (chosen : Subcommand) (given : Given) (word def lef : Text) (lefs before : List Text) (trailing : Bool) (rows : List Row) → given.paths ≡ def ∷ lefs
-    → length (with_path word given).paths ≤ usize_max → length before ≤ length lefs → Holds (def ∷ lefs) given (done chosen (Some (codes "lef", lef ∷ before)) rows)
+    → length (with_path word given).paths ≤ usize_max → length before ≤ length lefs
+    → Holds (def ∷ lefs) given (done chosen (Some (codes "lef", lef ∷ before)) rows)
     → At chosen (with_path word given) trailing (at rows (Some (codes "lef", lef ∷ before ++ word ∷ [])) positional 2 trailing)
 more_lefs chosen given word def lef lefs before trailing rows some few fewer h =
     let all : length (given.paths ++ word ∷ []) ≡ length given.paths + 1 = length-append given.paths (word ∷ []) in
@@ -242,7 +244,8 @@ more_lefs chosen given word def lef lefs before trailing rows some few fewer h =
     let now : length (before ++ word ∷ []) ≡ length before + 1 = length-append before (word ∷ []) in
     let then : length (lefs ++ word ∷ []) ≡ length lefs + 1 = length-append lefs (word ∷ []) in
     let most : length (lef ∷ before ++ word ∷ []) ≤ usize_max = omega (arith, all, paths, now, few, fewer) in
-    let put_more : done chosen (Some (codes "lef", lef ∷ before ++ word ∷ [])) rows ≡ put (codes "lef") AsWritten (word ∷ []) (done chosen (Some (codes "lef", lef ∷ before)) rows) =
+    let put_more : done chosen (Some (codes "lef", lef ∷ before ++ word ∷ [])) rows
+    ≡ put (codes "lef") AsWritten (word ∷ []) (done chosen (Some (codes "lef", lef ∷ before)) rows) =
     done_lefs chosen rows lef (before ++ word ∷ []) ∙ put_twice (codes "lef") AsWritten (lef ∷ before) (word ∷ []) rows
     ∙ ap (put (codes "lef") AsWritten (word ∷ [])) (sym (done_lefs chosen rows lef before)) in
     record {
@@ -260,8 +263,10 @@ more_lefs chosen given word def lef lefs before trailing rows some few fewer h =
     }
 
 -- a path before '--'
-path_from : (chosen : Subcommand) (given : Given) (word : Text) (rows : List Row) (p : Pending) (b : Bool) (position : ℕ) (paths : List Text) → given.paths ≡ paths
-    → Holds paths given (done chosen p rows) → settles chosen p rows ≡ true → Stands paths p b position → IsPath word → length (with_path word given).paths ≤ usize_max
+path_from : (chosen : Subcommand) (given : Given) (word : Text) (rows : List Row) (p : Pending) (b : Bool) (position : ℕ) (paths : List Text)
+    → given.paths ≡ paths
+    → Holds paths given (done chosen p rows) → settles chosen p rows ≡ true → Stands paths p b position → IsPath word
+    → length (with_path word given).paths ≤ usize_max
     → (to : Walk) × Step chosen (at rows p (resting b) position false) word to × At chosen (with_path word given) false to
 path_from chosen given word rows p b position [] e h s (is_b, is_position, none) path few = (
   at (done chosen p rows) (Some (codes "def", word ∷ [])) idle 2 false,
@@ -280,7 +285,8 @@ path_from chosen given word rows p b position (def ∷ lefs) e h s (is_position,
 )
 
 -- and a word behind it
-behind_from : (chosen : Subcommand) (given : Given) (word : Text) (rows : List Row) (p : Pending) (b : Bool) (position : ℕ) (paths : List Text) → given.paths ≡ paths
+behind_from : (chosen : Subcommand) (given : Given) (word : Text) (rows : List Row) (p : Pending) (b : Bool) (position : ℕ) (paths : List Text)
+    → given.paths ≡ paths
     → Holds paths given (done chosen p rows) → settles chosen p rows ≡ true → Stands paths p b position → length (with_path word given).paths ≤ usize_max
     → (to : Walk) × Step chosen (at rows p (resting b) position true) word to × At chosen (with_path word given) true to
 behind_from chosen given word rows p b position [] e h s (is_b, is_position, none) few = (
@@ -344,7 +350,8 @@ pends_none : (paths : List Text) (position : ℕ) → PositionOf paths position 
 pends_none [] position is = (refl, is, refl)
 pends_none (def ∷ lefs) position is = (is, inl refl)
 
-pends_value : (paths : List Text) (position : ℕ) (s : Setting) (value : Text) → PositionOf paths position → Stands paths (Some (name_of s, value ∷ [])) false position
+pends_value : (paths : List Text) (position : ℕ) (s : Setting) (value : Text) → PositionOf paths position
+    → Stands paths (Some (name_of s, value ∷ [])) false position
 pends_value [] position Export value is = (refl, is, refl)
 pends_value [] position Port value is = (refl, is, refl)
 pends_value [] position Connections value is = (refl, is, refl)
@@ -460,7 +467,8 @@ IsWordOf (s, Some value) word = word ≡ (flag_of s ++ codes "=") ++ value
 at_is : (word : Text) (s : Setting) (r : Setting × Option Text) → option_at word s ≡ Some r → IsWordOf r word
 at_is word s r e = by (bytes_eq word (flag_of s)) refl (bytes_eq (take (length (flag_of s ++ codes "=")) word) (flag_of s ++ codes "=")) refl
   where
-    by : (b : Bool) → bytes_eq word (flag_of s) ≡ b → (f : Bool) → bytes_eq (take (length (flag_of s ++ codes "=")) word) (flag_of s ++ codes "=") ≡ f → IsWordOf r word
+    by : (b : Bool) → bytes_eq word (flag_of s) ≡ b → (f : Bool) → bytes_eq (take (length (flag_of s ++ codes "=")) word) (flag_of s ++ codes "=") ≡ f
+        → IsWordOf r word
     by true is f front =
         let same : Some (s, None) ≡ Some r = sym (rw is refl) ∙ e in
         subst (λ (q : Setting × Option Text). IsWordOf q word) (same_some (s, None) r same) ((bytes_eq-Decides word (flag_of s)).0 is)
@@ -503,7 +511,8 @@ option_goes chosen word given r (s, Some value) is e = by (has_setting chosen s)
     by : (b : Bool) → has_setting chosen s ≡ b → Goes chosen word given Any r
     by true has =
         let read = with_is chosen given s value r (sym (rw has refl) ∙ e) in
-        rw is (subst (λ (q : Given × Next). Goes chosen ((flag_of s ++ codes "=") ++ value) given Any q) read.1 (goes_option_with chosen given s value has read.0))
+        rw is (subst (λ (q : Given × Next). Goes chosen ((flag_of s ++ codes "=") ++ value) given Any q) read.1
+        (goes_option_with chosen given s value has read.0))
     by false has = let same : None ≡ Some r = sym (rw has refl) ∙ e in absurd (false≢true (ap is_some same))
 
 value_goes : (chosen : Subcommand) (word : Text) (given : Given) (s : Setting) (r : Given × Next) → read_word chosen word given (Value s) ≡ Some r
@@ -519,13 +528,15 @@ any_goes : (chosen : Subcommand) (word : Text) (given : Given) (r : Given × Nex
 any_goes chosen word given r e true is o also w found =
     let same : (given, Path) ≡ r = same_some (given, Path) r (sym (rw is refl) ∙ e) in
     rw ((bytes_eq-Decides word (codes "--")).0 is) (subst (λ (q : Given × Next). Goes chosen (codes "--") given Any q) same (goes_end chosen given))
-any_goes chosen word given r e false is true also None found = let same : None ≡ Some r = sym (rw (is, also, found) refl) ∙ e in absurd (false≢true (ap is_some same))
+any_goes chosen word given r e false is true also None found = let same : None ≡ Some r = sym (rw (is, also, found) refl)
+    ∙ e in absurd (false≢true (ap is_some same))
 any_goes chosen word given r e false is true also (Some w) found = option_goes chosen word given r w (of_is word w found) (sym (rw (is, also, found) refl) ∙ e)
 any_goes chosen word given r e false is false also w found =
     let same : (with_path word given, Any) ≡ r = same_some (with_path word given, Any) r (sym (rw (is, also) refl) ∙ e) in
     subst (λ (q : Given × Next). Goes chosen word given Any q) same (goes_path chosen word given (is_path word also))
 
-goes : (chosen : Subcommand) (word : Text) (given : Given) (next : Next) (r : Given × Next) → read_word chosen word given next ≡ Some r → Goes chosen word given next r
+goes : (chosen : Subcommand) (word : Text) (given : Given) (next : Next) (r : Given × Next) → read_word chosen word given next ≡ Some r
+    → Goes chosen word given next r
 goes chosen word given Any r e = any_goes chosen word given r e (bytes_eq word (codes "--")) refl (is_option word) refl (option_of word) refl
 goes chosen word given (Value s) r e = value_goes chosen word given s r e (is_option word) refl
 goes chosen word given Path r e =
@@ -587,7 +598,8 @@ arrives chosen (word ∷ words) given out next e fits = by (read_word chosen wor
 
 -- ---- how many paths there are
 
-few_with : (chosen : Subcommand) (word : Text) (given : Given) (o : Setting × Option Text) (r : Given × Next) → with_option chosen given o ≡ Some r → r.0.paths ≡ given.paths
+few_with : (chosen : Subcommand) (word : Text) (given : Given) (o : Setting × Option Text) (r : Given × Next) → with_option chosen given o ≡ Some r
+    → r.0.paths ≡ given.paths
 few_with chosen word given (s, None) r e = by (has_setting chosen s) refl
   where
     by : (b : Bool) → has_setting chosen s ≡ b → r.0.paths ≡ given.paths
@@ -615,7 +627,8 @@ few_any : (chosen : Subcommand) (word : Text) (given : Given) (r : Given × Next
     → length r.0.paths ≤ length given.paths + 1
 few_any chosen word given r e true is o also w found =
     same_count given r (ap (λ (q : Given × Next). q.0.paths) (sym (same_some (given, Path) r (sym (rw is refl) ∙ e))))
-few_any chosen word given r e false is true also None found = let same : None ≡ Some r = sym (rw (is, also, found) refl) ∙ e in absurd (false≢true (ap is_some same))
+few_any chosen word given r e false is true also None found = let same : None ≡ Some r = sym (rw (is, also, found) refl)
+    ∙ e in absurd (false≢true (ap is_some same))
 few_any chosen word given r e false is true also (Some w) found = same_count given r (few_with chosen word given w r (sym (rw (is, also, found) refl) ∙ e))
 few_any chosen word given r e false is false also w found =
     one_more_path word given r Any (same_some (with_path word given, Any) r (sym (rw (is, also) refl) ∙ e))

@@ -63,6 +63,7 @@ pub record Given : Type 0 where
   pub port : Option (List ℕ)
   pub connections : Option (List ℕ)
 
+-- before the first word
 abbrev pub nothing : Given
 nothing = record { paths = []; export = None; port = None; connections = None }
 
@@ -76,6 +77,7 @@ value_of Export given = given.export
 value_of Port given = given.port
 value_of Connections given = given.connections
 
+-- an option has this value
 abbrev pub set : Setting → List ℕ → Given → Given
 set Export value given = record given { export = Some value }
 set Port value given = record given { port = Some value }
@@ -140,6 +142,7 @@ subcommand_named word =
 abbrev pub is_number : List ℕ → Bool
 is_number text = nat_lt 0 (length (without_leading_plus text)) && list_all (λ digit. nat_lt (digit_value digit) 10) (without_leading_plus text)
 
+-- the number that the digits of a text write
 abbrev pub number_of : List ℕ → ℕ
 number_of text = digits_value 10 (without_leading_plus text)
 
