@@ -1,5 +1,3 @@
-mod Arguments
 mod DesignSteps
-mod Paths
 mod Reporting
 mod TaskSteps

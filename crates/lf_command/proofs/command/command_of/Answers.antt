@@ -3,8 +3,8 @@ use Rattle.std.proofs.lemmas.Bool.{false≢true}
 use Rattle.clap.specs.Lexer.{usize_max}
 use Rattle.clap.specs.Takes.{takes}
 use Rattle.clap.specs.Simple.{App}
-use Rattle.lf_app.proofs.Arguments.{no_job_taken, texts}
-use Rattle.lf_app.proofs.command.command_of.Goals as goal
+use Rattle.lf_command.proofs.Arguments.{no_job_taken, texts}
+use Rattle.lf_command.proofs.command.command_of.Goals as goal
 
 pub returns-clause-err : goal.returns-clause-err
 returns-clause-err c = λ same.
