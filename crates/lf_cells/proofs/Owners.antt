@@ -10,7 +10,8 @@ use Rattle.lf_cells.specs.declared.cell.CellId.{CellId}
 use Rattle.lf_cells.specs.declared.slots.Slot.{Slot}
 use Rattle.lf_cells.specs.declared.parts.Parts.{Parts}
 use Rattle.lf_cells.specs.Cells.{Cells, AreAll, cell_at, component_at}
-use Rattle.lf_cells.specs.Slots.{opening_slot, own_slots, cell_in, components_in, labels, labels_in, label_at, slot_at, position_in, table_of, AreIndexed, AreTakenIn}
+use Rattle.lf_cells.specs.Slots.{opening_slot, own_slots, cell_in, components_in, labels, labels_in, label_at, slot_at, position_in}
+use Rattle.lf_cells.specs.Slots.{table_of, AreIndexed, AreTakenIn}
 use Rattle.lf_cells.proofs.Lists.{map_at}
 use Rattle.lf_cells.proofs.Looks.{cell_is, component_is, owner_is}
 
@@ -71,7 +72,8 @@ owner_position : (cells : List LoadedCell) (count : ℕ) (p : Parts) → AreTake
     → slice_get p.owners.items i ≡ Some id → position_in (components_in p.teams.items) id ≡ (get_or cells i d).component
 owner_position cells count p taken i id d there =
     let has = owner_slot p id i ((taken.index.owned id i).0 there) in
-    let own : slice_get (own_slots id.team 0 cells) id.own ≡ Some has.slot = ap (λ (ss : List Slot). slice_get ss id.own) (sym (taken.each id.team)) ∙ has.there in
+    let own : slice_get (own_slots id.team 0 cells) id.own ≡ Some has.slot =
+    ap (λ (ss : List Slot). slice_get ss id.own) (sym (taken.each id.team)) ∙ has.there in
     let is = slot_from id.team 0 cells id.own has.slot own in
     let at : is.place ≡ i = omega (arith, is.label_is, has.label_is) in
     slot_position p id has.slot has.there ∙ is.entry d ∙ ap (λ (k : ℕ). (get_or cells k d).component) at

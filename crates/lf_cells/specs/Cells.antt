@@ -1,6 +1,6 @@
 -- The cells of all teams as contracts see them (LEF/DEF 5.8, DEF COMPONENTS).
-use Rattle.std.specs.Prelude.{◌↔◌, ℕ, zero, suc, ◌<◌, List, [], ◌∷◌, Option, position, bytes_eq, option_map, option_and_then, slice_get, slice_index, slice_index_or}
-use Rattle.std.specs.Prelude.{map, length, AllPairs, Contains, IsSome}
+use Rattle.std.specs.Prelude.{◌↔◌, ℕ, zero, suc, ◌<◌, List, [], ◌∷◌, Option, position, bytes_eq, option_map, option_and_then}
+use Rattle.std.specs.Prelude.{slice_get, slice_index, slice_index_or, map, length, AllPairs, Contains, IsSome}
 use Rattle.std.specs.List.{range_with_len}
 use Rattle.lf_floorplan.specs.declared.place.Place.{Place}
 use Rattle.lf_cells.specs.declared.cell.Cell.{Cell}
@@ -28,7 +28,7 @@ cell_at table id = slice_get (cells_of table id.team) id.own
 abbrev pub component_at : Cells → CellId → Option ℕ
 component_at table id = slice_get (components_of table id.team) id.own
 
--- the same, and 0 where there is no such cell
+-- the position of that cell's entry, and 0 where there is no such cell
 abbrev pub position_of : Cells → CellId → ℕ
 position_of table id = slice_index (components_of table id.team) id.own
 

@@ -1,7 +1,8 @@
 //! The table of all teams' cells.
 
 ghost use Rattle.std.specs.Prelude.{◌≡◌, ◌+◌, ◌<◌, [], IfOk, IfSome, length, map, option_map, slice_get, slice_set};
-ghost use Rattle.lf_cells.specs.Cells.{AreAll, cells_of, cell_named, cell_at, component_at, id_in, ids_of, standing_of, working_at, committed_at, moved, as_committed};
+ghost use Rattle.lf_cells.specs.Cells.{AreAll, cells_of, cell_named, cell_at, component_at, id_in, ids_of};
+ghost use Rattle.lf_cells.specs.Cells.{standing_of, working_at, committed_at, moved, as_committed};
 ghost use Rattle.lf_cells.specs.Openings.{opening_cells, opening_components};
 
 use crate::cell::{CellFacts, CellId, Standing};

@@ -58,7 +58,8 @@ module _ (f : Frame) (tables : Tables) (of_frame : AreTablesOf f tables) where
     entry_is : (id : CellId) (position : ℕ) (c : Cell) → component_at tables.cells id ≡ Some position → cell_at tables.cells id ≡ Some c
         → committed_entry tables.cells id ≡ (position, c.committed)
     entry_is id position c entry cell =
-        ap (λ (k : ℕ). (k, committed_at (cells_of tables.cells id.team) id.own)) (get_or_from_slice_get (components_of tables.cells id.team) id.own position 0 entry)
+        ap (λ (k : ℕ). (k, committed_at (cells_of tables.cells id.team) id.own))
+        (get_or_from_slice_get (components_of tables.cells id.team) id.own position 0 entry)
         ∙ ap (λ (o : Option Cell). (position, option_and_then (λ (d : Cell). d.committed) o)) cell
 
     one_cell : (id : CellId) → Contains ids id → (c : Cell) × (cell_at tables.cells id ≡ Some c)

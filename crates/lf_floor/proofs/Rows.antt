@@ -165,7 +165,9 @@ module _ (design : Loaded) (tables : Tables) (opens : AreOpening design tables) 
 
   pub opened_tables : AreTablesOf design.frame tables
   opened_tables = record {
-    components = ap (λ (cs : List (List ℕ)). length cs) opens.components ∙ length-map-range_with_len (λ (number : ℕ). own_components number design.cells) 0 count;
+    components =
+        ap (λ (cs : List (List ℕ)). length cs) opens.components
+        ∙ length-map-range_with_len (λ (number : ℕ). own_components number design.cells) 0 count;
     undo = ap (λ (xs : List (List (List Move))). length xs) opens.undo ∙ length-replicate count [];
     sessions = ap (λ (xs : List (List (Option ℕ))). length xs) opens.sessions ∙ length-replicate count (replicate design.frame.limits.sessions None);
     revisions = revisions_are;

@@ -46,7 +46,8 @@ module _ {X : Type 0} (key : X → ℕ) where
   at_head : (x : X) (xs : List X) → Contains (x ∷ xs) x
   at_head x xs = (0, omega arith, refl)
 
-  rest_there : (x y : X) (xs ys : List X) → x ≡ y → Rises (x ∷ xs) → ((z : X) → Contains (x ∷ xs) z → Contains (y ∷ ys) z) → (z : X) → Contains xs z → Contains ys z
+  rest_there : (x y : X) (xs ys : List X) → x ≡ y → Rises (x ∷ xs) → ((z : X) → Contains (x ∷ xs) z → Contains (y ∷ ys) z)
+      → (z : X) → Contains xs z → Contains ys z
   rest_there x y xs ys same rise there z inside = by (in_tail y ys z (there z (in_longer x xs z inside))) where
     by : (y ≡ z) ⊎ Contains ys z → Contains ys z
     by (inl is) = absurd (omega (arith, head_below x xs rise z inside, ap key (same ∙ is)))
@@ -120,18 +121,17 @@ own_held design number own c there = record {
 within_or_past : (a b : ℕ) → (a < b) ⊎ (b ≤ a)
 within_or_past a b = grind arith
 
-row_is : (design : Loaded) (number : ℕ) → number < length design.frame.teams + 1 → get_or (opening_components design) number [] ≡ own_components number design.cells
+row_is : (design : Loaded) (number : ℕ) → number < length design.frame.teams + 1
+    → get_or (opening_components design) number [] ≡ own_components number design.cells
 row_is design number within =
     get_or-map-range_with_len (λ (n : ℕ). own_components n design.cells) 0 (length design.frame.teams + 1) number number [] within (zero-add number)
 
 -- an entry is that of one of the team's cells
 entry_from : (design : Loaded) (number own position : ℕ) → slice_get (get_or (opening_components design) number []) own ≡ Some position
     → (c : LoadedCell) × IsOwn design number own c × (c.component ≡ position)
-entry_from design number own position e = by (within_or_past number count) where
-  count : ℕ
-  count = length design.frame.teams + 1
-
-  by : (number < length design.frame.teams + 1) ⊎ (length design.frame.teams + 1 ≤ number) → (c : LoadedCell) × IsOwn design number own c × (c.component ≡ position)
+entry_from design number own position e = by (within_or_past number (length design.frame.teams + 1)) where
+  by : (number < length design.frame.teams + 1) ⊎ (length design.frame.teams + 1 ≤ number)
+      → (c : LoadedCell) × IsOwn design number own c × (c.component ≡ position)
   by (inl within) =
       let seen : option_map (λ (c : LoadedCell). c.component) (slice_get (filter (is_own number) design.cells) own) ≡ Some position =
       sym (slice_get-map (λ (c : LoadedCell). c.component) (filter (is_own number) design.cells) own)
@@ -170,7 +170,8 @@ places_follow design floor places same are =
     there n held =
         let listed = comes_from (λ (e : ℕ × Option Place). e.0) places n held in
         let cell = All-contains (λ (e : ℕ × Option Place). (number : ℕ) × (own : ℕ) × IsCommittedAt floor number own e) places listed.0 are.theirs listed.1 in
-        let entry = entry_from design cell.0 cell.1 listed.0.0 (ap (λ (rows : List (List ℕ)). slice_get (get_or rows cell.0 []) cell.1) (sym same) ∙ cell.2.position) in
+        let entry = entry_from design cell.0 cell.1 listed.0.0
+        (ap (λ (rows : List (List ℕ)). slice_get (get_or rows cell.0 []) cell.1) (sym same) ∙ cell.2.position) in
         subst (λ (k : ℕ). Contains (map (λ (c : LoadedCell). c.component) design.cells) k) (entry.2 ∙ listed.2)
         (contains_mapped (λ (c : LoadedCell). c.component) design.cells entry.0 entry.1.held)
 
@@ -178,7 +179,8 @@ places_follow design floor places same are =
     back n held =
         let cell = comes_from (λ (c : LoadedCell). c.component) design.cells n held in
         let entry = entry_to design cell.0 cell.1 in
-        let found = are.entries cell.0.team entry.0 cell.0.component (ap (λ (rows : List (List ℕ)). slice_get (get_or rows cell.0.team []) entry.0) same ∙ entry.2) in
+        let found = are.entries cell.0.team entry.0 cell.0.component
+        (ap (λ (rows : List (List ℕ)). slice_get (get_or rows cell.0.team []) entry.0) same ∙ entry.2) in
         subst (λ (k : ℕ). Contains (map (λ (e : ℕ × Option Place). e.0) places) k) cell.2
         (contains_mapped (λ (e : ℕ × Option Place). e.0) places (cell.0.component, found.0.committed) found.2)
 

@@ -19,21 +19,27 @@ pub kept_by : (P : TeamState → Type 0) (o : Outcome) (old new : TeamState) (re
 kept_by P o old new (Ok reply) ok err before after = subst P (sym ok.team_is) after
 kept_by P o old new (Err e) ok err before after = subst P (sym err.kept) before
 
-pub gives : (l : Legalizer) (f : Frame) (components : List (List ℕ)) (teams : List TeamState) (number : ℕ) (order : Order (List ℕ) Place) (s new : TeamState) (reply : Reply)
+pub gives : (l : Legalizer) (f : Frame) (components : List (List ℕ)) (teams : List TeamState) (number : ℕ)
+    (order : Order (List ℕ) Place) (s new : TeamState) (reply : Reply)
     → slice_get teams number ≡ Some s → Reaches (ruled l f number order s) reply new
     → Gives (answer_by (slice_get teams number) l (floor_of f components teams) number order) reply (floor_of f components (slice_set teams number new))
 gives l f components teams number order s new reply there reaches =
-    let P : Option TeamState → Type 0 = λ o. Gives (answer_by o l (floor_of f components teams) number order) reply (floor_of f components (slice_set teams number new)) in
+    let P : Option TeamState → Type 0 = λ o.
+    Gives (answer_by o l (floor_of f components teams) number order) reply (floor_of f components (slice_set teams number new)) in
     subst P (sym there) record {
       reply_is = reaches.reply_is;
       floor_is = ap (λ (t : TeamState). floor_of f components (slice_set teams number t)) reaches.team_is;
     }
 
-pub stays_short : (l : Legalizer) (f : Frame) (components : List (List ℕ)) (teams : List TeamState) (number : ℕ) (order : Order (List ℕ) Place) (s new : TeamState)
+pub stays_short : (l : Legalizer) (f : Frame) (components : List (List ℕ)) (teams : List TeamState) (number : ℕ)
+    (order : Order (List ℕ) Place) (s new : TeamState)
     → slice_get teams number ≡ Some s → RunsOut (ruled l f number order s) s new
-    → StaysShort (answer_by (slice_get teams number) l (floor_of f components teams) number order) (floor_of f components teams) (floor_of f components (slice_set teams number new))
+    → StaysShort (answer_by (slice_get teams number) l (floor_of f components teams) number order) (floor_of f components teams)
+    (floor_of f components (slice_set teams number new))
 stays_short l f components teams number order s new there out =
-    let P : Option TeamState → Type 0 = λ o. StaysShort (answer_by o l (floor_of f components teams) number order) (floor_of f components teams) (floor_of f components (slice_set teams number new)) in
+    let P : Option TeamState → Type 0 = λ o.
+    StaysShort (answer_by o l (floor_of f components teams) number order) (floor_of f components teams)
+    (floor_of f components (slice_set teams number new)) in
     subst P (sym there) record {
       kept =
           ap (λ (t : TeamState). floor_of f components (slice_set teams number t)) (out.kept ∙ sym (get_or_from_slice_get teams number s s there))

@@ -20,8 +20,9 @@ returns-clause-ok g c = λ l.
     let old = c.args.tables.now in
     let new = c.serve.new.self in
     rw (one_changed old new number c.serve.ensures.others, c.serve.ensures.others.components)
-    (IfOk-weaker c.serve.result _ _ (λ reply reaches. gives l f old.cells.components (teams_in old) number (order_of c.args.order.now) (own_team number old) (own_team number new)
-    reply (team_there old number (rw c.requires.tables.revisions c.requires.within)) reaches) (c.serve.ensures.ok l))
+    (IfOk-weaker c.serve.result _ _ (λ reply reaches.
+    gives l f old.cells.components (teams_in old) number (order_of c.args.order.now) (own_team number old) (own_team number new) reply
+    (team_there old number (rw c.requires.tables.revisions c.requires.within)) reaches) (c.serve.ensures.ok l))
 
 pub returns-clause-err : goal.returns-clause-err
 returns-clause-err g c = λ l.
@@ -30,7 +31,8 @@ returns-clause-err g c = λ l.
     let old = c.args.tables.now in
     let new = c.serve.new.self in
     rw (one_changed old new number c.serve.ensures.others, c.serve.ensures.others.components)
-    (on_err_weaker c.serve.result (λ out. stays_short l f old.cells.components (teams_in old) number (order_of c.args.order.now) (own_team number old) (own_team number new)
+    (on_err_weaker c.serve.result (λ out.
+    stays_short l f old.cells.components (teams_in old) number (order_of c.args.order.now) (own_team number old) (own_team number new)
     (team_there old number (rw c.requires.tables.revisions c.requires.within)) out) (c.serve.ensures.err l))
 
 pub returns-clause-teams : goal.returns-clause-teams

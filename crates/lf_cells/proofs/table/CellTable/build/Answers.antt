@@ -7,7 +7,8 @@ pub invariant_of-result : goal.invariant_of-result
 invariant_of-result c =
     let taken : AreTakenIn c.args.loaded.now.cells (length c.args.loaded.now.frame.teams + 1) c.in_ok-parts.parts =
     rw (c.as_slice.ensures, c.len-count.ensures) at (c.in_ok-parts.ensures {u = tt}) in
-    opened_index c.args.loaded.now.cells (length c.args.loaded.now.frame.teams + 1) c.in_ok-parts.parts c.args.loaded.now.names_differ c.args.loaded.now.components_rise taken
+    opened_index c.args.loaded.now.cells (length c.args.loaded.now.frame.teams + 1) c.in_ok-parts.parts c.args.loaded.now.names_differ
+    c.args.loaded.now.components_rise taken
 
 pub returns-clause-cells : goal.returns-clause-cells
 returns-clause-cells c =
