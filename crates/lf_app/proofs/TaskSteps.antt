@@ -45,11 +45,11 @@ not_both status (inr is) (inr fails) = omega (arith, is, fails)
 -- the status of what a job has come to is one of a task that was done
 pub succeeds : (gives : Gives) (job : Job) (old new : Option (List ℕ)) (status : ℕ) → IsOutcome gives job old new status → IsDone status
 succeeds gives demo old new status is = inl is.2
-succeeds gives (replay def lefs) old new status is = inl is.2
+succeeds gives (replay def lefs export) old new status is = inl is.2
 succeeds gives (check def lefs) old new status is = is.2.done
 
 -- 4 is the status of a check alone
 pub checked : (gives : Gives) (task : Task) (old new : Option (List ℕ)) (status : ℕ) → IsOutcome gives (as_job task) old new status → status ≡ 4 → IsCheck task
 checked gives Demo old new status is four = let zero : status ≡ 0 = is.2 in absurd (omega (arith, zero, four))
-checked gives (Replay def lefs) old new status is four = let zero : status ≡ 0 = is.2 in absurd (omega (arith, zero, four))
+checked gives (Replay def lefs export) old new status is four = let zero : status ≡ 0 = is.2 in absurd (omega (arith, zero, four))
 checked gives (Check def lefs) old new status is four = tt

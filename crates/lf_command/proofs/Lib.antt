@@ -1,2 +1,7 @@
 mod Arguments
-mod Paths
+mod Fronts
+mod Numbers
+mod Rows
+mod Steps
+mod Texts
+mod Walks

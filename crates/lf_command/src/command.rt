@@ -1,19 +1,25 @@
 //! The words of the command line.
 
-ghost use Rattle.std.specs.Prelude.{◌≡◌, ℕ, List, ◌∷◌, false, Some, None, map, IfErr, option_and_then, IfOk, IsTrue, ◌↔◌};
+ghost use Rattle.std.specs.Prelude.{◌≡◌, false, None, Some, map, IfErr, IfOk, IfSome, option_map};
 ghost use Rattle.clap.specs.Matches.{found_of};
 ghost use Rattle.clap.specs.Simple.{HasMatchesOf, app_of};
 ghost use Rattle.clap.specs.Walk.{rule_of};
 ghost use Rattle.clap.specs.declared.builder.command.Command.TheViews.{out-Command};
 ghost use Rattle.lf_command.specs.declared.command.UsageFault.TheVariants.{Usage, OutOfMemory};
-ghost use Rattle.lf_command.specs.CommandLine.{command_line, def_rule, design_line, found_paths, lef_rule};
-ghost use Rattle.lf_command.specs.Command.{Job, as_job, is_option, job_of, job_on, job_over, paths_of, subcommand_named};
+ghost use Rattle.lf_command.specs.declared.words.Subcommand.TheVariants as subcommand;
+ghost use Rattle.lf_command.specs.CommandLine.{as_given, command_line, def_rule, design_line, export_rule, found_given, input_line, lef_rule, line_of, number_rule};
+ghost use Rattle.lf_command.specs.Command.{Job, as_job, given_by, job_by, job_of, job_on, job_over, number_in, service_of};
 
+use crate::words::{Reading, Subcommand, is_same_reading, read_words, subcommand_named};
+use clap::builder::ValueParser;
 use clap::error::ErrorKind;
 use clap::{Arg, ArgAction, ArgMatches, Command};
 use lf_units::Sequence;
 use std::alloc::{AllocError, Global};
 use thiserror::Error;
+
+/// The most connections that a service takes.
+const MOST_CONNECTIONS: u32 = 1_000_000;
 
 /// What the program is to do.
 #[derive(Drop)]
@@ -24,19 +30,25 @@ pub enum Task<'a> {
     Replay {
         def: &'a str,
         lefs: Sequence<&'a str>,
+        /// The path that the exported text goes to, where there is to be one.
+        export: Option<&'a str>,
+    },
+    /// Answers the lines of connections over the design of a DEF text and of LEF texts, given by paths.
+    Serve {
+        def: &'a str,
+        lefs: Sequence<&'a str>,
+        /// The port that is listened on: 1 at least.
+        port: u16,
+        /// The number of connections that are served: from 1 to 1,000,000.
+        connections: u32,
+        /// The path that the exported text goes to, where there is to be one.
+        export: Option<&'a str>,
     },
     /// Reports on the design of a DEF text and of LEF texts, given by paths.
     Check {
         def: &'a str,
         lefs: Sequence<&'a str>,
     },
-}
-
-/// A subcommand whose words are the paths of a design.
-#[derive(Clone, Copy)]
-enum Subcommand {
-    Replay,
-    Check,
 }
 
 /// Why the words name no task.
@@ -69,6 +81,25 @@ fn lef_paths<'a>(alloc: Global) -> Arg<'a>
         .action(ArgAction::Append)
 }
 
+/// The path of the exported text.
+fn export_path<'a>(alloc: Global) -> Arg<'a>
+    ensures rule { rule_of result ≡ export_rule }
+    ensures local { result.global ≡ false }
+{
+    Arg::new(alloc, "export").long("export")
+}
+
+/// An option whose value is a number from 1 up to this one.
+fn number<'a>(alloc: Global, name: &'a str, most: u64) -> Arg<'a>
+    ensures rule { rule_of result ≡ number_rule name.now most }
+    ensures local { result.global ≡ false }
+{
+    Arg::new(alloc, name)
+        .long(name)
+        .required(true)
+        .value_parser(ValueParser::unsigned(1, most))
+}
+
 /// A subcommand of that name, whose words are the paths of a design.
 fn over_design<'a>(alloc: Global, name: &'a str) -> Result<Command<'a>, AllocError>
     ensures line { IfOk result (λ made. app_of made ≡ design_line name.now) }
@@ -79,68 +110,55 @@ fn over_design<'a>(alloc: Global, name: &'a str) -> Result<Command<'a>, AllocErr
         .arg(lef_paths(alloc))
 }
 
+/// The subcommand that answers the lines of standard input.
+fn replay<'a>(alloc: Global) -> Result<Command<'a>, AllocError>
+    ensures line { IfOk result (λ made. app_of made ≡ line_of subcommand.Replay) }
+    ensures local { IfOk result (λ made. (out-Command made).has_globals ≡ false) }
+{
+    over_design(alloc, "replay")?.arg(export_path(alloc))
+}
+
+/// The subcommand that answers the lines of connections.
+fn serve<'a>(alloc: Global) -> Result<Command<'a>, AllocError>
+    ensures line { IfOk result (λ made. app_of made ≡ line_of subcommand.Serve) }
+    ensures local { IfOk result (λ made. (out-Command made).has_globals ≡ false) }
+{
+    over_design(alloc, "serve")?
+        .arg(number(alloc, "port", u16::MAX as u64))?
+        .arg(number(alloc, "connections", MOST_CONNECTIONS as u64))?
+        .arg(export_path(alloc))
+}
+
+/// The subcommand that reports on a design.
+fn check<'a>(alloc: Global) -> Result<Command<'a>, AllocError>
+    ensures line { IfOk result (λ made. app_of made ≡ line_of subcommand.Check) }
+    ensures local { IfOk result (λ made. (out-Command made).has_globals ≡ false) }
+{
+    over_design(alloc, "check")
+}
+
+/// The program with the subcommands that answer the lines of standard input.
+fn over_input<'a>(alloc: Global) -> Result<Command<'a>, AllocError>
+    ensures line { IfOk result (λ made. app_of made ≡ input_line) }
+    ensures local { IfOk result (λ made. (out-Command made).has_globals ≡ false) }
+{
+    Command::new(alloc, "lefence")
+        .subcommand(Command::new(alloc, "demo"))?
+        .subcommand(replay(alloc)?)
+}
+
 /// The command line that the program takes.
 fn command<'a>(alloc: Global) -> Result<Command<'a>, AllocError>
     ensures { IfOk result (λ made. app_of made ≡ command_line) }
 {
-    Command::new(alloc, "lefence")
-        .subcommand(Command::new(alloc, "demo"))?
-        .subcommand(over_design(alloc, "replay")?)?
-        .subcommand(over_design(alloc, "check")?)
+    over_input(alloc)?
+        .subcommand(serve(alloc)?)?
+        .subcommand(check(alloc)?)
 }
 
-/// The subcommand of that word.
-fn subcommand_named(word: &str) -> Option<Subcommand>
-    ensures { result ≡ subcommand_named word.now }
-{
-    match word {
-        "replay" => Some(Subcommand::Replay),
-        "check" => Some(Subcommand::Check),
-        _ => None,
-    }
-}
-
-/// Whether the word begins with '-' and goes on.
-fn is_option(word: &str) -> bool
-    ensures { result ≡ is_option word.now }
-{
-    match word.as_bytes() {
-        [first, _, ..] => *first == b'-',
-        _ => false,
-    }
-}
-
-/// Whether the two lists hold the same texts.
-fn are_same(left: &[&str], right: &[&str]) -> bool
-    ensures { IsTrue result ↔ (map (λ text. text.now) left.now ≡ map (λ text. text.now) right.now) }
-{
-    left == right
-}
-
-/// Whether these are the paths that the words are.
-fn are_paths(words: &[&str], paths: &[&str]) -> bool
-    ensures { IsTrue result ↔ (paths_of (map (λ word. word.now) words.now) ≡ Some (map (λ path. path.now) paths.now)) }
-{
-    for (i, word) in words.iter().enumerate() {
-        if *word == "--" {
-            return are_same(&words[i + 1..], &paths[i..]);
-        }
-        if is_option(word) {
-            return false;
-        }
-        let Some(path) = paths.get(i) else {
-            return false;
-        };
-        if *word != *path {
-            return false;
-        }
-    }
-    paths.len() == words.len()
-}
-
-/// The paths that were found.
-fn paths_in<'a>(alloc: Global, matches: &ArgMatches<'a>) -> Result<Vec<&'a str>, AllocError>
-    ensures { IfOk result (λ paths. map (λ path. path.now) paths.items ≡ found_paths (found_of matches.now)) }
+/// What was found of the words of a subcommand.
+fn found_in<'a>(alloc: Global, matches: &ArgMatches<'a>) -> Result<Reading<'a>, AllocError>
+    ensures { IfOk result (λ found. as_given found ≡ found_given (found_of matches.now)) }
 {
     let mut paths = Vec::new(alloc);
     if let Some(def) = matches.get_str("def") {
@@ -149,44 +167,136 @@ fn paths_in<'a>(alloc: Global, matches: &ArgMatches<'a>) -> Result<Vec<&'a str>,
     if let Some(lefs) = matches.get_strs("lef") {
         paths.extend_from_slice(lefs)?;
     }
-    Ok(paths)
+    Ok(Reading {
+        paths,
+        export: matches.get_str("export"),
+        port: matches.get_str("port"),
+        connections: matches.get_str("connections"),
+    })
+}
+
+/// The port that the text is.
+#[tactic(auto, using(crate::proofs::Numbers::number_none, crate::proofs::Numbers::number_some, crate::proofs::Numbers::number_out))]
+fn port_of(text: &str) -> Option<u16>
+    ensures { result ≡ number_in 1 65535 text.now }
+{
+    let Ok(port) = text.parse::<u16>() else {
+        return None;
+    };
+    if port == 0 {
+        return None;
+    }
+    Some(port)
+}
+
+/// The number of connections that the text is.
+#[tactic(auto, using(crate::proofs::Numbers::number_none, crate::proofs::Numbers::number_some, crate::proofs::Numbers::number_out))]
+fn connections_of(text: &str) -> Option<u32>
+    ensures { result ≡ number_in 1 1000000 text.now }
+{
+    let Ok(connections) = text.parse::<u32>() else {
+        return None;
+    };
+    if connections == 0 {
+        return None;
+    }
+    if connections > MOST_CONNECTIONS {
+        return None;
+    }
+    Some(connections)
+}
+
+/// The port and the number of connections of a service.
+fn service_of(found: &Reading<'_>) -> Option<(u16, u32)>
+    ensures { result ≡ service_of (as_given found.now) }
+{
+    let port = port_of(found.port?)?;
+    let connections = connections_of(found.connections?)?;
+    Some((port, connections))
 }
 
 /// The task of a subcommand on these paths.
-fn task_on<'a>(subcommand: Subcommand, def: &'a str, lefs: Sequence<&'a str>) -> Task<'a>
-    ensures { as_job result ≡ job_on subcommand def.now (map (λ lef. lef.now) lefs.entry) }
+fn task_on<'a>(
+    chosen: Subcommand,
+    def: &'a str,
+    lefs: Sequence<&'a str>,
+    found: &Reading<'a>,
+) -> Option<Task<'a>>
+    ensures { option_map as_job result ≡ job_on chosen def.now (map (λ lef. lef.now) lefs.entry) (as_given found.now) }
 {
-    match subcommand {
-        Subcommand::Replay => Task::Replay { def, lefs },
-        Subcommand::Check => Task::Check { def, lefs },
+    let export = found.export;
+    match chosen {
+        Subcommand::Replay => Some(Task::Replay { def, lefs, export }),
+        Subcommand::Check => Some(Task::Check { def, lefs }),
+        Subcommand::Serve => {
+            let (port, connections) = service_of(found)?;
+            Some(Task::Serve {
+                def,
+                lefs,
+                port,
+                connections,
+                export,
+            })
+        }
     }
+}
+
+/// The task of a subcommand whose words give this.
+fn task_for<'a>(
+    alloc: Global,
+    chosen: Subcommand,
+    found: &Reading<'a>,
+) -> Result<Option<Task<'a>>, AllocError>
+    ensures { IfOk result (λ task. option_map as_job task ≡ job_over chosen (as_given found.now).paths (as_given found.now)) }
+{
+    let Some((def, lefs)) = found.paths.split_first() else {
+        return Ok(None);
+    };
+    if lefs.is_empty() {
+        return Ok(None);
+    }
+    let lefs = Sequence::from_vec(Vec::from_slice(alloc, lefs)?);
+    Ok(task_on(chosen, *def, lefs, found))
+}
+
+/// The task of a subcommand with these words, of which this was found: it is tested against the words.
+fn task_tested<'a>(
+    alloc: Global,
+    chosen: Subcommand,
+    words: &[&'a str],
+    found: &Reading<'a>,
+) -> Result<Option<Task<'a>>, AllocError>
+    ensures ok { IfOk result (λ task. IfSome task (λ task. job_by chosen (map (λ word. word.now) words.now) ≡ Some (as_job task))) }
+    ensures same { given_by chosen (map (λ word. word.now) words.now) ≡ Some (as_given found.now)
+        → IfOk result (λ task. option_map as_job task ≡ job_by chosen (map (λ word. word.now) words.now)) }
+{
+    let Some(read) = read_words(alloc, chosen, words)? else {
+        return Ok(None);
+    };
+    if !is_same_reading(&read, found) {
+        return Ok(None);
+    }
+    task_for(alloc, chosen, found)
 }
 
 /// The task of a subcommand with these words, as `clap` has read them: its answer is tested against the words.
 fn task_over<'a>(
     alloc: Global,
-    subcommand: Subcommand,
-    words: &[&str],
+    chosen: Subcommand,
+    words: &[&'a str],
     matches: &ArgMatches<'a>,
 ) -> Result<Task<'a>, UsageFault>
-    ensures ok { IfOk result (λ task. option_and_then (job_over subcommand) (paths_of (map (λ word. word.now) words.now)) ≡ Some (as_job task)) }
-    ensures err { (def lef : List ℕ) (lefs : List (List ℕ)) → paths_of (map (λ word. word.now) words.now) ≡ Some (def ∷ lef ∷ lefs)
-        → found_paths (found_of matches.now) ≡ def ∷ lef ∷ lefs → IfErr result (λ fault. fault ≡ OutOfMemory) }
+    ensures ok { IfOk result (λ task. job_by chosen (map (λ word. word.now) words.now) ≡ Some (as_job task)) }
+    ensures err { (job : Job) → job_by chosen (map (λ word. word.now) words.now) ≡ Some job
+        → given_by chosen (map (λ word. word.now) words.now) ≡ Some (found_given (found_of matches.now))
+        → IfErr result (λ fault. fault ≡ OutOfMemory) }
 {
-    let Ok(paths) = paths_in(alloc, matches) else {
+    let Ok(found) = found_in(alloc, matches) else {
         return Err(UsageFault::OutOfMemory);
     };
-    if !are_paths(words, paths.as_slice()) {
-        return Err(UsageFault::Usage);
-    }
-    let Some((def, lefs)) = paths.split_first() else {
-        return Err(UsageFault::Usage);
-    };
-    if lefs.is_empty() {
-        return Err(UsageFault::Usage);
-    }
-    match Vec::from_slice(alloc, lefs) {
-        Ok(lefs) => Ok(task_on(subcommand, *def, Sequence::from_vec(lefs))),
+    match task_tested(alloc, chosen, words, &found) {
+        Ok(Some(task)) => Ok(task),
+        Ok(None) => Err(UsageFault::Usage),
         Err(_) => Err(UsageFault::OutOfMemory),
     }
 }
@@ -194,7 +304,7 @@ fn task_over<'a>(
 /// The task of these words, as `clap` has read them.
 fn task_of<'a>(
     alloc: Global,
-    words: &[&str],
+    words: &[&'a str],
     matches: &ArgMatches<'a>,
 ) -> Result<Task<'a>, UsageFault>
     ensures ok { IfOk result (λ task. job_of (map (λ word. word.now) words.now) ≡ Some (as_job task)) }
@@ -210,18 +320,21 @@ fn task_of<'a>(
         }
         return Err(UsageFault::Usage);
     }
-    let Some(subcommand) = subcommand_named(words[1]) else {
+    let Some(chosen) = subcommand_named(words[1]) else {
         return Err(UsageFault::Usage);
     };
     match matches.subcommand() {
-        Some((_, inner)) => task_over(alloc, subcommand, &words[2..], inner),
+        Some((_, inner)) => task_over(alloc, chosen, &words[2..], inner),
         None => Err(UsageFault::Usage),
     }
 }
 
 /// The task that the words name; the first of them is the program's name, and that name alone is the demo.
 ///
-/// Words for help and for the version are usage faults as any others are. Behind `--` a path may begin with '-'.
+/// `replay` and `check` have the path of a DEF text and then of one LEF text at least, and so has `serve`, which needs
+/// `--port P`, from 1 to 65535, and `--connections N`, from 1 to 1,000,000; `--export FILE` may be given to `replay` and
+/// `serve`. An option stands before, between or behind the paths, once at most, and `--export=FILE` is the same. Behind
+/// `--` a path may begin with '-'. Words for help and for the version are usage faults as any others are.
 pub fn command_of<'a>(alloc: Global, words: &'a [&'a str]) -> Result<Task<'a>, UsageFault>
     ensures ok { IfOk result (λ task. job_of (map (λ word. word.now) words.now) ≡ Some (as_job task)) }
     ensures err { IfErr result (λ fault. fault ≡ Usage → job_of (map (λ word. word.now) words.now) ≡ None) }

@@ -1,5 +1,7 @@
-use Rattle.std.proofs.Common.{◌<◌, ◌∙◌, length, sym, rules}
-use Rattle.lf_command.proofs.Arguments.{designs, inner_paths, no_inner, no_job, paths_behind}
+use Rattle.std.proofs.Common.{◌<◌, ◌≤◌, ◌∙◌, ap, length, sym, rules}
+use Rattle.clap.specs.Lexer.{usize_max}
+use Rattle.lf_command.specs.Command.{given_by, job_by}
+use Rattle.lf_command.proofs.Arguments.{behind, inner_given, no_inner, no_job, words_behind}
 use Rattle.lf_command.proofs.command.task_of.Goals as goal
 
 pub returns-in_default-clause-err : goal.returns-in_default-clause-err
@@ -10,11 +12,17 @@ returns-in_default-clause-err c = λ job is has.
 pub returns-in-Some-subcommand-clause-err : goal.returns-in-Some-subcommand-clause-err
 returns-in-Some-subcommand-clause-err c = λ job is has.
     let more : 2 < length c.args.words.now = search rules in
-    let over = designs c.args.words.now job more is in
-    let paths = paths_behind c.args.words.now ∙ over.paths in
-    c.task_over.ensures.err over.def over.lef over.lefs paths (inner_paths c.args.matches.now c.in-Some-subcommand.inner.now _ over has c.in-Some-subcommand.ensures.rows)
+    let few : length c.args.words.now ≤ usize_max = search rules in
+    let chosen = c.in-Some.chosen in
+    let over = behind c.args.words.now _ chosen job more few (sym c.subcommand_named.ensures ∙ c.in-Some.is) is in
+    c.task_over.ensures.err job (ap (job_by chosen) (words_behind c.args.words.now) ∙ over.is_job)
+    (ap (given_by chosen) (words_behind c.args.words.now)
+    ∙ inner_given chosen c.args.matches.now c.in-Some-subcommand.inner.now _ job over has c.in-Some-subcommand.ensures.rows)
 
 pub returns-in-None-clause-err : goal.returns-in-None-clause-err
 returns-in-None-clause-err c = λ job is has.
     let more : 2 < length c.args.words.now = search rules in
-    absurd (no_inner c.args.matches.now _ (designs c.args.words.now job more is) has c.in-None.ensures.rows)
+    let few : length c.args.words.now ≤ usize_max = search rules in
+    let chosen = c.in-Some.chosen in
+    let over = behind c.args.words.now _ chosen job more few (sym c.subcommand_named.ensures ∙ c.in-Some.is) is in
+    absurd (no_inner chosen c.args.matches.now _ job over has c.in-None.ensures.rows)

@@ -1,6 +1,6 @@
 use Rattle.std.proofs.Common.{sym, ◌∙◌}
-use Rattle.lf_command.proofs.Paths.{same_texts, texts_same}
-use Rattle.lf_command.proofs.command.are_same.Goals as goal
+use Rattle.lf_command.proofs.Texts.{same_texts, texts_same}
+use Rattle.lf_command.proofs.words.are_same.Goals as goal
 
 pub returns : goal.returns
 returns c = (
