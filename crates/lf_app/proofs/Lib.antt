@@ -1,3 +1,5 @@
+mod Arguments
 mod DesignSteps
+mod Paths
 mod Reporting
 mod TaskSteps

@@ -6,9 +6,9 @@ use Rattle.lf_floorplan.specs.declared.loaded.Loaded.{Loaded}
 use Rattle.lf_app.specs.declared.faults.Exit.{Exit}
 use Rattle.lf_app.specs.declared.faults.Fault.{Fault}
 use Rattle.lf_app.specs.declared.faults.Fault.TheVariants.{Refused, File, ReadFault, WriteFault, OutOfMemory, Output}
-use Rattle.lf_command.specs.declared.command.Task.{Task}
-use Rattle.lf_command.specs.declared.command.Task.TheVariants.{Demo, Replay, Check}
-use Rattle.lf_command.specs.Command.{IsCheck, Job, as_job, check, demo, replay}
+use Rattle.lf_app.specs.declared.command.Task.{Task}
+use Rattle.lf_app.specs.declared.command.Task.TheVariants.{Demo, Replay, Check}
+use Rattle.lf_app.specs.Command.{IsCheck, Job, as_job, check, demo, replay}
 use Rattle.lf_app.specs.Designs.{Gives}
 use Rattle.lf_app.specs.Exits.{Ends, IsOutcome}
 use Rattle.lf_app.specs.Faults.{IsDone, IsFailure}
@@ -45,11 +45,11 @@ not_both status (inr is) (inr fails) = omega (arith, is, fails)
 -- the status of what a job has come to is one of a task that was done
 pub succeeds : (gives : Gives) (job : Job) (old new : Option (List ℕ)) (status : ℕ) → IsOutcome gives job old new status → IsDone status
 succeeds gives demo old new status is = inl is.2
-succeeds gives (replay def lefs export) old new status is = inl is.2
+succeeds gives (replay def lefs) old new status is = inl is.2
 succeeds gives (check def lefs) old new status is = is.2.done
 
 -- 4 is the status of a check alone
 pub checked : (gives : Gives) (task : Task) (old new : Option (List ℕ)) (status : ℕ) → IsOutcome gives (as_job task) old new status → status ≡ 4 → IsCheck task
 checked gives Demo old new status is four = let zero : status ≡ 0 = is.2 in absurd (omega (arith, zero, four))
-checked gives (Replay def lefs export) old new status is four = let zero : status ≡ 0 = is.2 in absurd (omega (arith, zero, four))
+checked gives (Replay def lefs) old new status is four = let zero : status ≡ 0 = is.2 in absurd (omega (arith, zero, four))
 checked gives (Check def lefs) old new status is four = tt

@@ -10,7 +10,7 @@ use Rattle.lf_app.specs.declared.faults.Fault.TheVariants.{Refused, File}
 use Rattle.lf_app.specs.declared.faults.Exit.{Exit}
 use Rattle.lf_app.specs.declared.lines.Ending.{Ending}
 use Rattle.lf_app.specs.Checks.{IsLegalDesign, report_line}
-use Rattle.lf_command.specs.Command.{Job, demo, replay, check}
+use Rattle.lf_app.specs.Command.{Job, demo, replay, check}
 use Rattle.lf_app.specs.Designs.{Gives, IsDesignFault, IsDesignOf, IsTextDesign, IsTextFault}
 use Rattle.lf_app.specs.Faults.{IsDone, IsReportFault, ending_fault, fault_line, no_memory, status_of}
 
@@ -43,11 +43,11 @@ IsEarly _ = ⊥
 -- what a job that is done has come to, of which this is the status: a design was loaded, and that of a check is reported
 abbrev pub IsOutcome : Gives → Job → Option (List ℕ) → Option (List ℕ) → ℕ → Type 0
 IsOutcome gives demo old new status = (loaded : Loaded) × IsTextDesign W_DEF.now W_LEF.now loaded × (status ≡ 0)
-IsOutcome gives (replay def lefs export) old new status = (loaded : Loaded) × IsDesignOf gives def lefs loaded × (status ≡ 0)
+IsOutcome gives (replay def lefs) old new status = (loaded : Loaded) × IsDesignOf gives def lefs loaded × (status ≡ 0)
 IsOutcome gives (check def lefs) old new status = (loaded : Loaded) × IsDesignOf gives def lefs loaded × IsReported loaded old new status
 
 -- why a job is not done: there is no design; or there is one, and the lines or the report fail
 abbrev pub IsJobFault : Gives → Job → Fault → Type 0
 IsJobFault gives demo fault = IsTextFault W_DEF.now W_LEF.now fault ⊎ ((loaded : Loaded) × IsTextDesign W_DEF.now W_LEF.now loaded × IsLinesFault fault)
-IsJobFault gives (replay def lefs export) fault = IsDesignFault gives def lefs fault ⊎ ((loaded : Loaded) × IsDesignOf gives def lefs loaded × IsLinesFault fault)
+IsJobFault gives (replay def lefs) fault = IsDesignFault gives def lefs fault ⊎ ((loaded : Loaded) × IsDesignOf gives def lefs loaded × IsLinesFault fault)
 IsJobFault gives (check def lefs) fault = IsDesignFault gives def lefs fault ⊎ ((loaded : Loaded) × IsDesignOf gives def lefs loaded × IsReportFault fault)

@@ -1,4 +1,6 @@
 pub mod Checks
+pub mod Command
+pub mod CommandLine
 pub mod Designs
 pub mod Exits
 pub mod Faults

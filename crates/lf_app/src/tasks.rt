@@ -1,18 +1,18 @@
 //! What the program does for a task.
 
 ghost use Rattle.std.specs.Prelude.{◌≡◌, ◌⊎◌, map, ⊤, IfErr, IfOk, IsTrue, OnOk};
-ghost use Rattle.lf_command.specs.Command.{IsCheck, as_job, check, replay};
+ghost use Rattle.lf_app.specs.Command.{IsCheck, as_job, check, replay};
 ghost use Rattle.lf_floorplan.specs.declared.loaded.Loaded.{Loaded};
 ghost use Rattle.lf_app.specs.Designs.{IsTextDesign, IsTextFault};
 ghost use Rattle.lf_app.specs.Exits.{Ends, IsEarly, IsJobFault, IsLinesFault, IsOutcome, IsReported};
 ghost use Rattle.lf_app.specs.Faults.{IsDone, IsFailure, IsReportFault};
 
+use crate::command::Task;
 use crate::designs::{design_of_files, design_of_texts};
 use crate::faults::{Exit, done, ending_fault, memory_fault, tell};
 use crate::lines::answer_lines;
 use crate::reports::report_design;
 use crate::texts::{FileTexts, Texts};
-use lf_command::Task;
 use lf_def::W_DEF;
 use lf_floor::Floor;
 use lf_frame::Loaded;

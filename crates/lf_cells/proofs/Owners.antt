@@ -88,8 +88,10 @@ pub owners_rise : (cells : List LoadedCell) (count : ℕ) (p : Parts) → Compon
 owners_rise cells count p rise taken i j e less within =
     let inside : j < length cells = omega (arith, within, taken.many) in
     let c = a_cell cells j inside in
-    rw (owner_position cells count p taken i (get_or p.owners.items i e) c (slice_get-get_or p.owners.items i e (omega (arith, less, within))),
-    owner_position cells count p taken j (get_or p.owners.items j e) c (slice_get-get_or p.owners.items j e within))
+    rw (
+      owner_position cells count p taken i (get_or p.owners.items i e) c (slice_get-get_or p.owners.items i e (omega (arith, less, within))),
+      owner_position cells count p taken j (get_or p.owners.items j e) c (slice_get-get_or p.owners.items j e within),
+    )
     (rise i j c less inside)
 
 -- ---- the owners are all cells

@@ -2,11 +2,10 @@
 
 use itoa::Buffer;
 use std::alloc::Global;
-use std::fs;
 use std::fs::{File, OpenFile, OpenOptions};
-use std::io;
 use std::io::{ErrorKind, Write};
 use std::rt::Files;
+use std::{fs, io};
 
 /// How many names are tried for the new file.
 const TRIES: u32 = 1_000;

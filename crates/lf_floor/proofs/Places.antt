@@ -79,13 +79,16 @@ module _ (f : Frame) (tables : Tables) (of_frame : AreTablesOf f tables) where
         let entry = one_entry id there in
         let cell = one_cell id there in
         let is = entry_is id entry.0 cell.0 entry.1 cell.1 in
-        let within = entry_within id.team id.own entry.0 entry.1 in
-        (id.team, id.own, record {
-          position = entry.1 ∙ ap (λ (e : ℕ × Option Place). Some e.0) (sym is);
-          place =
-              ap (option_map (λ (c : Cell). c.committed)) (cell_there id.team id.own within ∙ cell.1)
-              ∙ ap (λ (e : ℕ × Option Place). Some e.1) (sym is);
-        })
+        let within = entry_within id.team id.own entry.0 entry.1 in (
+          id.team,
+          id.own,
+          record {
+            position = entry.1 ∙ ap (λ (e : ℕ × Option Place). Some e.0) (sym is);
+            place =
+                ap (option_map (λ (c : Cell). c.committed)) (cell_there id.team id.own within ∙ cell.1)
+                ∙ ap (λ (e : ℕ × Option Place). Some e.1) (sym is);
+          },
+        )
 
     -- those of all cells of the tables are those of the floor
     pub all_places : AreCommittedPlaces (floor_in f tables) (map (committed_entry tables.cells) ids)

@@ -5,3 +5,4 @@ pub mod Reporting
 pub mod Steps
 pub mod Finishing
 pub mod Telling
+pub mod Connecting

@@ -36,6 +36,7 @@ long_looks t order s = order_by t s (λ v o. is_long o.reply ≡ true → LooksO
   closes = λ session e. absurd (false≢true e);
   syncs = λ session e. absurd (false≢true e);
   checks = λ session text e. record { kept = refl; takes = refl };
+  defs = λ session text e. record { kept = refl; takes = refl };
   tells = λ session name place e. absurd (false≢true e);
   finds = λ session name target place e. absurd (false≢true e);
   places = λ session own name place left named legal e. absurd (false≢true e);
@@ -96,7 +97,7 @@ told_on l old new command reply text step tells = by tells.stands_in
     }
     by (inr (long, short)) =
         let answers : Answers l old command reply new =
-            subst (λ (b : Bool). MatchBool b (RunsShort l old command new) (Answers l old command reply new)) (plain_long reply long) step in
+        subst (λ (b : Bool). MatchBool b (RunsShort l old command new) (Answers l old command reply new)) (plain_long reply long) step in
         record {
           reply = tells.told;
           answers = record {

@@ -14,6 +14,7 @@ use Rattle.lf_proto.specs.declared.request.Command.{Command}
 use Rattle.lf_proto.specs.Feeds.{Feeds, FinishesAt, given}
 use Rattle.lf_proto.specs.Framing.{Framing}
 use Rattle.lf_teams.specs.States.{FloorState}
+use Rattle.lf_server.specs.Connections.{Stays}
 use Rattle.lf_server.specs.Devices.{Writer, writer, Sends, Breaks}
 use Rattle.lf_server.specs.Exchanges.{BreaksOff, Exchange, Exchanges, Line, asked_on, is_bye, lines}
 use Rattle.lf_server.specs.Endings.{ActedOn, Comes, EndsAt, NoneIsBye, StopsShort}
@@ -49,6 +50,18 @@ breaks_one a a' f f' h h' text bytes same front failed = record {
   count = front.0;
   written = subst (λ (b : List ℕ). Appends a a' (take front.0 b)) same front.1;
   failed = failed;
+}
+
+-- ---- what stays
+
+pub stays_none : (floor : FloorState) → Stays floor floor
+stays_none floor = record { frame = refl; components = refl; legal = λ legal. legal }
+
+pub stays_join : (old mid new : FloorState) → Stays old mid → Stays mid new → Stays old new
+stays_join old mid new first second = record {
+  frame = second.frame ∙ first.frame;
+  components = second.components ∙ first.components;
+  legal = λ legal. second.legal (first.legal legal);
 }
 
 -- ---- line after line

@@ -137,13 +137,13 @@ module _ (l : Legalizer) (frame : Frame) (team : List ℕ) (number : ℕ) (named
       let mine = own_answer l old team number order s (ap (λ (f : Frame). team_number f team) same_frame ∙ named) there in
       let next = (ruled l frame number order s).team in
       let reply_is : e.reply ≡ (ruled l frame number order s).reply =
-          answers.reply_is ∙ (mine.0 ∙ ap (λ (f : Frame). (ruled l f number order s).reply) same_frame) in
+      answers.reply_is ∙ (mine.0 ∙ ap (λ (f : Frame). (ruled l f number order s).reply) same_frame) in
       let here : state_of mid team ≡ Some next =
-          ap (λ (f : FloorState). state_of f team) answers.floor_is ∙ (mine.1 ∙ ap (λ (f : Frame). Some (ruled l f number order s).team) same_frame) in
+      ap (λ (f : FloorState). state_of f team) answers.floor_is ∙ (mine.1 ∙ ap (λ (f : Frame). Some (ruled l f number order s).team) same_frame) in
       let text : e.text ≡ text_for next (ruled l frame number order s).reply =
-          text_is ∙ (text_for_is mid team next here e.reply ∙ ap (text_for next) reply_is) in
+      text_is ∙ (text_for_is mid team next here e.reply ∙ ap (text_for next) reply_is) in
       let mark : (bytes_eq team team && not (is_short e.reply)) ≡ true =
-          ap (λ (b : Bool). bytes_eq team team && not b) plain ∙ ap (λ (b : Bool). b && true) ((bytes_eq-Decides team team).1 refl) in
+      ap (λ (b : Bool). bytes_eq team team && not b) plain ∙ ap (λ (b : Bool). b && true) ((bytes_eq-Decides team team).1 refl) in
       let is = counted team order true mark in
       is.0 ∙ (ap (λ (t : List ℕ). t ∷ texts) text
       ∙ (ap (λ (ts : List (List ℕ)). text_for next (ruled l frame number order s).reply ∷ ts) (later next here)

@@ -1,11 +1,18 @@
 -- Connections that are served one after the other.
 use Rattle.std.specs.Prelude.{◌≡◌, ℕ, zero, suc, List}
 use Rattle.lf_rules.specs.Legalizer.{Legalizer}
+use Rattle.lf_teams.specs.Committed.{IsCommittedLegal}
 use Rattle.lf_teams.specs.States.{FloorState}
 use Rattle.lf_server.specs.Devices.{Writer}
 use Rattle.lf_server.specs.Exchanges.{Exchange}
 use Rattle.lf_server.specs.Endings.{Comes}
 use Rattle.lf_server.specs.declared.serving.Ending.{Ending}
+
+-- what no serving changes: the frame, the positions of entries, and that the committed design is fully legal where it was
+pub record Stays (old new : FloorState) : Type 0 where
+  pub frame : new.frame ≡ old.frame
+  pub components : new.components ≡ old.components
+  pub legal : IsCommittedLegal old → IsCommittedLegal new
 
 -- a connection was served to its end, whatever end it came to: the floor has answered its lines one by one
 pub record HasServed (l : Legalizer) (old new : FloorState) : Type 0 where

@@ -8,6 +8,7 @@ ghost use Rattle.lf_proto.specs.Commands.{command_of};
 ghost use Rattle.lf_proto.specs.ReplyText.{reply_text};
 ghost use Rattle.lf_proto.specs.declared.reply.Reply.TheVariants.{Refused};
 ghost use Rattle.lf_server.specs.Exchanges.{Tells, asked_on, asks_end, cells_in, is_long, name_in, team_of, text_of};
+ghost use Rattle.lf_server.specs.Connections.{Stays};
 ghost use Rattle.lf_server.specs.Progress.{IsAnswered};
 
 use lf_floor::Floor;
@@ -184,6 +185,7 @@ pub(crate) fn answer<K: Seeker + Drop>(
     text: &mut Vec<u8>,
 )
     requires room { 4096 ≤ vec_capacity text.old }
+    ensures stays { Stays floor.old floor.new }
     ensures answered { (l : Legalizer) → IsAnswered l floor.old (option_map command_of request.now) text.new.items floor.new }
     ensures room { 4096 ≤ vec_capacity text.new }
 {

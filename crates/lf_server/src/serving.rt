@@ -3,6 +3,7 @@
 ghost use Rattle.std.specs.Prelude.{◌≡◌, ◌≢◌, ◌<◌, ◌≤◌, ◌+◌, ◌++◌, ◌∷◌, ◌⊎◌, [], OnErr, OnOk, IfSome, MatchOption, Some, None, List, ℕ, length, take, drop, option_map, true, false, vec_capacity};
 ghost use Rattle.std.specs.Io.KnownBytes.{Appends};
 ghost use Rattle.lf_rules.specs.Legalizer.{Legalizer};
+ghost use Rattle.lf_server.specs.Connections.{Stays};
 ghost use Rattle.lf_server.specs.Devices.{writer};
 ghost use Rattle.lf_server.specs.Endings.{Serves};
 ghost use Rattle.lf_server.specs.Progress.{Finishes, Given, Goes, IsExchanged, SinkAt, Stops, lines_from, pieces, told_answered};
@@ -86,6 +87,7 @@ fn exchange<K: Seeker + Drop, W: Sink>(
     ensures room { 4096 ≤ vec_capacity text.new }
     ensures never { IfSome result (λ ending. (ending ≢ Ending.ReadFault) × (ending ≢ Ending.OutOfMemory)) }
     ensures health { MatchOption result (W.has_failed sink.new ≡ W.has_failed sink.old) (λ ending. SinkAt ending (W.has_failed sink.old) (W.has_failed sink.new)) }
+    ensures stays { Stays floor.old floor.new }
     ensures serves { (l : Legalizer) → IsExchanged l result (writer (W.contents sink.old) (W.is_flushed sink.old) (W.has_failed sink.old)) (writer (W.contents sink.new) (W.is_flushed sink.new) (W.has_failed sink.new)) floor.old floor.new (option_map (λ bytes. bytes.now) line.entry) }
 {
     let request = request_in(line);
@@ -115,6 +117,7 @@ fn take_line<K: Seeker + Drop, W: Sink>(
     ensures left { left.new ≤ left.old }
     ensures never { IfSome result.1 (λ ending. (ending ≢ Ending.ReadFault) × (ending ≢ Ending.OutOfMemory)) }
     ensures health { MatchOption result.1 (W.has_failed sink.new ≡ W.has_failed sink.old) (λ ending. SinkAt ending (W.has_failed sink.old) (W.has_failed sink.new)) }
+    ensures stays { Stays floor.old floor.new }
     ensures serves { (l : Legalizer) → MatchOption result.1 (Goes l (writer (W.contents sink.old) (W.is_flushed sink.old) (W.has_failed sink.old)) (writer (W.contents sink.new) (W.is_flushed sink.new) (W.has_failed sink.new)) left.old left.new floor.old floor.new framer.old.pending framer.new.pending piece.now (drop result.0 piece.now)) (λ ending. (rest : List ℕ) → Stops l ending (writer (W.contents sink.old) (W.is_flushed sink.old) (W.has_failed sink.old)) (writer (W.contents sink.new) (W.is_flushed sink.new) (W.has_failed sink.new)) left.old left.new floor.old floor.new (lines_from framer.old.pending (pieces (piece.now ++ rest)))) }
 {
     let fed = framer.feed(piece);
@@ -142,6 +145,7 @@ fn pump<K: Seeker + Drop, W: Sink>(
     ensures left { left.new ≤ left.old }
     ensures never { IfSome result (λ ending. (ending ≢ Ending.ReadFault) × (ending ≢ Ending.OutOfMemory)) }
     ensures health { MatchOption result (W.has_failed sink.new ≡ W.has_failed sink.old) (λ ending. SinkAt ending (W.has_failed sink.old) (W.has_failed sink.new)) }
+    ensures stays { Stays floor.old floor.new }
     ensures serves { (l : Legalizer) → MatchOption result (Goes l (writer (W.contents sink.old) (W.is_flushed sink.old) (W.has_failed sink.old)) (writer (W.contents sink.new) (W.is_flushed sink.new) (W.has_failed sink.new)) left.old left.new floor.old floor.new framer.old.pending framer.new.pending piece.now []) (λ ending. (rest : List ℕ) → Stops l ending (writer (W.contents sink.old) (W.is_flushed sink.old) (W.has_failed sink.old)) (writer (W.contents sink.new) (W.is_flushed sink.new) (W.has_failed sink.new)) left.old left.new floor.old floor.new (lines_from framer.old.pending (pieces (piece.now ++ rest)))) }
 {
     let mut at = 0;
@@ -168,6 +172,7 @@ fn finish<K: Seeker + Drop, W: Sink>(
     ensures left { left.new ≤ left.old }
     ensures never { (result ≢ Ending.ReadFault) × (result ≢ Ending.OutOfMemory) }
     ensures health { SinkAt result (W.has_failed sink.old) (W.has_failed sink.new) }
+    ensures stays { Stays floor.old floor.new }
     ensures serves { (l : Legalizer) → Stops l result (writer (W.contents sink.old) (W.is_flushed sink.old) (W.has_failed sink.old)) (writer (W.contents sink.new) (W.is_flushed sink.new) (W.has_failed sink.new)) left.old left.new floor.old floor.new (lines_from framer.old.pending ([] ∷ [])) }
 {
     let got = framer.finish();
@@ -203,6 +208,7 @@ fn serve_lines<K: Seeker + Drop, S: Source, W: Sink>(
     ensures readable { result ≢ Ending.ReadFault → S.has_failed source.new ≡ S.has_failed source.old }
     ensures some { result ≢ Ending.OutOfMemory }
     ensures health { SinkAt result (W.has_failed sink.old) (W.has_failed sink.new) }
+    ensures stays { Stays floor.old floor.new }
     ensures serves { (l : Legalizer) → Finishes l result (S.remaining source.old) (S.remaining source.new) (writer (W.contents sink.old) (W.is_flushed sink.old) (W.has_failed sink.old)) (writer (W.contents sink.new) (W.is_flushed sink.new) (W.has_failed sink.new)) left.old left.new floor.old floor.new }
 {
     let mut buffer = [0u8; LINE];
@@ -256,6 +262,7 @@ pub fn serve<K: Seeker + Drop, S: Source, W: Sink>(
     requires readable { S.has_failed source.old ≡ false }
     requires writable { W.has_failed sink.old ≡ false }
     requires countable { S.reads source.old + limits.reads ≤ 18446744073709551615 }
+    ensures stays { Stays floor.old floor.new }
     ensures serves { (l : Legalizer) → Serves l limits.lines floor.old (S.remaining source.old) (S.remaining source.new) (writer (W.contents sink.old) (W.is_flushed sink.old) (W.has_failed sink.old)) (writer (W.contents sink.new) (W.is_flushed sink.new) (W.has_failed sink.new)) result floor.new }
     ensures lines { result.lines ≤ limits.lines }
     ensures reads { S.reads source.new ≤ S.reads source.old + limits.reads }

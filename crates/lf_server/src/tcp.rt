@@ -2,8 +2,7 @@
 
 ghost use Rattle.std.specs.Prelude.{◌≡◌, ◌↔◌, ◌≤◌, false};
 ghost use Rattle.lf_rules.specs.Legalizer.{Legalizer};
-ghost use Rattle.lf_teams.specs.Committed.{IsCommittedLegal};
-ghost use Rattle.lf_server.specs.Connections.{Connects, HasServed};
+ghost use Rattle.lf_server.specs.Connections.{Connects, HasServed, Stays};
 
 use crate::adapt::{FromRead, ToWrite};
 use crate::serving::{ServeLimits, serve};
@@ -34,6 +33,7 @@ fn serve_stream<S: Read + Write + OpenStream + Drop, K: Seeker + Drop>(
     limits: ServeLimits,
 )
     ensures served { (l : Legalizer) → HasServed l floor.old floor.new }
+    ensures stays { Stays floor.old floor.new }
 {
     let Ok(replies) = stream.try_clone() else {
         return;
@@ -57,8 +57,7 @@ pub fn serve_tcp<T: Net + AllocGlobal, K: Seeker + Drop>(
     ensures most { result.connections ≤ connections }
     ensures all { (result.connections ≡ connections) ↔ (result.accept_fault ≡ false) }
     ensures served { (l : Legalizer) → Connects l result.connections floor.old floor.new }
-    ensures frame { floor.new.frame ≡ floor.old.frame }
-    ensures legal { IsCommittedLegal floor.old → IsCommittedLegal floor.new }
+    ensures stays { Stays floor.old floor.new }
 {
     for served in 0..connections {
         let Ok((stream, _)) = listener.accept() else {

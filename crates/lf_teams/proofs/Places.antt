@@ -151,11 +151,13 @@ entry_to : (design : Loaded) (c : LoadedCell) → Contains design.cells c
 entry_to design c held =
     let known : c.team ≤ length design.frame.teams =
     All-contains (λ (d : LoadedCell). d.team ≤ length design.frame.teams) design.cells c (λ i d within. (design.cells_known i d within).team_known) held in
-    let found = kept_at (is_own c.team) design.cells c held (eq-eqb c.team c.team refl) in
-    (found.0, record { held = held; there = found.1 },
-     ap (λ (row : List ℕ). slice_get row found.0) (row_is design c.team (omega (arith, known)))
-     ∙ slice_get-map (λ (d : LoadedCell). d.component) (filter (is_own c.team) design.cells) found.0
-     ∙ ap (option_map (λ (d : LoadedCell). d.component)) found.1)
+    let found = kept_at (is_own c.team) design.cells c held (eq-eqb c.team c.team refl) in (
+      found.0,
+      record { held = held; there = found.1 },
+      ap (λ (row : List ℕ). slice_get row found.0) (row_is design c.team (omega (arith, known)))
+          ∙ slice_get-map (λ (d : LoadedCell). d.component) (filter (is_own c.team) design.cells) found.0
+          ∙ ap (option_map (λ (d : LoadedCell). d.component)) found.1,
+    )
 
 -- ---- the laws
 

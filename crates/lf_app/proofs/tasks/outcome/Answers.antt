@@ -1,7 +1,7 @@
 use Rattle.std.proofs.Common.{◌≡◌, ◌∙◌, ℕ, List, ap, map, subst, sym}
 use Rattle.std.specs.Borrow.{Bor}
 use Rattle.std.specs.Prelude.{IfErr}
-use Rattle.lf_command.specs.Command.{Job, as_job, check, replay}
+use Rattle.lf_app.specs.Command.{Job, as_job, check, replay}
 use Rattle.lf_app.specs.Exits.{Ends, IsEarly, IsJobFault}
 use Rattle.lf_app.proofs.tasks.outcome.Goals as goal
 

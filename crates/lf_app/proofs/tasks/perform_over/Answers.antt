@@ -1,5 +1,5 @@
 use Rattle.std.proofs.Common.{◌≡◌, ℕ, inl, inr, subst, sym}
-use Rattle.lf_command.specs.Command.{as_job}
+use Rattle.lf_app.specs.Command.{as_job}
 use Rattle.lf_app.specs.Exits.{IsEarly, IsJobFault, IsOutcome}
 use Rattle.lf_app.specs.Faults.{IsDone, IsFailure}
 use Rattle.lf_app.proofs.TaskSteps.{checked, failing, not_both, succeeds}

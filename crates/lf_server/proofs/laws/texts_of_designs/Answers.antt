@@ -8,7 +8,7 @@ pub returns : goal.returns
 returns c = λ l team end end' a b a' b' v v' w w' done others agree comes comes' same.
     let s = opening_team a agree.number in
     let here = told_own l a.frame team agree.number agree.named done (opening a) a' refl (acts_at end l (opening a) a' v v' done comes) s
-        (opening_is a team agree.number agree.named) in
+    (opening_is a team agree.number agree.named) in
     let there = told_own l a.frame team agree.number agree.named others (opening b) b' (sym agree.frames)
-        (acts_at end' l (opening b) b' w w' others comes') s (agreeing_is a b team agree) in
+    (acts_at end' l (opening b) b' w w' others comes') s (agreeing_is a b team agree) in
     cc (here, there, same)

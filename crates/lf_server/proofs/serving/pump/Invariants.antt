@@ -1,6 +1,7 @@
 use Rattle.std.proofs.Common.{◌≡◌, length, ◌-◌, ◌≤◌, drop}
 use Rattle.std.specs.Prelude.{vec_capacity}
 use Rattle.lf_rules.specs.Legalizer.{Legalizer}
+use Rattle.lf_server.specs.Connections.{Stays}
 use Rattle.lf_server.specs.Devices.{writer}
 use Rattle.lf_server.specs.Progress.{Goes}
 use Rattle.lf_server.proofs.serving.pump.Given as goal
@@ -9,6 +10,7 @@ abbrev pub invariant-loop-at : goal.invariant-loop-at
 invariant-loop-at g l = record {
   within : l.at ≤ length l.piece;
   counts : l.left ≤ l.fn.left;
+  stays : Stays l.fn.floor l.floor;
   room : 4096 ≤ vec_capacity l.text;
   sink : g.W.Sink.has_failed l.sink ≡ g.W.Sink.has_failed l.fn.sink;
   goes : (z : Legalizer) → Goes z (writer (g.W.Sink.contents l.fn.sink) (g.W.Sink.is_flushed l.fn.sink) (g.W.Sink.has_failed l.fn.sink))

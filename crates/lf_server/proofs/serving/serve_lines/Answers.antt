@@ -1,9 +1,9 @@
-use Rattle.std.proofs.Common.{◌≡◌, ◌+◌, ◌≤◌, arith, refl, rules, take, length, [], Some, None, List, ℕ, subst, sym, Option}
+use Rattle.std.proofs.Common.{◌≡◌, ◌∙◌, ◌+◌, ◌≤◌, arith, refl, rules, take, length, [], Some, None, List, ℕ, subst, sym, Option}
 use Rattle.std.specs.Io.KnownBytes.{Consumes}
 use Rattle.lf_server.specs.Devices.{writer}
 use Rattle.lf_server.specs.Progress.{Goes}
 use Rattle.lf_server.proofs.Known.{Consumes-none}
-use Rattle.lf_server.proofs.Steps.{goes_none}
+use Rattle.lf_server.proofs.Steps.{goes_none, stays_join, stays_none}
 use Rattle.lf_server.proofs.Finishing.{goes_start, keeps_itself, read_end, read_fault, read_on, read_stop}
 use Rattle.lf_server.proofs.serving.serve_lines.Goals as goal
 
@@ -11,6 +11,7 @@ pub loop-reads_left-init : goal.loop-reads_left-init
 loop-reads_left-init g c = record {
   counted = omega arith;
   counts = omega arith;
+  stays = stays_none c.args.floor.now;
   room = c.requires.room;
   sink = refl;
   source = refl;
@@ -38,9 +39,10 @@ pub loop-reads_left-preserved : goal.loop-reads_left-preserved
 loop-reads_left-preserved g c = record {
   counted = omega (arith, c.loop-reads_left.invariant.counted, c.read.ensures.counted, c.loop-reads_left-test.true);
   counts = omega (arith, c.pump.ensures.left, c.loop-reads_left.invariant.counts);
+  stays = stays_join c.args.floor.now c.loop-reads_left.floor c.pump.new.floor c.loop-reads_left.invariant.stays c.pump.ensures.stays;
   room = c.pump.ensures.room;
-  sink = search rules;
-  source = search rules;
+  sink = c.in-None.ensures.health ∙ c.loop-reads_left.invariant.sink;
+  source = grind (arith, c.in-Ok.ensures.failed, c.loop-reads_left.invariant.source);
   goes = λ l. let h = c.loop-reads_left.invariant.goes l in
       read_on l (g.S.Source.remaining c.args.source.now) (g.S.Source.remaining c.loop-reads_left.source) (g.S.Source.remaining c.read.new.self) _ _ _ c.args.left.now c.loop-reads_left.left c.pump.new.left c.args.floor.now c.loop-reads_left.floor c.pump.new.floor c.loop-reads_left.framer.pending c.pump.new.framer.pending
       h.0 (take c.in-Ok.count c.read.new.buffer) h.1 c.in-Ok.ensures.bytes.0 h.2 (c.in-None.ensures.serves l);
@@ -50,3 +52,11 @@ pub returns-clause-serves : goal.returns-clause-serves
 returns-clause-serves g c = λ l.
     let h = c.loop-reads_left.invariant.goes l in
     read_fault l (g.S.Source.remaining c.args.source.now) (g.S.Source.remaining c.loop-reads_left.source) (g.S.Source.remaining c.loop-reads_left.source) _ _ c.args.left.now c.loop-reads_left.left c.args.floor.now c.loop-reads_left.floor c.loop-reads_left.framer.pending h.0 h.1 (keeps_itself (g.S.Source.remaining c.loop-reads_left.source)) h.2
+
+pub returns-then-count-eq0-clause-stays : goal.returns-then-count-eq0-clause-stays
+returns-then-count-eq0-clause-stays g c =
+    stays_join c.args.floor.now c.loop-reads_left.floor c.finish.new.floor c.loop-reads_left.invariant.stays c.finish.ensures.stays
+
+pub returns-in-Some-clause-stays : goal.returns-in-Some-clause-stays
+returns-in-Some-clause-stays g c =
+    stays_join c.args.floor.now c.loop-reads_left.floor c.pump.new.floor c.loop-reads_left.invariant.stays c.pump.ensures.stays

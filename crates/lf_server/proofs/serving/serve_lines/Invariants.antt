@@ -2,6 +2,7 @@ use Rattle.std.proofs.Common.{◌≡◌, ◌+◌, ◌≤◌, List, ℕ, Some, []
 use Rattle.std.specs.Io.KnownBytes.{Consumes}
 use Rattle.std.specs.Prelude.{vec_capacity}
 use Rattle.lf_rules.specs.Legalizer.{Legalizer}
+use Rattle.lf_server.specs.Connections.{Stays}
 use Rattle.lf_server.specs.Devices.{writer}
 use Rattle.lf_server.specs.Progress.{Goes}
 use Rattle.lf_server.proofs.serving.serve_lines.Given as goal
@@ -10,6 +11,7 @@ abbrev pub invariant-loop-reads_left : goal.invariant-loop-reads_left
 invariant-loop-reads_left g l = record {
   counted : g.S.Source.reads l.source + l.reads_left ≡ g.S.Source.reads l.fn.source + l.fn.reads;
   counts : l.left ≤ l.fn.left;
+  stays : Stays l.fn.floor l.floor;
   room : 4096 ≤ vec_capacity l.text;
   sink : g.W.Sink.has_failed l.sink ≡ g.W.Sink.has_failed l.fn.sink;
   source : g.S.Source.has_failed l.source ≡ g.S.Source.has_failed l.fn.source;

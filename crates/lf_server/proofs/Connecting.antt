@@ -1,0 +1,27 @@
+-- Connections, one after the other.
+use Rattle.std.proofs.Common.{◌≡◌, ℕ, suc, ◌+◌, List, [], Option, None, true, false, refl, subst, arith}
+use Rattle.lf_rules.specs.Legalizer.{Legalizer}
+use Rattle.lf_teams.specs.States.{FloorState}
+use Rattle.lf_server.specs.Connections.{Connects, HasServed, Stays}
+use Rattle.lf_server.specs.Devices.{Writer, writer}
+use Rattle.lf_server.specs.Endings.{Serves}
+use Rattle.lf_server.specs.declared.serving.Ending.TheVariants.{Done}
+use Rattle.lf_server.specs.declared.serving.Served.{Served}
+
+-- a connection of which nothing was read
+pub served_none : (l : Legalizer) (floor : FloorState) → HasServed l floor floor
+served_none l floor =
+    record { ending = Done; before = writer None true false; after = writer None true false; done = []; comes = (refl, refl) }
+
+-- a connection that was served
+pub served_by : (l : Legalizer) (limit : ℕ) (old new : FloorState) (input left : Option (List ℕ)) (before after : Writer) (served : Served)
+    → Serves l limit old input left before after served new → HasServed l old new
+served_by l limit old new input left before after served serves =
+    record { ending = served.ending; before = before; after = after; done = serves.done; comes = serves.comes }
+
+-- one connection more
+pub connects_more : (l : Legalizer) (count : ℕ) (old mid new : FloorState) → Connects l count old mid → HasServed l mid new → Connects l (count + 1) old new
+connects_more l count old mid new connects served =
+    let more : suc count ≡ count + 1 = omega arith in
+    let next : Connects l (suc count) old new = (mid, connects, served) in
+    subst (λ (n : ℕ). Connects l n old new) more next
