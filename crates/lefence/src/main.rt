@@ -10,7 +10,11 @@ use std::process::ExitCode;
 const USAGE: &str =
     "  lefence [demo]                answers the lines of standard input over the built-in design
   lefence check DEF LEF...      writes a report of the design
-  lefence replay DEF LEF...     answers the lines of standard input over the design
+  lefence replay DEF LEF... [--export FILE]
+                                answers the lines of standard input over the design; then its text, with the
+                                committed places in it, goes to FILE
+  lefence serve DEF LEF... --port P --connections N [--export FILE]
+                                answers the lines of N connections to port P of this machine, one after the other
   (a path that begins with '-' stands behind '--'; docs/PROTOCOL.md says more)
 ";
 

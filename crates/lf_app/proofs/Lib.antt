@@ -1,5 +1,4 @@
-mod Arguments
+mod Answering
 mod DesignSteps
-mod Paths
-mod Reporting
 mod TaskSteps
+mod WorkSteps

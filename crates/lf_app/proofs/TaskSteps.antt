@@ -3,14 +3,14 @@ use Rattle.std.proofs.Common.{◌≡◌, ◌⊎◌, arith, inl, inr, ℕ, List, 
 use Rattle.std.specs.Prelude.{IfErr, IfOk, Result}
 use Rattle.std.proofs.lemmas.Result.{IfErr-weaker, IfOk-weaker}
 use Rattle.lf_floorplan.specs.declared.loaded.Loaded.{Loaded}
+use Rattle.lf_command.specs.declared.command.Task.{Task}
+use Rattle.lf_command.specs.declared.command.Task.TheVariants.{Demo, Replay, Serve, Check}
+use Rattle.lf_command.specs.Command.{IsCheck, Job, as_job, check, demo, replay, serve}
 use Rattle.lf_app.specs.declared.faults.Exit.{Exit}
 use Rattle.lf_app.specs.declared.faults.Fault.{Fault}
-use Rattle.lf_app.specs.declared.faults.Fault.TheVariants.{Refused, File, ReadFault, WriteFault, OutOfMemory, Output}
-use Rattle.lf_app.specs.declared.command.Task.{Task}
-use Rattle.lf_app.specs.declared.command.Task.TheVariants.{Demo, Replay, Check}
-use Rattle.lf_app.specs.Command.{IsCheck, Job, as_job, check, demo, replay}
+use Rattle.lf_app.specs.declared.faults.Fault.TheVariants.{Refused, File, ReadFault, WriteFault, TooManyLines, OutOfMemory, Output, Bind, Accept, Unwritten, NoRoom}
 use Rattle.lf_app.specs.Designs.{Gives}
-use Rattle.lf_app.specs.Exits.{Ends, IsOutcome}
+use Rattle.lf_app.specs.Exits.{Ends, IsOutcome, Streams}
 use Rattle.lf_app.specs.Faults.{IsDone, IsFailure}
 
 -- what comes behind loading is what comes of a task over a design
@@ -32,8 +32,13 @@ failing why old new exit (Refused refusal, is, ends) = inl ends.status
 failing why old new exit (File, is, ends) = inr ends.status
 failing why old new exit (ReadFault, is, ends) = inr ends.status
 failing why old new exit (WriteFault, is, ends) = inr ends.status
+failing why old new exit (TooManyLines, is, ends) = inr ends.status
 failing why old new exit (OutOfMemory, is, ends) = inr ends.status
 failing why old new exit (Output, is, ends) = inr ends.status
+failing why old new exit (Bind, is, ends) = inr ends.status
+failing why old new exit (Accept, is, ends) = inr ends.status
+failing why old new exit (Unwritten, is, ends) = inr ends.status
+failing why old new exit (NoRoom, is, ends) = inl ends.status
 
 -- no task is done and not done
 pub not_both : (status : ℕ) → IsDone status → IsFailure status → ⊥
@@ -43,13 +48,15 @@ not_both status (inr is) (inl fails) = omega (arith, is, fails)
 not_both status (inr is) (inr fails) = omega (arith, is, fails)
 
 -- the status of what a job has come to is one of a task that was done
-pub succeeds : (gives : Gives) (job : Job) (old new : Option (List ℕ)) (status : ℕ) → IsOutcome gives job old new status → IsDone status
-succeeds gives demo old new status is = inl is.2
-succeeds gives (replay def lefs) old new status is = inl is.2
-succeeds gives (check def lefs) old new status is = is.2.done
+pub succeeds : (gives : Gives) (job : Job) (io : Streams) (status : ℕ) → IsOutcome gives job io status → IsDone status
+succeeds gives demo io status is = inl is.3
+succeeds gives (replay def lefs export) io status is = inl is.1
+succeeds gives (serve def lefs port connections export) io status is = inl is.1
+succeeds gives (check def lefs) io status is = is.2.done
 
 -- 4 is the status of a check alone
-pub checked : (gives : Gives) (task : Task) (old new : Option (List ℕ)) (status : ℕ) → IsOutcome gives (as_job task) old new status → status ≡ 4 → IsCheck task
-checked gives Demo old new status is four = let zero : status ≡ 0 = is.2 in absurd (omega (arith, zero, four))
-checked gives (Replay def lefs) old new status is four = let zero : status ≡ 0 = is.2 in absurd (omega (arith, zero, four))
-checked gives (Check def lefs) old new status is four = tt
+pub checked : (gives : Gives) (task : Task) (io : Streams) (status : ℕ) → IsOutcome gives (as_job task) io status → status ≡ 4 → IsCheck task
+checked gives Demo io status is four = let zero : status ≡ 0 = is.3 in absurd (omega (arith, zero, four))
+checked gives (Replay def lefs export) io status is four = let zero : status ≡ 0 = is.1 in absurd (omega (arith, zero, four))
+checked gives (Serve def lefs port connections export) io status is four = let zero : status ≡ 0 = is.1 in absurd (omega (arith, zero, four))
+checked gives (Check def lefs) io status is four = tt

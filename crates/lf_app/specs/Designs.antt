@@ -51,6 +51,10 @@ abbrev pub IsFaultIn : Contents → def.Document → LoadFault → Type 0
 IsFaultIn library document refusal =
     (limits : Limits) × AreStandard limits × IsFault (record { library = library; document = document; limits = limits }) refusal
 
+-- why loading them is refused: what it finds, or want of memory
+abbrev pub IsLoadRefusal : Contents → def.Document → LoadFault → Type 0
+IsLoadRefusal library document refusal = (refusal ≡ load_fault_of Memory) ⊎ IsFaultIn library document refusal
+
 -- the design of a DEF text over the library
 abbrev pub IsDesignIn : Contents → List ℕ → Loaded → Type 0
 IsDesignIn library text loaded = (document : def.Document) × (def.document_of text ≡ Ok document) × IsLoadedIn library document loaded

@@ -1,18 +1,28 @@
 -- How tasks end.
-use Rattle.std.specs.Prelude.{◌≡◌, ◌⊎◌, ℕ, List, Option, Some, IsTrue}
+use Rattle.std.specs.Prelude.{◌≡◌, ◌⊎◌, ◌++◌, ℕ, List, [], ◌∷◌, Option, Some, None, IsTrue, Ok, codes}
 use Rattle.std.specs.Io.KnownBytes.{Appends}
 use Rattle.lf_floorplan.specs.declared.loaded.Loaded.{Loaded}
+use Rattle.lf_floorplan.specs.declared.place.Place.{Place}
 use Rattle.lf_rules.specs.Legalizer.{Legalizer}
+use Rattle.lf_lef.specs.Contents.{Contents}
 use Rattle.lf_lef.specs.declared.sample.TheConstants.{W_LEF}
 use Rattle.lf_def.specs.declared.sample.TheConstants.{W_DEF}
+use Rattle.lf_def.specs.Document.{Document, document_of}
+use Rattle.lf_write.specs.Export.{exported}
+use Rattle.lf_files.specs.Shelf.{Put, Puts}
+use Rattle.lf_teams.specs.States.{FloorState}
+use Rattle.lf_teams.specs.Designs.{opening}
+use Rattle.lf_teams.specs.Places.{AreCommittedPlaces}
+use Rattle.lf_server.specs.Connections.{Connects}
+use Rattle.lf_server.specs.declared.serving.Ending.{Ending}
+use Rattle.lf_command.specs.Command.{Job, demo, replay, serve, check}
 use Rattle.lf_app.specs.declared.faults.Fault.{Fault}
 use Rattle.lf_app.specs.declared.faults.Fault.TheVariants.{Refused, File}
 use Rattle.lf_app.specs.declared.faults.Exit.{Exit}
-use Rattle.lf_app.specs.declared.lines.Ending.{Ending}
 use Rattle.lf_app.specs.Checks.{IsLegalDesign, report_line}
-use Rattle.lf_app.specs.Command.{Job, demo, replay, check}
-use Rattle.lf_app.specs.Designs.{Gives, IsDesignFault, IsDesignOf, IsTextDesign, IsTextFault}
-use Rattle.lf_app.specs.Faults.{IsDone, IsReportFault, ending_fault, fault_line, no_memory, status_of}
+use Rattle.lf_app.specs.Designs.{Gives, IsDesignFault, IsDesignOf, IsLibraryOf, IsLoadedIn, IsTextDesign, IsTextFault, no_library}
+use Rattle.lf_app.specs.Faults.{IsDone, IsExportFault, IsReportFault, IsServiceFault, ending_fault, fault_line, no_memory, status_of}
+use Rattle.lf_app.specs.Lines.{IsServed}
 
 -- a task ends with the fault: with its status, and its line is put behind what was told, unless it could not be written
 pub record EndsWith (fault : Fault) (old new : Option (List ℕ)) (exit : Exit) : Type 0 where
@@ -23,12 +33,78 @@ pub record EndsWith (fault : Fault) (old new : Option (List ℕ)) (exit : Exit) 
 abbrev pub Ends : (Fault → Type 0) → Option (List ℕ) → Option (List ℕ) → Exit → Type 0
 Ends why old new exit = (fault : Fault) × why fault × EndsWith fault old new exit
 
+-- ---- what a task leaves
+
+-- what a task was given and what it left: the input before and after, the output before and after, and the texts that were put into files
+pub record Streams : Type 0 where
+  pub input : Option (List ℕ)
+  pub left : Option (List ℕ)
+  pub before : Option (List ℕ)
+  pub after : Option (List ℕ)
+  pub old_puts : Option (List Put)
+  pub new_puts : Option (List Put)
+
+abbrev pub streams : Option (List ℕ) → Option (List ℕ) → Option (List ℕ) → Option (List ℕ) → Option (List Put) → Option (List Put) → Streams
+streams input left before after old_puts new_puts =
+    record { input = input; left = left; before = before; after = after; old_puts = old_puts; new_puts = new_puts }
+
 -- a report of the design is put behind what was written, with a line feed, and the status tells whether it is fully legal
 pub record IsReported (loaded : Loaded) (old new : Option (List ℕ)) (status : ℕ) : Type 0 where
   pub done : IsDone status
   pub text : (l : Legalizer) → Appends old new (report_line l loaded)
   pub legal : status ≡ 0 → IsLegalDesign loaded
   pub illegal : status ≡ 4 → ¬ IsLegalDesign loaded
+
+-- the lines of the input were served on the floor of the design, up to their end or to a bye
+pub record IsAnswered (loaded : Loaded) (floor : FloorState) (input left before after : Option (List ℕ)) : Type 0 where
+  pub ending : Ending
+  pub well : ending_fault ending ≡ None
+  pub served : (l : Legalizer) → IsServed l (opening loaded) floor input left before after ending
+
+-- so many connections were served on the floor of the design, after 'listening' was written
+pub record IsOffered (loaded : Loaded) (floor : FloorState) (connections : ℕ) (before after : Option (List ℕ)) : Type 0 where
+  pub told : Appends before after (codes "listening" ++ 10 ∷ [])
+  pub connects : (l : Legalizer) → Connects l connections (opening loaded) floor
+
+-- the text of the document, with the committed places of the floor in it, is put into the file of that path; no path, and no file is written
+abbrev pub IsExported : Option (List ℕ) → List ℕ → Document → FloorState → Option (List Put) → Option (List Put) → Type 0
+IsExported None text document floor old new = new ≡ old
+IsExported (Some path) text document floor old new =
+    (places : List (ℕ × Option Place)) × AreCommittedPlaces floor places × Puts old new path (exported text document.components places)
+
+-- the design of a DEF file over LEF files, with the DEF text and what it says
+pub record IsOpened (gives : Gives) (def : List ℕ) (lefs : List (List ℕ)) (text : List ℕ) (document : Document) (loaded : Loaded) : Type 0 where
+  pub library : Contents
+  pub lefs_are : IsLibraryOf gives no_library lefs library
+  pub given : gives def (Some text)
+  pub read : document_of text ≡ Ok document
+  pub loads : IsLoadedIn library document loaded
+
+-- the floor came to its state by this work, and the exported text of the document was written where one was asked for
+pub record IsFinished (Work : FloorState → Streams → Type 0) (export : Option (List ℕ)) (text : List ℕ) (document : Document) (io : Streams) : Type 0 where
+  pub floor : FloorState
+  pub work : Work floor io
+  pub exports : IsExported export text document floor io.old_puts io.new_puts
+
+-- the design was opened, and this work on it finished
+pub record IsWorked (gives : Gives) (def : List ℕ) (lefs : List (List ℕ)) (export : Option (List ℕ)) (Work : Loaded → FloorState → Streams → Type 0) (io : Streams) : Type 0 where
+  pub text : List ℕ
+  pub document : Document
+  pub loaded : Loaded
+  pub opened : IsOpened gives def lefs text document loaded
+  pub finished : IsFinished (Work loaded) export text document io
+
+-- what a job that is done has come to, of which this is the status
+abbrev pub IsOutcome : Gives → Job → Streams → ℕ → Type 0
+IsOutcome gives demo io status =
+    (loaded : Loaded) × IsTextDesign W_DEF.now W_LEF.now loaded × ((floor : FloorState) × IsAnswered loaded floor io.input io.left io.before io.after) × (status ≡ 0)
+IsOutcome gives (replay def lefs export) io status =
+    IsWorked gives def lefs export (λ loaded floor io. IsAnswered loaded floor io.input io.left io.before io.after) io × (status ≡ 0)
+IsOutcome gives (serve def lefs port connections export) io status =
+    IsWorked gives def lefs export (λ loaded floor io. IsOffered loaded floor connections io.before io.after) io × (status ≡ 0)
+IsOutcome gives (check def lefs) io status = (loaded : Loaded) × IsDesignOf gives def lefs loaded × IsReported loaded io.before io.after status
+
+-- ---- faults
 
 -- why lines are not answered up to their end
 abbrev pub IsLinesFault : Fault → Type 0
@@ -40,14 +116,15 @@ IsEarly (Refused refusal) = Unit {0}
 IsEarly File = Unit {0}
 IsEarly _ = ⊥
 
--- what a job that is done has come to, of which this is the status: a design was loaded, and that of a check is reported
-abbrev pub IsOutcome : Gives → Job → Option (List ℕ) → Option (List ℕ) → ℕ → Type 0
-IsOutcome gives demo old new status = (loaded : Loaded) × IsTextDesign W_DEF.now W_LEF.now loaded × (status ≡ 0)
-IsOutcome gives (replay def lefs) old new status = (loaded : Loaded) × IsDesignOf gives def lefs loaded × (status ≡ 0)
-IsOutcome gives (check def lefs) old new status = (loaded : Loaded) × IsDesignOf gives def lefs loaded × IsReported loaded old new status
+-- why the work on a design that was opened is not done, or the exported text not written
+abbrev pub IsWorkFault : (Fault → Type 0) → Fault → Type 0
+IsWorkFault why fault = why fault ⊎ IsExportFault fault
 
--- why a job is not done: there is no design; or there is one, and the lines or the report fail
+-- why a job is not done: there is no design; or there is one, and the lines, the service, the export or the report fail
 abbrev pub IsJobFault : Gives → Job → Fault → Type 0
 IsJobFault gives demo fault = IsTextFault W_DEF.now W_LEF.now fault ⊎ ((loaded : Loaded) × IsTextDesign W_DEF.now W_LEF.now loaded × IsLinesFault fault)
-IsJobFault gives (replay def lefs) fault = IsDesignFault gives def lefs fault ⊎ ((loaded : Loaded) × IsDesignOf gives def lefs loaded × IsLinesFault fault)
+IsJobFault gives (replay def lefs export) fault =
+    IsDesignFault gives def lefs fault ⊎ ((loaded : Loaded) × IsDesignOf gives def lefs loaded × IsWorkFault IsLinesFault fault)
+IsJobFault gives (serve def lefs port connections export) fault =
+    IsDesignFault gives def lefs fault ⊎ ((loaded : Loaded) × IsDesignOf gives def lefs loaded × IsWorkFault (λ f. (f ≡ no_memory) ⊎ IsServiceFault f) fault)
 IsJobFault gives (check def lefs) fault = IsDesignFault gives def lefs fault ⊎ ((loaded : Loaded) × IsDesignOf gives def lefs loaded × IsReportFault fault)

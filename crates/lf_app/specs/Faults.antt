@@ -5,10 +5,10 @@ use Rattle.lf_lex.specs.declared.fault.FaultNumber.TheVariants as number
 use Rattle.lf_lex.specs.declared.fault.LoadFault.{LoadFault}
 use Rattle.lf_lex.specs.declared.fault.ReadError.TheVariants.{Memory}
 use Rattle.lf_lex.specs.Faults.{load_fault_of}
-use Rattle.lf_app.specs.declared.lines.Ending.{Ending}
-use Rattle.lf_app.specs.declared.lines.Ending.TheVariants as ending
+use Rattle.lf_server.specs.declared.serving.Ending.{Ending}
+use Rattle.lf_server.specs.declared.serving.Ending.TheVariants as ending
 use Rattle.lf_app.specs.declared.faults.Fault.{Fault}
-use Rattle.lf_app.specs.declared.faults.Fault.TheVariants.{Refused, File, ReadFault, WriteFault, OutOfMemory, Output}
+use Rattle.lf_app.specs.declared.faults.Fault.TheVariants.{Refused, File, ReadFault, WriteFault, TooManyLines, OutOfMemory, Output, Bind, Accept, Unwritten, NoRoom}
 use Rattle.lf_app.specs.declared.texts.Unread.{Unread}
 use Rattle.lf_app.specs.declared.texts.Unread.TheVariants as unread
 
@@ -59,8 +59,13 @@ fault_text (Refused fault) = refusal_text fault
 fault_text File = codes "File"
 fault_text ReadFault = codes "ReadFault"
 fault_text WriteFault = codes "WriteFault"
+fault_text TooManyLines = codes "TooManyLines"
 fault_text OutOfMemory = codes "OutOfMemory"
 fault_text Output = codes "Output"
+fault_text Bind = codes "Bind"
+fault_text Accept = codes "Accept"
+fault_text Unwritten = codes "File"
+fault_text NoRoom = codes "24 OutOfMemory"
 
 -- the line of a fault on standard error
 abbrev pub fault_line : Fault → List ℕ
@@ -69,14 +74,16 @@ fault_line fault = codes "lefence: " ++ fault_text fault ++ 10 ∷ []
 -- the exit status of a fault
 abbrev pub status_of : Fault → ℕ
 status_of (Refused fault) = 1
+status_of NoRoom = 1
 status_of _ = 3
 
--- the fault of lines that ended neither with the input nor with 'bye'; none where they did
+-- the fault of lines that ended neither with the input nor with a bye; none where they did
 abbrev pub ending_fault : Ending → Option Fault
 ending_fault ending.Done = None
 ending_fault ending.Bye = None
 ending_fault ending.ReadFault = Some ReadFault
 ending_fault ending.WriteFault = Some WriteFault
+ending_fault ending.TooManyLines = Some TooManyLines
 ending_fault ending.OutOfMemory = Some OutOfMemory
 
 -- the exit statuses of tasks that were not done
@@ -99,3 +106,11 @@ unread_fault unread.OutOfMemory = no_memory
 -- a report was not written: its text found no memory, or the writer failed
 abbrev pub IsReportFault : Fault → Type 0
 IsReportFault fault = (fault ≡ no_memory) ⊎ (fault ≡ Output)
+
+-- why an exported text is not put into its file: it found no memory, or the file cannot be written
+abbrev pub IsExportFault : Fault → Type 0
+IsExportFault fault = (fault ≡ NoRoom) ⊎ (fault ≡ Unwritten)
+
+-- why a service does not come to its end: the port cannot be listened on, that it is cannot be told, or a connection cannot be accepted
+abbrev pub IsServiceFault : Fault → Type 0
+IsServiceFault fault = (fault ≡ Bind) ⊎ ((fault ≡ Output) ⊎ (fault ≡ Accept))

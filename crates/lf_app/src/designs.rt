@@ -1,11 +1,12 @@
 //! The design of files: their texts are read, and the design is loaded.
 
-ghost use Rattle.std.specs.Prelude.{◌≡◌, ◌⊎◌, Some, map, IfErr, IfOk, OnOk};
+ghost use Rattle.std.specs.Prelude.{◌≡◌, ◌⊎◌, Ok, Some, map, IfErr, IfOk, OnOk};
 ghost use Rattle.lf_lex.specs.declared.fault.ReadError.TheVariants.{Memory};
 ghost use Rattle.lf_lex.specs.Faults.{load_fault_of};
 ghost use Rattle.lf_lef.specs.Library.{library_after};
 ghost use Rattle.lf_def.specs.Contents.{contents};
-ghost use Rattle.lf_app.specs.Designs.{Adds, IsDefRefusal, IsDesignFault, IsDesignIn, IsDesignOf, IsFaultIn, IsFileDesign, IsFileFault, IsLefRefusal, IsLibraryFault, IsLibraryOf, IsLoadedIn, IsRefused, IsTextDesign, IsTextFault, IsUnread};
+ghost use Rattle.lf_def.specs.Document.{Refuses, document_of};
+ghost use Rattle.lf_app.specs.Designs.{Adds, IsDefRefusal, IsDesignFault, IsDesignIn, IsDesignOf, IsFaultIn, IsFileDesign, IsFileFault, IsLefRefusal, IsLibraryFault, IsLibraryOf, IsLoadRefusal, IsLoadedIn, IsRefused, IsTextDesign, IsTextFault, IsUnread};
 ghost use Rattle.lf_app.specs.Exits.{Ends};
 
 use crate::faults::{Exit, Fault, tell, unread_fault};
@@ -17,7 +18,11 @@ use std::alloc::Global;
 use std::io::Write;
 
 /// The text of a file.
-fn read_text<T: Texts, F: Write>(texts: &T, path: &str, faults: &mut F) -> Result<Vec<u8>, Exit>
+pub(crate) fn read_text<T: Texts, F: Write>(
+    texts: &T,
+    path: &str,
+    faults: &mut F,
+) -> Result<Vec<u8>, Exit>
     ensures ok { IfOk result (λ text. T.gives texts.now path.now (Some text.items)) }
     ensures kept { OnOk result (faults.new ≡ faults.old) }
     ensures err { IfErr result (Ends (IsUnread (T.gives texts.now) path.now) (F.contents faults.old) (F.contents faults.new)) }
@@ -56,7 +61,7 @@ fn add_file<T: Texts, F: Write>(
 }
 
 /// Reads the LEF texts of the files in order, each whole before the next file is opened.
-fn add_files<T: Texts, F: Write>(
+pub(crate) fn add_files<T: Texts, F: Write>(
     texts: &T,
     library: &mut Library,
     paths: &[&str],
@@ -74,7 +79,7 @@ fn add_files<T: Texts, F: Write>(
 }
 
 /// The design of a document over the library.
-fn load_document<F: Write>(
+pub(crate) fn load_document<F: Write>(
     alloc: Global,
     library: &Library,
     document: &DefDoc,
@@ -82,11 +87,28 @@ fn load_document<F: Write>(
 ) -> Result<Loaded, Exit>
     ensures ok { IfOk result (IsLoadedIn library.now (contents document.now)) }
     ensures kept { OnOk result (faults.new ≡ faults.old) }
-    ensures err { IfErr result (Ends (IsRefused (λ refusal. (refusal ≡ load_fault_of Memory) ⊎ IsFaultIn library.now (contents document.now) refusal))
+    ensures err { IfErr result (Ends (IsRefused (IsLoadRefusal library.now (contents document.now)))
         (F.contents faults.old) (F.contents faults.new)) }
 {
     match load(alloc, library, document, Limits::standard()) {
         Ok(loaded) => Ok(loaded),
+        Err(fault) => Err(tell(faults, &Fault::Refused(fault))),
+    }
+}
+
+/// What a DEF text says.
+pub(crate) fn read_document<'t, F: Write>(
+    alloc: Global,
+    text: &'t [u8],
+    faults: &mut F,
+) -> Result<DefDoc<'t>, Exit>
+    ensures text { IfOk result (λ document. document.text.now ≡ text.now) }
+    ensures ok { IfOk result (λ document. document_of text.now ≡ Ok (contents document)) }
+    ensures kept { OnOk result (faults.new ≡ faults.old) }
+    ensures err { IfErr result (Ends (IsRefused (λ refusal. Refuses refusal (document_of text.now))) (F.contents faults.old) (F.contents faults.new)) }
+{
+    match read_def(alloc, text) {
+        Ok(document) => Ok(document),
         Err(fault) => Err(tell(faults, &Fault::Refused(fault))),
     }
 }

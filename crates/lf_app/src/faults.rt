@@ -5,10 +5,10 @@ ghost use Rattle.std.specs.Io.KnownBytes.{Appends};
 ghost use Rattle.lf_app.specs.Exits.{EndsWith};
 ghost use Rattle.lf_app.specs.Faults.{ending_fault, fault_line, fault_text, line_words, name_words, no_memory, numbered, refusal_text, status_of, unread_fault};
 
-use crate::lines::Ending;
 use crate::texts::Unread;
 use itoa::Buffer;
 use lf_lex::{FaultNumber, LoadFault};
+use lf_server::Ending;
 use std::io;
 use std::io::Write;
 
@@ -23,10 +23,20 @@ pub enum Fault<'a> {
     ReadFault,
     /// A reply could not be written.
     WriteFault,
+    /// A line followed the last one that is answered.
+    TooManyLines,
     /// There was no memory for the lines.
     OutOfMemory,
-    /// A report could not be written.
+    /// A report, or that the port is listened on, could not be written.
     Output,
+    /// The port could not be listened on.
+    Bind,
+    /// A connection could not be accepted.
+    Accept,
+    /// The file of the exported text could not be written.
+    Unwritten,
+    /// There was no memory for the exported text.
+    NoRoom,
 }
 
 /// How a task ended.
@@ -111,8 +121,13 @@ fn put_fault<W: Write>(writer: &mut W, fault: &Fault<'_>) -> io::Result<()>
         Fault::File => writer.write_all(b"File"),
         Fault::ReadFault => writer.write_all(b"ReadFault"),
         Fault::WriteFault => writer.write_all(b"WriteFault"),
+        Fault::TooManyLines => writer.write_all(b"TooManyLines"),
         Fault::OutOfMemory => writer.write_all(b"OutOfMemory"),
         Fault::Output => writer.write_all(b"Output"),
+        Fault::Bind => writer.write_all(b"Bind"),
+        Fault::Accept => writer.write_all(b"Accept"),
+        Fault::Unwritten => writer.write_all(b"File"),
+        Fault::NoRoom => writer.write_all(b"24 OutOfMemory"),
     }
 }
 
@@ -131,6 +146,7 @@ pub fn status_of(fault: &Fault<'_>) -> u8
 {
     match fault {
         Fault::Refused(_) => 1,
+        Fault::NoRoom => 1,
         _ => 3,
     }
 }
@@ -178,14 +194,16 @@ pub(crate) fn unread_fault<'a>(unread: Unread) -> Fault<'a>
     }
 }
 
-/// The fault of lines that ended neither with the input nor with `bye`; none where they did.
+/// The fault of lines that ended neither with the input nor with a bye; none where they did.
 pub(crate) fn ending_fault<'a>(ending: Ending) -> Option<Fault<'a>>
     ensures { result ≡ ending_fault ending }
 {
     match ending {
-        Ending::Done | Ending::Bye => None,
+        Ending::Done => None,
+        Ending::Bye => None,
         Ending::ReadFault => Some(Fault::ReadFault),
         Ending::WriteFault => Some(Fault::WriteFault),
+        Ending::TooManyLines => Some(Fault::TooManyLines),
         Ending::OutOfMemory => Some(Fault::OutOfMemory),
     }
 }

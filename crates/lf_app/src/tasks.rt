@@ -1,25 +1,26 @@
 //! What the program does for a task.
 
-ghost use Rattle.std.specs.Prelude.{◌≡◌, ◌⊎◌, map, ⊤, IfErr, IfOk, IsTrue, OnOk};
-ghost use Rattle.lf_app.specs.Command.{IsCheck, as_job, check, replay};
+ghost use Rattle.std.specs.Prelude.{◌≡◌, ◌⊎◌, None, map, ⊤, IfErr, IfOk, IsTrue, OnOk};
+ghost use Rattle.lf_command.specs.Command.{IsCheck, as_job};
 ghost use Rattle.lf_floorplan.specs.declared.loaded.Loaded.{Loaded};
-ghost use Rattle.lf_app.specs.Designs.{IsTextDesign, IsTextFault};
-ghost use Rattle.lf_app.specs.Exits.{Ends, IsEarly, IsJobFault, IsLinesFault, IsOutcome, IsReported};
+ghost use Rattle.lf_teams.specs.States.{FloorState};
+ghost use Rattle.lf_app.specs.Designs.{IsDesignFault, IsDesignOf, IsTextDesign, IsTextFault};
+ghost use Rattle.lf_app.specs.Exits.{Ends, IsAnswered, IsEarly, IsJobFault, IsLinesFault, IsOutcome, IsReported, streams};
 ghost use Rattle.lf_app.specs.Faults.{IsDone, IsFailure, IsReportFault};
 
-use crate::command::Task;
 use crate::designs::{design_of_files, design_of_texts};
-use crate::faults::{Exit, done, ending_fault, memory_fault, tell};
-use crate::lines::answer_lines;
+use crate::faults::{Exit, done, tell};
 use crate::reports::report_design;
 use crate::texts::{FileTexts, Texts};
+use crate::work::{Lines, answer_over, work_on_files};
+use lf_command::Task;
 use lf_def::W_DEF;
-use lf_floor::Floor;
+use lf_files::{Exports, FileExports};
 use lf_frame::Loaded;
 use lf_lef::W_LEF;
-use lf_legalize::PlainSeeker;
 use std::alloc::Global;
 use std::io::{Read, Write};
+use std::net::Net;
 use std::rt::Files;
 
 /// The exit status of a task that was done.
@@ -27,44 +28,6 @@ const DONE: u8 = 0;
 
 /// The exit status of a check that was done, of a design that is not fully legal.
 const ILLEGAL: u8 = 4;
-
-/// Answers the lines of the reader on the floor, and gives the exit status.
-fn answer_on<R: Read, W: Write, F: Write>(
-    alloc: Global,
-    floor: &mut Floor<PlainSeeker>,
-    reader: &mut R,
-    writer: &mut W,
-    faults: &mut F,
-) -> Result<u8, Exit>
-    ensures ok { IfOk result (λ status. status ≡ 0) }
-    ensures kept { OnOk result (faults.new ≡ faults.old) }
-    ensures err { IfErr result (Ends (λ fault. IsLinesFault fault × (IsEarly fault → writer.new ≡ writer.old))
-        (F.contents faults.old) (F.contents faults.new)) }
-{
-    match ending_fault(answer_lines(alloc, floor, reader, writer)) {
-        Some(fault) => Err(tell(faults, &fault)),
-        None => Ok(DONE),
-    }
-}
-
-/// Answers the lines of the reader over the design, and gives the exit status.
-fn answer_over<R: Read, W: Write, F: Write>(
-    alloc: Global,
-    loaded: Loaded,
-    reader: &mut R,
-    writer: &mut W,
-    faults: &mut F,
-) -> Result<u8, Exit>
-    ensures ok { IfOk result (λ status. status ≡ 0) }
-    ensures kept { OnOk result (faults.new ≡ faults.old) }
-    ensures err { IfErr result (Ends (λ fault. IsLinesFault fault × (IsEarly fault → writer.new ≡ writer.old))
-        (F.contents faults.old) (F.contents faults.new)) }
-{
-    match Floor::start(alloc, loaded, PlainSeeker) {
-        Ok(mut floor) => answer_on(alloc, &mut floor, reader, writer, faults),
-        Err(_) => Err(tell(faults, &memory_fault())),
-    }
-}
 
 /// Writes the report of the design, and gives the exit status.
 fn check_design<W: Write, F: Write>(
@@ -92,32 +55,14 @@ fn demo<R: Read, W: Write, F: Write>(
     writer: &mut W,
     faults: &mut F,
 ) -> Result<u8, Exit>
-    ensures ok { IfOk result (λ status. (loaded : Loaded) × IsTextDesign W_DEF.now W_LEF.now loaded × (status ≡ 0)) }
+    ensures ok { IfOk result (λ status. (loaded : Loaded) × IsTextDesign W_DEF.now W_LEF.now loaded × ((floor : FloorState)
+        × IsAnswered loaded floor (R.remaining reader.old) (R.remaining reader.new) (W.contents writer.old) (W.contents writer.new)) × (status ≡ 0)) }
     ensures kept { OnOk result (faults.new ≡ faults.old) }
     ensures err { IfErr result (Ends (λ fault.
         (IsTextFault W_DEF.now W_LEF.now fault ⊎ ((loaded : Loaded) × IsTextDesign W_DEF.now W_LEF.now loaded × IsLinesFault fault))
         × (IsEarly fault → writer.new ≡ writer.old)) (F.contents faults.old) (F.contents faults.new)) }
 {
     let loaded = design_of_texts(alloc, W_DEF, W_LEF, faults)?;
-    answer_over(alloc, loaded, reader, writer, faults)
-}
-
-/// Answers the lines of the reader over the design of these files.
-fn replay<T: Texts, R: Read, W: Write, F: Write>(
-    alloc: Global,
-    texts: &T,
-    def: &str,
-    lefs: &[&str],
-    reader: &mut R,
-    writer: &mut W,
-    faults: &mut F,
-) -> Result<u8, Exit>
-    ensures ok { IfOk result (IsOutcome (T.gives texts.now) (replay def.now (map (λ lef. lef.now) lefs.now)) (W.contents writer.old) (W.contents writer.new)) }
-    ensures kept { OnOk result (faults.new ≡ faults.old) }
-    ensures err { IfErr result (Ends (λ fault. IsJobFault (T.gives texts.now) (replay def.now (map (λ lef. lef.now) lefs.now)) fault
-        × (IsEarly fault → writer.new ≡ writer.old)) (F.contents faults.old) (F.contents faults.new)) }
-{
-    let loaded = design_of_files(alloc, texts, def, lefs, faults)?;
     answer_over(alloc, loaded, reader, writer, faults)
 }
 
@@ -130,9 +75,11 @@ fn check<T: Texts, W: Write, F: Write>(
     writer: &mut W,
     faults: &mut F,
 ) -> Result<u8, Exit>
-    ensures ok { IfOk result (IsOutcome (T.gives texts.now) (check def.now (map (λ lef. lef.now) lefs.now)) (W.contents writer.old) (W.contents writer.new)) }
+    ensures ok { IfOk result (λ status. (loaded : Loaded) × IsDesignOf (T.gives texts.now) def.now (map (λ lef. lef.now) lefs.now) loaded
+        × IsReported loaded (W.contents writer.old) (W.contents writer.new) status) }
     ensures kept { OnOk result (faults.new ≡ faults.old) }
-    ensures err { IfErr result (Ends (λ fault. IsJobFault (T.gives texts.now) (check def.now (map (λ lef. lef.now) lefs.now)) fault
+    ensures err { IfErr result (Ends (λ fault. (IsDesignFault (T.gives texts.now) def.now (map (λ lef. lef.now) lefs.now) fault
+        ⊎ ((loaded : Loaded) × IsDesignOf (T.gives texts.now) def.now (map (λ lef. lef.now) lefs.now) loaded × IsReportFault fault))
         × (IsEarly fault → writer.new ≡ writer.old)) (F.contents faults.old) (F.contents faults.new)) }
 {
     let loaded = design_of_files(alloc, texts, def, lefs, faults)?;
@@ -140,46 +87,83 @@ fn check<T: Texts, W: Write, F: Write>(
 }
 
 /// Does the task, and gives its exit status.
-fn outcome<T: Texts, R: Read, W: Write, F: Write>(
-    alloc: Global,
+fn outcome<T: Texts, N: Net + AllocGlobal, E: Exports, R: Read, W: Write, F: Write>(
+    rt: &N,
     texts: &T,
+    exports: &mut E,
     task: &Task<'_>,
     reader: &mut R,
     writer: &mut W,
     faults: &mut F,
 ) -> Result<u8, Exit>
-    ensures ok { IfOk result (IsOutcome (T.gives texts.now) (as_job task.now) (W.contents writer.old) (W.contents writer.new)) }
+    ensures ok { IfOk result (IsOutcome (T.gives texts.now) (as_job task.now)
+        (streams (R.remaining reader.old) (R.remaining reader.new) (W.contents writer.old) (W.contents writer.new) (E.puts exports.old) (E.puts exports.new))) }
     ensures kept { OnOk result (faults.new ≡ faults.old) }
     ensures err { IfErr result (Ends (λ fault. IsJobFault (T.gives texts.now) (as_job task.now) fault × (IsEarly fault → writer.new ≡ writer.old))
         (F.contents faults.old) (F.contents faults.new)) }
     ensures unread { IsCheck task.now → reader.new ≡ reader.old }
 {
     match task {
-        Task::Demo => demo(alloc, reader, writer, faults),
-        Task::Replay { def, lefs } => {
-            replay(alloc, texts, def, lefs.as_slice(), reader, writer, faults)
+        Task::Demo => demo(rt.alloc(), reader, writer, faults),
+        Task::Replay { def, lefs, export } => work_on_files(
+            rt,
+            texts,
+            def,
+            lefs.as_slice(),
+            Lines::Stream,
+            *export,
+            exports,
+            reader,
+            writer,
+            faults,
+        ),
+        Task::Serve {
+            def,
+            lefs,
+            port,
+            connections,
+            export,
+        } => work_on_files(
+            rt,
+            texts,
+            def,
+            lefs.as_slice(),
+            Lines::Port {
+                port: *port,
+                connections: *connections,
+            },
+            *export,
+            exports,
+            reader,
+            writer,
+            faults,
+        ),
+        Task::Check { def, lefs } => {
+            check(rt.alloc(), texts, def, lefs.as_slice(), writer, faults)
         }
-        Task::Check { def, lefs } => check(alloc, texts, def, lefs.as_slice(), writer, faults),
     }
 }
 
 /// Does the task and gives how it ended: with status 0 where it is done, 1 where a text or the design was refused, or
-/// memory was before the first line or for the report, 3 where a file, the reader or the writer failed, or memory for
-/// the lines was refused; 4 where a check is done and the design is not fully legal. A fault is written to `faults` as
-/// a line of its own.
+/// memory was before the first line, for the report or for the exported text, 3 where a file, the reader, the writer, the
+/// port or a connection failed, too many lines came, or memory for the lines was refused; 4 where a check is done and the
+/// design is not fully legal. A fault is written to `faults` as a line of its own.
 ///
-/// The LEF files are read in the order of the words, then the DEF file, then the design is loaded, up to the first
-/// fault; only then is the first line read, or the report made. A check reads no line.
-pub fn perform_over<T: Texts, R: Read, W: Write, F: Write>(
-    alloc: Global,
+/// The LEF files are read in the order of the words, then the DEF file, then the design is loaded, then the port is
+/// listened on, up to the first fault; only then is the first line read, or the report made. A check reads no line. The
+/// exported text is written where all that came to its end, and goes to `exports`.
+pub fn perform_over<T: Texts, N: Net + AllocGlobal, E: Exports, R: Read, W: Write, F: Write>(
+    rt: &N,
     texts: &T,
+    exports: &mut E,
     task: &Task<'_>,
     reader: &mut R,
     writer: &mut W,
     faults: &mut F,
 ) -> Exit
     ensures status { IsDone result.status ⊎ IsFailure result.status }
-    ensures outcome { IsDone result.status → IsOutcome (T.gives texts.now) (as_job task.now) (W.contents writer.old) (W.contents writer.new) result.status }
+    ensures outcome { IsDone result.status → IsOutcome (T.gives texts.now) (as_job task.now)
+        (streams (R.remaining reader.old) (R.remaining reader.new) (W.contents writer.old) (W.contents writer.new) (E.puts exports.old) (E.puts exports.new)) result.status }
     ensures done { IsDone result.status → faults.new ≡ faults.old }
     ensures told { IsDone result.status → IsTrue result.is_told }
     ensures fault { IsFailure result.status → Ends (λ fault. IsJobFault (T.gives texts.now) (as_job task.now) fault × (IsEarly fault → writer.new ≡ writer.old))
@@ -187,14 +171,14 @@ pub fn perform_over<T: Texts, R: Read, W: Write, F: Write>(
     ensures checked { result.status ≡ 4 → IsCheck task.now }
     ensures unread { IsCheck task.now → reader.new ≡ reader.old }
 {
-    match outcome(alloc, texts, task, reader, writer, faults) {
+    match outcome(rt, texts, exports, task, reader, writer, faults) {
         Ok(status) => done(status),
         Err(exit) => exit,
     }
 }
 
-/// Does the task over the files of a runtime, as `perform_over` does, and gives the exit status alone.
-pub fn perform<T: Files + AllocGlobal, R: Read, W: Write, F: Write>(
+/// Does the task over the files and the network of a runtime, as `perform_over` does, and gives the exit status alone.
+pub fn perform<T: Files + Net + AllocGlobal, R: Read, W: Write, F: Write>(
     rt: &T,
     task: &Task<'_>,
     reader: &mut R,
@@ -202,12 +186,14 @@ pub fn perform<T: Files + AllocGlobal, R: Read, W: Write, F: Write>(
     faults: &mut F,
 ) -> u8
     ensures status { IsDone result ⊎ IsFailure result }
-    ensures outcome { IsDone result → IsOutcome (λ path text. ⊤) (as_job task.now) (W.contents writer.old) (W.contents writer.new) result }
+    ensures outcome { IsDone result → IsOutcome (λ path text. ⊤) (as_job task.now)
+        (streams (R.remaining reader.old) (R.remaining reader.new) (W.contents writer.old) (W.contents writer.new) None None) result }
     ensures done { IsDone result → faults.new ≡ faults.old }
     ensures checked { result ≡ 4 → IsCheck task.now }
     ensures unread { IsCheck task.now → reader.new ≡ reader.old }
 {
     let texts = FileTexts::new(rt);
-    let exit = perform_over(rt.alloc(), &texts, task, reader, writer, faults);
+    let mut exports = FileExports::new(rt);
+    let exit = perform_over(rt, &texts, &mut exports, task, reader, writer, faults);
     exit.status
 }

@@ -1,24 +1,25 @@
 //! Devices over std's readers and writers.
 
-ghost use Rattle.std.specs.Prelude.{◌≡◌, false};
+ghost use Rattle.std.specs.Prelude.{◌≡◌, false, true};
 
 use crate::device::{DeviceFault, Sink, Source};
 use std::io::{Read, Write};
 
-/// A source over a reader.
+/// A source over a reader, which it borrows.
 #[derive(Drop)]
-pub struct FromRead<R> {
-    reader: R,
+pub struct FromRead<'a, R> {
+    reader: &'a mut R,
     reads: u64,
     failed: bool,
 }
 
-impl<R: Read> FromRead<R> {
+impl<'a, R: Read> FromRead<'a, R> {
     /// A source over the reader, of which no read was made.
-    pub fn new(reader: R) -> FromRead<R>
-        ensures remaining { ⟦<FromRead<R> as Source>⟧.remaining result ≡ R.remaining reader }
-        ensures reads { ⟦<FromRead<R> as Source>⟧.reads result ≡ 0 }
-        ensures fresh { ⟦<FromRead<R> as Source>⟧.has_failed result ≡ false }
+    pub fn new(reader: &'a mut R) -> FromRead<'a, R>
+        ensures remaining { ⟦<FromRead<'a, R> as Source>⟧.remaining result ≡ R.remaining reader.old }
+        ensures reads { ⟦<FromRead<'a, R> as Source>⟧.reads result ≡ 0 }
+        ensures fresh { ⟦<FromRead<'a, R> as Source>⟧.has_failed result ≡ false }
+        ensures held { ⟦<FromRead<'a, R> as Source>⟧.holds result ≡ reader.entry.ghost_name }
     {
         FromRead {
             reader,
@@ -28,12 +29,14 @@ impl<R: Read> FromRead<R> {
     }
 }
 
-impl<R: Read> Source for FromRead<R> {
-    ghost remaining = { λ s. R.remaining s.reader };
+impl<'a, R: Read> Source for FromRead<'a, R> {
+    ghost remaining = { λ s. R.remaining s.reader.now };
 
     ghost reads = { λ s. s.reads };
 
     ghost has_failed = { λ s. s.failed };
+
+    ghost holds = { λ s. s.reader.ghost_name };
 
     fn read(&mut self, buffer: &mut [u8]) -> Result<usize, DeviceFault> {
         self.reads += 1;
@@ -47,19 +50,21 @@ impl<R: Read> Source for FromRead<R> {
     }
 }
 
-/// A sink over a writer. A write that takes no byte fails.
+/// A sink over a writer, which it borrows. A write that takes no byte fails.
 #[derive(Drop)]
-pub struct ToWrite<W> {
-    writer: W,
+pub struct ToWrite<'a, W> {
+    writer: &'a mut W,
     flushed: bool,
     failed: bool,
 }
 
-impl<W: Write> ToWrite<W> {
+impl<'a, W: Write> ToWrite<'a, W> {
     /// A sink over the writer, to which nothing was written yet.
-    pub fn new(writer: W) -> ToWrite<W>
-        ensures contents { ⟦<ToWrite<W> as Sink>⟧.contents result ≡ W.contents writer }
-        ensures fresh { ⟦<ToWrite<W> as Sink>⟧.has_failed result ≡ false }
+    pub fn new(writer: &'a mut W) -> ToWrite<'a, W>
+        ensures contents { ⟦<ToWrite<'a, W> as Sink>⟧.contents result ≡ W.contents writer.old }
+        ensures flushed { ⟦<ToWrite<'a, W> as Sink>⟧.is_flushed result ≡ true }
+        ensures fresh { ⟦<ToWrite<'a, W> as Sink>⟧.has_failed result ≡ false }
+        ensures held { ⟦<ToWrite<'a, W> as Sink>⟧.holds result ≡ writer.entry.ghost_name }
     {
         ToWrite {
             writer,
@@ -69,12 +74,14 @@ impl<W: Write> ToWrite<W> {
     }
 }
 
-impl<W: Write> Sink for ToWrite<W> {
-    ghost contents = { λ s. W.contents s.writer };
+impl<'a, W: Write> Sink for ToWrite<'a, W> {
+    ghost contents = { λ s. W.contents s.writer.now };
 
     ghost is_flushed = { λ s. s.flushed };
 
     ghost has_failed = { λ s. s.failed };
+
+    ghost holds = { λ s. s.writer.ghost_name };
 
     fn write(&mut self, bytes: &[u8]) -> Result<usize, DeviceFault> {
         self.flushed = false;

@@ -19,13 +19,17 @@ pub trait Source {
     /// Whether a call has failed.
     ghost has_failed: { Self → Bool };
 
+    /// Which reader the source holds, where it holds one by a reference.
+    ghost holds: { Self → ℕ } = { λ _. 0 };
+
     /// Reads into the front of the buffer; 0 bytes are the end of the input.
     fn read(&mut self, buffer: &mut [u8]) -> Result<usize, DeviceFault>
         requires countable { reads self.old < 18446744073709551615 }
         ensures bound { ReadsAtMost result buffer.new }
         ensures bytes { ReadConsumes (remaining self.old) (remaining self.new) result buffer.new }
         ensures counted { reads self.new ≡ reads self.old + 1 }
-        ensures failed { has_failed self.new ≡ (has_failed self.old || is_err result) };
+        ensures failed { has_failed self.new ≡ (has_failed self.old || is_err result) }
+        ensures held { holds self.new ≡ holds self.old };
 }
 
 /// Where bytes go.
@@ -39,6 +43,9 @@ pub trait Sink {
     /// Whether a call has failed.
     ghost has_failed: { Self → Bool };
 
+    /// Which writer the sink holds, where it holds one by a reference.
+    ghost holds: { Self → ℕ } = { λ _. 0 };
+
     /// Takes a front of the bytes, at least one.
     fn write(&mut self, bytes: &[u8]) -> Result<usize, DeviceFault>
         requires { 0 < length bytes.now }
@@ -46,11 +53,13 @@ pub trait Sink {
         ensures some { IfOk result (λ n. 0 < n) }
         ensures bytes { WriteAppends (contents self.old) (contents self.new) result bytes.now }
         ensures flushed { is_flushed self.new ≡ false }
-        ensures failed { has_failed self.new ≡ (has_failed self.old || is_err result) };
+        ensures failed { has_failed self.new ≡ (has_failed self.old || is_err result) }
+        ensures held { holds self.new ≡ holds self.old };
 
     /// Sees to it that everything written has gone out.
     fn flush(&mut self) -> Result<(), DeviceFault>
         ensures bytes { Keeps (contents self.old) (contents self.new) }
         ensures flushed { OnOk result (is_flushed self.new ≡ true) }
-        ensures failed { has_failed self.new ≡ (has_failed self.old || is_err result) };
+        ensures failed { has_failed self.new ≡ (has_failed self.old || is_err result) }
+        ensures held { holds self.new ≡ holds self.old };
 }

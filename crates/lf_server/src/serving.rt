@@ -57,6 +57,7 @@ fn write_all<W: Sink>(sink: &mut W, bytes: &[u8]) -> Result<(), DeviceFault>
     ensures healthy { OnOk result (W.has_failed sink.new ≡ W.has_failed sink.old) }
     ensures front { OnErr result ((n : ℕ) × Appends (W.contents sink.old) (W.contents sink.new) (take n bytes.now)) }
     ensures failed { OnErr result (W.has_failed sink.new ≡ true) }
+    ensures held { W.holds sink.new ≡ W.holds sink.old }
 {
     let mut at = 0;
     while at < bytes.len() {
@@ -87,6 +88,7 @@ fn exchange<K: Seeker + Drop, W: Sink>(
     ensures room { 4096 ≤ vec_capacity text.new }
     ensures never { IfSome result (λ ending. (ending ≢ Ending.ReadFault) × (ending ≢ Ending.OutOfMemory)) }
     ensures health { MatchOption result (W.has_failed sink.new ≡ W.has_failed sink.old) (λ ending. SinkAt ending (W.has_failed sink.old) (W.has_failed sink.new)) }
+    ensures held { W.holds sink.new ≡ W.holds sink.old }
     ensures stays { Stays floor.old floor.new }
     ensures serves { (l : Legalizer) → IsExchanged l result (writer (W.contents sink.old) (W.is_flushed sink.old) (W.has_failed sink.old)) (writer (W.contents sink.new) (W.is_flushed sink.new) (W.has_failed sink.new)) floor.old floor.new (option_map (λ bytes. bytes.now) line.entry) }
 {
@@ -117,6 +119,7 @@ fn take_line<K: Seeker + Drop, W: Sink>(
     ensures left { left.new ≤ left.old }
     ensures never { IfSome result.1 (λ ending. (ending ≢ Ending.ReadFault) × (ending ≢ Ending.OutOfMemory)) }
     ensures health { MatchOption result.1 (W.has_failed sink.new ≡ W.has_failed sink.old) (λ ending. SinkAt ending (W.has_failed sink.old) (W.has_failed sink.new)) }
+    ensures held { W.holds sink.new ≡ W.holds sink.old }
     ensures stays { Stays floor.old floor.new }
     ensures serves { (l : Legalizer) → MatchOption result.1 (Goes l (writer (W.contents sink.old) (W.is_flushed sink.old) (W.has_failed sink.old)) (writer (W.contents sink.new) (W.is_flushed sink.new) (W.has_failed sink.new)) left.old left.new floor.old floor.new framer.old.pending framer.new.pending piece.now (drop result.0 piece.now)) (λ ending. (rest : List ℕ) → Stops l ending (writer (W.contents sink.old) (W.is_flushed sink.old) (W.has_failed sink.old)) (writer (W.contents sink.new) (W.is_flushed sink.new) (W.has_failed sink.new)) left.old left.new floor.old floor.new (lines_from framer.old.pending (pieces (piece.now ++ rest)))) }
 {
@@ -145,6 +148,7 @@ fn pump<K: Seeker + Drop, W: Sink>(
     ensures left { left.new ≤ left.old }
     ensures never { IfSome result (λ ending. (ending ≢ Ending.ReadFault) × (ending ≢ Ending.OutOfMemory)) }
     ensures health { MatchOption result (W.has_failed sink.new ≡ W.has_failed sink.old) (λ ending. SinkAt ending (W.has_failed sink.old) (W.has_failed sink.new)) }
+    ensures held { W.holds sink.new ≡ W.holds sink.old }
     ensures stays { Stays floor.old floor.new }
     ensures serves { (l : Legalizer) → MatchOption result (Goes l (writer (W.contents sink.old) (W.is_flushed sink.old) (W.has_failed sink.old)) (writer (W.contents sink.new) (W.is_flushed sink.new) (W.has_failed sink.new)) left.old left.new floor.old floor.new framer.old.pending framer.new.pending piece.now []) (λ ending. (rest : List ℕ) → Stops l ending (writer (W.contents sink.old) (W.is_flushed sink.old) (W.has_failed sink.old)) (writer (W.contents sink.new) (W.is_flushed sink.new) (W.has_failed sink.new)) left.old left.new floor.old floor.new (lines_from framer.old.pending (pieces (piece.now ++ rest)))) }
 {
@@ -172,6 +176,7 @@ fn finish<K: Seeker + Drop, W: Sink>(
     ensures left { left.new ≤ left.old }
     ensures never { (result ≢ Ending.ReadFault) × (result ≢ Ending.OutOfMemory) }
     ensures health { SinkAt result (W.has_failed sink.old) (W.has_failed sink.new) }
+    ensures held { W.holds sink.new ≡ W.holds sink.old }
     ensures stays { Stays floor.old floor.new }
     ensures serves { (l : Legalizer) → Stops l result (writer (W.contents sink.old) (W.is_flushed sink.old) (W.has_failed sink.old)) (writer (W.contents sink.new) (W.is_flushed sink.new) (W.has_failed sink.new)) left.old left.new floor.old floor.new (lines_from framer.old.pending ([] ∷ [])) }
 {
@@ -208,6 +213,8 @@ fn serve_lines<K: Seeker + Drop, S: Source, W: Sink>(
     ensures readable { result ≢ Ending.ReadFault → S.has_failed source.new ≡ S.has_failed source.old }
     ensures some { result ≢ Ending.OutOfMemory }
     ensures health { SinkAt result (W.has_failed sink.old) (W.has_failed sink.new) }
+    ensures source_held { S.holds source.new ≡ S.holds source.old }
+    ensures sink_held { W.holds sink.new ≡ W.holds sink.old }
     ensures stays { Stays floor.old floor.new }
     ensures serves { (l : Legalizer) → Finishes l result (S.remaining source.old) (S.remaining source.new) (writer (W.contents sink.old) (W.is_flushed sink.old) (W.has_failed sink.old)) (writer (W.contents sink.new) (W.is_flushed sink.new) (W.has_failed sink.new)) left.old left.new floor.old floor.new }
 {
@@ -262,6 +269,8 @@ pub fn serve<K: Seeker + Drop, S: Source, W: Sink>(
     requires readable { S.has_failed source.old ≡ false }
     requires writable { W.has_failed sink.old ≡ false }
     requires countable { S.reads source.old + limits.reads ≤ 18446744073709551615 }
+    ensures source_held { S.holds source.new ≡ S.holds source.old }
+    ensures sink_held { W.holds sink.new ≡ W.holds sink.old }
     ensures stays { Stays floor.old floor.new }
     ensures serves { (l : Legalizer) → Serves l limits.lines floor.old (S.remaining source.old) (S.remaining source.new) (writer (W.contents sink.old) (W.is_flushed sink.old) (W.has_failed sink.old)) (writer (W.contents sink.new) (W.is_flushed sink.new) (W.has_failed sink.new)) result floor.new }
     ensures lines { result.lines ≤ limits.lines }

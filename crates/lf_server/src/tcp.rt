@@ -35,13 +35,14 @@ fn serve_stream<S: Read + Write + OpenStream + Drop, K: Seeker + Drop>(
     ensures served { (l : Legalizer) → HasServed l floor.old floor.new }
     ensures stays { Stays floor.old floor.new }
 {
-    let Ok(replies) = stream.try_clone() else {
+    let Ok(mut replies) = stream.try_clone() else {
         return;
     };
     let _ = stream.set_nodelay(true);
     let _ = stream.set_write_timeout(Some(Duration::from_secs(PATIENCE)));
-    let mut source = FromRead::new(stream);
-    let mut sink = ToWrite::new(replies);
+    let mut requests = stream;
+    let mut source = FromRead::new(&mut requests);
+    let mut sink = ToWrite::new(&mut replies);
     serve(alloc, floor, &mut source, &mut sink, limits);
 }
 

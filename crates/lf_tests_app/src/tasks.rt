@@ -4,12 +4,48 @@ use crate::designs::with_line;
 use crate::shelf::Shelf;
 use lf_app::{Exit, FileTexts, Task, UsageFault, command_of, perform, perform_over};
 use lf_def::W_DEF;
+use lf_files::{Exports, Unwritten};
 use lf_lef::W_LEF;
 use lf_units::Sequence;
 use std::alloc::{AllocError, Global};
 use std::io;
 use std::io::{Read, Write};
+use std::net::{Ipv4Addr, Net, OpenListener, SocketAddr};
 use std::test::Fail;
+
+/// Exported texts: the last one, with its path. Without a path, none can be put.
+#[derive(Drop)]
+struct Kept<'a> {
+    path: Option<&'a str>,
+    text: Option<Vec<u8>>,
+    alloc: Global,
+}
+
+impl<'a> Kept<'a> {
+    /// Takes texts for this path.
+    fn at(alloc: Global, path: Option<&'a str>) -> Self {
+        Kept {
+            path,
+            text: None,
+            alloc,
+        }
+    }
+}
+
+impl<'a> Exports for Kept<'a> {
+    fn put(&mut self, path: &str, text: &[u8]) -> Result<(), Unwritten> {
+        if self.path != Some(path) {
+            return Err(Unwritten);
+        }
+        match Vec::from_slice(self.alloc, text) {
+            Ok(text) => {
+                self.text = Some(text);
+                Ok(())
+            }
+            Err(_) => Err(Unwritten),
+        }
+    }
+}
 
 /// Does the demo over a reader and a writer.
 fn demo<R: Read, W: Write, F: Write>(
@@ -19,7 +55,9 @@ fn demo<R: Read, W: Write, F: Write>(
     faults: &mut F,
 ) -> Exit {
     let texts = FileTexts::new(rt);
-    perform_over(rt.alloc(), &texts, &Task::Demo, reader, writer, faults)
+    let mut exports = Kept::at(rt.alloc(), None);
+    let task = Task::Demo;
+    perform_over(rt, &texts, &mut exports, &task, reader, writer, faults)
 }
 
 /// The end of a task with this status, of which all was told.
@@ -109,14 +147,29 @@ struct Run {
     faults: Vec<u8>,
 }
 
-/// Does the task over the files on the shelf.
-fn done(alloc: Global, files: &[(&str, Option<&[u8]>)], task: &Task<'_>, input: &str) -> Run {
+/// Does the task over the files on the shelf, with exported texts kept in memory.
+fn exporting(
+    rt: &HostRuntime,
+    files: &[(&str, Option<&[u8]>)],
+    exports: &mut Kept<'_>,
+    task: &Task<'_>,
+    input: &str,
+) -> Run {
+    let alloc = rt.alloc();
     let shelf = Shelf { alloc, files };
     let mut reader = input.as_bytes();
     let mut written = Vec::new(alloc);
     let mut faults = Vec::new(alloc);
     let texts = FileTexts::new(&shelf);
-    let exit = perform_over(alloc, &texts, task, &mut reader, &mut written, &mut faults);
+    let exit = perform_over(
+        rt,
+        &texts,
+        exports,
+        task,
+        &mut reader,
+        &mut written,
+        &mut faults,
+    );
     Run {
         exit,
         written,
@@ -124,18 +177,25 @@ fn done(alloc: Global, files: &[(&str, Option<&[u8]>)], task: &Task<'_>, input: 
     }
 }
 
+/// Does the task over the files on the shelf, where no text can be exported.
+fn done(rt: &HostRuntime, files: &[(&str, Option<&[u8]>)], task: &Task<'_>, input: &str) -> Run {
+    let mut exports = Kept::at(rt.alloc(), None);
+    exporting(rt, files, &mut exports, task, input)
+}
+
 /// Replays `w.def` over the LEF files of these paths, of the files on the shelf.
 fn replayed(
-    alloc: Global,
+    rt: &HostRuntime,
     files: &[(&str, Option<&[u8]>)],
     lefs: &[&str],
     input: &str,
 ) -> Result<Run, AllocError> {
     let task = Task::Replay {
         def: "w.def",
-        lefs: Sequence::from_vec(Vec::from_slice(alloc, lefs)?),
+        lefs: Sequence::from_vec(Vec::from_slice(rt.alloc(), lefs)?),
+        export: None,
     };
-    Ok(done(alloc, files, &task, input))
+    Ok(done(rt, files, &task, input))
 }
 
 /// The check of `w.def` over `w.lef`.
@@ -149,14 +209,15 @@ fn check_of_w<'a>(alloc: Global) -> Result<Task<'a>, AllocError> {
 }
 
 /// Checks this DEF text over the sample LEF text.
-fn checked(alloc: Global, def: &[u8]) -> Result<Run, AllocError> {
+fn checked(rt: &HostRuntime, def: &[u8]) -> Result<Run, AllocError> {
     let files = [("w.lef", Some(W_LEF)), ("w.def", Some(def))];
-    Ok(done(alloc, files.as_slice(), &check_of_w(alloc)?, "open A\n"))
+    let task = check_of_w(rt.alloc())?;
+    Ok(done(rt, files.as_slice(), &task, "open A\n"))
 }
 
 /// Whether the check of this DEF text ends with this status and writes this report.
-fn reports(alloc: Global, def: &[u8], status: u8, report: &str) -> Result<bool, AllocError> {
-    let run = checked(alloc, def)?;
+fn reports(rt: &HostRuntime, def: &[u8], status: u8, report: &str) -> Result<bool, AllocError> {
+    let run = checked(rt, def)?;
     Ok(
         run.exit == told(status)
             && run.faults.is_empty()
@@ -166,13 +227,13 @@ fn reports(alloc: Global, def: &[u8], status: u8, report: &str) -> Result<bool, 
 
 /// Whether a replay over these files ends with this status and this line of a fault, and writes nothing.
 fn ends(
-    alloc: Global,
+    rt: &HostRuntime,
     files: &[(&str, Option<&[u8]>)],
     lefs: &[&str],
     status: u8,
     fault: &str,
 ) -> Result<bool, AllocError> {
-    let run = replayed(alloc, files, lefs, "open A\n")?;
+    let run = replayed(rt, files, lefs, "open A\n")?;
     Ok(
         run.exit == told(status)
             && run.written.is_empty()
@@ -184,7 +245,7 @@ fn ends(
 fn a_design_of_files_is_replayed(rt: HostRuntime) -> Result<(), Fail> {
     let files = [("w.lef", Some(W_LEF)), ("w.def", Some(W_DEF))];
     let input = "open A\nplace A 0 a1 0 0 N\nwhere A 0 a1\n";
-    let run = replayed(rt.alloc(), files.as_slice(), ["w.lef"].as_slice(), input)?;
+    let run = replayed(&rt, files.as_slice(), ["w.lef"].as_slice(), input)?;
     assert_eq!(rt; run.exit, told(0));
     assert_eq!(rt; run.faults.as_slice(), b"".as_slice());
     assert_eq!(rt;
@@ -200,7 +261,7 @@ fn fences_that_overlap_are_refused(rt: HostRuntime) -> Result<(), Fail> {
     let def = with_line(rt.alloc(), W_DEF, 12, fence)?;
     let files = [("w.lef", Some(W_LEF)), ("w.def", Some(def.as_slice()))];
     let fault = "lefence: 21 FencesOverlap B\n";
-    assert!(rt; ends(rt.alloc(), files.as_slice(), ["w.lef"].as_slice(), 1, fault)?);
+    assert!(rt; ends(&rt, files.as_slice(), ["w.lef"].as_slice(), 1, fault)?);
     Ok(())
 }
 
@@ -209,7 +270,7 @@ fn a_text_that_is_none_is_refused_with_its_line(rt: HostRuntime) -> Result<(), F
     let def = with_line(rt.alloc(), W_DEF, 20, b"END REGIONS")?;
     let files = [("w.lef", Some(W_LEF)), ("w.def", Some(def.as_slice()))];
     let fault = "lefence: 5 WrongEnd line 20\n";
-    assert!(rt; ends(rt.alloc(), files.as_slice(), ["w.lef"].as_slice(), 1, fault)?);
+    assert!(rt; ends(&rt, files.as_slice(), ["w.lef"].as_slice(), 1, fault)?);
     Ok(())
 }
 
@@ -222,10 +283,10 @@ fn lef_files_are_read_in_order_up_to_the_first_fault(rt: HostRuntime) -> Result<
     ];
     let both = ["w.lef", "bad.lef", "cut.lef"];
     let fault = "lefence: 3 Unexpected line 1\n";
-    assert!(rt; ends(rt.alloc(), files.as_slice(), both.as_slice(), 1, fault)?);
+    assert!(rt; ends(&rt, files.as_slice(), both.as_slice(), 1, fault)?);
     let both = ["w.lef", "cut.lef", "bad.lef"];
     let fault = "lefence: 2 UnexpectedEnd line 2\n";
-    assert!(rt; ends(rt.alloc(), files.as_slice(), both.as_slice(), 1, fault)?);
+    assert!(rt; ends(&rt, files.as_slice(), both.as_slice(), 1, fault)?);
     Ok(())
 }
 
@@ -234,7 +295,7 @@ fn lef_files_are_read_in_order_up_to_the_first_fault(rt: HostRuntime) -> Result<
 fn a_replay_reads_its_own_lef_files_alone(rt: HostRuntime) -> Result<(), Fail> {
     let files = [("x.lef", Some(b"".as_slice())), ("w.def", Some(W_DEF))];
     let fault = "lefence: 8 NoSite core\n";
-    assert!(rt; ends(rt.alloc(), files.as_slice(), ["x.lef"].as_slice(), 1, fault)?);
+    assert!(rt; ends(&rt, files.as_slice(), ["x.lef"].as_slice(), 1, fault)?);
     Ok(())
 }
 
@@ -242,17 +303,9 @@ fn a_replay_reads_its_own_lef_files_alone(rt: HostRuntime) -> Result<(), Fail> {
 fn a_file_that_cannot_be_read_is_a_fault(rt: HostRuntime) -> Result<(), Fail> {
     let files = [("w.lef", Some(W_LEF)), ("folder", None)];
     let fault = "lefence: File\n";
-    assert!(rt; ends(rt.alloc(), files.as_slice(), ["w.lef"].as_slice(), 3, fault)?);
-    assert!(rt; ends(rt.alloc(), files.as_slice(), ["x.lef"].as_slice(), 3, fault)?);
-    assert!(rt;
-        ends(
-            rt.alloc(),
-            files.as_slice(),
-            ["folder"].as_slice(),
-            3,
-            fault
-        )?
-    );
+    assert!(rt; ends(&rt, files.as_slice(), ["w.lef"].as_slice(), 3, fault)?);
+    assert!(rt; ends(&rt, files.as_slice(), ["x.lef"].as_slice(), 3, fault)?);
+    assert!(rt; ends(&rt, files.as_slice(), ["folder"].as_slice(), 3, fault)?);
     Ok(())
 }
 
@@ -268,14 +321,14 @@ fn placed(alloc: Global, second: &[u8]) -> Result<Vec<u8>, AllocError> {
 #[test]
 fn a_design_is_checked(rt: HostRuntime) -> Result<(), Fail> {
     let report = "{\"cells\":5,\"unplaced\":5,\"violations\":[]}\n";
-    assert!(rt; reports(rt.alloc(), W_DEF, 4, report)?);
+    assert!(rt; reports(&rt, W_DEF, 4, report)?);
     let def = placed(rt.alloc(), b"- a2 INV + PLACED ( 400 0 ) N ;")?;
     let report = "{\"cells\":5,\"unplaced\":0,\"violations\":[]}\n";
-    assert!(rt; reports(rt.alloc(), &def, 0, report)?);
+    assert!(rt; reports(&rt, &def, 0, report)?);
     let def = placed(rt.alloc(), b"- a2 INV + PLACED ( 200 0 ) N ;")?;
     let report = "{\"cells\":5,\"unplaced\":0,\"violations\":\
         [{\"cell\":\"a1\",\"other\":\"a2\",\"rule\":8},{\"cell\":\"a2\",\"other\":\"a1\",\"rule\":8}]}\n";
-    assert!(rt; reports(rt.alloc(), &def, 4, report)?);
+    assert!(rt; reports(&rt, &def, 4, report)?);
     Ok(())
 }
 
@@ -283,14 +336,14 @@ fn a_design_is_checked(rt: HostRuntime) -> Result<(), Fail> {
 fn a_check_that_cannot_be_made_is_a_fault(rt: HostRuntime) -> Result<(), Fail> {
     let fence = b"- B ( 3999 0 ) ( 10000 8000 ) + TYPE FENCE ;";
     let def = with_line(rt.alloc(), W_DEF, 12, fence)?;
-    let run = checked(rt.alloc(), &def)?;
+    let run = checked(&rt, &def)?;
     assert_eq!(rt; (run.exit.status, run.written.is_empty()), (1, true));
     assert_eq!(rt;
         run.faults.as_slice(),
         b"lefence: 21 FencesOverlap B\n".as_slice()
     );
     let files = [("w.lef", Some(W_LEF))];
-    let run = done(rt.alloc(), files.as_slice(), &check_of_w(rt.alloc())?, "");
+    let run = done(&rt, files.as_slice(), &check_of_w(rt.alloc())?, "");
     assert_eq!(rt; (run.exit.status, run.written.is_empty()), (3, true));
     assert_eq!(rt; run.faults.as_slice(), b"lefence: File\n".as_slice());
     Ok(())
@@ -378,9 +431,11 @@ fn a_report_that_cannot_be_written_is_a_fault(rt: HostRuntime) -> Result<(), Fai
     let texts = FileTexts::new(&shelf);
     let task = check_of_w(rt.alloc())?;
     let mut faults = Vec::new(rt.alloc());
+    let mut exports = Kept::at(rt.alloc(), None);
     let exit = perform_over(
-        rt.alloc(),
+        &rt,
         &texts,
+        &mut exports,
         &task,
         &mut Failing,
         &mut Failing,
@@ -389,10 +444,151 @@ fn a_report_that_cannot_be_written_is_a_fault(rt: HostRuntime) -> Result<(), Fai
     assert_eq!(rt; exit, told(3));
     assert_eq!(rt; faults.as_slice(), b"lefence: Output\n".as_slice());
     let mut faults = Vec::new(rt.alloc());
-    let status = perform(&shelf, &task, &mut Failing, &mut Unflushed, &mut faults);
-    assert_eq!(rt; status, 3);
+    let exit = perform_over(
+        &rt,
+        &texts,
+        &mut exports,
+        &task,
+        &mut Failing,
+        &mut Unflushed,
+        &mut faults,
+    );
+    assert_eq!(rt; exit, told(3));
     assert_eq!(rt; faults.as_slice(), b"lefence: Output\n".as_slice());
     Ok(())
+}
+
+/// The replay of `w.def` over `w.lef` whose text is exported to `new.def`.
+fn exporting_replay<'a>(alloc: Global) -> Result<Task<'a>, AllocError> {
+    let mut lefs = Vec::new(alloc);
+    lefs.push("w.lef")?;
+    Ok(Task::Replay {
+        def: "w.def",
+        lefs: Sequence::from_vec(lefs),
+        export: Some("new.def"),
+    })
+}
+
+/// Lines after which the three cells of A are committed.
+const COMMITTED: &str =
+    "open A\nplace A 0 a1 0 0 N\nplace A 0 a2 400 0 N\nplace A 0 a3 800 0 N\ncommit A 0\n";
+
+#[test]
+fn what_is_committed_is_exported(rt: HostRuntime) -> Result<(), Fail> {
+    let files = [("w.lef", Some(W_LEF)), ("w.def", Some(W_DEF))];
+    let task = exporting_replay(rt.alloc())?;
+    let mut exports = Kept::at(rt.alloc(), Some("new.def"));
+    let run = exporting(&rt, files.as_slice(), &mut exports, &task, COMMITTED);
+    assert_eq!(rt; run.exit, told(0));
+    assert_eq!(rt;
+        run.written.as_slice(),
+        b"ok 0 0\nok 1\nok 2\nok 3\nok 4\n".as_slice()
+    );
+    let text = with_line(
+        rt.alloc(),
+        W_DEF,
+        15,
+        b"- a1 INV + SOURCE DIST + PLACED ( 0 0 ) N ;",
+    )?;
+    let text = with_line(rt.alloc(), &text, 16, b"- a2 INV + PLACED ( 400 0 ) N ;")?;
+    let text = with_line(
+        rt.alloc(),
+        &text,
+        17,
+        b"- a3 DBL + WEIGHT 3 + PLACED ( 800 0 ) N ;",
+    )?;
+    assert!(rt; exports.text == Some(text));
+    Ok(())
+}
+
+#[test]
+fn what_works_alone_is_not_exported(rt: HostRuntime) -> Result<(), Fail> {
+    let files = [("w.lef", Some(W_LEF)), ("w.def", Some(W_DEF))];
+    let task = exporting_replay(rt.alloc())?;
+    let mut exports = Kept::at(rt.alloc(), Some("new.def"));
+    let lines = "open A\nplace A 0 a1 0 0 N\nbye\nplace A 0 a2 400 0 N\n";
+    let run = exporting(&rt, files.as_slice(), &mut exports, &task, lines);
+    assert_eq!(rt; run.exit, told(0));
+    assert_eq!(rt; run.written.as_slice(), b"ok 0 0\nok 1\nok\n".as_slice());
+    assert!(rt; exports.text == Some(Vec::from_slice(rt.alloc(), W_DEF)?));
+    Ok(())
+}
+
+#[test]
+fn an_export_that_cannot_be_written_is_a_fault(rt: HostRuntime) -> Result<(), Fail> {
+    let files = [("w.lef", Some(W_LEF)), ("w.def", Some(W_DEF))];
+    let task = exporting_replay(rt.alloc())?;
+    let run = done(&rt, files.as_slice(), &task, "open A\n");
+    assert_eq!(rt; run.exit, told(3));
+    assert_eq!(rt; run.written.as_slice(), b"ok 0 0\n".as_slice());
+    assert_eq!(rt; run.faults.as_slice(), b"lefence: File\n".as_slice());
+    Ok(())
+}
+
+#[test]
+fn nothing_is_exported_after_a_fault(rt: HostRuntime) -> Result<(), Fail> {
+    let files = [("w.lef", Some(W_LEF)), ("w.def", Some(W_DEF))];
+    let shelf = Shelf {
+        alloc: rt.alloc(),
+        files: files.as_slice(),
+    };
+    let texts = FileTexts::new(&shelf);
+    let task = exporting_replay(rt.alloc())?;
+    let mut exports = Kept::at(rt.alloc(), Some("new.def"));
+    let mut reader = Cut {
+        bytes: COMMITTED.as_bytes(),
+    };
+    let mut written = Vec::new(rt.alloc());
+    let mut faults = Vec::new(rt.alloc());
+    let exit = perform_over(
+        &rt,
+        &texts,
+        &mut exports,
+        &task,
+        &mut reader,
+        &mut written,
+        &mut faults,
+    );
+    assert_eq!(rt; exit, told(3));
+    assert_eq!(rt; faults.as_slice(), b"lefence: ReadFault\n".as_slice());
+    assert!(rt; exports.text.is_none());
+    Ok(())
+}
+
+/// The service of `w.def` over `w.lef` to this port, for one connection.
+fn service<'a>(alloc: Global, port: u16) -> Result<Task<'a>, AllocError> {
+    let mut lefs = Vec::new(alloc);
+    lefs.push("w.lef")?;
+    Ok(Task::Serve {
+        def: "w.def",
+        lefs: Sequence::from_vec(lefs),
+        port,
+        connections: 1,
+        export: None,
+    })
+}
+
+#[test]
+fn a_port_that_is_taken_is_a_fault(rt: HostRuntime) -> Result<(), Fail> {
+    let taken = rt.bind(SocketAddr::from((Ipv4Addr::LOCALHOST, 0)))?;
+    let files = [("w.lef", Some(W_LEF)), ("w.def", Some(W_DEF))];
+    let task = service(rt.alloc(), taken.local_addr()?.port())?;
+    let run = done(&rt, files.as_slice(), &task, "");
+    assert_eq!(rt; run.exit, told(3));
+    assert!(rt; run.written.is_empty());
+    assert_eq!(rt; run.faults.as_slice(), b"lefence: Bind\n".as_slice());
+    Ok(())
+}
+
+#[test]
+fn a_task_is_done_over_the_files_of_a_runtime(rt: HostRuntime) {
+    let mut reader = b"open A\nbye\n".as_slice();
+    let mut written = Vec::new(rt.alloc());
+    let mut faults = Vec::new(rt.alloc());
+    let status = perform(&rt, &Task::Demo, &mut reader, &mut written, &mut faults);
+    assert_eq!(rt; status, 0);
+    assert_eq!(rt; written.as_slice(), b"ok 0 0\nok\n".as_slice());
+    assert!(rt; faults.is_empty());
 }
 
 /// Whether the words are refused.
@@ -423,13 +619,183 @@ fn words_name_a_replay(rt: HostRuntime) -> Result<(), Fail> {
         ["lefence", "replay", "--", "w.def", "w.lef", "x.lef"].as_slice(),
         ["lefence", "replay", "w.def", "--", "w.lef", "x.lef"].as_slice(),
     ] {
-        let Ok(Task::Replay { def, lefs }) = command_of(rt.alloc(), words) else {
+        let Ok(
+            Task::Replay {
+                def,
+                lefs,
+                export: None,
+            },
+        ) = command_of(rt.alloc(), words)
+        else {
             return Err(Fail::from("no replay"));
         };
         assert!(rt; def == "w.def");
         assert!(rt; lefs.as_slice() == ["w.lef", "x.lef"].as_slice());
     }
     Ok(())
+}
+
+/// Whether the words name a replay of `a` over `b` with this path for the exported text.
+fn exports_to(alloc: Global, words: &[&str], path: &str) -> bool {
+    match command_of(alloc, words) {
+        Ok(Task::Replay { def, lefs, export }) => {
+            def == "a" && lefs.as_slice() == ["b"].as_slice() && export == Some(path)
+        }
+        _ => false,
+    }
+}
+
+#[test]
+fn words_name_the_file_of_an_export(rt: HostRuntime) {
+    for (words, path) in [
+        (
+            ["lefence", "replay", "--export", "x", "a", "b"].as_slice(),
+            "x",
+        ),
+        (
+            ["lefence", "replay", "a", "b", "--export=x=y"].as_slice(),
+            "x=y",
+        ),
+        (["lefence", "replay", "a", "b", "--export="].as_slice(), ""),
+    ] {
+        assert!(rt; exports_to(rt.alloc(), words, path));
+    }
+}
+
+#[test]
+fn words_name_a_service(rt: HostRuntime) -> Result<(), Fail> {
+    for (words, number) in [
+        (
+            [
+                "lefence",
+                "serve",
+                "a",
+                "b",
+                "--port",
+                "80",
+                "--connections",
+                "3",
+            ]
+            .as_slice(),
+            80,
+        ),
+        (
+            [
+                "lefence",
+                "serve",
+                "--connections=3",
+                "a",
+                "b",
+                "--port",
+                "+065535",
+            ]
+            .as_slice(),
+            65535,
+        ),
+    ] {
+        let Ok(
+            Task::Serve {
+                def,
+                lefs,
+                port,
+                connections,
+                export: None,
+            },
+        ) = command_of(rt.alloc(), words)
+        else {
+            return Err(Fail::from("no service"));
+        };
+        assert!(rt; def == "a");
+        assert!(rt; lefs.as_slice() == ["b"].as_slice());
+        assert_eq!(rt; (port, connections), (number, 3));
+    }
+    Ok(())
+}
+
+#[test]
+fn services_are_refused(rt: HostRuntime) {
+    for words in [
+        [
+            "lefence",
+            "serve",
+            "a",
+            "b",
+            "--port",
+            "0",
+            "--connections",
+            "3",
+        ]
+        .as_slice(),
+        [
+            "lefence",
+            "serve",
+            "a",
+            "b",
+            "--port",
+            "65536",
+            "--connections",
+            "3",
+        ]
+        .as_slice(),
+        [
+            "lefence",
+            "serve",
+            "a",
+            "b",
+            "--port",
+            "-1",
+            "--connections",
+            "3",
+        ]
+        .as_slice(),
+        [
+            "lefence",
+            "serve",
+            "a",
+            "b",
+            "--port",
+            "8x",
+            "--connections",
+            "3",
+        ]
+        .as_slice(),
+        [
+            "lefence",
+            "serve",
+            "a",
+            "b",
+            "--port",
+            "80",
+            "--connections",
+            "0",
+        ]
+        .as_slice(),
+        [
+            "lefence",
+            "serve",
+            "a",
+            "b",
+            "--port",
+            "80",
+            "--connections",
+            "1000001",
+        ]
+        .as_slice(),
+        ["lefence", "serve", "a", "b", "--port", "80"].as_slice(),
+        ["lefence", "serve", "a", "b", "--connections", "3"].as_slice(),
+        [
+            "lefence",
+            "serve",
+            "a",
+            "--port",
+            "80",
+            "--connections",
+            "3",
+        ]
+        .as_slice(),
+    ] {
+        assert!(rt; is_usage(rt.alloc(), words));
+    }
 }
 
 #[test]
@@ -446,7 +812,14 @@ fn words_name_a_check(rt: HostRuntime) -> Result<(), Fail> {
 #[test]
 fn paths_may_begin_with_a_hyphen_behind_two(rt: HostRuntime) -> Result<(), Fail> {
     let words = ["lefence", "replay", "--", "-w.def", "--"];
-    let Ok(Task::Replay { def, lefs }) = command_of(rt.alloc(), words.as_slice()) else {
+    let Ok(
+        Task::Replay {
+            def,
+            lefs,
+            export: None,
+        },
+    ) = command_of(rt.alloc(), words.as_slice())
+    else {
         return Err(Fail::from("no replay"));
     };
     assert!(rt; def == "-w.def");
@@ -472,6 +845,19 @@ fn other_words_are_refused(rt: HostRuntime) {
         ["lefence", "replay", "--", "w.def"].as_slice(),
         ["lefence", "replay", "-h", "w.def", "w.lef"].as_slice(),
         ["lefence", "replay", "w.def", "w.lef", "--export"].as_slice(),
+        ["lefence", "replay", "w.def", "w.lef", "--export", "-x"].as_slice(),
+        [
+            "lefence",
+            "replay",
+            "w.def",
+            "w.lef",
+            "--export=x",
+            "--export=y",
+        ]
+        .as_slice(),
+        ["lefence", "replay", "w.def", "w.lef", "--exp", "x"].as_slice(),
+        ["lefence", "replay", "w.def", "w.lef", "--port", "80"].as_slice(),
+        ["lefence", "demo", "--export", "x"].as_slice(),
         ["lefence", "replay", "w.def", "w.lef", "-x"].as_slice(),
     ] {
         assert!(rt; is_usage(rt.alloc(), words));

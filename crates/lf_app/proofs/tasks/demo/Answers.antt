@@ -3,13 +3,14 @@ use Rattle.lf_def.specs.declared.sample.TheConstants.{W_DEF}
 use Rattle.lf_lef.specs.declared.sample.TheConstants.{W_LEF}
 use Rattle.lf_app.specs.Designs.{IsTextDesign, IsTextFault}
 use Rattle.lf_app.specs.Exits.{IsEarly, IsLinesFault}
-use Rattle.lf_app.proofs.TaskSteps.{comes_of, fails}
+use Rattle.lf_app.proofs.TaskSteps.{fails}
+use Rattle.lf_app.proofs.WorkSteps.{weaker_ok}
 use Rattle.lf_app.proofs.tasks.demo.Goals as goal
 
 pub returns-clause-ok : goal.returns-clause-ok
 returns-clause-ok g c =
-    comes_of (IsTextDesign W_DEF.now W_LEF.now) c.in_ok-loaded.loaded c.in_ok-loaded.ensures.ok c.answer_over.result
-    (λ l status. status ≡ 0) c.answer_over.ensures.ok
+    weaker_ok c.answer_over.result _ _ c.answer_over.ensures.ok
+    (λ status is. (c.in_ok-loaded.loaded, c.in_ok-loaded.ensures.ok, is.0, is.1))
 
 pub returns-clause-err : goal.returns-clause-err
 returns-clause-err g c =

@@ -1,6 +1,6 @@
 use Rattle.std.proofs.Common.{◌≡◌, ℕ, inl, inr, subst, sym}
-use Rattle.lf_app.specs.Command.{as_job}
-use Rattle.lf_app.specs.Exits.{IsEarly, IsJobFault, IsOutcome}
+use Rattle.lf_command.specs.Command.{as_job}
+use Rattle.lf_app.specs.Exits.{IsEarly, IsJobFault, IsOutcome, streams}
 use Rattle.lf_app.specs.Faults.{IsDone, IsFailure}
 use Rattle.lf_app.proofs.TaskSteps.{checked, failing, not_both, succeeds}
 use Rattle.lf_app.proofs.tasks.perform_over.Goals as goal
@@ -8,19 +8,20 @@ use Rattle.lf_app.proofs.tasks.perform_over.Goals as goal
 pub returns-in-Ok : goal.returns-in-Ok
 returns-in-Ok g c =
     let gives = g.T.Texts.gives c.args.texts.now in
-    let old = g.W.Write.contents c.args.writer.now in
-    let new = g.W.Write.contents c.outcome.new.writer in
+    let io = streams (g.R.Read.remaining c.args.reader.now) (g.R.Read.remaining c.outcome.new.reader)
+    (g.W.Write.contents c.args.writer.now) (g.W.Write.contents c.outcome.new.writer)
+    (g.E.Exports.puts c.args.exports.now) (g.E.Exports.puts c.outcome.new.exports) in
     let status = c.done.result.status in
-    let is : IsOutcome gives (as_job c.args.task.now) old new status =
-    subst (λ (n : ℕ). IsOutcome gives (as_job c.args.task.now) old new n) (sym c.done.ensures.status) c.in-Ok.ensures.ok in
-    let succeeded : IsDone status = succeeds gives (as_job c.args.task.now) old new status is in
+    let is : IsOutcome gives (as_job c.args.task.now) io status =
+    subst (λ (n : ℕ). IsOutcome gives (as_job c.args.task.now) io n) (sym c.done.ensures.status) c.in-Ok.ensures.ok in
+    let succeeded : IsDone status = succeeds gives (as_job c.args.task.now) io status is in
     record {
       status = inl succeeded;
       outcome = λ _. is;
       done = λ _. c.in-Ok.ensures.kept;
       told = λ _. c.done.ensures.told;
       fault = λ failed. absurd (not_both status succeeded failed);
-      checked = checked gives c.args.task.now old new status is;
+      checked = checked gives c.args.task.now io status is;
       unread = c.in-Ok.ensures.unread;
     }
 

@@ -1,4 +1,4 @@
-use Rattle.std.proofs.Common.{◌≡◌, ◌+◌, ◌≤◌, arith, rules, take, length, None, drop}
+use Rattle.std.proofs.Common.{◌≡◌, ◌∙◌, ◌+◌, ◌≤◌, arith, rules, take, length, None, drop}
 use Rattle.lf_server.proofs.Steps.{goes_none, stays_join, piece_done, piece_on, piece_stop}
 use Rattle.lf_server.proofs.serving.pump.Goals as goal
 
@@ -14,6 +14,7 @@ loop-at-preserved g c = record {
   stays = stays_join c.args.floor.now c.loop-at.floor c.take_line-used.new.floor c.loop-at.invariant.stays c.take_line-used.ensures.stays;
   room = c.take_line-used.ensures.room;
   sink = search rules;
+  held = c.take_line-used.ensures.held ∙ c.loop-at.invariant.held;
   goes = λ l. piece_on l _ _ _ c.args.left.now c.loop-at.left c.take_line-used.new.left c.args.floor.now c.loop-at.floor c.take_line-used.new.floor c.args.framer.now.pending c.loop-at.framer.pending c.take_line-used.new.framer.pending
       c.args.piece.now c.loop-at.at c.take_line-used.result.0 c.take_line-used.result.1 c.in-None.is (c.loop-at.invariant.goes l) (c.take_line-used.ensures.serves l);
 }

@@ -13,6 +13,7 @@ invariant-loop-at g l = record {
   stays : Stays l.fn.floor l.floor;
   room : 4096 ≤ vec_capacity l.text;
   sink : g.W.Sink.has_failed l.sink ≡ g.W.Sink.has_failed l.fn.sink;
+  held : g.W.Sink.holds l.sink ≡ g.W.Sink.holds l.fn.sink;
   goes : (z : Legalizer) → Goes z (writer (g.W.Sink.contents l.fn.sink) (g.W.Sink.is_flushed l.fn.sink) (g.W.Sink.has_failed l.fn.sink))
       (writer (g.W.Sink.contents l.sink) (g.W.Sink.is_flushed l.sink) (g.W.Sink.has_failed l.sink)) l.fn.left l.left l.fn.floor l.floor l.fn.framer.pending l.framer.pending l.piece (drop l.at l.piece);
 }

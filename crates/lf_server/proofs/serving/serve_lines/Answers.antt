@@ -15,6 +15,8 @@ loop-reads_left-init g c = record {
   room = c.requires.room;
   sink = refl;
   source = refl;
+  sink_held = refl;
+  source_held = refl;
   goes = λ l. ([], Consumes-none (g.S.Source.remaining c.args.source.now), goes_start l _ c.args.left.now c.args.floor.now c.args.framer.now.pending c.requires.fresh);
 }
 
@@ -43,6 +45,8 @@ loop-reads_left-preserved g c = record {
   room = c.pump.ensures.room;
   sink = c.in-None.ensures.health ∙ c.loop-reads_left.invariant.sink;
   source = grind (arith, c.in-Ok.ensures.failed, c.loop-reads_left.invariant.source);
+  sink_held = c.pump.ensures.held ∙ c.loop-reads_left.invariant.sink_held;
+  source_held = c.read.ensures.held ∙ c.loop-reads_left.invariant.source_held;
   goes = λ l. let h = c.loop-reads_left.invariant.goes l in
       read_on l (g.S.Source.remaining c.args.source.now) (g.S.Source.remaining c.loop-reads_left.source) (g.S.Source.remaining c.read.new.self) _ _ _ c.args.left.now c.loop-reads_left.left c.pump.new.left c.args.floor.now c.loop-reads_left.floor c.pump.new.floor c.loop-reads_left.framer.pending c.pump.new.framer.pending
       h.0 (take c.in-Ok.count c.read.new.buffer) h.1 c.in-Ok.ensures.bytes.0 h.2 (c.in-None.ensures.serves l);

@@ -15,6 +15,8 @@ invariant-loop-reads_left g l = record {
   room : 4096 ≤ vec_capacity l.text;
   sink : g.W.Sink.has_failed l.sink ≡ g.W.Sink.has_failed l.fn.sink;
   source : g.S.Source.has_failed l.source ≡ g.S.Source.has_failed l.fn.source;
+  sink_held : g.W.Sink.holds l.sink ≡ g.W.Sink.holds l.fn.sink;
+  source_held : g.S.Source.holds l.source ≡ g.S.Source.holds l.fn.source;
   goes : (z : Legalizer) → (read : List ℕ) × Consumes (g.S.Source.remaining l.fn.source) (g.S.Source.remaining l.source) read
       × Goes z (writer (g.W.Sink.contents l.fn.sink) (g.W.Sink.is_flushed l.fn.sink) (g.W.Sink.has_failed l.fn.sink))
       (writer (g.W.Sink.contents l.sink) (g.W.Sink.is_flushed l.sink) (g.W.Sink.has_failed l.sink)) l.fn.left l.left l.fn.floor l.floor (Some []) l.framer.pending read [];

@@ -1,0 +1,83 @@
+-- Work on a design, step by step: what the steps behind one give is what the whole gives.
+use Rattle.std.proofs.Common.{◌≡◌, ◌⊎◌, inl, inr, ℕ, List, Ok, Option, Some}
+use Rattle.std.specs.Prelude.{IfErr, IfOk, Result}
+use Rattle.std.proofs.lemmas.Result.{IfErr-weaker, IfOk-weaker}
+use Rattle.lf_lex.specs.declared.fault.LoadFault.{LoadFault}
+use Rattle.lf_lef.specs.Contents.{Contents}
+use Rattle.lf_def.specs.Document.{Document, Refuses, document_of}
+use Rattle.lf_floorplan.specs.declared.loaded.Loaded.{Loaded}
+use Rattle.lf_app.specs.declared.faults.Exit.{Exit}
+use Rattle.lf_app.specs.declared.faults.Fault.{Fault}
+use Rattle.lf_app.specs.declared.faults.Fault.TheVariants.{Refused, File, ReadFault, WriteFault, TooManyLines, OutOfMemory, Output, Bind, Accept, Unwritten, NoRoom}
+use Rattle.lf_app.specs.Designs.{Gives, IsDefRefusal, IsDesignFault, IsDesignIn, IsDesignOf, IsFileDesign, IsFileFault, IsLibraryOf, IsLoadRefusal, IsLoadedIn, IsRefused, no_library}
+use Rattle.lf_app.specs.Exits.{Ends}
+
+-- what holds of a status gives what is asked of it
+pub weaker_ok : (r : Result ℕ Exit) (P Q : ℕ → Type 0) → IfOk r P → ((status : ℕ) → P status → Q status) → IfOk r Q
+weaker_ok r P Q is gives = IfOk-weaker r P Q gives is
+
+-- a fault of a step is one of the whole
+pub step_fails : (r : Result ℕ Exit) (why all early : Fault → Type 0) (kept : Type 0) (old new : Option (List ℕ))
+    → IfErr r (Ends (λ fault. why fault × (early fault → kept)) old new) → ((fault : Fault) → why fault → all fault)
+    → IfErr r (Ends (λ fault. all fault × (early fault → kept)) old new)
+step_fails r why all early kept old new is gives =
+    IfErr-weaker r (Ends (λ fault. why fault × (early fault → kept)) old new) (Ends (λ fault. all fault × (early fault → kept)) old new)
+    (λ exit ends. (ends.0, (gives ends.0 ends.1.0, ends.1.1), ends.2)) is
+
+-- the same of a fault before anything is written
+pub first_fails : (why all early : Fault → Type 0) (kept : Type 0) (old new : Option (List ℕ)) (exit : Exit) → kept
+    → Ends why old new exit → ((fault : Fault) → why fault → all fault) → Ends (λ fault. all fault × (early fault → kept)) old new exit
+first_fails why all early kept old new exit keeps ends gives = (ends.0, (gives ends.0 ends.1, λ _. keeps), ends.2)
+
+-- a refusal of one kind is one of another that takes them all in
+pub refused_as : (P Q : LoadFault → Type 0) (fault : Fault) → IsRefused P fault → ((refusal : LoadFault) → P refusal → Q refusal) → IsRefused Q fault
+refused_as P Q (Refused refusal) is gives = gives refusal is
+refused_as P Q File is gives = absurd is
+refused_as P Q ReadFault is gives = absurd is
+refused_as P Q WriteFault is gives = absurd is
+refused_as P Q TooManyLines is gives = absurd is
+refused_as P Q OutOfMemory is gives = absurd is
+refused_as P Q Output is gives = absurd is
+refused_as P Q Bind is gives = absurd is
+refused_as P Q Accept is gives = absurd is
+refused_as P Q Unwritten is gives = absurd is
+refused_as P Q NoRoom is gives = absurd is
+
+load_refused : (library : Contents) (text : List ℕ) (document : Document) (refusal : LoadFault) → document_of text ≡ Ok document
+    → IsLoadRefusal library document refusal → IsDefRefusal library text refusal
+load_refused library text document refusal is (inl memory) = inl (inl memory)
+load_refused library text document refusal is (inr found) = inr (document, is, found)
+
+-- a refusal of loading a document is one of its text
+pub text_refused : (library : Contents) (text : List ℕ) (document : Document) (fault : Fault) → document_of text ≡ Ok document
+    → IsRefused (IsLoadRefusal library document) fault → IsRefused (IsDefRefusal library text) fault
+text_refused library text document fault is refused =
+    refused_as (IsLoadRefusal library document) (IsDefRefusal library text) fault refused (λ refusal why. load_refused library text document refusal is why)
+
+-- and one of reading the text is too
+pub text_unread : (library : Contents) (text : List ℕ) (fault : Fault) → IsRefused (λ refusal. Refuses refusal (document_of text)) fault
+    → IsRefused (IsDefRefusal library text) fault
+text_unread library text fault refused =
+    refused_as (λ refusal. Refuses refusal (document_of text)) (IsDefRefusal library text) fault refused (λ refusal why. inl why)
+
+-- why the design of a text is not worked on to its end is why that of its document is not
+pub text_fails : (library : Contents) (text : List ℕ) (document : Document) (why : Fault → Type 0) (fault : Fault) → document_of text ≡ Ok document
+    → IsRefused (IsLoadRefusal library document) fault ⊎ ((loaded : Loaded) × IsLoadedIn library document loaded × why fault)
+    → IsRefused (IsDefRefusal library text) fault ⊎ ((loaded : Loaded) × IsDesignIn library text loaded × why fault)
+text_fails library text document why fault is (inl refused) = inl (text_refused library text document fault is refused)
+text_fails library text document why fault is (inr work) = inr (work.0, (document, is, work.1), work.2)
+
+-- the same of a file with this text
+pub file_fails : (gives : Gives) (path : List ℕ) (library : Contents) (text : List ℕ) (why : Fault → Type 0) (fault : Fault) → gives path (Some text)
+    → IsRefused (IsDefRefusal library text) fault ⊎ ((loaded : Loaded) × IsDesignIn library text loaded × why fault)
+    → IsFileFault gives path (IsDefRefusal library) fault ⊎ ((loaded : Loaded) × IsFileDesign gives path library loaded × why fault)
+file_fails gives path library text why fault given (inl refused) = inl (inr (text, given, refused))
+file_fails gives path library text why fault given (inr work) = inr (work.0, record { text = text; given = given; design = work.1 }, work.2)
+
+-- and of a file over LEF files that make this library
+pub files_fail : (gives : Gives) (path : List ℕ) (lefs : List (List ℕ)) (library : Contents) (why : Fault → Type 0) (fault : Fault)
+    → IsLibraryOf gives no_library lefs library
+    → IsFileFault gives path (IsDefRefusal library) fault ⊎ ((loaded : Loaded) × IsFileDesign gives path library loaded × why fault)
+    → IsDesignFault gives path lefs fault ⊎ ((loaded : Loaded) × IsDesignOf gives path lefs loaded × why fault)
+files_fail gives path lefs library why fault is (inl file) = inl (inr (library, is, file))
+files_fail gives path lefs library why fault is (inr work) = inr (work.0, (library, is, work.1), work.2)

@@ -1,0 +1,21 @@
+use Rattle.std.proofs.Common.{◌≡◌, inl, refl}
+use Rattle.lf_def.specs.Contents.{contents}
+use Rattle.lf_app.specs.Exits.{IsEarly, IsWorkFault}
+use Rattle.lf_app.specs.Work.{IsFault}
+use Rattle.lf_app.proofs.WorkSteps.{first_fails, step_fails, text_fails, text_unread, weaker_ok}
+use Rattle.lf_app.proofs.work.work_on_text.Goals as goal
+
+pub returns-in-Ok-clause-ok : goal.returns-in-Ok-clause-ok
+returns-in-Ok-clause-ok g c =
+    weaker_ok c.work_on_read.result _ _ (rw c.in-Ok.ensures.text at c.work_on_read.ensures.ok)
+    (λ status is. (is.0, (contents c.in-Ok.document, c.in-Ok.ensures.ok, is.1)))
+
+pub returns-in-Ok-clause-err : goal.returns-in-Ok-clause-err
+returns-in-Ok-clause-err g c =
+    step_fails c.work_on_read.result _ _ _ _ _ _ (rw c.in-Ok.ensures.kept at c.work_on_read.ensures.err)
+    (λ fault why. text_fails c.args.library c.args.text.now (contents c.in-Ok.document) (IsWorkFault (IsFault c.args.lines)) fault c.in-Ok.ensures.ok why)
+
+pub returns-in-Err-clause-err : goal.returns-in-Err-clause-err
+returns-in-Err-clause-err g c =
+    first_fails _ _ IsEarly (c.args.writer.now ≡ c.args.writer.now) _ _ c.in-Err.exit refl c.in-Err.ensures.err
+    (λ fault why. inl (text_unread c.args.library c.args.text.now fault why))
