@@ -1,0 +1,9 @@
+pub mod Adds
+pub mod Anys
+pub mod Edges
+pub mod Frees
+pub mod Grids
+pub mod Joins
+pub mod Meets
+pub mod Orders
+pub mod Windows

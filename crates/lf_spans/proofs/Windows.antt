@@ -1,0 +1,94 @@
+-- Of what is taken, in order, only what lies near a window plays a part in it.
+use Rattle.std.proofs.Common.{◌≡◌, ℕ, ◌+◌, ◌-◌, ◌<◌, ◌≤◌, ℤ, ◌-ℤ◌, ◌≤ℤ◌, ◌<ℤ◌, ◌⊎◌, inl, inr, List, length, get_or, take, drop, sym, subst, ◌∙◌, arith, true, false, int_lt}
+use Rattle.std.specs.Prelude.{All}
+use Rattle.std.specs.List.Sorted.{IsPartitionedBy, IsPartitionPoint}
+use Rattle.std.proofs.lemmas.Int.{ints}
+use Rattle.std.proofs.lemmas.List.{get_or-take, get_or-drop, length-take, length-drop, take_all}
+use Rattle.std.proofs.lemmas.List.Elements.{All-take, All-drop}
+use Rattle.lf_spans.specs.declared.span.Span.{Span}
+use Rattle.lf_spans.specs.Spans.{Holds, AreApart, IsApart, IsInOrder, IsFree, IsFreeIn}
+use Rattle.lf_spans.specs.Steps.{In, IsOverlap}
+use Rattle.lf_spans.proofs.Edges.{in_of_lies, lies_of_in, in_along}
+
+-- what is left out on the left ends before the range, and what is left out on the right begins behind it
+pub record LeavesOut (range : Span) (taken : List Span) (f n : ℕ) (widest : ℤ) : Type 0 where
+  pub wide : All (λ s. (s.hi -ℤ s.lo) ≤ℤ widest) taken
+  pub before : (k : ℕ) (d : Span) → k < f → (get_or taken k d).lo <ℤ (range.lo -ℤ widest)
+  pub behind : (k : ℕ) (d : Span) → n ≤ k → k < length (drop f taken) → range.hi ≤ℤ (get_or (drop f taken) k d).lo
+
+near_apart : (range : Span) (taken : List Span) (f n : ℕ) (widest : ℤ) (s : Span) → LeavesOut range taken f n widest → In s range → IsApart (take n (drop f taken)) s → IsApart taken s
+near_apart range taken f n widest s l inside apart k d within x h u = elim (three k) [
+  | inl before ↦
+      let left = l.before k d before in
+      let wide = l.wide k d within in
+      omega (arith, ints, left, wide, inside.low, h.low, u.high)
+  | inr (inl near) ↦
+      let place : k ≡ f + (k - f) = omega (arith, near.0) in
+      let in_rest : k - f < length (drop f taken) = omega (arith, within, near.0, length-drop f taken) in
+      let in_near : k - f < length (take n (drop f taken)) = omega (arith, in_rest, near.0, near.1, length-take n (drop f taken)) in
+      let At : ℕ → Type 0 = λ m. Holds (get_or taken m d) x in
+      let there : Holds (get_or taken (f + (k - f)) d) x = subst At place u in
+      let same : get_or (take n (drop f taken)) (k - f) d ≡ get_or taken (f + (k - f)) d = get_or-take n (drop f taken) (k - f) d (omega (arith, near.0, near.1)) ∙ get_or-drop f taken (k - f) d in
+      apart (k - f) d in_near x h (subst (λ (t : Span). Holds t x) (sym same) there)
+  | inr (inr behind) ↦
+      let place : k ≡ f + (k - f) = omega (arith, behind) in
+      let in_rest : k - f < length (drop f taken) = omega (arith, within, behind, length-drop f taken) in
+      let right : range.hi ≤ℤ (get_or (drop f taken) (k - f) d).lo = l.behind (k - f) d (omega (arith, behind)) in_rest in
+      let At : ℕ → Type 0 = λ m. range.hi ≤ℤ (get_or taken m d).lo in
+      let moved : range.hi ≤ℤ (get_or taken (f + (k - f)) d).lo = subst (λ (t : Span). range.hi ≤ℤ t.lo) (get_or-drop f taken (k - f) d) right in
+      let there : range.hi ≤ℤ (get_or taken k d).lo = subst At (sym place) moved in
+      omega (arith, ints, there, inside.high, h.high, u.low)
+]
+  where
+    three : (k : ℕ) → (k < f) ⊎ (((f ≤ k) × (k < f + n)) ⊎ (f + n ≤ k))
+    three k = grind arith
+
+pub free_of_near : (segment window range : Span) (taken free : List Span) (f n : ℕ) (widest : ℤ) → IsOverlap segment window range → LeavesOut range taken f n widest →
+    IsFree range (take n (drop f taken)) free → IsFreeIn segment taken window free
+free_of_near segment window range taken free f n widest o l free_near = record {
+  rising = free_near.rising;
+  exact = λ s g. (
+    (λ h.
+        let both = (free_near.exact s g).0 h in
+        let inside : In s range = in_of_lies s range g both.0 in
+        (lies_of_in s segment (in_along s range segment inside o.first), lies_of_in s window (in_along s range window inside o.second), near_apart range taken f n widest s l inside both.1)),
+    (λ h.
+        let inside : In s range = o.greatest s (in_of_lies s segment g h.0) (in_of_lies s window g h.1) in
+        (free_near.exact s g).1 (lies_of_in s range inside, All-take (λ t. AreApart s t) n (drop f taken) (All-drop (λ t. AreApart s t) f taken h.2))),
+  );
+}
+
+less_of : (a b : ℤ) → int_lt a b ≡ true → a <ℤ b
+less_of a b e = grind (arith, ints)
+
+of_less : (a b : ℤ) → a <ℤ b → int_lt a b ≡ true
+of_less a b h = grind (arith, ints)
+
+not_less_of : (a b : ℤ) → int_lt a b ≡ false → b ≤ℤ a
+not_less_of a b e = grind (arith, ints)
+
+-- those that begin before a limit are the first ones
+pub parted : (spans : List Span) (limit : ℤ) → IsInOrder spans → IsPartitionedBy (λ s. int_lt s.lo limit) spans
+parted spans limit r i j d order within t = elim same_or [
+  | inl h ↦
+      let At : ℕ → Type 0 = λ n. int_lt (get_or spans n d).lo limit ≡ true in
+      subst At (sym h) t
+  | inr h ↦
+      let later = r i j d h within in
+      let less = less_of (get_or spans j d).lo limit t in
+      of_less (get_or spans i d).lo limit (omega (arith, ints, later, less))
+]
+  where
+    same_or : (i ≡ j) ⊎ (i < j)
+    same_or = grind arith
+
+pub before_point : (spans : List Span) (limit : ℤ) (n : ℕ) → IsPartitionPoint (λ s. int_lt s.lo limit ≡ true) (λ s. int_lt s.lo limit ≡ false) spans n →
+    (k : ℕ) (d : Span) → k < n → (get_or spans k d).lo <ℤ limit
+before_point spans limit n point k d less = less_of (get_or spans k d).lo limit (point.0 k d (omega arith) less)
+
+pub behind_point : (spans : List Span) (limit : ℤ) (n : ℕ) → IsPartitionPoint (λ s. int_lt s.lo limit ≡ true) (λ s. int_lt s.lo limit ≡ false) spans n →
+    (k : ℕ) (d : Span) → n ≤ k → k < length spans → limit ≤ℤ (get_or spans k d).lo
+behind_point spans limit n point k d from within = not_less_of (get_or spans k d).lo limit (point.1 k d from within)
+
+pub rest_from : (xs : List Span) (n : ℕ) → take (length xs - n) (drop n xs) ≡ drop n xs
+rest_from xs n = take_all (length xs - n) (drop n xs) (omega (arith, length-drop n xs))

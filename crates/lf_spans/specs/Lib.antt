@@ -1,0 +1,4 @@
+pub mod Grids
+pub mod GridSteps
+pub mod Spans
+pub mod Steps
