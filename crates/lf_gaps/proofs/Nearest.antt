@@ -46,7 +46,8 @@ nearest_of_both F G H t (Some x) (Some y) (Some z) p q n split left right = reco
 }
 
 -- the same numbers have the same nearest one
-pub nearest_of_same : (F G : ℤ → Type 0) (t : ℤ) (found : Option ℤ) → ((x : ℤ) → F x → G x) → ((x : ℤ) → G x → F x) → FindsNearest F t found → FindsNearest G t found
+pub nearest_of_same : (F G : ℤ → Type 0) (t : ℤ) (found : Option ℤ) → ((x : ℤ) → F x → G x) → ((x : ℤ) → G x → F x) → FindsNearest F t found →
+    FindsNearest G t found
 nearest_of_same F G t None to from p = λ x g. p x (from x g)
 nearest_of_same F G t (Some z) to from p = record { fit = to z p.fit; least = λ w g. p.least w (from w g) }
 
@@ -106,10 +107,12 @@ fits_front spans g width k x f = record { on_grid = f.on_grid; within = of_front
 
 -- one span more
 pub found_more : (spans : List Span) (g : Grid) (width t : ℤ) (k : ℕ) (d : Span) (best next found : Option ℤ) → k < length spans →
-    FindsNearest (λ x. FitsOne (take k spans) g width x) t best → FindsNearest (λ x. FitsSpan (get_or spans k d) g width x) t next → IsNearerOf best next t found →
+    FindsNearest (λ x. FitsOne (take k spans) g width x) t best → FindsNearest (λ x. FitsSpan (get_or spans k d) g width x) t next → IsNearerOf best next t
+        found →
     FindsNearest (λ x. FitsOne (take (k + 1) spans) g width x) t found
 found_more spans g width t k d best next found within p q n =
-    nearest_of_both (λ x. FitsOne (take k spans) g width x) (λ x. FitsSpan (get_or spans k d) g width x) (λ x. FitsOne (take (k + 1) spans) g width x) t best next found p q n split left right
+    nearest_of_both (λ x. FitsOne (take k spans) g width x) (λ x. FitsSpan (get_or spans k d) g width x) (λ x. FitsOne (take (k + 1) spans) g width x) t
+        best next found p q n split left right
   where
     parts : take (k + 1) spans ≡ take k spans ++ get_or spans k d ∷ []
     parts = take_more spans k d within
@@ -157,7 +160,8 @@ found_in_front spans g width t k d (Some z) r within p past =
               inr (past x (omega (arith, ints, begins, held.low)))
         ]
 
-pub found_all : (spans : List Span) (g : Grid) (width t : ℤ) (k : ℕ) (best : Option ℤ) → length spans ≤ k → FindsNearest (λ x. FitsOne (take k spans) g width x) t best →
+pub found_all : (spans : List Span) (g : Grid) (width t : ℤ) (k : ℕ) (best : Option ℤ) → length spans ≤ k →
+    FindsNearest (λ x. FitsOne (take k spans) g width x) t best →
     FindsNearest (λ x. FitsOne spans g width x) t best
 found_all spans g width t k best past p = subst (λ (xs : List Span). FindsNearest (λ x. FitsOne xs g width x) t best) (take_all k spans past) p
 
@@ -167,10 +171,12 @@ from_place : (xs : List Span) (n : ℕ) (d : Span) → n < length xs → drop n 
 from_place xs n d within = cc (drop-cons xs n d within, add-one n)
 
 pub found_before : (spans : List Span) (g : Grid) (width t : ℤ) (k : ℕ) (d : Span) (best next found : Option ℤ) → k < length spans →
-    FindsNearest (λ x. FitsOne (drop (k + 1) spans) g width x) t best → FindsNearest (λ x. FitsSpan (get_or spans k d) g width x) t next → IsNearerOf best next t found →
+    FindsNearest (λ x. FitsOne (drop (k + 1) spans) g width x) t best → FindsNearest (λ x. FitsSpan (get_or spans k d) g width x) t next → IsNearerOf best
+        next t found →
     FindsNearest (λ x. FitsOne (drop k spans) g width x) t found
 found_before spans g width t k d best next found within p q n =
-    nearest_of_both (λ x. FitsOne (drop (k + 1) spans) g width x) (λ x. FitsSpan (get_or spans k d) g width x) (λ x. FitsOne (drop k spans) g width x) t best next found p q n split left right
+    nearest_of_both (λ x. FitsOne (drop (k + 1) spans) g width x) (λ x. FitsSpan (get_or spans k d) g width x) (λ x. FitsOne (drop k spans) g width x) t
+        best next found p q n split left right
   where
     parts : drop k spans ≡ get_or spans k d ∷ drop (k + 1) spans
     parts = from_place spans k d within
@@ -194,7 +200,8 @@ found_before spans g width t k d best next found within p q n =
         let P : Span → Type 0 = λ s. IsWithin s width x in
         record { on_grid = f.on_grid; within = subst (λ (xs : List Span). Any P xs) (sym parts) (any_head P (get_or spans k d) (drop (k + 1) spans) f.within) }
 
-pub place_before : (spans : List Span) (g : Grid) (width t : ℤ) (i : ℕ) (best : Option ℤ) → 0 < i → FindsNearest (λ x. FitsOne (drop i spans) g width x) t best →
+pub place_before : (spans : List Span) (g : Grid) (width t : ℤ) (i : ℕ) (best : Option ℤ) → 0 < i →
+    FindsNearest (λ x. FitsOne (drop i spans) g width x) t best →
     FindsNearest (λ x. FitsOne (drop (i - 1 + 1) spans) g width x) t best
 place_before spans g width t i best some p =
     let At : ℕ → Type 0 = λ n. FindsNearest (λ x. FitsOne (drop n spans) g width x) t best in
@@ -238,7 +245,8 @@ found_in_back spans g wanted k d (Some z) r within p before =
 pub rest_from : {X : Type 0} (xs : List X) (n : ℕ) → take (length xs - n) (drop n xs) ≡ drop n xs
 rest_from xs n = take_all (length xs - n) (drop n xs) (omega (arith, length-drop n xs))
 
-pub found_behind : (spans : List Span) (g : Grid) (width t : ℤ) (n : ℕ) (best : Option ℤ) → FindsNearest (λ x. FitsOne (take (length spans - n) (drop n spans)) g width x) t best →
+pub found_behind : (spans : List Span) (g : Grid) (width t : ℤ) (n : ℕ) (best : Option ℤ) →
+    FindsNearest (λ x. FitsOne (take (length spans - n) (drop n spans)) g width x) t best →
     FindsNearest (λ x. FitsOne (drop n spans) g width x) t best
 found_behind spans g width t n best p = subst (λ (xs : List Span). FindsNearest (λ x. FitsOne xs g width x) t best) (rest_from spans n) p
 
@@ -248,7 +256,8 @@ rising_behind spans n r = subst (λ (xs : List Span). IsRising xs) (sym (rest_fr
 pub near_behind : (spans : List Span) (n : ℕ) → All IsBoundedSpan spans → All IsBoundedSpan (take (length spans - n) (drop n spans))
 near_behind spans n near = subst (λ (xs : List Span). All IsBoundedSpan xs) (sym (rest_from spans n)) (All-drop IsBoundedSpan n spans near)
 
-pub found_at_last : (spans : List Span) (g : Grid) (width t : ℤ) (n : ℕ) (best : Option ℤ) → n ≤ 0 → FindsNearest (λ x. FitsOne (drop n spans) g width x) t best →
+pub found_at_last : (spans : List Span) (g : Grid) (width t : ℤ) (n : ℕ) (best : Option ℤ) → n ≤ 0 →
+    FindsNearest (λ x. FitsOne (drop n spans) g width x) t best →
     FindsNearest (λ x. FitsOne spans g width x) t best
 found_at_last spans g width t n best none p =
     let At : ℕ → Type 0 = λ k. FindsNearest (λ x. FitsOne (drop k spans) g width x) t best in
@@ -268,34 +277,43 @@ within_of_lies s width x some lies =
     let e : In (from_on x width) s = in_of_lies (from_on x width) s (omega (arith, ints, some)) lies in
     record { low = e.low; high = e.high }
 
-rows_of_met : (lists : List (List Span)) (met : List Span) (g : Grid) (width x : ℤ) → pos 0 <ℤ width → IsMeetAll lists met → FitsOne met g width x → FitsRows lists g width x
+rows_of_met : (lists : List (List Span)) (met : List Span) (g : Grid) (width x : ℤ) → pos 0 <ℤ width → IsMeetAll lists met → FitsOne met g width x →
+    FitsRows lists g width x
 rows_of_met lists met g width x some m f =
     let filled : IsFilled (from_on x width) = omega (arith, ints, some) in
-    let inside : LiesInOne met (from_on x width) = any_weaker (λ s. IsWithin s width x) (λ s. LiesIn (from_on x width) s) (λ s. lies_of_within s width x) met f.within in
+    let inside : LiesInOne met (from_on x width) = any_weaker (λ s. IsWithin s width x) (λ s. LiesIn (from_on x width) s) (λ s. lies_of_within s width x)
+        met f.within in
     let each : All (λ spans. LiesInOne spans (from_on x width)) lists = (m.exact (from_on x width) filled).0 inside in
     record {
       on_grid = f.on_grid;
-      within = λ k d below. any_weaker (λ s. LiesIn (from_on x width) s) (λ s. IsWithin s width x) (λ s. within_of_lies s width x some) (get_or lists k d) (each k d below);
+      within = λ k d below. any_weaker (λ s. LiesIn (from_on x width) s) (λ s. IsWithin s width x) (λ s. within_of_lies s width x some) (get_or lists k d)
+          (each k d below);
     }
 
-met_of_rows : (lists : List (List Span)) (met : List Span) (g : Grid) (width x : ℤ) → pos 0 <ℤ width → IsMeetAll lists met → FitsRows lists g width x → FitsOne met g width x
+met_of_rows : (lists : List (List Span)) (met : List Span) (g : Grid) (width x : ℤ) → pos 0 <ℤ width → IsMeetAll lists met → FitsRows lists g width x →
+    FitsOne met g width x
 met_of_rows lists met g width x some m f =
     let filled : IsFilled (from_on x width) = omega (arith, ints, some) in
     let each : All (λ spans. LiesInOne spans (from_on x width)) lists =
-    λ k d below. any_weaker (λ s. IsWithin s width x) (λ s. LiesIn (from_on x width) s) (λ s. lies_of_within s width x) (get_or lists k d) (f.within k d below) in
+    λ k d below. any_weaker (λ s. IsWithin s width x) (λ s. LiesIn (from_on x width) s) (λ s. lies_of_within s width x) (get_or lists k d)
+        (f.within k d below) in
     let inside : LiesInOne met (from_on x width) = (m.exact (from_on x width) filled).1 each in
-    record { on_grid = f.on_grid; within = any_weaker (λ s. LiesIn (from_on x width) s) (λ s. IsWithin s width x) (λ s. within_of_lies s width x some) met inside }
+    record { on_grid = f.on_grid; within = any_weaker (λ s. LiesIn (from_on x width) s) (λ s. IsWithin s width x) (λ s. within_of_lies s width x some) met
+        inside }
 
-pub found_in_rows : (lists : List (List Span)) (met : List Span) (g : Grid) (width target w t : ℤ) (best : Option ℤ) → pos 0 <ℤ width → w ≡ width → t ≡ target → IsMeetAll lists met →
+pub found_in_rows : (lists : List (List Span)) (met : List Span) (g : Grid) (width target w t : ℤ) (best : Option ℤ) → pos 0 <ℤ width → w ≡ width →
+    t ≡ target → IsMeetAll lists met →
     FindsNearest (λ x. FitsOne met g w x) t best → FindsNearest (λ x. FitsRows lists g width x) target best
 found_in_rows lists met g width target w t best some same_width same_target m p =
     let first : FindsNearest (λ x. FitsOne met g width x) t best = subst (λ (v : ℤ). FindsNearest (λ x. FitsOne met g v x) t best) same_width p in
-    let second : FindsNearest (λ x. FitsOne met g width x) target best = subst (λ (v : ℤ). FindsNearest (λ x. FitsOne met g width x) v best) same_target first in
+    let second : FindsNearest (λ x. FitsOne met g width x) target best = subst (λ (v : ℤ). FindsNearest (λ x. FitsOne met g width x) v best) same_target
+        first in
     nearest_of_same (λ x. FitsOne met g width x) (λ x. FitsRows lists g width x) target best
     (λ x. rows_of_met lists met g width x some m) (λ x. met_of_rows lists met g width x some m) second
 
 -- what is met lies as near as the first list
-pub near_met : (lists : List (List Span)) (met : List Span) → 0 < length lists → ((d : List Span) → All IsBoundedSpan (get_or lists 0 d)) → IsMeetAll lists met → All IsBoundedSpan met
+pub near_met : (lists : List (List Span)) (met : List Span) → 0 < length lists → ((d : List Span) → All IsBoundedSpan (get_or lists 0 d)) →
+    IsMeetAll lists met → All IsBoundedSpan met
 near_met lists met some near m k d within =
     let s : Span = get_or met k d in
     let filled : IsFilled s = m.rising.filled k d within in
@@ -311,7 +329,8 @@ near_met lists met some near m k d within =
       high = record { low = omega (arith, ints, low.low, held.low, filled); high = omega (arith, ints, high.high, held.high) };
     }
 
-pub near_met_of : (lists : List (Vec Span Global)) (met : List Span) → 0 < length lists → All (λ list. All IsBoundedSpan list.items) lists → IsMeetAll (map (λ list. list.items) lists) met →
+pub near_met_of : (lists : List (Vec Span Global)) (met : List Span) → 0 < length lists → All (λ list. All IsBoundedSpan list.items) lists →
+    IsMeetAll (map (λ list. list.items) lists) met →
     All IsBoundedSpan met
 near_met_of [] met some near m = absurd (omega (arith, some))
 near_met_of (v ∷ vs) met some near m = near_met (map (λ list. list.items) (v ∷ vs)) met (omega arith) (λ d. near 0 v some) m

@@ -22,7 +22,8 @@ pub adds_all : (P : Span → Type 0) (z : Span) (old new : List Span) → Adds z
 adds_all P z old new (inl (filled, is)) all more = subst (λ (xs : List Span). All P xs) (sym is) (All-push P old z all (more filled))
 adds_all P z old new (inr (none, is)) all more = subst (λ (xs : List Span). All P xs) (sym is) all
 
-pub adds_pairs : (R : Span → Span → Type 0) (z : Span) (old new : List Span) → Adds z old new → AllPairs R old → (IsFilled z → All (λ t. R t z) old) → AllPairs R new
+pub adds_pairs : (R : Span → Span → Type 0) (z : Span) (old new : List Span) → Adds z old new → AllPairs R old → (IsFilled z → All (λ t. R t z) old) →
+    AllPairs R new
 adds_pairs R z old new (inl (filled, is)) pairs more = subst (λ (xs : List Span). AllPairs R xs) (sym is) (all_pairs_push R old z pairs (more filled))
 adds_pairs R z old new (inr (none, is)) pairs more = subst (λ (xs : List Span). AllPairs R xs) (sym is) pairs
 

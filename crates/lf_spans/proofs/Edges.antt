@@ -70,7 +70,8 @@ rising_drop (suc n) [] r = rising_nil
 rising_drop (suc n) (x ∷ xs) r = rising_drop n xs (rising_tail x xs r)
 
 -- spans that rise lie between where the first begins and the last ends
-pub rising_within : (xs : List Span) (z d : Span) → 0 < length xs → IsRising xs → z.lo ≡ (get_or xs 0 d).lo → z.hi ≡ (get_or xs (length xs - 1) d).hi → All (λ t. In t z) xs
+pub rising_within : (xs : List Span) (z d : Span) → 0 < length xs → IsRising xs → z.lo ≡ (get_or xs 0 d).lo → z.hi ≡ (get_or xs (length xs - 1) d).hi →
+    All (λ t. In t z) xs
 rising_within xs z d some r low high k e within = record { low = from; high = to }
   where
     first_or : (k ≡ 0) ⊎ (0 < k)
@@ -96,7 +97,8 @@ rising_within xs z d some r low high k e within = record { low = from; high = to
     to = elim last_or [
       | inl h ↦
           let Ends : ℕ → Type 0 = λ n. (get_or xs n e).hi ≤ℤ z.hi in
-          let there : (get_or xs (length xs - 1) e).hi ≤ℤ z.hi = subst (λ (s : Span). s.hi ≤ℤ z.hi) (get_or_default xs (length xs - 1) d e (omega arith)) (omega (arith, ints, high)) in
+          let there : (get_or xs (length xs - 1) e).hi ≤ℤ z.hi = subst (λ (s : Span). s.hi ≤ℤ z.hi) (get_or_default xs (length xs - 1) d e (omega arith))
+              (omega (arith, ints, high)) in
           subst Ends (sym h) there
       | inr h ↦
           let apart = r.apart k (length xs - 1) d h (omega arith) in

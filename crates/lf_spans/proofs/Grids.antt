@@ -125,7 +125,8 @@ none_fits span g width first last y e less f =
     let b = before_last span g width first last y e f in
     omega (arith, ints, a, b)
 
-between_fits : (span : Span) (g : Grid) (width first last x : ℤ) → AreEnds span g width first last → IsOnGrid g x → first ≤ℤ x → x ≤ℤ last → FitsSpan span g width x
+between_fits : (span : Span) (g : Grid) (width first last x : ℤ) → AreEnds span g width first last → IsOnGrid g x → first ≤ℤ x → x ≤ℤ last →
+    FitsSpan span g width x
 between_fits span g width first last x e on a b =
     let low = e.first_in in
     let high = e.last_in in
@@ -182,6 +183,7 @@ between_nearest span g width first last t left x e after before on below above p
       least = λ y f. left_least g left t y e.rising on below above near f.on_grid;
     }
     by_pick (inr (is, near)) = rw is record {
-      fit = between_fits span g width first last (left +ℤ g.step) e (step_right g left (left +ℤ g.step) e.rising on refl) (omega (arith, ints, low, e.rising)) high;
+      fit = between_fits span g width first last (left +ℤ g.step) e (step_right g left (left +ℤ g.step) e.rising on refl)
+          (omega (arith, ints, low, e.rising)) high;
       least = λ y f. right_least g left t y e.rising on below above near f.on_grid;
     }

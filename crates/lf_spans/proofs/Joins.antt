@@ -62,7 +62,8 @@ pub joins_longer : (spans joined : List Span) (last z : Span) (k : ℕ) (d : Spa
 joins_longer spans joined last z k d within j filled touches longer = record {
   filled = j.filled;
   apart = j.apart;
-  before = All-weaker (λ t. IsFilled last × (t.hi <ℤ last.lo)) (λ t. IsFilled z × (t.hi <ℤ z.lo)) (λ t h. (more, omega (arith, ints, h.1, longer.same))) joined j.before;
+  before = All-weaker (λ t. IsFilled last × (t.hi <ℤ last.lo)) (λ t. IsFilled z × (t.hi <ℤ z.lo)) (λ t h. (more, omega (arith, ints, h.1, longer.same)))
+      joined j.before;
   low = λ m e from inside g. let old = j.low m e (omega (arith, from)) inside filled in omega (arith, ints, old, longer.same);
   each =
       each_next spans k d (λ u. InOne joined u ⊎ In u z) within
@@ -92,7 +93,8 @@ pub joins_next : (spans joined new : List Span) (last : Span) (k : ℕ) (d : Spa
     IsFilled (get_or spans k d) → (IsFilled last × ((get_or spans k d).lo ≤ℤ last.hi) → ⊥) → Adds last joined new → Joins spans new (get_or spans k d) (k + 1)
 joins_next spans joined new last k d ordered within j filled apart adds = record {
   filled = adds_all IsFilled last joined new adds j.filled (λ g. g);
-  apart = adds_pairs (λ s t. s.hi <ℤ t.lo) last joined new adds j.apart (λ g. All-weaker (λ t. IsFilled last × (t.hi <ℤ last.lo)) (λ t. t.hi <ℤ last.lo) (λ t h. h.1) joined j.before);
+  apart = adds_pairs (λ s t. s.hi <ℤ t.lo) last joined new adds j.apart
+      (λ g. All-weaker (λ t. IsFilled last × (t.hi <ℤ last.lo)) (λ t. t.hi <ℤ last.lo) (λ t h. h.1) joined j.before);
   before =
       adds_all (λ t. IsFilled (get_or spans k d) × (t.hi <ℤ (get_or spans k d).lo)) last joined new adds
       (All-weaker (λ t. IsFilled last × (t.hi <ℤ last.lo)) (λ t. IsFilled (get_or spans k d) × (t.hi <ℤ (get_or spans k d).lo))
@@ -159,9 +161,11 @@ joins_end spans joined new last k all j adds = record {
         let begins : Holds first.1 s.lo = first.4 in
         by_lt_z first.1.hi s.hi
         (λ over.
-        let second : Any (λ t. Holds t first.1.hi) new = in_joined spans new first.1.hi each (h first.1.hi record { low = omega (arith, ints, begins.high); high = over }) in
+        let second : Any (λ t. Holds t first.1.hi) new = in_joined spans new first.1.hi each
+            (h first.1.hi record { low = omega (arith, ints, begins.high); high = over }) in
         let there : Holds second.1 first.1.hi = second.4 in
-        absurd (no_second new first.1 second.1 first.0 second.0 apart first.2 second.2 first.3 second.3 (omega (arith, ints, begins.low, begins.high)) there.low there.high))
+        absurd (no_second new first.1 second.1 first.0 second.0 apart first.2 second.2 first.3 second.3 (omega (arith, ints, begins.low, begins.high))
+            there.low there.high))
         (λ within. lies_of_in_one s new (first.0, first.1, first.2, first.3, record { low = begins.low; high = within }))),
   );
 }
@@ -170,7 +174,8 @@ joins_end spans joined new last k all j adds = record {
     filled = adds_all IsFilled last joined new adds j.filled (λ g. g)
 
     apart : AllPairs (λ s t. s.hi <ℤ t.lo) new
-    apart = adds_pairs (λ s t. s.hi <ℤ t.lo) last joined new adds j.apart (λ g. All-weaker (λ t. IsFilled last × (t.hi <ℤ last.lo)) (λ t. t.hi <ℤ last.lo) (λ t h. h.1) joined j.before)
+    apart = adds_pairs (λ s t. s.hi <ℤ t.lo) last joined new adds j.apart
+        (λ g. All-weaker (λ t. IsFilled last × (t.hi <ℤ last.lo)) (λ t. t.hi <ℤ last.lo) (λ t h. h.1) joined j.before)
 
     only : All (Held spans) new
     only = adds_all (Held spans) last joined new adds j.only (λ g. j.held)

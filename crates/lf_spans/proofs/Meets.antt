@@ -66,7 +66,8 @@ past_first a b met new x xs y ys z m o adds ends =
           | inr r ↦ inr (r, h.1)
         ]
       ];
-      before = λ s f l k. adds_all (λ t. t.hi ≤ℤ s.lo) z met new adds (m.before s f (any_tail (λ t. In s t) x xs l) k) (λ filled. ends_before s x z xs o.first m.left_rising l);
+      before = λ s f l k. adds_all (λ t. t.hi ≤ℤ s.lo) z met new adds (m.before s f (any_tail (λ t. In s t) x xs l) k)
+          (λ filled. ends_before s x z xs o.first m.left_rising l);
       of_left = λ s l. m.of_left s (any_tail (λ t. In s t) x xs l);
       of_right = m.of_right;
     }
@@ -143,14 +144,18 @@ meet_of_more lists xs met new all m = record {
 abbrev pub FrontMeets : List (Vec Span Global) → ℕ → List Span → Type 0
 FrontMeets lists k met = IsMeetAll (take k (map (λ list. list.items) lists)) met
 
-pub meets_next : (lists : List (Vec Span Global)) (k : ℕ) (d : Vec Span Global) (met new : List Span) → k < length lists → IsMeetAll (take k (map (λ list. list.items) lists)) met →
+pub meets_next : (lists : List (Vec Span Global)) (k : ℕ) (d : Vec Span Global) (met new : List Span) → k < length lists →
+    IsMeetAll (take k (map (λ list. list.items) lists)) met →
     IsMeet met (get_or lists k d).items new → IsMeetAll (take (k + 1) (map (λ list. list.items) lists)) new
 meets_next lists k d met new within all m =
-    let parts : take (k + 1) (map (λ (v : Vec Span Global). v.items) lists) ≡ take k (map (λ (v : Vec Span Global). v.items) lists) ++ (get_or lists k d).items ∷ [] =
+    let parts : take (k + 1) (map (λ (v : Vec Span Global). v.items) lists) ≡ take k (map (λ (v : Vec Span Global). v.items) lists) ++
+        (get_or lists k d).items ∷ [] =
     take-map (λ (v : Vec Span Global). v.items) (k + 1) lists ∙ map_more (λ (v : Vec Span Global). v.items) lists k d within
     ∙ ap (λ (xs : List (List Span)). xs ++ (get_or lists k d).items ∷ []) (sym (take-map (λ (v : Vec Span Global). v.items) k lists)) in
-    subst (λ (xs : List (List Span)). IsMeetAll xs new) (sym parts) (meet_of_more (take k (map (λ list. list.items) lists)) (get_or lists k d).items met new all m)
+    subst (λ (xs : List (List Span)). IsMeetAll xs new) (sym parts)
+        (meet_of_more (take k (map (λ list. list.items) lists)) (get_or lists k d).items met new all m)
 
-pub meets_first : (lists : List (Vec Span Global)) (d : Vec Span Global) → 0 < length lists → IsRising (get_or lists 0 d).items → IsMeetAll (take 1 (map (λ list. list.items) lists)) (get_or lists 0 d).items
+pub meets_first : (lists : List (Vec Span Global)) (d : Vec Span Global) → 0 < length lists → IsRising (get_or lists 0 d).items →
+    IsMeetAll (take 1 (map (λ list. list.items) lists)) (get_or lists 0 d).items
 meets_first [] d some rising = absurd (omega (arith, some))
 meets_first (x ∷ xs) d some rising = meet_of_one x.items rising

@@ -16,7 +16,8 @@ pub record LeavesOut (range : Span) (taken : List Span) (f n : ℕ) (widest : �
   pub before : (k : ℕ) (d : Span) → k < f → (get_or taken k d).lo <ℤ (range.lo -ℤ widest)
   pub behind : (k : ℕ) (d : Span) → n ≤ k → k < length (drop f taken) → range.hi ≤ℤ (get_or (drop f taken) k d).lo
 
-near_apart : (range : Span) (taken : List Span) (f n : ℕ) (widest : ℤ) (s : Span) → LeavesOut range taken f n widest → In s range → IsApart (take n (drop f taken)) s → IsApart taken s
+near_apart : (range : Span) (taken : List Span) (f n : ℕ) (widest : ℤ) (s : Span) → LeavesOut range taken f n widest → In s range →
+    IsApart (take n (drop f taken)) s → IsApart taken s
 near_apart range taken f n widest s l inside apart k d within x h u = elim (three k) [
   | inl before ↦
       let left = l.before k d before in
@@ -28,7 +29,8 @@ near_apart range taken f n widest s l inside apart k d within x h u = elim (thre
       let in_near : k - f < length (take n (drop f taken)) = omega (arith, in_rest, near.0, near.1, length-take n (drop f taken)) in
       let At : ℕ → Type 0 = λ m. Holds (get_or taken m d) x in
       let there : Holds (get_or taken (f + (k - f)) d) x = subst At place u in
-      let same : get_or (take n (drop f taken)) (k - f) d ≡ get_or taken (f + (k - f)) d = get_or-take n (drop f taken) (k - f) d (omega (arith, near.0, near.1)) ∙ get_or-drop f taken (k - f) d in
+      let same : get_or (take n (drop f taken)) (k - f) d ≡ get_or taken (f + (k - f)) d = get_or-take n (drop f taken) (k - f) d
+          (omega (arith, near.0, near.1)) ∙ get_or-drop f taken (k - f) d in
       apart (k - f) d in_near x h (subst (λ (t : Span). Holds t x) (sym same) there)
   | inr (inr behind) ↦
       let place : k ≡ f + (k - f) = omega (arith, behind) in
@@ -43,7 +45,8 @@ near_apart range taken f n widest s l inside apart k d within x h u = elim (thre
     three : (k : ℕ) → (k < f) ⊎ (((f ≤ k) × (k < f + n)) ⊎ (f + n ≤ k))
     three k = grind arith
 
-pub free_of_near : (segment window range : Span) (taken free : List Span) (f n : ℕ) (widest : ℤ) → IsOverlap segment window range → LeavesOut range taken f n widest →
+pub free_of_near : (segment window range : Span) (taken free : List Span) (f n : ℕ) (widest : ℤ) → IsOverlap segment window range →
+    LeavesOut range taken f n widest →
     IsFree range (take n (drop f taken)) free → IsFreeIn segment taken window free
 free_of_near segment window range taken free f n widest o l free_near = record {
   rising = free_near.rising;
@@ -51,7 +54,8 @@ free_of_near segment window range taken free f n widest o l free_near = record {
     (λ h.
         let both = (free_near.exact s g).0 h in
         let inside : In s range = in_of_lies s range g both.0 in
-        (lies_of_in s segment (in_along s range segment inside o.first), lies_of_in s window (in_along s range window inside o.second), near_apart range taken f n widest s l inside both.1)),
+        (lies_of_in s segment (in_along s range segment inside o.first), lies_of_in s window (in_along s range window inside o.second), near_apart range
+            taken f n widest s l inside both.1)),
     (λ h.
         let inside : In s range = o.greatest s (in_of_lies s segment g h.0) (in_of_lies s window g h.1) in
         (free_near.exact s g).1 (lies_of_in s range inside, All-take (λ t. AreApart s t) n (drop f taken) (All-drop (λ t. AreApart s t) f taken h.2))),

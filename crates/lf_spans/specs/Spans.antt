@@ -65,7 +65,8 @@ pub record IsFree (range : Span) (taken free : List Span) : Type 0 where
   pub rising : IsRising free
   pub exact : (s : Span) → IsFilled s → (LiesInOne free s ↔ (LiesIn s range × IsApart taken s))
 
--- the same of what a window shows of a segment: it lies in one of them exactly where it lies in the segment and in the window and shares no number with what is taken
+-- the same of what a window shows of a segment: a span that holds a number lies in one of them exactly where it lies in the segment and in the
+-- window and shares no number with what is taken
 pub record IsFreeIn (segment : Span) (taken : List Span) (window : Span) (free : List Span) : Type 0 where
   pub rising : IsRising free
   pub exact : (s : Span) → IsFilled s → (LiesInOne free s ↔ (LiesIn s segment × LiesIn s window × IsApart taken s))

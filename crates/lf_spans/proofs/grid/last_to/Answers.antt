@@ -7,4 +7,5 @@ pub returns-then-over-lt0-clause-on_grid : goal.returns-then-over-lt0-clause-on_
 returns-then-over-lt0-clause-on_grid c = step_left c.args.grid.now _ _ c.requires.grid.rising c.beyond-over.ensures.on_grid (omega (arith, ints))
 
 pub returns-then-over-lt0-clause-near : goal.returns-then-over-lt0-clause-near
-returns-then-over-lt0-clause-near c = let less = less_from (to_z w64 (of_z w64 c.beyond-over.result)) (pos 0) c.if-over-lt0.true in omega (arith, ints, less, c.beyond-over.ensures.low)
+returns-then-over-lt0-clause-near c = let less = less_from (to_z w64 (of_z w64 c.beyond-over.result)) (pos 0) c.if-over-lt0.true in omega
+    (arith, ints, less, c.beyond-over.ensures.low)

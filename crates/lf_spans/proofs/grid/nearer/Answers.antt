@@ -10,7 +10,8 @@ returns-then-ahead-behind c =
     let right : ℤ = to_z w64 (of_z w64 left) +ℤ to_z w64 (of_z w64 c.args.grid.now.step) in
     let ahead : ℤ = to_z w64 (of_z w64 right) -ℤ to_z w64 (of_z w64 target) in
     let behind : ℤ = to_z w64 (of_z w64 target) -ℤ to_z w64 (of_z w64 left) in
-    let less : to_z w64 (of_z w64 ahead) <ℤ to_z w64 (of_z w64 behind) = less_from (to_z w64 (of_z w64 ahead)) (to_z w64 (of_z w64 behind)) c.if-ahead-behind.true in
+    let less : to_z w64 (of_z w64 ahead) <ℤ to_z w64 (of_z w64 behind) = less_from (to_z w64 (of_z w64 ahead)) (to_z w64 (of_z w64 behind))
+        c.if-ahead-behind.true in
     inr (omega (arith, ints), omega (arith, ints, less))
 
 pub returns : goal.returns
@@ -20,5 +21,6 @@ returns c =
     let right : ℤ = to_z w64 (of_z w64 left) +ℤ to_z w64 (of_z w64 c.args.grid.now.step) in
     let ahead : ℤ = to_z w64 (of_z w64 right) -ℤ to_z w64 (of_z w64 target) in
     let behind : ℤ = to_z w64 (of_z w64 target) -ℤ to_z w64 (of_z w64 left) in
-    let more : to_z w64 (of_z w64 behind) ≤ℤ to_z w64 (of_z w64 ahead) = not_less_from (to_z w64 (of_z w64 ahead)) (to_z w64 (of_z w64 behind)) c.if-ahead-behind.false in
+    let more : to_z w64 (of_z w64 behind) ≤ℤ to_z w64 (of_z w64 ahead) = not_less_from (to_z w64 (of_z w64 ahead)) (to_z w64 (of_z w64 behind))
+        c.if-ahead-behind.false in
     inl (omega (arith, ints), omega (arith, ints, more))

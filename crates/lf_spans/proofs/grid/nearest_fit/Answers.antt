@@ -6,7 +6,8 @@ use Rattle.lf_spans.specs.GridSteps.{AreEnds, IsNearer}
 use Rattle.lf_spans.proofs.Grids.{none_fits, first_nearest, last_nearest, between_nearest, less_from, not_less_from, at_most_from, not_at_most_from}
 use Rattle.lf_spans.proofs.grid.nearest_fit.Goals as goal
 
-all_ends : (span : Span) (g : Grid) (width first last : ℤ) → FitsSigned w64 width → AreEnds span g (to_z w64 (of_z w64 width)) first last → AreEnds span g width first last
+all_ends : (span : Span) (g : Grid) (width first last : ℤ) → FitsSigned w64 width → AreEnds span g (to_z w64 (of_z w64 width)) first last →
+    AreEnds span g width first last
 all_ends span g width first last fits ends = subst (λ (w : ℤ). AreEnds span g w first last) (to_z-of_z w64 width fits) ends
 
 picked : (left step target x : ℤ) → FitsSigned w64 left → FitsSigned w64 target →
@@ -67,4 +68,5 @@ returns c =
     picked left c.args.grid.now.step target c.nearer.result left_fits c.ranges.target c.nearer.ensures in
     rw (to_z-of_z w64 c.nearer.result found_fits)
     (between_nearest c.args.span.now c.args.grid.now c.args.width first last target left c.nearer.result ends
-    (omega (arith, ints, after)) (omega (arith, ints, before)) c.last_to-left.ensures.on_grid (omega (arith, ints, left_below)) (omega (arith, ints, left_near)) pick)
+    (omega (arith, ints, after)) (omega (arith, ints, before)) c.last_to-left.ensures.on_grid (omega (arith, ints, left_below))
+        (omega (arith, ints, left_near)) pick)

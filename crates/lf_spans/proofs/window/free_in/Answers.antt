@@ -21,7 +21,8 @@ returns c =
           let h = c.count_before-2.ensures.behind k d from in
           (subst (λ (xs : List Span). k < length xs → range.hi ≤ℤ (get_or xs k d).lo) same (λ inside. let g = h inside in omega (arith, ints, g))) within;
     } in
-    IfOk-weaker c.spans_free.result (λ free. IsFree range (take n (take (length taken - f) (drop f taken))) free.items) (λ free. IsFreeIn c.args.segment.now taken c.args.window.now free.items)
+    IfOk-weaker c.spans_free.result (λ free. IsFree range (take n (take (length taken - f) (drop f taken))) free.items)
+        (λ free. IsFreeIn c.args.segment.now taken c.args.window.now free.items)
     (λ free h.
     free_of_near c.args.segment.now c.args.window.now range taken free.items f n c.args.widest c.overlap-range.ensures leaves
     (subst (λ (xs : List Span). IsFree range (take n xs) free.items) same h))
