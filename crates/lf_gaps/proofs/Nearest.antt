@@ -108,11 +108,11 @@ fits_front spans g width k x f = record { on_grid = f.on_grid; within = of_front
 -- one span more
 pub found_more : (spans : List Span) (g : Grid) (width t : ℤ) (k : ℕ) (d : Span) (best next found : Option ℤ) → k < length spans →
     FindsNearest (λ x. FitsOne (take k spans) g width x) t best → FindsNearest (λ x. FitsSpan (get_or spans k d) g width x) t next → IsNearerOf best next t
-        found →
+    found →
     FindsNearest (λ x. FitsOne (take (k + 1) spans) g width x) t found
 found_more spans g width t k d best next found within p q n =
     nearest_of_both (λ x. FitsOne (take k spans) g width x) (λ x. FitsSpan (get_or spans k d) g width x) (λ x. FitsOne (take (k + 1) spans) g width x) t
-        best next found p q n split left right
+    best next found p q n split left right
   where
     parts : take (k + 1) spans ≡ take k spans ++ get_or spans k d ∷ []
     parts = take_more spans k d within
@@ -172,11 +172,11 @@ from_place xs n d within = cc (drop-cons xs n d within, add-one n)
 
 pub found_before : (spans : List Span) (g : Grid) (width t : ℤ) (k : ℕ) (d : Span) (best next found : Option ℤ) → k < length spans →
     FindsNearest (λ x. FitsOne (drop (k + 1) spans) g width x) t best → FindsNearest (λ x. FitsSpan (get_or spans k d) g width x) t next → IsNearerOf best
-        next t found →
+    next t found →
     FindsNearest (λ x. FitsOne (drop k spans) g width x) t found
 found_before spans g width t k d best next found within p q n =
     nearest_of_both (λ x. FitsOne (drop (k + 1) spans) g width x) (λ x. FitsSpan (get_or spans k d) g width x) (λ x. FitsOne (drop k spans) g width x) t
-        best next found p q n split left right
+    best next found p q n split left right
   where
     parts : drop k spans ≡ get_or spans k d ∷ drop (k + 1) spans
     parts = from_place spans k d within
@@ -282,7 +282,7 @@ rows_of_met : (lists : List (List Span)) (met : List Span) (g : Grid) (width x :
 rows_of_met lists met g width x some m f =
     let filled : IsFilled (from_on x width) = omega (arith, ints, some) in
     let inside : LiesInOne met (from_on x width) = any_weaker (λ s. IsWithin s width x) (λ s. LiesIn (from_on x width) s) (λ s. lies_of_within s width x)
-        met f.within in
+    met f.within in
     let each : All (λ spans. LiesInOne spans (from_on x width)) lists = (m.exact (from_on x width) filled).0 inside in
     record {
       on_grid = f.on_grid;
@@ -296,10 +296,13 @@ met_of_rows lists met g width x some m f =
     let filled : IsFilled (from_on x width) = omega (arith, ints, some) in
     let each : All (λ spans. LiesInOne spans (from_on x width)) lists =
     λ k d below. any_weaker (λ s. IsWithin s width x) (λ s. LiesIn (from_on x width) s) (λ s. lies_of_within s width x) (get_or lists k d)
-        (f.within k d below) in
+    (f.within k d below) in
     let inside : LiesInOne met (from_on x width) = (m.exact (from_on x width) filled).1 each in
-    record { on_grid = f.on_grid; within = any_weaker (λ s. LiesIn (from_on x width) s) (λ s. IsWithin s width x) (λ s. within_of_lies s width x some) met
-        inside }
+    record {
+      on_grid = f.on_grid;
+      within = any_weaker (λ s. LiesIn (from_on x width) s) (λ s. IsWithin s width x) (λ s. within_of_lies s width x some) met
+          inside;
+    }
 
 pub found_in_rows : (lists : List (List Span)) (met : List Span) (g : Grid) (width target w t : ℤ) (best : Option ℤ) → pos 0 <ℤ width → w ≡ width →
     t ≡ target → IsMeetAll lists met →
@@ -307,7 +310,7 @@ pub found_in_rows : (lists : List (List Span)) (met : List Span) (g : Grid) (wid
 found_in_rows lists met g width target w t best some same_width same_target m p =
     let first : FindsNearest (λ x. FitsOne met g width x) t best = subst (λ (v : ℤ). FindsNearest (λ x. FitsOne met g v x) t best) same_width p in
     let second : FindsNearest (λ x. FitsOne met g width x) target best = subst (λ (v : ℤ). FindsNearest (λ x. FitsOne met g width x) v best) same_target
-        first in
+    first in
     nearest_of_same (λ x. FitsOne met g width x) (λ x. FitsRows lists g width x) target best
     (λ x. rows_of_met lists met g width x some m) (λ x. met_of_rows lists met g width x some m) second
 

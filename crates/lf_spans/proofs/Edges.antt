@@ -98,7 +98,7 @@ rising_within xs z d some r low high k e within = record { low = from; high = to
       | inl h ↦
           let Ends : ℕ → Type 0 = λ n. (get_or xs n e).hi ≤ℤ z.hi in
           let there : (get_or xs (length xs - 1) e).hi ≤ℤ z.hi = subst (λ (s : Span). s.hi ≤ℤ z.hi) (get_or_default xs (length xs - 1) d e (omega arith))
-              (omega (arith, ints, high)) in
+          (omega (arith, ints, high)) in
           subst Ends (sym h) there
       | inr h ↦
           let apart = r.apart k (length xs - 1) d h (omega arith) in

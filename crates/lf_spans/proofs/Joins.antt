@@ -162,10 +162,10 @@ joins_end spans joined new last k all j adds = record {
         by_lt_z first.1.hi s.hi
         (λ over.
         let second : Any (λ t. Holds t first.1.hi) new = in_joined spans new first.1.hi each
-            (h first.1.hi record { low = omega (arith, ints, begins.high); high = over }) in
+        (h first.1.hi record { low = omega (arith, ints, begins.high); high = over }) in
         let there : Holds second.1 first.1.hi = second.4 in
         absurd (no_second new first.1 second.1 first.0 second.0 apart first.2 second.2 first.3 second.3 (omega (arith, ints, begins.low, begins.high))
-            there.low there.high))
+        there.low there.high))
         (λ within. lies_of_in_one s new (first.0, first.1, first.2, first.3, record { low = begins.low; high = within }))),
   );
 }

@@ -1,6 +1,7 @@
 pub mod Adds
 pub mod Anys
 pub mod Edges
+pub mod Entries
 pub mod Frees
 pub mod Grids
 pub mod Joins

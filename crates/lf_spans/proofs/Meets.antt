@@ -149,11 +149,11 @@ pub meets_next : (lists : List (Vec Span Global)) (k : ℕ) (d : Vec Span Global
     IsMeet met (get_or lists k d).items new → IsMeetAll (take (k + 1) (map (λ list. list.items) lists)) new
 meets_next lists k d met new within all m =
     let parts : take (k + 1) (map (λ (v : Vec Span Global). v.items) lists) ≡ take k (map (λ (v : Vec Span Global). v.items) lists) ++
-        (get_or lists k d).items ∷ [] =
+    (get_or lists k d).items ∷ [] =
     take-map (λ (v : Vec Span Global). v.items) (k + 1) lists ∙ map_more (λ (v : Vec Span Global). v.items) lists k d within
     ∙ ap (λ (xs : List (List Span)). xs ++ (get_or lists k d).items ∷ []) (sym (take-map (λ (v : Vec Span Global). v.items) k lists)) in
     subst (λ (xs : List (List Span)). IsMeetAll xs new) (sym parts)
-        (meet_of_more (take k (map (λ list. list.items) lists)) (get_or lists k d).items met new all m)
+    (meet_of_more (take k (map (λ list. list.items) lists)) (get_or lists k d).items met new all m)
 
 pub meets_first : (lists : List (Vec Span Global)) (d : Vec Span Global) → 0 < length lists → IsRising (get_or lists 0 d).items →
     IsMeetAll (take 1 (map (λ list. list.items) lists)) (get_or lists 0 d).items

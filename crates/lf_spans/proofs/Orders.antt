@@ -19,7 +19,7 @@ pub in_order_of_sorted : (xs : List Span) → IsSortedByKey (λ s. s.lo) int_cmp
 in_order_of_sorted xs up i j d less within =
     let key : Span → ℤ = λ s. s.lo in
     not_less (int_cmp (get_or xs j d).lo (get_or xs i d).lo) (get_or xs j d).lo (get_or xs i d).lo (int_ranks (get_or xs j d).lo (get_or xs i d).lo)
-        (sorted_far (λ x y. is_lt (int_cmp x.lo y.lo)) (ranks_by int_cmp_total key) xs up i j d (omega arith) within)
+    (sorted_far (λ x y. is_lt (int_cmp x.lo y.lo)) (ranks_by int_cmp_total key) xs up i j d (omega arith) within)
 
 pub in_order_of_rising : (xs : List Span) → IsRising xs → IsInOrder xs
 in_order_of_rising xs r i j d less within =

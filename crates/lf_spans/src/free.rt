@@ -1,11 +1,11 @@
 //! What is left of spans where others are taken away.
 
-ghost use Rattle.std.specs.Prelude.{All, IfOk};
+ghost use Rattle.std.specs.Prelude.{All, IfOk, map};
 ghost use Rattle.lf_spans.specs.Spans.{IsFree, IsInOrder, IsMinus, IsRising};
 ghost use Rattle.lf_spans.specs.Steps.{In, IsBefore, IsBehind};
 
 use crate::meet::{is_filled, push_filled, spans_meet};
-use crate::span::Span;
+use crate::span::{HasSpan, Span};
 use std::alloc::{AllocError, Global};
 
 /// What of the rest lies before the span.
@@ -30,18 +30,23 @@ fn behind(rest: &Span, span: &Span) -> Span
 
 /// The free spans of a range, of which the others are taken. What is taken stands in the order of
 /// its beginnings, and may overlap.
-pub fn spans_free(alloc: Global, range: &Span, taken: &[Span]) -> Result<Vec<Span>, AllocError>
-    requires { IsInOrder taken.now }
-    ensures { IfOk result (λ free. IsFree range.now taken.now free.items) }
+pub fn spans_free<T: HasSpan>(
+    alloc: Global,
+    range: &Span,
+    taken: &[T],
+) -> Result<Vec<Span>, AllocError>
+    requires { IsInOrder (map T.span taken.now) }
+    ensures { IfOk result (λ free. IsFree range.now (map T.span taken.now) free.items) }
 {
     let mut free = Vec::new(alloc);
     let mut rest = *range;
-    for span in taken {
-        if !is_filled(span) {
+    for entry in taken {
+        let span = entry.span();
+        if !is_filled(&span) {
             continue;
         }
-        push_filled(&before(&rest, span), &mut free)?;
-        rest = behind(&rest, span);
+        push_filled(&before(&rest, &span), &mut free)?;
+        rest = behind(&rest, &span);
     }
     push_filled(&rest, &mut free)?;
     Ok(free)

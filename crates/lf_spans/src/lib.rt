@@ -14,5 +14,5 @@ pub use free::{spans_free, spans_minus};
 pub use grid::{Grid, nearest_fit, nearest_on_grid};
 pub use join::spans_join;
 pub use meet::{spans_meet, spans_meet_all};
-pub use span::Span;
+pub use span::{HasSpan, Span};
 pub use window::free_in;

@@ -1,7 +1,7 @@
 //! Lists of spans, numbers of a grid, and where a width fits.
 
 use lf_gaps::best_in_row;
-use lf_spans::{Grid, free_in};
+use lf_spans::{Grid, HasSpan, free_in};
 use lf_units::{Span, nearest_on_grid, spans_join, spans_meet, spans_minus};
 use std::test::Fail;
 
@@ -51,6 +51,41 @@ fn windows_show_what_is_free(rt: HostRuntime) -> Result<(), Fail> {
     let free = free_in(rt.alloc(), &segment, &taken, 600, &window)?;
     let shown = [Span { lo: 1000, hi: 2000 }, Span { lo: 2400, hi: 3000 }];
     assert!(rt; free.as_slice() == shown.as_slice());
+    Ok(())
+}
+
+/// What stands in a row: a cell, and the span that it takes.
+#[derive(Clone, Copy)]
+struct Standing {
+    cell: u32,
+    across: Span,
+}
+
+impl HasSpan for Standing {
+    ghost span = { λ s. s.across };
+
+    fn span(&self) -> Span {
+        self.across
+    }
+}
+
+#[test]
+fn windows_show_what_entries_leave_free(rt: HostRuntime) -> Result<(), Fail> {
+    let segment = Span { lo: 0, hi: 1000 };
+    let entries = [
+        Standing {
+            cell: 1,
+            across: Span { lo: 0, hi: 400 },
+        },
+        Standing {
+            cell: 0,
+            across: Span { lo: 600, hi: 800 },
+        },
+    ];
+    let free = free_in(rt.alloc(), &segment, &entries, 400, &segment)?;
+    let shown = [Span { lo: 400, hi: 600 }, Span { lo: 800, hi: 1000 }];
+    assert!(rt; free.as_slice() == shown.as_slice());
+    assert!(rt; entries[0].cell == 1 && entries[1].cell == 0);
     Ok(())
 }
 

@@ -15,7 +15,7 @@ nearest_of-requires-clause-bounded c =
 pub returns : goal.returns
 returns c =
     found_in_rows (map (λ list. list.items) c.args.lists.now) c.in_ok-met.met.items c.args.grid.now c.args.width c.args.target c.wanted_of.result.width
-        c.wanted_of.result.target
+    c.wanted_of.result.target
     c.nearest_of.result c.requires.wide (omega (arith, ints)) (omega (arith, ints)) c.in_ok-met.ensures
     (subst (λ (xs : List Span). FindsNearest (λ x. FitsOne xs c.args.grid.now c.wanted_of.result.width x) c.wanted_of.result.target c.nearest_of.result)
     c.as_slice.ensures.value c.nearest_of.ensures)

@@ -15,4 +15,4 @@ returns-clause-on_grid c =
     let along_fits : FitsSigned w64 along = search rules in
     let r = rem_is w64 along step along_fits step_fits in
     moved c.args.grid.now _ _ (ap (λ (v : ℤ). at -ℤ v) (ap (λ (a : ℤ). int_rem a step) (sym same) ∙ sym r))
-        (rem_on_grid c.args.grid.now at c.requires.grid.rising)
+    (rem_on_grid c.args.grid.now at c.requires.grid.rising)

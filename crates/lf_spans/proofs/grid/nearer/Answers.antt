@@ -11,7 +11,7 @@ returns-then-ahead-behind c =
     let ahead : ℤ = to_z w64 (of_z w64 right) -ℤ to_z w64 (of_z w64 target) in
     let behind : ℤ = to_z w64 (of_z w64 target) -ℤ to_z w64 (of_z w64 left) in
     let less : to_z w64 (of_z w64 ahead) <ℤ to_z w64 (of_z w64 behind) = less_from (to_z w64 (of_z w64 ahead)) (to_z w64 (of_z w64 behind))
-        c.if-ahead-behind.true in
+    c.if-ahead-behind.true in
     inr (omega (arith, ints), omega (arith, ints, less))
 
 pub returns : goal.returns
@@ -22,5 +22,5 @@ returns c =
     let ahead : ℤ = to_z w64 (of_z w64 right) -ℤ to_z w64 (of_z w64 target) in
     let behind : ℤ = to_z w64 (of_z w64 target) -ℤ to_z w64 (of_z w64 left) in
     let more : to_z w64 (of_z w64 behind) ≤ℤ to_z w64 (of_z w64 ahead) = not_less_from (to_z w64 (of_z w64 ahead)) (to_z w64 (of_z w64 behind))
-        c.if-ahead-behind.false in
+    c.if-ahead-behind.false in
     inl (omega (arith, ints), omega (arith, ints, more))

@@ -69,4 +69,4 @@ returns c =
     rw (to_z-of_z w64 c.nearer.result found_fits)
     (between_nearest c.args.span.now c.args.grid.now c.args.width first last target left c.nearer.result ends
     (omega (arith, ints, after)) (omega (arith, ints, before)) c.last_to-left.ensures.on_grid (omega (arith, ints, left_below))
-        (omega (arith, ints, left_near)) pick)
+    (omega (arith, ints, left_near)) pick)
