@@ -1,0 +1,9 @@
+//! A law on segments.
+
+ghost use Rattle.lf_segments.specs.Laws.{SegmentsDecide};
+
+/// A box that stands on rows and is wide stays in a team's ground and clear of obstacles exactly
+/// where, in each row that carries it, its x range lies in one segment of the team.
+pub fn lies_in_segments()
+    ensures { SegmentsDecide }
+{}
