@@ -117,10 +117,10 @@ covers_skip boxes lower upper free covered k e within c over = record {
   all = c.all;
 }
 
-pub covers_more : (boxes : List Placed) (lower upper : ℤ) (free covered new : List Span) (k : ℕ) (e : Placed) → k < length boxes → CoversSoFar boxes lower upper free covered k →
-    lower ≤ℤ (get_or boxes k e).rect.y2 → (get_or boxes k e).rect.y2 <ℤ upper → IsCoveredAt boxes (get_or boxes k e).rect.y2 covered new →
-    CoversSoFar boxes lower upper free new (k + 1)
-covers_more boxes lower upper free covered new k e within c from under n = record {
+pub covers_more : (boxes : List Placed) (lower upper : ℤ) (free covered slice new : List Span) (k : ℕ) (e : Placed) → k < length boxes →
+    CoversSoFar boxes lower upper free covered k → lower ≤ℤ (get_or boxes k e).rect.y2 → (get_or boxes k e).rect.y2 <ℤ upper → slice ≡ covered →
+    IsCoveredAt boxes (get_or boxes k e).rect.y2 slice new → CoversSoFar boxes lower upper free new (k + 1)
+covers_more boxes lower upper free covered slice new k e within c from under same at_slice = record {
   rising = n.rising;
   in_free = λ s g h. c.in_free s g (older s g h);
   at_lower = λ s g h. c.at_lower s g (older s g h);
@@ -135,6 +135,9 @@ covers_more boxes lower upper free covered new k e within c from under n = recor
   all = λ s g h each. (n.exact s g).1 (c.all s g h each, each (get_or boxes k e).rect.y2 from under);
 }
   where
+    n : IsCoveredAt boxes (get_or boxes k e).rect.y2 covered new
+    n = subst (λ (xs : List Span). IsCoveredAt boxes (get_or boxes k e).rect.y2 xs new) same at_slice
+
     older : (s : Span) → IsFilled s → LiesInOne new s → LiesInOne covered s
     older s g h = ((n.exact s g).0 h).0
 
@@ -220,3 +223,10 @@ covers_end boxes lower upper free covered k passed_all c = record {
     (λ h. c.all s g h.0 h.1),
   );
 }
+
+-- what is not below is above, and what shares a point with an area ends above its lower edge
+pub above_of : (a b : ℤ) → (a <ℤ b → ⊥) → b ≤ℤ a
+above_of a b never = by_lt_z a b (λ less. absurd (never less)) (λ more. more)
+
+pub below_of : (a r : Rect) → SharesPoint a r → a.y1 ≤ℤ r.y2
+below_of a r s = omega (arith, ints, s.in_first.bottom, s.in_second.top)

@@ -1,2 +1,7 @@
 pub mod LawLemmas
 pub mod CoverLemmas
+pub mod RunLemmas
+pub mod EndLemmas
+pub mod GroupLemmas
+pub mod RowLemmas
+pub mod TreeLemmas

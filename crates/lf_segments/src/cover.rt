@@ -54,21 +54,22 @@ pub(crate) fn free_beside(
 }
 
 /// Whether the rectangle reaches over this y.
-fn reaches(rect: &Rect, y: i64) -> bool
-    ensures { IsTrue result ↔ ((rect.now.y1 ≤ℤ y) × (y <ℤ rect.now.y2)) }
+fn reaches(rect: &Rect, y: &i64) -> bool
+    ensures { IsTrue result ↔ ((rect.now.y1 ≤ℤ y.now) × (y.now <ℤ rect.now.y2)) }
 {
-    rect.y1 <= y && y < rect.y2
+    rect.y1 <= *y && *y < rect.y2
 }
 
 /// The x ranges of those boxes that reach over this y.
-fn spans_at(alloc: Global, boxes: &[Placed], y: i64) -> Result<Vec<Span>, AllocError>
-    ensures { IfOk result (λ spans. AreSpansAt boxes.now y spans.items) }
+fn spans_at(alloc: Global, boxes: &[Placed], y: &i64) -> Result<Vec<Span>, AllocError>
+    ensures { IfOk result (λ spans. AreSpansAt boxes.now y.now spans.items) }
 {
     let mut spans = Vec::new(alloc);
     for placed in boxes {
-        if reaches(&placed.rect, y) {
-            spans.push(span_of(&placed.rect))?;
+        if !reaches(&placed.rect, y) {
+            continue;
         }
+        spans.push(span_of(&placed.rect))?;
     }
     Ok(spans)
 }
@@ -77,14 +78,21 @@ fn spans_at(alloc: Global, boxes: &[Placed], y: i64) -> Result<Vec<Span>, AllocE
 fn covered_at(
     alloc: Global,
     boxes: &[Placed],
-    y: i64,
+    y: &i64,
     free: &[Span],
 ) -> Result<Vec<Span>, AllocError>
     requires { IsRising free.now }
-    ensures { IfOk result (λ covered. IsCoveredAt boxes.now y free.now covered.items) }
+    ensures { IfOk result (λ covered. IsCoveredAt boxes.now y.now free.now covered.items) }
 {
     let joined = spans_join(alloc, spans_at(alloc, boxes, y)?.as_slice())?;
     spans_meet(alloc, free, joined.as_slice())
+}
+
+/// Whether the rectangle ends below the area's upper edge.
+fn ends_below(rect: &Rect, area: &Rect) -> bool
+    ensures { IsTrue result ↔ (rect.now.y2 <ℤ area.now.y2) }
+{
+    rect.y2 < area.y2
 }
 
 /// Of the free spans, what the boxes cover over the whole height of the area. What covers an area
@@ -101,12 +109,12 @@ pub(crate) fn covered_over(
     requires near { All (λ p. SharesPoint area.now p.rect) boxes.now }
     ensures { IfOk result (λ covered. IsCoveredOver boxes.now area.now.y1 area.now.y2 free.now covered.items) }
 {
-    let mut covered = covered_at(alloc, boxes, area.y1, free)?;
+    let mut covered = covered_at(alloc, boxes, &area.y1, free)?;
     for placed in boxes {
-        let end = placed.rect.y2;
-        if end < area.y2 {
-            covered = covered_at(alloc, boxes, end, covered.as_slice())?;
+        if !ends_below(&placed.rect, area) {
+            continue;
         }
+        covered = covered_at(alloc, boxes, &placed.rect.y2, covered.as_slice())?;
     }
     Ok(covered)
 }

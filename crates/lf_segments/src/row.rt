@@ -3,7 +3,7 @@
 ghost use Rattle.std.specs.Prelude.{◌≡◌, ◌+◌, ◌<◌, ◌≤◌, ◌++◌, IfOk, OnOk, ℕ, All, IsPermutation, length, map, slice_index_or};
 ghost use Rattle.lf_rtree.specs.declared.placed.Placed.{Placed};
 ghost use Rattle.lf_floorplan.specs.Rows.{IsHeeded, row_area};
-ghost use Rattle.lf_segments.specs.Boxes.{segment_of, AddsRow, AreBoxesOf, AreOpen, AreSorted, IsNextGroup};
+ghost use Rattle.lf_segments.specs.Boxes.{segment_of, AddsRow, AreBoxesOf, AreClear, AreOpen, AreSorted, IsNextGroup};
 
 use crate::cover::{covered_over, free_beside};
 use crate::segment::Segment;
@@ -63,6 +63,13 @@ fn next_group<'a>(boxes: &'a [Placed], least: u32) -> &'a [Placed]
     &rest[..count_up_to(rest, rest[0].own)]
 }
 
+/// The number of the ground team.
+fn ground_number(frame: &Frame) -> u32
+    ensures { result ≡ length frame.now.teams }
+{
+    frame.teams.len() as u32
+}
+
 /// The spans of the row that are clear of obstacles, of which the boxes tell.
 fn clear_spans(
     alloc: Global,
@@ -75,7 +82,7 @@ fn clear_spans(
     requires sorted { AreSorted near.now }
     ensures { IfOk result (λ spans. AreClear frame.now row.now spans.items) }
 {
-    let obstacles = next_group(near, frame.teams.len() as u32);
+    let obstacles = next_group(near, ground_number(frame));
     free_beside(alloc, &row.area(&frame.pitch), obstacles)
 }
 
@@ -108,7 +115,7 @@ fn push_fences(
     requires sorted { AreSorted near.now }
     ensures { OnOk result (AddsRow frame.now number row.now (length frame.now.teams) segments.old.items segments.new.items) }
 {
-    let ground = frame.teams.len() as u32;
+    let ground = ground_number(frame);
     let area = row.area(&frame.pitch);
     let clear = clear_spans(alloc, frame, row, near)?;
     let mut team = 0;
@@ -153,5 +160,6 @@ pub(crate) fn push_row(
     sort_boxes(near);
     push_fences(alloc, frame, number, row, near.as_slice(), segments)?;
     let spans = ground_spans(alloc, frame, row, near.as_slice())?;
-    push_spans(segments, number, frame.teams.len(), spans.as_slice())
+    push_spans(segments, number, frame.teams.len(), spans.as_slice())?;
+    Ok(())
 }

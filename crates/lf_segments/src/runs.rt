@@ -1,6 +1,6 @@
 //! The segments of one row and team, found by bisection.
 
-ghost use Rattle.std.specs.Prelude.{◌≡◌, ◌<◌, ◌≤◌, ◌≤ℤ◌, ◌<ℤ◌, ℕ, All, AllPairs, MatchOption, length, slice_index_or};
+ghost use Rattle.std.specs.Prelude.{◌≡◌, ◌↔◌, IsTrue, ◌<◌, ◌≤◌, ◌≤ℤ◌, ◌<ℤ◌, ℕ, All, AllPairs, MatchOption, length, slice_index_or};
 ghost use Rattle.std.specs.List.{HoldsAt};
 ghost use Rattle.std.specs.List.Sorted.{IsNonDecreasingBy};
 ghost use Rattle.lf_spans.specs.Spans.{IsFilled};
@@ -58,27 +58,34 @@ pub(crate) fn run_of(segments: &[Segment], row: usize, team: usize) -> Run<'_>
 }
 
 /// How many of the segments of a row and a team end at x or before it. They stand by x.
-fn count_ended(segments: &[Segment], x: i64) -> usize
+fn count_ended(segments: &[Segment], x: &i64) -> usize
     requires { AllPairs (λ g h. g.span.hi ≤ℤ h.span.hi) segments.now }
     ensures within { result ≤ length segments.now }
-    ensures ended { (k : ℕ) → (d : Segment) → k < result → (slice_index_or segments.now k d).span.hi ≤ℤ x }
-    ensures rest { (k : ℕ) → (d : Segment) → result ≤ k → k < length segments.now → x <ℤ (slice_index_or segments.now k d).span.hi }
+    ensures ended { (k : ℕ) → (d : Segment) → k < result → (slice_index_or segments.now k d).span.hi ≤ℤ x.now }
+    ensures rest { (k : ℕ) → (d : Segment) → result ≤ k → k < length segments.now → x.now <ℤ (slice_index_or segments.now k d).span.hi }
 {
-    segments.partition_point(|segment| segment.span.hi <= x)
+    segments.partition_point(|segment| segment.span.hi <= *x)
+}
+
+/// Whether the segment begins behind x.
+fn begins_behind(segment: &Segment, x: &i64) -> bool
+    ensures { IsTrue result ↔ (x.now <ℤ segment.now.span.lo) }
+{
+    *x < segment.span.lo
 }
 
 /// The position of the segment of a row and a team that holds x; none where there is none.
-pub(crate) fn place_in(segments: &[Segment], row: usize, team: usize, x: i64) -> Option<usize>
+pub(crate) fn place_in(segments: &[Segment], row: usize, team: usize, x: &i64) -> Option<usize>
     requires order { AllPairs ComesBefore segments.now }
     requires filled { All (λ g. IsFilled g.span) segments.now }
-    ensures { MatchOption result (All (λ g. IsAt row team x g → ⊥) segments.now) (λ n. HoldsAt (IsAt row team x) segments.now n) }
+    ensures { MatchOption result (All (λ g. IsAt row team x.now g → ⊥) segments.now) (λ n. HoldsAt (IsAt row team x.now) segments.now n) }
 {
     let run = run_of(segments, row, team);
     let k = count_ended(run.segments, x);
     if run.segments.len() <= k {
         return None;
     }
-    if x < run.segments[k].span.lo {
+    if begins_behind(&run.segments[k], x) {
         return None;
     }
     Some(run.start + k)

@@ -87,6 +87,6 @@ impl Segments {
         ensures { MatchOption result (All (λ g. IsAt row team x g → ⊥) self.now) (HoldsAt (IsAt row team x) self.now) }
     {
         let _ = &self.list;
-        place_in(self.list.as_slice(), row, team, x)
+        place_in(self.list.as_slice(), row, team, &x)
     }
 }
