@@ -159,29 +159,29 @@ last_end (p ∷ boxes) lower y from = with_rest (last_end boxes lower y from)
     with_rest l =
         by_lt_z y p.rect.y2
         (λ over. record {
-        at = l.at;
-        is = later l;
-        low = l.low;
-        none = λ h. elim (any_cases (λ q. (q.rect.y2 ≤ℤ y) × (l.at <ℤ q.rect.y2)) p boxes h) [ inl e ↦ omega (arith, ints, over, e.0) | inr e ↦ l.none e ];
+          at = l.at;
+          is = later l;
+          low = l.low;
+          none = λ h. elim (any_cases (λ q. (q.rect.y2 ≤ℤ y) × (l.at <ℤ q.rect.y2)) p boxes h) [ inl e ↦ omega (arith, ints, over, e.0) | inr e ↦ l.none e ];
         })
         (λ ends. by_lt_z l.at p.rect.y2
         (λ above. record {
-        at = p.rect.y2;
-        is = inr (any_first (λ (q : Placed). q.rect.y2 ≡ p.rect.y2) p boxes refl);
-        low = ends;
-        none = λ h. elim (any_cases (λ q. (q.rect.y2 ≤ℤ y) × (p.rect.y2 <ℤ q.rect.y2)) p boxes h) [
-          | inl e ↦ let f = e.1 in omega (arith, ints, f)
-          | inr e ↦ l.none (e.0, e.1, e.2, e.3, (e.4.0, let f = e.4.1 in omega (arith, ints, f, above)))
-        ];
+          at = p.rect.y2;
+          is = inr (any_first (λ (q : Placed). q.rect.y2 ≡ p.rect.y2) p boxes refl);
+          low = ends;
+          none = λ h. elim (any_cases (λ q. (q.rect.y2 ≤ℤ y) × (p.rect.y2 <ℤ q.rect.y2)) p boxes h) [
+            | inl e ↦ let f = e.1 in omega (arith, ints, f)
+            | inr e ↦ l.none (e.0, e.1, e.2, e.3, (e.4.0, let f = e.4.1 in omega (arith, ints, f, above)))
+          ];
         })
         (λ under. record {
-        at = l.at;
-        is = later l;
-        low = l.low;
-        none = λ h. elim (any_cases (λ q. (q.rect.y2 ≤ℤ y) × (l.at <ℤ q.rect.y2)) p boxes h) [
-          | inl e ↦ let f = e.1 in omega (arith, ints, f, under)
-          | inr e ↦ l.none e
-        ];
+          at = l.at;
+          is = later l;
+          low = l.low;
+          none = λ h. elim (any_cases (λ q. (q.rect.y2 ≤ℤ y) × (l.at <ℤ q.rect.y2)) p boxes h) [
+            | inl e ↦ let f = e.1 in omega (arith, ints, f, under)
+            | inr e ↦ l.none e
+          ];
         }))
       where
         later : (l : Last boxes lower y) → (l.at ≡ lower) ⊎ Any (λ (q : Placed). q.rect.y2 ≡ l.at) (p ∷ boxes)
@@ -196,12 +196,18 @@ at_each boxes lower upper s at_lower at_ends y from below x holds =
     let found : Any (λ (p : Placed). Covers p.rect x l.at) boxes = at_last l x holds in
     let covers : Covers found.1.rect x l.at = found.4 in
     by_lt_z y found.1.rect.y2
-    (λ over. (found.0, found.1, found.2, found.3, record {
-    left = covers.left;
-    right = covers.right;
-    bottom = let a = covers.bottom in let b = l.low in omega (arith, ints, a, b);
-    top = over;
-    }))
+    (λ over. (
+      found.0,
+      found.1,
+      found.2,
+      found.3,
+      record {
+        left = covers.left;
+        right = covers.right;
+        bottom = let a = covers.bottom in let b = l.low in omega (arith, ints, a, b);
+        top = over;
+      },
+    ))
     (λ ends. absurd (l.none (found.0, found.1, found.2, found.3, (ends, covers.top))))
   where
     at_last : (l : Last boxes lower y) → AreUnder boxes l.at s

@@ -5,3 +5,4 @@ pub mod EndLemmas
 pub mod GroupLemmas
 pub mod RowLemmas
 pub mod TreeLemmas
+pub mod OneLemmas

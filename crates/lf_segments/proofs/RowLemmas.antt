@@ -84,13 +84,13 @@ row_skip f number r limit more old new a order none = record {
   is = a.is;
   cut = record {
     known = All-weaker (λ g. (g.row ≡ number) × ((g.team < limit) × IsFilled g.span)) (λ g. (g.row ≡ number) × ((g.team < more) × IsFilled g.span))
-    (λ g k. (k.0, (let low = k.1.0 in omega (arith, low, order), k.1.1))) a.added a.cut.known;
+        (λ g k. (k.0, (let low = k.1.0 in omega (arith, low, order), k.1.1))) a.added a.cut.known;
     in_order = a.cut.in_order;
     exact = λ u s low filled. elim (side u) [
       | inl below ↦ a.cut.exact u s below filled
       | inr from ↦ (
-          λ h. absurd (no_team (λ g. IsFilled g.span) a.added number u s (others u from) h),
-          λ each. absurd (nothing_open f r u s (none u from low) filled each),
+        λ h. absurd (no_team (λ g. IsFilled g.span) a.added number u s (others u from) h),
+        λ each. absurd (nothing_open f r u s (none u from low) filled each),
       )
     ];
   };
@@ -110,7 +110,7 @@ row_more f number r own old new newer spans a open_spans is = record {
   is = is ∙ ap (λ (xs : List Segment). xs ++ more) a.is ∙ append_assoc old a.added more;
   cut = record {
     known = All-append Known a.added more (All-weaker Knew Known (λ g k. (k.0, (let low = k.1.0 in omega (arith, low), k.1.1))) a.added a.cut.known)
-    (All-map Known (segment_of number own) spans (λ k d within. (refl, (omega arith, open_spans.rising.filled k d within))));
+        (All-map Known (segment_of number own) spans (λ k d within. (refl, (omega arith, open_spans.rising.filled k d within))));
     in_order = pairs_append ComesFirst a.added more a.cut.in_order mapped_pairs between;
     exact = λ u s low filled. elim (side u low) [
       | inl below ↦
@@ -122,12 +122,12 @@ row_more f number r own old new newer spans a open_spans is = record {
             λ each. any_left (Lies u s) a.added more (old_one.1 each),
           )
       | inr same ↦ subst (λ (t : ℕ). LiesInSegment (a.added ++ more) number t s ↔ ((x : ℤ) → Holds s x → IsOpen f r t x)) same (
-          λ h. elim (any_parts (Lies own s) a.added more h) [
-            | inl early ↦ absurd (no_team (λ g. IsFilled g.span) a.added number own s others early)
-            | inr late ↦ (open_spans.exact s filled).0 (of_map number own spans number own s late).2
-          ],
-          λ each. any_right (Lies own s) a.added more (in_map number own spans s ((open_spans.exact s filled).1 each)),
-        )
+        λ h. elim (any_parts (Lies own s) a.added more h) [
+          | inl early ↦ absurd (no_team (λ g. IsFilled g.span) a.added number own s others early)
+          | inr late ↦ (open_spans.exact s filled).0 (of_map number own spans number own s late).2
+        ],
+        λ each. any_right (Lies own s) a.added more (in_map number own spans s ((open_spans.exact s filled).1 each)),
+      )
     ];
   };
 }
@@ -191,7 +191,7 @@ pub cut_more : (f : Frame) (n : ℕ) (r : Row) (old new : List Segment) → slic
     IsCutTo f n old → AddsRow f n r (length f.teams + 1) old new → IsCutTo f (n + 1) new
 cut_more f n r old new is_row is_team c a = subst (IsCutTo f (n + 1)) (sym a.is) record {
   known = All-append Known old a.added (All-weaker Knew Known (λ g k. (let low = k.0 in omega (arith, low), k.1)) old c.known)
-  (All-weaker Added Known (λ g k. (let same = k.0 in omega (arith, same), (let low = k.1.0 in omega (arith, low), k.1.1))) a.added a.cut.known);
+      (All-weaker Added Known (λ g k. (let same = k.0 in omega (arith, same), (let low = k.1.0 in omega (arith, low), k.1.1))) a.added a.cut.known);
   in_order = pairs_append ComesBefore old a.added c.in_order added_pairs between;
   exact = exact;
 }
@@ -236,9 +236,9 @@ cut_more f n r old new is_row is_team c a = subst (IsCutTo f (n + 1)) (sym a.is)
     of_added u s filled = elim (team_or u) [
       | inl low ↦ a.cut.exact u s low filled
       | inr high ↦ (
-          λ h. absurd (no_team (λ g. IsFilled g.span) a.added n u s (λ k d within of. let low = (a.cut.known k d within).1.0 in let same = of.of_team in omega (arith, low, same, high)) h),
-          λ each. absurd (nothing_open f r u s (λ x o. let low = is_team u x o in omega (arith, low, high)) filled each),
-        )
+        λ h. absurd (no_team (λ g. IsFilled g.span) a.added n u s (λ k d within of. let low = (a.cut.known k d within).1.0 in let same = of.of_team in omega (arith, low, same, high)) h),
+        λ each. absurd (nothing_open f r u s (λ x o. let low = is_team u x o in omega (arith, low, high)) filled each),
+      )
     ]
 
     here : (u : ℕ) (s : Span) → IsFilled s → (LiesInSegment (old ++ a.added) n u s ↔ ((x : ℤ) → Holds s x → IsOpen f r u x))
@@ -273,7 +273,7 @@ cut_more f n r old new is_row is_team c a = subst (IsCutTo f (n + 1)) (sym a.is)
 pub cut_whole : (f : Frame) (n : ℕ) (segments : List Segment) → length f.rows ≤ n → n ≤ length f.rows → IsCutTo f n segments → IsCut f segments
 cut_whole f n segments all within c = record {
   known = All-weaker (λ g. (g.row < n) × ((g.team ≤ length f.teams) × IsFilled g.span)) (IsSegment f)
-  (λ g k. record { row_known = let low = k.0 in omega (arith, low, within); team_known = k.1.0; filled = k.1.1 }) segments c.known;
+      (λ g k. record { row_known = let low = k.0 in omega (arith, low, within); team_known = k.1.0; filled = k.1.1 }) segments c.known;
   in_order = c.in_order;
   exact = λ m r team s is filled. c.exact m r team s (let low = slice_get_within f.rows m r is in omega (arith, low, all)) is filled;
 }

@@ -1,4 +1,4 @@
--- What stands on rows is legal for a team exactly where it lies in segments.
+-- Laws on segments: what stands on rows is legal for a team exactly where it lies in segments, of which a frame has one list.
 use Rattle.std.specs.Prelude.{◌≡◌, ◌↔◌, ℕ, ◌<◌, ◌<ℤ◌, List, Some, slice_get}
 use Rattle.lf_units.specs.declared.area.Rect.{Rect}
 use Rattle.lf_floorplan.specs.declared.frame.Frame.{Frame}
@@ -20,3 +20,7 @@ abbrev pub SegmentsDecide : Type 0
 SegmentsDecide =
     (f : Frame) (segments : List Segment) (team : ℕ) (box : Rect) → IsCut f segments → StandsOn f box → box.x1 <ℤ box.x2 →
     ((StaysInGround f team box × IsClear f box) ↔ LiesInSegments f segments team box)
+
+-- a frame has one list of segments
+abbrev pub CutIsOne : Type 0
+CutIsOne = (f : Frame) (a b : List Segment) → IsCut f a → IsCut f b → a ≡ b

@@ -45,7 +45,7 @@ pub record IsSegment (f : Frame) (g : Segment) : Type 0 where
   pub filled : IsFilled g.span
 
 -- the segments of a frame, in one list: a span that holds a number lies in a segment of a row and a team exactly where the team may use the row at each of its
--- numbers. So segments are maximal, and two lists of one frame are equal
+-- numbers. So segments are maximal
 pub record IsCut (f : Frame) (segments : List Segment) : Type 0 where
   pub known : All (IsSegment f) segments
   pub in_order : AllPairs ComesBefore segments

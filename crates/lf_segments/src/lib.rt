@@ -9,6 +9,6 @@ mod runs;
 mod segment;
 mod segments;
 
-pub use laws::lies_in_segments;
+pub use laws::{cut_is_one, lies_in_segments};
 pub use segment::Segment;
 pub use segments::Segments;

@@ -77,8 +77,7 @@ impl Segments {
     pub fn of_row(&self, row: usize, team: usize) -> &[Segment]
         ensures { IsRunOf self.now row team result.now }
     {
-        let _ = &self.list;
-        run_of(self.list.as_slice(), row, team).segments
+        run_of(&self.list, row, team).segments
     }
 
     /// The number in the one list of the segment of the row and the team that holds x; none where
@@ -86,7 +85,6 @@ impl Segments {
     pub fn segment_at(&self, row: usize, team: usize, x: i64) -> Option<usize>
         ensures { MatchOption result (All (λ g. IsAt row team x g → ⊥) self.now) (HoldsAt (IsAt row team x) self.now) }
     {
-        let _ = &self.list;
-        place_in(self.list.as_slice(), row, team, &x)
+        place_in(&self.list, row, team, &x)
     }
 }

@@ -52,10 +52,11 @@ loop-team-preserved c =
     (λ u least low x. not_open f r near group c.loop-team.team u c.requires.boxes c.next_group-group.ensures (above_all group own u number low) least (omega (arith, low, fence)) x) in
     let spans =
     fence_spans_of f r near group c.loop-team.team own c.area-area.result c.in_ok-clear.clear.items c.as_slice.result.now c.in_ok-spans.spans.items c.requires.boxes
-    c.next_group-group.ensures number from fence c.in_ok-clear.ensures c.area-area.ensures c.as_slice.ensures.value c.in_ok-spans.ensures in
-    (omega (arith, fence),
-    row_more f c.args.number r own c.args.segments.now.items c.loop-team.segments.items c.push_spans.new.segments.items c.in_ok-spans.spans.items up_to spans
-    (c.in_ok-push_spans.ensures ∙ ap (λ (xs : List Span). c.loop-team.segments.items ++ map (segment_of c.args.number own) xs) c.as_slice-in-loop-team.ensures.value))
+    c.next_group-group.ensures number from fence c.in_ok-clear.ensures c.area-area.ensures c.as_slice.ensures.value c.in_ok-spans.ensures in (
+      omega (arith, fence),
+      row_more f c.args.number r own c.args.segments.now.items c.loop-team.segments.items c.push_spans.new.segments.items c.in_ok-spans.spans.items up_to spans
+          (c.in_ok-push_spans.ensures ∙ ap (λ (xs : List Span). c.loop-team.segments.items ++ map (segment_of c.args.number own) xs) c.as_slice-in-loop-team.ensures.value),
+    )
 
 pub returns : goal.returns
 returns c =
