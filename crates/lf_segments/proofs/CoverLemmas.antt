@@ -1,15 +1,16 @@
 -- What boxes cover at one y, and over a height.
-use Rattle.std.proofs.Common.{◌≡◌, ◌⊎◌, inl, inr, ℕ, ℤ, ◌+◌, ◌<◌, ◌≤◌, ◌≤ℤ◌, ◌<ℤ◌, List, [], ◌∷◌, ◌++◌, length, map, get_or, take, refl, sym, ap, subst, ◌∙◌, arith}
-use Rattle.std.specs.Prelude.{All, Any, IsPermutation}
+use Rattle.std.proofs.Common.{◌≡◌, ◌⊎◌, inl, inr, ℕ, ℤ, ◌+◌, ◌<◌, ◌≤◌, ◌≤ℤ◌, ◌<ℤ◌, List, [], ◌∷◌, ◌++◌}
+use Rattle.std.proofs.Common.{length, get_or, take, refl, sym, ap, subst, ◌∙◌, arith}
+use Rattle.std.specs.Prelude.{Any, IsPermutation}
 use Rattle.std.proofs.lemmas.Int.{ints, by_lt_z}
 use Rattle.std.proofs.lemmas.List.{get_or_default, take_more}
 use Rattle.std.proofs.lemmas.List.Sorted.{All-permutation, IsPermutation-sym}
 use Rattle.lf_units.specs.declared.area.Rect.{Rect}
 use Rattle.lf_units.specs.declared.area.Span.{Span}
 use Rattle.lf_units.specs.Area.{Covers, SharesPoint}
-use Rattle.lf_units.proofs.Any.{any_first, any_later, any_cases, any_parts, any_left, any_right, any_one, any_here, none_of_nothing}
+use Rattle.lf_units.proofs.Any.{any_first, any_later, any_cases, any_parts, any_left, any_right, any_one, none_of_nothing}
 use Rattle.lf_rtree.specs.declared.placed.Placed.{Placed}
-use Rattle.lf_spans.specs.Spans.{Holds, IsFilled, AreApart, IsApart, LiesInOne, HeldByOne, IsRising, IsFree, IsJoin, IsMeet}
+use Rattle.lf_spans.specs.Spans.{Holds, IsFilled, AreApart, LiesInOne, IsRising, IsFree, IsJoin, IsMeet}
 use Rattle.lf_segments.specs.Boxes.{across, AreSpansAt, AreUnder, IsCoveredAt, IsCoveredOver}
 
 -- the order of what is taken is nothing to what is free
@@ -84,7 +85,8 @@ pub record CoversSoFar (boxes : List Placed) (lower upper : ℤ) (free covered :
   pub rising : IsRising covered
   pub in_free : (s : Span) → IsFilled s → LiesInOne covered s → LiesInOne free s
   pub at_lower : (s : Span) → IsFilled s → LiesInOne covered s → AreUnder boxes lower s
-  pub at_ends : (s : Span) → IsFilled s → LiesInOne covered s → (m : ℕ) (d : Placed) → m < k → (get_or boxes m d).rect.y2 <ℤ upper → AreUnder boxes (get_or boxes m d).rect.y2 s
+  pub at_ends : (s : Span) → IsFilled s → LiesInOne covered s → (m : ℕ) (d : Placed) → m < k → (get_or boxes m d).rect.y2 <ℤ upper →
+      AreUnder boxes (get_or boxes m d).rect.y2 s
   pub all : (s : Span) → IsFilled s → LiesInOne free s → ((y : ℤ) → lower ≤ℤ y → y <ℤ upper → AreUnder boxes y s) → LiesInOne covered s
 
 pub covers_start : (boxes : List Placed) (lower upper : ℤ) (free covered : List Span) → lower <ℤ upper → IsCoveredAt boxes lower free covered →
@@ -100,7 +102,8 @@ covers_start boxes lower upper free covered high c = record {
 below_or_at : (m k : ℕ) → m < k + 1 → (m < k) ⊎ (m ≡ k)
 below_or_at m k less = grind arith
 
-pub covers_skip : (boxes : List Placed) (lower upper : ℤ) (free covered : List Span) (k : ℕ) (e : Placed) → k < length boxes → CoversSoFar boxes lower upper free covered k →
+pub covers_skip : (boxes : List Placed) (lower upper : ℤ) (free covered : List Span) (k : ℕ) (e : Placed) → k < length boxes →
+    CoversSoFar boxes lower upper free covered k →
     upper ≤ℤ (get_or boxes k e).rect.y2 → CoversSoFar boxes lower upper free covered (k + 1)
 covers_skip boxes lower upper free covered k e within c over = record {
   rising = c.rising;
@@ -225,7 +228,11 @@ pub covers_end : (boxes : List Placed) (lower upper : ℤ) (free covered : List 
 covers_end boxes lower upper free covered k passed_all c = record {
   rising = c.rising;
   exact = λ s g. (
-    (λ h. (c.in_free s g h, at_each boxes lower upper s (c.at_lower s g h) (λ m d within under. c.at_ends s g h m d (omega (arith, passed_all, within)) under))),
+    (λ h. (
+      c.in_free s g h,
+      at_each boxes lower upper s (c.at_lower s g h)
+          (λ m d within under. c.at_ends s g h m d (omega (arith, passed_all, within)) under),
+    )),
     (λ h. c.all s g h.0 h.1),
   );
 }

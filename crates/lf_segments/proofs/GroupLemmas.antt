@@ -1,5 +1,6 @@
 -- The boxes of one number among those near a row, and what they tell of its points.
-use Rattle.std.proofs.Common.{◌≡◌, ◌⊎◌, inl, inr, ℕ, zero, suc, ℤ, pos, ◌+◌, ◌-◌, ◌<◌, ◌≤◌, ◌≤ℤ◌, ◌<ℤ◌, List, [], ◌∷◌, length, map, get_or, slice_get, take, drop, Option, Some, None, refl, sym, ap, subst, ◌∙◌, arith}
+use Rattle.std.proofs.Common.{◌≡◌, ◌⊎◌, inl, inr, ℕ, ℤ, pos, ◌+◌, ◌-◌, ◌<◌, ◌≤◌, ◌≤ℤ◌, ◌<ℤ◌, List, length}
+use Rattle.std.proofs.Common.{map, get_or, slice_get, take, drop, Option, Some, None, refl, sym, ap, subst, ◌∙◌, arith}
 use Rattle.std.specs.Prelude.{◌↔◌, All, Any, Contains, IsPermutation}
 use Rattle.std.specs.List.Sorted.{IsNonDecreasingBy}
 use Rattle.std.proofs.Math.ListN.{get_or-map}
@@ -13,14 +14,14 @@ use Rattle.lf_units.specs.declared.area.Span.{Span}
 use Rattle.lf_units.specs.Area.{Covers, SharesPoint}
 use Rattle.lf_units.proofs.Any.{has_item}
 use Rattle.lf_rtree.specs.declared.placed.Placed.{Placed}
-use Rattle.lf_spans.specs.Spans.{Holds, IsFilled, AreApart, IsApart, LiesInOne, IsRising, IsFree}
+use Rattle.lf_spans.specs.Spans.{Holds, IsFilled, AreApart, LiesInOne, IsFree}
 use Rattle.lf_floorplan.specs.declared.frame.Frame.{Frame}
 use Rattle.lf_floorplan.specs.declared.parts.Row.{Row}
 use Rattle.lf_floorplan.specs.Rows.{row_area}
 use Rattle.lf_floorplan.specs.Ground.{InGround}
 use Rattle.lf_floorplan.proofs.GroundLemmas.{ground_one, ground_there}
 use Rattle.lf_segments.specs.Segments.{IsClearAt, IsOpen}
-use Rattle.lf_segments.specs.Boxes.{across, IsMetAt, Tell, AreBoxesOf, IsNextGroup, AreUnder, IsCoveredOver, AreClear, AreOpen}
+use Rattle.lf_segments.specs.Boxes.{across, IsMetAt, Tell, AreBoxesOf, IsNextGroup, IsCoveredOver, AreClear, AreOpen}
 
 -- ---- the next group of boxes that stand by their numbers
 
@@ -42,14 +43,16 @@ group_at xs ys least f c e within same some rises below from up_to beyond = reco
     | inl less ↦ inl (below k d less)
     | inr more ↦
         let place : k ≡ f + (k - f) = omega (arith, more) in
-        let in_ys : k - f < length ys = subst (λ (zs : List Placed). k - f < length zs) (sym same) (let long = length-drop f xs in omega (arith, long, inside, more)) in
+        let in_ys : k - f < length ys = subst (λ (zs : List Placed). k - f < length zs) (sym same)
+        (let long = length-drop f xs in omega (arith, long, inside, more)) in
         let At : ℕ → Type 0 = λ m. get_or ys (k - f) d ≡ get_or xs m d in
         let is : get_or ys (k - f) d ≡ get_or xs k d = subst At (sym place) (at_ys (k - f) d) in
         elim (group_or (k - f)) [
           | inl early ↦
               let long = length-take c ys in
               let in_group : k - f < length (take c ys) = omega (arith, long, early, in_ys) in
-              let found : Contains (take c ys) (get_or ys (k - f) d) = subst (Contains (take c ys)) (get_or-take c ys (k - f) d early) (Contains-get_or (take c ys) (k - f) d in_group) in
+              let found : Contains (take c ys) (get_or ys (k - f) d) = subst (Contains (take c ys)) (get_or-take c ys (k - f) d early)
+              (Contains-get_or (take c ys) (k - f) d in_group) in
               inr (inl (subst (Contains (take c ys)) is found))
           | inr late ↦
               let long = length-take c ys in
@@ -57,7 +60,8 @@ group_at xs ys least f c e within same some rises below from up_to beyond = reco
               let higher : own < (get_or ys (k - f) d).own = beyond (k - f) d late in_ys in
               let higher_there : own < (get_or xs k d).own = subst (λ (p : Placed). own < p.own) is higher in
               let first : (get_or (take c ys) 0 e).own ≡ own = number 0 e has_first in
-              inr (inr (has_item (λ q. q.own < (get_or xs k d).own) (take c ys) (get_or (take c ys) 0 e) (Contains-get_or (take c ys) 0 e has_first) (omega (arith, first, higher_there))))
+              inr (inr (has_item (λ q. q.own < (get_or xs k d).own) (take c ys) (get_or (take c ys) 0 e) (Contains-get_or (take c ys) 0 e has_first)
+              (omega (arith, first, higher_there))))
         ]
   ];
 }
@@ -98,7 +102,8 @@ group_at xs ys least f c e within same some rises below from up_to beyond = reco
         let whole : (get_or ys k d).own ≡ own = omega (arith, high, low) in
         ap (λ (p : Placed). p.own) (get_or-take c ys k d less) ∙ whole
 
-pub none_left : (xs : List Placed) (least f : ℕ) (group : List Placed) → length group ≡ 0 → length xs ≤ f → ((k : ℕ) (d : Placed) → k < f → (get_or xs k d).own < least) →
+pub none_left : (xs : List Placed) (least f : ℕ) (group : List Placed) → length group ≡ 0 → length xs ≤ f →
+    ((k : ℕ) (d : Placed) → k < f → (get_or xs k d).own < least) →
     IsNextGroup xs least group
 none_left xs least f group none all below = record {
   among = λ k d inside. absurd (omega (arith, none, inside));
@@ -131,7 +136,8 @@ group_met near group least own g number from x y = (forth, back)
         has_item (λ q. (q.own ≡ own) × Covers q.rect x y) near p found.0 (same, covers)
 
 -- no box has a number that is not below the least and below the group's
-pub none_met : (near group : List Placed) (least u : ℕ) → IsNextGroup near least group → All (λ p. u < p.own) group → least ≤ u → (x y : ℤ) → IsMetAt near u x y → ⊥
+pub none_met : (near group : List Placed) (least u : ℕ) → IsNextGroup near least group → All (λ p. u < p.own) group → least ≤ u → (x y : ℤ) →
+    IsMetAt near u x y → ⊥
 none_met near group least u g above from x y (k, p, within, is, (same, covers)) =
     elim (All-contains (λ q. (q.own < least) ⊎ (Contains group q ⊎ Any (λ h. h.own < q.own) group)) near p g.others (k, within, is)) [
       | inl low ↦ omega (arith, low, same, from)
@@ -199,18 +205,24 @@ moved_boxes f r boxes sorted moved b = record {
           λ ground. met boxes sorted moved team x y ((t.fence team is_fence).0 ground),
           λ h. (t.fence team is_fence).1 (met sorted boxes (IsPermutation-sym boxes sorted moved) team x y h),
         );
-        obstacle = (λ a. met boxes sorted moved (length f.teams) x y (t.obstacle.0 a), λ h. t.obstacle.1 (met sorted boxes (IsPermutation-sym boxes sorted moved) (length f.teams) x y h));
+        obstacle = (
+          λ a. met boxes sorted moved (length f.teams) x y (t.obstacle.0 a),
+          λ h. t.obstacle.1
+              (met sorted boxes (IsPermutation-sym boxes sorted moved) (length f.teams) x y h),
+        );
       };
 }
   where
     met : (xs ys : List Placed) → IsPermutation xs ys → (own : ℕ) (x y : ℤ) → IsMetAt xs own x y → IsMetAt ys own x y
-    met xs ys turned own x y (k, p, within, is, e) = has_item (λ q. (q.own ≡ own) × Covers q.rect x y) ys p (Contains-permutation xs ys p turned (k, within, is)) e
+    met xs ys turned own x y (k, p, within, is, e) = has_item (λ q. (q.own ≡ own) × Covers q.rect x y) ys p
+        (Contains-permutation xs ys p turned (k, within, is)) e
 
 -- no obstacle covers a point of the row exactly where no box of the ground team's number does
 none_of : {P : Rect → Type 0} (rects : List Rect) → (Any P rects → ⊥) → All (λ o. P o → ⊥) rects
 none_of {P} rects never k d within p = never (has_item P rects (get_or rects k d) (Contains-get_or rects k d within) p)
 
-pub clear_spans_of : (f : Frame) (r : Row) (near obstacles : List Placed) (free : List Span) → AreBoxesOf f r near → IsNextGroup near (length f.teams) obstacles →
+pub clear_spans_of : (f : Frame) (r : Row) (near obstacles : List Placed) (free : List Span) → AreBoxesOf f r near →
+    IsNextGroup near (length f.teams) obstacles →
     IsFree (across (row_area f.pitch r)) (map (λ p. across p.rect) obstacles) free → AreClear f r free
 clear_spans_of f r near obstacles free b g is_free = record { rising = is_free.rising; exact = exact }
   where
@@ -249,7 +261,8 @@ clear_spans_of f r near obstacles free b g is_free = record { rising = is_free.r
                 left = e.left;
                 right = e.right;
                 none = λ y covers k d within over.
-                    let a = (b.tell x y covers).obstacle.1 ((met x y).1 (has_item (λ p. Covers p.rect x y) obstacles (get_or obstacles k d) (Contains-get_or obstacles k d within) over)) in
+                    let a = (b.tell x y covers).obstacle.1 ((met x y).1
+                    (has_item (λ p. Covers p.rect x y) obstacles (get_or obstacles k d) (Contains-get_or obstacles k d within) over)) in
                     All-contains (λ o. Covers o x y → ⊥) f.obstacles a.1 (e.clear y covers) (a.0, a.2, a.3) a.4;
               }),
         )
@@ -280,7 +293,8 @@ ground_spans_of f r near free b is_free = record { rising = is_free.rising; exac
         let there : Contains near p = Contains-get_or near k d within in
         elim (fence_or p.own (b.known k d within)) [
           | inl fence ↦
-              let ground : InGround f p.own x y = ((b.tell x y covers).fence p.own fence).1 (has_item (λ q. (q.own ≡ p.own) × Covers q.rect x y) near p there (refl, over)) in
+              let ground : InGround f p.own x y = ((b.tell x y covers).fence p.own fence).1
+              (has_item (λ q. (q.own ≡ p.own) × Covers q.rect x y) near p there (refl, over)) in
               let same : p.own ≡ n = ground_one f p.own n x y ground (o.ground y covers) in
               omega (arith, same, fence)
           | inr same ↦
@@ -309,9 +323,11 @@ ground_spans_of f r near free b is_free = record { rising = is_free.rising; exac
         )
 
 pub fence_spans_of : (f : Frame) (r : Row) (near group : List Placed) (least own : ℕ) (area : Rect) (clear slice covered : List Span) → AreBoxesOf f r near →
-    IsNextGroup near least group → All (λ p. p.own ≡ own) group → least ≤ own → own < length f.teams → AreClear f r clear → area ≡ row_area f.pitch r → slice ≡ clear →
+    IsNextGroup near least group → All (λ p. p.own ≡ own) group → least ≤ own → own < length f.teams → AreClear f r clear → area ≡ row_area f.pitch r →
+    slice ≡ clear →
     IsCoveredOver group area.y1 area.y2 slice covered → AreOpen f r own covered
-fence_spans_of f r near group least own area clear slice covered b g number from fence cl same_area same_slice over = record { rising = co.rising; exact = exact }
+fence_spans_of f r near group least own area clear slice covered b g number from fence cl same_area same_slice over = record
+    { rising = co.rising; exact = exact }
   where
     co : IsCoveredOver group (row_area f.pitch r).y1 (row_area f.pitch r).y2 clear covered
     co =
@@ -339,7 +355,8 @@ fence_spans_of f r near group least own area clear slice covered b g number from
     )
 
 -- a team of which no box lies near the row has no use of it
-pub not_open : (f : Frame) (r : Row) (near group : List Placed) (least u : ℕ) → AreBoxesOf f r near → IsNextGroup near least group → All (λ p. u < p.own) group →
+pub not_open : (f : Frame) (r : Row) (near group : List Placed) (least u : ℕ) → AreBoxesOf f r near → IsNextGroup near least group →
+    All (λ p. u < p.own) group →
     least ≤ u → u < length f.teams → (x : ℤ) → IsOpen f r u x → ⊥
 not_open f r near group least u b g above from fence x o =
     let covers = high_row f r x o.clear.left o.clear.right in
@@ -349,13 +366,15 @@ not_open f r near group least u b g above from fence x o =
 abbrev pub no_box : Placed
 no_box = record { own = 0; rect = record { x1 = pos 0; y1 = pos 0; x2 = pos 0; y2 = pos 0 } }
 
-pub first_number : (group : List Placed) → All (λ p. All (λ q. q.own ≡ p.own) group) group → 0 < length group → All (λ q. q.own ≡ (get_or group 0 no_box).own) group
+pub first_number : (group : List Placed) → All (λ p. All (λ q. q.own ≡ p.own) group) group → 0 < length group →
+    All (λ q. q.own ≡ (get_or group 0 no_box).own) group
 first_number group one some = one 0 no_box some
 
 pub above_all : (group : List Placed) (own u : ℕ) → All (λ q. q.own ≡ own) group → u < own → All (λ p. u < p.own) group
 above_all group own u number less k d within = let same = number k d within in omega (arith, same, less)
 
-pub touch_group : (f : Frame) (r : Row) (near group : List Placed) (least : ℕ) (area : Rect) → AreBoxesOf f r near → IsNextGroup near least group → area ≡ row_area f.pitch r →
+pub touch_group : (f : Frame) (r : Row) (near group : List Placed) (least : ℕ) (area : Rect) → AreBoxesOf f r near → IsNextGroup near least group →
+    area ≡ row_area f.pitch r →
     All (λ p. SharesPoint area p.rect) group
 touch_group f r near group least area b g same k d within =
     subst (λ (a : Rect). SharesPoint a (get_or group k d).rect) (sym same)

@@ -1,10 +1,9 @@
 -- A frame has one list of segments.
-use Rattle.std.proofs.Common.{◌≡◌, ◌⊎◌, inl, inr, ℕ, zero, suc, ℤ, ◌<◌, ◌≤ℤ◌, List, [], ◌∷◌, length, get_or, slice_get, Some, refl, sym, ap, subst, ◌∙◌, arith}
+use Rattle.std.proofs.Common.{◌≡◌, ◌⊎◌, inl, inr, ℕ, zero, suc, ℤ, ◌<◌, List, [], ◌∷◌, length, get_or, slice_get, Some, refl, sym, ap, subst, ◌∙◌, arith}
 use Rattle.std.specs.Prelude.{All, AllPairs, Contains}
 use Rattle.std.proofs.lemmas.Int.{ints}
 use Rattle.std.proofs.lemmas.List.{get_or_default}
 use Rattle.std.proofs.lemmas.List.Elements.{All-contains, All-head, All-tail, All-weaker}
-use Rattle.lf_units.specs.declared.area.Span.{Span}
 use Rattle.lf_spans.specs.Spans.{Holds, IsFilled, LiesIn}
 use Rattle.lf_spans.specs.Steps.{In}
 use Rattle.lf_spans.proofs.Edges.{in_of_lies}
@@ -40,11 +39,13 @@ one_at : (xs : List Segment) (g h : Segment) (x : ℤ) → AllPairs ComesBefore 
     Holds g.span x → Holds h.span x → g ≡ h
 one_at xs g h x pairs (i, within_i, is_g) (j, within_j, is_h) row team in_g in_h = elim order [
   | inl less ↦
-      let before : ComesBefore g h = subst (λ (v : Segment). ComesBefore v h) is_g (subst (λ (v : Segment). ComesBefore (get_or xs i g) v) there (pairs i j g less within_j)) in
+      let before : ComesBefore g h = subst (λ (v : Segment). ComesBefore v h) is_g
+      (subst (λ (v : Segment). ComesBefore (get_or xs i g) v) there (pairs i j g less within_j)) in
       absurd (share_none g h x before row team in_g in_h)
   | inr (inl same) ↦ sym is_g ∙ ap (λ (n : ℕ). get_or xs n g) same ∙ there
   | inr (inr more) ↦
-      let before : ComesBefore h g = subst (λ (v : Segment). ComesBefore v g) there (subst (λ (v : Segment). ComesBefore (get_or xs j g) v) is_g (pairs j i g more within_i)) in
+      let before : ComesBefore h g = subst (λ (v : Segment). ComesBefore v g) there
+      (subst (λ (v : Segment). ComesBefore (get_or xs j g) v) is_g (pairs j i g more within_i)) in
       absurd (share_none h g x before (sym row) (sym team) in_h in_g)
 ]
   where
@@ -67,7 +68,8 @@ in_other : (f : Frame) (a b : List Segment) → IsCut f a → IsCut f b → (g :
 in_other f a b first second g there =
     let known : IsSegment f g = All-contains (IsSegment f) a g first.known there in
     let row = row_there f.rows g.row known.row_known in
-    let wider = (second.exact g.row row.0 g.team g.span row.1 known.filled).1 ((first.exact g.row row.0 g.team g.span row.1 known.filled).0 (itself a g there)) in
+    let wider = (second.exact g.row row.0 g.team g.span row.1 known.filled).1
+    ((first.exact g.row row.0 g.team g.span row.1 known.filled).0 (itself a g there)) in
     let h : Segment = wider.1 in
     let in_b : Contains b h = (wider.0, wider.2, wider.3) in
     let h_known : IsSegment f h = All-contains (IsSegment f) b h second.known in_b in
@@ -80,7 +82,8 @@ in_other f a b first second g there =
     let filled = known.filled in
     let start : Holds g.span g.span.lo = record { low = omega (arith, ints); high = filled } in
     let one : g ≡ back.1 =
-    one_at a g back.1 g.span.lo first.in_order there (back.0, back.2, back.3) (sym back.4.0.in_row) (sym back.4.0.of_team) start (outer g.span.lo (inner g.span.lo start)) in
+    one_at a g back.1 g.span.lo first.in_order there (back.0, back.2, back.3) (sym back.4.0.in_row) (sym back.4.0.of_team) start
+    (outer g.span.lo (inner g.span.lo start)) in
     let outer_g : LiesIn h.span g.span = subst (λ (v : Segment). LiesIn h.span v.span) (sym one) outer in
     let less : In g.span h.span = in_of_lies g.span h.span known.filled inner in
     let more : In h.span g.span = in_of_lies h.span g.span h_known.filled outer_g in
@@ -140,5 +143,6 @@ same_list (x ∷ xs) (y ∷ ys) p q f g forth back =
 
 pub one_cut : (f : Frame) (a b : List Segment) → IsCut f a → IsCut f b → a ≡ b
 one_cut f a b first second =
-    same_list a b first.in_order second.in_order (All-weaker (IsSegment f) Filled (λ g k. k.filled) a first.known) (All-weaker (IsSegment f) Filled (λ g k. k.filled) b second.known)
+    same_list a b first.in_order second.in_order (All-weaker (IsSegment f) Filled (λ g k. k.filled) a first.known)
+    (All-weaker (IsSegment f) Filled (λ g k. k.filled) b second.known)
     (in_other f a b first second) (in_other f b a second first)

@@ -1,19 +1,20 @@
 -- The segments of a row, a team after another, and of a frame, a row after another.
-use Rattle.std.proofs.Common.{◌≡◌, ◌⊎◌, inl, inr, ℕ, zero, suc, ℤ, ◌+◌, ◌-◌, ◌<◌, ◌≤◌, ◌≤ℤ◌, ◌<ℤ◌, List, [], ◌∷◌, ◌++◌, length, map, get_or, slice_get, Some, refl, sym, ap, subst, ◌∙◌, arith, append_assoc, append-nil}
-use Rattle.std.specs.Prelude.{◌↔◌, All, AllPairs, Any, Contains}
+use Rattle.std.proofs.Common.{◌≡◌, ◌⊎◌, inl, inr, ℕ, ℤ, ◌+◌, ◌-◌, ◌<◌, ◌≤◌, List, [], ◌++◌}
+use Rattle.std.proofs.Common.{length, map, get_or, slice_get, Some, refl, sym, ap, subst, ◌∙◌, arith, append_assoc, append-nil}
+use Rattle.std.specs.Prelude.{◌↔◌, All, AllPairs}
 use Rattle.std.proofs.Math.ListN.{get_or-map}
 use Rattle.std.proofs.lemmas.Int.{ints}
 use Rattle.std.proofs.lemmas.Option.{slice_get_within}
 use Rattle.std.proofs.lemmas.List.{get_or_default, get_or_append_left, get_or-append_right, length-append, length-map}
 use Rattle.std.proofs.lemmas.List.Elements.{All-nil, All-append, All-weaker, All-map}
 use Rattle.lf_units.specs.declared.area.Span.{Span}
-use Rattle.lf_units.proofs.Any.{any_parts, any_left, any_right, any_map, any_mapped, none_of_nothing}
-use Rattle.lf_spans.specs.Spans.{Holds, IsFilled, LiesIn, LiesInOne, IsRising}
+use Rattle.lf_units.proofs.Any.{any_parts, any_left, any_right, any_map, any_mapped}
+use Rattle.lf_spans.specs.Spans.{Holds, IsFilled, LiesIn, LiesInOne}
 use Rattle.lf_floorplan.specs.declared.frame.Frame.{Frame}
 use Rattle.lf_floorplan.specs.declared.parts.Row.{Row}
 use Rattle.lf_segments.specs.declared.segment.Segment.{Segment}
 use Rattle.lf_segments.specs.Segments.{IsOpen, IsOf, LiesInSegment, ComesFirst, ComesBefore, IsSegment, IsCut}
-use Rattle.lf_segments.specs.Boxes.{segment_of, IsCutOfRow, AreOpen, AddsRow}
+use Rattle.lf_segments.specs.Boxes.{segment_of, AreOpen, AddsRow}
 
 -- pairs of two lists, one behind the other
 pairs_append : {X : Type 0} (R : X → X → Type 0) (xs ys : List X) → AllPairs R xs → AllPairs R ys →
@@ -103,7 +104,8 @@ row_skip f number r limit more old new a order none = record {
     others u from k d within of = let low = (a.cut.known k d within).1.0 in let same = of.of_team in omega (arith, low, same, from)
 
 -- the next team
-pub row_more : (f : Frame) (number : ℕ) (r : Row) (own : ℕ) (old new newer : List Segment) (spans : List Span) → AddsRow f number r own old new → AreOpen f r own spans →
+pub row_more : (f : Frame) (number : ℕ) (r : Row) (own : ℕ) (old new newer : List Segment) (spans : List Span) → AddsRow f number r own old new →
+    AreOpen f r own spans →
     newer ≡ new ++ map (segment_of number own) spans → AddsRow f number r (own + 1) old newer
 row_more f number r own old new newer spans a open_spans is = record {
   added = a.added ++ more;
@@ -162,7 +164,8 @@ row_more f number r own old new newer spans a open_spans is = record {
     mapped_pairs i j d less within =
         let j_in = in_spans j within in
         let i_in : i < length spans = omega (arith, less, j_in) in
-        let there : ComesFirst (segment_of number own (get_or spans i d.span)) (segment_of number own (get_or spans j d.span)) = inr (refl, open_spans.rising.apart i j d.span less j_in) in
+        let there : ComesFirst (segment_of number own (get_or spans i d.span)) (segment_of number own (get_or spans j d.span)) = inr
+        (refl, open_spans.rising.apart i j d.span less j_in) in
         subst (λ (g : Segment). ComesFirst g (get_or more j d)) (sym (at i d i_in))
         (subst (λ (g : Segment). ComesFirst (segment_of number own (get_or spans i d.span)) g) (sym (at j d j_in)) there)
 
@@ -236,7 +239,8 @@ cut_more f n r old new is_row is_team c a = subst (IsCutTo f (n + 1)) (sym a.is)
     of_added u s filled = elim (team_or u) [
       | inl low ↦ a.cut.exact u s low filled
       | inr high ↦ (
-        λ h. absurd (no_team (λ g. IsFilled g.span) a.added n u s (λ k d within of. let low = (a.cut.known k d within).1.0 in let same = of.of_team in omega (arith, low, same, high)) h),
+        λ h. absurd (no_team (λ g. IsFilled g.span) a.added n u s
+            (λ k d within of. let low = (a.cut.known k d within).1.0 in let same = of.of_team in omega (arith, low, same, high)) h),
         λ each. absurd (nothing_open f r u s (λ x o. let low = is_team u x o in omega (arith, low, high)) filled each),
       )
     ]

@@ -1,15 +1,17 @@
 -- Runs of a list, found by bisection.
-use Rattle.std.proofs.Common.{◌≡◌, ◌⊎◌, inl, inr, ℕ, zero, suc, ℤ, ◌+◌, ◌-◌, ◌<◌, ◌≤◌, ◌≤ℤ◌, ◌<ℤ◌, true, false, List, [], ◌∷◌, ◌++◌, length, get_or, take, drop, refl, sym, ap, subst, ◌∙◌, arith, append_assoc, ltb, leb}
+use Rattle.std.proofs.Common.{◌≡◌, ◌⊎◌, inl, inr, ℕ, ℤ, ◌+◌, ◌<◌, ◌≤◌, ◌≤ℤ◌, ◌<ℤ◌, true, false, List}
+use Rattle.std.proofs.Common.{◌++◌, length, get_or, take, drop, sym, ap, subst, ◌∙◌, arith, append_assoc, ltb, leb}
 use Rattle.std.specs.Prelude.{All, AllPairs, Contains}
 use Rattle.std.specs.List.Sorted.{IsNonDecreasingBy, IsPartitionPoint}
 use Rattle.std.proofs.lemmas.Int.{ints, by_lt_z}
 use Rattle.std.proofs.lemmas.Bool.Decides.{nat_tests}
-use Rattle.std.proofs.lemmas.List.{get_or_default, get_or-take, get_or-drop, length-take, length-drop, take-append-drop, get_or_append_left, get_or-append-add, length-append}
-use Rattle.std.proofs.lemmas.List.Elements.{All-append, All-weaker, All-contains, Contains-get_or, Contains-append_left, Contains-append_right, Contains-append_cases}
-use Rattle.lf_units.specs.declared.area.Span.{Span}
-use Rattle.lf_spans.specs.Spans.{Holds, IsFilled}
+use Rattle.std.proofs.lemmas.List.{get_or_default, get_or-take, get_or-drop, length-take, length-drop}
+use Rattle.std.proofs.lemmas.List.{take-append-drop, get_or_append_left, get_or-append-add, length-append}
+use Rattle.std.proofs.lemmas.List.Elements.{All-append, All-weaker, All-contains, Contains-get_or}
+use Rattle.std.proofs.lemmas.List.Elements.{Contains-append_left, Contains-append_right, Contains-append_cases}
+use Rattle.lf_spans.specs.Spans.{IsFilled}
 use Rattle.lf_segments.specs.declared.segment.Segment.{Segment}
-use Rattle.lf_segments.specs.Segments.{ComesBefore, ComesFirst, IsAt, IsOf, IsRunFrom}
+use Rattle.lf_segments.specs.Segments.{ComesBefore, IsAt, IsOf, IsRunFrom}
 
 -- what a bisection by a number tells of what stands before it and behind it
 pub below_point : {X : Type 0} (n : X → ℕ) (xs : List X) (t f : ℕ) → IsPartitionPoint (λ x. ltb (n x) t ≡ true) (λ x. ltb (n x) t ≡ false) xs f →
@@ -95,7 +97,8 @@ run_within P Q R xs ys zs m n both first second a b = record {
 }
 
 -- an element of a run, by its place in the list
-pub run_get : (P : Segment → Type 0) (xs ys : List Segment) (n : ℕ) → IsRunFrom P xs n ys → (k : ℕ) (d : Segment) → k < length ys → get_or xs (n + k) d ≡ get_or ys k d
+pub run_get : (P : Segment → Type 0) (xs ys : List Segment) (n : ℕ) → IsRunFrom P xs n ys → (k : ℕ) (d : Segment) → k < length ys →
+    get_or xs (n + k) d ≡ get_or ys k d
 run_get P xs ys n a k d within =
     let At : ℕ → Type 0 = λ m. get_or (a.before ++ (ys ++ a.behind)) (m + k) d ≡ get_or ys k d in
     let there : get_or (a.before ++ (ys ++ a.behind)) (n + k) d ≡ get_or ys k d =
@@ -216,7 +219,8 @@ none_between run row team k x e pairs filled ended inside before g (m, within, i
     order = grind arith
 
 -- none of a list where none of its run
-pub none_of_run : (xs run : List Segment) (row team n : ℕ) (x : ℤ) → IsRunFrom (IsOf row team) xs n run → ((g : Segment) → Contains run g → IsAt row team x g → ⊥) →
+pub none_of_run : (xs run : List Segment) (row team n : ℕ) (x : ℤ) → IsRunFrom (IsOf row team) xs n run →
+    ((g : Segment) → Contains run g → IsAt row team x g → ⊥) →
     All (λ g. IsAt row team x g → ⊥) xs
 none_of_run xs run row team n x a none k d within at =
     none (get_or xs k d) (in_run (IsOf row team) xs run n (get_or xs k d) a (Contains-get_or xs k d within) at.of) at

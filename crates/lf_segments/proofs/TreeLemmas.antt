@@ -1,10 +1,11 @@
 -- The boxes of a frame that are found near a row tell of the row's points.
-use Rattle.std.proofs.Common.{◌≡◌, ◌⊎◌, inl, inr, ℕ, zero, suc, ℤ, ◌+◌, ◌<◌, ◌≤◌, List, [], ◌∷◌, ◌++◌, length, map, get_or, slice_get, Option, Some, None, refl, sym, ap, subst, ◌∙◌, arith}
-use Rattle.std.specs.Prelude.{◌↔◌, All, Any, Contains, IsPermutation}
+use Rattle.std.proofs.Common.{◌≡◌, ◌⊎◌, inl, inr, ℕ, zero, suc, ℤ, ◌+◌, ◌<◌, ◌≤◌, List, [], ◌∷◌, length}
+use Rattle.std.proofs.Common.{map, get_or, slice_get, Option, Some, None, refl, sym, ap, subst, ◌∙◌, arith}
+use Rattle.std.specs.Prelude.{Any, Contains, IsPermutation}
 use Rattle.std.proofs.Math.ListN.{get_or-map}
 use Rattle.std.proofs.lemmas.Option.{slice_get_within, slice_get-get_or}
 use Rattle.std.proofs.lemmas.List.{length-map}
-use Rattle.std.proofs.lemmas.List.Elements.{All-contains, Contains-get_or, Contains-append_left, Contains-append_right, Contains-append_cases}
+use Rattle.std.proofs.lemmas.List.Elements.{All-contains, Contains-append_left, Contains-append_right, Contains-append_cases}
 use Rattle.std.proofs.lemmas.List.Sorted.{Contains-permutation, IsPermutation-sym}
 use Rattle.lf_units.specs.declared.area.Rect.{Rect}
 use Rattle.lf_units.specs.Area.{Covers, SharesPoint, CoveredBy}
@@ -17,7 +18,7 @@ use Rattle.lf_floorplan.specs.declared.parts.Row.{Row}
 use Rattle.lf_floorplan.specs.declared.parts.Team.{Team}
 use Rattle.lf_floorplan.specs.Rows.{row_area}
 use Rattle.lf_floorplan.specs.Ground.{InGround}
-use Rattle.lf_segments.specs.Boxes.{numbered, fence_boxes, frame_boxes, IsMetAt, Tell, AreBoxesOf}
+use Rattle.lf_segments.specs.Boxes.{numbered, fence_boxes, frame_boxes, IsMetAt, AreBoxesOf}
 
 -- ---- what a list of boxes holds
 
@@ -98,7 +99,8 @@ fence_there_at f t x y fence ground = by (slice_get f.teams t) refl
     by : (o : Option Team) → slice_get f.teams t ≡ o → IsMetAt (frame_boxes f) t x y
     by (Some team) is =
         let covered : CoveredBy team.rects x y = rw is at ground in
-        let there : Contains (fence_boxes 0 f.teams) (numbered (0 + t) covered.1) = fence_there 0 f.teams t team covered.1 is (covered.0, covered.2, covered.3) in
+        let there : Contains (fence_boxes 0 f.teams) (numbered (0 + t) covered.1) = fence_there 0 f.teams t team covered.1 is
+        (covered.0, covered.2, covered.3) in
         let number : 0 + t ≡ t = omega arith in
         has_item (λ p. (p.own ≡ t) × Covers p.rect x y) (frame_boxes f) (numbered (0 + t) covered.1)
         (Contains-append_left (fence_boxes 0 f.teams) (map (numbered (length f.teams)) f.obstacles) (numbered (0 + t) covered.1) there) (number, covered.4)
@@ -133,7 +135,8 @@ obstacle_of_met f x y (k, p, within, at, (own, covers)) = elim (of_frame f p (k,
 
 -- ---- what is found near a row
 
-pub boxes_near : (f : Frame) (r : Row) (boxes tree near : List Placed) (rect : Rect) → IsPermutation (frame_boxes f) boxes → tree ≡ boxes → rect ≡ row_area f.pitch r →
+pub boxes_near : (f : Frame) (r : Row) (boxes tree near : List Placed) (rect : Rect) → IsPermutation (frame_boxes f) boxes → tree ≡ boxes →
+    rect ≡ row_area f.pitch r →
     AreNear tree rect near → AreBoxesOf f r near
 boxes_near f r boxes tree near rect moved same_tree same_rect found = record {
   known = λ k d within. known_of f (get_or near k d) (back (get_or near k d) (only_near boxes area near are k d within).0);
@@ -163,7 +166,8 @@ boxes_near f r boxes tree near rect moved same_tree same_rect found = record {
 
     unmet : (own : ℕ) (x y : ℤ) → IsMetAt near own x y → IsMetAt (frame_boxes f) own x y
     unmet own x y (k, p, within, is, e) =
-        let there : Contains boxes p = (All-contains (λ q. Contains boxes q × SharesPoint area q.rect) near p (only_near boxes area near are) (k, within, is)).0 in
+        let there : Contains boxes p = (All-contains (λ q. Contains boxes q × SharesPoint area q.rect) near p (only_near boxes area near are)
+        (k, within, is)).0 in
         has_item (λ q. (q.own ≡ own) × Covers q.rect x y) (frame_boxes f) p (back p there) e
 
 -- ---- teams that may use a row are teams

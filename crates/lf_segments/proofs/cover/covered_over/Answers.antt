@@ -1,8 +1,5 @@
-use Rattle.std.proofs.Common.{◌≤ℤ◌, ◌<ℤ◌, List, get_or, subst, refl, arith}
+use Rattle.std.proofs.Common.{refl, arith}
 use Rattle.std.proofs.lemmas.Bool.{false≢true}
-use Rattle.std.proofs.lemmas.Int.{ints}
-use Rattle.lf_units.specs.declared.area.Span.{Span}
-use Rattle.lf_segments.specs.Boxes.{IsCoveredAt}
 use Rattle.lf_segments.proofs.CoverLemmas.{covers_start, covers_skip, covers_more, covers_end, above_of, below_of}
 use Rattle.lf_segments.proofs.cover.covered_over.Goals as goal
 
@@ -17,7 +14,8 @@ loop-placed-preserved-then-not-ends_below c =
 
 pub loop-placed-preserved : goal.loop-placed-preserved
 loop-placed-preserved c =
-    covers_more c.args.boxes.now c.args.area.now.y1 c.args.area.now.y2 c.args.free.now c.loop-placed.covered.items c.as_slice.result.now c.in_ok-covered-2.covered.items
+    covers_more c.args.boxes.now c.args.area.now.y1 c.args.area.now.y2 c.args.free.now c.loop-placed.covered.items c.as_slice.result.now
+    c.in_ok-covered-2.covered.items
     c.loop-placed.placed-index _ (omega arith) c.loop-placed.invariant (below_of _ _ (c.requires.near c.loop-placed.placed-index _ (omega arith)))
     (c.if-not-ends_below.ensures.0 refl) c.as_slice.ensures.value c.in_ok-covered-2.ensures
 

@@ -1,4 +1,4 @@
-use Rattle.std.proofs.Common.{◌≡◌, ℕ, ◌<◌, ◌≤◌, ◌++◌, List, length, map, get_or, subst, sym, ap, ◌∙◌, arith, rules}
+use Rattle.std.proofs.Common.{◌≡◌, ℕ, ◌<◌, ◌≤◌, ◌++◌, List, length, map, get_or, subst, ap, ◌∙◌, arith, rules}
 use Rattle.lf_units.specs.declared.area.Span.{Span}
 use Rattle.lf_segments.specs.Boxes.{segment_of, AddsRow}
 use Rattle.lf_segments.proofs.GroupLemmas.{no_box, first_number, above_all, not_open, fence_spans_of, touch_group, area_high}
@@ -49,13 +49,16 @@ loop-team-preserved c =
     let fence : own < length f.teams = omega arith in
     let up_to =
     row_skip f c.args.number r c.loop-team.team own c.args.segments.now.items c.loop-team.segments.items c.loop-team.invariant.1 from
-    (λ u least low x. not_open f r near group c.loop-team.team u c.requires.boxes c.next_group-group.ensures (above_all group own u number low) least (omega (arith, low, fence)) x) in
+    (λ u least low x. not_open f r near group c.loop-team.team u c.requires.boxes c.next_group-group.ensures (above_all group own u number low) least
+    (omega (arith, low, fence)) x) in
     let spans =
-    fence_spans_of f r near group c.loop-team.team own c.area-area.result c.in_ok-clear.clear.items c.as_slice.result.now c.in_ok-spans.spans.items c.requires.boxes
+    fence_spans_of f r near group c.loop-team.team own c.area-area.result c.in_ok-clear.clear.items c.as_slice.result.now c.in_ok-spans.spans.items
+    c.requires.boxes
     c.next_group-group.ensures number from fence c.in_ok-clear.ensures c.area-area.ensures c.as_slice.ensures.value c.in_ok-spans.ensures in (
       omega (arith, fence),
       row_more f c.args.number r own c.args.segments.now.items c.loop-team.segments.items c.push_spans.new.segments.items c.in_ok-spans.spans.items up_to spans
-          (c.in_ok-push_spans.ensures ∙ ap (λ (xs : List Span). c.loop-team.segments.items ++ map (segment_of c.args.number own) xs) c.as_slice-in-loop-team.ensures.value),
+          (c.in_ok-push_spans.ensures ∙ ap (λ (xs : List Span). c.loop-team.segments.items ++ map (segment_of c.args.number own) xs)
+          c.as_slice-in-loop-team.ensures.value),
     )
 
 pub returns : goal.returns

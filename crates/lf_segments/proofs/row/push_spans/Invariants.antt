@@ -4,4 +4,5 @@ use Rattle.lf_segments.proofs.row.push_spans.Given as goal
 
 -- the segments so far, followed by those of the spans that are left, are all
 abbrev pub invariant-loop-span : goal.invariant-loop-span
-invariant-loop-span l = l.segments.items ++ map (segment_of l.row l.team) (drop l.span-index l.spans) ≡ l.initial.segments.items ++ map (segment_of l.row l.team) l.spans
+invariant-loop-span l = l.segments.items ++ map (segment_of l.row l.team) (drop l.span-index l.spans) ≡ l.initial.segments.items ++ map
+    (segment_of l.row l.team) l.spans

@@ -7,10 +7,12 @@ pub returns-clause-ended : goal.returns-clause-ended
 returns-clause-ended c =
     let x = c.args.x.now in
     ended_point c.args.segments.now x c.partition_point.result
-    (IsPartitionPoint-from_clause (λ g. int_le g.span.hi x) _ _ c.partition_point.ensures.partitioned (parted c.args.segments.now x c.requires) (λ a r q k. search rules))
+    (IsPartitionPoint-from_clause (λ g. int_le g.span.hi x) _ _ c.partition_point.ensures.partitioned (parted c.args.segments.now x c.requires)
+    (λ a r q k. search rules))
 
 pub returns-clause-rest : goal.returns-clause-rest
 returns-clause-rest c =
     let x = c.args.x.now in
     rest_point c.args.segments.now x c.partition_point.result
-    (IsPartitionPoint-from_clause (λ g. int_le g.span.hi x) _ _ c.partition_point.ensures.partitioned (parted c.args.segments.now x c.requires) (λ a r q k. search rules))
+    (IsPartitionPoint-from_clause (λ g. int_le g.span.hi x) _ _ c.partition_point.ensures.partitioned (parted c.args.segments.now x c.requires)
+    (λ a r q k. search rules))

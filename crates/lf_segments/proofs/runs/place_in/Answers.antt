@@ -29,7 +29,8 @@ returns-then-begins_behind c =
     none_of_run xs run c.args.row c.args.team n c.args.x.now c.run_of-run.ensures
     (none_between run c.args.row c.args.team c.count_ended-k.result c.args.x.now _
     (xs_rise run c.args.row c.args.team (run_pairs ComesBefore P xs run n c.requires.order c.run_of-run.ensures) c.run_of-run.ensures.has)
-    (run_all (λ g. IsFilled g.span) P xs run n c.requires.filled c.run_of-run.ensures) c.count_ended-k.ensures.ended (omega arith) (c.if-begins_behind.ensures.0 refl))
+    (run_all (λ g. IsFilled g.span) P xs run n c.requires.filled c.run_of-run.ensures) c.count_ended-k.ensures.ended (omega arith)
+    (c.if-begins_behind.ensures.0 refl))
 
 pub returns : goal.returns
 returns c =
