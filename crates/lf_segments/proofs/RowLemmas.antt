@@ -57,8 +57,8 @@ of_map number team spans row u s a =
     let at : IsOf row u (segment_of number team b.1) = b.4.0 in
     (at.in_row, at.of_team, (b.0, b.1, b.2, b.3, b.4.1))
 
-no_team : (P : Segment → Type 0) (xs : List Segment) (row u : ℕ) (s : Span) → All (λ g. IsOf row u g → ⊥) xs → LiesInSegment xs row u s → ⊥
-no_team P xs row u s none a = none a.0 a.1 a.2 (subst (IsOf row u) (sym a.3) a.4.0)
+no_team : (xs : List Segment) (row u : ℕ) (s : Span) → All (λ g. IsOf row u g → ⊥) xs → LiesInSegment xs row u s → ⊥
+no_team xs row u s none a = none a.0 a.1 a.2 (subst (IsOf row u) (sym a.3) a.4.0)
 
 -- where a team may use nothing, no span that holds a number is its
 nothing_open : (f : Frame) (r : Row) (u : ℕ) (s : Span) → ((x : ℤ) → IsOpen f r u x → ⊥) → IsFilled s → ((x : ℤ) → Holds s x → IsOpen f r u x) → ⊥
@@ -90,7 +90,7 @@ row_skip f number r limit more old new a order none = record {
     exact = λ u s low filled. elim (side u) [
       | inl below ↦ a.cut.exact u s below filled
       | inr from ↦ (
-        λ h. absurd (no_team (λ g. IsFilled g.span) a.added number u s (others u from) h),
+        λ h. absurd (no_team a.added number u s (others u from) h),
         λ each. absurd (nothing_open f r u s (none u from low) filled each),
       )
     ];
@@ -125,7 +125,7 @@ row_more f number r own old new newer spans a open_spans is = record {
           )
       | inr same ↦ subst (λ (t : ℕ). LiesInSegment (a.added ++ more) number t s ↔ ((x : ℤ) → Holds s x → IsOpen f r t x)) same (
         λ h. elim (any_parts (Lies own s) a.added more h) [
-          | inl early ↦ absurd (no_team (λ g. IsFilled g.span) a.added number own s others early)
+          | inl early ↦ absurd (no_team a.added number own s others early)
           | inr late ↦ (open_spans.exact s filled).0 (of_map number own spans number own s late).2
         ],
         λ each. any_right (Lies own s) a.added more (in_map number own spans s ((open_spans.exact s filled).1 each)),
@@ -183,13 +183,6 @@ pub record IsCutTo (f : Frame) (n : ℕ) (segments : List Segment) : Type 0 wher
   pub exact : (m : ℕ) (r : Row) (team : ℕ) (s : Span) → m < n → slice_get f.rows m ≡ Some r → IsFilled s →
       (LiesInSegment segments m team s ↔ ((x : ℤ) → Holds s x → IsOpen f r team x))
 
-pub cut_none : (f : Frame) → IsCutTo f 0 []
-cut_none f = record {
-  known = All-nil (λ (g : Segment). (g.row < 0) × ((g.team ≤ length f.teams) × IsFilled g.span));
-  in_order = λ i j d less within. absurd (omega (arith, within));
-  exact = λ m r team s low. absurd (omega (arith, low));
-}
-
 pub cut_more : (f : Frame) (n : ℕ) (r : Row) (old new : List Segment) → slice_get f.rows n ≡ Some r → ((u : ℕ) (x : ℤ) → IsOpen f r u x → u ≤ length f.teams) →
     IsCutTo f n old → AddsRow f n r (length f.teams + 1) old new → IsCutTo f (n + 1) new
 cut_more f n r old new is_row is_team c a = subst (IsCutTo f (n + 1)) (sym a.is) record {
@@ -239,7 +232,7 @@ cut_more f n r old new is_row is_team c a = subst (IsCutTo f (n + 1)) (sym a.is)
     of_added u s filled = elim (team_or u) [
       | inl low ↦ a.cut.exact u s low filled
       | inr high ↦ (
-        λ h. absurd (no_team (λ g. IsFilled g.span) a.added n u s
+        λ h. absurd (no_team a.added n u s
             (λ k d within of. let low = (a.cut.known k d within).1.0 in let same = of.of_team in omega (arith, low, same, high)) h),
         λ each. absurd (nothing_open f r u s (λ x o. let low = is_team u x o in omega (arith, low, high)) filled each),
       )
@@ -248,7 +241,7 @@ cut_more f n r old new is_row is_team c a = subst (IsCutTo f (n + 1)) (sym a.is)
     here : (u : ℕ) (s : Span) → IsFilled s → (LiesInSegment (old ++ a.added) n u s ↔ ((x : ℤ) → Holds s x → IsOpen f r u x))
     here u s filled = (
       λ h. elim (any_parts (Lies n u s) old a.added h) [
-        | inl early ↦ absurd (no_team (λ g. IsFilled g.span) old n u s (not_old u) early)
+        | inl early ↦ absurd (no_team old n u s (not_old u) early)
         | inr late ↦ (of_added u s filled).0 late
       ],
       λ each. any_right (Lies n u s) old a.added ((of_added u s filled).1 each),
@@ -261,7 +254,7 @@ cut_more f n r old new is_row is_team c a = subst (IsCutTo f (n + 1)) (sym a.is)
           let old_one = c.exact m q team s below is filled in (
             λ h. elim (any_parts (Lies m team s) old a.added h) [
               | inl early ↦ old_one.0 early
-              | inr late ↦ absurd (no_team (λ g. IsFilled g.span) a.added m team s (not_added m team below) late)
+              | inr late ↦ absurd (no_team a.added m team s (not_added m team below) late)
             ],
             λ each. any_left (Lies m team s) old a.added (old_one.1 each),
           )
