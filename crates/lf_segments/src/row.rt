@@ -1,15 +1,15 @@
 //! The segments of one row.
 
-ghost use Rattle.std.specs.Prelude.{◌≡◌, ◌+◌, ◌<◌, ◌≤◌, ◌++◌, IfOk, OnOk, ℕ, All, IsPermutation, length, map, slice_index_or};
+ghost use Rattle.std.specs.Prelude.{◌≡◌, ◌+◌, ◌<◌, ◌≤◌, ◌++◌, IfOk, OnOk, ℕ, IsPermutation, length, map, slice_index_or};
 ghost use Rattle.lf_rtree.specs.declared.placed.Placed.{Placed};
-ghost use Rattle.lf_floorplan.specs.Rows.{IsHeeded, row_area};
+ghost use Rattle.lf_floorplan.specs.Rows.{IsHeeded};
 ghost use Rattle.lf_segments.specs.Boxes.{segment_of, AddsRow, AreBoxesOf, AreClear, AreOpen, AreSorted, IsNextGroup};
 
 use crate::cover::{covered_over, free_beside};
 use crate::segment::Segment;
 use lf_floorplan::{Frame, Row};
 use lf_rtree::Placed;
-use lf_units::{Rect, Span};
+use lf_units::Span;
 use std::alloc::{AllocError, Global};
 
 /// Puts spans behind the segments, as those of a row and a team.

@@ -5,7 +5,7 @@ ghost use Rattle.std.specs.List.{HoldsAt};
 ghost use Rattle.std.specs.List.Sorted.{IsNonDecreasingBy};
 ghost use Rattle.lf_spans.specs.Spans.{IsFilled};
 ghost use Rattle.lf_segments.specs.declared.segment.Segment.{Segment};
-ghost use Rattle.lf_segments.specs.Segments.{ComesBefore, ComesFirst, IsAt, IsOf, IsRunFrom};
+ghost use Rattle.lf_segments.specs.Segments.{ComesBefore, IsAt, IsOf, IsRunFrom};
 
 use crate::segment::Segment;
 
