@@ -6,3 +6,4 @@ pub mod GroupLemmas
 pub mod RowLemmas
 pub mod TreeLemmas
 pub mod OneLemmas
+pub mod HeightLemmas

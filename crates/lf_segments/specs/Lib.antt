@@ -1,3 +1,4 @@
 pub mod Segments
 pub mod Boxes
 pub mod Laws
+pub mod RowsByY
