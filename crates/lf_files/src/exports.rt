@@ -1,14 +1,25 @@
 //! Where exported texts go.
 
-ghost use Rattle.std.specs.Prelude.{◌≡◌, ℕ, List, Option, None, OnErr, OnOk};
+ghost use Rattle.std.specs.Prelude.{◌≡◌, ◌↔◌, ℕ, List, Option, None, IsOk, OnErr, OnOk};
 ghost use Rattle.lf_files.specs.Shelf.{Put, Puts};
 
 use crate::replacing::{is_special, replace, write_through};
+use std::io;
 use std::rt::Files;
 
 /// A text was not put into its file, which is as it was.
 #[derive(Clone, Copy, Debug, PartialEq, Eq)]
 pub struct Unwritten;
+
+/// What is told of a text that was written, or was not.
+fn told(written: io::Result<()>) -> Result<(), Unwritten>
+    ensures { IsOk result ↔ IsOk written }
+{
+    match written {
+        Ok(()) => Ok(()),
+        Err(_) => Err(Unwritten),
+    }
+}
 
 /// Where exported texts go, by the paths of their files.
 pub trait Exports {
@@ -41,9 +52,6 @@ impl<'a, T: Files + AllocGlobal> Exports for FileExports<'a, T> {
         } else {
             replace(self.files, path, text)
         };
-        match written {
-            Ok(()) => Ok(()),
-            Err(_) => Err(Unwritten),
-        }
+        told(written)
     }
 }

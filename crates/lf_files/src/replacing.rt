@@ -1,5 +1,8 @@
 //! How a file is replaced: the text is written to a new file beside it, which then takes its name.
 
+ghost use Rattle.std.specs.Prelude.{OnOk};
+ghost use Rattle.std.specs.Io.KnownBytes.{Appends};
+
 use itoa::Buffer;
 use std::alloc::Global;
 use std::fs::{File, OpenFile, OpenOptions};
@@ -41,7 +44,9 @@ fn name_beside(alloc: Global, target: &str, number: u32) -> io::Result<String> {
 }
 
 /// Writes the text to the new file, sees to it that it is stored, and gives the file the older one's permissions.
-fn fill<T: Files>(files: &T, target: &str, file: &mut T::File, text: &[u8]) -> io::Result<()> {
+fn fill<T: Files>(files: &T, target: &str, file: &mut T::File, text: &[u8]) -> io::Result<()>
+    ensures { OnOk result (Appends (⟦<T::File as Write>⟧.contents file.old) (⟦<T::File as Write>⟧.contents file.new) text.now) }
+{
     file.write_all(text)?;
     if let Ok(older) = fs::metadata(files, target) {
         file.set_permissions(older.permissions())?;

@@ -18,6 +18,8 @@ mod orientations;
 #[cfg(test)]
 mod sessions;
 #[cfg(test)]
+mod spans;
+#[cfg(test)]
 mod tokens;
 #[cfg(test)]
 mod undo;

@@ -1,4 +1,4 @@
-//! Whole points, rectangles and spans.
+//! Whole points and rectangles.
 
 ghost use Rattle.std.specs.Prelude.{ℤ, ◌↔◌, ◌≤ℤ◌, ◌<ℤ◌, IsTrue};
 ghost use Rattle.lf_units.specs.Area.{SharesPoint, Covers};
@@ -19,13 +19,6 @@ pub struct Rect {
     pub y1: i64,
     pub x2: i64,
     pub y2: i64,
-}
-
-/// The whole numbers from lo on and below hi, in database units: a stretch along one axis.
-#[derive(Clone, Copy, Debug, PartialEq, Eq)]
-pub struct Span {
-    pub lo: i64,
-    pub hi: i64,
 }
 
 impl Rect {

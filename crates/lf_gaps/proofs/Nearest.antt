@@ -1,0 +1,344 @@
+-- The nearest number for a list of spans from those of its parts.
+use Rattle.std.proofs.Common.{◌≡◌, ℕ, ◌+◌, ◌-◌, ◌<◌, ◌≤◌, ℤ, pos, ◌+ℤ◌, ◌-ℤ◌, ◌≤ℤ◌, ◌<ℤ◌, ◌⊎◌, inl, inr, List, [], ◌∷◌, ◌++◌, length, get_or, take, drop, Option, Some, None, Vec, Global, map, sym, ◌∙◌, subst, arith, add-one, drop-cons}
+use Rattle.std.specs.Prelude.{All, Any, IsSomeAnd}
+use Rattle.std.proofs.lemmas.Int.{ints}
+use Rattle.std.proofs.lemmas.List.{get_or_default, get_or-take, get_or-drop, length-take, length-drop, take_more, take_all}
+use Rattle.std.proofs.lemmas.List.Elements.{All-drop}
+use Rattle.std.proofs.lemmas.List.Quantifiers.{Any-push}
+use Rattle.lf_spans.specs.declared.span.Span.{Span}
+use Rattle.lf_spans.specs.Spans.{IsFilled, LiesIn, LiesInOne, IsRising, IsMeetAll}
+use Rattle.lf_spans.specs.Steps.{In}
+use Rattle.lf_spans.proofs.Anys.{any_cases, any_head, any_tail, any_left, any_split, any_weaker, all_at}
+use Rattle.lf_spans.proofs.Edges.{InOne, in_of_lies, in_one_of_lies, rising_drop}
+use Rattle.lf_spans.specs.declared.grid.Grid.{Grid}
+use Rattle.lf_gaps.specs.declared.row.Wanted.{Wanted}
+use Rattle.lf_spans.specs.Grids.{FindsNearest, FitsSpan, IsBoundedSpan, IsNoFarther, IsWithin, distance}
+use Rattle.lf_gaps.specs.Gaps.{FitsRows}
+use Rattle.lf_gaps.specs.Steps.{FitsOne, IsBefore, IsNearerOf, IsPast}
+
+along : (t x y z : ℤ) → IsNoFarther t x y → IsNoFarther t y z → IsNoFarther t x z
+along t x y z (inl a) (inl b) = inl (omega (arith, a, b))
+along t x y z (inl a) (inr b) = inl (omega (arith, a, b.0))
+along t x y z (inr a) (inl b) = inl (omega (arith, a.0, b))
+along t x y z (inr a) (inr b) = inr (a.0 ∙ b.0, omega (arith, ints, a.1, b.1))
+
+-- the nearer of two that are each the nearest of some numbers is the nearest of both
+pub nearest_of_both : (F G H : ℤ → Type 0) (t : ℤ) (a b found : Option ℤ) → FindsNearest F t a → FindsNearest G t b → IsNearerOf a b t found →
+    ((x : ℤ) → H x → F x ⊎ G x) → ((x : ℤ) → F x → H x) → ((x : ℤ) → G x → H x) → FindsNearest H t found
+nearest_of_both F G H t None None None p q n split left right = λ x h. elim (split x h) [ inl f ↦ p x f | inr g ↦ q x g ]
+nearest_of_both F G H t None None (Some z) p q n split left right = elim n.from [ inl e ↦ absurd cc | inr e ↦ absurd cc ]
+nearest_of_both F G H t None (Some y) None p q n split left right = absurd n.second
+nearest_of_both F G H t (Some x) b None p q n split left right = absurd n.first
+nearest_of_both F G H t None (Some y) (Some z) p q n split left right = record {
+  fit = elim n.from [ inl e ↦ absurd cc | inr e ↦ let same : y ≡ z = cc in subst H same (right y q.fit) ];
+  least = λ w h. elim (split w h) [ inl f ↦ absurd (p w f) | inr g ↦ along t z y w n.second (q.least w g) ];
+}
+nearest_of_both F G H t (Some x) None (Some z) p q n split left right = record {
+  fit = elim n.from [ inl e ↦ let same : x ≡ z = cc in subst H same (left x p.fit) | inr e ↦ absurd cc ];
+  least = λ w h. elim (split w h) [ inl f ↦ along t z x w n.first (p.least w f) | inr g ↦ absurd (q w g) ];
+}
+nearest_of_both F G H t (Some x) (Some y) (Some z) p q n split left right = record {
+  fit = elim n.from [
+    | inl e ↦ let same : x ≡ z = cc in subst H same (left x p.fit)
+    | inr e ↦ let same : y ≡ z = cc in subst H same (right y q.fit)
+  ];
+  least = λ w h. elim (split w h) [ inl f ↦ along t z x w n.first (p.least w f) | inr g ↦ along t z y w n.second (q.least w g) ];
+}
+
+-- the same numbers have the same nearest one
+pub nearest_of_same : (F G : ℤ → Type 0) (t : ℤ) (found : Option ℤ) → ((x : ℤ) → F x → G x) → ((x : ℤ) → G x → F x) → FindsNearest F t found →
+    FindsNearest G t found
+nearest_of_same F G t None to from p = λ x g. p x (from x g)
+nearest_of_same F G t (Some z) to from p = record { fit = to z p.fit; least = λ w g. p.least w (from w g) }
+
+-- what is farther than the best so far plays no part
+pub nearest_of_near : (F H : ℤ → Type 0) (t : ℤ) (found : Option ℤ) → ((x : ℤ) → F x → H x) → FindsNearest F t found →
+    IsSomeAnd found (λ z. (x : ℤ) → H x → F x ⊎ (distance t z < distance t x)) → FindsNearest H t found
+nearest_of_near F H t None to p far = absurd far
+nearest_of_near F H t (Some z) to p far = record {
+  fit = to z p.fit;
+  least = λ w h. elim (far w h) [ inl f ↦ p.least w f | inr d ↦ inl d ];
+}
+
+-- ---- a list from left to right
+
+of_front : {X : Type 0} (P : X → Type 0) (k : ℕ) (xs : List X) → Any P (take k xs) → Any P xs
+of_front P k xs (m, x, within, is, p) =
+    let below : m < k = omega (arith, within, length-take k xs) in
+    (m, x, omega (arith, within, length-take k xs), sym (get_or-take k xs m x below) ∙ is, p)
+
+in_front : {X : Type 0} (P : X → Type 0) (k : ℕ) (xs : List X) (a : Any P xs) → a.0 < k → Any P (take k xs)
+in_front P k xs (m, x, within, is, p) below = (m, x, omega (arith, within, below, length-take k xs), get_or-take k xs m x below ∙ is, p)
+
+begins_later : (xs : List Span) (k m : ℕ) (d s : Span) → IsRising xs → k < length xs → m < length xs → k ≤ m → get_or xs m s ≡ s → (get_or xs k d).lo ≤ℤ s.lo
+begins_later xs k m d s r in_k in_m order is = elim same_or [
+  | inl h ↦
+      let At : ℕ → Type 0 = λ n. get_or xs n d ≡ s in
+      let there : get_or xs k d ≡ s = subst At (sym h) (get_or_default xs m d s in_m ∙ is) in
+      subst (λ (u : Span). (get_or xs k d).lo ≤ℤ u.lo) there (omega (arith, ints))
+  | inr h ↦
+      let filled = r.filled k d in_k in
+      let apart = r.apart k m d h in_m in
+      let there : (get_or xs k d).lo ≤ℤ (get_or xs m d).lo = omega (arith, ints, filled, apart) in
+      subst (λ (u : Span). (get_or xs k d).lo ≤ℤ u.lo) (get_or_default xs m d s in_m ∙ is) there
+]
+  where
+    same_or : (k ≡ m) ⊎ (k < m)
+    same_or = grind arith
+
+ends_earlier : (xs : List Span) (k m : ℕ) (d s : Span) → IsRising xs → k < length xs → m < length xs → m ≤ k → get_or xs m s ≡ s → s.hi ≤ℤ (get_or xs k d).hi
+ends_earlier xs k m d s r in_k in_m order is = elim same_or [
+  | inl h ↦
+      let At : ℕ → Type 0 = λ n. get_or xs n d ≡ s in
+      let there : get_or xs k d ≡ s = subst At h (get_or_default xs m d s in_m ∙ is) in
+      subst (λ (u : Span). u.hi ≤ℤ (get_or xs k d).hi) there (omega (arith, ints))
+  | inr h ↦
+      let filled = r.filled k d in_k in
+      let apart = r.apart m k d h in_k in
+      let there : (get_or xs m d).hi ≤ℤ (get_or xs k d).hi = omega (arith, ints, filled, apart) in
+      subst (λ (u : Span). u.hi ≤ℤ (get_or xs k d).hi) (get_or_default xs m d s in_m ∙ is) there
+]
+  where
+    same_or : (m ≡ k) ⊎ (m < k)
+    same_or = grind arith
+
+fits_front : (spans : List Span) (g : Grid) (width : ℤ) (k : ℕ) (x : ℤ) → FitsOne (take k spans) g width x → FitsOne spans g width x
+fits_front spans g width k x f = record { on_grid = f.on_grid; within = of_front (λ s. IsWithin s width x) k spans f.within }
+
+-- one span more
+pub found_more : (spans : List Span) (g : Grid) (width t : ℤ) (k : ℕ) (d : Span) (best next found : Option ℤ) → k < length spans →
+    FindsNearest (λ x. FitsOne (take k spans) g width x) t best → FindsNearest (λ x. FitsSpan (get_or spans k d) g width x) t next → IsNearerOf best next t
+    found →
+    FindsNearest (λ x. FitsOne (take (k + 1) spans) g width x) t found
+found_more spans g width t k d best next found within p q n =
+    nearest_of_both (λ x. FitsOne (take k spans) g width x) (λ x. FitsSpan (get_or spans k d) g width x) (λ x. FitsOne (take (k + 1) spans) g width x) t
+    best next found p q n split left right
+  where
+    parts : take (k + 1) spans ≡ take k spans ++ get_or spans k d ∷ []
+    parts = take_more spans k d within
+
+    split : (x : ℤ) → FitsOne (take (k + 1) spans) g width x → FitsOne (take k spans) g width x ⊎ FitsSpan (get_or spans k d) g width x
+    split x f =
+        let P : Span → Type 0 = λ s. IsWithin s width x in
+        let whole : Any P (take k spans ++ get_or spans k d ∷ []) = subst (λ (xs : List Span). Any P xs) parts f.within in
+        elim (any_split P (take k spans) (get_or spans k d ∷ []) whole) [
+          | inl a ↦ inl record { on_grid = f.on_grid; within = a }
+          | inr a ↦ elim (any_cases P (get_or spans k d) [] a) [
+            | inl h ↦ inr record { on_grid = f.on_grid; within = h }
+            | inr h ↦ absurd (omega (arith, h.2))
+          ]
+        ]
+
+    left : (x : ℤ) → FitsOne (take k spans) g width x → FitsOne (take (k + 1) spans) g width x
+    left x f =
+        let P : Span → Type 0 = λ s. IsWithin s width x in
+        record { on_grid = f.on_grid; within = subst (λ (xs : List Span). Any P xs) (sym parts) (any_left P (take k spans) (get_or spans k d ∷ []) f.within) }
+
+    right : (x : ℤ) → FitsSpan (get_or spans k d) g width x → FitsOne (take (k + 1) spans) g width x
+    right x f =
+        let P : Span → Type 0 = λ s. IsWithin s width x in
+        record { on_grid = f.on_grid; within = subst (λ (xs : List Span). Any P xs) (sym parts) (Any-push P (take k spans) (get_or spans k d) f.within) }
+
+-- the rest lies too far right
+pub found_in_front : (spans : List Span) (g : Grid) (width t : ℤ) (k : ℕ) (d : Span) (best : Option ℤ) → IsRising spans → k < length spans →
+    FindsNearest (λ x. FitsOne (take k spans) g width x) t best → IsPast (get_or spans k d) best t → FindsNearest (λ x. FitsOne spans g width x) t best
+found_in_front spans g width t k d None r within p past = absurd past
+found_in_front spans g width t k d (Some z) r within p past =
+    nearest_of_near (λ x. FitsOne (take k spans) g width x) (λ x. FitsOne spans g width x) t (Some z) (fits_front spans g width k) p far
+  where
+    below_or : (m : ℕ) → (m < k) ⊎ (k ≤ m)
+    below_or m = grind arith
+
+    far : (x : ℤ) → FitsOne spans g width x → FitsOne (take k spans) g width x ⊎ (distance t z < distance t x)
+    far x f =
+        let a : Any (λ s. IsWithin s width x) spans = f.within in
+        elim (below_or a.0) [
+          | inl h ↦ inl record { on_grid = f.on_grid; within = in_front (λ s. IsWithin s width x) k spans a h }
+          | inr h ↦
+              let begins = begins_later spans k a.0 d a.1 r within a.2 h a.3 in
+              let held : IsWithin a.1 width x = a.4 in
+              inr (past x (omega (arith, ints, begins, held.low)))
+        ]
+
+pub found_all : (spans : List Span) (g : Grid) (width t : ℤ) (k : ℕ) (best : Option ℤ) → length spans ≤ k →
+    FindsNearest (λ x. FitsOne (take k spans) g width x) t best →
+    FindsNearest (λ x. FitsOne spans g width x) t best
+found_all spans g width t k best past p = subst (λ (xs : List Span). FindsNearest (λ x. FitsOne xs g width x) t best) (take_all k spans past) p
+
+-- ---- and from right to left
+
+from_place : (xs : List Span) (n : ℕ) (d : Span) → n < length xs → drop n xs ≡ get_or xs n d ∷ drop (n + 1) xs
+from_place xs n d within = cc (drop-cons xs n d within, add-one n)
+
+pub found_before : (spans : List Span) (g : Grid) (width t : ℤ) (k : ℕ) (d : Span) (best next found : Option ℤ) → k < length spans →
+    FindsNearest (λ x. FitsOne (drop (k + 1) spans) g width x) t best → FindsNearest (λ x. FitsSpan (get_or spans k d) g width x) t next → IsNearerOf best
+    next t found →
+    FindsNearest (λ x. FitsOne (drop k spans) g width x) t found
+found_before spans g width t k d best next found within p q n =
+    nearest_of_both (λ x. FitsOne (drop (k + 1) spans) g width x) (λ x. FitsSpan (get_or spans k d) g width x) (λ x. FitsOne (drop k spans) g width x) t
+    best next found p q n split left right
+  where
+    parts : drop k spans ≡ get_or spans k d ∷ drop (k + 1) spans
+    parts = from_place spans k d within
+
+    split : (x : ℤ) → FitsOne (drop k spans) g width x → FitsOne (drop (k + 1) spans) g width x ⊎ FitsSpan (get_or spans k d) g width x
+    split x f =
+        let P : Span → Type 0 = λ s. IsWithin s width x in
+        let whole : Any P (get_or spans k d ∷ drop (k + 1) spans) = subst (λ (xs : List Span). Any P xs) parts f.within in
+        elim (any_cases P (get_or spans k d) (drop (k + 1) spans) whole) [
+          | inl h ↦ inr record { on_grid = f.on_grid; within = h }
+          | inr a ↦ inl record { on_grid = f.on_grid; within = a }
+        ]
+
+    left : (x : ℤ) → FitsOne (drop (k + 1) spans) g width x → FitsOne (drop k spans) g width x
+    left x f =
+        let P : Span → Type 0 = λ s. IsWithin s width x in
+        record { on_grid = f.on_grid; within = subst (λ (xs : List Span). Any P xs) (sym parts) (any_tail P (get_or spans k d) (drop (k + 1) spans) f.within) }
+
+    right : (x : ℤ) → FitsSpan (get_or spans k d) g width x → FitsOne (drop k spans) g width x
+    right x f =
+        let P : Span → Type 0 = λ s. IsWithin s width x in
+        record { on_grid = f.on_grid; within = subst (λ (xs : List Span). Any P xs) (sym parts) (any_head P (get_or spans k d) (drop (k + 1) spans) f.within) }
+
+pub place_before : (spans : List Span) (g : Grid) (width t : ℤ) (i : ℕ) (best : Option ℤ) → 0 < i →
+    FindsNearest (λ x. FitsOne (drop i spans) g width x) t best →
+    FindsNearest (λ x. FitsOne (drop (i - 1 + 1) spans) g width x) t best
+place_before spans g width t i best some p =
+    let At : ℕ → Type 0 = λ n. FindsNearest (λ x. FitsOne (drop n spans) g width x) t best in
+    let place : i ≡ i - 1 + 1 = omega (arith, some) in
+    subst At place p
+
+of_back : {X : Type 0} (P : X → Type 0) (k : ℕ) (xs : List X) → Any P (drop k xs) → Any P xs
+of_back P k xs (m, x, within, is, p) = (k + m, x, omega (arith, within, length-drop k xs), sym (get_or-drop k xs m x) ∙ is, p)
+
+in_back : {X : Type 0} (P : X → Type 0) (k : ℕ) (xs : List X) (a : Any P xs) → k ≤ a.0 → Any P (drop k xs)
+in_back {X} P k xs (m, x, within, is, p) above =
+    let At : ℕ → Type 0 = λ n. get_or xs n x ≡ x in
+    let place : m ≡ k + (m - k) = omega (arith, above) in
+    (m - k, x, omega (arith, within, above, length-drop k xs), get_or-drop k xs (m - k) x ∙ subst At place is, p)
+
+-- the rest lies too far left
+pub found_in_back : (spans : List Span) (g : Grid) (wanted : Wanted) (k : ℕ) (d : Span) (best : Option ℤ) → IsRising spans → k < length spans →
+    FindsNearest (λ x. FitsOne (drop (k + 1) spans) g wanted.width x) wanted.target best → IsBefore (get_or spans k d) best wanted →
+    FindsNearest (λ x. FitsOne spans g wanted.width x) wanted.target best
+found_in_back spans g wanted k d None r within p before = absurd before
+found_in_back spans g wanted k d (Some z) r within p before =
+    nearest_of_near (λ x. FitsOne (drop (k + 1) spans) g wanted.width x) (λ x. FitsOne spans g wanted.width x) wanted.target (Some z)
+    (λ x f. record { on_grid = f.on_grid; within = of_back (λ s. IsWithin s wanted.width x) (k + 1) spans f.within }) p far
+  where
+    above_or : (m : ℕ) → (k + 1 ≤ m) ⊎ (m ≤ k)
+    above_or m = grind arith
+
+    far : (x : ℤ) → FitsOne spans g wanted.width x → FitsOne (drop (k + 1) spans) g wanted.width x ⊎ (distance wanted.target z < distance wanted.target x)
+    far x f =
+        let a : Any (λ s. IsWithin s wanted.width x) spans = f.within in
+        elim (above_or a.0) [
+          | inl h ↦ inl record { on_grid = f.on_grid; within = in_back (λ s. IsWithin s wanted.width x) (k + 1) spans a h }
+          | inr h ↦
+              let ends = ends_earlier spans k a.0 d a.1 r within a.2 h a.3 in
+              let held : IsWithin a.1 wanted.width x = a.4 in
+              inr (before x (omega (arith, ints, ends, held.high)))
+        ]
+
+-- ---- the part of a list that a slice takes
+
+pub rest_from : {X : Type 0} (xs : List X) (n : ℕ) → take (length xs - n) (drop n xs) ≡ drop n xs
+rest_from xs n = take_all (length xs - n) (drop n xs) (omega (arith, length-drop n xs))
+
+pub found_behind : (spans : List Span) (g : Grid) (width t : ℤ) (n : ℕ) (best : Option ℤ) →
+    FindsNearest (λ x. FitsOne (take (length spans - n) (drop n spans)) g width x) t best →
+    FindsNearest (λ x. FitsOne (drop n spans) g width x) t best
+found_behind spans g width t n best p = subst (λ (xs : List Span). FindsNearest (λ x. FitsOne xs g width x) t best) (rest_from spans n) p
+
+pub rising_behind : (spans : List Span) (n : ℕ) → IsRising spans → IsRising (take (length spans - n) (drop n spans))
+rising_behind spans n r = subst (λ (xs : List Span). IsRising xs) (sym (rest_from spans n)) (rising_drop n spans r)
+
+pub near_behind : (spans : List Span) (n : ℕ) → All IsBoundedSpan spans → All IsBoundedSpan (take (length spans - n) (drop n spans))
+near_behind spans n near = subst (λ (xs : List Span). All IsBoundedSpan xs) (sym (rest_from spans n)) (All-drop IsBoundedSpan n spans near)
+
+pub found_at_last : (spans : List Span) (g : Grid) (width t : ℤ) (n : ℕ) (best : Option ℤ) → n ≤ 0 →
+    FindsNearest (λ x. FitsOne (drop n spans) g width x) t best →
+    FindsNearest (λ x. FitsOne spans g width x) t best
+found_at_last spans g width t n best none p =
+    let At : ℕ → Type 0 = λ k. FindsNearest (λ x. FitsOne (drop k spans) g width x) t best in
+    let zero_is : n ≡ 0 = omega (arith, none) in
+    subst At zero_is p
+
+-- ---- where lists meet
+
+abbrev from_on : ℤ → ℤ → Span
+from_on x width = record { lo = x; hi = x +ℤ width }
+
+lies_of_within : (s : Span) (width x : ℤ) → IsWithin s width x → LiesIn (from_on x width) s
+lies_of_within s width x w y h = record { low = omega (arith, ints, w.low, h.low); high = omega (arith, ints, w.high, h.high) }
+
+within_of_lies : (s : Span) (width x : ℤ) → pos 0 <ℤ width → LiesIn (from_on x width) s → IsWithin s width x
+within_of_lies s width x some lies =
+    let e : In (from_on x width) s = in_of_lies (from_on x width) s (omega (arith, ints, some)) lies in
+    record { low = e.low; high = e.high }
+
+rows_of_met : (lists : List (List Span)) (met : List Span) (g : Grid) (width x : ℤ) → pos 0 <ℤ width → IsMeetAll lists met → FitsOne met g width x →
+    FitsRows lists g width x
+rows_of_met lists met g width x some m f =
+    let filled : IsFilled (from_on x width) = omega (arith, ints, some) in
+    let inside : LiesInOne met (from_on x width) = any_weaker (λ s. IsWithin s width x) (λ s. LiesIn (from_on x width) s) (λ s. lies_of_within s width x)
+    met f.within in
+    let each : All (λ spans. LiesInOne spans (from_on x width)) lists = (m.exact (from_on x width) filled).0 inside in
+    record {
+      on_grid = f.on_grid;
+      within = λ k d below. any_weaker (λ s. LiesIn (from_on x width) s) (λ s. IsWithin s width x) (λ s. within_of_lies s width x some) (get_or lists k d)
+          (each k d below);
+    }
+
+met_of_rows : (lists : List (List Span)) (met : List Span) (g : Grid) (width x : ℤ) → pos 0 <ℤ width → IsMeetAll lists met → FitsRows lists g width x →
+    FitsOne met g width x
+met_of_rows lists met g width x some m f =
+    let filled : IsFilled (from_on x width) = omega (arith, ints, some) in
+    let each : All (λ spans. LiesInOne spans (from_on x width)) lists =
+    λ k d below. any_weaker (λ s. IsWithin s width x) (λ s. LiesIn (from_on x width) s) (λ s. lies_of_within s width x) (get_or lists k d)
+    (f.within k d below) in
+    let inside : LiesInOne met (from_on x width) = (m.exact (from_on x width) filled).1 each in
+    record {
+      on_grid = f.on_grid;
+      within = any_weaker (λ s. LiesIn (from_on x width) s) (λ s. IsWithin s width x) (λ s. within_of_lies s width x some) met
+          inside;
+    }
+
+pub found_in_rows : (lists : List (List Span)) (met : List Span) (g : Grid) (width target w t : ℤ) (best : Option ℤ) → pos 0 <ℤ width → w ≡ width →
+    t ≡ target → IsMeetAll lists met →
+    FindsNearest (λ x. FitsOne met g w x) t best → FindsNearest (λ x. FitsRows lists g width x) target best
+found_in_rows lists met g width target w t best some same_width same_target m p =
+    let first : FindsNearest (λ x. FitsOne met g width x) t best = subst (λ (v : ℤ). FindsNearest (λ x. FitsOne met g v x) t best) same_width p in
+    let second : FindsNearest (λ x. FitsOne met g width x) target best = subst (λ (v : ℤ). FindsNearest (λ x. FitsOne met g width x) v best) same_target
+    first in
+    nearest_of_same (λ x. FitsOne met g width x) (λ x. FitsRows lists g width x) target best
+    (λ x. rows_of_met lists met g width x some m) (λ x. met_of_rows lists met g width x some m) second
+
+-- what is met lies as near as the first list
+pub near_met : (lists : List (List Span)) (met : List Span) → 0 < length lists → ((d : List Span) → All IsBoundedSpan (get_or lists 0 d)) →
+    IsMeetAll lists met → All IsBoundedSpan met
+near_met lists met some near m k d within =
+    let s : Span = get_or met k d in
+    let filled : IsFilled s = m.rising.filled k d within in
+    let itself : LiesInOne met s = (k, s, within, get_or_default met k s d within, λ x h. h) in
+    let first : LiesInOne (get_or lists 0 []) s = (m.exact s filled).0 itself 0 [] some in
+    let inside : InOne (get_or lists 0 []) s = in_one_of_lies s (get_or lists 0 []) filled first in
+    let outer : IsBoundedSpan inside.1 = all_at IsBoundedSpan (λ t. In s t) (get_or lists 0 []) (near []) inside in
+    let held : In s inside.1 = inside.4 in
+    let low = outer.low in
+    let high = outer.high in
+    record {
+      low = record { low = omega (arith, ints, low.low, held.low); high = omega (arith, ints, high.high, held.high, filled) };
+      high = record { low = omega (arith, ints, low.low, held.low, filled); high = omega (arith, ints, high.high, held.high) };
+    }
+
+pub near_met_of : (lists : List (Vec Span Global)) (met : List Span) → 0 < length lists → All (λ list. All IsBoundedSpan list.items) lists →
+    IsMeetAll (map (λ list. list.items) lists) met →
+    All IsBoundedSpan met
+near_met_of [] met some near m = absurd (omega (arith, some))
+near_met_of (v ∷ vs) met some near m = near_met (map (λ list. list.items) (v ∷ vs)) met (omega arith) (λ d. near 0 v some) m
+
+pub before_is : (span : Span) (best : Option ℤ) (wanted : Wanted) (x : ℤ) → best ≡ Some x → (span.hi -ℤ wanted.width) ≤ℤ wanted.target →
+    distance wanted.target x < distance wanted.target (span.hi -ℤ wanted.width) → IsBefore span best wanted
+before_is span best wanted x e left less =
+    subst (λ (o : Option ℤ). IsBefore span o wanted) (sym e) (λ y h. omega (arith, ints, h, left, less))

@@ -1,0 +1,14 @@
+use Rattle.std.proofs.Common.{◌≤◌, length, drop}
+use Rattle.lf_spans.specs.Grids.{FindsNearest}
+use Rattle.lf_gaps.specs.Steps.{FitsOne}
+use Rattle.lf_gaps.proofs.row.nearest_of.Given as goal
+
+-- the nearest one in the spans from here on
+abbrev pub invariant-loop-i : goal.invariant-loop-i
+invariant-loop-i l = record {
+  within : l.i ≤ length l.spans;
+  nearest : FindsNearest (λ x. FitsOne (drop l.i l.spans) l.grid l.wanted.width x) l.wanted.target l.best;
+}
+
+abbrev pub decreases-loop-i : goal.decreases-loop-i
+decreases-loop-i l = l.i

@@ -1,0 +1,10 @@
+-- Where a width fits into one span of each of several lists.
+use Rattle.std.specs.Prelude.{ℤ, List, All, Any}
+use Rattle.lf_spans.specs.declared.span.Span.{Span}
+use Rattle.lf_spans.specs.declared.grid.Grid.{Grid}
+use Rattle.lf_spans.specs.Grids.{IsOnGrid, IsWithin}
+
+-- the width fits, at this number of the grid, into one span of each list
+pub record FitsRows (lists : List (List Span)) (g : Grid) (width x : ℤ) : Type 0 where
+  pub on_grid : IsOnGrid g x
+  pub within : All (λ spans. Any (λ s. IsWithin s width x) spans) lists

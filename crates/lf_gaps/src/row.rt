@@ -1,0 +1,158 @@
+//! The nearest number of a grid at which a width fits into one span of each of several lists.
+
+ghost use Rattle.std.specs.Prelude.{◌≡◌, ◌<◌, ◌≤ℤ◌, ◌<ℤ◌, ◌↔◌, All, IfOk, IsTrue, length, map, pos};
+ghost use Rattle.std.specs.Bool.{OnFalse, OnTrue};
+ghost use Rattle.lf_spans.specs.Grids.{FindsNearest, FitsSpan, IsBounded, IsBoundedSpan, IsGrid, IsNoFarther};
+ghost use Rattle.lf_spans.specs.Spans.{IsMeetAll, IsRising};
+ghost use Rattle.lf_gaps.specs.Gaps.{FitsRows};
+ghost use Rattle.lf_gaps.specs.Steps.{FitsOne, IsBefore, IsNearerOf, IsPast, IsWanted};
+
+use lf_spans::{Grid, Span, nearest_fit, spans_meet_all};
+use std::alloc::{AllocError, Global};
+
+/// How wide a gap has to be, and the number to which it is to be near.
+#[derive(Clone, Copy)]
+struct Wanted {
+    width: i64,
+    target: i64,
+}
+
+fn wanted_of(width: i64, target: i64) -> Wanted
+    ensures width { result.width ≡ width }
+    ensures target { result.target ≡ target }
+{
+    Wanted { width, target }
+}
+
+/// The nearest number at which the width fits into one span.
+fn nearest_in_span(span: &Span, grid: &Grid, wanted: &Wanted) -> Option<i64>
+    requires grid { IsGrid grid.now }
+    requires bounded { IsBoundedSpan span.now }
+    requires wanted { IsWanted wanted.now }
+    ensures { FindsNearest (λ x. FitsSpan span.now grid.now wanted.now.width x) wanted.now.target result }
+{
+    nearest_fit(span, grid, wanted.width, wanted.target)
+}
+
+/// Whether the first number is nearer to the target than the second, or as near and less.
+fn is_nearer(first: &i64, second: &i64, wanted: &Wanted) -> bool
+    ensures yes { OnTrue result (IsNoFarther wanted.now.target first.now second.now) }
+    ensures other { OnFalse result (IsNoFarther wanted.now.target second.now first.now) }
+{
+    let near = first.abs_diff(wanted.target);
+    let far = second.abs_diff(wanted.target);
+    if near == far {
+        return first <= second;
+    }
+    near < far
+}
+
+/// The nearer of two, where there are two.
+fn nearer_of(best: &Option<i64>, next: &Option<i64>, wanted: &Wanted) -> Option<i64>
+    ensures { IsNearerOf best.now next.now wanted.now.target result }
+{
+    let Some(first) = best else {
+        return *next;
+    };
+    let Some(second) = next else {
+        return *best;
+    };
+    if is_nearer(second, first, wanted) {
+        *next
+    } else {
+        *best
+    }
+}
+
+/// Whether nothing in the span or behind it can be as near as the best so far.
+fn is_past(span: &Span, best: &Option<i64>, wanted: &Wanted) -> bool
+    ensures { IsTrue result → IsPast span.now best.now wanted.now.target }
+{
+    let Some(found) = best else {
+        return false;
+    };
+    if span.lo < wanted.target {
+        return false;
+    }
+    found.abs_diff(wanted.target) < span.lo.abs_diff(wanted.target)
+}
+
+/// Whether nothing in the span or before it can be as near as the best so far.
+fn is_before(span: &Span, best: &Option<i64>, wanted: &Wanted) -> bool
+    requires bounded { IsBoundedSpan span.now }
+    requires wanted { IsWanted wanted.now }
+    ensures { IsTrue result → IsBefore span.now best.now wanted.now }
+{
+    let Some(found) = best else {
+        return false;
+    };
+    let last = span.hi - wanted.width;
+    if wanted.target < last {
+        return false;
+    }
+    found.abs_diff(wanted.target) < last.abs_diff(wanted.target)
+}
+
+/// The nearest number at which the width fits into one of the spans, which are looked at from left
+/// to right until the rest lies too far right.
+fn nearest_rightwards(spans: &[Span], grid: &Grid, wanted: &Wanted) -> Option<i64>
+    requires grid { IsGrid grid.now }
+    requires rising { IsRising spans.now }
+    requires bounded { All IsBoundedSpan spans.now }
+    requires wanted { IsWanted wanted.now }
+    ensures { FindsNearest (λ x. FitsOne spans.now grid.now wanted.now.width x) wanted.now.target result }
+{
+    let mut best = None;
+    for span in spans {
+        if is_past(span, &best, wanted) {
+            return best;
+        }
+        best = nearer_of(&best, &nearest_in_span(span, grid, wanted), wanted);
+    }
+    best
+}
+
+/// The nearest number at which the width fits into one of the spans. The look goes outwards from
+/// the target, first to the right and then to the left, and ends where the rest lies too far off.
+fn nearest_of(spans: &[Span], grid: &Grid, wanted: &Wanted) -> Option<i64>
+    requires grid { IsGrid grid.now }
+    requires rising { IsRising spans.now }
+    requires bounded { All IsBoundedSpan spans.now }
+    requires wanted { IsWanted wanted.now }
+    ensures { FindsNearest (λ x. FitsOne spans.now grid.now wanted.now.width x) wanted.now.target result }
+{
+    let middle = spans.partition_point(|span| span.hi <= wanted.target);
+    let mut best = nearest_rightwards(&spans[middle..], grid, wanted);
+    let mut i = middle;
+    while 0 < i {
+        i -= 1;
+        let span = &spans[i];
+        if is_before(span, &best, wanted) {
+            return best;
+        }
+        best = nearer_of(&best, &nearest_in_span(span, grid, wanted), wanted);
+    }
+    best
+}
+
+/// The number of the grid nearest to the target, the lesser of two, from which on the width lies in
+/// one span of each list; none where there is no such number. Spans that touch stay apart.
+pub fn best_in_row(
+    alloc: Global,
+    lists: &[Vec<Span>],
+    grid: &Grid,
+    width: i64,
+    target: i64,
+) -> Result<Option<i64>, AllocError>
+    requires some { 0 < length lists.now }
+    requires rising { All (λ list. IsRising list.items) lists.now }
+    requires bounded { All (λ list. All IsBoundedSpan list.items) lists.now }
+    requires grid { IsGrid grid.now }
+    requires wide { pos 0 <ℤ width }
+    requires width { IsBounded width }
+    requires target { IsBounded target }
+    ensures { IfOk result (λ found. let rows = map (λ list. list.items) lists.now in FindsNearest (λ x. FitsRows rows grid.now width x) target found) }
+{
+    let met = spans_meet_all(alloc, lists)?;
+    Ok(nearest_of(met.as_slice(), grid, &wanted_of(width, target)))
+}

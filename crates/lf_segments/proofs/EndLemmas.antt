@@ -1,0 +1,36 @@
+-- Segments by where they end.
+use Rattle.std.proofs.Common.{◌≡◌, ◌⊎◌, inl, inr, ℕ, ℤ, ◌<◌, ◌≤◌, ◌≤ℤ◌, ◌<ℤ◌, List, length, get_or, sym, subst, arith, true, false, int_le}
+use Rattle.std.specs.Prelude.{AllPairs}
+use Rattle.std.specs.List.Sorted.{IsPartitionedBy, IsPartitionPoint}
+use Rattle.std.proofs.lemmas.Int.{ints}
+use Rattle.lf_segments.specs.declared.segment.Segment.{Segment}
+
+most_of : (a b : ℤ) → int_le a b ≡ true → a ≤ℤ b
+most_of a b e = grind (arith, ints)
+
+of_most : (a b : ℤ) → a ≤ℤ b → int_le a b ≡ true
+of_most a b h = grind (arith, ints)
+
+not_most_of : (a b : ℤ) → int_le a b ≡ false → b <ℤ a
+not_most_of a b e = grind (arith, ints)
+
+-- those that end at a limit or before it are the first ones
+pub parted : (xs : List Segment) (limit : ℤ) → AllPairs (λ g h. g.span.hi ≤ℤ h.span.hi) xs → IsPartitionedBy (λ g. int_le g.span.hi limit) xs
+parted xs limit r i j d order within t = elim same_or [
+  | inl h ↦ let At : ℕ → Type 0 = λ n. int_le (get_or xs n d).span.hi limit ≡ true in subst At (sym h) t
+  | inr h ↦
+      let later = r i j d h within in
+      let most = most_of (get_or xs j d).span.hi limit t in
+      of_most (get_or xs i d).span.hi limit (omega (arith, ints, later, most))
+]
+  where
+    same_or : (i ≡ j) ⊎ (i < j)
+    same_or = grind arith
+
+pub ended_point : (xs : List Segment) (limit : ℤ) (n : ℕ) → IsPartitionPoint (λ g. int_le g.span.hi limit ≡ true) (λ g. int_le g.span.hi limit ≡ false) xs n →
+    (k : ℕ) (d : Segment) → k < n → (get_or xs k d).span.hi ≤ℤ limit
+ended_point xs limit n point k d less = most_of (get_or xs k d).span.hi limit (point.0 k d (omega arith) less)
+
+pub rest_point : (xs : List Segment) (limit : ℤ) (n : ℕ) → IsPartitionPoint (λ g. int_le g.span.hi limit ≡ true) (λ g. int_le g.span.hi limit ≡ false) xs n →
+    (k : ℕ) (d : Segment) → n ≤ k → k < length xs → limit <ℤ (get_or xs k d).span.hi
+rest_point xs limit n point k d from within = not_most_of (get_or xs k d).span.hi limit (point.1 k d from within)

@@ -1,0 +1,144 @@
+-- A box that stands on rows is legal exactly where it lies in segments.
+use Rattle.std.proofs.Common.{◌≡◌, ◌⊎◌, inl, inr, ℕ, zero, suc, ℤ, pos, negsuc, ◌*◌, ◌<◌, ◌+ℤ◌, ◌*ℤ◌}
+use Rattle.std.proofs.Common.{◌≤ℤ◌, ◌<ℤ◌, List, Some, slice_get, sym, ap, subst, ◌∙◌, arith}
+use Rattle.std.specs.Prelude.{Contains}
+use Rattle.std.proofs.Math.Nat.{suc-mul}
+use Rattle.std.proofs.lemmas.Int.{ints}
+use Rattle.std.proofs.lemmas.Option.{slice_get-get_or}
+use Rattle.lf_units.specs.declared.area.Rect.{Rect}
+use Rattle.lf_units.specs.Area.{Covers}
+use Rattle.lf_spans.specs.Spans.{Holds}
+use Rattle.lf_floorplan.specs.declared.frame.Frame.{Frame}
+use Rattle.lf_floorplan.specs.declared.parts.Row.{Row}
+use Rattle.lf_floorplan.specs.Rows.{row_area}
+use Rattle.lf_floorplan.specs.Ground.{StaysInGround, IsClear}
+use Rattle.lf_floorplan.specs.Standing.{IsSitesHigh, IsBottomRow, IsRowOfBox, Carries, StandsOn}
+use Rattle.lf_segments.specs.declared.segment.Segment.{Segment}
+use Rattle.lf_segments.specs.Segments.{IsOpen, IsCut}
+use Rattle.lf_segments.specs.Boxes.{across}
+use Rattle.lf_segments.specs.Laws.{LiesInSegments}
+
+-- one height more
+one_more : (k : ℕ) (p : ℤ) → pos 0 <ℤ p → (pos (suc k) *ℤ p) ≡ ((pos k *ℤ p) +ℤ p)
+one_more k (pos n) high = ap (λ (m : ℕ). pos m) (suc-mul k n)
+one_more k (negsuc n) high = absurd (omega (arith, ints))
+
+-- more heights are higher
+rises : (p : ℤ) → pos 0 <ℤ p → (j k : ℕ) → j < k → ((pos j *ℤ p) +ℤ p) ≤ℤ (pos k *ℤ p)
+rises p high j zero less = absurd (omega arith)
+rises p high j (suc k) less = elim order [
+  | inl below ↦ let before = rises p high j k below in let more = one_more k p high in omega (arith, ints, before, more, high)
+  | inr same ↦
+      let more = one_more k p high in
+      let At : ℕ → Type 0 = λ n. ((pos n *ℤ p) +ℤ p) ≤ℤ (pos (suc k) *ℤ p) in
+      subst At (sym same) (omega (arith, ints, more))
+]
+  where
+    order : (j < k) ⊎ (j ≡ k)
+    order = grind arith
+
+above : (p : ℤ) → pos 0 <ℤ p → (j : ℕ) → pos 0 ≤ℤ (pos j *ℤ p)
+above (pos n) high j = omega (arith, ints)
+above (negsuc n) high j = absurd (omega (arith, ints))
+
+-- of heights that stand on one another, one holds y
+record Level (p low y : ℤ) (k : ℕ) : Type 0 where
+  j : ℕ
+  less : j < k
+  from : (low +ℤ (pos j *ℤ p)) ≤ℤ y
+  below : y <ℤ ((low +ℤ (pos j *ℤ p)) +ℤ p)
+
+level_of : (p low y : ℤ) → pos 0 <ℤ p → (k : ℕ) → low ≤ℤ y → y <ℤ (low +ℤ (pos k *ℤ p)) → Level p low y k
+level_of p low y high zero from below = absurd (nothing p high below)
+  where
+    nothing : (q : ℤ) → pos 0 <ℤ q → y <ℤ (low +ℤ (pos 0 *ℤ q)) → ⊥
+    nothing (pos n) h b = let none : 0 * n ≡ 0 = omega arith in omega (arith, ints, b, none, from)
+    nothing (negsuc n) h b = omega (arith, ints, h)
+level_of p low y high (suc k) from below = elim order [
+  | inl less ↦ let l = level_of p low y high k from less in record { j = l.j; less = let h = l.less in omega (arith, h); from = l.from; below = l.below }
+  | inr over ↦ record { j = k; less = omega arith; from = over; below = let more = one_more k p high in omega (arith, ints, below, more) }
+]
+  where
+    order : (y <ℤ (low +ℤ (pos k *ℤ p))) ⊎ ((low +ℤ (pos k *ℤ p)) ≤ℤ y)
+    order = grind (arith, ints)
+
+-- the points of a row that carries the box, over the box's x range, are points of the box
+point_of_row : (f : Frame) (box : Rect) (k j : ℕ) (r : Row) (x y : ℤ) → IsSitesHigh f box k → j < k → IsRowOfBox f box j r → Holds (across box) x →
+    Covers (row_area f.pitch r) x y → Covers box x y
+point_of_row f box k j r x y high less at holds covers =
+    let p : ℤ = f.pitch.y in
+    let up : pos 0 <ℤ p = f.pitch_whole.high in
+    let low = above p up j in
+    let top = rises p up j k less in
+    let level : r.y ≡ box.y1 +ℤ (pos j *ℤ p) = at.at_level in
+    let whole : box.y2 ≡ box.y1 +ℤ (pos k *ℤ p) = high.high in
+    let bottom : r.y ≤ℤ y = covers.bottom in
+    let under : y <ℤ (r.y +ℤ p) = covers.top in
+    record { left = holds.low; right = holds.high; bottom = omega (arith, ints, low, level, bottom); top = omega (arith, ints, top, level, whole, under) }
+
+-- the points of the box in a row that carries it are points of the row
+point_in_row : (f : Frame) (box : Rect) (j : ℕ) (r : Row) (x y : ℤ) → IsRowOfBox f box j r → Covers box x y → (box.y1 +ℤ (pos j *ℤ f.pitch.y)) ≤ℤ y →
+    y <ℤ ((box.y1 +ℤ (pos j *ℤ f.pitch.y)) +ℤ f.pitch.y) → Covers (row_area f.pitch r) x y
+point_in_row f box j r x y at covers from below =
+    let left = at.left in
+    let right = at.right in
+    let level = at.at_level in
+    record {
+      left = let h = covers.left in omega (arith, ints, left, h);
+      right = let h = covers.right in omega (arith, ints, right, h);
+      bottom = omega (arith, ints, level, from);
+      top = omega (arith, ints, level, below);
+    }
+
+-- a heeded row by its position
+row_at : (f : Frame) (s : Row) → Contains f.rows s → (n : ℕ) × (slice_get f.rows n ≡ Some s)
+row_at f s (n, within, is) = (n, slice_get-get_or f.rows n s within ∙ ap (λ (r : Row). Some r) is)
+
+pub segments_hold : (f : Frame) (segments : List Segment) (team : ℕ) (box : Rect) → IsCut f segments → StandsOn f box → box.x1 <ℤ box.x2 →
+    StaysInGround f team box → IsClear f box → LiesInSegments f segments team box
+segments_hold f segments team box cut stands wide ground clear k bottom j n r high at_bottom less is carries =
+    (cut.exact n r team (across box) is wide).1 (λ x holds. record {
+      clear = record {
+        left = let a = carries.at_row.left in let b = holds.low in omega (arith, ints, a, b);
+        right = let a = carries.at_row.right in let b = holds.high in omega (arith, ints, a, b);
+        clear = λ y covers m d within inside.
+            clear m d within
+            record { x = x; y = y; in_first = point_of_row f box k j r x y high less carries.at_row holds covers; in_second = inside };
+      };
+      ground = λ y covers. ground x y (point_of_row f box k j r x y high less carries.at_row holds covers);
+    })
+
+-- each point of a box that lies in segments is where the team may use a row
+record OpenPoint (f : Frame) (team : ℕ) (x y : ℤ) : Type 0 where
+  row : Row
+  there : IsOpen f row team x
+  covers : Covers (row_area f.pitch row) x y
+
+open_point : (f : Frame) (segments : List Segment) (team : ℕ) (box : Rect) → IsCut f segments → StandsOn f box → box.x1 <ℤ box.x2 →
+    LiesInSegments f segments team box → (x y : ℤ) → Covers box x y → OpenPoint f team x y
+open_point f segments team box cut stands wide lies x y covers =
+    let k = stands.height.0 in
+    let high : IsSitesHigh f box k = stands.height.1 in
+    let bottom : Row = stands.row.0 in
+    let at_bottom : IsBottomRow f box bottom = stands.row.1 in
+    let l : Level f.pitch.y box.y1 y k =
+    level_of f.pitch.y box.y1 y f.pitch_whole.high k covers.bottom (subst (λ (t : ℤ). y <ℤ t) high.high covers.top) in
+    let carried = stands.stand k bottom high at_bottom l.j l.less in
+    let row : Row = carried.0 in
+    let carries : Carries f box bottom l.j row = carried.1 in
+    let place = row_at f row carries.heeded in
+    let in_one = lies k bottom l.j place.0 row high at_bottom l.less place.1 carries in
+    record {
+      row = row;
+      there = (cut.exact place.0 row team (across box) place.1 wide).0 in_one x record { low = covers.left; high = covers.right };
+      covers = point_in_row f box l.j row x y carries.at_row covers l.from l.below;
+    }
+
+pub segments_suffice : (f : Frame) (segments : List Segment) (team : ℕ) (box : Rect) → IsCut f segments → StandsOn f box → box.x1 <ℤ box.x2 →
+    LiesInSegments f segments team box → StaysInGround f team box × IsClear f box
+segments_suffice f segments team box cut stands wide lies = (
+  λ x y covers. let o = open_point f segments team box cut stands wide lies x y covers in o.there.ground y o.covers,
+  λ m d within shares.
+      let o = open_point f segments team box cut stands wide lies shares.x shares.y shares.in_first in
+      o.there.clear.clear shares.y o.covers m d within shares.in_second,
+)

@@ -1,0 +1,9 @@
+pub mod LawLemmas
+pub mod CoverLemmas
+pub mod RunLemmas
+pub mod EndLemmas
+pub mod GroupLemmas
+pub mod RowLemmas
+pub mod TreeLemmas
+pub mod OneLemmas
+pub mod HeightLemmas

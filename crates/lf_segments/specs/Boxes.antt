@@ -1,0 +1,101 @@
+-- The boxes of a frame's fences and obstacles, by numbers: a fence's rectangle has the fence's number, an obstacle the ground team's.
+use Rattle.std.specs.Prelude.{◌≡◌, ◌⊎◌, ◌↔◌, ℕ, ◌+◌, ◌<◌, ◌≤◌, ℤ, ◌≤ℤ◌, ◌<ℤ◌, List, [], ◌∷◌, ◌++◌, map, length, All, AllPairs, Any, Contains}
+use Rattle.std.specs.List.Sorted.{IsNonDecreasingBy}
+use Rattle.lf_units.specs.declared.area.Rect.{Rect}
+use Rattle.lf_units.specs.declared.area.Span.{Span}
+use Rattle.lf_units.specs.Area.{Covers, SharesPoint}
+use Rattle.lf_spans.specs.Spans.{Holds, IsFilled, IsRising, LiesInOne, HeldByOne}
+use Rattle.lf_rtree.specs.declared.placed.Placed.{Placed}
+use Rattle.lf_floorplan.specs.declared.frame.Frame.{Frame}
+use Rattle.lf_floorplan.specs.declared.parts.Row.{Row}
+use Rattle.lf_floorplan.specs.declared.parts.Team.{Team}
+use Rattle.lf_floorplan.specs.Rows.{row_area}
+use Rattle.lf_floorplan.specs.Ground.{InGround}
+use Rattle.lf_segments.specs.declared.segment.Segment.{Segment}
+use Rattle.lf_segments.specs.Segments.{IsClearAt, IsOpen, LiesInSegment, ComesFirst}
+
+-- a rectangle that bears a number
+abbrev pub numbered : ℕ → Rect → Placed
+numbered own rect = record { own = own; rect = rect }
+
+-- the rectangles of fences, each with its fence's number; the first fence has the number `own`
+abbrev pub fence_boxes : ℕ → List Team → List Placed
+fence_boxes own [] = []
+fence_boxes own (t ∷ teams) = map (numbered own) t.rects ++ fence_boxes (own + 1) teams
+
+-- the rectangles of the fences, and then the obstacles
+abbrev pub frame_boxes : Frame → List Placed
+frame_boxes f = fence_boxes 0 f.teams ++ map (numbered (length f.teams)) f.obstacles
+
+-- the point lies in a box of this number
+abbrev pub IsMetAt : List Placed → ℕ → ℤ → ℤ → Type 0
+IsMetAt boxes own x y = Any (λ p. (p.own ≡ own) × Covers p.rect x y) boxes
+
+-- the boxes tell of the point which fences cover it and whether an obstacle does
+pub record Tell (f : Frame) (boxes : List Placed) (x y : ℤ) : Type 0 where
+  pub fence : (team : ℕ) → team < length f.teams → (InGround f team x y ↔ IsMetAt boxes team x y)
+  pub obstacle : Any (λ r. Covers r x y) f.obstacles ↔ IsMetAt boxes (length f.teams) x y
+
+-- boxes that share a point with the row, and tell of each of its points
+pub record AreBoxesOf (f : Frame) (r : Row) (boxes : List Placed) : Type 0 where
+  pub known : All (λ p. p.own ≤ length f.teams) boxes
+  pub near : All (λ p. SharesPoint (row_area f.pitch r) p.rect) boxes
+  pub tell : (x y : ℤ) → Covers (row_area f.pitch r) x y → Tell f boxes x y
+
+-- boxes in the order of their numbers
+abbrev pub AreSorted : List Placed → Type 0
+AreSorted boxes = IsNonDecreasingBy (λ p. p.own) boxes
+
+-- the boxes of the least number that is not below this one; none where all are below
+pub record IsNextGroup (boxes : List Placed) (least : ℕ) (group : List Placed) : Type 0 where
+  pub among : All (λ p. Contains boxes p × (least ≤ p.own)) group
+  pub one : All (λ p. All (λ q. q.own ≡ p.own) group) group
+  pub others : All (λ p. (p.own < least) ⊎ (Contains group p ⊎ Any (λ q. q.own < p.own) group)) boxes
+
+-- the x range of a rectangle
+abbrev pub across : Rect → Span
+across r = record { lo = r.x1; hi = r.x2 }
+
+-- the spans hold just what the boxes cover at this y
+abbrev pub AreSpansAt : List Placed → ℤ → List Span → Type 0
+AreSpansAt boxes y spans = (x : ℤ) → (HeldByOne spans x ↔ Any (λ p. Covers p.rect x y) boxes)
+
+-- what boxes cover of a span at this y is all of it
+abbrev pub AreUnder : List Placed → ℤ → Span → Type 0
+AreUnder boxes y s = (x : ℤ) → Holds s x → Any (λ p. Covers p.rect x y) boxes
+
+-- of free spans, what the boxes cover at this y
+pub record IsCoveredAt (boxes : List Placed) (y : ℤ) (free covered : List Span) : Type 0 where
+  pub rising : IsRising covered
+  pub exact : (s : Span) → IsFilled s → (LiesInOne covered s ↔ (LiesInOne free s × AreUnder boxes y s))
+
+-- of free spans, what the boxes cover at each y from the lower one to the upper one
+pub record IsCoveredOver (boxes : List Placed) (lower upper : ℤ) (free covered : List Span) : Type 0 where
+  pub rising : IsRising covered
+  pub exact : (s : Span) → IsFilled s → (LiesInOne covered s ↔ (LiesInOne free s × ((y : ℤ) → lower ≤ℤ y → y <ℤ upper → AreUnder boxes y s)))
+
+-- spans as segments of a row and a team
+abbrev pub segment_of : ℕ → ℕ → Span → Segment
+segment_of row team s = record { row = row; team = team; span = s }
+
+-- the segments of a row to the teams below a number
+pub record IsCutOfRow (f : Frame) (number : ℕ) (r : Row) (limit : ℕ) (segments : List Segment) : Type 0 where
+  pub known : All (λ g. (g.row ≡ number) × ((g.team < limit) × IsFilled g.span)) segments
+  pub in_order : AllPairs ComesFirst segments
+  pub exact : (team : ℕ) (s : Span) → team < limit → IsFilled s → (LiesInSegment segments number team s ↔ ((x : ℤ) → Holds s x → IsOpen f r team x))
+
+-- the maximal spans of a row that are clear of obstacles
+pub record AreClear (f : Frame) (r : Row) (spans : List Span) : Type 0 where
+  pub rising : IsRising spans
+  pub exact : (s : Span) → IsFilled s → (LiesInOne spans s ↔ ((x : ℤ) → Holds s x → IsClearAt f r x))
+
+-- the maximal spans of a row that the team may use
+pub record AreOpen (f : Frame) (r : Row) (team : ℕ) (spans : List Span) : Type 0 where
+  pub rising : IsRising spans
+  pub exact : (s : Span) → IsFilled s → (LiesInOne spans s ↔ ((x : ℤ) → Holds s x → IsOpen f r team x))
+
+-- the segments of a row to the teams below a number stand behind the old ones
+pub record AddsRow (f : Frame) (number : ℕ) (r : Row) (limit : ℕ) (old new : List Segment) : Type 0 where
+  pub added : List Segment
+  pub is : new ≡ old ++ added
+  pub cut : IsCutOfRow f number r limit added

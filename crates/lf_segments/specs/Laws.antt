@@ -1,0 +1,26 @@
+-- Laws on segments: what stands on rows is legal for a team exactly where it lies in segments, of which a frame has one list.
+use Rattle.std.specs.Prelude.{◌≡◌, ◌↔◌, ℕ, ◌<◌, ◌<ℤ◌, List, Some, slice_get}
+use Rattle.lf_units.specs.declared.area.Rect.{Rect}
+use Rattle.lf_floorplan.specs.declared.frame.Frame.{Frame}
+use Rattle.lf_floorplan.specs.declared.parts.Row.{Row}
+use Rattle.lf_floorplan.specs.Ground.{StaysInGround, IsClear}
+use Rattle.lf_floorplan.specs.Standing.{IsSitesHigh, IsBottomRow, Carries, StandsOn}
+use Rattle.lf_segments.specs.declared.segment.Segment.{Segment}
+use Rattle.lf_segments.specs.Segments.{IsCut, LiesInSegment}
+use Rattle.lf_segments.specs.Boxes.{across}
+
+-- in each row that carries the box, its x range lies in one segment of the team
+abbrev pub LiesInSegments : Frame → List Segment → ℕ → Rect → Type 0
+LiesInSegments f segments team box =
+    (k : ℕ) (bottom : Row) (j n : ℕ) (r : Row) → IsSitesHigh f box k → IsBottomRow f box bottom → j < k → slice_get f.rows n ≡ Some r →
+    Carries f box bottom j r → LiesInSegment segments n team (across box)
+
+-- a box that stands on rows and is wide stays in the team's ground and clear of obstacles exactly where it lies in the team's segments
+abbrev pub SegmentsDecide : Type 0
+SegmentsDecide =
+    (f : Frame) (segments : List Segment) (team : ℕ) (box : Rect) → IsCut f segments → StandsOn f box → box.x1 <ℤ box.x2 →
+    ((StaysInGround f team box × IsClear f box) ↔ LiesInSegments f segments team box)
+
+-- a frame has one list of segments
+abbrev pub CutIsOne : Type 0
+CutIsOne = (f : Frame) (a b : List Segment) → IsCut f a → IsCut f b → a ≡ b

@@ -1,0 +1,4 @@
+pub mod Segments
+pub mod Boxes
+pub mod Laws
+pub mod RowsByY

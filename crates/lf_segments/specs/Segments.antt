@@ -1,0 +1,71 @@
+-- Segments: the spans of rows that a team may use.
+use Rattle.std.specs.Prelude.{◌≡◌, ◌⊎◌, ◌↔◌, ℕ, ℤ, ◌<◌, ◌≤ℤ◌, ◌<ℤ◌, List, ◌++◌, All, AllPairs, Any, Some, length, slice_get}
+use Rattle.lf_units.specs.declared.area.Span.{Span}
+use Rattle.lf_units.specs.Area.{Covers}
+use Rattle.lf_spans.specs.Spans.{Holds, IsFilled, LiesIn}
+use Rattle.lf_floorplan.specs.declared.frame.Frame.{Frame}
+use Rattle.lf_floorplan.specs.declared.parts.Row.{Row}
+use Rattle.lf_floorplan.specs.Rows.{row_area}
+use Rattle.lf_floorplan.specs.Ground.{IsTeam, InGround}
+use Rattle.lf_segments.specs.declared.segment.Segment.{Segment}
+
+-- the row reaches over x, and none of its points there is in an obstacle
+pub record IsClearAt (f : Frame) (r : Row) (x : ℤ) : Type 0 where
+  pub left : r.x ≤ℤ x
+  pub right : x <ℤ (row_area f.pitch r).x2
+  pub clear : (y : ℤ) → Covers (row_area f.pitch r) x y → All (λ obstacle. Covers obstacle x y → ⊥) f.obstacles
+
+-- the team may use the row at x: the row is clear there, and each of its points there is the team's ground
+pub record IsOpen (f : Frame) (r : Row) (team : ℕ) (x : ℤ) : Type 0 where
+  pub clear : IsClearAt f r x
+  pub ground : (y : ℤ) → Covers (row_area f.pitch r) x y → InGround f team x y
+
+-- the segment is the team's, in the row of this number
+pub record IsOf (row team : ℕ) (g : Segment) : Type 0 where
+  pub in_row : g.row ≡ row
+  pub of_team : g.team ≡ team
+
+-- the span lies in one segment of the row and the team
+abbrev pub LiesInSegment : List Segment → ℕ → ℕ → Span → Type 0
+LiesInSegment segments row team s = Any (λ g. IsOf row team g × LiesIn s g.span) segments
+
+-- in one row, segments stand by their teams, and those of one team by x, without overlap
+abbrev pub ComesFirst : Segment → Segment → Type 0
+ComesFirst a b = (a.team < b.team) ⊎ ((a.team ≡ b.team) × (a.span.hi ≤ℤ b.span.lo))
+
+-- the order of the one list: by row, then by team, then by x
+abbrev pub ComesBefore : Segment → Segment → Type 0
+ComesBefore a b = (a.row < b.row) ⊎ ((a.row ≡ b.row) × ComesFirst a b)
+
+-- the segment is of a row and a team that there are, and a number lies in its span
+pub record IsSegment (f : Frame) (g : Segment) : Type 0 where
+  pub row_known : g.row < length f.rows
+  pub team_known : IsTeam f g.team
+  pub filled : IsFilled g.span
+
+-- the segments of a frame, in one list: a span that holds a number lies in a segment of a row and a team exactly where the team may use the row at each of its
+-- numbers. So segments are maximal
+pub record IsCut (f : Frame) (segments : List Segment) : Type 0 where
+  pub known : All (IsSegment f) segments
+  pub in_order : AllPairs ComesBefore segments
+  pub exact : (n : ℕ) (r : Row) (team : ℕ) (s : Span) → slice_get f.rows n ≡ Some r → IsFilled s →
+      (LiesInSegment segments n team s ↔ ((x : ℤ) → Holds s x → IsOpen f r team x))
+
+-- the run of a list that has a property, from the n-th on: nothing before it has the property, and nothing behind it
+pub record IsRunFrom (P : Segment → Type 0) (segments : List Segment) (n : ℕ) (run : List Segment) : Type 0 where
+  pub before : List Segment
+  pub behind : List Segment
+  pub parts : segments ≡ before ++ (run ++ behind)
+  pub begins : n ≡ length before
+  pub has : All P run
+  pub none_before : All (λ g. P g → ⊥) before
+  pub none_behind : All (λ g. P g → ⊥) behind
+
+-- the segments of the list that are of this row and team, which stand together
+abbrev pub IsRunOf : List Segment → ℕ → ℕ → List Segment → Type 0
+IsRunOf segments row team run = (n : ℕ) × IsRunFrom (IsOf row team) segments n run
+
+-- the segment is of this row and team, and holds x
+pub record IsAt (row team : ℕ) (x : ℤ) (g : Segment) : Type 0 where
+  pub of : IsOf row team g
+  pub holds : Holds g.span x

@@ -1,0 +1,120 @@
+//! What boxes leave free of a range, and what they cover over a height.
+
+ghost use Rattle.std.specs.Prelude.{◌≡◌, ◌↔◌, ◌≤ℤ◌, ◌<ℤ◌, All, IfOk, IsPermutation, IsTrue, map};
+ghost use Rattle.lf_units.specs.Area.{SharesPoint};
+ghost use Rattle.lf_spans.specs.Spans.{IsFree, IsInOrder, IsRising};
+ghost use Rattle.lf_segments.specs.Boxes.{across, AreSpansAt, IsCoveredAt, IsCoveredOver};
+
+use lf_rtree::Placed;
+use lf_spans::{spans_free, spans_join, spans_meet};
+use lf_units::{Rect, Span};
+use std::alloc::{AllocError, Global};
+
+/// The x range of a rectangle.
+pub(crate) fn span_of(rect: &Rect) -> Span
+    ensures { result ≡ across rect.now }
+{
+    Span {
+        lo: rect.x1,
+        hi: rect.x2,
+    }
+}
+
+/// The x ranges of boxes.
+fn spans_of(alloc: Global, boxes: &[Placed]) -> Result<Vec<Span>, AllocError>
+    ensures { IfOk result (λ spans. spans.items ≡ map (λ p. across p.rect) boxes.now) }
+{
+    let mut spans = Vec::new(alloc);
+    for placed in boxes {
+        spans.push(span_of(&placed.rect))?;
+    }
+    Ok(spans)
+}
+
+/// The x ranges of boxes, in the order of their beginnings.
+fn spans_in_order(alloc: Global, boxes: &[Placed]) -> Result<Vec<Span>, AllocError>
+    ensures moved { IfOk result (λ spans. IsPermutation (map (λ p. across p.rect) boxes.now) spans.items) }
+    ensures order { IfOk result (λ spans. IsInOrder spans.items) }
+{
+    let mut spans = spans_of(alloc, boxes)?;
+    spans.sort_unstable_by_key(|span| span.lo);
+    Ok(spans)
+}
+
+/// What the boxes leave free of the x range of an area.
+pub(crate) fn free_beside(
+    alloc: Global,
+    area: &Rect,
+    boxes: &[Placed],
+) -> Result<Vec<Span>, AllocError>
+    ensures { IfOk result (λ free. IsFree (across area.now) (map (λ p. across p.rect) boxes.now) free.items) }
+{
+    let taken = spans_in_order(alloc, boxes)?;
+    spans_free(alloc, &span_of(area), taken.as_slice())
+}
+
+/// Whether the rectangle reaches over this y.
+fn reaches(rect: &Rect, y: &i64) -> bool
+    ensures { IsTrue result ↔ ((rect.now.y1 ≤ℤ y.now) × (y.now <ℤ rect.now.y2)) }
+{
+    rect.y1 <= *y && *y < rect.y2
+}
+
+/// The x ranges of those boxes that reach over this y.
+fn spans_at(alloc: Global, boxes: &[Placed], y: &i64) -> Result<Vec<Span>, AllocError>
+    ensures { IfOk result (λ spans. AreSpansAt boxes.now y.now spans.items) }
+{
+    let mut spans = Vec::new(alloc);
+    for placed in boxes {
+        if !reaches(&placed.rect, y) {
+            continue;
+        }
+        spans.push(span_of(&placed.rect))?;
+    }
+    Ok(spans)
+}
+
+/// Of the free spans, what the boxes cover at this y.
+fn covered_at(
+    alloc: Global,
+    boxes: &[Placed],
+    y: &i64,
+    free: &[Span],
+) -> Result<Vec<Span>, AllocError>
+    requires { IsRising free.now }
+    ensures { IfOk result (λ covered. IsCoveredAt boxes.now y.now free.now covered.items) }
+{
+    let joined = spans_join(alloc, spans_at(alloc, boxes, y)?.as_slice())?;
+    spans_meet(alloc, free, joined.as_slice())
+}
+
+/// Whether the rectangle ends below the area's upper edge.
+fn ends_below(rect: &Rect, area: &Rect) -> bool
+    ensures { IsTrue result ↔ (rect.now.y2 <ℤ area.now.y2) }
+{
+    rect.y2 < area.y2
+}
+
+/// Of the free spans, what the boxes cover over the whole height of the area. What covers an area
+/// together changes at most where a box begins or ends, and only the ends can take anything away: so
+/// it is looked at from the area's lower edge and from each end within it.
+pub(crate) fn covered_over(
+    alloc: Global,
+    area: &Rect,
+    boxes: &[Placed],
+    free: &[Span],
+) -> Result<Vec<Span>, AllocError>
+    requires high { area.now.y1 <ℤ area.now.y2 }
+    requires rising { IsRising free.now }
+    requires near { All (λ p. SharesPoint area.now p.rect) boxes.now }
+    ensures { IfOk result (λ covered. IsCoveredOver boxes.now area.now.y1 area.now.y2 free.now covered.items) }
+{
+    let mut covered = covered_at(alloc, boxes, &area.y1, free)?;
+    for placed in boxes {
+        if !ends_below(&placed.rect, area) {
+            continue;
+        }
+        covered = covered_at(alloc, boxes, &placed.rect.y2, covered.as_slice())?;
+    }
+    Ok(covered)
+}

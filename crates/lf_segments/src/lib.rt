@@ -1,0 +1,17 @@
+//! Segments: the spans of rows that a team may use, each maximal, in one list; and a frame's rows in
+//! order of their y.
+#![tactic(auto)]
+
+mod boxes;
+mod cover;
+mod laws;
+mod row;
+mod rows_by_y;
+mod runs;
+mod segment;
+mod segments;
+
+pub use laws::{cut_is_one, lies_in_segments, runs_have_rows};
+pub use rows_by_y::{RowEntry, RowsByY};
+pub use segment::Segment;
+pub use segments::Segments;

@@ -1,0 +1,92 @@
+//! The segments of one row and team, found by bisection.
+
+ghost use Rattle.std.specs.Prelude.{◌≡◌, ◌↔◌, IsTrue, ◌<◌, ◌≤◌, ◌≤ℤ◌, ◌<ℤ◌, ℕ, All, AllPairs, MatchOption, length, slice_index_or};
+ghost use Rattle.std.specs.List.{HoldsAt};
+ghost use Rattle.std.specs.List.Sorted.{IsNonDecreasingBy};
+ghost use Rattle.lf_spans.specs.Spans.{IsFilled};
+ghost use Rattle.lf_segments.specs.declared.segment.Segment.{Segment};
+ghost use Rattle.lf_segments.specs.Segments.{ComesBefore, IsAt, IsOf, IsRunFrom};
+
+use crate::segment::Segment;
+
+/// Segments that stand together in a list, and the position of the first of them.
+#[derive(Clone, Copy)]
+pub(crate) struct Run<'a> {
+    pub(crate) start: usize,
+    pub(crate) segments: &'a [Segment],
+}
+
+/// The segments of a row, among those that stand by rows.
+fn run_of_row(segments: &[Segment], row: usize) -> Run<'_>
+    requires { IsNonDecreasingBy (λ g. g.row) segments.now }
+    ensures { IsRunFrom (λ g. g.row ≡ row) segments.now result.start result.segments.now }
+{
+    let start = segments.partition_point(|segment| segment.row < row);
+    let rest = &segments[start..];
+    let count = rest.partition_point(|segment| segment.row <= row);
+    Run {
+        start,
+        segments: &rest[..count],
+    }
+}
+
+/// The segments of a team, among those of a row, which stand by teams.
+fn run_of_team(segments: &[Segment], team: usize) -> Run<'_>
+    requires { IsNonDecreasingBy (λ g. g.team) segments.now }
+    ensures { IsRunFrom (λ g. g.team ≡ team) segments.now result.start result.segments.now }
+{
+    let start = segments.partition_point(|segment| segment.team < team);
+    let rest = &segments[start..];
+    let count = rest.partition_point(|segment| segment.team <= team);
+    Run {
+        start,
+        segments: &rest[..count],
+    }
+}
+
+/// The segments of a row and a team.
+pub(crate) fn run_of(segments: &[Segment], row: usize, team: usize) -> Run<'_>
+    requires { AllPairs ComesBefore segments.now }
+    ensures { IsRunFrom (IsOf row team) segments.now result.start result.segments.now }
+{
+    let in_row = run_of_row(segments, row);
+    let of_team = run_of_team(in_row.segments, team);
+    Run {
+        start: in_row.start + of_team.start,
+        segments: of_team.segments,
+    }
+}
+
+/// How many of the segments of a row and a team end at x or before it. They stand by x.
+fn count_ended(segments: &[Segment], x: &i64) -> usize
+    requires { AllPairs (λ g h. g.span.hi ≤ℤ h.span.hi) segments.now }
+    ensures within { result ≤ length segments.now }
+    ensures ended { (k : ℕ) → (d : Segment) → k < result → (slice_index_or segments.now k d).span.hi ≤ℤ x.now }
+    ensures rest { (k : ℕ) → (d : Segment) → result ≤ k → k < length segments.now → x.now <ℤ (slice_index_or segments.now k d).span.hi }
+{
+    segments.partition_point(|segment| segment.span.hi <= *x)
+}
+
+/// Whether the segment begins behind x.
+fn begins_behind(segment: &Segment, x: &i64) -> bool
+    ensures { IsTrue result ↔ (x.now <ℤ segment.now.span.lo) }
+{
+    *x < segment.span.lo
+}
+
+/// The position of the segment of a row and a team that holds x; none where there is none.
+pub(crate) fn place_in(segments: &[Segment], row: usize, team: usize, x: &i64) -> Option<usize>
+    requires order { AllPairs ComesBefore segments.now }
+    requires filled { All (λ g. IsFilled g.span) segments.now }
+    ensures { MatchOption result (All (λ g. IsAt row team x.now g → ⊥) segments.now) (λ n. HoldsAt (IsAt row team x.now) segments.now n) }
+{
+    let run = run_of(segments, row, team);
+    let k = count_ended(run.segments, x);
+    if run.segments.len() <= k {
+        return None;
+    }
+    if begins_behind(&run.segments[k], x) {
+        return None;
+    }
+    Some(run.start + k)
+}

@@ -1,0 +1,25 @@
+-- What the steps to the nearest number of a grid give.
+use Rattle.std.specs.Prelude.{◌≡◌, ◌⊎◌, ℤ, pos, negsuc, ◌+ℤ◌, ◌-ℤ◌, ◌≤ℤ◌, ◌<ℤ◌}
+use Rattle.lf_spans.specs.declared.span.Span.{Span}
+use Rattle.lf_spans.specs.declared.grid.Grid.{Grid}
+use Rattle.lf_spans.specs.Grids.{IsOnGrid}
+
+-- at most 2 to the 42nd power either way
+pub record IsSmall (v : ℤ) : Type 0 where
+  pub low : negsuc 4398046511103 ≤ℤ v
+  pub high : v ≤ℤ pos 4398046511104
+
+-- the nearer of two numbers around a target, and the left one where they are as near
+abbrev pub IsNearer : ℤ → ℤ → ℤ → ℤ → Type 0
+IsNearer left right target x =
+    ((x ≡ left) × ((target -ℤ left) ≤ℤ (right -ℤ target))) ⊎ ((x ≡ right) × ((right -ℤ target) <ℤ (target -ℤ left)))
+
+-- the first and the last number of the grid at which the width may lie in the span
+pub record AreEnds (span : Span) (g : Grid) (width first last : ℤ) : Type 0 where
+  pub rising : pos 0 <ℤ g.step
+  pub first_on : IsOnGrid g first
+  pub first_in : span.lo ≤ℤ first
+  pub first_near : (first -ℤ g.step) <ℤ span.lo
+  pub last_on : IsOnGrid g last
+  pub last_in : (last +ℤ width) ≤ℤ span.hi
+  pub last_near : (span.hi -ℤ width) <ℤ (last +ℤ g.step)

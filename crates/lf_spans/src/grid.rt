@@ -1,0 +1,130 @@
+//! Numbers of a grid, and the nearest one at which a width fits into a span.
+
+ghost use Rattle.std.specs.Prelude.{◌≡◌, ◌-ℤ◌, ◌+ℤ◌, ◌≤ℤ◌, ◌<ℤ◌, neg_ℤ, pos};
+ghost use Rattle.lf_spans.specs.Grids.{FindsNearest, FitsSpan, IsBounded, IsBoundedSpan, IsGrid, IsOnGrid, grid_of};
+ghost use Rattle.lf_spans.specs.GridSteps.{AreEnds, IsNearer, IsSmall};
+
+use crate::span::Span;
+
+/// The numbers that lie whole steps from an origin, in database units, as the sites of a row.
+#[derive(Clone, Copy, Debug, PartialEq, Eq)]
+pub struct Grid {
+    pub origin: i64,
+    pub step: i64,
+}
+
+/// How far the number is from one of the grid, less than one step either way.
+fn beyond(grid: &Grid, at: i64) -> i64
+    requires grid { IsGrid grid.now }
+    requires small { IsSmall at }
+    ensures on_grid { IsOnGrid grid.now (at -ℤ result) }
+    ensures low { neg_ℤ grid.now.step <ℤ result }
+    ensures high { result <ℤ grid.now.step }
+{
+    (at - grid.origin) % grid.step
+}
+
+/// The greatest number of the grid that is not above this one.
+fn last_to(grid: &Grid, at: i64) -> i64
+    requires grid { IsGrid grid.now }
+    requires small { IsSmall at }
+    ensures on_grid { IsOnGrid grid.now result }
+    ensures below { result ≤ℤ at }
+    ensures near { at <ℤ (result +ℤ grid.now.step) }
+{
+    let over = beyond(grid, at);
+    if over < 0 {
+        return at - over - grid.step;
+    }
+    at - over
+}
+
+/// The least number of the grid that is not below this one.
+fn first_from(grid: &Grid, at: i64) -> i64
+    requires grid { IsGrid grid.now }
+    requires small { IsSmall at }
+    ensures on_grid { IsOnGrid grid.now result }
+    ensures above { at ≤ℤ result }
+    ensures near { (result -ℤ grid.now.step) <ℤ at }
+{
+    let below = last_to(grid, at);
+    if below < at {
+        return below + grid.step;
+    }
+    below
+}
+
+/// The least and the greatest number of the grid at which the width may lie in the span.
+struct Ends {
+    first: i64,
+    last: i64,
+}
+
+fn ends_of(span: &Span, grid: &Grid, width: i64) -> Ends
+    requires grid { IsGrid grid.now }
+    requires span { IsBoundedSpan span.now }
+    requires width { IsBounded width }
+    ensures { AreEnds span.now grid.now width result.first result.last }
+{
+    let first = first_from(grid, span.lo);
+    let last = last_to(grid, span.hi - width);
+    Ends { first, last }
+}
+
+/// The nearer of two neighbours on the grid between which the target lies.
+fn nearer(grid: &Grid, left: i64, target: i64) -> i64
+    requires grid { IsGrid grid.now }
+    requires target { IsBounded target }
+    requires below { left ≤ℤ target }
+    requires above { target <ℤ (left +ℤ grid.now.step) }
+    ensures { IsNearer left (left +ℤ grid.now.step) target result }
+{
+    let right = left + grid.step;
+    let behind = target - left;
+    let ahead = right - target;
+    if ahead < behind {
+        return right;
+    }
+    left
+}
+
+/// The number of the grid nearest to the target from which on the width lies in the span, the
+/// lesser of two; none where there is no such number. All lengths are in database units.
+pub fn nearest_fit(span: &Span, grid: &Grid, width: i64, target: i64) -> Option<i64>
+    requires grid { IsGrid grid.now }
+    requires span { IsBoundedSpan span.now }
+    requires width { IsBounded width }
+    requires target { IsBounded target }
+    ensures { FindsNearest (λ x. FitsSpan span.now grid.now width x) target result }
+{
+    let Ends { first, last } = ends_of(span, grid, width);
+    if last < first {
+        return None;
+    }
+    if target <= first {
+        return Some(first);
+    }
+    if last <= target {
+        return Some(last);
+    }
+    let left = last_to(grid, target);
+    Some(nearer(grid, left, target))
+}
+
+fn grid_from(origin: i64, step: i64) -> Grid
+    ensures { result ≡ grid_of origin step }
+{
+    Grid { origin, step }
+}
+
+/// The same, of the grid of the numbers that lie whole steps from the origin: the nearest to the
+/// target from which on the width lies in the span, the lesser of two; none where there is none.
+pub fn nearest_on_grid(span: &Span, origin: i64, step: i64, width: i64, target: i64) -> Option<i64>
+    requires grid { IsGrid (grid_of origin step) }
+    requires span { IsBoundedSpan span.now }
+    requires width { IsBounded width }
+    requires target { IsBounded target }
+    ensures { FindsNearest (λ x. FitsSpan span.now (grid_of origin step) width x) target result }
+{
+    nearest_fit(span, &grid_from(origin, step), width, target)
+}

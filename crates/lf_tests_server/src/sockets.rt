@@ -1,0 +1,61 @@
+//! Connections over TCP, to this machine.
+
+use crate::connections::SOUND;
+use crate::designs::floor;
+use lf_server::{TcpServed, serve_tcp};
+use std::alloc::Global;
+use std::io;
+use std::io::{Read, Write};
+use std::net::{Ipv4Addr, Net, OpenListener, SocketAddr};
+use std::test::Fail;
+
+/// What is told of so many connections that were all accepted.
+fn all(connections: u32) -> TcpServed {
+    TcpServed {
+        connections,
+        accept_fault: false,
+    }
+}
+
+/// How so many connections to the floor of the built-in design are served.
+fn served<T: Net + AllocGlobal>(
+    rt: &T,
+    listener: &T::Listener,
+    connections: u32,
+) -> Result<TcpServed, Fail> {
+    let mut floor = floor(rt.alloc())?;
+    Ok(serve_tcp(rt, &mut floor, listener, connections, SOUND.limits))
+}
+
+/// A client that has sent these bytes.
+fn client<T: Net>(rt: &T, listener: &T::Listener, bytes: &[u8]) -> io::Result<T::Stream> {
+    let mut client = rt.connect(listener.local_addr()?)?;
+    client.write_all(bytes)?;
+    Ok(client)
+}
+
+/// Whether these are the bytes that the client is sent up to the end.
+fn is_told<S: Read>(alloc: Global, client: &mut S, replies: &[u8]) -> io::Result<bool> {
+    let mut all = Vec::new(alloc);
+    client.read_to_end(&mut all)?;
+    Ok(all.as_slice() == replies)
+}
+
+#[test]
+fn a_client_is_answered(rt: HostRuntime) -> Result<(), Fail> {
+    let listener = rt.bind(SocketAddr::from((Ipv4Addr::LOCALHOST, 0)))?;
+    let mut client = client(&rt, &listener, b"open A\nbye\n")?;
+    assert_eq!(rt; served(&rt, &listener, 1)?, all(1));
+    assert!(rt; is_told(rt.alloc(), &mut client, b"ok 0 0\nok\n")?);
+    Ok(())
+}
+
+#[test]
+fn half_a_line_is_not_carried_to_the_next_client(rt: HostRuntime) -> Result<(), Fail> {
+    let listener = rt.bind(SocketAddr::from((Ipv4Addr::LOCALHOST, 0)))?;
+    drop(client(&rt, &listener, b"open A\nplace A 0 a1 0")?);
+    let mut second = client(&rt, &listener, b"open A\nbye\n")?;
+    assert_eq!(rt; served(&rt, &listener, 2)?, all(2));
+    assert!(rt; is_told(rt.alloc(), &mut second, b"ok 1 0\nok\n")?);
+    Ok(())
+}
