@@ -6,9 +6,9 @@ use Rattle.std.proofs.lemmas.Int.{ints, by_lt_z}
 use Rattle.std.proofs.lemmas.List.{get_or_default, take_more}
 use Rattle.std.proofs.lemmas.List.Sorted.{All-permutation, IsPermutation-sym}
 use Rattle.lf_units.specs.declared.area.Rect.{Rect}
-use Rattle.lf_units.specs.declared.area.Span.{Span}
 use Rattle.lf_units.specs.Area.{Covers, SharesPoint}
 use Rattle.lf_units.proofs.Any.{any_first, any_later, any_cases, any_parts, any_left, any_right, any_one, none_of_nothing}
+use Rattle.lf_spans.specs.declared.span.Span.{Span}
 use Rattle.lf_rtree.specs.declared.placed.Placed.{Placed}
 use Rattle.lf_spans.specs.Spans.{Holds, IsFilled, AreApart, LiesInOne, IsRising, IsFree, IsJoin, IsMeet}
 use Rattle.lf_segments.specs.Boxes.{across, AreSpansAt, AreUnder, IsCoveredAt, IsCoveredOver}

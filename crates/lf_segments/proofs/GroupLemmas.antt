@@ -10,9 +10,9 @@ use Rattle.std.proofs.lemmas.List.{get_or_default, get_or-take, get_or-drop, len
 use Rattle.std.proofs.lemmas.List.Elements.{All-contains, All-map, Contains-get_or}
 use Rattle.std.proofs.lemmas.List.Sorted.{All-permutation, Contains-permutation, IsPermutation-sym}
 use Rattle.lf_units.specs.declared.area.Rect.{Rect}
-use Rattle.lf_units.specs.declared.area.Span.{Span}
 use Rattle.lf_units.specs.Area.{Covers, SharesPoint}
 use Rattle.lf_units.proofs.Any.{has_item}
+use Rattle.lf_spans.specs.declared.span.Span.{Span}
 use Rattle.lf_rtree.specs.declared.placed.Placed.{Placed}
 use Rattle.lf_spans.specs.Spans.{Holds, IsFilled, AreApart, LiesInOne, IsFree}
 use Rattle.lf_floorplan.specs.declared.frame.Frame.{Frame}

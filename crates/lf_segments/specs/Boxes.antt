@@ -2,8 +2,8 @@
 use Rattle.std.specs.Prelude.{◌≡◌, ◌⊎◌, ◌↔◌, ℕ, ◌+◌, ◌<◌, ◌≤◌, ℤ, ◌≤ℤ◌, ◌<ℤ◌, List, [], ◌∷◌, ◌++◌, map, length, All, AllPairs, Any, Contains}
 use Rattle.std.specs.List.Sorted.{IsNonDecreasingBy}
 use Rattle.lf_units.specs.declared.area.Rect.{Rect}
-use Rattle.lf_units.specs.declared.area.Span.{Span}
 use Rattle.lf_units.specs.Area.{Covers, SharesPoint}
+use Rattle.lf_spans.specs.declared.span.Span.{Span}
 use Rattle.lf_spans.specs.Spans.{Holds, IsFilled, IsRising, LiesInOne, HeldByOne}
 use Rattle.lf_rtree.specs.declared.placed.Placed.{Placed}
 use Rattle.lf_floorplan.specs.declared.frame.Frame.{Frame}

@@ -1,5 +1,5 @@
 use Rattle.std.proofs.Common.{◌++◌, ◌∙◌, List, ℕ, length, map, ap, sym, subst}
-use Rattle.lf_units.specs.declared.area.Span.{Span}
+use Rattle.lf_spans.specs.declared.span.Span.{Span}
 use Rattle.lf_segments.specs.Boxes.{segment_of, AreBoxesOf}
 use Rattle.lf_segments.proofs.GroupLemmas.{moved_boxes}
 use Rattle.lf_segments.proofs.RowLemmas.{row_more}
