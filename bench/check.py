@@ -14,7 +14,7 @@ import sys
 import tempfile
 import time
 
-from load import LEFENCE, best, grown, write
+from load import LEFENCE, best, grown, need, write
 
 COUNTS = 10_000, 100_000, 1_000_000
 DESIGNS = ((10, 0), (500, 10_000))
@@ -40,8 +40,7 @@ def figures(lef, def_, count):
 
 def main():
     runs = int(sys.argv[1]) if len(sys.argv) > 1 else 5
-    if not os.access(LEFENCE, os.X_OK):
-        sys.exit("build it first: (cd crates/lefence && rt run)")
+    need(LEFENCE)
     print(f"{'fences':>7} {'obstacles':>10} {'components':>11} {'check s':>9} {'times':>6} {'peak MB':>8} {'times':>6} {'replay s':>9} {'times':>6}")
     with tempfile.TemporaryDirectory() as folder:
         lef = os.path.join(folder, "x.lef")

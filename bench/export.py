@@ -14,7 +14,7 @@ import sys
 import tempfile
 import time
 
-from load import LEFENCE, best, grown, write
+from load import LEFENCE, best, grown, need, write
 
 COUNTS = 10_000, 100_000, 1_000_000
 TURNED = {"N": "FN", "FN": "N", "FS": "S", "S": "FS"}
@@ -70,8 +70,7 @@ def figures(lef, def_, lines, new, wanted):
 
 def main():
     runs = int(sys.argv[1]) if len(sys.argv) > 1 else 5
-    if not os.access(LEFENCE, os.X_OK):
-        sys.exit("build it first: (cd crates/lefence && rt run)")
+    need(LEFENCE)
     print(f"{'components':>11} {'DEF MB':>7} {'replay s':>9} {'export s':>9} {'times':>6} {'cp s':>7} {'peak MB':>8}")
     with tempfile.TemporaryDirectory() as folder:
         lef = os.path.join(folder, "x.lef")

@@ -21,6 +21,12 @@ from read import PROGRAM, TOP
 LEFENCE = os.path.join(TOP, "crates", "lefence", "out", "lefence")
 
 
+def need(program):
+    """Ends the script where the program is not built."""
+    if not os.access(program, os.X_OK):
+        sys.exit(f"build it first: (cd {os.path.dirname(os.path.dirname(program))} && rt run)")
+
+
 def write(path, *words):
     with open(path, "wb") as out:
         subprocess.run([sys.executable, os.path.join(TOP, "bench", "generate.py"), *map(str, words)], stdout=out, check=True)
@@ -68,8 +74,7 @@ def main():
     words = [int(word) for word in sys.argv[1:]]
     fences, rows, runs = words + [500, 10_000, 5][len(words):]
     for program in (PROGRAM, LEFENCE):
-        if not os.access(program, os.X_OK):
-            sys.exit(f"build it first: (cd {os.path.dirname(os.path.dirname(program))} && rt run)")
+        need(program)
     print(f"{'design':>7} {'components':>10} {'DEF MB':>7} {'load s':>8} {'times':>6} {'replay s':>9} {'times':>6} {'peak MB':>8} {'times':>6}")
     with tempfile.TemporaryDirectory() as folder:
         lef = os.path.join(folder, "x.lef")

@@ -17,7 +17,7 @@ import tempfile
 import time
 
 from export import TURNED
-from load import LEFENCE, write
+from load import LEFENCE, need, write
 
 
 def commands(def_, count):
@@ -88,8 +88,7 @@ def over_loopback(lef, def_, lines):
 def main():
     words = [int(word) for word in sys.argv[1:]]
     cells, count, runs = words + [100_000, 20_000, 5][len(words):]
-    if not os.access(LEFENCE, os.X_OK):
-        sys.exit("build it first: (cd crates/lefence && rt run)")
+    need(LEFENCE)
     print(f"{'over':>9} {'where one':>10} {'where hundred':>14} {'place one':>10} {'place hundred':>14}    commands per second")
     with tempfile.TemporaryDirectory() as folder:
         lef, def_ = (os.path.join(folder, name) for name in ("x.lef", "x.def"))
