@@ -19,11 +19,11 @@ module _ (IsDesign : Loaded → Type 0) (loaded : Loaded) (design : IsDesign loa
   comes_of Comes = IfOk-weaker r (Comes loaded) (λ status. (l : Loaded) × IsDesign l × Comes l status) (λ status is. (loaded, design, is))
 
   -- and a fault behind loading is one of the whole task
-  pub fails : (no_design why early : Fault → Type 0) (kept : Type 0) (old new : Option (List ℕ))
-      → IfErr r (Ends (λ fault. why fault × (early fault → kept)) old new)
-      → IfErr r (Ends (λ fault. (no_design fault ⊎ ((l : Loaded) × IsDesign l × why fault)) × (early fault → kept)) old new)
-  fails no_design why early kept old new = IfErr-weaker r (Ends (λ fault. why fault × (early fault → kept)) old new)
-      (Ends (λ fault. (no_design fault ⊎ ((l : Loaded) × IsDesign l × why fault)) × (early fault → kept)) old new)
+  pub fails : (no_design early : Fault → Type 0) (why : Loaded → Fault → Type 0) (kept : Type 0) (old new : Option (List ℕ))
+      → IfErr r (Ends (λ fault. why loaded fault × (early fault → kept)) old new)
+      → IfErr r (Ends (λ fault. (no_design fault ⊎ ((l : Loaded) × IsDesign l × why l fault)) × (early fault → kept)) old new)
+  fails no_design early why kept old new = IfErr-weaker r (Ends (λ fault. why loaded fault × (early fault → kept)) old new)
+      (Ends (λ fault. (no_design fault ⊎ ((l : Loaded) × IsDesign l × why l fault)) × (early fault → kept)) old new)
       (λ exit ends. (ends.0, (inr (loaded, design, ends.1.0), ends.1.1), ends.2))
 
 -- the status of a fault is one of a task that was not done

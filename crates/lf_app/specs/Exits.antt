@@ -106,9 +106,16 @@ IsOutcome gives (check def lefs) io status = (loaded : Loaded) × IsDesignOf giv
 
 -- ---- faults
 
--- why lines are not answered up to their end
-abbrev pub IsLinesFault : Fault → Type 0
-IsLinesFault fault = (fault ≡ no_memory) ⊎ ((ending : Ending) × (ending_fault ending ≡ Some fault))
+-- the lines of the input were served on the floor of the design, up to an end that is this fault
+pub record IsBrokenOff (loaded : Loaded) (fault : Fault) (input left before after : Option (List ℕ)) : Type 0 where
+  pub floor : FloorState
+  pub ending : Ending
+  pub is : ending_fault ending ≡ Some fault
+  pub served : (l : Legalizer) → IsServed l (opening loaded) floor input left before after ending
+
+-- why lines are not answered up to their end: there is no memory for the floor, or serving them ended so
+abbrev pub IsLinesFault : Loaded → Fault → Option (List ℕ) → Option (List ℕ) → Option (List ℕ) → Option (List ℕ) → Type 0
+IsLinesFault loaded fault input left before after = (fault ≡ no_memory) ⊎ IsBrokenOff loaded fault input left before after
 
 -- the faults before anything is written
 abbrev pub IsEarly : Fault → Type 0
@@ -116,15 +123,27 @@ IsEarly (Refused refusal) = Unit {0}
 IsEarly File = Unit {0}
 IsEarly _ = ⊥
 
--- why the work on a design that was opened is not done, or the exported text not written
-abbrev pub IsWorkFault : (Fault → Type 0) → Fault → Type 0
-IsWorkFault why fault = why fault ⊎ IsExportFault fault
+-- why the work on a design is not done: it fails itself, or it is finished and the exported text that was asked for is not written
+abbrev pub IsWorkFault : Option (List ℕ) → (Fault → Streams → Type 0) → (FloorState → Streams → Type 0) → Fault → Streams → Type 0
+IsWorkFault None why Work fault io = why fault io
+IsWorkFault (Some path) why Work fault io = why fault io ⊎ (IsExportFault fault × ((floor : FloorState) × Work floor io))
+
+-- there is no design for this reason, or there is one, and this is why the work on it is not done
+abbrev pub IsJobStop : (Fault → Type 0) → (Loaded → Type 0) → (Loaded → Fault → Streams → Type 0) → Fault → Streams → Type 0
+IsJobStop no_design IsDesign why fault io = no_design fault ⊎ ((loaded : Loaded) × IsDesign loaded × why loaded fault io)
 
 -- why a job is not done: there is no design; or there is one, and the lines, the service, the export or the report fail
-abbrev pub IsJobFault : Gives → Job → Fault → Type 0
-IsJobFault gives demo fault = IsTextFault W_DEF.now W_LEF.now fault ⊎ ((loaded : Loaded) × IsTextDesign W_DEF.now W_LEF.now loaded × IsLinesFault fault)
-IsJobFault gives (replay def lefs export) fault =
-    IsDesignFault gives def lefs fault ⊎ ((loaded : Loaded) × IsDesignOf gives def lefs loaded × IsWorkFault IsLinesFault fault)
-IsJobFault gives (serve def lefs port connections export) fault =
-    IsDesignFault gives def lefs fault ⊎ ((loaded : Loaded) × IsDesignOf gives def lefs loaded × IsWorkFault (λ f. (f ≡ no_memory) ⊎ IsServiceFault f) fault)
-IsJobFault gives (check def lefs) fault = IsDesignFault gives def lefs fault ⊎ ((loaded : Loaded) × IsDesignOf gives def lefs loaded × IsReportFault fault)
+abbrev pub IsJobFault : Gives → Job → Fault → Streams → Type 0
+IsJobFault gives demo fault io =
+    IsJobStop (IsTextFault W_DEF.now W_LEF.now) (IsTextDesign W_DEF.now W_LEF.now)
+    (λ loaded fault io. IsLinesFault loaded fault io.input io.left io.before io.after) fault io
+IsJobFault gives (replay def lefs export) fault io =
+    IsJobStop (IsDesignFault gives def lefs) (IsDesignOf gives def lefs)
+    (λ loaded. IsWorkFault export (λ fault io. IsLinesFault loaded fault io.input io.left io.before io.after)
+    (λ floor io. IsAnswered loaded floor io.input io.left io.before io.after)) fault io
+IsJobFault gives (serve def lefs port connections export) fault io =
+    IsJobStop (IsDesignFault gives def lefs) (IsDesignOf gives def lefs)
+    (λ loaded. IsWorkFault export (λ fault io. (fault ≡ no_memory) ⊎ IsServiceFault fault)
+    (λ floor io. IsOffered loaded floor connections io.before io.after)) fault io
+IsJobFault gives (check def lefs) fault io =
+    IsJobStop (IsDesignFault gives def lefs) (IsDesignOf gives def lefs) (λ loaded fault io. IsReportFault fault) fault io

@@ -5,7 +5,7 @@ ghost use Rattle.lf_command.specs.Command.{IsCheck, as_job};
 ghost use Rattle.lf_floorplan.specs.declared.loaded.Loaded.{Loaded};
 ghost use Rattle.lf_teams.specs.States.{FloorState};
 ghost use Rattle.lf_app.specs.Designs.{IsDesignFault, IsDesignOf, IsTextDesign, IsTextFault};
-ghost use Rattle.lf_app.specs.Exits.{Ends, IsAnswered, IsEarly, IsJobFault, IsLinesFault, IsOutcome, IsReported, streams};
+ghost use Rattle.lf_app.specs.Exits.{Ends, IsAnswered, IsEarly, IsJobFault, IsJobStop, IsLinesFault, IsOutcome, IsReported, streams};
 ghost use Rattle.lf_app.specs.Faults.{IsDone, IsFailure, IsReportFault};
 
 use crate::designs::{design_of_files, design_of_texts};
@@ -59,7 +59,9 @@ fn demo<R: Read, W: Write, F: Write>(
         × IsAnswered loaded floor (R.remaining reader.old) (R.remaining reader.new) (W.contents writer.old) (W.contents writer.new)) × (status ≡ 0)) }
     ensures kept { OnOk result (faults.new ≡ faults.old) }
     ensures err { IfErr result (Ends (λ fault.
-        (IsTextFault W_DEF.now W_LEF.now fault ⊎ ((loaded : Loaded) × IsTextDesign W_DEF.now W_LEF.now loaded × IsLinesFault fault))
+        IsJobStop (IsTextFault W_DEF.now W_LEF.now) (IsTextDesign W_DEF.now W_LEF.now)
+        (λ loaded fault io. IsLinesFault loaded fault io.input io.left io.before io.after) fault
+        (streams (R.remaining reader.old) (R.remaining reader.new) (W.contents writer.old) (W.contents writer.new) None None)
         × (IsEarly fault → writer.new ≡ writer.old)) (F.contents faults.old) (F.contents faults.new)) }
 {
     let loaded = design_of_texts(alloc, W_DEF, W_LEF, faults)?;
@@ -99,7 +101,9 @@ fn outcome<T: Texts, N: Net + AllocGlobal, E: Exports, R: Read, W: Write, F: Wri
     ensures ok { IfOk result (IsOutcome (T.gives texts.now) (as_job task.now)
         (streams (R.remaining reader.old) (R.remaining reader.new) (W.contents writer.old) (W.contents writer.new) (E.puts exports.old) (E.puts exports.new))) }
     ensures kept { OnOk result (faults.new ≡ faults.old) }
-    ensures err { IfErr result (Ends (λ fault. IsJobFault (T.gives texts.now) (as_job task.now) fault × (IsEarly fault → writer.new ≡ writer.old))
+    ensures err { IfErr result (Ends (λ fault. IsJobFault (T.gives texts.now) (as_job task.now) fault
+        (streams (R.remaining reader.old) (R.remaining reader.new) (W.contents writer.old) (W.contents writer.new) (E.puts exports.old) (E.puts exports.new))
+        × (IsEarly fault → writer.new ≡ writer.old))
         (F.contents faults.old) (F.contents faults.new)) }
     ensures unread { IsCheck task.now → reader.new ≡ reader.old }
 {
@@ -166,7 +170,9 @@ pub fn perform_over<T: Texts, N: Net + AllocGlobal, E: Exports, R: Read, W: Writ
         (streams (R.remaining reader.old) (R.remaining reader.new) (W.contents writer.old) (W.contents writer.new) (E.puts exports.old) (E.puts exports.new)) result.status }
     ensures done { IsDone result.status → faults.new ≡ faults.old }
     ensures told { IsDone result.status → IsTrue result.is_told }
-    ensures fault { IsFailure result.status → Ends (λ fault. IsJobFault (T.gives texts.now) (as_job task.now) fault × (IsEarly fault → writer.new ≡ writer.old))
+    ensures fault { IsFailure result.status → Ends (λ fault. IsJobFault (T.gives texts.now) (as_job task.now) fault
+        (streams (R.remaining reader.old) (R.remaining reader.new) (W.contents writer.old) (W.contents writer.new) (E.puts exports.old) (E.puts exports.new))
+        × (IsEarly fault → writer.new ≡ writer.old))
         (F.contents faults.old) (F.contents faults.new) result }
     ensures checked { result.status ≡ 4 → IsCheck task.now }
     ensures unread { IsCheck task.now → reader.new ≡ reader.old }

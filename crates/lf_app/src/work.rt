@@ -1,7 +1,7 @@
 //! Work on a design: its lines are answered or its connections served, and then the text with its committed places is
 //! written where one is asked for.
 
-ghost use Rattle.std.specs.Prelude.{Some, ◌≡◌, ◌⊎◌, ◌++◌, ◌∷◌, [], ℕ, List, Option, Ok, IfErr, IfOk, OnOk, codes, map, option_map};
+ghost use Rattle.std.specs.Prelude.{Some, ◌≡◌, ◌⊎◌, ◌++◌, ◌∷◌, [], ℕ, List, Option, Ok, IfErr, IfOk, IsSome, OnErr, OnOk, codes, map, option_map};
 ghost use Rattle.std.specs.Io.KnownBytes.{Appends};
 ghost use Rattle.lf_lef.specs.Contents.{Contents};
 ghost use Rattle.lf_def.specs.Contents.{contents};
@@ -14,9 +14,9 @@ ghost use Rattle.lf_teams.specs.Places.{AreCommittedPlaces};
 ghost use Rattle.lf_teams.specs.States.{FloorState};
 ghost use Rattle.lf_files.specs.Shelf.{Put};
 ghost use Rattle.lf_app.specs.Designs.{IsDefRefusal, IsDesignFault, IsDesignIn, IsDesignOf, IsFileDesign, IsFileFault, IsLibraryFault, IsLibraryOf, IsLoadRefusal, IsLoadedIn, IsRefused, no_library};
-ghost use Rattle.lf_app.specs.Exits.{Ends, IsAnswered, IsEarly, IsExported, IsFinished, IsLinesFault, IsOffered, IsWorkFault, IsWorked, streams};
+ghost use Rattle.lf_app.specs.Exits.{Ends, IsAnswered, IsEarly, IsExported, IsFinished, IsJobStop, IsLinesFault, IsOffered, IsWorked, streams};
 ghost use Rattle.lf_app.specs.Faults.{IsExportFault, IsServiceFault, no_memory};
-ghost use Rattle.lf_app.specs.Work.{IsDone, IsFault};
+ghost use Rattle.lf_app.specs.Work.{IsDone, IsFault, IsStopped};
 
 use crate::designs::{add_files, load_document, read_document, read_text};
 use crate::faults::{Exit, Fault, ending_fault, memory_fault, tell};
@@ -58,8 +58,9 @@ fn answer_on<R: Read, W: Write, F: Write>(
         → OnOk result (IsAnswered loaded floor.new (R.remaining reader.old) (R.remaining reader.new) (W.contents writer.old) (W.contents writer.new)) }
     ensures components { floor.new.components ≡ floor.old.components }
     ensures kept { OnOk result (faults.new ≡ faults.old) }
-    ensures err { IfErr result (Ends (λ fault. IsLinesFault fault × (IsEarly fault → writer.new ≡ writer.old))
-        (F.contents faults.old) (F.contents faults.new)) }
+    ensures err { (loaded : Loaded) → floor.old ≡ opening loaded → IfErr result (Ends (λ fault. IsLinesFault loaded fault
+        (R.remaining reader.old) (R.remaining reader.new) (W.contents writer.old) (W.contents writer.new)
+        × (IsEarly fault → writer.new ≡ writer.old)) (F.contents faults.old) (F.contents faults.new)) }
 {
     match ending_fault(answer_lines(alloc, floor, reader, writer)) {
         Some(fault) => Err(tell(faults, &fault)),
@@ -113,11 +114,13 @@ fn answer<N: Net + AllocGlobal, R: Read, W: Write, F: Write>(
     faults: &mut F,
 ) -> Result<(), Exit>
     ensures ok { (loaded : Loaded) → floor.old ≡ opening loaded
-        → (old_puts new_puts : Option (List Put)) → OnOk result (IsDone lines loaded floor.new (streams (R.remaining reader.old) (R.remaining reader.new) (W.contents writer.old) (W.contents writer.new) old_puts new_puts)) }
+        → (old_puts new_puts : Option (List Put)) → OnOk result (IsDone lines loaded floor.new
+        (streams (R.remaining reader.old) (R.remaining reader.new) (W.contents writer.old) (W.contents writer.new) old_puts new_puts)) }
     ensures components { floor.new.components ≡ floor.old.components }
     ensures kept { OnOk result (faults.new ≡ faults.old) }
-    ensures err { IfErr result (Ends (λ fault. IsFault lines fault × (IsEarly fault → writer.new ≡ writer.old))
-        (F.contents faults.old) (F.contents faults.new)) }
+    ensures err { (loaded : Loaded) → floor.old ≡ opening loaded → (old_puts new_puts : Option (List Put)) → IfErr result (Ends (λ fault.
+        IsFault lines loaded fault (streams (R.remaining reader.old) (R.remaining reader.new) (W.contents writer.old) (W.contents writer.new)
+        old_puts new_puts) × (IsEarly fault → writer.new ≡ writer.old)) (F.contents faults.old) (F.contents faults.new)) }
 {
     match lines {
         Lines::Stream => answer_on(rt.alloc(), floor, reader, writer, faults),
@@ -153,6 +156,7 @@ fn export_to<E: Exports, F: Write>(
         (E.puts exports.old) (E.puts exports.new)) }
     ensures kept { OnOk result (faults.new ≡ faults.old) }
     ensures err { IfErr result (Ends IsExportFault (F.contents faults.old) (F.contents faults.new)) }
+    ensures asked { OnErr result (IsSome (option_map (λ path. path.now) path.entry)) }
 {
     let Some(path) = path else {
         return Ok(());
@@ -184,8 +188,9 @@ fn work_on_floor<N: Net + AllocGlobal, E: Exports, R: Read, W: Write, F: Write>(
         (option_map (λ path. path.now) path.entry) document.now.text.now (contents document.now)
         (streams (R.remaining reader.old) (R.remaining reader.new) (W.contents writer.old) (W.contents writer.new) (E.puts exports.old) (E.puts exports.new))) }
     ensures kept { OnOk result (faults.new ≡ faults.old) }
-    ensures err { IfErr result (Ends (λ fault. IsWorkFault (IsFault lines) fault × (IsEarly fault → writer.new ≡ writer.old))
-        (F.contents faults.old) (F.contents faults.new)) }
+    ensures err { (loaded : Loaded) → floor.old ≡ opening loaded → IfErr result (Ends (λ fault. IsStopped (option_map (λ path. path.now) path.entry) lines loaded fault
+        (streams (R.remaining reader.old) (R.remaining reader.new) (W.contents writer.old) (W.contents writer.new) (E.puts exports.old) (E.puts exports.new))
+        × (IsEarly fault → writer.new ≡ writer.old)) (F.contents faults.old) (F.contents faults.new)) }
 {
     if let Err(exit) = answer(rt, floor, lines, reader, writer, faults) {
         return Err(exit);
@@ -213,8 +218,9 @@ fn work_on_document<N: Net + AllocGlobal, E: Exports, R: Read, W: Write, F: Writ
         (option_map (λ path. path.now) path.entry) document.now.text.now (contents document.now)
         (streams (R.remaining reader.old) (R.remaining reader.new) (W.contents writer.old) (W.contents writer.new) (E.puts exports.old) (E.puts exports.new))) }
     ensures kept { OnOk result (faults.new ≡ faults.old) }
-    ensures err { IfErr result (Ends (λ fault. IsWorkFault (IsFault lines) fault × (IsEarly fault → writer.new ≡ writer.old))
-        (F.contents faults.old) (F.contents faults.new)) }
+    ensures err { IfErr result (Ends (λ fault. IsStopped (option_map (λ path. path.now) path.entry) lines loaded fault
+        (streams (R.remaining reader.old) (R.remaining reader.new) (W.contents writer.old) (W.contents writer.new) (E.puts exports.old) (E.puts exports.new))
+        × (IsEarly fault → writer.new ≡ writer.old)) (F.contents faults.old) (F.contents faults.new)) }
 {
     loaded_cells_can_be_given();
     places_follow_design();
@@ -253,11 +259,13 @@ fn work_on_read<N: Net + AllocGlobal, E: Exports, R: Read, W: Write, F: Write>(
     faults: &mut F,
 ) -> Result<u8, Exit>
     ensures ok { IfOk result (λ status. (status ≡ 0) × ((loaded : Loaded) × IsLoadedIn library (contents document.now) loaded
-        × IsFinished (IsDone lines loaded) (option_map (λ path. path.now) path.entry) document.now.text.now (contents document.now) (streams (R.remaining reader.old) (R.remaining reader.new) (W.contents writer.old) (W.contents writer.new) (E.puts exports.old) (E.puts exports.new)))) }
+        × IsFinished (IsDone lines loaded) (option_map (λ path. path.now) path.entry) document.now.text.now (contents document.now)
+        (streams (R.remaining reader.old) (R.remaining reader.new) (W.contents writer.old) (W.contents writer.new) (E.puts exports.old) (E.puts exports.new)))) }
     ensures kept { OnOk result (faults.new ≡ faults.old) }
-    ensures err { IfErr result (Ends (λ fault. (IsRefused (IsLoadRefusal library (contents document.now)) fault
-        ⊎ ((loaded : Loaded) × IsLoadedIn library (contents document.now) loaded × IsWorkFault (IsFault lines) fault)) × (IsEarly fault → writer.new ≡ writer.old))
-        (F.contents faults.old) (F.contents faults.new)) }
+    ensures err { IfErr result (Ends (λ fault. IsJobStop (IsRefused (IsLoadRefusal library (contents document.now))) (IsLoadedIn library (contents document.now))
+        (IsStopped (option_map (λ path. path.now) path.entry) lines) fault
+        (streams (R.remaining reader.old) (R.remaining reader.new) (W.contents writer.old) (W.contents writer.new) (E.puts exports.old) (E.puts exports.new))
+        × (IsEarly fault → writer.new ≡ writer.old)) (F.contents faults.old) (F.contents faults.new)) }
 {
     match loaded_of(rt.alloc(), library, document, faults) {
         Ok(loaded) => work_on_document(
@@ -281,11 +289,13 @@ fn work_on_text<N: Net + AllocGlobal, E: Exports, R: Read, W: Write, F: Write>(
 ) -> Result<u8, Exit>
     ensures ok { IfOk result (λ status. (status ≡ 0) × ((document : Document) × (document_of text.now ≡ Ok document)
         × ((loaded : Loaded) × IsLoadedIn library document loaded
-        × IsFinished (IsDone lines loaded) (option_map (λ path. path.now) path.entry) text.now document (streams (R.remaining reader.old) (R.remaining reader.new) (W.contents writer.old) (W.contents writer.new) (E.puts exports.old) (E.puts exports.new))))) }
+        × IsFinished (IsDone lines loaded) (option_map (λ path. path.now) path.entry) text.now document
+        (streams (R.remaining reader.old) (R.remaining reader.new) (W.contents writer.old) (W.contents writer.new) (E.puts exports.old) (E.puts exports.new))))) }
     ensures kept { OnOk result (faults.new ≡ faults.old) }
-    ensures err { IfErr result (Ends (λ fault. (IsRefused (IsDefRefusal library text.now) fault
-        ⊎ ((loaded : Loaded) × IsDesignIn library text.now loaded × IsWorkFault (IsFault lines) fault)) × (IsEarly fault → writer.new ≡ writer.old))
-        (F.contents faults.old) (F.contents faults.new)) }
+    ensures err { IfErr result (Ends (λ fault. IsJobStop (IsRefused (IsDefRefusal library text.now)) (IsDesignIn library text.now)
+        (IsStopped (option_map (λ path. path.now) path.entry) lines) fault
+        (streams (R.remaining reader.old) (R.remaining reader.new) (W.contents writer.old) (W.contents writer.new) (E.puts exports.old) (E.puts exports.new))
+        × (IsEarly fault → writer.new ≡ writer.old)) (F.contents faults.old) (F.contents faults.new)) }
 {
     match read_document(rt.alloc(), text, faults) {
         Ok(document) => work_on_read(
@@ -310,11 +320,13 @@ fn work_on_def<T: Texts, N: Net + AllocGlobal, E: Exports, R: Read, W: Write, F:
 ) -> Result<u8, Exit>
     ensures ok { IfOk result (λ status. (status ≡ 0) × ((text : List ℕ) × T.gives texts.now def.now (Some text)
         × ((document : Document) × (document_of text ≡ Ok document) × ((loaded : Loaded) × IsLoadedIn library document loaded
-        × IsFinished (IsDone lines loaded) (option_map (λ path. path.now) path.entry) text document (streams (R.remaining reader.old) (R.remaining reader.new) (W.contents writer.old) (W.contents writer.new) (E.puts exports.old) (E.puts exports.new)))))) }
+        × IsFinished (IsDone lines loaded) (option_map (λ path. path.now) path.entry) text document
+        (streams (R.remaining reader.old) (R.remaining reader.new) (W.contents writer.old) (W.contents writer.new) (E.puts exports.old) (E.puts exports.new)))))) }
     ensures kept { OnOk result (faults.new ≡ faults.old) }
-    ensures err { IfErr result (Ends (λ fault. (IsFileFault (T.gives texts.now) def.now (IsDefRefusal library) fault
-        ⊎ ((loaded : Loaded) × IsFileDesign (T.gives texts.now) def.now library loaded × IsWorkFault (IsFault lines) fault)) × (IsEarly fault → writer.new ≡ writer.old))
-        (F.contents faults.old) (F.contents faults.new)) }
+    ensures err { IfErr result (Ends (λ fault. IsJobStop (IsFileFault (T.gives texts.now) def.now (IsDefRefusal library)) (IsFileDesign (T.gives texts.now) def.now library)
+        (IsStopped (option_map (λ path. path.now) path.entry) lines) fault
+        (streams (R.remaining reader.old) (R.remaining reader.new) (W.contents writer.old) (W.contents writer.new) (E.puts exports.old) (E.puts exports.new))
+        × (IsEarly fault → writer.new ≡ writer.old)) (F.contents faults.old) (F.contents faults.new)) }
 {
     match read_text(texts, def, faults) {
         Ok(text) => work_on_text(
@@ -366,9 +378,10 @@ pub(crate) fn work_on_files<
     ensures ok { IfOk result (λ status. IsWorked (T.gives texts.now) def.now (map (λ lef. lef.now) lefs.now) (option_map (λ path. path.now) path.entry)
         (IsDone lines) (streams (R.remaining reader.old) (R.remaining reader.new) (W.contents writer.old) (W.contents writer.new) (E.puts exports.old) (E.puts exports.new)) × (status ≡ 0)) }
     ensures kept { OnOk result (faults.new ≡ faults.old) }
-    ensures err { IfErr result (Ends (λ fault. (IsDesignFault (T.gives texts.now) def.now (map (λ lef. lef.now) lefs.now) fault
-        ⊎ ((loaded : Loaded) × IsDesignOf (T.gives texts.now) def.now (map (λ lef. lef.now) lefs.now) loaded × IsWorkFault (IsFault lines) fault)) × (IsEarly fault → writer.new ≡ writer.old))
-        (F.contents faults.old) (F.contents faults.new)) }
+    ensures err { IfErr result (Ends (λ fault. IsJobStop (IsDesignFault (T.gives texts.now) def.now (map (λ lef. lef.now) lefs.now)) (IsDesignOf (T.gives texts.now) def.now (map (λ lef. lef.now) lefs.now))
+        (IsStopped (option_map (λ path. path.now) path.entry) lines) fault
+        (streams (R.remaining reader.old) (R.remaining reader.new) (W.contents writer.old) (W.contents writer.new) (E.puts exports.old) (E.puts exports.new))
+        × (IsEarly fault → writer.new ≡ writer.old)) (F.contents faults.old) (F.contents faults.new)) }
 {
     match library_of(rt.alloc(), texts, lefs, faults) {
         Ok(library) => work_on_def(
@@ -390,8 +403,9 @@ fn answer_all<R: Read, W: Write, F: Write>(
         → IfOk result (λ status. ((floor : FloorState)
         × IsAnswered loaded floor (R.remaining reader.old) (R.remaining reader.new) (W.contents writer.old) (W.contents writer.new)) × (status ≡ 0)) }
     ensures kept { OnOk result (faults.new ≡ faults.old) }
-    ensures err { IfErr result (Ends (λ fault. IsLinesFault fault × (IsEarly fault → writer.new ≡ writer.old))
-        (F.contents faults.old) (F.contents faults.new)) }
+    ensures err { (loaded : Loaded) → floor.old ≡ opening loaded → IfErr result (Ends (λ fault. IsLinesFault loaded fault
+        (R.remaining reader.old) (R.remaining reader.new) (W.contents writer.old) (W.contents writer.new)
+        × (IsEarly fault → writer.new ≡ writer.old)) (F.contents faults.old) (F.contents faults.new)) }
 {
     match answer_on(alloc, floor, reader, writer, faults) {
         Ok(()) => Ok(0),
@@ -410,8 +424,9 @@ pub(crate) fn answer_over<R: Read, W: Write, F: Write>(
     ensures ok { IfOk result (λ status. ((floor : FloorState)
         × IsAnswered loaded floor (R.remaining reader.old) (R.remaining reader.new) (W.contents writer.old) (W.contents writer.new)) × (status ≡ 0)) }
     ensures kept { OnOk result (faults.new ≡ faults.old) }
-    ensures err { IfErr result (Ends (λ fault. IsLinesFault fault × (IsEarly fault → writer.new ≡ writer.old))
-        (F.contents faults.old) (F.contents faults.new)) }
+    ensures err { IfErr result (Ends (λ fault. IsLinesFault loaded fault
+        (R.remaining reader.old) (R.remaining reader.new) (W.contents writer.old) (W.contents writer.new)
+        × (IsEarly fault → writer.new ≡ writer.old)) (F.contents faults.old) (F.contents faults.new)) }
 {
     match Floor::start(alloc, loaded, PlainSeeker) {
         Ok(mut floor) => answer_all(alloc, &mut floor, reader, writer, faults),

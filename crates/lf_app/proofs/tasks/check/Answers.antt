@@ -16,4 +16,4 @@ returns-clause-err g c =
     let design = IsDesignOf (g.T.Texts.gives c.args.texts.now) c.args.def.now (map (λ lef. lef.now) c.args.lefs.now) in
     let no_design = IsDesignFault (g.T.Texts.gives c.args.texts.now) c.args.def.now (map (λ lef. lef.now) c.args.lefs.now) in
     fails design c.in_ok-loaded.loaded c.in_ok-loaded.ensures.ok c.check_design.result
-    no_design IsReportFault IsEarly (c.check_design.new.writer ≡ c.args.writer.now) _ _ (rw c.in_ok-loaded.ensures.kept at c.check_design.ensures.err)
+    no_design IsEarly (λ l. IsReportFault) (c.check_design.new.writer ≡ c.args.writer.now) _ _ (rw c.in_ok-loaded.ensures.kept at c.check_design.ensures.err)

@@ -15,5 +15,7 @@ returns-clause-ok g c =
 pub returns-clause-err : goal.returns-clause-err
 returns-clause-err g c =
     fails (IsTextDesign W_DEF.now W_LEF.now) c.in_ok-loaded.loaded c.in_ok-loaded.ensures.ok c.answer_over.result
-    (IsTextFault W_DEF.now W_LEF.now) IsLinesFault IsEarly (c.answer_over.new.writer ≡ c.args.writer.now) _ _
+    (IsTextFault W_DEF.now W_LEF.now) IsEarly
+    (λ loaded fault. IsLinesFault loaded fault (g.R.Read.remaining c.args.reader.now) (g.R.Read.remaining c.answer_over.new.reader)
+    (g.W.Write.contents c.args.writer.now) (g.W.Write.contents c.answer_over.new.writer)) (c.answer_over.new.writer ≡ c.args.writer.now) _ _
     (rw c.in_ok-loaded.ensures.kept at c.answer_over.ensures.err)

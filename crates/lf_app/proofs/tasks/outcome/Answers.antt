@@ -18,7 +18,9 @@ pub returns-in-Replay-clause-err : goal.returns-in-Replay-clause-err
 returns-in-Replay-clause-err g c =
     let job : replay c.in-Replay.def.now (map (λ lef. lef.now) c.as_slice.result.now) (option_map (λ path. path.now) c.in-Replay.export) ≡ as_job c.args.task.now =
     ap (λ (lefs : List (Bor (List ℕ))). replay c.in-Replay.def.now (map (λ lef. lef.now) lefs) (option_map (λ path. path.now) c.in-Replay.export)) c.as_slice.ensures ∙ sym (ap as_job c.in-Replay.is) in
-    subst (λ (job : Job). IfErr c.work_on_files.result (Ends (λ fault. IsJobFault (g.T.Texts.gives c.args.texts.now) job fault
+    subst (λ (job : Job). IfErr c.work_on_files.result (Ends (λ fault. IsJobFault (g.T.Texts.gives c.args.texts.now) job fault (streams
+    (g.R.Read.remaining c.args.reader.now) (g.R.Read.remaining c.work_on_files.new.reader) (g.W.Write.contents c.args.writer.now) (g.W.Write.contents c.work_on_files.new.writer)
+    (g.E.Exports.puts c.args.exports.now) (g.E.Exports.puts c.work_on_files.new.exports))
     × (IsEarly fault → c.work_on_files.new.writer ≡ c.args.writer.now))
     (g.F.Write.contents c.args.faults.now) (g.F.Write.contents c.work_on_files.new.faults))) job c.work_on_files.ensures.err
 
@@ -35,7 +37,9 @@ pub returns-in-Serve-clause-err : goal.returns-in-Serve-clause-err
 returns-in-Serve-clause-err g c =
     let job : serve c.in-Serve.def.now (map (λ lef. lef.now) c.as_slice-in-Serve.result.now) c.in-Serve.port c.in-Serve.connections (option_map (λ path. path.now) c.in-Serve.export) ≡ as_job c.args.task.now =
     ap (λ (lefs : List (Bor (List ℕ))). serve c.in-Serve.def.now (map (λ lef. lef.now) lefs) c.in-Serve.port c.in-Serve.connections (option_map (λ path. path.now) c.in-Serve.export)) c.as_slice-in-Serve.ensures ∙ sym (ap as_job c.in-Serve.is) in
-    subst (λ (job : Job). IfErr c.work_on_files-in-Serve.result (Ends (λ fault. IsJobFault (g.T.Texts.gives c.args.texts.now) job fault
+    subst (λ (job : Job). IfErr c.work_on_files-in-Serve.result (Ends (λ fault. IsJobFault (g.T.Texts.gives c.args.texts.now) job fault (streams
+    (g.R.Read.remaining c.args.reader.now) (g.R.Read.remaining c.work_on_files-in-Serve.new.reader) (g.W.Write.contents c.args.writer.now) (g.W.Write.contents c.work_on_files-in-Serve.new.writer)
+    (g.E.Exports.puts c.args.exports.now) (g.E.Exports.puts c.work_on_files-in-Serve.new.exports))
     × (IsEarly fault → c.work_on_files-in-Serve.new.writer ≡ c.args.writer.now))
     (g.F.Write.contents c.args.faults.now) (g.F.Write.contents c.work_on_files-in-Serve.new.faults))) job c.work_on_files-in-Serve.ensures.err
 
@@ -52,6 +56,8 @@ pub returns-in-Check-clause-err : goal.returns-in-Check-clause-err
 returns-in-Check-clause-err g c =
     let job : check c.in-Check.def.now (map (λ lef. lef.now) c.as_slice-in-Check.result.now) ≡ as_job c.args.task.now =
     ap (λ (lefs : List (Bor (List ℕ))). check c.in-Check.def.now (map (λ lef. lef.now) lefs)) c.as_slice-in-Check.ensures ∙ sym (ap as_job c.in-Check.is) in
-    subst (λ (job : Job). IfErr c.check.result (Ends (λ fault. IsJobFault (g.T.Texts.gives c.args.texts.now) job fault
+    subst (λ (job : Job). IfErr c.check.result (Ends (λ fault. IsJobFault (g.T.Texts.gives c.args.texts.now) job fault (streams
+    (g.R.Read.remaining c.args.reader.now) (g.R.Read.remaining c.args.reader.now) (g.W.Write.contents c.args.writer.now) (g.W.Write.contents c.check.new.writer)
+    (g.E.Exports.puts c.args.exports.now) (g.E.Exports.puts c.args.exports.now))
     × (IsEarly fault → c.check.new.writer ≡ c.args.writer.now))
     (g.F.Write.contents c.args.faults.now) (g.F.Write.contents c.check.new.faults))) job c.check.ensures.err

@@ -28,8 +28,11 @@ returns-in-Ok g c =
 pub returns-in-Err : goal.returns-in-Err
 returns-in-Err g c =
     let status = c.in-Err.exit.status in
+    let io = streams (g.R.Read.remaining c.args.reader.now) (g.R.Read.remaining c.outcome.new.reader)
+    (g.W.Write.contents c.args.writer.now) (g.W.Write.contents c.outcome.new.writer)
+    (g.E.Exports.puts c.args.exports.now) (g.E.Exports.puts c.outcome.new.exports) in
     let failed : IsFailure status =
-    failing (λ fault. IsJobFault (g.T.Texts.gives c.args.texts.now) (as_job c.args.task.now) fault × (IsEarly fault → c.outcome.new.writer ≡ c.args.writer.now))
+    failing (λ fault. IsJobFault (g.T.Texts.gives c.args.texts.now) (as_job c.args.task.now) fault io × (IsEarly fault → c.outcome.new.writer ≡ c.args.writer.now))
     (g.F.Write.contents c.args.faults.now) (g.F.Write.contents c.outcome.new.faults) c.in-Err.exit c.in-Err.ensures.err in
     record {
       status = inr failed;

@@ -1,6 +1,7 @@
 use Rattle.std.proofs.Common.{map}
-use Rattle.lf_app.specs.Exits.{IsWorkFault}
-use Rattle.lf_app.specs.Work.{IsFault}
+use Rattle.std.specs.Prelude.{option_map}
+use Rattle.lf_app.specs.Exits.{streams}
+use Rattle.lf_app.specs.Work.{IsStopped}
 use Rattle.lf_app.proofs.WorkSteps.{files_fail, step_fails, weaker_ok}
 use Rattle.lf_app.proofs.work.work_on_files.Goals as goal
 
@@ -22,4 +23,6 @@ pub returns-in-Ok-clause-err : goal.returns-in-Ok-clause-err
 returns-in-Ok-clause-err g c =
     step_fails c.work_on_def.result _ _ _ _ _ _ (rw c.in-Ok.ensures.kept at c.work_on_def.ensures.err)
     (λ fault why. files_fail (g.T.Texts.gives c.args.texts.now) c.args.def.now (map (λ lef. lef.now) c.args.lefs.now) c.in-Ok.library
-    (IsWorkFault (IsFault c.args.lines)) fault c.in-Ok.ensures.ok why)
+    (λ loaded. IsStopped (option_map (λ path. path.now) c.args.path) c.args.lines loaded fault
+    (streams (g.R.Read.remaining c.args.reader.now) (g.R.Read.remaining c.work_on_def.new.reader) (g.W.Write.contents c.args.writer.now)
+    (g.W.Write.contents c.work_on_def.new.writer) (g.E.Exports.puts c.args.exports.now) (g.E.Exports.puts c.work_on_def.new.exports))) fault c.in-Ok.ensures.ok why)

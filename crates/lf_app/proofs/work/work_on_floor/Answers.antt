@@ -1,4 +1,6 @@
-use Rattle.std.proofs.Common.{refl}
+use Rattle.std.proofs.Common.{◌≡◌, map, refl}
+use Rattle.std.specs.Prelude.{option_map}
+use Rattle.lf_app.proofs.WorkSteps.{ends_as, export_ends, lines_stopped}
 use Rattle.lf_app.proofs.work.work_on_floor.Goals as goal
 
 pub export_to-requires : goal.export_to-requires
@@ -13,3 +15,13 @@ returns-in-Ok-clause-ok g c = λ loaded is. (
     exports = c.in-Ok.ensures.ok;
   },
 )
+
+pub returns-in-Err-clause-err : goal.returns-in-Err-clause-err
+returns-in-Err-clause-err g c = λ loaded is.
+    ends_as _ _ _ _ _ _ _ (c.in-Err.ensures.err loaded is _ _)
+    (λ fault why. lines_stopped (option_map (λ path. path.now) c.args.path) c.args.lines loaded _ fault why)
+
+pub returns-in-Err-export_to-clause-err : goal.returns-in-Err-export_to-clause-err
+returns-in-Err-export_to-clause-err g c = λ loaded is.
+    export_ends (option_map (λ path. path.now) c.args.path) c.args.lines loaded c.answer.new.floor _ _ _ _ c.in-Err-export_to.exit
+    c.in-Err-export_to.ensures.asked (c.in_default.ensures.ok loaded is _ _) (rw c.in_default.ensures.kept at c.in-Err-export_to.ensures.err)

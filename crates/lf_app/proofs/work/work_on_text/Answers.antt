@@ -1,7 +1,8 @@
 use Rattle.std.proofs.Common.{◌≡◌, inl, refl}
 use Rattle.lf_def.specs.Contents.{contents}
-use Rattle.lf_app.specs.Exits.{IsEarly, IsWorkFault}
-use Rattle.lf_app.specs.Work.{IsFault}
+use Rattle.std.specs.Prelude.{option_map}
+use Rattle.lf_app.specs.Exits.{IsEarly, streams}
+use Rattle.lf_app.specs.Work.{IsStopped}
 use Rattle.lf_app.proofs.WorkSteps.{first_fails, step_fails, text_fails, text_unread, weaker_ok}
 use Rattle.lf_app.proofs.work.work_on_text.Goals as goal
 
@@ -13,7 +14,9 @@ returns-in-Ok-clause-ok g c =
 pub returns-in-Ok-clause-err : goal.returns-in-Ok-clause-err
 returns-in-Ok-clause-err g c =
     step_fails c.work_on_read.result _ _ _ _ _ _ (rw c.in-Ok.ensures.kept at c.work_on_read.ensures.err)
-    (λ fault why. text_fails c.args.library c.args.text.now (contents c.in-Ok.document) (IsWorkFault (IsFault c.args.lines)) fault c.in-Ok.ensures.ok why)
+    (λ fault why. text_fails c.args.library c.args.text.now (contents c.in-Ok.document) (λ loaded. IsStopped (option_map (λ path. path.now) c.args.path) c.args.lines loaded fault
+    (streams (g.R.Read.remaining c.args.reader.now) (g.R.Read.remaining c.work_on_read.new.reader) (g.W.Write.contents c.args.writer.now)
+    (g.W.Write.contents c.work_on_read.new.writer) (g.E.Exports.puts c.args.exports.now) (g.E.Exports.puts c.work_on_read.new.exports))) fault c.in-Ok.ensures.ok why)
 
 pub returns-in-Err-clause-err : goal.returns-in-Err-clause-err
 returns-in-Err-clause-err g c =

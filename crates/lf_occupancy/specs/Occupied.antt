@@ -1,0 +1,75 @@
+-- What stands in strips: the boxes of teams' cells, and what they leave free.
+use Rattle.std.specs.Prelude.{◌≡◌, ◌≢◌, ◌↔◌, ℕ, ℤ, ◌≤◌, List, [], Option, Some, None, Any, MatchOption, option_and_then, set, slice_get, slice_index_or, slice_set}
+use Rattle.lf_units.specs.declared.area.Rect.{Rect}
+use Rattle.lf_units.specs.Area.{Covers, SharesPoint}
+use Rattle.lf_spans.specs.declared.span.Span.{Span}
+use Rattle.lf_spans.specs.Spans.{IsFilled, IsRising, LiesIn, LiesInOne}
+use Rattle.lf_cells.specs.declared.cell.CellId.{CellId}
+use Rattle.lf_occupancy.specs.declared.strip.Strip.{Strip}
+
+-- the strips, for each team the boxes of its cells in loading order, and for each strip how many cells it has room for
+pub record Occupied : Type 0 where
+  pub strips : List Strip
+  pub boxes : List (List (Option Rect))
+  pub rooms : List ℕ
+
+-- the boxes of a team's cells; a team that is none has none
+abbrev pub boxes_of : Occupied → ℕ → List (Option Rect)
+boxes_of o team = slice_index_or o.boxes team []
+
+-- the box of the team's cell of that position; None where it stands nowhere, or there is no such cell
+abbrev pub box_at : Occupied → ℕ → ℕ → Option Rect
+box_at o team own = option_and_then (λ box. box) (slice_get (boxes_of o team) own)
+
+-- the boxes, where the cell has another one
+abbrev pub boxes_with : Occupied → CellId → Option Rect → List (List (Option Rect))
+boxes_with o id box = slice_set o.boxes id.team (slice_set (boxes_of o id.team) id.own box)
+
+-- the x range of a strip
+abbrev pub across : Strip → Span
+across g = record { lo = g.area.x1; hi = g.area.x2 }
+
+-- the part of a strip that lies over a span
+abbrev pub over : Strip → Span → Rect
+over g s = record { x1 = s.lo; y1 = g.area.y1; x2 = s.hi; y2 = g.area.y2 }
+
+-- another cell of the cell's team stands at this box
+pub record IsOther (o : Occupied) (id : CellId) (own : ℕ) (box : Rect) : Type 0 where
+  pub other : own ≢ id.own
+  pub stands : box_at o id.team own ≡ Some box
+
+-- no other placed cell of the cell's team shares a point with the rectangle
+abbrev pub IsClearOfOthers : Occupied → CellId → Rect → Type 0
+IsClearOfOthers o id rect = (own : ℕ) (box : Rect) → IsOther o id own box → SharesPoint rect box → ⊥
+
+-- the strip is of this row and team
+pub record IsStripOf (row team : ℕ) (g : Strip) : Type 0 where
+  pub in_row : g.row ≡ row
+  pub of_team : g.team ≡ team
+
+-- the span lies in the strip, and over it stands no other cell of the team
+pub record IsFreeOver (o : Occupied) (id : CellId) (g : Strip) (s : Span) : Type 0 where
+  pub within : LiesIn s (across g)
+  pub clear : IsClearOfOthers o id (over g s)
+
+-- what a window shows of the spans of a row that are free for a cell, which is taken away first: a span that holds a number lies in one of
+-- them exactly where it lies in the window and is free in one strip of the row and the cell's team
+pub record IsFreeInRow (o : Occupied) (row : ℕ) (id : CellId) (window : Span) (free : List Span) : Type 0 where
+  pub rising : IsRising free
+  pub exact : (s : Span) → IsFilled s → (LiesInOne free s ↔ (LiesIn s window × Any (λ g. IsStripOf row id.team g × IsFreeOver o id g s) o.strips))
+
+-- another placed cell of the team shares with the rectangle a point of one of the team's strips
+pub record MeetsInStrips (o : Occupied) (id : CellId) (rect : Rect) (own : ℕ) : Type 0 where
+  pub box : Rect
+  pub is : IsOther o id own box
+  pub x : ℤ
+  pub y : ℤ
+  pub in_strip : Any (λ g. (g.team ≡ id.team) × Covers g.area x y) o.strips
+  pub in_rect : Covers rect x y
+  pub in_box : Covers box x y
+
+-- the first of the cells that it meets so; None where it meets none
+abbrev pub IsFirstMet : Occupied → CellId → Rect → Option ℕ → Type 0
+IsFirstMet o id rect met =
+    MatchOption met ((own : ℕ) → MeetsInStrips o id rect own → ⊥)
+    (λ own. MeetsInStrips o id rect own × ((other : ℕ) → MeetsInStrips o id rect other → own ≤ other))
