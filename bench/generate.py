@@ -5,10 +5,13 @@ usage: generate.py lef MACROS [SEED] > x.lef
        generate.py def COMPONENTS [FENCES] [ROWS] [SEED] > x.def    (on the macros of a LEF text of 200 macros)
        generate.py starred COMPONENTS [FENCES] [ROWS] [SEED] > x.def    (on the same)
        generate.py placed COMPONENTS [FENCES] [BLOCKAGES] [SEED] > x.def    (on those of a LEF text of 200 macros and seed 1)
+       generate.py tall > x.lef
+       generate.py packed COMPONENTS [FENCES] [PERCENT] [ILLEGAL] [SEED] > x.def    (on the macros of `tall`)
 
 `def` throws its cells anywhere; its fences are bands of rows over the left half. `placed` is a fully legal design: fences
 are the left halves of tiles, every cell stands on its rows within its fence, or outside all, beside blockages of two
-sites. Groups name their cells one by one. `starred` is `def` with cells in blocks, of which each group names one by a star.
+sites. Groups name their cells one by one. `packed` is a design of cells of one to four rows that take about so many percent of
+the sites; ILLEGAL percent of its cells stand half a site beside their place. `starred` is `def` with cells in blocks, of which each group names one by a star.
 """
 import random
 import sys
@@ -166,10 +169,99 @@ def placed(components, fences, blockages, seed):
     yield "END GROUPS\nEND DESIGN\n"
 
 
+TALL = [(sites, rows) for rows in (1, 1, 1, 1, 1, 2, 2, 3, 4) for sites in range(2, 12)]
+
+
+def tall():
+    """The LEF text of macros of one to four rows."""
+    yield "VERSION 5.8 ;\nUNITS\n  DATABASE MICRONS 1000 ;\nEND UNITS\n" + SITE
+    for number, (sites, rows) in enumerate(TALL):
+        width = f"{sites * 0.2:.1f}"
+        yield (f"MACRO T{number}\n  CLASS CORE ;\n  SIZE {width} BY {rows * 2.0:.1f} ;\n  SYMMETRY X Y ;\n  SITE core ;\n"
+               + pin("VSS", "GROUND", width, -0.1, 0.1) + f"END T{number}\n")
+    yield "END LIBRARY\n"
+
+
+def stacked(left, right, percent, rng):
+    """Cells (macro, x in sites, row) side by side in four rows from left to right, of which so many percent are kept."""
+    ends, cells = [left] * 4, []
+
+    def put(mac, bottom):
+        sites, rows = TALL[mac]
+        if rng.random() * 100 < percent:
+            cells.append((mac, ends[bottom], bottom))
+        ends[bottom:bottom + rows] = [ends[bottom] + sites] * rows
+
+    def fill(row, x):
+        while x - ends[row] > 1:    # with cells of one row
+            put(min(x - ends[row], 11 if x - ends[row] != 12 else 10) - 2, row)
+        ends[row] = x
+
+    while True:
+        sites, rows = TALL[mac := rng.randrange(len(TALL))]
+        bottom = min([b for b in range(5 - rows) if rows % 2 == 1 or b % 2 == 0], key=lambda b: max(ends[b:b + rows]))
+        x = max(ends[bottom:bottom + rows])
+        if x + sites > right:
+            break
+        for row in range(bottom, bottom + rows):
+            fill(row, x)
+        put(mac, bottom)
+    for row in range(4):
+        fill(row, right)
+    return cells
+
+
+def packed(components, fences, percent, illegal, seed):
+    rng = random.Random(seed)
+    area = sum(sites * rows for sites, rows in TALL) / len(TALL) * components * 100 / percent
+    across = max(1, round(fences ** 0.5))
+    down = -(-fences // across)
+    quads = max(down, int((area / 10) ** 0.5) // 4 // down * down)
+    wide = int(area * 0.8) // (quads * 4) // across
+    while True:
+        cells = []
+        for quad in range(quads):
+            for column in range(across):
+                fence = quad * down // quads * across + column
+                begin, middle, end = column * wide, column * wide + wide // 2, (column + 1) * wide
+                parts = [(begin, middle, fence), (middle, end, None)] if fence < fences else [(begin, end, None)]
+                for left, right, team in parts:
+                    cells += [(mac, x, quad * 4 + bottom, team) for mac, x, bottom in stacked(left, right, percent, rng)]
+        if len(cells) >= components:
+            break
+        wide = wide * 51 // 50 + 1
+    sites, high = wide * across, quads // down * 4
+    rng.shuffle(cells)
+    cells = cells[:components]
+    yield "VERSION 5.8 ;\nDIVIDERCHAR \"/\" ;\nBUSBITCHARS \"[]\" ;\nDESIGN bench ;\nUNITS DISTANCE MICRONS 1000 ;\n"
+    for row in range(quads * 4):
+        yield f"ROW r{row} core 0 {row * 2000} {'N' if row % 2 == 0 else 'FS'} DO {sites} BY 1 STEP 200 0 ;\n"
+    yield f"REGIONS {fences} ;\n"
+    pitch = sites // across
+    for fence in range(fences):
+        x, y = fence % across * pitch * 200, fence // across * high * 2000
+        yield f"- f{fence} ( {x} {y} ) ( {x + pitch // 2 * 200} {y + high * 2000} ) + TYPE FENCE ;\n"
+    yield f"END REGIONS\nCOMPONENTS {components} ;\n"
+    members = [[] for _ in range(fences)]
+    for number, (mac, x, row, team) in enumerate(cells):
+        beside = 100 if rng.randrange(100) < illegal else 0
+        yield f"- u{number} T{mac} + PLACED ( {x * 200 + beside} {row * 2000} ) {'N' if row % 2 == 0 else 'FS'} ;\n"
+        if team is not None:
+            members[team].append(f"u{number}")
+    yield f"END COMPONENTS\nGROUPS {fences} ;\n"
+    for fence in range(fences):
+        yield f"- g{fence} {' '.join(members[fence])} + REGION f{fence} ;\n"
+    yield "END GROUPS\nEND DESIGN\n"
+
+
 def main():
     kind, numbers = sys.argv[1], [int(word) for word in sys.argv[2:]]
     if kind == "lef":
         parts = lef(numbers[0], numbers[1] if len(numbers) > 1 else 1)
+    elif kind == "tall":
+        parts = tall()
+    elif kind == "packed":
+        parts = packed(*(numbers + [10, 60, 0, 1][len(numbers) - 1:]))
     elif kind == "placed":
         parts = placed(*(numbers + [10, 0, 1][len(numbers) - 1:]))
     else:

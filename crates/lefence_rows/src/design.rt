@@ -5,13 +5,24 @@ use lf_def::{DefDoc, W_DEF, read_def};
 use lf_floor::Floor;
 use lf_frame::{Limits, Loaded, load};
 use lf_lef::{Library, W_LEF, read_lef};
-use lf_legalize::PlainSeeker;
+use lf_legalize::{IndexSeeker, PlainSeeker, Seeker};
 use lf_lex::LoadFault;
 use lf_proto::report_json;
 use lf_reports::check_all;
 use std::alloc::{AllocError, Global};
 use std::io;
 use std::io::Write;
+
+/// What is asked of a design.
+#[derive(Clone, Copy)]
+pub struct Asked<'a> {
+    /// Whether its report is asked for.
+    pub is_checked: bool,
+    /// Whether only the seeker by index answers, and not the plain one beside it.
+    pub is_by_index_alone: bool,
+    /// The requests.
+    pub lines: &'a [u8],
+}
 
 /// The texts and the limits.
 #[derive(Drop)]
@@ -109,16 +120,11 @@ impl Design {
     }
 
     /// Writes what the design answers: its refusal, or `loaded`, its report where it is asked for, and the replies to the
-    /// lines.
-    pub fn answer<W: Write>(
-        &self,
-        is_checked: bool,
-        lines: &[u8],
-        writer: &mut W,
-    ) -> io::Result<()> {
+    /// lines; those of the plain seeker too, where they differ.
+    pub fn answer<W: Write>(&self, asked: &Asked<'_>, writer: &mut W) -> io::Result<()> {
         let mut library = Library::new(self.alloc);
         match read_lef(&mut library, &self.lef) {
-            Ok(()) => self.answer_on(&library, is_checked, lines, writer),
+            Ok(()) => self.answer_on(&library, asked, writer),
             Err(fault) => put_fault(writer, fault),
         }
     }
@@ -127,12 +133,11 @@ impl Design {
     fn answer_on<W: Write>(
         &self,
         library: &Library,
-        is_checked: bool,
-        lines: &[u8],
+        asked: &Asked<'_>,
         writer: &mut W,
     ) -> io::Result<()> {
         match read_def(self.alloc, &self.def) {
-            Ok(document) => self.answer_over(library, &document, is_checked, lines, writer),
+            Ok(document) => self.answer_over(library, &document, asked, writer),
             Err(fault) => put_fault(writer, fault),
         }
     }
@@ -142,30 +147,42 @@ impl Design {
         &self,
         library: &Library,
         document: &DefDoc,
-        is_checked: bool,
-        lines: &[u8],
+        asked: &Asked<'_>,
         writer: &mut W,
     ) -> io::Result<()> {
         match load(self.alloc, library, document, self.limits) {
-            Ok(loaded) => put_answers(self.alloc, loaded, is_checked, lines, writer),
+            Ok(loaded) => {
+                put_head(self.alloc, &loaded, asked.is_checked, writer)?;
+                let replies = replies_by_index(self.alloc, loaded, asked.lines)?;
+                writer.write_all(&replies)?;
+                self.compare(library, document, asked, &replies, writer)
+            }
             Err(fault) => put_fault(writer, fault),
         }
     }
-}
 
-/// Writes `loaded`, the report where it is asked for, and the replies to the lines.
-fn put_answers<W: Write>(
-    alloc: Global,
-    loaded: Loaded,
-    is_checked: bool,
-    lines: &[u8],
-    writer: &mut W,
-) -> io::Result<()> {
-    let written = put_head(alloc, &loaded, is_checked, writer);
-    if written.is_err() {
-        return written;
+    /// Writes what the plain seeker answers, where it is asked too and answers otherwise.
+    fn compare<W: Write>(
+        &self,
+        library: &Library,
+        document: &DefDoc,
+        asked: &Asked<'_>,
+        replies: &[u8],
+        writer: &mut W,
+    ) -> io::Result<()> {
+        if asked.is_by_index_alone {
+            return Ok(());
+        }
+        let Ok(loaded) = load(self.alloc, library, document, self.limits) else {
+            return writer.write_all(b"not loaded again\n");
+        };
+        let plain = replies_by(self.alloc, loaded, PlainSeeker, asked.lines)?;
+        if plain.as_slice() == replies {
+            return Ok(());
+        }
+        writer.write_all(b"but by the plain seeker\n")?;
+        writer.write_all(&plain)
     }
-    put_replies(alloc, loaded, lines, writer)
 }
 
 /// Writes `loaded`, and the report where it is asked for.
@@ -196,15 +213,24 @@ fn put_report<W: Write>(alloc: Global, loaded: &Loaded, writer: &mut W) -> io::R
     writer.write_all(b"\n")
 }
 
-/// Writes the replies to the lines on the floor of the design.
-fn put_replies<W: Write>(
+/// The replies to the lines on the floor of the design, its places looked for by this seeker.
+fn replies_by<S: Seeker + Drop>(
     alloc: Global,
     loaded: Loaded,
+    seeker: S,
     lines: &[u8],
-    writer: &mut W,
-) -> io::Result<()> {
-    let mut floor = Floor::start(alloc, loaded, PlainSeeker)?;
+) -> Result<Vec<u8>, AllocError>
+    requires { S.is_for seeker loaded.frame }
+{
+    let mut floor = Floor::start(alloc, loaded, seeker)?;
     let mut reader = lines;
-    let _ending = answer_lines(alloc, &mut floor, &mut reader, writer);
-    Ok(())
+    let mut replies = Vec::new(alloc);
+    let _ending = answer_lines(alloc, &mut floor, &mut reader, &mut replies);
+    Ok(replies)
+}
+
+/// The replies by the index of the rows.
+fn replies_by_index(alloc: Global, loaded: Loaded, lines: &[u8]) -> Result<Vec<u8>, AllocError> {
+    let seeker = IndexSeeker::build(alloc, &loaded.frame)?;
+    replies_by(alloc, loaded, seeker, lines)
 }

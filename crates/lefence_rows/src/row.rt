@@ -1,6 +1,6 @@
 //! A row: what its lines say of the design, and what they ask.
 
-use crate::design::Design;
+use crate::design::{Asked, Design};
 use lf_frame::Limits;
 use lf_units::read_fixed;
 use std::alloc::{AllocError, Global};
@@ -12,6 +12,7 @@ use std::io::Write;
 pub struct Row {
     design: Design,
     is_checked: bool,
+    is_by_index_alone: bool,
     is_begun: bool,
     lines: Vec<u8>,
 }
@@ -56,6 +57,7 @@ impl Row {
         Ok(Row {
             design: Design::new(alloc)?,
             is_checked: false,
+            is_by_index_alone: false,
             is_begun: false,
             lines: Vec::new(alloc),
         })
@@ -91,6 +93,10 @@ impl Row {
             self.is_checked = true;
             return Ok(());
         }
+        if line == b"= index".as_slice() {
+            self.is_by_index_alone = true;
+            return Ok(());
+        }
         self.lines.extend_from_slice(line)?;
         self.lines.push(b'\n')?;
         Ok(())
@@ -101,6 +107,11 @@ impl Row {
         if !self.is_begun {
             return Ok(());
         }
-        self.design.answer(self.is_checked, &self.lines, writer)
+        let asked = Asked {
+            is_checked: self.is_checked,
+            is_by_index_alone: self.is_by_index_alone,
+            lines: &self.lines,
+        };
+        self.design.answer(&asked, writer)
     }
 }

@@ -6,7 +6,8 @@ ghost use Rattle.lf_lex.specs.Faults.{load_fault_of};
 ghost use Rattle.lf_lef.specs.Library.{library_after};
 ghost use Rattle.lf_def.specs.Contents.{contents};
 ghost use Rattle.lf_def.specs.Document.{Refuses, document_of};
-ghost use Rattle.lf_app.specs.Designs.{Adds, IsDefRefusal, IsDesignFault, IsDesignIn, IsDesignOf, IsFaultIn, IsFileDesign, IsFileFault, IsLefRefusal, IsLibraryFault, IsLibraryOf, IsLoadRefusal, IsLoadedIn, IsRefused, IsTextDesign, IsTextFault, IsUnread};
+ghost use Rattle.lf_app.specs.Designs.{Adds, IsDefRefusal, IsDesignFault, IsDesignIn, IsDesignOf, IsFaultIn, IsFileDesign, IsFileFault};
+ghost use Rattle.lf_app.specs.Designs.{IsLefRefusal, IsLibraryFault, IsLibraryOf, IsLoadRefusal, IsLoadedIn, IsRefused, IsTextDesign, IsTextFault, IsUnread};
 ghost use Rattle.lf_app.specs.Exits.{Ends};
 
 use crate::faults::{Exit, Fault, tell, unread_fault};

@@ -5,7 +5,7 @@ ghost use Rattle.lf_rules.specs.Legalizer.{Legalizer};
 ghost use Rattle.lf_app.specs.Lines.{IsServed};
 
 use lf_floor::Floor;
-use lf_legalize::PlainSeeker;
+use lf_legalize::Seeker;
 use lf_server::{Ending, FromRead, ServeLimits, ToWrite, serve};
 use std::alloc::Global;
 use std::io::{Read, Write};
@@ -17,13 +17,14 @@ pub(crate) const LIMITS: ServeLimits = ServeLimits {
 };
 
 /// Answers the lines of the reader on the floor, one reply to each, as `serve` does, and says how that ended.
-pub fn answer_lines<R: Read, W: Write>(
+pub fn answer_lines<S: Seeker + Drop, R: Read, W: Write>(
     alloc: Global,
-    floor: &mut Floor<PlainSeeker>,
+    floor: &mut Floor<S>,
     reader: &mut R,
     writer: &mut W,
 ) -> Ending
-    ensures served { (l : Legalizer) → IsServed l floor.old floor.new (R.remaining reader.old) (R.remaining reader.new) (W.contents writer.old) (W.contents writer.new) result }
+    ensures served { (l : Legalizer) → IsServed l floor.old floor.new (R.remaining reader.old) (R.remaining reader.new)
+        (W.contents writer.old) (W.contents writer.new) result }
     ensures components { floor.new.components ≡ floor.old.components }
 {
     let mut source = FromRead::new(reader);

@@ -13,7 +13,8 @@ ghost use Rattle.lf_teams.specs.Designs.{opening};
 ghost use Rattle.lf_teams.specs.Places.{AreCommittedPlaces};
 ghost use Rattle.lf_teams.specs.States.{FloorState};
 ghost use Rattle.lf_files.specs.Shelf.{Put};
-ghost use Rattle.lf_app.specs.Designs.{IsDefRefusal, IsDesignFault, IsDesignIn, IsDesignOf, IsFileDesign, IsFileFault, IsLibraryFault, IsLibraryOf, IsLoadRefusal, IsLoadedIn, IsRefused, no_library};
+ghost use Rattle.lf_app.specs.Designs.{IsDefRefusal, IsDesignFault, IsDesignIn, IsDesignOf, IsFileDesign, IsFileFault, IsLibraryFault};
+ghost use Rattle.lf_app.specs.Designs.{IsLibraryOf, IsLoadRefusal, IsLoadedIn, IsRefused, no_library};
 ghost use Rattle.lf_app.specs.Exits.{Ends, IsAnswered, IsEarly, IsExported, IsFinished, IsJobStop, IsLinesFault, IsOffered, IsWorked, streams};
 ghost use Rattle.lf_app.specs.Faults.{IsExportFault, IsServiceFault, no_memory};
 ghost use Rattle.lf_app.specs.Work.{IsDone, IsFault, IsStopped};
@@ -27,7 +28,7 @@ use lf_files::Exports;
 use lf_floor::Floor;
 use lf_frame::Loaded;
 use lf_lef::Library;
-use lf_legalize::PlainSeeker;
+use lf_legalize::IndexSeeker;
 use lf_reread::loaded_cells_can_be_given;
 use lf_server::serve_tcp;
 use lf_teams::places_follow_design;
@@ -46,16 +47,25 @@ pub(crate) enum Lines {
     Port { port: u16, connections: u32 },
 }
 
+/// The floor of the design, on which places are looked for by an index of its rows.
+fn floor_of(alloc: Global, loaded: Loaded) -> Result<Floor<IndexSeeker>, AllocError>
+    ensures { IfOk result (λ floor. floor ≡ opening loaded) }
+{
+    let seeker = IndexSeeker::build(alloc, &loaded.frame)?;
+    Floor::start(alloc, loaded, seeker)
+}
+
 /// Answers the lines of the reader on the floor.
 fn answer_on<R: Read, W: Write, F: Write>(
     alloc: Global,
-    floor: &mut Floor<PlainSeeker>,
+    floor: &mut Floor<IndexSeeker>,
     reader: &mut R,
     writer: &mut W,
     faults: &mut F,
 ) -> Result<(), Exit>
     ensures ok { (loaded : Loaded) → floor.old ≡ opening loaded
-        → OnOk result (IsAnswered loaded floor.new (R.remaining reader.old) (R.remaining reader.new) (W.contents writer.old) (W.contents writer.new)) }
+        → OnOk result (IsAnswered loaded floor.new (R.remaining reader.old) (R.remaining reader.new)
+        (W.contents writer.old) (W.contents writer.new)) }
     ensures components { floor.new.components ≡ floor.old.components }
     ensures kept { OnOk result (faults.new ≡ faults.old) }
     ensures err { (loaded : Loaded) → floor.old ≡ opening loaded → IfErr result (Ends (λ fault. IsLinesFault loaded fault
@@ -79,7 +89,7 @@ fn put_listening<W: Write>(writer: &mut W) -> io::Result<()>
 /// Serves so many connections to the port of this machine, one after the other.
 fn offer<N: Net + AllocGlobal, W: Write, F: Write>(
     rt: &N,
-    floor: &mut Floor<PlainSeeker>,
+    floor: &mut Floor<IndexSeeker>,
     port: u16,
     connections: u32,
     writer: &mut W,
@@ -107,7 +117,7 @@ fn offer<N: Net + AllocGlobal, W: Write, F: Write>(
 /// Answers the lines on the floor, however they come.
 fn answer<N: Net + AllocGlobal, R: Read, W: Write, F: Write>(
     rt: &N,
-    floor: &mut Floor<PlainSeeker>,
+    floor: &mut Floor<IndexSeeker>,
     lines: Lines,
     reader: &mut R,
     writer: &mut W,
@@ -131,7 +141,7 @@ fn answer<N: Net + AllocGlobal, R: Read, W: Write, F: Write>(
 /// The text of the document, with the committed places of the floor in it.
 fn exported_text(
     alloc: Global,
-    floor: &Floor<PlainSeeker>,
+    floor: &Floor<IndexSeeker>,
     document: &DefDoc<'_>,
 ) -> Result<Vec<u8>, AllocError>
     requires fits { (places : List (ℕ × Option Place)) → AreCommittedPlaces floor.now places → CanBeGiven document.now.components places }
@@ -145,7 +155,7 @@ fn exported_text(
 /// Writes the exported text to the file of that path, where one is given.
 fn export_to<E: Exports, F: Write>(
     alloc: Global,
-    floor: &Floor<PlainSeeker>,
+    floor: &Floor<IndexSeeker>,
     document: &DefDoc<'_>,
     path: Option<&str>,
     exports: &mut E,
@@ -174,7 +184,7 @@ fn export_to<E: Exports, F: Write>(
 fn work_on_floor<N: Net + AllocGlobal, E: Exports, R: Read, W: Write, F: Write>(
     rt: &N,
     document: &DefDoc<'_>,
-    floor: &mut Floor<PlainSeeker>,
+    floor: &mut Floor<IndexSeeker>,
     lines: Lines,
     path: Option<&str>,
     exports: &mut E,
@@ -188,7 +198,8 @@ fn work_on_floor<N: Net + AllocGlobal, E: Exports, R: Read, W: Write, F: Write>(
         (option_map (λ path. path.now) path.entry) document.now.text.now (contents document.now)
         (streams (R.remaining reader.old) (R.remaining reader.new) (W.contents writer.old) (W.contents writer.new) (E.puts exports.old) (E.puts exports.new))) }
     ensures kept { OnOk result (faults.new ≡ faults.old) }
-    ensures err { (loaded : Loaded) → floor.old ≡ opening loaded → IfErr result (Ends (λ fault. IsStopped (option_map (λ path. path.now) path.entry) lines loaded fault
+    ensures err { (loaded : Loaded) → floor.old ≡ opening loaded → IfErr result (Ends (λ fault.
+        IsStopped (option_map (λ path. path.now) path.entry) lines loaded fault
         (streams (R.remaining reader.old) (R.remaining reader.new) (W.contents writer.old) (W.contents writer.new) (E.puts exports.old) (E.puts exports.new))
         × (IsEarly fault → writer.new ≡ writer.old)) (F.contents faults.old) (F.contents faults.new)) }
 {
@@ -218,13 +229,14 @@ fn work_on_document<N: Net + AllocGlobal, E: Exports, R: Read, W: Write, F: Writ
         (option_map (λ path. path.now) path.entry) document.now.text.now (contents document.now)
         (streams (R.remaining reader.old) (R.remaining reader.new) (W.contents writer.old) (W.contents writer.new) (E.puts exports.old) (E.puts exports.new))) }
     ensures kept { OnOk result (faults.new ≡ faults.old) }
-    ensures err { IfErr result (Ends (λ fault. IsStopped (option_map (λ path. path.now) path.entry) lines loaded fault
+    ensures err { IfErr result (Ends (λ fault.
+        IsStopped (option_map (λ path. path.now) path.entry) lines loaded fault
         (streams (R.remaining reader.old) (R.remaining reader.new) (W.contents writer.old) (W.contents writer.new) (E.puts exports.old) (E.puts exports.new))
         × (IsEarly fault → writer.new ≡ writer.old)) (F.contents faults.old) (F.contents faults.new)) }
 {
     loaded_cells_can_be_given();
     places_follow_design();
-    match Floor::start(rt.alloc(), loaded, PlainSeeker) {
+    match floor_of(rt.alloc(), loaded) {
         Ok(mut floor) => work_on_floor(
             rt, document, &mut floor, lines, path, exports, reader, writer, faults,
         ),
@@ -323,7 +335,8 @@ fn work_on_def<T: Texts, N: Net + AllocGlobal, E: Exports, R: Read, W: Write, F:
         × IsFinished (IsDone lines loaded) (option_map (λ path. path.now) path.entry) text document
         (streams (R.remaining reader.old) (R.remaining reader.new) (W.contents writer.old) (W.contents writer.new) (E.puts exports.old) (E.puts exports.new)))))) }
     ensures kept { OnOk result (faults.new ≡ faults.old) }
-    ensures err { IfErr result (Ends (λ fault. IsJobStop (IsFileFault (T.gives texts.now) def.now (IsDefRefusal library)) (IsFileDesign (T.gives texts.now) def.now library)
+    ensures err { IfErr result (Ends (λ fault. IsJobStop
+        (IsFileFault (T.gives texts.now) def.now (IsDefRefusal library)) (IsFileDesign (T.gives texts.now) def.now library)
         (IsStopped (option_map (λ path. path.now) path.entry) lines) fault
         (streams (R.remaining reader.old) (R.remaining reader.new) (W.contents writer.old) (W.contents writer.new) (E.puts exports.old) (E.puts exports.new))
         × (IsEarly fault → writer.new ≡ writer.old)) (F.contents faults.old) (F.contents faults.new)) }
@@ -376,9 +389,11 @@ pub(crate) fn work_on_files<
     faults: &mut F,
 ) -> Result<u8, Exit>
     ensures ok { IfOk result (λ status. IsWorked (T.gives texts.now) def.now (map (λ lef. lef.now) lefs.now) (option_map (λ path. path.now) path.entry)
-        (IsDone lines) (streams (R.remaining reader.old) (R.remaining reader.new) (W.contents writer.old) (W.contents writer.new) (E.puts exports.old) (E.puts exports.new)) × (status ≡ 0)) }
+        (IsDone lines) (streams (R.remaining reader.old) (R.remaining reader.new) (W.contents writer.old) (W.contents writer.new)
+        (E.puts exports.old) (E.puts exports.new)) × (status ≡ 0)) }
     ensures kept { OnOk result (faults.new ≡ faults.old) }
-    ensures err { IfErr result (Ends (λ fault. IsJobStop (IsDesignFault (T.gives texts.now) def.now (map (λ lef. lef.now) lefs.now)) (IsDesignOf (T.gives texts.now) def.now (map (λ lef. lef.now) lefs.now))
+    ensures err { IfErr result (Ends (λ fault. IsJobStop
+        (IsDesignFault (T.gives texts.now) def.now (map (λ lef. lef.now) lefs.now)) (IsDesignOf (T.gives texts.now) def.now (map (λ lef. lef.now) lefs.now))
         (IsStopped (option_map (λ path. path.now) path.entry) lines) fault
         (streams (R.remaining reader.old) (R.remaining reader.new) (W.contents writer.old) (W.contents writer.new) (E.puts exports.old) (E.puts exports.new))
         × (IsEarly fault → writer.new ≡ writer.old)) (F.contents faults.old) (F.contents faults.new)) }
@@ -394,7 +409,7 @@ pub(crate) fn work_on_files<
 /// Answers the lines of the reader on the floor, of which no text is exported.
 fn answer_all<R: Read, W: Write, F: Write>(
     alloc: Global,
-    floor: &mut Floor<PlainSeeker>,
+    floor: &mut Floor<IndexSeeker>,
     reader: &mut R,
     writer: &mut W,
     faults: &mut F,
@@ -428,7 +443,7 @@ pub(crate) fn answer_over<R: Read, W: Write, F: Write>(
         (R.remaining reader.old) (R.remaining reader.new) (W.contents writer.old) (W.contents writer.new)
         × (IsEarly fault → writer.new ≡ writer.old)) (F.contents faults.old) (F.contents faults.new)) }
 {
-    match Floor::start(alloc, loaded, PlainSeeker) {
+    match floor_of(alloc, loaded) {
         Ok(mut floor) => answer_all(alloc, &mut floor, reader, writer, faults),
         Err(_) => Err(tell(faults, &memory_fault())),
     }

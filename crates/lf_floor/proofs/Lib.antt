@@ -3,6 +3,8 @@ pub mod FirstIllegal
 pub mod Seeking
 pub mod Rows
 pub mod Moves
+pub mod Following
+pub mod Overlapping
 pub mod Swaps
 pub mod Undoing
 pub mod Unplaced

@@ -1,7 +1,6 @@
 -- The committed places of all cells of a floor's table are those of the floor.
 use Rattle.std.proofs.Common.{◌≡◌, ℕ, ◌<◌, ◌≤◌, List, [], length, map, get_or, Option, Some, None, ◌⊎◌, inl, inr, refl, ap, sym, ◌∙◌, subst, arith}
-use Rattle.std.specs.Prelude.{◌↔◌, All, AllPairs, Contains, IsSome, option_and_then, option_map, slice_get}
-use Rattle.std.specs.Option.{is_some}
+use Rattle.std.specs.Prelude.{Contains, option_and_then, option_map, slice_get}
 use Rattle.std.proofs.lemmas.List.{get_or_past, length-map}
 use Rattle.std.proofs.lemmas.List.Elements.{All-map, Contains-get_or}
 use Rattle.std.proofs.lemmas.Option.{get_or_from_slice_get, slice_get_within}
@@ -9,14 +8,14 @@ use Rattle.lf_floorplan.specs.declared.frame.Frame.{Frame}
 use Rattle.lf_floorplan.specs.declared.place.Place.{Place}
 use Rattle.lf_cells.specs.declared.cell.Cell.{Cell}
 use Rattle.lf_cells.specs.declared.cell.CellId.{CellId}
-use Rattle.lf_cells.specs.Cells.{AreAll, cell_at, cells_of, committed_at, component_at, components_of, id_of, position_of}
+use Rattle.lf_cells.specs.Cells.{AreAll, cell_at, cells_of, committed_at, component_at, components_of, id_of}
 use Rattle.lf_cells.proofs.Owners.{one_some, some_is}
-use Rattle.lf_teams.specs.States.{FloorState, TeamState}
+use Rattle.lf_teams.specs.States.{TeamState}
 use Rattle.lf_teams.specs.Places.{AreCommittedPlaces, IsCommittedAt, cell_in, entry_in}
 use Rattle.lf_teams.proofs.Openings.{map_at, pairs_map}
 use Rattle.lf_floor.specs.declared.tables.Tables.{Tables}
 use Rattle.lf_floor.specs.Entries.{committed_entry}
-use Rattle.lf_floor.specs.Tables.{AreTablesOf, floor_in, own_team, teams_in}
+use Rattle.lf_floor.specs.Tables.{AreTablesOf, floor_in, teams_in}
 use Rattle.lf_floor.proofs.Rows.{count_teams, team_there}
 
 -- an element of a list, mapped, is an element of the mapped list

@@ -14,6 +14,7 @@ use Rattle.lf_cells.specs.Openings.{own_cells, own_components}
 use Rattle.lf_undo.specs.Stacks.{stack_of}
 use Rattle.lf_undo.specs.Entries.{entries_of}
 use Rattle.lf_undo.specs.declared.moves.Move.{Move}
+use Rattle.lf_occupancy.specs.Occupied.{Occupied}
 use Rattle.lf_sessions.specs.Slots.{slots_of}
 use Rattle.lf_teams.specs.Outcomes.{places_of}
 use Rattle.lf_teams.specs.States.{TeamState, FloorState}
@@ -25,7 +26,7 @@ use Rattle.lf_teams.specs.Designs.{opening, opening_team, opening_teams}
 use Rattle.lf_teams.proofs.Loading.{loaded_committed, loaded_places}
 use Rattle.lf_teams.proofs.Openings.{opened_at, opening_whole}
 use Rattle.lf_floor.specs.declared.tables.Tables.{Tables}
-use Rattle.lf_floor.specs.Tables.{AreOpening, AreTablesOf, IsServed, OtherCellsStay, OthersStay, floor_in, own_team, revision_of, team_with, teams_in}
+use Rattle.lf_floor.specs.Tables.{AreOpening, AreTablesOf, IsFollowed, IsServed, OtherCellsStay, OthersStay, floor_in, own_team, revision_of, team_with, teams_in}
 
 -- ---- one team among all
 
@@ -79,11 +80,12 @@ cells_seen {Y} F f tables view team number is named within =
 
 -- the team of that number is served
 pub served : (f : Frame) (tables : Tables) (number : ℕ) → AreTablesOf f tables → All (λ t. IsTeamOf f t) (teams_in tables) → number < length f.teams + 1
-    → IsServed f number tables
-served f tables number of_frame teams within = record {
+    → IsFollowed f tables → IsServed f number tables
+served f tables number of_frame teams within follows = record {
   rows = record { undo = rw of_frame.undo within; sessions = rw of_frame.sessions within; revisions = rw of_frame.revisions within };
   limit = of_frame.limit;
   team = each_team (λ t. IsTeamOf f t) tables number teams (rw of_frame.revisions within);
+  follows = follows;
 }
 
 -- ---- what stays
@@ -102,10 +104,10 @@ others_through number a b c ab bc = record {
   limit = bc.limit ∙ ab.limit;
 }
 
--- where only cells have changed
-pub others_by_cells : (number : ℕ) (tables : Tables) (cells : Cells) → OtherCellsStay number tables.cells cells
-    → OthersStay number tables (record tables { cells = cells })
-others_by_cells number tables cells others = record {
+-- where only cells have changed, and the occupancy with them
+pub others_by_cells : (number : ℕ) (tables : Tables) (cells : Cells) (occupancy : Option Occupied) → OtherCellsStay number tables.cells cells
+    → OthersStay number tables (record tables { cells = cells; occupancy = occupancy })
+others_by_cells number tables cells occupancy others = record {
   teams = λ other differ. ap (λ (cs : List Cell). team_with other cs tables) (others.cells other differ);
   components = others.components;
   undo = refl;

@@ -7,6 +7,7 @@ use Rattle.lf_proto.specs.declared.reply.Reply.TheVariants.{Revision, Refused}
 use Rattle.lf_proto.specs.declared.reply.Refusal.TheVariants.{NothingToUndo}
 use Rattle.lf_cells.specs.declared.cell.Cell.{Cell}
 use Rattle.lf_cells.specs.Cells.{Cells, cells_of}
+use Rattle.lf_occupancy.specs.Occupied.{Occupied}
 use Rattle.lf_sessions.specs.Slots.{slots_of}
 use Rattle.lf_undo.specs.declared.moves.Move.{Move}
 use Rattle.lf_undo.specs.Stacks.{Stacks, stack_of}
@@ -42,18 +43,19 @@ pub led_from : (moves : List Move) (cells : List Cell) → HaveMoved (cells_befo
 led_from moves cells = record { places = sym (places_before moves cells); same = same_restored (taken_back moves (places_of cells)) cells }
 
 -- the team whose newest entry's moves were taken back
-pub undone_reaches : (k session revision : ℕ) (moves : List Move) (old new : Tables) (undo : Stacks (List Move)) (cells : Cells) → HasRows k old
+pub undone_reaches : (k session revision : ℕ) (moves : List Move) (old new : Tables) (undo : Stacks (List Move)) (cells : Cells)
+    (occupancy : Option Occupied) → HasRows k old
     → Some moves ≡ slice_get (stack_of old.undo k) 0 → undo.lists ≡ slice_set old.undo.lists k (drop 1 (stack_of old.undo k))
     → cells_of cells k ≡ cells_before moves (cells_of old.cells k)
-    → Counts k session (record old { cells = cells; undo = undo }) new → revision ≡ revision_of old k + 1
+    → Counts k session (record old { cells = cells; occupancy = occupancy; undo = undo }) new → revision ≡ revision_of old k + 1
     → Reaches (undone session (own_team k old)) (Revision revision) (own_team k new)
 unfolding undone
-undone_reaches k session revision moves old new undo cells rows front lists back counts told =
+undone_reaches k session revision moves old new undo cells occupancy rows front lists back counts told =
     let now = cells_of old.cells k in
     let before = cells_before moves now in
     let stack = stack_of old.undo k in
     let s = own_team k old in
-    let mid : Tables = record old { cells = cells; undo = undo } in
+    let mid : Tables = record old { cells = cells; occupancy = occupancy; undo = undo } in
     let slots = slice_set (slots_of old.sessions k) session (Some (revision_of old k + 1)) in
     let same : length undo.lists ≡ length old.undo.lists = ap (λ (xs : List (List (List Move))). length xs) lists ∙ length-set old.undo.lists k (drop 1 stack) in
     let there : HasRows k mid = record { undo = rw same rows.undo; sessions = rows.sessions; revisions = rows.revisions } in

@@ -2,3 +2,4 @@ pub mod Tables
 pub mod Entries
 pub mod Swapping
 pub mod Tidying
+pub mod Moving

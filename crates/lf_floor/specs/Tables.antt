@@ -1,5 +1,5 @@
 -- The teams of a floor, of which cells, undo entries, session slots and revisions stand in one table of each kind for all teams.
-use Rattle.std.specs.Prelude.{◌≡◌, ◌≢◌, ℕ, ◌+◌, ◌<◌, List, [], length, map, replicate, take, ◌∷◌, None, Some, slice_index_or, slice_set}
+use Rattle.std.specs.Prelude.{◌≡◌, ◌≢◌, ℕ, ◌+◌, ◌<◌, All, IfSome, List, [], length, map, replicate, take, ◌∷◌, Option, None, Some, slice_index_or, slice_set}
 use Rattle.std.specs.List.{range_with_len}
 use Rattle.lf_floorplan.specs.declared.frame.Frame.{Frame}
 use Rattle.lf_floorplan.specs.declared.loaded.Loaded.{Loaded}
@@ -7,6 +7,11 @@ use Rattle.lf_rules.specs.Legalizer.{Legalizer}
 use Rattle.lf_cells.specs.declared.cell.Cell.{Cell}
 use Rattle.lf_cells.specs.Cells.{Cells, cells_of}
 use Rattle.lf_cells.specs.Openings.{opening_cells, opening_components}
+use Rattle.lf_legalize.specs.Members.{IsSizedCell}
+use Rattle.lf_reports.specs.Nearby.{IsIndexOf}
+use Rattle.lf_segments.specs.Segments.{IsCut}
+use Rattle.lf_occupancy.specs.Occupied.{Occupied}
+use Rattle.lf_occupancy.specs.Floorplans.{IsOccupancyOf}
 use Rattle.lf_sessions.specs.Slots.{seen_at, slots_of, with_slot}
 use Rattle.lf_undo.specs.Stacks.{stack_of}
 use Rattle.lf_undo.specs.Entries.{entries_of, taken_back}
@@ -56,6 +61,29 @@ floor_in f tables = floor_of f tables.cells.components (teams_in tables)
 
 -- ---- what a verb may rely on, and what it leaves
 
+-- the macros of all cells are the frame's, of whole size
+abbrev pub AreSized : Frame → Cells → Type 0
+AreSized f cells = (team : ℕ) → All (IsSizedCell f) (cells_of cells team)
+
+-- so are the cells, and the occupancy, where there is one, is of this frame, and holds the working places of this table's cells
+pub record Follows (f : Frame) (cells : Cells) (occupancy : Option Occupied) : Type 0 where
+  pub sized : AreSized f cells
+  pub holds : IfSome occupancy (λ o. IsOccupancyOf f cells o)
+
+-- the macros of the team's cells are the frame's, of whole size, and the occupancy follows the cells
+pub record IsHeld (f : Frame) (number : ℕ) (cells : Cells) (occupancy : Option Occupied) : Type 0 where
+  pub sized : All (IsSizedCell f) (cells_of cells number)
+  pub follows : Follows f cells occupancy
+
+-- the occupancy of the tables follows their cells
+abbrev pub IsFollowed : Frame → Tables → Type 0
+IsFollowed f tables = Follows f tables.cells tables.occupancy
+
+-- the index and the segments are the frame's
+pub record IsReady {S : Type 0} (around : Surroundings S) : Type 0 where
+  pub index : IsIndexOf around.frame.now around.index.now
+  pub cut : IsCut around.frame.now around.segments.now
+
 -- each table has a row for the team of that number
 pub record HasRows (number : ℕ) (tables : Tables) : Type 0 where
   pub undo : number < length tables.undo.lists
@@ -75,11 +103,13 @@ pub record IsCurrent (number session : ℕ) (tables : Tables) : Type 0 where
   pub seen : seen_at (slots_of tables.sessions number) session ≡ Some (revision_of tables number)
   pub left : revision_of tables number < 4294967295
 
--- the tables have a row for the team of that number, which is one of the frame, and an undo stack takes as many entries as the limits allow
+-- the tables have a row for the team of that number, which is one of the frame, an undo stack takes as many entries as the limits allow, and
+-- the occupancy follows the cells
 pub record IsServed (f : Frame) (number : ℕ) (tables : Tables) : Type 0 where
   pub rows : HasRows number tables
   pub limit : tables.undo.limit ≡ f.limits.undo
   pub team : IsTeamOf f (own_team number tables)
+  pub follows : IsFollowed f tables
 
 -- and the session may change the team
 pub record CanChange (f : Frame) (number session : ℕ) (tables : Tables) : Type 0 where
@@ -103,6 +133,7 @@ pub record OthersStay (number : ℕ) (old new : Tables) : Type 0 where
 -- one more change of the team is counted, which this session has seen
 pub record Counts (number session : ℕ) (old new : Tables) : Type 0 where
   pub cells : new.cells ≡ old.cells
+  pub occupancy : new.occupancy ≡ old.occupancy
   pub undo : new.undo ≡ old.undo
   pub sessions : new.sessions ≡ with_slot old.sessions number session (Some (revision_of old number + 1))
   pub revisions : new.revisions.items ≡ slice_set old.revisions.items number (revision_of old number + 1)

@@ -9,7 +9,7 @@ ghost use Rattle.lf_rules.specs.FullyLegal.{IsFullyLegal};
 ghost use Rattle.lf_proto.specs.Commands.{command_of, order_of};
 ghost use Rattle.lf_teams.specs.States.{TeamState};
 ghost use Rattle.lf_teams.specs.Places.{AreCommittedPlaces};
-ghost use Rattle.lf_floor.specs.Tables.{AreTablesOf, floor_in, teams_in};
+ghost use Rattle.lf_floor.specs.Tables.{AreTablesOf, IsFollowed, IsReady, floor_in, teams_in};
 ghost use Rattle.lf_teams.specs.Teams.{IsTeamOf, team_number, state_of};
 ghost use Rattle.lf_teams.specs.Outcomes.{name_at};
 ghost use Rattle.lf_cells.specs.Cells.{working_at};
@@ -27,7 +27,9 @@ use crate::tables::Tables;
 use lf_floorplan::{Frame, Loaded, Place};
 use lf_legalize::Seeker;
 use lf_proto::{Command, Order, Refusal, Reply, Request, RequestList};
+use lf_reports::FrameIndex;
 use lf_rules::{legal_in_range, legalizer_is_there};
+use lf_segments::Segments;
 use std::alloc::{AllocError, Global};
 use std::marker::Model;
 
@@ -37,24 +39,29 @@ use std::marker::Model;
 /// Contracts see the frame, each team's state and where the cells' entries stand among all COMPONENTS:
 /// who seeks best places plays no part in what is answered.
 #[derive(Drop)]
-pub struct Floor<S> {
+pub struct Floor<S: Seeker> {
     alloc: Global,
     frame: Frame,
+    index: FrameIndex,
+    segments: Segments,
     seeker: S,
     tables: Tables,
 }
 
-impl<S> Model for Floor<S> {
+impl<S: Seeker> Model for Floor<S> {
     ghost use Rattle.std.specs.Prelude.{All};
     ghost use Rattle.lf_teams.specs.States.{FloorState};
-    ghost use Rattle.lf_floor.specs.Tables.{AreTablesOf, floor_in, teams_in};
+    ghost use Rattle.lf_floor.specs.Tables.{AreTablesOf, IsFollowed, floor_in, teams_in};
+    ghost use Rattle.lf_reports.specs.Nearby.{IsIndexOf};
+    ghost use Rattle.lf_segments.specs.Segments.{IsCut};
     ghost use Rattle.lf_teams.specs.Teams.{IsTeamOf};
 
     ghost Value = { FloorState };
 
     ghost view = { λ f. floor_in f.frame f.tables };
 
-    ghost invariant = { λ f. AreTablesOf f.frame f.tables × All (λ t. IsTeamOf f.frame t) (teams_in f.tables) };
+    ghost invariant = { λ f. AreTablesOf f.frame f.tables × All (λ t. IsTeamOf f.frame t) (teams_in f.tables) × IsFollowed f.frame f.tables
+        × IsIndexOf f.frame f.index × IsCut f.frame f.segments × S.is_for f.seeker f.frame };
 }
 
 /// Whether this is the name of the team outside all fences.
@@ -102,6 +109,9 @@ fn serve_at<S: Seeker>(
     requires within { around.now.number < length around.now.frame.now.teams + 1 }
     requires tables { AreTablesOf around.now.frame.now tables.old }
     requires teams { All (λ t. IsTeamOf around.now.frame.now t) (teams_in tables.old) }
+    requires follows { IsFollowed around.now.frame.now tables.old }
+    requires ready { IsReady around.now }
+    requires made { S.is_for around.now.seeker.now around.now.frame.now }
     ensures ok { (l : Legalizer) → IfOk result (λ reply. Gives
         (answer_at (Some around.now.number) l (floor_in around.now.frame.now tables.old) (order_of order.now))
         reply (floor_in around.now.frame.now tables.new)) }
@@ -111,6 +121,7 @@ fn serve_at<S: Seeker>(
     ensures takes { OnErr result (takes_memory (order_of order.now) ≡ true) }
     ensures tables { AreTablesOf around.now.frame.now tables.new }
     ensures teams { All (λ t. IsTeamOf around.now.frame.now t) (teams_in tables.new) }
+    ensures follows { IsFollowed around.now.frame.now tables.new }
 {
     legalizer_is_there();
     tables.serve(around, order)
@@ -128,22 +139,27 @@ fn push_within(replies: &mut Vec<Reply>, reply: Reply)
     }
 }
 
-impl<S: Drop> Floor<S> {
+impl<S: Seeker + Drop> Floor<S> {
     /// The floor of a design as it is loaded: each team has its own cells at their places in the
     /// DEF text, at revision 0, with nothing to undo and no session open. `seeker` will look for
     /// best places.
     ///
     /// `Err` where memory is refused; the design and the seeker are then gone.
     pub fn start(alloc: Global, loaded: Loaded, seeker: S) -> Result<Floor<S>, AllocError>
+        requires made { S.is_for seeker loaded.frame }
         ensures opens { IfOk result (λ floor. floor ≡ opening loaded) }
         ensures committed { IfOk result (λ floor. StandAsLoaded loaded floor) }
         ensures legal { IfOk result (λ floor. IsCommittedLegal floor ↔ IsFullyLegal loaded.frame (loaded_design loaded)) }
     {
-        let tables = Tables::opening(alloc, &loaded)?;
+        let index = FrameIndex::build(alloc, &loaded.frame)?;
+        let segments = Segments::cut(alloc, &loaded.frame)?;
+        let tables = Tables::opening(alloc, &loaded, &segments)?;
         let Loaded { frame, cells: _ } = loaded;
         Ok(Floor {
             alloc,
             frame,
+            index,
+            segments,
             seeker,
             tables,
         })
@@ -205,6 +221,8 @@ impl<S: Seeker + Drop> Floor<S> {
                 let around = Surroundings {
                     alloc: self.alloc,
                     frame: &self.frame,
+                    index: &self.index,
+                    segments: &self.segments,
                     seeker: &self.seeker,
                     number,
                 };

@@ -1,9 +1,9 @@
-//! Questions, which change nothing: what `where`, `check`, `def` and `find` tell.
+//! Questions, which change nothing of a team: what `where`, `check`, `def` and `find` tell.
 
 ghost use Rattle.std.specs.Prelude.{IfOk, OnErr};
 ghost use Rattle.lf_rules.specs.Legalizer.{Legalizer};
 ghost use Rattle.lf_teams.specs.Teams.{IsTeamOf};
-ghost use Rattle.lf_floor.specs.Tables.{own_team, setting_in, team_in};
+ghost use Rattle.lf_floor.specs.Tables.{IsFollowed, IsReady, OthersStay, own_team, setting_in, team_in};
 ghost use Rattle.lf_teams.specs.Outcomes.{Reaches, RunsOut};
 ghost use Rattle.lf_teams.specs.Looks.{checked, found, located, written};
 
@@ -65,23 +65,28 @@ impl Tables {
     /// where no place is team-legal.
     #[tactic(auto, unfolding(lf_teams::specs::Looks::found))]
     pub(crate) fn find<S: Seeker>(
-        &self,
+        &mut self,
         around: &Surroundings<'_, S>,
         name: &[u8],
         target: &Point,
     ) -> Result<Reply, AllocError>
-        requires { IsTeamOf around.now.frame.now (team_in around.now self.now) }
+        requires team { IsTeamOf around.now.frame.now (team_in around.now self.old) }
+        requires follows { IsFollowed around.now.frame.now self.old }
+        requires ready { IsReady around.now }
+        requires made { S.is_for around.now.seeker.now around.now.frame.now }
         ensures ok { (l : Legalizer) → IfOk result (λ reply. Reaches
-            (found (setting_in l around.now) name.now target.now (team_in around.now self.now))
-            reply (team_in around.now self.now)) }
+            (found (setting_in l around.now) name.now target.now (team_in around.now self.old))
+            reply (team_in around.now self.new)) }
         ensures err { (l : Legalizer) → OnErr result (RunsOut
-            (found (setting_in l around.now) name.now target.now (team_in around.now self.now))
-            (team_in around.now self.now) (team_in around.now self.now)) }
+            (found (setting_in l around.now) name.now target.now (team_in around.now self.old))
+            (team_in around.now self.old) (team_in around.now self.new)) }
+        ensures others { OthersStay around.now.number self.old self.new }
+        ensures follows { IsFollowed around.now.frame.now self.new }
     {
         let Some(id) = self.cells.find_own(around.number, name) else {
             return Ok(Reply::Refused(Refusal::NoCell));
         };
-        match best_place(around, &self.cells, id, target)? {
+        match best_place(around, &self.cells, &mut self.occupancy, id, target)? {
             Some(place) => Ok(Reply::At(place)),
             None => Ok(Reply::Refused(Refusal::NoPlace { cell: id.own })),
         }

@@ -1,35 +1,64 @@
 //! What stands of all teams, in one table of each kind.
 
 ghost use Rattle.std.specs.Prelude.{◌≡◌, ◌+◌, IfOk};
-ghost use Rattle.lf_floor.specs.Tables.{AreOpening, Counts, HasRows, IsCurrent, revision_of};
+ghost use Rattle.lf_segments.specs.Segments.{IsCut};
+ghost use Rattle.lf_floor.specs.Tables.{AreOpening, AreSized, Counts, Follows, HasRows, IsCurrent, IsFollowed, revision_of};
 
 use lf_cells::CellTable;
-use lf_floorplan::Loaded;
+use lf_floorplan::{Frame, Loaded};
+use lf_occupancy::Occupancy;
+use lf_segments::Segments;
 use lf_sessions::SessionTable;
 use lf_undo::UndoStore;
 use std::alloc::{AllocError, Global};
 
 /// The cells, the undo entries, the session slots and the revisions of all teams: each table has a
-/// row for each team of the frame.
+/// row for each team of the frame. And the occupancy that the cells give.
 #[derive(Drop)]
 pub(crate) struct Tables {
     pub(crate) cells: CellTable,
+    /// What stands in the frame's strips; none where memory for it was refused, and then it is built
+    /// anew before the next look at it.
+    pub(crate) occupancy: Option<Occupancy>,
     pub(crate) undo: UndoStore,
     pub(crate) sessions: SessionTable,
     /// How many changes each team has made.
     pub(crate) revisions: Vec<u32>,
 }
 
+/// The occupancy of the cells; none where memory for it is refused.
+fn occupancy_of(
+    alloc: Global,
+    frame: &Frame,
+    segments: &Segments,
+    cells: &CellTable,
+) -> Option<Occupancy>
+    requires cut { IsCut frame.now segments.now }
+    requires sized { AreSized frame.now cells.now }
+    ensures { Follows frame.now cells.now result }
+{
+    Occupancy::build(alloc, frame, segments, cells).ok()
+}
+
 impl Tables {
     /// Those of a design as it is loaded: no change is made, nothing can be undone, and no session
     /// is open.
-    pub(crate) fn opening(alloc: Global, loaded: &Loaded) -> Result<Tables, AllocError>
-        ensures { IfOk result (λ tables. AreOpening loaded.now tables) }
+    pub(crate) fn opening(
+        alloc: Global,
+        loaded: &Loaded,
+        segments: &Segments,
+    ) -> Result<Tables, AllocError>
+        requires { IsCut loaded.now.frame segments.now }
+        ensures opening { IfOk result (λ tables. AreOpening loaded.now tables) }
+        ensures follows { IfOk result (λ tables. IsFollowed loaded.now.frame tables) }
     {
         let teams = loaded.frame.teams.len() + 1;
         let limits = &loaded.frame.limits;
+        let cells = CellTable::build(alloc, loaded)?;
+        let occupancy = occupancy_of(alloc, &loaded.frame, segments, &cells);
         Ok(Tables {
-            cells: CellTable::build(alloc, loaded)?,
+            cells,
+            occupancy,
             undo: UndoStore::build(alloc, teams, limits.undo as usize)?,
             sessions: SessionTable::build(alloc, teams, limits.sessions)?,
             revisions: vec![in alloc; 0; teams]?,

@@ -7,7 +7,8 @@ ghost use Rattle.lf_cells.specs.Cells.{cells_of};
 ghost use Rattle.lf_legalize.specs.Members.{IsSizedCell};
 ghost use Rattle.lf_teams.specs.Outcomes.{Reaches, RunsOut};
 ghost use Rattle.lf_teams.specs.Changes.{tidied_team};
-ghost use Rattle.lf_floor.specs.Tables.{CanChange, HaveMoved, OtherCellsStay, OthersStay, SameButPlaces, setting_in, team_in};
+ghost use Rattle.lf_floor.specs.Tables.{CanChange, Follows, IsFollowed, IsHeld, IsReady};
+ghost use Rattle.lf_floor.specs.Tables.{HaveMoved, OtherCellsStay, OthersStay, SameButPlaces, setting_in, team_in};
 ghost use Rattle.lf_floor.specs.Tidying.{Sends, Tidies, target_at};
 
 use crate::cell::{best_place, broken_at};
@@ -17,6 +18,7 @@ use crate::tables::Tables;
 use lf_cells::CellTable;
 use lf_floorplan::Place;
 use lf_legalize::{Seeker, anchor};
+use lf_occupancy::Occupancy;
 use lf_proto::{Refusal, Reply};
 use lf_undo::Moves;
 use lf_units::Point;
@@ -57,11 +59,15 @@ fn corner(place: &Place) -> Point
 fn target_of<S>(
     around: &Surroundings<'_, S>,
     cells: &CellTable,
+    occupancy: &mut Option<Occupancy>,
     own: usize,
 ) -> Result<Option<Point>, AllocError>
     requires sized { All (IsSizedCell around.now.frame.now) (cells_of cells.now around.now.number) }
     requires few { length (cells_of cells.now around.now.number) ≤ 4000000 }
-    ensures { (l : Legalizer) → IfOk result (λ target. target ≡ target_at (setting_in l around.now) (cells_of cells.now around.now.number) own) }
+    requires follows { Follows around.now.frame.now cells.now occupancy.old }
+    requires ready { IsReady around.now }
+    ensures is { (l : Legalizer) → IfOk result (λ target. target ≡ target_at (setting_in l around.now) (cells_of cells.now around.now.number) own) }
+    ensures follows { Follows around.now.frame.now cells.now occupancy.new }
 {
     let Some(standing) = cells.standing(around.number, own) else {
         return Ok(None);
@@ -69,7 +75,7 @@ fn target_of<S>(
     let Some(place) = standing.working else {
         return Ok(Some(anchor(around.frame, around.number)));
     };
-    match broken_at(around, cells, own, &place)? {
+    match broken_at(around, cells, occupancy, own, &place)? {
         Some(_) => Ok(Some(corner(&place))),
         None => Ok(None),
     }
@@ -79,27 +85,31 @@ fn target_of<S>(
 fn send<S: Seeker>(
     around: &Surroundings<'_, S>,
     cells: &mut CellTable,
+    occupancy: &mut Option<Occupancy>,
     moves: &mut Moves,
     own: usize,
 ) -> Result<Sent, AllocError>
-    requires sized { All (IsSizedCell around.now.frame.now) (cells_of cells.old around.now.number) }
+    requires held { IsHeld around.now.frame.now around.now.number cells.old occupancy.old }
     requires few { length (cells_of cells.old around.now.number) ≤ 4000000 }
+    requires ready { IsReady around.now }
+    requires made { S.is_for around.now.seeker.now around.now.frame.now }
     ensures ok { (l : Legalizer) → IfOk result (λ sent. Sends (setting_in l around.now) own (cells_of cells.old around.now.number)
         (cells_of cells.new around.now.number) sent) }
     ensures same { SameButPlaces (cells_of cells.old around.now.number) (cells_of cells.new around.now.number) }
     ensures moved { (before : List Cell) → HaveMoved before moves.old (cells_of cells.old around.now.number) →
         HaveMoved before moves.new (cells_of cells.new around.now.number) }
     ensures others { OtherCellsStay around.now.number cells.old cells.new }
+    ensures held { IsHeld around.now.frame.now around.now.number cells.new occupancy.new }
 {
-    let Some(target) = target_of(around, cells, own)? else {
+    let Some(target) = target_of(around, cells, occupancy, own)? else {
         return Ok(Sent::Stays);
     };
     let Some(id) = cells.id_at(around.number, own) else {
         return Ok(Sent::Stays);
     };
-    match best_place(around, cells, id, &target)? {
+    match best_place(around, cells, occupancy, id, &target)? {
         Some(place) => {
-            shift(cells, moves, id, Some(place))?;
+            shift(around.frame, cells, occupancy, moves, id, Some(place))?;
             Ok(Sent::Goes)
         }
         None => Ok(Sent::Nowhere),
@@ -110,20 +120,24 @@ fn send<S: Seeker>(
 fn send_all<S: Seeker>(
     around: &Surroundings<'_, S>,
     cells: &mut CellTable,
+    occupancy: &mut Option<Occupancy>,
     moves: &mut Moves,
 ) -> Result<Tidy, AllocError>
-    requires sized { All (IsSizedCell around.now.frame.now) (cells_of cells.old around.now.number) }
+    requires held { IsHeld around.now.frame.now around.now.number cells.old occupancy.old }
     requires few { length (cells_of cells.old around.now.number) ≤ 4000000 }
+    requires ready { IsReady around.now }
+    requires made { S.is_for around.now.seeker.now around.now.frame.now }
     ensures ok { (l : Legalizer) → IfOk result (λ tidy. Tidies (setting_in l around.now) (cells_of cells.old around.now.number)
         (cells_of cells.new around.now.number) tidy) }
     ensures same { SameButPlaces (cells_of cells.old around.now.number) (cells_of cells.new around.now.number) }
     ensures moved { (before : List Cell) → HaveMoved before moves.old (cells_of cells.old around.now.number) →
         HaveMoved before moves.new (cells_of cells.new around.now.number) }
     ensures others { OtherCellsStay around.now.number cells.old cells.new }
+    ensures held { IsHeld around.now.frame.now around.now.number cells.new occupancy.new }
 {
     let mut moved = 0;
     for own in 0..cells.count_of(around.number) {
-        match send(around, cells, moves, own)? {
+        match send(around, cells, occupancy, moves, own)? {
             Sent::Stays => {}
             Sent::Goes => moved += 1,
             Sent::Nowhere => return Ok(Tidy::Stopped(own as u32)),
@@ -142,7 +156,9 @@ impl Tables {
         around: &Surroundings<'_, S>,
         session: u32,
     ) -> Result<Reply, AllocError>
-        requires { CanChange around.now.frame.now around.now.number session self.old }
+        requires change { CanChange around.now.frame.now around.now.number session self.old }
+        requires ready { IsReady around.now }
+        requires made { S.is_for around.now.seeker.now around.now.frame.now }
         ensures ok { (l : Legalizer) → IfOk result (λ reply. Reaches
             (tidied_team (setting_in l around.now) session (team_in around.now self.old))
             reply (team_in around.now self.new)) }
@@ -150,19 +166,32 @@ impl Tables {
             (tidied_team (setting_in l around.now) session (team_in around.now self.old))
             (team_in around.now self.old) (team_in around.now self.new)) }
         ensures others { OthersStay around.now.number self.old self.new }
+        ensures follows { IsFollowed around.now.frame.now self.new }
     {
         let mut moves = Moves::new(around.alloc);
-        match send_all(around, &mut self.cells, &mut moves) {
+        match send_all(around, &mut self.cells, &mut self.occupancy, &mut moves) {
             Ok(Tidy::Done(moved)) => {
-                let revision = self.keep(around.number, session, moves)?;
+                let revision = self.keep(around.frame, around.number, session, moves)?;
                 Ok(Reply::Tidied { revision, moved })
             }
             Ok(Tidy::Stopped(cell)) => {
-                take_back(&mut self.cells, around.number, &moves);
+                take_back(
+                    around.frame,
+                    &mut self.cells,
+                    &mut self.occupancy,
+                    around.number,
+                    &moves,
+                );
                 Ok(Reply::Refused(Refusal::NoPlace { cell }))
             }
             Err(error) => {
-                take_back(&mut self.cells, around.number, &moves);
+                take_back(
+                    around.frame,
+                    &mut self.cells,
+                    &mut self.occupancy,
+                    around.number,
+                    &moves,
+                );
                 Err(error)
             }
         }

@@ -1,19 +1,23 @@
 //! Changes of a whole team: what `revert`, `undo` and `commit` do.
 
-ghost use Rattle.std.specs.Prelude.{◌≡◌, List, IfOk, OnErr, OnOk, IsTrue, ◌↔◌, map};
+ghost use Rattle.std.specs.Prelude.{◌≡◌, List, Option, IfOk, OnErr, OnOk, IsTrue, ◌↔◌, map};
+ghost use Rattle.lf_floorplan.specs.declared.frame.Frame.{Frame};
 ghost use Rattle.lf_rules.specs.Legalizer.{Legalizer};
 ghost use Rattle.lf_cells.specs.declared.cell.Cell.{Cell};
 ghost use Rattle.lf_cells.specs.Cells.{as_committed, cells_of, committed_at, moved};
+ghost use Rattle.lf_occupancy.specs.Occupied.{Occupied};
 ghost use Rattle.lf_teams.specs.Outcomes.{Reaches, RunsOut};
 ghost use Rattle.lf_teams.specs.Changes.{back_to_committed, committed, reverted, undone};
-ghost use Rattle.lf_floor.specs.Tables.{CanChange, HasRows, HaveMoved, IsCurrent, OtherCellsStay, OthersStay, own_team, setting_in, team_in};
+ghost use Rattle.lf_floor.specs.Tables.{CanChange, Follows, HasRows, IsCurrent, IsFollowed, IsHeld};
+ghost use Rattle.lf_floor.specs.Tables.{HaveMoved, OtherCellsStay, OthersStay, own_team, setting_in, team_in};
 
 use crate::cell::{first_broken_cell, first_unplaced};
 use crate::moving::{shift, take_back};
 use crate::surroundings::Surroundings;
 use crate::tables::Tables;
 use lf_cells::CellTable;
-use lf_floorplan::Place;
+use lf_floorplan::{Frame, Place};
+use lf_occupancy::Occupancy;
 use lf_proto::{Refusal, Reply};
 use lf_undo::Moves;
 use std::alloc::AllocError;
@@ -39,14 +43,18 @@ fn stand_alike(a: Option<Place>, b: Option<Place>) -> bool
 /// Moves the team's cell of that position to its committed place, where it stands elsewhere, and
 /// notes the move.
 fn move_one_back(
+    frame: &Frame,
     cells: &mut CellTable,
+    occupancy: &mut Option<Occupancy>,
     moves: &mut Moves,
     number: usize,
     own: usize,
 ) -> Result<(), AllocError>
+    requires { IsHeld frame.now number cells.old occupancy.old }
     ensures own { OnOk result (cells_of cells.new number ≡ moved (cells_of cells.old number) own (committed_at (cells_of cells.old number) own)) }
     ensures moved { (before : List Cell) → HaveMoved before moves.old (cells_of cells.old number) → HaveMoved before moves.new (cells_of cells.new number) }
     ensures others { OtherCellsStay number cells.old cells.new }
+    ensures held { IsHeld frame.now number cells.new occupancy.new }
 {
     let Some(id) = cells.id_at(number, own) else {
         return Ok(());
@@ -55,18 +63,26 @@ fn move_one_back(
     if stand_alike(cells.working(id), committed) {
         return Ok(());
     }
-    shift(cells, moves, id, committed)
+    shift(frame, cells, occupancy, moves, id, committed)
 }
 
 /// Moves each of the team's cells to its committed place, where it stands elsewhere, and notes the
 /// moves.
-fn move_back(cells: &mut CellTable, moves: &mut Moves, number: usize) -> Result<(), AllocError>
+fn move_back(
+    frame: &Frame,
+    cells: &mut CellTable,
+    occupancy: &mut Option<Occupancy>,
+    moves: &mut Moves,
+    number: usize,
+) -> Result<(), AllocError>
+    requires { IsHeld frame.now number cells.old occupancy.old }
     ensures own { OnOk result (cells_of cells.new number ≡ map back_to_committed (cells_of cells.old number)) }
     ensures moved { (before : List Cell) → HaveMoved before moves.old (cells_of cells.old number) → HaveMoved before moves.new (cells_of cells.new number) }
     ensures others { OtherCellsStay number cells.old cells.new }
+    ensures held { IsHeld frame.now number cells.new occupancy.new }
 {
     for own in 0..cells.count_of(number) {
-        move_one_back(cells, moves, number, own)?;
+        move_one_back(frame, cells, occupancy, moves, number, own)?;
     }
     Ok(())
 }
@@ -75,6 +91,7 @@ fn move_back(cells: &mut CellTable, moves: &mut Moves, number: usize) -> Result<
 fn commit_cells(cells: &mut CellTable, number: usize)
     ensures own { cells_of cells.new number ≡ map as_committed (cells_of cells.old number) }
     ensures others { OtherCellsStay number cells.old cells.new }
+    ensures follows { (f : Frame) (occupancy : Option Occupied) → Follows f cells.old occupancy → Follows f cells.new occupancy }
 {
     cells.commit_team(number);
 }
@@ -93,15 +110,28 @@ impl Tables {
             (reverted (setting_in l around.now) session (team_in around.now self.old))
             (team_in around.now self.old) (team_in around.now self.new)) }
         ensures others { OthersStay around.now.number self.old self.new }
+        ensures follows { IsFollowed around.now.frame.now self.new }
     {
         let mut moves = Moves::new(around.alloc);
-        match move_back(&mut self.cells, &mut moves, around.number) {
+        match move_back(
+            around.frame,
+            &mut self.cells,
+            &mut self.occupancy,
+            &mut moves,
+            around.number,
+        ) {
             Ok(()) => {
-                let revision = self.keep(around.number, session, moves)?;
+                let revision = self.keep(around.frame, around.number, session, moves)?;
                 Ok(Reply::Revision(revision))
             }
             Err(error) => {
-                take_back(&mut self.cells, around.number, &moves);
+                take_back(
+                    around.frame,
+                    &mut self.cells,
+                    &mut self.occupancy,
+                    around.number,
+                    &moves,
+                );
                 Err(error)
             }
         }
@@ -109,15 +139,17 @@ impl Tables {
 
     /// Takes the moves of the team's newest undo entry back, unchecked, and that entry away;
     /// `NothingToUndo` where there is none.
-    pub(crate) fn undo(&mut self, number: usize, session: u32) -> Reply
+    pub(crate) fn undo(&mut self, frame: &Frame, number: usize, session: u32) -> Reply
         requires rows { HasRows number self.old }
         requires current { IsCurrent number session self.old }
+        requires held { IsHeld frame.now number self.old.cells self.old.occupancy }
         ensures team { Reaches (undone session (own_team number self.old)) result (own_team number self.new) }
         ensures others { OthersStay number self.old self.new }
+        ensures follows { IsFollowed frame.now self.new }
     {
         match self.undo.pop(number) {
             Some(moves) => {
-                take_back(&mut self.cells, number, &moves);
+                take_back(frame, &mut self.cells, &mut self.occupancy, number, &moves);
                 Reply::Revision(self.count_change(number, session))
             }
             None => Reply::Refused(Refusal::NothingToUndo),
@@ -138,6 +170,7 @@ impl Tables {
             (committed (setting_in l around.now) session (team_in around.now self.old))
             (team_in around.now self.old) (team_in around.now self.new)) }
         ensures others { OthersStay around.now.number self.old self.new }
+        ensures follows { IsFollowed around.now.frame.now self.new }
     {
         if let Some(cell) = first_unplaced(&self.cells, around.number) {
             return Ok(Reply::Refused(Refusal::Unplaced { cell }));

@@ -1,22 +1,21 @@
 -- The cells of a table as the rules see them, and the best place of one of them.
-use Rattle.std.specs.Prelude.{◌<◌, ℕ, List, length, map, Option, slice_get, option_and_then}
+use Rattle.std.specs.Prelude.{ℕ, List, map, Option, slice_get, option_and_then}
 use Rattle.std.specs.Option.{option_map}
 use Rattle.lf_units.specs.declared.area.Point.{Point}
 use Rattle.lf_floorplan.specs.declared.frame.Frame.{Frame}
-use Rattle.lf_floorplan.specs.Boxes.{IsSized, macro_of}
 use Rattle.lf_rules.specs.Choice.{Spot, spot_of}
 use Rattle.lf_rules.specs.Legalizer.{Legalizer}
 use Rattle.lf_rules.specs.Team.{Member, lifted_from}
 use Rattle.lf_cells.specs.declared.cell.Cell.{Cell}
+use Rattle.lf_occupancy.specs.Floorplans.{HasSize}
 
 -- the macro and the working place of a cell, as the rules see it
 abbrev pub member_of : Cell → Member
 member_of c = record { mac = c.mac; place = option_map spot_of c.working }
 
 -- the cell's macro is one of the frame's, of whole size
-pub record IsSizedCell (f : Frame) (c : Cell) : Type 0 where
-  pub known : c.mac < length f.macros
-  pub sized : IsSized f (macro_of f c.mac)
+abbrev pub IsSizedCell : Frame → Cell → Type 0
+IsSizedCell f c = HasSize f c
 
 -- the best place for a target of the cell of that position, taken away from its place among its team's cells; None where no
 -- place is team-legal, or there is no such cell

@@ -17,8 +17,15 @@ fn apart(a: i32, b: i64) -> u128
     (i128::from(a) - i128::from(b)).unsigned_abs()
 }
 
+/// How far the two numbers are apart.
+pub(crate) fn gap(a: &i64, b: &i64) -> u64
+    ensures { result ≡ unsigned_abs (a.now -ℤ b.now) }
+{
+    a.abs_diff(*b)
+}
+
 /// How far the place is from the target, along x and y together.
-fn distance(target: &Point, place: &Place) -> u128
+pub(crate) fn distance(target: &Point, place: &Place) -> u128
     ensures { result ≡ distance_of target.now (spot_of place.now) }
 {
     apart(place.x, target.x) + apart(place.y, target.y)

@@ -1,13 +1,21 @@
 //! The best place of a cell: of all places that are legal for it, the one of least key for a target.
 #![tactic(auto)]
 
+mod extent;
+mod index;
 mod key;
+mod levels;
+mod nearest;
+mod on_row;
 mod others;
 mod plain;
+mod reach;
+mod row_search;
 mod search;
 mod seeker;
 mod target;
 
+pub use index::IndexSeeker;
 pub use key::precedes;
 pub use others::boxes_beside;
 pub use plain::best_place;

@@ -1,22 +1,28 @@
 //! Who looks for the best place of a cell of a table.
 
-ghost use Rattle.std.specs.Prelude.{◌≡◌, ◌≤◌, All, IfOk, length};
+ghost use Rattle.std.specs.Prelude.{◌≡◌, ◌≤◌, All, IfOk, length, ⊤};
 ghost use Rattle.std.specs.Option.{option_map};
 ghost use Rattle.lf_rules.specs.Choice.{spot_of};
 ghost use Rattle.lf_rules.specs.Legalizer.{Legalizer};
 ghost use Rattle.lf_cells.specs.Cells.{cells_of};
+ghost use Rattle.lf_floorplan.specs.declared.frame.Frame.{Frame};
 ghost use Rattle.lf_legalize.specs.Members.{IsSizedCell, best_of};
+ghost use Rattle.lf_occupancy.specs.Floorplans.{IsOccupancyOf};
 
 use crate::others::boxes_beside;
 use crate::plain::best_place;
 use lf_cells::{CellId, CellTable};
 use lf_floorplan::{Frame, Place};
+use lf_occupancy::Occupancy;
 use lf_units::Point;
 use std::alloc::{AllocError, Global};
 
 /// Finds best places. All seekers give the same answers: they differ in what they look at and in how
 /// long it takes them.
 pub trait Seeker {
+    /// Whether the seeker is made for this frame.
+    ghost is_for: { Self → Frame → Type 0 } = { λ _ _. ⊤ };
+
     /// The best place of a cell for a target: the cell is taken away from its place, and of all
     /// places that are team-legal beside the team's other placed cells it is the one of least key.
     ///
@@ -27,9 +33,12 @@ pub trait Seeker {
         alloc: Global,
         frame: &Frame,
         cells: &CellTable,
+        occupancy: &Occupancy,
         cell: CellId,
         target: &Point,
     ) -> Result<Option<Place>, AllocError>
+        requires made { is_for self.now frame.now }
+        requires held { IsOccupancyOf frame.now cells.now occupancy.now }
         requires sized { All (IsSizedCell frame.now) (cells_of cells.now cell.team) }
         requires few { length (cells_of cells.now cell.team) ≤ 4000000 }
         ensures best { (l : Legalizer) → IfOk result (λ found. option_map spot_of found ≡ best_of l frame.now cell.team (cells_of cells.now cell.team) cell.own target.now) };
@@ -46,6 +55,7 @@ impl Seeker for PlainSeeker {
         alloc: Global,
         frame: &Frame,
         cells: &CellTable,
+        _occupancy: &Occupancy,
         cell: CellId,
         target: &Point,
     ) -> Result<Option<Place>, AllocError> {

@@ -1,9 +1,10 @@
 -- The strips of a frame's segments, and the boxes of a table's cells.
-use Rattle.std.specs.Prelude.{◌≡◌, ℕ, ℤ, pos, ◌+ℤ◌, ◌<ℤ◌, List, map, Any, Option, slice_get}
+use Rattle.std.specs.Prelude.{◌≡◌, ◌<◌, length, ℕ, ℤ, pos, ◌+ℤ◌, List, map, Any, Option, slice_get}
 use Rattle.std.specs.Option.{option_map, option_map_or}
 use Rattle.lf_units.specs.declared.area.Rect.{Rect}
 use Rattle.lf_units.specs.Area.{Covers}
 use Rattle.lf_floorplan.specs.declared.frame.Frame.{Frame}
+use Rattle.lf_floorplan.specs.Boxes.{IsSized, macro_of}
 use Rattle.lf_floorplan.specs.Ground.{StaysInGround, IsClear}
 use Rattle.lf_floorplan.specs.Standing.{StandsOn}
 use Rattle.lf_segments.specs.declared.segment.Segment.{Segment}
@@ -32,6 +33,11 @@ pub record HasStripsOf (f : Frame) (o : Occupied) : Type 0 where
   pub segments : List Segment
   pub cut : IsCut f segments
   pub strips : o.strips ≡ map (strip_of f) segments
+
+-- the cell's macro is one of the frame's, of whole size
+pub record HasSize (f : Frame) (c : Cell) : Type 0 where
+  pub known : c.mac < length f.macros
+  pub sized : IsSized f (macro_of f c.mac)
 
 -- the box of a cell at its working place; None where it is unplaced
 abbrev pub box_of : Frame → Cell → Option Rect

@@ -1,5 +1,5 @@
 -- What stands in strips: the boxes of teams' cells, and what they leave free.
-use Rattle.std.specs.Prelude.{◌≡◌, ◌≢◌, ◌↔◌, ℕ, ℤ, ◌≤◌, List, [], Option, Some, None, Any, MatchOption, option_and_then, set, slice_get, slice_index_or, slice_set}
+use Rattle.std.specs.Prelude.{◌≡◌, ◌≢◌, ◌↔◌, ℕ, ℤ, ◌≤◌, List, [], Option, Some, Any, MatchOption, option_and_then, slice_get, slice_index_or, slice_set}
 use Rattle.lf_units.specs.declared.area.Rect.{Rect}
 use Rattle.lf_units.specs.Area.{Covers, SharesPoint}
 use Rattle.lf_spans.specs.declared.span.Span.{Span}

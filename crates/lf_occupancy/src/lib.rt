@@ -1,8 +1,16 @@
 //! What stands in the segments of a frame: the boxes of each team's cells, and what they leave free.
 #![tactic(auto)]
 
+mod boxes;
+mod build;
+mod change;
+mod find;
+mod lane;
+mod laws;
 mod occupancy;
 mod strip;
+mod strips;
 
+pub use laws::strips_cover;
 pub use occupancy::Occupancy;
 pub use strip::Strip;

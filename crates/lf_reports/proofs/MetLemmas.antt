@@ -14,12 +14,12 @@ use Rattle.lf_rules.specs.Choice.{Spot}
 use Rattle.lf_floorplan.specs.Ground.{StaysInGround, IsClear}
 use Rattle.lf_rules.specs.declared.rule.Rule.{Rule}
 use Rattle.lf_rules.specs.declared.rule.Rule.TheVariants.{Overlap}
-use Rattle.lf_rules.specs.Legality.{Trial, IsFirstMet, IsFirstBroken, box_of}
+use Rattle.lf_rules.specs.Legality.{Trial, Holds, IsFirstMet, IsFirstBroken, box_of, number_of}
 use Rattle.lf_rules.specs.Legalizer.{IsVerdict}
-use Rattle.lf_reports.specs.Nearby.{IsRowVerdict, IsAreaVerdict}
+use Rattle.lf_reports.specs.Nearby.{IsFrameVerdict, IsRowVerdict, IsAreaVerdict}
 use Rattle.lf_rules.specs.Team.{Member, box_in, with_box, boxes_from, boxes_beside}
 use Rattle.lf_rules.proofs.BesideLemmas.{filtered_hold}
-use Rattle.lf_rules.proofs.RuleLemmas.{OnRows, rows_held, fence_not, obstacle_not, overlap_not, all_at}
+use Rattle.lf_rules.proofs.RuleLemmas.{OnRows, by_number, rows_held, fence_at, fence_not, obstacle_at, obstacle_not, overlap_not, all_at}
 
 -- each later box has a greater number
 abbrev Rise : List Placed → Type 0
@@ -166,3 +166,27 @@ met_verdict t cells own tree box rows areas met beside at no_rows no_areas rows_
         IsVerdict t (option_map (λ other. record { rule = Overlap; other = Some other }) m)
     by None none = all_at t box at held both.0 both.1 (subst (All (λ p. SharesPoint box p.rect → ⊥)) (sym beside) (none_beside t.frame cells tree box own same none))
     by (Some other) least = overlap_not t box other at held both.0 both.1 (subst (λ (boxes : List Placed). IsFirstMet box boxes other) (sym beside) (first_beside t.frame cells tree box own other same least))
+
+-- ---- the rules but overlap
+
+-- those on rows hold, and those on ground and obstacles
+but_overlap : (t : Trial) (box : Rect) → box ≡ box_of t → OnRows t → StaysInGround t.frame t.team box → IsClear t.frame box →
+    (r : Rule) → number_of r ≤ 7 → Holds t r
+but_overlap t box at held stays clear r below =
+    by_number t 8 (λ _. held.height) (λ _. held.row) (λ _. held.stand) (λ _. held.orient) (λ _. held.rail)
+    (λ _. fence_at t box at stays) (λ _. obstacle_at t box at clear) (λ l. absurd (omega (arith, l))) r (omega (arith, below))
+
+-- the rule on rows that is the first broken
+pub rows_decide : (t : Trial) (verdict : Option Rule) (rule : Rule) → verdict ≡ Some rule → IsRowVerdict t verdict → IsFrameVerdict t (Some rule)
+rows_decide t verdict rule is said = rows_broken t verdict rule is said
+
+-- where those hold, the rules on ground and obstacles decide
+pub areas_decide : (t : Trial) (box : Rect) (rows areas : Option Rule) → box ≡ box_of t → rows ≡ None → IsRowVerdict t rows →
+    IsAreaVerdict t.frame t.team box areas → IsFrameVerdict t areas
+areas_decide t box rows areas at no_rows rows_said said = by areas refl
+  where
+    by : (verdict : Option Rule) → areas ≡ verdict → IsFrameVerdict t verdict
+    by (Some rule) is = areas_broken t box rows areas rule at no_rows is rows_said said
+    by None is =
+        let both : StaysInGround t.frame t.team box × IsClear t.frame box = subst (IsAreaVerdict t.frame t.team box) is said in
+        but_overlap t box at (rows_held t (subst (IsRowVerdict t) no_rows rows_said)) both.0 both.1

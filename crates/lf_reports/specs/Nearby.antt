@@ -77,6 +77,10 @@ IsAreaVerdict f team box verdict =
     MatchOption verdict (StaysInGround f team box × IsClear f box)
     (λ rule. ((rule ≡ Fence) × (StaysInGround f team box → ⊥)) ⊎ ((rule ≡ Obstacle) × StaysInGround f team box × (IsClear f box → ⊥)))
 
+-- the rules but overlap: all of them hold, or this one is the first that is broken
+abbrev pub IsFrameVerdict : Trial → Option Rule → Type 0
+IsFrameVerdict t verdict = MatchOption verdict ((r : Rule) → number_of r ≤ 7 → Holds t r) (λ rule. IsFirstBroken t record { rule = rule; other = None })
+
 -- what a search looks cells up in is the frame's and theirs
 abbrev pub IsSearchOf : Frame → List Member → Search → Type 0
 IsSearchOf f cells Plain = Unit {0}

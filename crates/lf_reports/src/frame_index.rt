@@ -64,16 +64,18 @@ fn boxes_of_obstacles(alloc: Global, obstacles: &[Rect]) -> Result<Vec<Placed>, 
     Ok(boxes)
 }
 
-/// The index of a frame.
-pub(crate) fn index_of(alloc: Global, frame: &Frame) -> Result<FrameIndex, AllocError>
-    ensures { IfOk result (λ index. IsIndexOf frame.now index) }
-{
-    let mut rows = boxes_of_rows(alloc, frame)?;
-    let mut fences = boxes_of_fences(alloc, frame.teams.as_slice())?;
-    let mut obstacles = boxes_of_obstacles(alloc, frame.obstacles.as_slice())?;
-    Ok(FrameIndex {
-        rows: RTree::build(alloc, rows.as_mut_slice())?,
-        fences: RTree::build(alloc, fences.as_mut_slice())?,
-        obstacles: RTree::build(alloc, obstacles.as_mut_slice())?,
-    })
+impl FrameIndex {
+    /// The index of a frame. `Err` where memory is refused.
+    pub fn build(alloc: Global, frame: &Frame) -> Result<Self, AllocError>
+        ensures { IfOk result (λ index. IsIndexOf frame.now index) }
+    {
+        let mut rows = boxes_of_rows(alloc, frame)?;
+        let mut fences = boxes_of_fences(alloc, frame.teams.as_slice())?;
+        let mut obstacles = boxes_of_obstacles(alloc, frame.obstacles.as_slice())?;
+        Ok(FrameIndex {
+            rows: RTree::build(alloc, rows.as_mut_slice())?,
+            fences: RTree::build(alloc, fences.as_mut_slice())?,
+            obstacles: RTree::build(alloc, obstacles.as_mut_slice())?,
+        })
+    }
 }

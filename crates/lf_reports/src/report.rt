@@ -10,7 +10,7 @@ ghost use Rattle.lf_reports.specs.Reports.{IsListed, broken_among, listed_at, me
 ghost use Rattle.lf_reports.specs.Nearby.{IsSearchOf};
 ghost use Rattle.lf_rules.specs.Team.{Member, boxes_beside, boxes_from, with_box};
 
-use crate::frame_index::index_of;
+use crate::frame_index::FrameIndex;
 use crate::search::{Search, broken_beside};
 use crate::window::Window;
 use lf_floorplan::{Cell, Frame, Loaded, Macro, Place, cell_is_sized};
@@ -355,7 +355,7 @@ pub(crate) fn indexed(
     ensures search { (cells : List Member) → IsPermutation (boxes_from frame.now 0 cells) boxes.old → IfOk result (λ search. IsSearchOf frame.now cells search) }
 {
     let boxes = RTree::build(alloc, boxes)?;
-    let index = index_of(alloc, frame)?;
+    let index = FrameIndex::build(alloc, frame)?;
     let window = Window::new(alloc, &index)?;
     Ok(Search::Indexed(index, boxes, window))
 }

@@ -14,7 +14,7 @@ use Rattle.lf_floorplan.specs.Rows.{row_area}
 use Rattle.lf_floorplan.specs.Ground.{StaysInGround, IsClear}
 use Rattle.lf_floorplan.specs.Standing.{IsSitesHigh, IsBottomRow, IsRowOfBox, Carries, StandsOn}
 use Rattle.lf_segments.specs.declared.segment.Segment.{Segment}
-use Rattle.lf_segments.specs.Segments.{IsOpen, IsCut}
+use Rattle.lf_segments.specs.Segments.{IsOpen, IsCut, LiesInSegment}
 use Rattle.lf_segments.specs.Boxes.{across}
 use Rattle.lf_segments.specs.Laws.{LiesInSegments}
 
@@ -108,15 +108,18 @@ segments_hold f segments team box cut stands wide ground clear k bottom j n r hi
       ground = λ y covers. ground x y (point_of_row f box k j r x y high less carries.at_row holds covers);
     })
 
--- each point of a box that lies in segments is where the team may use a row
-record OpenPoint (f : Frame) (team : ℕ) (x y : ℤ) : Type 0 where
-  row : Row
-  there : IsOpen f row team x
-  covers : Covers (row_area f.pitch row) x y
+-- the point lies in a row of this number in which the box lies in a segment of the team
+pub record InSegment (f : Frame) (segments : List Segment) (team : ℕ) (box : Rect) (x y : ℤ) : Type 0 where
+  pub number : ℕ
+  pub row : Row
+  pub stands : slice_get f.rows number ≡ Some row
+  pub lies : LiesInSegment segments number team (across box)
+  pub covers : Covers (row_area f.pitch row) x y
 
-open_point : (f : Frame) (segments : List Segment) (team : ℕ) (box : Rect) → IsCut f segments → StandsOn f box → box.x1 <ℤ box.x2 →
-    LiesInSegments f segments team box → (x y : ℤ) → Covers box x y → OpenPoint f team x y
-open_point f segments team box cut stands wide lies x y covers =
+-- so does each point of a box that stands on rows and lies in segments
+pub in_segment : (f : Frame) (segments : List Segment) (team : ℕ) (box : Rect) → StandsOn f box → LiesInSegments f segments team box →
+    (x y : ℤ) → Covers box x y → InSegment f segments team box x y
+in_segment f segments team box stands lies x y covers =
     let k = stands.height.0 in
     let high : IsSitesHigh f box k = stands.height.1 in
     let bottom : Row = stands.row.0 in
@@ -127,11 +130,28 @@ open_point f segments team box cut stands wide lies x y covers =
     let row : Row = carried.0 in
     let carries : Carries f box bottom l.j row = carried.1 in
     let place = row_at f row carries.heeded in
-    let in_one = lies k bottom l.j place.0 row high at_bottom l.less place.1 carries in
     record {
+      number = place.0;
       row = row;
-      there = (cut.exact place.0 row team (across box) place.1 wide).0 in_one x record { low = covers.left; high = covers.right };
+      stands = place.1;
+      lies = lies k bottom l.j place.0 row high at_bottom l.less place.1 carries;
       covers = point_in_row f box l.j row x y carries.at_row covers l.from l.below;
+    }
+
+-- each point of a box that lies in segments is where the team may use a row
+record OpenPoint (f : Frame) (team : ℕ) (x y : ℤ) : Type 0 where
+  row : Row
+  there : IsOpen f row team x
+  covers : Covers (row_area f.pitch row) x y
+
+open_point : (f : Frame) (segments : List Segment) (team : ℕ) (box : Rect) → IsCut f segments → StandsOn f box → box.x1 <ℤ box.x2 →
+    LiesInSegments f segments team box → (x y : ℤ) → Covers box x y → OpenPoint f team x y
+open_point f segments team box cut stands wide lies x y covers =
+    let i = in_segment f segments team box stands lies x y covers in
+    record {
+      row = i.row;
+      there = (cut.exact i.number i.row team (across box) i.stands wide).0 i.lies x record { low = covers.left; high = covers.right };
+      covers = i.covers;
     }
 
 pub segments_suffice : (f : Frame) (segments : List Segment) (team : ℕ) (box : Rect) → IsCut f segments → StandsOn f box → box.x1 <ℤ box.x2 →

@@ -51,7 +51,7 @@ fn cells_in(reply: &Reply) -> (Option<u32>, Option<u32>)
 }
 
 /// The name of the team's cell of that position.
-fn name_in<'a, K: Drop>(floor: &'a Floor<K>, team: &[u8], cell: Option<u32>) -> &'a [u8]
+fn name_in<'a, K: Seeker + Drop>(floor: &'a Floor<K>, team: &[u8], cell: Option<u32>) -> &'a [u8]
     ensures name { result.now ≡ name_in floor.now team.now cell }
     ensures short { length result.now ≤ 1024 }
 {
@@ -122,7 +122,7 @@ fn text_fits(reply: &Reply, cell_name: &[u8], other_name: &[u8])
 }
 
 /// Puts the text of a reply to a command of the team into the empty buffer; a text that is no long one fits.
-fn put_reply<K: Drop>(
+fn put_reply<K: Seeker + Drop>(
     floor: &Floor<K>,
     team: &[u8],
     reply: &Reply,
@@ -143,7 +143,7 @@ fn put_reply<K: Drop>(
 }
 
 /// Puts the text of a reply that is no long one into the empty buffer.
-fn put_short<K: Drop>(floor: &Floor<K>, team: &[u8], reply: &Reply, text: &mut Vec<u8>)
+fn put_short<K: Seeker + Drop>(floor: &Floor<K>, team: &[u8], reply: &Reply, text: &mut Vec<u8>)
     requires empty { text.old.items ≡ [] }
     requires room { 4096 ≤ vec_capacity text.old }
     requires short { is_long reply.now ≡ false }
@@ -157,7 +157,7 @@ fn put_short<K: Drop>(floor: &Floor<K>, team: &[u8], reply: &Reply, text: &mut V
 
 /// Puts the text of a reply into the empty buffer; a report or a DEF text that finds no memory is answered by that
 /// refusal, for which the buffer has room.
-fn put_told<K: Drop>(floor: &Floor<K>, team: &[u8], reply: &Reply, text: &mut Vec<u8>)
+fn put_told<K: Seeker + Drop>(floor: &Floor<K>, team: &[u8], reply: &Reply, text: &mut Vec<u8>)
     requires empty { text.old.items ≡ [] }
     requires room { 4096 ≤ vec_capacity text.old }
     ensures told { Tells floor.now team.now reply.now text.new.items }

@@ -94,7 +94,7 @@ none_seen count i d within =
     let inside : i < count = rw (length-replicate {A = Option ℕ} count None) at within in
     rw (get_or-replicate {A = Option ℕ} count i None d inside) tt
 
-opened_team : (design : Loaded) (number : ℕ) → IsTeamOf design.frame (opening_team design number)
+pub opened_team : (design : Loaded) (number : ℕ) → IsTeamOf design.frame (opening_team design number)
 opened_team design number =
     let own = filter (λ (c : LoadedCell). eqb c.team number) design.cells in
     let known : All (λ (c : LoadedCell). IsSizedCell design.frame (opening_cell c)) design.cells = λ i d within. sized_cell design.frame (get_or design.cells i d) (design.cells_known i d within) in

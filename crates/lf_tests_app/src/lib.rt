@@ -12,6 +12,8 @@ mod lines;
 #[cfg(test)]
 mod runs;
 #[cfg(test)]
+mod segments;
+#[cfg(test)]
 mod shelf;
 #[cfg(test)]
 mod tasks;

@@ -9,8 +9,7 @@ use Rattle.lf_app.proofs.work.answer_on.Goals as goal
 
 pub returns-in-Some-clause-err : goal.returns-in-Some-clause-err
 returns-in-Some-clause-err g c = λ loaded opens.
-    let is : ending_fault c.answer_lines.result ≡ Some c.in-Some.fault = search rules in
-    (
+    let is : ending_fault c.answer_lines.result ≡ Some c.in-Some.fault = search rules in (
       c.in-Some.fault,
       (
         inr record {

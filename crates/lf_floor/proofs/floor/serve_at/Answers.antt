@@ -10,8 +10,9 @@ use Rattle.lf_floor.specs.Tables.{own_team, teams_in}
 use Rattle.lf_floor.proofs.Rows.{each_team, one_changed, served, team_there}
 use Rattle.lf_floor.proofs.floor.serve_at.Goals as goal
 
-pub serve-requires : goal.serve-requires
-serve-requires g c = served c.args.around.now.frame.now c.args.tables.now c.args.around.now.number c.requires.tables c.requires.teams c.requires.within
+pub serve-requires-clause-served : goal.serve-requires-clause-served
+serve-requires-clause-served g c =
+    served c.args.around.now.frame.now c.args.tables.now c.args.around.now.number c.requires.tables c.requires.teams c.requires.within c.requires.follows
 
 pub returns-clause-ok : goal.returns-clause-ok
 returns-clause-ok g c = λ l.

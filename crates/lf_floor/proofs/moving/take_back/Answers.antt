@@ -13,6 +13,7 @@ loop-at-init c = record {
       subst (λ (ms : List Move). HaveMoved before ms (cells_of c.args.cells.now c.args.number))
       (sym (take_all (length c.as_slice-moves.result.now) c.as_slice-moves.result.now (omega arith) ∙ c.as_slice-moves.ensures)) have;
   others = cells_stay c.args.number c.args.cells.now;
+  held = c.requires;
 }
 
 pub loop-at-preserved : goal.loop-at-preserved
@@ -27,6 +28,7 @@ loop-at-preserved c =
           (one_less before (cells_of c.loop-at.cells number) moves n c.index-moves-at.result within c.index-moves-at.is
           (subst (λ (k : ℕ). HaveMoved before (take k moves) (cells_of c.loop-at.cells number)) more (c.loop-at.invariant.left before have)));
       others = cells_through number c.args.cells.now c.loop-at.cells c.put_at.new.cells c.loop-at.invariant.others c.put_at.ensures.others;
+      held = c.put_at.ensures.held;
     }
 
 pub returns-clause-own : goal.returns-clause-own
@@ -37,3 +39,6 @@ returns-clause-own c = λ before have.
 
 pub returns-clause-others : goal.returns-clause-others
 returns-clause-others c = c.loop-at.invariant.others
+
+pub returns-clause-held : goal.returns-clause-held
+returns-clause-held c = c.loop-at.invariant.held

@@ -13,7 +13,7 @@ use Rattle.lf_floor.proofs.tidy.send.Goals as goal
 pub returns-in_default-clause-ok : goal.returns-in_default-clause-ok
 returns-in_default-clause-ok g c = λ l moved.
     one_stays (setting_in l c.args.around.now) (cells_of c.args.cells.now c.args.around.now.number) c.args.own moved
-    (sym (c.in_ok-target.ensures {u = tt} l) ∙ c.in_default.is)
+    (sym ((c.in_ok-target.ensures {u = tt}).is l) ∙ c.in_default.is)
 
 pub returns-in_default-id_at-clause-ok : goal.returns-in_default-id_at-clause-ok
 returns-in_default-id_at-clause-ok g c = λ l moved.
@@ -25,7 +25,7 @@ returns-in_ok-shift-in-Some-2-clause-ok g c = λ l moved.
     let t = setting_in l c.args.around.now in
     let cells = cells_of c.args.cells.now c.args.around.now.number in
     let id = id_there cells c.args.around.now.number c.args.own c.in-Some-id_at.id (sym c.in-Some-id_at.ensures) in
-    one_sent t cells c.args.own moved c.in-Some.target c.in_ok-place.field-0 (sym c.in-Some.is ∙ c.in_ok-target.ensures {u = tt} l)
+    one_sent t cells c.args.own moved c.in-Some.target c.in_ok-place.field-0 (sym c.in-Some.is ∙ (c.in_ok-target.ensures {u = tt}).is l)
     ((c.in_ok-place.ensures {u = tt}).spot l ∙ ap (λ (i : CellId). best_of l t.frame t.number cells i.own c.in-Some.target) id)
     ∙ ap (λ (found : Option Place). sent_by found cells c.args.own moved) c.in-Some-2.is
     ∙ ap (λ (cs : List Cell). Going (map member_of cs) (moved + 1))
@@ -43,6 +43,6 @@ returns-in-None-clause-ok g c = λ l moved.
     let t = setting_in l c.args.around.now in
     let cells = cells_of c.args.cells.now c.args.around.now.number in
     let id = id_there cells c.args.around.now.number c.args.own c.in-Some-id_at.id (sym c.in-Some-id_at.ensures) in
-    one_sent t cells c.args.own moved c.in-Some.target c.in_ok-place.field-0 (sym c.in-Some.is ∙ c.in_ok-target.ensures {u = tt} l)
+    one_sent t cells c.args.own moved c.in-Some.target c.in_ok-place.field-0 (sym c.in-Some.is ∙ (c.in_ok-target.ensures {u = tt}).is l)
     ((c.in_ok-place.ensures {u = tt}).spot l ∙ ap (λ (i : CellId). best_of l t.frame t.number cells i.own c.in-Some.target) id)
     ∙ ap (λ (found : Option Place). sent_by found cells c.args.own moved) c.in-None.is

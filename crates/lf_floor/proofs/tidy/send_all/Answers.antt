@@ -5,7 +5,6 @@ use Rattle.lf_legalize.specs.Members.{member_of}
 use Rattle.lf_floor.specs.declared.tidy.Sent.{Sent}
 use Rattle.lf_floor.specs.Tables.{setting_in}
 use Rattle.lf_floor.specs.Tidying.{sent_as}
-use Rattle.lf_floor.proofs.Moves.{sized_same}
 use Rattle.lf_floor.proofs.Rows.{cells_stay, cells_through}
 use Rattle.lf_floor.proofs.Sending.{all_to_go, on_going, stuck_stays}
 use Rattle.lf_floor.proofs.tidy.send_all.Goals.{in-Stays, in-Goes}
@@ -21,13 +20,9 @@ loop-own-init g c =
       same = refl;
       moved = λ before have. have;
       others = cells_stay number c.args.cells.now;
+      held = c.requires.held;
       few = omega arith;
     }
-
-pub send-requires-clause-sized : goal.send-requires-clause-sized
-send-requires-clause-sized g c =
-    let number = c.args.around.now.number in
-    sized_same c.args.around.now.frame.now (cells_of c.args.cells.now number) (cells_of c.loop-own.cells number) c.loop-own.invariant.same c.requires.sized
 
 pub returns-in-Nowhere-clause-ok : goal.returns-in-Nowhere-clause-ok
 returns-in-Nowhere-clause-ok g c = λ l.
@@ -61,6 +56,7 @@ loop-own-preserved g c =
       same = sent.same ∙ c.loop-own.invariant.same;
       moved = λ before have. sent.moved before (c.loop-own.invariant.moved before have);
       others = cells_through number c.args.cells.now c.loop-own.cells c.send.new.cells c.loop-own.invariant.others sent.others;
+      held = sent.held;
       few = elim c.match-branch-2.branch [
         | in-Stays w ↦ omega (arith, w.moved-is, c.loop-own.invariant.few)
         | in-Goes w ↦ omega (arith, w.moved-is, c.loop-own.invariant.few)

@@ -4,7 +4,7 @@ use Rattle.lf_rules.specs.Tidy.{Going, tidied, tidied_from}
 use Rattle.lf_cells.specs.Cells.{cells_of}
 use Rattle.lf_legalize.specs.Members.{member_of}
 use Rattle.lf_cells.specs.declared.cell.Cell.{Cell}
-use Rattle.lf_floor.specs.Tables.{HaveMoved, OtherCellsStay, SameButPlaces}
+use Rattle.lf_floor.specs.Tables.{HaveMoved, IsHeld, OtherCellsStay, SameButPlaces}
 use Rattle.lf_floor.proofs.tidy.send_all.Given as goal
 
 -- tidying goes on from the cells so far, which differ from the old ones in their working places alone
@@ -17,5 +17,6 @@ invariant-loop-own g l = record {
   moved : (before : List Cell) → HaveMoved before l.initial.moves (cells_of l.initial.cells l.around.number)
       → HaveMoved before l.moves (cells_of l.cells l.around.number);
   others : OtherCellsStay l.around.number l.initial.cells l.cells;
+  held : IsHeld l.around.frame.now l.around.number l.cells l.occupancy;
   few : l.moved ≤ l.own;
 }

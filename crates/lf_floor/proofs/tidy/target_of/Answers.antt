@@ -9,16 +9,16 @@ use Rattle.lf_floor.specs.Tables.{setting_in}
 use Rattle.lf_floor.proofs.Sending.{target_placed}
 use Rattle.lf_floor.proofs.tidy.target_of.Goals as goal
 
-pub returns-in-Some-2 : goal.returns-in-Some-2
-returns-in-Some-2 g c = λ l.
+pub returns-in-Some-2-clause-is : goal.returns-in-Some-2-clause-is
+returns-in-Some-2-clause-is g c = λ l.
     let point : Option Broken → Option Point = option_map (λ (b : Broken). point_of (spot_of c.in-Some-working.place)) in
     ap (λ (p : Point). Some p) c.corner.ensures ∙ ap point (sym c.in-Some-2.is)
     ∙ target_placed (setting_in l c.args.around.now) (cells_of c.args.cells.now c.args.around.now.number) c.args.own c.in-Some.standing
-    c.in-Some-working.place c.in_ok-broken_at.field-0 c.in-Some.ensures c.in-Some-working.is (c.in_ok-broken_at.ensures {u = tt} l)
+    c.in-Some-working.place c.in_ok-broken_at.field-0 c.in-Some.ensures c.in-Some-working.is ((c.in_ok-broken_at.ensures {u = tt}).is l)
 
-pub returns-in-None : goal.returns-in-None
-returns-in-None g c = λ l.
+pub returns-in-None-clause-is : goal.returns-in-None-clause-is
+returns-in-None-clause-is g c = λ l.
     let point : Option Broken → Option Point = option_map (λ (b : Broken). point_of (spot_of c.in-Some-working.place)) in
     ap point (sym c.in-None.is)
     ∙ target_placed (setting_in l c.args.around.now) (cells_of c.args.cells.now c.args.around.now.number) c.args.own c.in-Some.standing
-    c.in-Some-working.place c.in_ok-broken_at.field-0 c.in-Some.ensures c.in-Some-working.is (c.in_ok-broken_at.ensures {u = tt} l)
+    c.in-Some-working.place c.in_ok-broken_at.field-0 c.in-Some.ensures c.in-Some-working.is ((c.in_ok-broken_at.ensures {u = tt}).is l)

@@ -6,7 +6,7 @@ use Rattle.lf_floor.proofs.Rows.{cells_stay, cells_through}
 use Rattle.lf_floor.proofs.wholes.move_back.Goals as goal
 
 pub loop-own-init : goal.loop-own-init
-loop-own-init c = record { back = refl; moved = λ before have. have; others = cells_stay c.args.number c.args.cells.now }
+loop-own-init c = record { back = refl; moved = λ before have. have; others = cells_stay c.args.number c.args.cells.now; held = c.requires }
 
 pub returns-in_err-move_one_back-clause-moved : goal.returns-in_err-move_one_back-clause-moved
 returns-in_err-move_one_back-clause-moved c = λ before have. c.move_one_back.ensures.moved before (c.loop-own.invariant.moved before have)
@@ -25,6 +25,7 @@ loop-own-preserved c =
       moved = λ before have. c.move_one_back.ensures.moved before (c.loop-own.invariant.moved before have);
       others =
           cells_through c.args.number c.args.cells.now c.loop-own.cells c.move_one_back.new.cells c.loop-own.invariant.others c.move_one_back.ensures.others;
+      held = c.move_one_back.ensures.held;
     }
 
 pub returns-clause-own : goal.returns-clause-own
@@ -37,3 +38,6 @@ returns-clause-moved c = c.loop-own.invariant.moved
 
 pub returns-clause-others : goal.returns-clause-others
 returns-clause-others c = c.loop-own.invariant.others
+
+pub returns-clause-held : goal.returns-clause-held
+returns-clause-held c = c.loop-own.invariant.held

@@ -18,7 +18,7 @@ returns-in_ok-revision-in-Ok-Done-clause-ok g c = λ l.
     let have = c.send_all.ensures.moved before (from_none before c.new-moves.result c.new-moves.ensures) in
     let done = c.in_ok-revision-in-Ok-Done.ensures {u = tt} in
     tidied_reaches (setting_in l c.args.around.now) number c.args.session c.in_ok-revision-in-Ok-Done.revision c.in-Ok-Done.moved c.args.self.now c.keep.new.self
-    c.send_all.new.cells c.in-Ok-Done.field-0 c.requires.served.limit ((c.in-Ok-Done.ensures {u = tt}).ok l) c.in-Ok-Done.field-0-is c.send_all.ensures.same
+    c.send_all.new.cells c.in-Ok-Done.field-0 c.requires.change.served.limit ((c.in-Ok-Done.ensures {u = tt}).ok l) c.in-Ok-Done.field-0-is c.send_all.ensures.same
     (done.ok before have) done.revision
 
 pub returns-in-Ok-Stopped-clause-ok : goal.returns-in-Ok-Stopped-clause-ok

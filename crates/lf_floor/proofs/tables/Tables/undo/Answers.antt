@@ -6,8 +6,9 @@ pub returns-in-Some-clause-team : goal.returns-in-Some-clause-team
 returns-in-Some-clause-team c =
     let popped = c.in-Some.ensures {u = tt} in
     let now = cells_of c.args.self.now.cells c.args.number in
-    undone_reaches c.args.number c.args.session c.count_change.result c.in-Some.moves c.args.self.now c.count_change.new.self c.pop.new.self c.take_back.new.cells
-    c.requires.rows popped.front popped.lists (c.take_back.ensures.own (cells_before c.in-Some.moves now) (led_from c.in-Some.moves now))
+    undone_reaches c.args.number c.args.session c.count_change.result c.in-Some.moves c.args.self.now c.count_change.new.self c.pop.new.self
+    c.take_back.new.cells c.take_back.new.occupancy c.requires.rows popped.front popped.lists
+    (c.take_back.ensures.own (cells_before c.in-Some.moves now) (led_from c.in-Some.moves now))
     c.count_change.ensures.tables c.count_change.ensures.revision
 
 pub returns-in-None-clause-team : goal.returns-in-None-clause-team

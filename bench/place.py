@@ -1,0 +1,117 @@
+#!/usr/bin/env python3
+"""Asks a floor to look for places and to move cells, and prints microseconds per command, and seconds of whole teams' commands.
+
+usage: bench/place.py [COUNT ...]    (10000 100000 1000000; from the top; the program crates/lefence is proved and built first:
+                                      rt run there)
+
+The designs are `generate.py packed`: 10 or 500 fences, cells of one to four rows that take 60 or 95 percent of the sites. The
+commands go to cells of the first fence and of the ground team, half of each, over a pipe and a hundred at a time. `find` and
+`legalize` look for a place within twenty sites and two rows of the cell's own. `tidy`, `commit` and `check` are asked of every
+team of a design in which a tenth of the cells stand half a site beside their places.
+"""
+import os
+import random
+import subprocess
+import sys
+import tempfile
+import time
+
+from load import LEFENCE, need, write
+
+ASKED = 500    # commands of a verb
+
+
+def cells_of(def_):
+    """Of the first fence and of the ground team the cells, each with its macro and its place."""
+    cells, fences = {}, set()
+    first = None
+    with open(def_) as text:
+        for line in text:
+            words = line.split()
+            if len(words) > 4 and words[0] == "-" and "PLACED" in words:
+                cells[words[1]] = words[2], int(words[-5]), int(words[-4]), words[-2]
+            elif "REGION" in words and words[0] == "-":
+                members = words[2:-4] if words[-4] == "+" else words[2:-3]
+                members = [word for word in members if word in cells]
+                first = first or members
+                fences.update(members)
+    return {"f0": {name: cells[name] for name in first}, "-": {name: cell for name, cell in cells.items() if name not in fences}}
+
+
+def verbs(teams):
+    """For each verb its commands, in the order in which they are asked."""
+    rng = random.Random(3)
+    told = {verb: [] for verb in ("where", "find", "place", "swap", "legalize", "unplace", "undo")}
+    for team, cells in teams.items():
+        names = rng.sample(sorted(cells), min(ASKED // 2, len(cells)))
+        alike = {}
+        for name, (mac, x, y, orient) in cells.items():
+            alike.setdefault((mac, orient), []).append(name)
+        for name in names:
+            mac, x, y, orient = cells[name]
+            near = f"{x + rng.randrange(-20, 21) * 200} {y + rng.randrange(-2, 3) * 2000}"
+            told["where"].append(f"where {team} 0 {name}\n")
+            told["find"].append(f"find {team} 0 {name} {near}\n")
+            told["place"].append(f"place {team} 0 {name} {x} {y} {'FN' if orient == 'N' else 'S'}\n")
+            told["swap"].append(f"swap {team} 0 {name} {rng.choice(alike[mac, orient])}\n")
+            told["legalize"].append(f"legalize {team} 0 {name} {near}\n")
+            told["unplace"].append(f"unplace {team} 0 {name}\n")
+        told["undo"] += [f"undo {team} 0\n"] * min(60, len(names))
+    return told
+
+
+class Program:
+    """The program over a pipe, with a session of each of these teams."""
+
+    def __init__(self, lef, def_, teams):
+        self.child = subprocess.Popen([LEFENCE, "replay", def_, lef], stdin=subprocess.PIPE, stdout=subprocess.PIPE, bufsize=0)
+        self.replies = open(self.child.stdout.fileno(), "rb", closefd=False)
+        self.ask([f"open {team}\n" for team in teams])
+
+    def ask(self, lines):
+        """Seconds of these commands."""
+        start = time.perf_counter()
+        for number in range(0, len(lines), 100):
+            sent = lines[number:number + 100]
+            text = "".join(sent).encode()
+            while text:
+                text = text[self.child.stdin.write(text):]
+            for line in sent:
+                reply = self.replies.readline()
+                if not reply.startswith((b"ok", b"no 7", b"no 8", b"{")):
+                    sys.exit(f"{line.strip()}: {reply.decode()}")
+        return time.perf_counter() - start
+
+    def end(self):
+        self.child.stdin.close()
+        self.child.wait()
+
+
+def main():
+    counts = [int(word) for word in sys.argv[1:]] or [10_000, 100_000, 1_000_000]
+    need(LEFENCE)
+    print(f"{'cells':>8} {'fences':>6} {'%':>3} {'where':>7} {'find':>7} {'place':>7} {'swap':>7} {'legalize':>8} {'unplace':>7} {'undo':>7}"
+          f" us {'tidy':>7} {'commit':>7} {'check':>7} s")
+    with tempfile.TemporaryDirectory() as folder:
+        lef, def_ = os.path.join(folder, "x.lef"), os.path.join(folder, "x.def")
+        write(lef, "tall")
+        for percent in (60, 95):
+            for fences in (10, 500):
+                for count in counts:
+                    write(def_, "packed", count, fences, percent)
+                    teams = cells_of(def_)
+                    told = verbs(teams)
+                    program = Program(lef, def_, teams)
+                    times = [program.ask(lines) / len(lines) * 1e6 for lines in told.values()]
+                    program.end()
+                    write(def_, "packed", count, fences, percent, 10)
+                    all_teams = [f"f{fence}" for fence in range(fences)] + ["-"]
+                    program = Program(lef, def_, all_teams)
+                    whole = [program.ask([f"{verb} {team} 0\n" for team in all_teams]) for verb in ("tidy", "commit", "check")]
+                    program.end()
+                    print(f"{count:>8} {fences:>6} {percent:>3}" + "".join(f" {t:{w}.1f}" for t, w in zip(times, (7, 7, 7, 7, 8, 7, 7)))
+                          + "    " + "".join(f" {t:7.2f}" for t in whole), flush=True)
+
+
+if __name__ == "__main__":
+    main()

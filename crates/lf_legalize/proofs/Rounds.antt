@@ -1,0 +1,167 @@
+-- Looking at the rows of a run, and ever farther from the target.
+use Rattle.std.proofs.Common.{◌≡◌, ◌⊎◌, inl, inr, ℕ, ℤ, pos, ◌+◌, ◌≤◌, ◌<◌, ◌+ℤ◌, ◌-ℤ◌, ◌≤ℤ◌, ◌<ℤ◌, arith}
+use Rattle.std.proofs.Common.{refl, sym, ap, ◌∙◌, subst, Option, Some, None, true, slice_get, length, List, ◌++◌, get_or, length-append}
+use Rattle.std.specs.Prelude.{unsigned_abs, All, Any}
+use Rattle.std.specs.Option.{option_map, is_some}
+use Rattle.std.proofs.lemmas.Int.{ints}
+use Rattle.std.proofs.lemmas.Option.{slice_get_read}
+use Rattle.std.proofs.lemmas.List.{get_or-append-add}
+use Rattle.std.proofs.Math.ListN.{get_or-append}
+use Rattle.lf_units.specs.declared.area.Point.{Point}
+use Rattle.lf_orient.specs.declared.Orient.{Orient}
+use Rattle.lf_floorplan.specs.declared.frame.Frame.{Frame}
+use Rattle.lf_floorplan.specs.declared.place.Place.{Place}
+use Rattle.lf_floorplan.specs.Boxes.{macro_of, size_of}
+use Rattle.lf_floorplan.specs.Sizes.{box_at, turned}
+use Rattle.lf_floorplan.specs.Standing.{IsBottomRow}
+use Rattle.lf_rules.specs.declared.rule.Rule.TheVariants.{Row as RowRule}
+use Rattle.lf_rules.specs.Legality.{Holds}
+use Rattle.lf_rules.specs.Choice.{Spot, Lifted, IsLegalAt, IsChoice, IsBest, distance, spot_of, trial_at}
+use Rattle.lf_rules.proofs.Looking.{onward}
+use Rattle.lf_rules.proofs.Order.{compared}
+use Rattle.lf_rules.proofs.SiteLemmas.{OneOfFour, legal_upright, rank_tells}
+use Rattle.lf_segments.specs.declared.rows_by_y.RowEntry.{RowEntry}
+use Rattle.lf_segments.specs.RowsByY.{IsRowsByY, IsRunBetween, RunBetweenHasRows}
+use Rattle.lf_legalize.specs.Extents.{IsWithin, IsOnRow, LooksNear}
+use Rattle.lf_legalize.specs.RowSearches.{IsBestAmong, IsChoiceAmong, lifted_in}
+use Rattle.lf_legalize.specs.declared.row_search.RowSearch.{RowSearch}
+use Rattle.lf_legalize.proofs.Reaches.{abs_above, abs_below, row_level}
+
+-- at this place a box of that size has the row of one of the first entries as its bottom row
+pub record IsOnEntries (f : Frame) (size : Point) (run : List RowEntry) (count : ℕ) (p : Spot) : Type 0 where
+  pub place : ℕ
+  pub entry : RowEntry
+  pub within : place < count
+  pub there : slice_get run place ≡ Some entry
+  pub on : IsOnRow f size entry.row p
+
+-- nothing was looked at so far
+pub no_entry : (f : Frame) (size : Point) (run : List RowEntry) (cell : Lifted) (target : Point) (reach : ℕ) →
+    LooksNear (IsOnEntries f size run 0) cell target reach None None
+no_entry f size run cell target reach = record {
+  looked = record { legal = λ h. h; kept = λ p h. h; seen = λ p s l. let within = s.1.within in absurd (omega arith) };
+  near = λ h. h;
+}
+
+-- one more entry
+pub next_entry : (f : Frame) (size : Point) (run : List RowEntry) (n : ℕ) (e : RowEntry) (cell : Lifted) (target : Point) (reach : ℕ) (a b c : Option Spot) →
+    slice_get run n ≡ Some e → LooksNear (IsOnEntries f size run n) cell target reach a b → LooksNear (IsOnRow f size e.row) cell target reach b c →
+    LooksNear (IsOnEntries f size run (n + 1)) cell target reach a c
+next_entry f size run n e cell target reach a b c there first second = record {
+  looked = onward (λ p. IsWithin target reach p × IsOnEntries f size run n p) (λ p. IsWithin target reach p × IsOnRow f size e.row p)
+      (λ p. IsWithin target reach p × IsOnEntries f size run (n + 1) p) cell target a b c split first.looked second.looked;
+  near = λ h. second.near (first.near h);
+}
+  where
+    same_entry : {x y : RowEntry} → Some x ≡ Some y → x ≡ y
+    same_entry is = cc
+
+    split : (p : Spot) → (IsWithin target reach p × IsOnEntries f size run (n + 1) p) → IsLegalAt cell p →
+        (IsWithin target reach p × IsOnEntries f size run n p) ⊎ (IsWithin target reach p × IsOnRow f size e.row p)
+    split p s legal =
+        let within = s.1.within in
+        let order : (s.1.place < n) ⊎ (s.1.place ≡ n) = grind arith in
+        elim order [
+          | inl less ↦ inl (s.0, record { place = s.1.place; entry = s.1.entry; within = less; there = s.1.there; on = s.1.on })
+          | inr same ↦
+              let is : s.1.entry ≡ e = same_entry (sym s.1.there ∙ ap (slice_get run) same ∙ there) in
+              inr (s.0, subst (λ (x : RowEntry). IsOnRow f size x.row p) is s.1.on)
+        ]
+
+-- what holds of all entries holds of those of a run
+pub run_holds : (P : RowEntry → Type 0) (entries before run behind : List RowEntry) → entries ≡ before ++ (run ++ behind) → All P entries →
+    (k : ℕ) (d : RowEntry) → k < length run → P (get_or run k d)
+run_holds P entries before run behind parts all k d less =
+    let whole : All P (before ++ (run ++ behind)) = subst (λ (xs : List RowEntry). All P xs) parts all in
+    let within : length before + k < length (before ++ (run ++ behind)) = rw (length-append before (run ++ behind), length-append run behind) (omega arith) in
+    subst P (get_or-append-add before (run ++ behind) k d ∙ get_or-append run behind d k less) (whole (length before + k) d within)
+
+-- an upright box is as wide and as high as its macro
+pub upright_size : (size : Point) (o : Orient) → OneOfFour o → turned size o ≡ size
+upright_size size o (inl n) = rw n refl
+upright_size size o (inr (inl s)) = rw s refl
+upright_size size o (inr (inr (inl fn))) = rw fn refl
+upright_size size o (inr (inr (inr fs))) = rw fs refl
+
+-- a legal place has a row of the frame as its bottom row
+pub stands_on_row : (s : RowSearch) (p : Spot) → IsLegalAt (lifted_in s) p → (n : ℕ) × IsOnRow s.frame.now s.size n p
+stands_on_row s p legal =
+    let held : Holds (trial_at (lifted_in s) p) RowRule = legal RowRule in
+    let size : turned (size_of s.frame.now (macro_of s.frame.now s.mac)) p.orient ≡ s.size =
+    upright_size _ p.orient (legal_upright (lifted_in s) p legal) ∙ sym s.size_is in
+    let bottom : IsBottomRow s.frame.now (box_at s.size p.x p.y) held.0 =
+    subst (λ (z : Point). IsBottomRow s.frame.now (box_at z p.x p.y) held.0) size held.1 in (
+      bottom.heeded.0,
+      record {
+        row = held.0;
+        there = slice_get_read s.frame.now.rows (length s.frame.now.rows) bottom.heeded.0 held.0 refl bottom.heeded.1 (sym bottom.heeded.2);
+        bottom = bottom;
+      },
+    )
+
+-- a place on the row of some entry
+on_any : (f : Frame) (size : Point) (run : List RowEntry) (n : ℕ) (p : Spot) → Any (λ e. e.row ≡ n) run → IsOnRow f size n p →
+    IsOnEntries f size run (length run) p
+on_any f size run n p any on = record {
+  place = any.0;
+  entry = any.1;
+  within = any.2;
+  there = slice_get_read run (length run) any.0 any.1 refl any.2 (sym any.3);
+  on = subst (λ (k : ℕ). IsOnRow f size k p) (sym any.4) on;
+}
+
+-- a legal place within the reach stands on a row of the run
+pub all_seen : (s : RowSearch) (run : List RowEntry) (reach : ℕ) (from to : ℤ) → RunBetweenHasRows → IsRowsByY s.frame.now s.rows.now →
+    IsRunBetween s.rows.now from to run → from ≤ℤ (s.target.now.y -ℤ pos reach) → (s.target.now.y +ℤ pos reach) <ℤ to →
+    (p : Spot) → IsLegalAt (lifted_in s) p → IsWithin s.target.now reach p → IsOnEntries s.frame.now s.size run (length run) p
+all_seen s run reach from to law rows between low high p legal within =
+    let stands = stands_on_row s p legal in
+    let on = stands.1 in
+    let level : p.y ≡ on.row.y = row_level s.frame.now s.size on.row p on.bottom in
+    let near : unsigned_abs (p.y -ℤ s.target.now.y) ≤ reach = omega (arith, within) in
+    let above = abs_above (p.y -ℤ s.target.now.y) reach near in
+    let below = abs_below (p.y -ℤ s.target.now.y) reach near in
+    let both = law s.frame.now s.rows.now run from to stands.0 on.row rows between on.there in
+    let any = both.1 (omega (arith, ints, level, above, below, low, high), omega (arith, ints, level, above, below, low, high)) in
+    on_any s.frame.now s.size run stands.0 p any on
+
+-- a look at all legal places within the reach finds the best of them
+pub chosen_near : (Seen : Spot → Type 0) (cell : Lifted) (target : Point) (reach : ℕ) (found : Option Spot) →
+    ((p : Spot) → IsLegalAt cell p → IsWithin target reach p → Seen p) → LooksNear Seen cell target reach None found →
+    IsChoiceAmong (IsWithin target reach) cell target found
+chosen_near Seen cell target reach None all looks = λ p within legal. looks.looked.seen p (within, all p legal within) legal
+chosen_near Seen cell target reach (Some b) all looks =
+    let legal : IsLegalAt cell b = looks.looked.legal tt in
+    record {
+      seen = looks.near tt;
+      legal = legal;
+      least = λ p within there. elim (compared target p b (rank_tells p.orient b.orient (legal_upright cell p there) (legal_upright cell b legal))) [
+        | inl same ↦ inl same
+        | inr rest ↦ elim rest [ inl less ↦ absurd (looks.looked.seen p (within, all p there within) there less) | inr more ↦ inr more ]
+      ];
+    }
+
+-- the best of the places within a reach is the best of all: the others are farther off
+pub best_of_all : (cell : Lifted) (target : Point) (reach : ℕ) (b : Spot) → IsBestAmong (IsWithin target reach) cell target b → IsBest cell target b
+best_of_all cell target reach b best = record {
+  legal = best.legal;
+  least = λ p legal.
+      let within = best.seen in
+      let order : (distance target p ≤ reach) ⊎ (reach < distance target p) = grind arith in
+      elim order [
+        | inl near ↦ best.least p near legal
+        | inr far ↦ inr (inl (omega (arith, within, far)))
+      ];
+}
+
+-- where all legal places are within the reach, the choice of those within it is the choice
+pub choice_of_all : (cell : Lifted) (target : Point) (reach : ℕ) (found : Option Spot) → ((p : Spot) → IsLegalAt cell p → IsWithin target reach p) →
+    IsChoiceAmong (IsWithin target reach) cell target found → IsChoice cell target found
+choice_of_all cell target reach None all choice = λ p legal. choice p (all p legal) legal
+choice_of_all cell target reach (Some b) all choice = best_of_all cell target reach b choice
+
+-- what was found within a reach is the choice
+pub choice_if_some : (cell : Lifted) (target : Point) (reach : ℕ) (found : Option Place) → is_some found ≡ true →
+    IsChoiceAmong (IsWithin target reach) cell target (option_map spot_of found) → IsChoice cell target (option_map spot_of found)
+choice_if_some cell target reach None some choice = absurd cc
+choice_if_some cell target reach (Some b) some choice = best_of_all cell target reach (spot_of b) choice

@@ -1,0 +1,324 @@
+-- A place with a given bottom row is legal exactly where its box is free at each of its levels.
+use Rattle.std.proofs.Common.{◌≡◌, ◌⊎◌, inl, inr, ℕ, zero, suc, ℤ, pos, negsuc, ◌*◌, ◌<◌, ◌+ℤ◌, ◌*ℤ◌, ◌≤ℤ◌, ◌<ℤ◌}
+use Rattle.std.proofs.Common.{List, Option, Some, None, map, slice_get, refl, sym, ap, subst, ◌∙◌, arith}
+use Rattle.std.specs.Prelude.{All, Any, Contains}
+use Rattle.std.specs.Option.{option_map, option_and_then}
+use Rattle.std.proofs.Math.Nat.{suc-mul}
+use Rattle.std.proofs.lemmas.Int.{ints}
+use Rattle.std.proofs.lemmas.Option.{slice_get-get_or, slice_get-map}
+use Rattle.lf_units.proofs.Any.{any_map}
+use Rattle.lf_units.specs.declared.area.Point.{Point}
+use Rattle.lf_units.specs.declared.area.Rect.{Rect}
+use Rattle.lf_units.specs.Area.{Covers, SharesPoint}
+use Rattle.lf_orient.specs.declared.Orient.{Orient}
+use Rattle.lf_orient.specs.declared.Rail.{Rail}
+use Rattle.lf_orient.specs.Orientation.{rail_below}
+use Rattle.lf_spans.specs.declared.span.Span.{Span}
+use Rattle.lf_spans.specs.Spans.{IsFilled, LiesIn, LiesInOne}
+use Rattle.lf_spans.proofs.Anys.{any_weaker}
+use Rattle.lf_floorplan.specs.declared.frame.Frame.{Frame}
+use Rattle.lf_floorplan.specs.declared.parts.Row.{Row}
+use Rattle.lf_floorplan.specs.declared.place.Place.{Place}
+use Rattle.lf_floorplan.specs.Boxes.{macro_of, size_of}
+use Rattle.lf_floorplan.specs.Sizes.{box_at as box_sized, turned}
+use Rattle.lf_floorplan.specs.Ground.{StaysInGround, IsClear}
+use Rattle.lf_floorplan.specs.Standing.{Carries, IsBottomRow, IsSitesHigh, StandsOn, changed}
+use Rattle.lf_segments.specs.declared.segment.Segment.{Segment}
+use Rattle.lf_segments.specs.Segments.{IsOf, LiesInSegment}
+use Rattle.lf_segments.proofs.LawLemmas.{segments_hold}
+use Rattle.lf_rules.specs.declared.rule.Rule.TheVariants.{Height, Row as RowRule, Stand, Orient as OrientRule, Rail as RailRule, Fence, Obstacle, Overlap}
+use Rattle.lf_rules.specs.Legality.{IsOnRail, IsOriented}
+use Rattle.lf_rules.specs.Legality.{box_of as box_tried}
+use Rattle.lf_rules.specs.Choice.{Spot, IsLegalAt, spot_of, trial_at}
+use Rattle.lf_rules.specs.Team.{Member, box_in, boxes_beside}
+use Rattle.lf_rules.proofs.BesideLemmas.{beside_each}
+use Rattle.lf_rules.proofs.SiteLemmas.{OneOfFour, legal_upright}
+use Rattle.lf_cells.specs.declared.cell.Cell.{Cell}
+use Rattle.lf_cells.specs.declared.cell.CellId.{CellId}
+use Rattle.lf_cells.specs.Cells.{Cells, cells_of}
+use Rattle.lf_occupancy.specs.declared.strip.Strip.{Strip}
+use Rattle.lf_occupancy.specs.Occupied.{Occupied, IsFreeOver, IsOther, IsStripOf, boxes_of, over}
+use Rattle.lf_occupancy.specs.Floorplans.{HoldsCells, IsOccupancyOf, box_of, row_y, strip_of}
+use Rattle.lf_legalize.specs.declared.row_search.RowSearch.{RowSearch}
+use Rattle.lf_legalize.specs.Members.{member_of}
+use Rattle.lf_legalize.specs.RowSearches.{IsOnRowIn, lifted_in}
+use Rattle.lf_legalize.specs.Levels.{IsFreeOnRow, IsLevel, MayStand}
+
+-- ---- levels of a box
+
+-- one level more
+one_more : (k : ℕ) (p : ℤ) → pos 0 <ℤ p → (pos (suc k) *ℤ p) ≡ ((pos k *ℤ p) +ℤ p)
+one_more k (pos n) high = ap (λ (m : ℕ). pos m) (suc-mul k n)
+one_more k (negsuc n) high = absurd (omega (arith, ints, high))
+
+-- more levels are higher
+rises : (p : ℤ) → pos 0 <ℤ p → (j k : ℕ) → j < k → ((pos j *ℤ p) +ℤ p) ≤ℤ (pos k *ℤ p)
+rises p high j zero less = absurd (omega (arith, less))
+rises p high j (suc k) less = elim order [
+  | inl below ↦ let before = rises p high j k below in let more = one_more k p high in omega (arith, ints, before, more, high)
+  | inr same ↦
+      let more = one_more k p high in
+      let At : ℕ → Type 0 = λ n. ((pos n *ℤ p) +ℤ p) ≤ℤ (pos (suc k) *ℤ p) in
+      subst At (sym same) (omega (arith, ints, more))
+]
+  where
+    order : (j < k) ⊎ (j ≡ k)
+    order = grind (arith, less)
+
+above : (p : ℤ) → pos 0 <ℤ p → (j : ℕ) → pos 0 ≤ℤ (pos j *ℤ p)
+above (pos n) high j = omega (arith, ints)
+above (negsuc n) high j = absurd (omega (arith, ints, high))
+
+pub none_high : (p : ℤ) → pos 0 <ℤ p → (pos 0 *ℤ p) ≡ pos 0
+none_high (pos n) high = let none : 0 * n ≡ 0 = omega arith in ap (λ (m : ℕ). pos m) none
+none_high (negsuc n) high = absurd (omega (arith, ints, high))
+
+-- of levels that stand on one another, one holds y
+pub record IsAtLevel (p low y : ℤ) (k : ℕ) : Type 0 where
+  pub j : ℕ
+  pub less : j < k
+  pub from : (low +ℤ (pos j *ℤ p)) ≤ℤ y
+  pub below : y <ℤ ((low +ℤ (pos j *ℤ p)) +ℤ p)
+
+pub level_of : (p low y : ℤ) → pos 0 <ℤ p → (k : ℕ) → low ≤ℤ y → y <ℤ (low +ℤ (pos k *ℤ p)) → IsAtLevel p low y k
+level_of p low y high zero from below = let none = none_high p high in absurd (omega (arith, ints, from, below, none))
+level_of p low y high (suc k) from below = elim order [
+  | inl less ↦ let l = level_of p low y high k from less in record { j = l.j; less = let h = l.less in omega (arith, h); from = l.from; below = l.below }
+  | inr over ↦ record { j = k; less = omega arith; from = over; below = let more = one_more k p high in omega (arith, ints, below, more) }
+]
+  where
+    order : (y <ℤ (low +ℤ (pos k *ℤ p))) ⊎ ((low +ℤ (pos k *ℤ p)) ≤ℤ y)
+    order = grind (arith, ints)
+
+-- ---- the box of a place
+
+-- the box of the cell at a place, where it stands upright
+abbrev pub upright_box : RowSearch → Spot → Rect
+upright_box s p = box_sized s.size p.x p.y
+
+-- from where to where it reaches
+abbrev pub reach : RowSearch → ℤ → Span
+reach s x = record { lo = x; hi = x +ℤ s.size.x }
+
+not_turned : (size : Point) (o : Orient) → OneOfFour o → turned size o ≡ size
+not_turned size o (inl n) = rw n refl
+not_turned size o (inr (inl t)) = rw t refl
+not_turned size o (inr (inr (inl fn))) = rw fn refl
+not_turned size o (inr (inr (inr fs))) = rw fs refl
+
+pub box_is : (s : RowSearch) (p : Spot) → OneOfFour p.orient → box_tried (trial_at (lifted_in s) p) ≡ upright_box s p
+box_is s p four =
+    let size : turned (size_of s.frame.now (macro_of s.frame.now s.mac)) p.orient ≡ s.size =
+    not_turned (size_of s.frame.now (macro_of s.frame.now s.mac)) p.orient four ∙ sym s.size_is in
+    ap (λ (z : Point). box_sized z p.x p.y) size
+
+pub wide : (s : RowSearch) → pos 0 <ℤ s.size.x
+wide s = rw s.size_is s.sized.wide
+
+pub filled : (s : RowSearch) (x : ℤ) → IsFilled (reach s x)
+filled s x = let w = wide s in omega (arith, ints, w)
+
+pub sites_high : (s : RowSearch) (p : Spot) → IsSitesHigh s.frame.now (upright_box s p) s.height
+sites_high s p = record { least = s.least; most = s.most; high = ap (λ (h : ℤ). p.y +ℤ h) s.high }
+
+-- ---- the other cells of the team
+
+-- a placed cell of a team, with its box
+record IsPlaced (f : Frame) (cells : List Cell) (own : ℕ) (box : Rect) : Type 0 where
+  cell : Cell
+  place : Place
+  there : slice_get cells own ≡ Some cell
+  stands : cell.working ≡ Some place
+  is : box_in f cell.mac (spot_of place) ≡ box
+
+box_of_cell : (f : Frame) (cells : List Cell) (own : ℕ) (box : Rect) (c : Cell) → slice_get cells own ≡ Some c → (w : Option Place) → c.working ≡ w →
+    option_map (λ p. box_in f c.mac (spot_of p)) w ≡ Some box → IsPlaced f cells own box
+box_of_cell f cells own box c there None stands is = absurd cc
+box_of_cell f cells own box c there (Some p) stands is = record { cell = c; place = p; there = there; stands = stands; is = cc }
+
+placed_at : (f : Frame) (cells : List Cell) (own : ℕ) (box : Rect) (found : Option Cell) → slice_get cells own ≡ found →
+    option_and_then (λ b. b) (option_map (box_of f) found) ≡ Some box → IsPlaced f cells own box
+placed_at f cells own box None there is = absurd cc
+placed_at f cells own box (Some c) there is = box_of_cell f cells own box c there c.working refl is
+
+other_placed : (f : Frame) (table : Cells) (o : Occupied) (id : CellId) (own : ℕ) (box : Rect) → HoldsCells f table o → IsOther o id own box →
+    IsPlaced f (cells_of table id.team) own box
+other_placed f table o id own box held other =
+    let cells = cells_of table id.team in
+    let boxes : slice_get (boxes_of o id.team) own ≡ option_map (box_of f) (slice_get cells own) =
+    ap (λ (bs : List (Option Rect)). slice_get bs own) (held id.team) ∙ slice_get-map (box_of f) cells own in
+    placed_at f cells own box (slice_get cells own) refl
+    (sym (ap (λ (b : Option (Option Rect)). option_and_then (λ c. c) b) boxes) ∙ other.stands)
+
+-- the same from the rules' side: what is there is another cell of the occupancy
+member_there : (f : Frame) (cells : List Cell) (k : ℕ) (m : Member) (p : Spot) (found : Option Cell) → slice_get cells k ≡ found →
+    option_map member_of found ≡ Some m → m.place ≡ Some p → option_and_then (λ b. b) (option_map (box_of f) found) ≡ Some (box_in f m.mac p)
+member_there f cells k m p None there is placed = absurd cc
+member_there f cells k m p (Some c) there is placed = by c.working refl
+  where
+    same : member_of c ≡ m
+    same = cc
+
+    by : (w : Option Place) → c.working ≡ w → option_map (λ (q : Place). box_in f c.mac (spot_of q)) c.working ≡ Some (box_in f m.mac p)
+    by None e = let none : m.place ≡ None = sym (ap (λ (x : Member). x.place) same) ∙ ap (option_map spot_of) e in absurd cc
+    by (Some q) e =
+        let at : Some (spot_of q) ≡ Some p = sym (ap (option_map spot_of) e) ∙ ap (λ (x : Member). x.place) same ∙ placed in
+        let spot : spot_of q ≡ p = cc in
+        let mac : c.mac ≡ m.mac = ap (λ (x : Member). x.mac) same in
+        ap (option_map (λ (z : Place). box_in f c.mac (spot_of z))) e ∙ ap (λ (z : Spot). Some (box_in f c.mac z)) spot
+        ∙ ap (λ (z : ℕ). Some (box_in f z p)) mac
+
+pub is_other : (f : Frame) (table : Cells) (o : Occupied) (id : CellId) (k : ℕ) (m : Member) (p : Spot) → HoldsCells f table o → (k ≡ id.own → ⊥) →
+    slice_get (map member_of (cells_of table id.team)) k ≡ Some m → m.place ≡ Some p → IsOther o id k (box_in f m.mac p)
+is_other f table o id k m p held differ there placed =
+    let cells = cells_of table id.team in
+    let boxes : slice_get (boxes_of o id.team) k ≡ option_map (box_of f) (slice_get cells k) =
+    ap (λ (bs : List (Option Rect)). slice_get bs k) (held id.team) ∙ slice_get-map (box_of f) cells k in
+    record {
+      other = differ;
+      stands = ap (λ (b : Option (Option Rect)). option_and_then (λ c. c) b) boxes
+          ∙ member_there f cells k m p (slice_get cells k) refl (sym (slice_get-map member_of cells k) ∙ there) placed;
+    }
+
+-- ---- from the rules to the levels
+
+-- what the rules say of the box of a legal place
+record IsLegalBox (s : RowSearch) (box : Rect) : Type 0 where
+  stands : StandsOn s.frame.now box
+  ground : StaysInGround s.frame.now s.id.team box
+  clear : IsClear s.frame.now box
+  apart : All (λ b. SharesPoint box b.rect → ⊥) (boxes_beside s.frame.now (map member_of (cells_of s.cells.now s.id.team)) s.id.own)
+
+legal_box : (s : RowSearch) (p : Spot) → IsLegalAt (lifted_in s) p → IsLegalBox s (upright_box s p)
+legal_box s p legal =
+    subst (IsLegalBox s) (box_is s p (legal_upright (lifted_in s) p legal)) record {
+      stands = record { height = legal Height; row = legal RowRule; stand = legal Stand };
+      ground = legal Fence;
+      clear = legal Obstacle;
+      apart = legal Overlap;
+    }
+
+pub row_y_is : (f : Frame) (n : ℕ) (r : Row) → slice_get f.rows n ≡ Some r → row_y f n ≡ r.y
+row_y_is f n r there = rw there refl
+
+-- a row that carries the box is free over its reach
+free_on_carrier : (s : RowSearch) (bottom : Row) (window : Span) (p : Spot) (j n : ℕ) (r : Row) → IsOccupancyOf s.frame.now s.cells.now s.occupancy.now →
+    IsOnRowIn s.frame.now s.size bottom window p → IsLegalBox s (upright_box s p) → j < s.height → slice_get s.frame.now.rows n ≡ Some r →
+    Carries s.frame.now (upright_box s p) bottom j r → IsFreeOnRow s.occupancy.now s.id window n (reach s p.x)
+free_on_carrier s bottom window p j n r held on legal less there carries = record {
+  within = λ x h. record {
+    low = let a = on.left in let b = h.low in omega (arith, ints, a, b);
+    high = let a = on.right in let b = h.high in omega (arith, ints, a, b);
+  };
+  in_strip = subst (Any Free) (sym held.strips.strips)
+      (any_map (strip_of f) Free held.strips.segments
+      (any_weaker (λ g. IsOf n s.id.team g × LiesIn (reach s p.x) g.span) (λ g. Free (strip_of f g)) free_over held.strips.segments lies));
+}
+  where
+    f : Frame
+    f = s.frame.now
+
+    Free : Strip → Type 0
+    Free g = IsStripOf n s.id.team g × IsFreeOver s.occupancy.now s.id g (reach s p.x)
+
+    lies : LiesInSegment held.strips.segments n s.id.team (reach s p.x)
+    lies = segments_hold f held.strips.segments s.id.team (upright_box s p) held.strips.cut legal.stands (filled s p.x) legal.ground legal.clear
+        s.height bottom j n r (sites_high s p) on.bottom less there carries
+
+    point : (g : Segment) (x y : ℤ) → g.row ≡ n → Covers (over (strip_of f g) (reach s p.x)) x y → Covers (upright_box s p) x y
+    point g x y of covers =
+        let q : ℤ = f.pitch.y in
+        let up : pos 0 <ℤ q = f.pitch_whole.high in
+        let low = above q up j in
+        let top = rises q up j s.height less in
+        let at : row_y f g.row ≡ r.y = ap (row_y f) of ∙ row_y_is f n r there in
+        let level : r.y ≡ p.y +ℤ (pos j *ℤ q) = carries.at_row.at_level in
+        let size : s.size.y ≡ pos s.height *ℤ q = s.high in
+        let from : row_y f g.row ≤ℤ y = covers.bottom in
+        let to : y <ℤ (row_y f g.row +ℤ q) = covers.top in
+        record {
+          left = covers.left;
+          right = covers.right;
+          bottom = omega (arith, ints, low, at, level, from);
+          top = omega (arith, ints, top, at, level, size, to);
+        }
+
+    free_over : (g : Segment) → IsOf n s.id.team g × LiesIn (reach s p.x) g.span → Free (strip_of f g)
+    free_over g both = (
+      record { in_row = both.0.in_row; of_team = both.0.of_team },
+      record {
+        within = both.1;
+        clear = λ own box other shares.
+            let cell = other_placed f s.cells.now s.occupancy.now s.id own box held.boxes other in
+            let cells = cells_of s.cells.now s.id.team in
+            let apart = beside_each (λ rect. SharesPoint (upright_box s p) rect → ⊥) f (map member_of cells) s.id.own legal.apart own
+            (member_of cell.cell) (spot_of cell.place) other.other
+            (slice_get-map member_of cells own ∙ ap (option_map member_of) cell.there) (ap (option_map spot_of) cell.stands) in
+            apart (subst (SharesPoint (upright_box s p)) (sym cell.is)
+            record { x = shares.x; y = shares.y; in_first = point g shares.x shares.y both.0.in_row shares.in_first; in_second = shares.in_second });
+      },
+    )
+
+pub same_rail : (o : Option Rail) → o ≡ option_map (changed 0) o
+same_rail None = refl
+same_rail (Some r) = refl
+
+row_at : (f : Frame) (r : Row) → Contains f.rows r → (n : ℕ) × (slice_get f.rows n ≡ Some r)
+row_at f r (n, within, is) = (n, slice_get-get_or f.rows n r within ∙ ap (λ (t : Row). Some t) is)
+
+-- at each level some row is free over the reach of a legal place
+free_at_level : (s : RowSearch) (own : ℕ) (bottom : Row) (window : Span) (p : Spot) (j : ℕ) (free : List Span) → slice_get s.frame.now.rows own ≡ Some bottom →
+    IsOccupancyOf s.frame.now s.cells.now s.occupancy.now → IsOnRowIn s.frame.now s.size bottom window p → IsLegalBox s (upright_box s p) → j < s.height →
+    IsLevel s own bottom window j free → LiesInOne free (reach s p.x)
+free_at_level s own bottom window p zero free there held on legal less level =
+    (level.exact (reach s p.x) (filled s p.x)).1 record {
+      number = own;
+      among = refl;
+      free = free_on_carrier s bottom window p zero own bottom held on legal less there
+          record { heeded = on.bottom.heeded; at_row = on.bottom.at_bottom; rail = same_rail (rail_below bottom.orient) };
+    }
+free_at_level s own bottom window p (suc j) free there held on legal less level =
+    let f = s.frame.now in
+    let carried = legal.stands.stand s.height bottom (sites_high s p) on.bottom (suc j) less in
+    let r : Row = carried.0 in
+    let carries : Carries f (upright_box s p) bottom (suc j) r = carried.1 in
+    let at = row_at f r carries.heeded in
+    let base : bottom.y ≡ p.y +ℤ (pos 0 *ℤ f.pitch.y) = on.bottom.at_bottom.at_level in
+    let none = none_high f.pitch.y f.pitch_whole.high in
+    let level_is : r.y ≡ p.y +ℤ (pos (suc j) *ℤ f.pitch.y) = carries.at_row.at_level in
+    (level.exact (reach s p.x) (filled s p.x)).1 record {
+      number = at.0;
+      among = record { row = r; stands = at.1; at_level = omega (arith, ints, base, none, level_is); rail = carries.rail };
+      free = free_on_carrier s bottom window p (suc j) at.0 r held on legal less at.1 carries;
+    }
+
+pub legal_is_free : (s : RowSearch) (own : ℕ) (bottom : Row) (window : Span) (p : Spot) (j : ℕ) (free : List Span) →
+    slice_get s.frame.now.rows own ≡ Some bottom → IsOccupancyOf s.frame.now s.cells.now s.occupancy.now → IsOnRowIn s.frame.now s.size bottom window p →
+    IsLegalAt (lifted_in s) p → j < s.height → IsLevel s own bottom window j free → LiesInOne free (reach s p.x)
+legal_is_free s own bottom window p j free there held on legal less level =
+    free_at_level s own bottom window p j free there held on (legal_box s p legal) less level
+
+-- a legal place with this bottom row has the row's y
+pub legal_y : (s : RowSearch) (bottom : Row) (window : Span) (p : Spot) → IsOnRowIn s.frame.now s.size bottom window p → p.y ≡ bottom.y
+legal_y s bottom window p on =
+    let base : bottom.y ≡ p.y +ℤ (pos 0 *ℤ s.frame.now.pitch.y) = on.bottom.at_bottom.at_level in
+    let none = none_high s.frame.now.pitch.y s.frame.now.pitch_whole.high in
+    omega (arith, ints, base, none)
+
+-- its orientation is one in which the cell may stand on the row
+record IsFit (s : RowSearch) (bottom : Row) (o : Orient) (box : Rect) : Type 0 where
+  fit : IsSitesHigh s.frame.now box s.height → IsBottomRow s.frame.now box bottom → MayStand s bottom o
+
+pub legal_may : (s : RowSearch) (bottom : Row) (window : Span) (p : Spot) → IsOnRowIn s.frame.now s.size bottom window p → IsLegalAt (lifted_in s) p →
+    MayStand s bottom p.orient
+legal_may s bottom window p on legal =
+    let oriented : IsOriented (trial_at (lifted_in s) p) = legal OrientRule in
+    let railed : IsOnRail (trial_at (lifted_in s) p) = legal RailRule in
+    let fits : IsFit s bottom p.orient (upright_box s p) = subst (IsFit s bottom p.orient) (box_is s p (legal_upright (lifted_in s) p legal)) record {
+      fit = λ high at. record {
+        allowed = oriented.0;
+        equal = λ odd. oriented.1 s.height bottom high at odd;
+        rail = λ even. railed s.height bottom high at even;
+      };
+    } in
+    fits.fit (sites_high s p) on.bottom

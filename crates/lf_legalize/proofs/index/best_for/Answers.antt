@@ -1,0 +1,54 @@
+use Rattle.std.proofs.Common.{Option, ap, ◌∙◌, map}
+use Rattle.std.specs.Option.{option_map}
+use Rattle.std.proofs.lemmas.Result.{IfOk-weaker}
+use Rattle.lf_units.specs.declared.area.Point.{Point}
+use Rattle.lf_floorplan.specs.declared.macros.Macro.{Macro}
+use Rattle.lf_floorplan.specs.declared.place.Place.{Place}
+use Rattle.lf_floorplan.specs.Boxes.{size_of}
+use Rattle.lf_rules.specs.Choice.{IsChoice, Lifted, spot_of}
+use Rattle.lf_rules.specs.Team.{lifted_from}
+use Rattle.lf_cells.specs.Cells.{cells_of}
+use Rattle.lf_legalize.specs.Members.{member_of}
+use Rattle.lf_legalize.proofs.Indexes.{lies_in, within_extent, farthest_small, nearest_near, choice_for, none_legal}
+use Rattle.lf_legalize.proofs.index.best_for.Goals as goal
+
+pub returns-in_default : goal.returns-in_default
+returns-in_default c =
+    let none = rw c.mac_at-of_cell.ensures at c.in_default.ensures in
+    λ p legal. none_legal (lifted_from c.args.frame.now c.args.id.team (map member_of (cells_of c.args.cells.now c.args.id.team)) c.args.id.own c.args.mac) p
+    (λ k high. none k high) legal
+
+pub invariant_of-search : goal.invariant_of-search
+invariant_of-search c = record {
+  known = c.requires.known;
+  sized = c.requires.sized;
+  size_is = c.size_of.ensures ∙ ap (λ (m : Macro). size_of c.args.frame.now m) c.mac_at-of_cell.ensures;
+  least = c.in-Some.ensures.least;
+  most = c.in-Some.ensures.most;
+  high = ap (λ (p : Point). p.y) c.size_of.ensures ∙ c.in-Some.ensures.high;
+}
+
+pub nearest-requires-clause-near : goal.nearest-requires-clause-near
+nearest-requires-clause-near c =
+    nearest_near c.args.seeker.now.extent c.args.target.now c.nearest_point-near.result c.requires.made.extent.near c.nearest_point-near.ensures
+
+pub nearest-requires-clause-small : goal.nearest-requires-clause-small
+nearest-requires-clause-small c = farthest_small c.args.seeker.now.extent c.farthest_in.result c.requires.made.extent.near c.farthest_in.ensures
+
+pub nearest-requires-clause-all : goal.nearest-requires-clause-all
+nearest-requires-clause-all c = λ p legal.
+    within_extent c.args.seeker.now.extent c.args.target.now c.nearest_point-near.result p c.farthest_in.result
+    c.nearest_point-near.ensures c.farthest_in.ensures
+    (lies_in (lifted_from c.args.frame.now c.args.id.team (map member_of (cells_of c.args.cells.now c.args.id.team)) c.args.id.own c.args.mac)
+    c.args.seeker.now.extent p
+    c.requires.sized c.requires.made.extent legal)
+
+pub returns : goal.returns
+returns c =
+    let cell : Lifted = lifted_from c.args.frame.now c.args.id.team (map member_of (cells_of c.args.cells.now c.args.id.team)) c.args.id.own c.args.mac in
+    IfOk-weaker c.nearest.result
+    (λ (found : Option Place). IsChoice cell c.nearest_point-near.result (option_map spot_of found))
+    (λ (found : Option Place). IsChoice cell c.args.target.now (option_map spot_of found))
+    (λ found. choice_for cell c.args.seeker.now.extent c.args.target.now c.nearest_point-near.result (option_map spot_of found) c.nearest_point-near.ensures
+    (λ p legal. lies_in cell c.args.seeker.now.extent p c.requires.sized c.requires.made.extent legal))
+    c.nearest.ensures

@@ -1,0 +1,75 @@
+-- The rectangle that all rows of a frame lie in, and places by how far they are from a target.
+use Rattle.std.specs.Prelude.{◌≡◌, ◌⊎◌, ℕ, ℤ, pos, negsuc, ◌≤◌, ◌≤ℤ◌, ◌+◌, ◌-ℤ◌, All, Option, Some, IfSome, slice_get, min}
+use Rattle.std.specs.Int.{int_min, int_max}
+use Rattle.std.specs.Int.RustNames.{unsigned_abs}
+use Rattle.std.specs.Option.{option_map_or}
+use Rattle.lf_units.specs.declared.area.Point.{Point}
+use Rattle.lf_units.specs.declared.area.Rect.{Rect}
+use Rattle.lf_floorplan.specs.declared.frame.Frame.{Frame}
+use Rattle.lf_floorplan.specs.declared.parts.Row.{Row}
+use Rattle.lf_floorplan.specs.Bounds.{IsNearDefRect}
+use Rattle.lf_floorplan.specs.Rows.{row_area}
+use Rattle.lf_floorplan.specs.Sizes.{box_at}
+use Rattle.lf_floorplan.specs.Standing.{IsBottomRow}
+use Rattle.lf_rules.specs.Choice.{Spot, Lifted, Precedes, distance}
+use Rattle.lf_rules.proofs.Looking.{LooksAt, IsAsGood}
+
+-- no point of the inner rectangle lies outside the outer one
+pub record IsInside (inner outer : Rect) : Type 0 where
+  pub left : outer.x1 ≤ℤ inner.x1
+  pub lower : outer.y1 ≤ℤ inner.y1
+  pub right : inner.x2 ≤ℤ outer.x2
+  pub upper : inner.y2 ≤ℤ outer.y2
+
+-- the rectangle holds all rows of the frame
+pub record IsExtentOf (f : Frame) (extent : Rect) : Type 0 where
+  pub near : IsNearDefRect extent
+  pub rows : All (λ r. IsInside (row_area f.pitch r) extent) f.rows
+
+-- the smallest rectangle that holds both
+abbrev pub hull : Rect → Rect → Rect
+hull a b = record { x1 = int_min a.x1 b.x1; y1 = int_min a.y1 b.y1; x2 = int_max a.x2 b.x2; y2 = int_max a.y2 b.y2 }
+
+-- the value of a range that is nearest to another: what lies in the range is farther from that other one by the same
+pub record IsNearestIn (lo hi value nearest : ℤ) : Type 0 where
+  pub low : lo ≤ℤ nearest
+  pub high : nearest ≤ℤ hi
+  pub apart : (v : ℤ) → lo ≤ℤ v → v ≤ℤ hi → unsigned_abs (v -ℤ value) ≡ unsigned_abs (v -ℤ nearest) + unsigned_abs (nearest -ℤ value)
+
+-- the point of the rectangle that is nearest to another
+pub record IsNearestPoint (extent : Rect) (target nearest : Point) : Type 0 where
+  pub across : IsNearestIn extent.x1 extent.x2 target.x nearest.x
+  pub up : IsNearestIn extent.y1 extent.y2 target.y nearest.y
+
+-- a coordinate that is near those of DEF
+pub record IsNearDef (v : ℤ) : Type 0 where
+  pub low : negsuc 2147483647 ≤ℤ v
+  pub high : v ≤ℤ pos 22147483647
+
+-- both coordinates are near those of DEF
+pub record IsNearDefPoint (p : Point) : Type 0 where
+  pub across : IsNearDef p.x
+  pub up : IsNearDef p.y
+
+-- the place is not farther from the target than that
+abbrev pub IsWithin : Point → ℕ → Spot → Type 0
+IsWithin target reach p = distance target p ≤ reach
+
+-- how far a place may be from the target that is better than the best one so far, or as good
+abbrev pub limit : Point → ℕ → Option Spot → ℕ
+limit target reach best = option_map_or (λ b. min (distance target b) reach) best reach
+
+-- at this place a box of that size has the row of the number as its bottom row
+pub record IsOnRow (f : Frame) (size : Point) (number : ℕ) (p : Spot) : Type 0 where
+  pub row : Row
+  pub there : slice_get f.rows number ≡ Some row
+  pub bottom : IsBottomRow f (box_at size p.x p.y) row
+
+-- from the best place so far to the one after these were looked at too, all of them no farther from the target than that
+pub record LooksNear (Seen : Spot → Type 0) (cell : Lifted) (target : Point) (reach : ℕ) (old new : Option Spot) : Type 0 where
+  pub looked : LooksAt (λ p. IsWithin target reach p × Seen p) cell target old new
+  pub near : IfSome old (IsWithin target reach) → IfSome new (IsWithin target reach)
+
+-- the better of the best place so far and this one: this one where it precedes, or there is none so far
+abbrev pub IsBetter : Point → Option Spot → Spot → Option Spot → Type 0
+IsBetter target best p new = ((new ≡ Some p) × IfSome best (λ b. Precedes target p b)) ⊎ ((new ≡ best) × IsAsGood target best p)

@@ -1,0 +1,93 @@
+-- The rows that may carry a cell over a bottom row, level by level, and what is free on them; no public clause cites it.
+use Rattle.std.specs.Prelude.{◌≡◌, ◌↔◌, ℕ, zero, suc, ℤ, pos, ◌<◌, ◌≤◌, ◌%◌, ◌+ℤ◌, ◌*ℤ◌, List, [], ◌++◌, Any, IsTrue, Option, Some, MatchOption}
+use Rattle.std.specs.Prelude.{length, slice_get, slice_index_or}
+use Rattle.std.specs.Option.{option_map}
+use Rattle.lf_spans.specs.declared.span.Span.{Span}
+use Rattle.lf_spans.specs.Spans.{IsFilled, IsRising, LiesIn, LiesInOne}
+use Rattle.lf_spans.specs.Grids.{IsNoFarther, IsBounded}
+use Rattle.lf_orient.specs.declared.Orient.{Orient}
+use Rattle.lf_orient.specs.Orientation.{is_allowed, EqualUnder, rail_below}
+use Rattle.lf_floorplan.specs.declared.frame.Frame.{Frame}
+use Rattle.lf_floorplan.specs.declared.parts.Row.{Row}
+use Rattle.lf_floorplan.specs.Bounds.{IsDefNumber}
+use Rattle.lf_floorplan.specs.Boxes.{macro_of}
+use Rattle.lf_floorplan.specs.Standing.{changed}
+use Rattle.lf_rules.specs.Choice.{rank}
+use Rattle.lf_cells.specs.declared.cell.CellId.{CellId}
+use Rattle.lf_occupancy.specs.Occupied.{Occupied, IsFreeOver, IsStripOf}
+use Rattle.lf_legalize.specs.declared.row_search.RowSearch.{RowSearch}
+
+-- the rail of the row of this number is the bottom row's, changed j times
+pub record IsRailed (f : Frame) (bottom : Row) (j n : ℕ) : Type 0 where
+  pub row : Row
+  pub stands : slice_get f.rows n ≡ Some row
+  pub rail : rail_below row.orient ≡ option_map (changed j) (rail_below bottom.orient)
+
+-- the row of this number lies j site heights above the bottom row, and its rail is the bottom row's, changed j times
+pub record IsLevelRow (f : Frame) (bottom : Row) (j n : ℕ) : Type 0 where
+  pub row : Row
+  pub stands : slice_get f.rows n ≡ Some row
+  pub at_level : row.y ≡ bottom.y +ℤ (pos j *ℤ f.pitch.y)
+  pub rail : rail_below row.orient ≡ option_map (changed j) (rail_below bottom.orient)
+
+-- a row that may carry a cell at level j over the bottom row, which has the number `own`: at level 0 that row alone
+abbrev pub IsRowOfLevel : Frame → ℕ → Row → ℕ → ℕ → Type 0
+IsRowOfLevel f own bottom zero n = n ≡ own
+IsRowOfLevel f own bottom (suc j) n = IsLevelRow f bottom (suc j) n
+
+-- the span lies in the window and is free for the cell in one strip of the row of this number
+pub record IsFreeOnRow (o : Occupied) (id : CellId) (window : Span) (n : ℕ) (s : Span) : Type 0 where
+  pub within : LiesIn s window
+  pub in_strip : Any (λ g. IsStripOf n id.team g × IsFreeOver o id g s) o.strips
+
+-- the span is so free on one of these rows
+pub record IsFreeOnOne (Rows : ℕ → Type 0) (o : Occupied) (id : CellId) (window s : Span) : Type 0 where
+  pub number : ℕ
+  pub among : Rows number
+  pub free : IsFreeOnRow o id window number s
+
+-- what is free in the window on one of these rows: a span that holds a number lies in one of the free ones exactly where it is free on such a row
+pub record AreFreeOn (Rows : ℕ → Type 0) (o : Occupied) (id : CellId) (window : Span) (free : List Span) : Type 0 where
+  pub rising : IsRising free
+  pub exact : (s : Span) → IsFilled s → (LiesInOne free s ↔ IsFreeOnOne Rows o id window s)
+
+-- what is free on the row of this number stands behind the other spans, where its rail is the bottom row's, changed j times
+pub record AddsRow (s : RowSearch) (bottom : Row) (j n : ℕ) (window : Span) (old new : List Span) : Type 0 where
+  pub added : List Span
+  pub is : new ≡ old ++ added
+  pub free : AreFreeOn (λ m. (m ≡ n) × IsRailed s.frame.now bottom j n) s.occupancy.now s.id window added
+
+-- what is free on the rows of level j
+abbrev pub IsLevel : RowSearch → ℕ → Row → Span → ℕ → List Span → Type 0
+IsLevel s own bottom window j free = AreFreeOn (λ n. IsRowOfLevel s.frame.now own bottom j n) s.occupancy.now s.id window free
+
+-- what is free on the rows of each of the first levels
+pub record AreLevels (s : RowSearch) (own : ℕ) (bottom : Row) (window : Span) (count : ℕ) (lists : List (List Span)) : Type 0 where
+  pub number : length lists ≡ count
+  pub each : (j : ℕ) → j < count → IsLevel s own bottom window j (slice_index_or lists j [])
+
+-- nothing is free on the rows of one level of the cell
+pub record HasBareLevel (s : RowSearch) (own : ℕ) (bottom : Row) (window : Span) : Type 0 where
+  pub level : ℕ
+  pub within : level < s.height
+  pub bare : IsLevel s own bottom window level []
+
+-- so a cell of the search may stand on this bottom row, as far as orientations and rails go
+pub record MayStand (s : RowSearch) (bottom : Row) (o : Orient) : Type 0 where
+  pub allowed : IsTrue (is_allowed (macro_of s.frame.now s.mac).symmetry o)
+  pub equal : s.height % 2 ≡ 1 → EqualUnder s.frame.now.site.symmetry o bottom.orient
+  pub rail : s.height % 2 ≡ 0 → rail_below bottom.orient ≡ Some (macro_of s.frame.now s.mac).rail
+
+-- the orientation of least rank in which the cell may stand on this bottom row
+pub record IsFirstOrient (s : RowSearch) (bottom : Row) (o : Orient) : Type 0 where
+  pub may : MayStand s bottom o
+  pub least : (p : Orient) → MayStand s bottom p → rank o ≤ rank p
+
+-- that orientation, and nothing only where it may not stand in any
+abbrev pub FindsOrient : RowSearch → Row → Option Orient → Type 0
+FindsOrient s bottom found = MatchOption found ((o : Orient) → MayStand s bottom o → ⊥) (λ o. IsFirstOrient s bottom o)
+
+-- a number by which coordinates of a DEF text are as near as they are to this target
+pub record IsStandIn (target near : ℤ) : Type 0 where
+  pub bounded : IsBounded near
+  pub same : (x y : ℤ) → IsDefNumber x → IsDefNumber y → IsNoFarther near x y → IsNoFarther target x y

@@ -1,0 +1,33 @@
+-- The best place of a cell on one row; no public clause cites it.
+use Rattle.std.specs.Prelude.{◌≡◌, ◌⊎◌, ◌+ℤ◌, ◌≤ℤ◌, Option, map, MatchOption}
+use Rattle.lf_units.specs.declared.area.Point.{Point}
+use Rattle.lf_spans.specs.declared.span.Span.{Span}
+use Rattle.lf_floorplan.specs.declared.frame.Frame.{Frame}
+use Rattle.lf_floorplan.specs.declared.parts.Row.{Row}
+use Rattle.lf_floorplan.specs.Sizes.{box_at}
+use Rattle.lf_floorplan.specs.Standing.{IsBottomRow}
+use Rattle.lf_rules.specs.Choice.{Spot, Lifted, IsLegalAt, Precedes}
+use Rattle.lf_rules.specs.Team.{lifted_from}
+use Rattle.lf_cells.specs.Cells.{cells_of}
+use Rattle.lf_legalize.specs.Members.{member_of}
+use Rattle.lf_legalize.specs.declared.row_search.RowSearch.{RowSearch}
+
+-- the cell whose best place is looked for, taken away from its place among its team's cells
+abbrev pub lifted_in : RowSearch → Lifted
+lifted_in s = lifted_from s.frame.now s.id.team (map member_of (cells_of s.cells.now s.id.team)) s.id.own s.mac
+
+-- at this place a box of that size has the row as its bottom row, and lies over the window
+pub record IsOnRowIn (f : Frame) (size : Point) (r : Row) (window : Span) (p : Spot) : Type 0 where
+  pub bottom : IsBottomRow f (box_at size p.x p.y) r
+  pub left : window.lo ≤ℤ p.x
+  pub right : (p.x +ℤ size.x) ≤ℤ window.hi
+
+-- a legal place, which no other legal one of those that are looked at precedes
+pub record IsBestAmong (Seen : Spot → Type 0) (c : Lifted) (target : Point) (best : Spot) : Type 0 where
+  pub seen : Seen best
+  pub legal : IsLegalAt c best
+  pub least : (p : Spot) → Seen p → IsLegalAt c p → (p ≡ best) ⊎ Precedes target best p
+
+-- what a look at some places finds: the best of them, and nothing only where none of them is legal
+abbrev pub IsChoiceAmong : (Spot → Type 0) → Lifted → Point → Option Spot → Type 0
+IsChoiceAmong Seen c target found = MatchOption found ((p : Spot) → Seen p → IsLegalAt c p → ⊥) (λ best. IsBestAmong Seen c target best)

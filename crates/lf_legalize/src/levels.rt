@@ -1,0 +1,155 @@
+//! What is free for a cell over a bottom row, level by level.
+
+ghost use Rattle.std.specs.Prelude.{◌≡◌, ◌↔◌, ◌<◌, ◌≤◌, ◌+ℤ◌, ◌*ℤ◌, ◌≤ℤ◌, ◌<ℤ◌, IfOk, IsTrue, MatchOption, OnOk, Some, length, map, negsuc, pos, slice_get};
+ghost use Rattle.std.specs.Option.{option_map};
+ghost use Rattle.lf_orient.specs.Orientation.{rail_below};
+ghost use Rattle.lf_floorplan.specs.Rows.{IsHeeded};
+ghost use Rattle.lf_floorplan.specs.Standing.{changed};
+ghost use Rattle.lf_segments.specs.RowsByY.{IsRowsByY, IsRunAt};
+ghost use Rattle.lf_occupancy.specs.Floorplans.{IsOccupancyOf};
+ghost use Rattle.lf_legalize.specs.Levels.{AddsRow, AreFreeOn, AreLevels, HasBareLevel, IsLevel, IsLevelRow};
+
+use crate::row_search::RowSearch;
+use lf_floorplan::Row;
+use lf_orient::{Rail, opposite, row_rail};
+use lf_segments::RowEntry;
+use lf_units::{Point, Span};
+use std::alloc::{AllocError, Global};
+
+/// A row that is looked at as the bottom row of a cell.
+#[derive(Clone, Copy)]
+pub(crate) struct BottomRow<'a> {
+    pub row: &'a Row,
+    /// The position of the row in the frame.
+    pub number: usize,
+    /// The x range that the cell's box is to lie over, in database units.
+    pub window: &'a Span,
+}
+
+/// The rail of a row so many levels above the bottom row.
+fn rail_at(bottom: &Row, level: u32) -> Option<Rail>
+    ensures { result ≡ option_map (changed level) (rail_below bottom.now.orient) }
+{
+    let mut rail = row_rail(bottom.orient);
+    for _ in 0..level {
+        rail = rail.map(opposite);
+    }
+    rail
+}
+
+/// The y of the rows so many levels above the bottom row.
+fn y_at(bottom: &Row, pitch: &Point, level: u32) -> i64
+    requires high { pos 0 <ℤ pitch.now.y }
+    requires low { pitch.now.y ≤ℤ pos 20000000000 }
+    requires few { level ≤ 8 }
+    ensures { result ≡ bottom.now.y +ℤ (pos level *ℤ pitch.now.y) }
+{
+    i64::from(bottom.y) + i64::from(level) * pitch.y
+}
+
+/// The rows so many levels above the bottom row, in the order of their x.
+fn rows_above<'a>(search: &RowSearch<'a>, bottom: &Row, level: u32) -> &'a [RowEntry]
+    requires { level ≤ 8 }
+    ensures { IsRunAt search.now.rows.now (bottom.now.y +ℤ (pos level *ℤ search.now.frame.now.pitch.y)) result.now }
+{
+    search.rows.at(y_at(bottom, &search.frame.pitch, level))
+}
+
+/// Whether the row has the rail of a row so many levels above the bottom row.
+fn is_railed(bottom: &Row, level: u32, row: &Row) -> bool
+    ensures { IsTrue result ↔ (rail_below row.now.orient ≡ option_map (changed level) (rail_below bottom.now.orient)) }
+{
+    row_rail(row.orient) == rail_at(bottom, level)
+}
+
+/// Puts what is free on the row of that number behind the other spans, where its rail is that of a
+/// row so many levels above the bottom row.
+fn push_row(
+    alloc: Global,
+    search: &RowSearch<'_>,
+    bottom: &BottomRow<'_>,
+    level: u32,
+    number: usize,
+    spans: &mut Vec<Span>,
+) -> Result<(), AllocError>
+    requires within { number < length search.now.frame.now.rows }
+    requires low { negsuc 4611686018427387903 ≤ℤ bottom.now.window.now.lo }
+    ensures { OnOk result (AddsRow search.now bottom.now.row.now level number bottom.now.window.now spans.old.items spans.new.items) }
+{
+    let row = &search.frame.rows.as_slice()[number];
+    if !is_railed(bottom.row, level, row) {
+        return Ok(());
+    }
+    let free = search
+        .occupancy
+        .free_in_row(alloc, number, search.id, bottom.window)?;
+    spans.extend_from_slice(free.as_slice())?;
+    Ok(())
+}
+
+/// What is free in the window on the rows so many levels above the bottom row. No two rows share a
+/// point, so the spans of one row lie left of those of the next.
+fn free_above(
+    alloc: Global,
+    search: &RowSearch<'_>,
+    bottom: &BottomRow<'_>,
+    level: u32,
+) -> Result<Vec<Span>, AllocError>
+    requires rows { IsRowsByY search.now.frame.now search.now.rows.now }
+    requires held { IsOccupancyOf search.now.frame.now search.now.cells.now search.now.occupancy.now }
+    requires few { level ≤ 8 }
+    requires low { negsuc 4611686018427387903 ≤ℤ bottom.now.window.now.lo }
+    ensures { IfOk result (λ free.
+        AreFreeOn (IsLevelRow search.now.frame.now bottom.now.row.now level) search.now.occupancy.now search.now.id bottom.now.window.now free.items) }
+{
+    let mut spans = Vec::new(alloc);
+    for entry in rows_above(search, bottom.row, level) {
+        push_row(alloc, search, bottom, level, entry.row, &mut spans)?;
+    }
+    Ok(spans)
+}
+
+/// What is free in the window at one level: on the bottom row alone, or on the rows above it.
+fn free_at(
+    alloc: Global,
+    search: &RowSearch<'_>,
+    bottom: &BottomRow<'_>,
+    level: u32,
+) -> Result<Vec<Span>, AllocError>
+    requires rows { IsRowsByY search.now.frame.now search.now.rows.now }
+    requires held { IsOccupancyOf search.now.frame.now search.now.cells.now search.now.occupancy.now }
+    requires few { level ≤ 8 }
+    requires low { negsuc 4611686018427387903 ≤ℤ bottom.now.window.now.lo }
+    ensures { IfOk result (λ free. IsLevel search.now bottom.now.number bottom.now.row.now bottom.now.window.now level free.items) }
+{
+    if level == 0 {
+        return search
+            .occupancy
+            .free_in_row(alloc, bottom.number, search.id, bottom.window);
+    }
+    free_above(alloc, search, bottom, level)
+}
+
+/// What is free in the window at each level of the cell, from the bottom row on; none where nothing is
+/// free at one of them.
+pub(crate) fn free_by_level(
+    alloc: Global,
+    search: &RowSearch<'_>,
+    bottom: &BottomRow<'_>,
+) -> Result<Option<Vec<Vec<Span>>>, AllocError>
+    requires rows { IsRowsByY search.now.frame.now search.now.rows.now }
+    requires held { IsOccupancyOf search.now.frame.now search.now.cells.now search.now.occupancy.now }
+    requires low { negsuc 4611686018427387903 ≤ℤ bottom.now.window.now.lo }
+    ensures { IfOk result (λ found. MatchOption found (HasBareLevel search.now bottom.now.number bottom.now.row.now bottom.now.window.now)
+        (λ lists. AreLevels search.now bottom.now.number bottom.now.row.now bottom.now.window.now search.now.height (map (λ list. list.items) lists.items))) }
+{
+    let mut lists = Vec::new(alloc);
+    for level in 0..search.height {
+        let free = free_at(alloc, search, bottom, level)?;
+        if free.is_empty() {
+            return Ok(None);
+        }
+        lists.push(free)?;
+    }
+    Ok(Some(lists))
+}

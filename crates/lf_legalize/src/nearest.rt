@@ -1,0 +1,129 @@
+//! The best place of a cell, looked for on the rows around the target, ever farther from it.
+
+ghost use Rattle.std.specs.Prelude.{◌≡◌, ◌↔◌, ◌⊎◌, ◌≤◌, ◌<◌, ◌≤ℤ◌, ◌<ℤ◌, IfOk, IsTrue, Some, length, negsuc, option_map, pos, slice_get};
+ghost use Rattle.lf_floorplan.specs.declared.parts.Row.{Row};
+ghost use Rattle.lf_floorplan.specs.Rows.{IsHeeded, row_area};
+ghost use Rattle.lf_rules.specs.Choice.{IsChoice, IsLegalAt, Spot, spot_of};
+ghost use Rattle.lf_segments.specs.RowsByY.{IsEntryOf, IsRowsByY};
+ghost use Rattle.lf_occupancy.specs.Floorplans.{IsOccupancyOf};
+ghost use Rattle.lf_legalize.specs.Extents.{IsNearDefPoint, IsOnRow, IsWithin, LooksNear};
+ghost use Rattle.lf_legalize.specs.RowSearches.{IsChoiceAmong, IsOnRowIn, lifted_in};
+
+use crate::key::gap;
+use crate::on_row::best_on_row;
+use crate::reach::{better, limit, window};
+use crate::row_search::RowSearch;
+use lf_floorplan::{Place, Row};
+use lf_segments::{RowEntry, runs_have_rows};
+use lf_units::{Point, Span};
+use std::alloc::{AllocError, Global};
+
+/// Whether the row lies left or right of the window.
+fn is_beside(pitch: &Point, row: &Row, window: &Span) -> bool
+    requires heeded { IsHeeded pitch.now row.now }
+    requires wide { pos 0 <ℤ pitch.now.x }
+    ensures { IsTrue result ↔ (((row_area pitch.now row.now).x2 ≤ℤ window.now.lo) ⊎ (window.now.hi ≤ℤ row.now.x)) }
+{
+    row.right_edge(pitch) <= window.lo || window.hi <= i64::from(row.x)
+}
+
+/// The best place on the row over the window. A row beside the window takes no look at what it holds.
+fn best_in_window(
+    alloc: Global,
+    search: &RowSearch<'_>,
+    number: usize,
+    window: &Span,
+) -> Result<Option<Place>, AllocError>
+    requires rows { IsRowsByY search.now.frame.now search.now.rows.now }
+    requires held { IsOccupancyOf search.now.frame.now search.now.cells.now search.now.occupancy.now }
+    requires within { number < length search.now.frame.now.rows }
+    requires low { negsuc 4611686018427387903 ≤ℤ window.now.lo }
+    ensures { (r : Row) → slice_get search.now.frame.now.rows number ≡ Some r → IfOk result (λ found.
+        IsChoiceAmong (IsOnRowIn search.now.frame.now search.now.size r window.now) (lifted_in search.now) search.now.target.now (option_map spot_of found)) }
+{
+    let row = &search.frame.rows.as_slice()[number];
+    if is_beside(&search.frame.pitch, row, window) {
+        return Ok(None);
+    }
+    best_on_row(alloc, search, number, window)
+}
+
+/// The best place so far, after those of this row were looked at too that are at most `reach` away.
+fn with_row(
+    alloc: Global,
+    search: &RowSearch<'_>,
+    reach: u64,
+    best: Option<Place>,
+    entry: &RowEntry,
+) -> Result<Option<Place>, AllocError>
+    requires rows { IsRowsByY search.now.frame.now search.now.rows.now }
+    requires held { IsOccupancyOf search.now.frame.now search.now.cells.now search.now.occupancy.now }
+    requires near { IsNearDefPoint search.now.target.now }
+    requires small { reach ≤ 68719476736 }
+    requires known { IsEntryOf search.now.frame.now entry.now }
+    ensures { IfOk result (λ found.
+        LooksNear (IsOnRow search.now.frame.now search.now.size entry.now.row) (lifted_in search.now)
+        search.now.target.now reach (option_map spot_of best) (option_map spot_of found)) }
+{
+    let limit = limit(search.target, reach, &best);
+    let rise = gap(&entry.y, &search.target.y);
+    if limit < rise {
+        return Ok(best);
+    }
+    let window = window(search, limit - rise);
+    match best_in_window(alloc, search, entry.row, &window)? {
+        None => Ok(best),
+        Some(place) => Ok(better(search.target, best, place)),
+    }
+}
+
+/// The best of the places that are at most `reach` away from the target; none where none of them is
+/// legal.
+fn best_within(
+    alloc: Global,
+    search: &RowSearch<'_>,
+    reach: u64,
+) -> Result<Option<Place>, AllocError>
+    requires rows { IsRowsByY search.now.frame.now search.now.rows.now }
+    requires held { IsOccupancyOf search.now.frame.now search.now.cells.now search.now.occupancy.now }
+    requires near { IsNearDefPoint search.now.target.now }
+    requires small { reach ≤ 68719476736 }
+    ensures { IfOk result (λ found.
+        IsChoiceAmong (IsWithin search.now.target.now reach) (lifted_in search.now) search.now.target.now (option_map spot_of found)) }
+{
+    runs_have_rows();
+    let y = search.target.y;
+    let height = reach as i64;
+    let mut best = None;
+    let run = search.rows.between(y - height, y + height + 1);
+    for entry in run {
+        best = with_row(alloc, search, reach, best, entry)?;
+    }
+    Ok(best)
+}
+
+/// The best place of the cell, where no legal one is farther from the target than `farthest`.
+///
+/// It looks at the places near the target first, and at ones twice as far while there is none.
+pub(crate) fn nearest(
+    alloc: Global,
+    search: &RowSearch<'_>,
+    farthest: u64,
+) -> Result<Option<Place>, AllocError>
+    requires rows { IsRowsByY search.now.frame.now search.now.rows.now }
+    requires held { IsOccupancyOf search.now.frame.now search.now.cells.now search.now.occupancy.now }
+    requires near { IsNearDefPoint search.now.target.now }
+    requires small { farthest ≤ 68719476736 }
+    requires all { (p : Spot) → IsLegalAt (lifted_in search.now) p → IsWithin search.now.target.now farthest p }
+    ensures { IfOk result (λ found. IsChoice (lifted_in search.now) search.now.target.now (option_map spot_of found)) }
+{
+    let mut reach = 2 * search.frame.pitch.y as u64;
+    while reach < farthest {
+        let best = best_within(alloc, search, reach)?;
+        if best.is_some() {
+            return Ok(best);
+        }
+        reach *= 2;
+    }
+    best_within(alloc, search, farthest)
+}

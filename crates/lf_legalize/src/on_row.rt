@@ -1,0 +1,188 @@
+//! The best place of a cell on one row.
+
+ghost use Rattle.std.specs.Prelude.{◌≡◌, ◌↔◌, ◌<◌, ◌≤ℤ◌, ◌<ℤ◌, All, IfOk, IsTrue, Some, negsuc, pos, option_map, slice_get, length, map};
+ghost use Rattle.lf_floorplan.specs.declared.parts.Row.{Row};
+ghost use Rattle.lf_floorplan.specs.Bounds.{IsDefNumber};
+ghost use Rattle.lf_rules.specs.Choice.{spot_of};
+ghost use Rattle.lf_segments.specs.RowsByY.{IsRowsByY};
+ghost use Rattle.lf_gaps.specs.Gaps.{FitsRows};
+ghost use Rattle.lf_spans.specs.Grids.{FindsNearest, IsBounded, IsBoundedSpan, IsGrid, grid_of};
+ghost use Rattle.lf_spans.specs.Spans.{IsRising};
+ghost use Rattle.lf_occupancy.specs.Floorplans.{IsOccupancyOf};
+ghost use Rattle.lf_legalize.specs.Levels.{AreLevels, FindsOrient, IsFirstOrient, IsStandIn, MayStand};
+ghost use Rattle.lf_legalize.specs.RowSearches.{IsChoiceAmong, IsOnRowIn, lifted_in};
+
+use crate::levels::{BottomRow, free_by_level};
+use crate::row_search::RowSearch;
+use lf_floorplan::{Frame, Place, Row, mac_at};
+use lf_gaps::best_in_row;
+use lf_orient::Orient;
+use lf_rules::{is_on_rail, is_oriented};
+use lf_spans::Grid;
+use lf_units::{Point, Span};
+use std::alloc::{AllocError, Global};
+
+/// The row of that number.
+fn row_at(frame: &Frame, number: usize) -> &Row
+    requires { number < length frame.now.rows }
+    ensures { slice_get frame.now.rows number ≡ Some result.now }
+{
+    &frame.rows.as_slice()[number]
+}
+
+/// Whether the cell may stand in this orientation on the bottom row, as far as rails and
+/// orientations go.
+fn may_stand(search: &RowSearch<'_>, bottom: &Row, orient: Orient) -> bool
+    ensures { IsTrue result ↔ MayStand search.now bottom.now orient }
+{
+    let mac = mac_at(search.frame, search.mac);
+    if !is_on_rail(mac, search.height, bottom) {
+        return false;
+    }
+    is_oriented(search.frame, mac, orient, search.height, bottom)
+}
+
+/// The first of the orientations N, S, FN and FS in which the cell may stand on the bottom row.
+fn first_orient(search: &RowSearch<'_>, bottom: &Row) -> Option<Orient>
+    ensures { FindsOrient search.now bottom.now result }
+{
+    if may_stand(search, bottom, Orient::N) {
+        return Some(Orient::N);
+    }
+    if may_stand(search, bottom, Orient::S) {
+        return Some(Orient::S);
+    }
+    if may_stand(search, bottom, Orient::FN) {
+        return Some(Orient::FN);
+    }
+    if may_stand(search, bottom, Orient::FS) {
+        return Some(Orient::FS);
+    }
+    None
+}
+
+/// The x of the row's sites.
+fn grid_on(bottom: &Row, pitch: &Point) -> Grid
+    ensures { result ≡ grid_of bottom.now.x pitch.now.x }
+{
+    Grid {
+        origin: i64::from(bottom.x),
+        step: pitch.x,
+    }
+}
+
+/// The target, drawn near to the coordinates that there are: what is nearest to the one is nearest
+/// to the other.
+fn stand_in(target: &i64) -> i64
+    ensures { IsStandIn target.now result }
+{
+    if *target < -8_589_934_592 {
+        return -8_589_934_592;
+    }
+    if 8_589_934_592 < *target {
+        return 8_589_934_592;
+    }
+    *target
+}
+
+/// The number of the grid nearest to the target from which on the width lies in one span of each list,
+/// the lesser of two.
+fn nearest_fit(
+    alloc: Global,
+    lists: &[Vec<Span>],
+    grid: &Grid,
+    width: &i64,
+    target: &i64,
+) -> Result<Option<i64>, AllocError>
+    requires some { 0 < length lists.now }
+    requires rising { All (λ list. IsRising list.items) lists.now }
+    requires bounded { All (λ list. All IsBoundedSpan list.items) lists.now }
+    requires grid { IsGrid grid.now }
+    requires wide { pos 0 <ℤ width.now }
+    requires width { IsBounded width.now }
+    requires target { IsBounded target.now }
+    ensures { IfOk result (λ found. let rows = map (λ list. list.items) lists.now in FindsNearest (λ x. FitsRows rows grid.now width.now x) target.now found) }
+{
+    best_in_row(alloc, lists, grid, *width, *target)
+}
+
+/// The x nearest to the target at which the cell's box is free at each of its levels over the bottom
+/// row, the lesser of two.
+fn nearest_x(
+    alloc: Global,
+    search: &RowSearch<'_>,
+    bottom: &BottomRow<'_>,
+    lists: &[Vec<Span>],
+) -> Result<Option<i64>, AllocError>
+    requires held { IsOccupancyOf search.now.frame.now search.now.cells.now search.now.occupancy.now }
+    requires stands { slice_get search.now.frame.now.rows bottom.now.number ≡ Some bottom.now.row.now }
+    requires levels { AreLevels search.now bottom.now.number bottom.now.row.now bottom.now.window.now search.now.height (map (λ list. list.items) lists.now) }
+    ensures { IfOk result (λ found. let rows = map (λ list. list.items) lists.now in
+        FindsNearest (λ x. FitsRows rows (grid_of bottom.now.row.now.x search.now.frame.now.pitch.x) search.now.size.x x) search.now.target.now.x found) }
+{
+    let grid = grid_on(bottom.row, &search.frame.pitch);
+    let target = stand_in(&search.target.x);
+    nearest_fit(alloc, lists, &grid, &search.size.x, &target)
+}
+
+/// The place at this x of the row.
+fn place_on(bottom: &Row, x: &i64, orient: Orient) -> Place
+    requires x_in_def { IsDefNumber x.now }
+    requires y_in_def { IsDefNumber bottom.now.y }
+    ensures { spot_of result ≡ record { x = x.now; y = bottom.now.y; orient = orient } }
+{
+    Place::new(*x as i32, bottom.y, orient)
+}
+
+/// The best place in this orientation of the cell on the bottom row, where what is free at each of
+/// its levels is known.
+fn best_at(
+    alloc: Global,
+    search: &RowSearch<'_>,
+    bottom: &BottomRow<'_>,
+    orient: Orient,
+    lists: &[Vec<Span>],
+) -> Result<Option<Place>, AllocError>
+    requires held { IsOccupancyOf search.now.frame.now search.now.cells.now search.now.occupancy.now }
+    requires stands { slice_get search.now.frame.now.rows bottom.now.number ≡ Some bottom.now.row.now }
+    requires first { IsFirstOrient search.now bottom.now.row.now orient }
+    requires levels { AreLevels search.now bottom.now.number bottom.now.row.now bottom.now.window.now search.now.height (map (λ list. list.items) lists.now) }
+    ensures { IfOk result (λ found.
+        IsChoiceAmong (IsOnRowIn search.now.frame.now search.now.size bottom.now.row.now bottom.now.window.now) (lifted_in search.now) search.now.target.now
+        (option_map spot_of found)) }
+{
+    let Some(x) = nearest_x(alloc, search, bottom, lists)? else {
+        return Ok(None);
+    };
+    Ok(Some(place_on(bottom.row, &x, orient)))
+}
+
+/// The best place of the cell on this row as its bottom row, of the places where its box lies over
+/// the window; none where none of them is legal. `Err` where memory is refused.
+pub(crate) fn best_on_row(
+    alloc: Global,
+    search: &RowSearch<'_>,
+    number: usize,
+    window: &Span,
+) -> Result<Option<Place>, AllocError>
+    requires rows { IsRowsByY search.now.frame.now search.now.rows.now }
+    requires held { IsOccupancyOf search.now.frame.now search.now.cells.now search.now.occupancy.now }
+    requires within { number < length search.now.frame.now.rows }
+    requires low { negsuc 4611686018427387903 ≤ℤ window.now.lo }
+    ensures { (r : Row) → slice_get search.now.frame.now.rows number ≡ Some r → IfOk result (λ found.
+        IsChoiceAmong (IsOnRowIn search.now.frame.now search.now.size r window.now) (lifted_in search.now) search.now.target.now (option_map spot_of found)) }
+{
+    let row = row_at(search.frame, number);
+    let Some(orient) = first_orient(search, row) else {
+        return Ok(None);
+    };
+    let bottom = BottomRow {
+        row,
+        number,
+        window,
+    };
+    let Some(lists) = free_by_level(alloc, search, &bottom)? else {
+        return Ok(None);
+    };
+    best_at(alloc, search, &bottom, orient, lists.as_slice())
+}

@@ -1,0 +1,33 @@
+//! What is looked for on rows.
+
+ghost use Rattle.std.specs.Prelude.{◌≡◌, ◌<◌, ◌≤◌, ◌*ℤ◌, length, pos};
+ghost use Rattle.lf_floorplan.specs.Boxes.{IsSized, macro_of, size_of};
+
+use lf_cells::{CellId, CellTable};
+use lf_floorplan::Frame;
+use lf_occupancy::Occupancy;
+use lf_segments::RowsByY;
+use lf_units::Point;
+
+/// A cell that was taken away from its place, and the target that its best place is looked for.
+#[derive(Clone, Copy)]
+pub(crate) struct RowSearch<'a> {
+    pub frame: &'a Frame,
+    pub rows: &'a RowsByY,
+    pub cells: &'a CellTable,
+    pub occupancy: &'a Occupancy,
+    pub id: CellId,
+    /// The position of the cell's macro in the frame.
+    pub mac: usize,
+    /// The macro's size, in database units.
+    pub size: Point,
+    /// The macro's height in core sites.
+    pub height: u32,
+    pub target: &'a Point,
+    pub ghost known: { mac < length frame.now.macros },
+    pub ghost sized: { IsSized frame.now (macro_of frame.now mac) },
+    pub ghost size_is: { size ≡ size_of frame.now (macro_of frame.now mac) },
+    pub ghost least: { 1 ≤ height },
+    pub ghost most: { height ≤ 8 },
+    pub ghost high: { size.y ≡ pos height *ℤ frame.now.pitch.y },
+}

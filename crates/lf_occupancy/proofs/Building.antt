@@ -1,0 +1,311 @@
+-- How an occupancy is made: the strips of a frame's segments, and the boxes of all cells.
+use Rattle.std.proofs.Common.{◌≡◌, ◌⊎◌, inl, inr, ℕ, zero, suc, ◌+◌, ◌<◌, ◌≤◌, ℤ, pos, ◌-ℤ◌, ◌+ℤ◌, ◌<ℤ◌, List, [], ◌∷◌, Option, Some, None}
+use Rattle.std.proofs.Common.{length, get_or, set, take, map, replicate, slice_get, refl, sym, ap, subst, ◌∙◌, arith}
+use Rattle.std.specs.Prelude.{All, AllPairs, Any, Contains, IsSome}
+use Rattle.std.specs.Option.{option_map_or}
+use Rattle.std.proofs.lemmas.Bool.Decides.{eqb_tells}
+use Rattle.std.proofs.lemmas.Int.{ints}
+use Rattle.std.proofs.lemmas.List.{get_or_default, get_or-map, get_or-set_same, get_or-set_other, length-map, length-set, length-replicate}
+use Rattle.std.proofs.lemmas.List.{same_lists, get_or_past, take_more}
+use Rattle.std.proofs.lemmas.List.Elements.{All-contains, All-map, Contains-push_cases}
+use Rattle.std.proofs.lemmas.Option.{slice_get-get_or, slice_get_within}
+use Rattle.lf_units.specs.declared.area.Rect.{Rect}
+use Rattle.lf_spans.specs.Spans.{Holds}
+use Rattle.lf_floorplan.specs.declared.frame.Frame.{Frame}
+use Rattle.lf_floorplan.specs.declared.parts.Row.{Row}
+use Rattle.lf_floorplan.specs.Rows.{IsHeeded}
+use Rattle.lf_segments.specs.declared.segment.Segment.{Segment}
+use Rattle.lf_segments.specs.declared.rows_by_y.RowEntry.{RowEntry}
+use Rattle.lf_segments.specs.Segments.{IsCut, IsOpen, IsSegment, LiesInSegment}
+use Rattle.lf_segments.specs.RowsByY.{IsEntryOf, IsRowsByY}
+use Rattle.lf_cells.specs.declared.cell.Cell.{Cell}
+use Rattle.lf_cells.specs.declared.cell.CellId.{CellId}
+use Rattle.lf_cells.specs.Cells.{AreAll, Cells, cell_at, cells_of}
+use Rattle.lf_occupancy.specs.declared.lane.Lane.{Lane}
+use Rattle.lf_occupancy.specs.declared.strip.Strip.{Strip}
+use Rattle.lf_occupancy.specs.declared.strips.Strips.{Strips}
+use Rattle.lf_occupancy.specs.Building.{AreBare, AreFilled, AreLaidOut, AreNowhere, IsBare}
+use Rattle.lf_occupancy.specs.Floorplans.{box_of, row_y, strip_of}
+use Rattle.lf_occupancy.specs.Lanes.{IsLane, cell_box}
+use Rattle.lf_occupancy.specs.Strips.{AreLanes, ComesBefore, IsPlaced}
+use Rattle.lf_occupancy.proofs.Laning.{box_other, box_same}
+
+no_segment : Segment
+no_segment = record { row = 0; team = 0; span = record { lo = pos 0; hi = pos 0 } }
+
+some_row : (rows : List Row) (k : ℕ) → k < length rows → Row
+some_row [] k within = absurd (omega (arith, within))
+some_row (r ∷ rows) k within = r
+
+strips_in_order : (f : Frame) (segments : List Segment) → IsCut f segments → AllPairs ComesBefore (map (strip_of f) segments)
+strips_in_order f segments cut i j d less within =
+    let long = length-map segments (strip_of f) in
+    let first = get_or-map (strip_of f) segments i no_segment d (omega (arith, long, less, within)) in
+    let second = get_or-map (strip_of f) segments j no_segment d (omega (arith, long, within)) in
+    subst (λ (a : Strip). ComesBefore a (get_or (map (strip_of f) segments) j d)) (sym first)
+    (subst (λ (b : Strip). ComesBefore (strip_of f (get_or segments i no_segment)) b) (sym second)
+    (cut.in_order i j no_segment less (omega (arith, long, within))))
+
+strip_placed : (f : Frame) (segments : List Segment) (rows : List RowEntry) (height : ℤ) → height ≡ f.pitch.y → IsCut f segments → IsRowsByY f rows →
+    All (λ g. IsPlaced rows height (strip_of f g)) segments
+strip_placed f segments rows height same cut by_y k d within = record {
+  wide = filled;
+  x_low = let a = heeded.x_in_def.above in let b = (open_at g.span.lo record { low = omega (arith, ints); high = filled }).clear.left in omega
+      (arith, ints, a, b);
+  x_high = let a = heeded.ends in
+      let b = (open_at (g.span.hi -ℤ pos 1) record { low = omega (arith, ints, filled); high = omega (arith, ints) }).clear.right in
+      omega (arith, ints, a, b);
+  y_low = let a = heeded.y_in_def.above in omega (arith, ints, a, level);
+  high = ap (λ (h : ℤ). row_y f g.row +ℤ h) (sym same);
+  found = (found.0, found.1, found.2, found.3, (found.4, entry_level));
+}
+  where
+    g : Segment
+    g = get_or segments k d
+
+    known : IsSegment f g
+    known = cut.known k d within
+
+    filled : g.span.lo <ℤ g.span.hi
+    filled = known.filled
+
+    row : Row
+    row = get_or f.rows g.row (some_row f.rows g.row known.row_known)
+
+    stands : slice_get f.rows g.row ≡ Some row
+    stands = slice_get-get_or f.rows g.row (some_row f.rows g.row known.row_known) known.row_known
+
+    heeded : IsHeeded f.pitch row
+    heeded = f.rows_heeded g.row (some_row f.rows g.row known.row_known) known.row_known
+
+    lies : LiesInSegment segments g.row g.team g.span
+    lies = (k, g, within, get_or_default segments k _ d within, (record { in_row = refl; of_team = refl }, λ x h. h))
+
+    open_at : (x : ℤ) → Holds g.span x → IsOpen f row g.team x
+    open_at x holds = (cut.exact g.row row g.team g.span stands filled).0 lies x holds
+
+    level : row_y f g.row ≡ row.y
+    level = ap (λ r. option_map_or (λ (q : Row). q.y) r (pos 0)) stands
+
+    found : Any (λ e. e.row ≡ g.row) rows
+    found = by_y.each g.row known.row_known
+
+    entry_level : found.1.y ≡ row_y f g.row
+    entry_level =
+        let one : IsEntryOf f found.1 = All-contains (IsEntryOf f) rows found.1 by_y.known (found.0, found.2, found.3) in
+        let there : row_y f found.1.row ≡ one.row.y = ap (λ r. option_map_or (λ (q : Row). q.y) r (pos 0)) one.stands in
+        ap (λ (e : RowEntry). e.y) one.is ∙ sym there ∙ ap (λ (n : ℕ). row_y f n) found.4
+
+pub laid_out : (f : Frame) (segments : List Segment) (s : Strips) → s.list.items ≡ map (strip_of f) segments → s.height ≡ f.pitch.y → IsCut f segments →
+    IsRowsByY f s.rows → AreLaidOut f segments s
+laid_out f segments s list height cut by_y = record {
+  list = list;
+  strips = record {
+    in_order = subst (AllPairs ComesBefore) (sym list) (strips_in_order f segments cut);
+    placed = subst (All (IsPlaced s.rows s.height)) (sym list)
+        (All-map (IsPlaced s.rows s.height) (strip_of f) segments (strip_placed f segments s.rows s.height height cut by_y));
+    once = by_y.once;
+    high = let h = f.pitch_whole.high in omega (arith, ints, height, h);
+    small = let h = f.pitch_whole.y_small in omega (arith, ints, height, h);
+  };
+}
+
+-- where cells stand nowhere, their lanes are bare
+nowhere : (count own : ℕ) (box : Rect) → cell_box (replicate count None) own ≡ Some box → ⊥
+nowhere zero own box is = cc
+nowhere (suc count) zero box is = cc
+nowhere (suc count) (suc own) box is = nowhere count own box is
+
+pub lanes_bare : (s : Strips) (cells : Cells) (boxes : List (List (Option Rect))) (lanes : List Lane) → AreNowhere cells boxes →
+    AreBare (length s.list.items) lanes →
+    AreLanes s.list.items boxes lanes
+lanes_bare s cells boxes lanes none bare = record {
+  many = bare.many;
+  each = λ n d e within.
+      bare_lane (get_or s.list.items n d).team (get_or s.list.items n d).area (get_or lanes n e)
+      (bare.each n e (let m = bare.many in omega (arith, m, within)));
+}
+  where
+    bare_lane : (team : ℕ) (area : Rect) (l : Lane) → IsBare l → IsLane (get_or boxes team []) area l
+    bare_lane team area l b =
+        let long : length l.entries.items ≡ 0 = ap (λ xs. length xs) b.entries in
+        record {
+          orderly = record {
+            order = λ i j d less within. absurd (omega (arith, long, within));
+            wide = λ k d within. absurd (omega (arith, long, within));
+            some = let w = b.widest in omega (arith, ints, w);
+            most = let w = b.widest in omega (arith, ints, w);
+          };
+          whole = λ k d within. absurd (omega (arith, long, within));
+          inside = λ k d within. absurd (omega (arith, long, within));
+          held = λ own x y lies.
+              absurd (nowhere (length (cells_of cells team)) own lies.box (sym (ap (λ cs. cell_box cs own) (none team)) ∙ lies.is));
+          told = λ k d within. absurd (omega (arith, long, within));
+        }
+
+pub none_filled : (f : Frame) (cells : Cells) (boxes : List (List (Option Rect))) →
+    ((team : ℕ) → length (get_or boxes team []) ≡ length (cells_of cells team)) → AreFilled f cells [] boxes
+none_filled f cells boxes many = record { many = many; done = λ id c there is. let h = there.1 in absurd (omega (arith, h)) }
+
+pub nowhere_many : (cells : Cells) (boxes : List (List (Option Rect))) → AreNowhere cells boxes → (team : ℕ) →
+    length (get_or boxes team []) ≡ length (cells_of cells team)
+nowhere_many cells boxes none team = ap (λ xs. length xs) (none team) ∙ length-replicate (length (cells_of cells team)) None
+
+-- one more cell has its box
+pub filled_further : (f : Frame) (cells : Cells) (ids : List CellId) (i : ℕ) (id : CellId) (box : Option Rect) (boxes : List (List (Option Rect))) →
+    i < length ids →
+    id ≡ get_or ids i id → AreAll cells ids → ((c : Cell) → cell_at cells id ≡ Some c → box ≡ box_of f c) → AreFilled f cells (take i ids) boxes →
+    AreFilled f cells (take (i + 1) ids) (set boxes id.team (set (get_or boxes id.team []) id.own box))
+filled_further f cells ids i id box boxes within is all said before = record {
+  many = λ team. elim (eqb_tells team id.team) [
+    | inl same ↦ elim (reach team) [
+      | inl inside ↦
+          let At : ℕ → Type 0 = λ t. length (get_or (set boxes id.team changed) t []) ≡ length (cells_of cells t) in
+          subst At (sym same.1)
+          (ap (λ xs. length xs) (get_or-set_same boxes id.team changed [] (let e = same.1 in omega (arith, e, inside)))
+          ∙ length-set (get_or boxes id.team []) id.own box ∙ before.many id.team)
+      | inr past ↦
+          let long = length-set boxes id.team changed in
+          ap (λ xs. length xs) (get_or_past (set boxes id.team changed) team [] (omega (arith, long, past)) ∙ sym
+          (get_or_past boxes team [] past)) ∙ before.many team
+    ]
+    | inr apart ↦ ap (λ xs. length xs) (get_or-set_other boxes id.team team changed [] apart.1) ∙ before.many team
+  ];
+  done = done;
+}
+  where
+    changed : List (Option Rect)
+    changed = set (get_or boxes id.team []) id.own box
+
+    reach : (team : ℕ) → (team < length boxes) ⊎ (length boxes ≤ team)
+    reach team = grind arith
+
+    has_own : (c : Cell) → cell_at cells id ≡ Some c → id.own < length (get_or boxes id.team [])
+    has_own c there = let m = before.many id.team in let w = slice_get_within (cells_of cells id.team) id.own c there in omega (arith, m, w)
+
+    has_team : (c : Cell) → cell_at cells id ≡ Some c → id.team < length boxes
+    has_team c there = elim (reach id.team) [
+      | inl inside ↦ inside
+      | inr past ↦
+          let long : length (get_or boxes id.team []) ≡ 0 = ap (λ xs. length xs) (get_or_past boxes id.team [] past) in
+          let w = has_own c there in
+          absurd (omega (arith, long, w))
+    ]
+
+    here : (c : Cell) → cell_at cells id ≡ Some c → cell_box (get_or (set boxes id.team changed) id.team []) id.own ≡ box_of f c
+    here c there =
+        ap (λ cs. cell_box cs id.own) (get_or-set_same boxes id.team changed [] (has_team c there))
+        ∙ box_same (get_or boxes id.team []) id.own box (has_own c there) ∙ said c there
+
+    old_one : (other : CellId) (c : Cell) → ((other.team ≡ id.team) → (other.own ≡ id.own) → ⊥) → Contains (take i ids) other → cell_at cells other ≡ Some c →
+        cell_box (get_or (set boxes id.team changed) other.team []) other.own ≡ box_of f c
+    old_one other c apart among there = elim (eqb_tells other.team id.team) [
+      | inr away ↦ ap (λ cs. cell_box cs other.own) (get_or-set_other boxes id.team other.team changed [] away.1) ∙ before.done other c among there
+      | inl same ↦ elim (reach id.team) [
+        | inl inside ↦
+            let At : ℕ → Type 0 = λ t. get_or (set boxes id.team changed) t [] ≡ changed in
+            let first : get_or (set boxes id.team changed) other.team [] ≡ changed = subst At (sym same.1) (get_or-set_same boxes id.team changed [] inside) in
+            let Own : ℕ → Type 0 = λ t. cell_box (get_or boxes t []) other.own ≡ box_of f c in
+            ap (λ cs. cell_box cs other.own) first
+            ∙ box_other (get_or boxes id.team []) id.own other.own box (λ own. apart same.1 own)
+            ∙ subst Own same.1 (before.done other c among there)
+        | inr past ↦
+            let long = length-set boxes id.team changed in
+            let e = same.1 in
+            ap (λ cs. cell_box cs other.own)
+            (get_or_past (set boxes id.team changed) other.team [] (omega (arith, long, past, e)) ∙ sym (get_or_past boxes other.team [] (omega
+            (arith, past, e))))
+            ∙ before.done other c among there
+      ]
+    ]
+
+    among_old : (other : CellId) → Contains (take (i + 1) ids) other → ((other.team ≡ id.team) → (other.own ≡ id.own) → ⊥) → Contains (take i ids) other
+    among_old other there apart =
+        elim (Contains-push_cases (take i ids) (get_or ids i id) other (subst (λ xs. Contains xs other) (take_more ids i id within) there)) [
+          | inl before ↦ before
+          | inr last ↦
+              let same = is ∙ last in
+              absurd (apart (sym (ap (λ (x : CellId). x.team) same)) (sym (ap (λ (x : CellId). x.own) same)))
+        ]
+
+    done : (other : CellId) (c : Cell) → Contains (take (i + 1) ids) other → cell_at cells other ≡ Some c →
+        cell_box (get_or (set boxes id.team changed) other.team []) other.own ≡ box_of f c
+    done other c there at = elim (eqb_tells other.team id.team) [
+      | inr away ↦ old_one other c (λ t o. away.1 t) (among_old other there (λ t o. away.1 t)) at
+      | inl same ↦ elim (eqb_tells other.own id.own) [
+        | inr away ↦ old_one other c (λ t o. away.1 o) (among_old other there (λ t o. away.1 o)) at
+        | inl also ↦
+            let At : ℕ → ℕ → Type 0 = λ t o. cell_box (get_or (set boxes id.team changed) t []) o ≡ box_of f c in
+            let Cell_at : ℕ → ℕ → Type 0 = λ t o. slice_get (cells_of cells t) o ≡ Some c in
+            let there_is : cell_at cells id ≡ Some c = subst (λ t. Cell_at t id.own) same.1 (subst (λ o. Cell_at other.team o) also.1 at) in
+            subst (λ t. At t other.own) (sym same.1) (subst (λ o. At id.team o) (sym also.1) (here c there_is))
+      ]
+    ]
+
+-- the box of a cell of the list is the element there
+cell_box_at : (cells : List (Option Rect)) (k : ℕ) (d : Option Rect) → k < length cells → cell_box cells k ≡ get_or cells k d
+cell_box_at [] k d within = absurd (omega (arith, within))
+cell_box_at (c ∷ cells) zero d within = refl
+cell_box_at (c ∷ cells) (suc k) d within = cell_box_at cells k d (omega (arith, within))
+
+some_cell : (cells : List Cell) (k : ℕ) → k < length cells → Cell
+some_cell [] k within = absurd (omega (arith, within))
+some_cell (c ∷ cells) k within = c
+
+pub all_filled : (f : Frame) (cells : Cells) (ids : List CellId) (boxes : List (List (Option Rect))) → AreAll cells ids → AreFilled f cells ids boxes →
+    (team : ℕ) → get_or boxes team [] ≡ map (box_of f) (cells_of cells team)
+all_filled f cells ids boxes all filled team = same_lists (get_or boxes team []) (map (box_of f) (cells_of cells team))
+    (filled.many team ∙ sym (length-map (cells_of cells team) (box_of f))) each
+  where
+    own_cells : List Cell
+    own_cells = cells_of cells team
+
+    each : (k : ℕ) (d : Option Rect) → k < length (get_or boxes team []) → get_or (get_or boxes team []) k d ≡ get_or (map (box_of f) own_cells) k d
+    each k d within =
+        let many = filled.many team in
+        let inner : k < length own_cells = omega (arith, many, within) in
+        let c : Cell = get_or own_cells k (some_cell own_cells k inner) in
+        let id : CellId = record { team = team; own = k } in
+        let at : cell_at cells id ≡ Some c = slice_get-get_or own_cells k (some_cell own_cells k inner) inner in
+        let there : Contains ids id = (all.cells id).1 (some_is (cell_at cells id) c at) in
+        sym (cell_box_at (get_or boxes team []) k d within) ∙ filled.done id c there at ∙ sym (get_or-map (box_of f) own_cells k
+        (some_cell own_cells k inner) d inner)
+      where
+        some_is : (o : Option Cell) (c : Cell) → o ≡ Some c → IsSome o
+        some_is o c e = subst IsSome (sym e) refl
+
+-- the teams beyond a limit have no cells
+pub nowhere_all : (cells : Cells) (ids : List CellId) (boxes : List (List (Option Rect))) (limit : ℕ) → AreAll cells ids → All (λ id. id.team < limit) ids →
+    length boxes ≡ limit → ((t : ℕ) → t < limit → get_or boxes t [] ≡ replicate (length (cells_of cells t)) None) → AreNowhere cells boxes
+nowhere_all cells ids boxes limit all below many each team = elim order [
+  | inl h ↦ each team h
+  | inr h ↦ get_or_past boxes team [] (omega (arith, many, h)) ∙ ap (λ n. replicate n None) (sym (none h))
+]
+  where
+    order : (team < limit) ⊎ (limit ≤ team)
+    order = grind arith
+
+    some_is : (o : Option Cell) (c : Cell) → o ≡ Some c → IsSome o
+    some_is o c e = subst IsSome (sym e) refl
+
+    two : (length (cells_of cells team) ≡ 0) ⊎ (0 < length (cells_of cells team))
+    two = grind arith
+
+    none : limit ≤ team → length (cells_of cells team) ≡ 0
+    none past = elim two [
+      | inl e ↦ e
+      | inr h ↦
+          let id : CellId = record { team = team; own = 0 } in
+          let c : Cell = some_cell (cells_of cells team) 0 h in
+          let at : cell_at cells id ≡ Some (get_or (cells_of cells team) 0 c) = slice_get-get_or (cells_of cells team) 0 c h in
+          let there : Contains ids id = (all.cells id).1 (some_is (cell_at cells id) (get_or (cells_of cells team) 0 c) at) in
+          let less = All-contains (λ x. x.team < limit) ids id below there in
+          absurd (omega (arith, less, past))
+    ]
+
+pub same_strip : (row team : ℕ) (a b c d e f g h : ℤ) → a ≡ e → b ≡ f → c ≡ g → d ≡ h →
+    ◌≡◌ {A = Strip} (record { row = row; team = team; area = record { x1 = a; y1 = b; x2 = c; y2 = d } })
+    (record { row = row; team = team; area = record { x1 = e; y1 = f; x2 = g; y2 = h } })
+same_strip row team a b c d e f g h p q r s =
+    let strip : ℤ → ℤ → ℤ → ℤ → Strip = λ x1 y1 x2 y2. record { row = row; team = team; area = record { x1 = x1; y1 = y1; x2 = x2; y2 = y2 } } in
+    ap (λ (v : ℤ). strip v b c d) p ∙ ap (λ (v : ℤ). strip e v c d) q ∙ ap (λ (v : ℤ). strip e f v d) r ∙ ap (λ (v : ℤ). strip e f g v) s

@@ -1,0 +1,184 @@
+-- What is free in the strips of a row.
+use Rattle.std.proofs.Common.{◌≡◌, ◌⊎◌, inl, inr, ℕ, ◌+◌, ◌<◌, ◌≤◌, ℤ, ◌≤ℤ◌, ◌<ℤ◌, List, [], ◌++◌, length, get_or, sym, ap, subst, ◌∙◌, arith}
+use Rattle.std.specs.Prelude.{All, AllPairs}
+use Rattle.std.proofs.lemmas.Int.{ints}
+use Rattle.std.proofs.lemmas.List.{get_or_default}
+use Rattle.std.proofs.lemmas.List.Elements.{All-append, All-nil, Contains-get_or}
+use Rattle.lf_spans.specs.declared.span.Span.{Span}
+use Rattle.lf_spans.specs.Spans.{IsApart, IsFilled, IsFreeIn, IsRising, LiesIn, LiesInOne}
+use Rattle.lf_spans.proofs.Anys.{any_left, any_split}
+use Rattle.lf_spans.proofs.Edges.{in_of_lies}
+use Rattle.lf_occupancy.specs.declared.lane.Lane.{Lane}
+use Rattle.lf_occupancy.specs.declared.strip.Strip.{Strip}
+use Rattle.lf_occupancy.specs.Lanes.{others_in, spans_in, x_range}
+use Rattle.lf_occupancy.specs.Occupied.{across}
+use Rattle.lf_occupancy.specs.Strips.{AreFreeTo, AreNear, ComesBefore, IsNear, LiesFree}
+use Rattle.lf_occupancy.proofs.Lists.{pairs_append, any_right}
+use Rattle.lf_occupancy.proofs.Finds.{no_strip}
+
+-- the span lies in the strip of that number between two, and shares no number with another cell's entry
+pub record FreeBetween (xs : List Strip) (lanes : List Lane) (own start k end : ℕ) (s : Span) : Type 0 where
+  pub m : ℕ
+  pub from : start ≤ m
+  pub below : m < k
+  pub until : m < end
+  pub inside : (d : Strip) → LiesIn s (across (get_or xs m d))
+  pub apart : (d : Lane) → IsApart (spans_in (others_in (get_or lanes m d).entries.items own)) s
+
+-- the free spans of the strips passed
+pub record AreFreeBetween (xs : List Strip) (lanes : List Lane) (own start k end : ℕ) (window : Span) (free : List Span) : Type 0 where
+  pub rising : IsRising free
+  pub ends : (m : ℕ) (d : Strip) → k ≤ m → m < end → All (λ t. t.hi ≤ℤ (get_or xs m d).area.x1) free
+  pub exact : (s : Span) → IsFilled s → (LiesInOne free s → LiesIn s window × FreeBetween xs lanes own start k end s) ×
+      (LiesIn s window × FreeBetween xs lanes own start k end s → LiesInOne free s)
+
+pub none_free : (xs : List Strip) (lanes : List Lane) (own start end : ℕ) (window : Span) → AreFreeBetween xs lanes own start start end window []
+none_free xs lanes own start end window = record {
+  rising = record { filled = All-nil IsFilled; apart = λ i j d less within. absurd (omega (arith, within)) };
+  ends = λ m d from until. All-nil (λ t. t.hi ≤ℤ (get_or xs m d).area.x1);
+  exact = λ s filled. (
+    λ any. let h = any.2 in absurd (omega (arith, h)),
+    λ both. let f = both.1.from in let b = both.1.below in absurd (omega (arith, f, b)),
+  );
+}
+
+-- each of the free spans lies in the strip
+part_inside : (strip window : Span) (taken part : List Span) → IsFreeIn strip taken window part → All (λ t. (strip.lo ≤ℤ t.lo) × (t.hi ≤ℤ strip.hi)) part
+part_inside strip window taken part f k d within =
+    let t : Span = get_or part k d in
+    let filled = f.rising.filled k d within in
+    let lies : LiesInOne part t = let h = Contains-get_or part k d within in (h.0, t, h.1, h.2, λ x holds. holds) in
+    let i = in_of_lies t strip filled ((f.exact t filled).0 lies).0 in
+    (i.low, i.high)
+
+-- of two near strips the first ends before the second begins
+near_rise : (row team : ℕ) (lo hi : ℤ) (a b : Strip) → IsNear row team lo hi a → IsNear row team lo hi b → ComesBefore a b → a.area.x2 ≤ℤ b.area.x1
+near_rise row team lo hi a b p q (inl less) = let e = p.in_row in let f = q.in_row in absurd (omega (arith, less, e, f))
+near_rise row team lo hi a b p q (inr (same, inl less)) = let e = p.of_team in let f = q.of_team in absurd (omega (arith, less, e, f))
+near_rise row team lo hi a b p q (inr (same, inr (alike, apart))) = apart
+
+pub free_further : (xs : List Strip) (lanes : List Lane) (row team own start k end : ℕ) (window : Span) (lane : Lane) (g : Strip) (free part : List Span) →
+    AllPairs ComesBefore xs → AreNear xs row team window.lo window.hi start end → start ≤ k → k < end → k < length lanes →
+    All (λ x. x.area.x1 <ℤ x.area.x2) xs →
+    lane ≡ get_or lanes k lane → ((d : Strip) → g ≡ get_or xs k d) → AreFreeBetween xs lanes own start k end window free →
+    IsFreeIn (x_range g.area) (spans_in (others_in lane.entries.items own)) window part → AreFreeBetween xs lanes own start (k + 1) end window (free ++ part)
+free_further xs lanes row team own start k end window lane g free part pairs near from until has wide is at old new = record {
+  rising = record {
+    filled = All-append IsFilled free part old.rising.filled new.rising.filled;
+    apart = pairs_append (λ s t. s.hi ≤ℤ t.lo) free part cross old.rising.apart new.rising.apart;
+  };
+  ends = λ m d more less.
+      All-append (λ t. t.hi ≤ℤ (get_or xs m d).area.x1) free part (old.ends m d (omega (arith, more)) less)
+      (λ j e within.
+      let i = inside j e within in
+      let high = i.1 in
+      let up = rises m d more less in
+      omega (arith, ints, high, up));
+  exact = λ s filled. (λ any. to s filled (any_split (LiesIn s) free part any), λ both. back s filled both.0 both.1);
+}
+  where
+    bound : end ≤ length xs
+    bound = near.within
+
+    here : k < length xs
+    here = let b = bound in omega (arith, b, until)
+
+    inside : All (λ t. (g.area.x1 ≤ℤ t.lo) × (t.hi ≤ℤ g.area.x2)) part
+    inside = part_inside (x_range g.area) window (spans_in (others_in lane.entries.items own)) part new
+
+    cross : All (λ s. All (λ t. s.hi ≤ℤ t.lo) part) free
+    cross i d within j e inner =
+        let a = old.ends k no_strip (omega arith) until i d within in
+        let b = (inside j e inner).0 in
+        let same : g.area.x1 ≡ (get_or xs k no_strip).area.x1 = ap (λ (x : Strip). x.area.x1) (at no_strip) in
+        omega (arith, ints, a, b, same)
+
+    rises : (m : ℕ) (d : Strip) → k + 1 ≤ m → m < end → g.area.x2 ≤ℤ (get_or xs m d).area.x1
+    rises m d more less =
+        let inner : m < length xs = let b = bound in omega (arith, b, less) in
+        let up = near_rise row team window.lo window.hi (get_or xs k d) (get_or xs m d) ((near.exact k d here).0 (from, until))
+        ((near.exact m d inner).0 (omega (arith, from, more), less)) (pairs k m d (omega (arith, more)) inner) in
+        let same : g.area.x2 ≡ (get_or xs k d).area.x2 = ap (λ (x : Strip). x.area.x2) (at d) in
+        omega (arith, ints, up, same)
+
+    to : (s : Span) → IsFilled s → LiesInOne free s ⊎ LiesInOne part s → LiesIn s window × FreeBetween xs lanes own start (k + 1) end s
+    to s filled (inl first) =
+        let h = (old.exact s filled).0 first in
+        let f = h.1 in
+        (h.0, record { m = f.m; from = f.from; below = (let b = f.below in omega (arith, b)); until = f.until; inside = f.inside; apart = f.apart })
+    to s filled (inr second) =
+        let h = (new.exact s filled).0 second in (
+          h.1,
+          record {
+            m = k;
+            from = from;
+            below = omega arith;
+            until = until;
+            inside = λ d. subst (λ (x : Strip). LiesIn s (across x)) (at d) h.0;
+            apart = λ d. subst (λ (l : Lane). IsApart (spans_in (others_in l.entries.items own)) s) (is ∙ get_or_default lanes k lane d has) h.2;
+          },
+        )
+
+    back : (s : Span) → IsFilled s → LiesIn s window → FreeBetween xs lanes own start (k + 1) end s → LiesInOne (free ++ part) s
+    back s filled shown f = elim order [
+      | inl h ↦ any_left (LiesIn s) free part
+          ((old.exact s filled).1 (shown, record { m = f.m; from = f.from; below = h; until = f.until; inside = f.inside; apart = f.apart }))
+      | inr h ↦ any_right (LiesIn s) free part
+          ((new.exact s filled).1 (
+            subst (λ (x : Strip). LiesIn s (across x)) (sym (at no_strip)) (subst (λ (m : ℕ). LiesIn s (across (get_or xs m no_strip))) h (f.inside no_strip)),
+            shown,
+            subst (λ (l : Lane). IsApart (spans_in (others_in l.entries.items own)) s) (sym is)
+                (subst (λ (m : ℕ). IsApart (spans_in (others_in (get_or lanes m lane).entries.items own)) s) h (f.apart lane)),
+          ))
+    ]
+      where
+        order : (f.m < k) ⊎ (f.m ≡ k)
+        order = let b = f.below in grind (arith, b)
+
+-- what is free between the two bisections is what is free in the strips of the row and the team
+pub free_of_row : (xs : List Strip) (lanes : List Lane) (row team own start k end : ℕ) (window : Span) (free : List Span) →
+    AreNear xs row team window.lo window.hi start end →
+    end ≤ k → AreFreeBetween xs lanes own start k end window free → AreFreeTo xs lanes row team own window (length xs) free
+free_of_row xs lanes row team own start k end window free near past f = record {
+  rising = f.rising;
+  exact = λ s filled. (λ lies. to s ((f.exact s filled).0 lies), λ both. (f.exact s filled).1 (back s filled both.0 both.1.0 both.1.1.1));
+}
+  where
+    to : (s : Span) → LiesIn s window × FreeBetween xs lanes own start k end s → LiesIn s window × ((n : ℕ) ×
+        ((n < length xs) × LiesFree xs lanes row team own s n))
+    to s (shown, b) =
+        let bound = near.within in
+        let until = b.until in
+        let within : b.m < length xs = omega (arith, bound, until) in (
+          shown,
+          (
+            b.m,
+            (
+              within,
+              record {
+                within = within;
+                in_row = λ d. ((near.exact b.m d within).0 (b.from, until)).in_row;
+                of_team = λ d. ((near.exact b.m d within).0 (b.from, until)).of_team;
+                inside = b.inside;
+                apart = b.apart;
+              },
+            ),
+          ),
+        )
+
+    back : (s : Span) → IsFilled s → LiesIn s window → (n : ℕ) → LiesFree xs lanes row team own s n → LiesIn s window × FreeBetween xs lanes own start k end s
+    back s filled shown n l =
+        let w = in_of_lies s window filled shown in
+        let i = in_of_lies s (across (get_or xs n no_strip)) filled (l.inside no_strip) in
+        let a = w.low in
+        let b = w.high in
+        let e = i.low in
+        let h = i.high in
+        let both = (near.exact n no_strip l.within).1 record {
+          in_row = l.in_row no_strip;
+          of_team = l.of_team no_strip;
+          right = omega (arith, ints, a, h, filled);
+          left = omega (arith, ints, b, e, filled);
+        } in
+        let until = both.1 in
+        (shown, record { m = n; from = both.0; below = omega (arith, until, past); until = until; inside = l.inside; apart = l.apart })

@@ -1,0 +1,13 @@
+pub mod Lists
+pub mod Leasts
+pub mod Runs
+pub mod Parts
+pub mod Order
+pub mod Finds
+pub mod Frees
+pub mod Changes
+pub mod Laning
+pub mod Reaching
+pub mod Views
+pub mod Covering
+pub mod Building

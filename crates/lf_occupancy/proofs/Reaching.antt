@@ -1,0 +1,343 @@
+-- Which strips a rectangle reaches, and what becomes of the lanes when a cell's box changes.
+use Rattle.std.proofs.Common.{◌≡◌, ◌≢◌, ◌⊎◌, inl, inr, ℕ, ◌+◌, ◌<◌, ℤ, ◌≤ℤ◌, ◌<ℤ◌, List, [], ◌∷◌, ◌++◌, Option, Some, None, length, get_or}
+use Rattle.std.proofs.Common.{set, eqb, refl, sym, ap, subst, ◌∙◌, arith}
+use Rattle.std.specs.Prelude.{AllPairs, Any, Contains, not}
+use Rattle.std.proofs.lemmas.Bool.Decides.{eqb_tells}
+use Rattle.std.proofs.lemmas.Int.{ints}
+use Rattle.std.proofs.lemmas.List.{get_or_default, get_or-set_same, get_or-set_other, set-set, length-set, length-append, get_or_append_left, get_or-append-add}
+use Rattle.std.proofs.lemmas.List.Elements.{All-contains, Contains-append_cases}
+use Rattle.lf_units.specs.declared.area.Rect.{Rect}
+use Rattle.lf_units.specs.Area.{Covers}
+use Rattle.lf_spans.proofs.Anys.{any_nil, any_head, any_tail, any_cases}
+use Rattle.lf_cells.specs.declared.cell.CellId.{CellId}
+use Rattle.lf_segments.specs.declared.rows_by_y.RowEntry.{RowEntry}
+use Rattle.lf_occupancy.specs.declared.lane.Lane.{Lane}
+use Rattle.lf_occupancy.specs.declared.strip.Strip.{Strip}
+use Rattle.lf_occupancy.specs.declared.strips.Strips.{Strips}
+use Rattle.lf_occupancy.specs.Lanes.{AreInOrder, HasRoom, IsLane, IsPruned, TakesOne, cell_box}
+use Rattle.lf_occupancy.specs.Strips.{AreChanged, AreKept, AreLanes, AreOrderly, AreRowsNear, AreStrips, Follows, KeepRoom, IsNear, IsPlaced, IsReached, PutsIn}
+use Rattle.lf_occupancy.proofs.Finds.{no_strip}
+use Rattle.lf_occupancy.proofs.Lists.{pairs_filter}
+use Rattle.lf_occupancy.proofs.Laning.{box_same, lane_beside, lane_kept, lane_pruned, lane_put}
+
+-- a strip that shares a point with the rectangle is reached
+pub point_is_reached : (s : Strips) (rect : Rect) (run : List RowEntry) (team n : ℕ) (d : Strip) (x y : ℤ) → AreStrips s →
+    AreRowsNear s.rows s.height rect run →
+    n < length s.list.items → (get_or s.list.items n d).team ≡ team → Covers (get_or s.list.items n d).area x y → Covers rect x y →
+    IsReached s.list.items run team rect n
+point_is_reached s rect run team n d x y strips rows within of_team in_strip in_rect =
+    elim (Contains-append_cases rows.part.before _ e there) [
+      | inl before ↦ let h = All-contains (λ r. r.y <ℤ rows.from) rows.part.before e rows.part.below before in absurd (omega (arith, ints, h, low))
+      | inr rest ↦ elim (Contains-append_cases run rows.part.behind e rest) [
+        | inl inside ↦ (within, (inside.0, e, inside.1, inside.2, λ c. near c))
+        | inr behind ↦ let h = All-contains (λ r. rect.y2 ≤ℤ r.y) rows.part.behind e rows.part.above behind in absurd (omega (arith, ints, h, high))
+      ]
+    ]
+  where
+    xs : List Strip
+    xs = s.list.items
+
+    g : Strip
+    g = get_or xs n d
+
+    placed : IsPlaced s.rows s.height g
+    placed = strips.placed n d within
+
+    e : RowEntry
+    e = placed.found.1
+
+    there : Contains (rows.part.before ++ (run ++ rows.part.behind)) e
+    there = subst (λ (es : List RowEntry). Contains es e) rows.part.parts (placed.found.0, placed.found.2, placed.found.3)
+
+    level : e.y ≡ g.area.y1
+    level = placed.found.4.1
+
+    low : rows.from ≤ℤ e.y
+    low =
+        let a = in_rect.bottom in
+        let b = in_strip.top in
+        let h = placed.high in
+        let l = level in
+        let y_low = placed.y_low in
+        rows.reach e.y (omega (arith, ints, y_low, l)) (omega (arith, ints, a, b, h, l))
+
+    high : e.y <ℤ rect.y2
+    high =
+        let a = in_rect.top in
+        let b = in_strip.bottom in
+        let l = level in
+        omega (arith, ints, a, b, l)
+
+    near : (c : Strip) → IsNear e.row team rect.x1 rect.x2 (get_or xs n c)
+    near c = subst (IsNear e.row team rect.x1 rect.x2) (get_or_default xs n d c within) record {
+      in_row = sym placed.found.4.0;
+      of_team = of_team;
+      right = let a = in_rect.left in let b = in_strip.right in omega (arith, ints, a, b);
+      left = let a = in_rect.right in let b = in_strip.left in omega (arith, ints, a, b);
+    }
+
+decide_any : {X : Type 0} (P : X → Type 0) → ((x : X) → P x ⊎ (P x → ⊥)) → (xs : List X) → Any P xs ⊎ (Any P xs → ⊥)
+decide_any P decide [] = inr (any_nil P)
+decide_any {X} P decide (x ∷ xs) = both (decide x) (decide_any P decide xs)
+  where
+    both : P x ⊎ (P x → ⊥) → Any P xs ⊎ (Any P xs → ⊥) → Any P (x ∷ xs) ⊎ (Any P (x ∷ xs) → ⊥)
+    both (inl p) rest = inl (any_head P x xs p)
+    both (inr never) (inl a) = inl (any_tail P x xs a)
+    both (inr never) (inr none) = inr (λ a. elim (any_cases P x xs a) [ inl p ↦ never p | inr r ↦ none r ])
+
+decide_near : (row team : ℕ) (lo hi : ℤ) (g : Strip) → IsNear row team lo hi g ⊎ (IsNear row team lo hi g → ⊥)
+decide_near row team lo hi g = elim (eqb_tells g.row row) [
+  | inr apart ↦ inr (λ near. apart.1 near.in_row)
+  | inl same ↦ elim (eqb_tells g.team team) [
+    | inr apart ↦ inr (λ near. apart.1 near.of_team)
+    | inl also ↦ elim right [
+      | inr over ↦ inr (λ near. let h = near.right in omega (arith, ints, over, h))
+      | inl r ↦ elim left [
+        | inr over ↦ inr (λ near. let h = near.left in omega (arith, ints, over, h))
+        | inl l ↦ inl record { in_row = same.1; of_team = also.1; right = r; left = l }
+      ]
+    ]
+  ]
+]
+  where
+    right : (lo <ℤ g.area.x2) ⊎ (g.area.x2 ≤ℤ lo)
+    right = grind (arith, ints)
+
+    left : (g.area.x1 <ℤ hi) ⊎ (hi ≤ℤ g.area.x1)
+    left = grind (arith, ints)
+
+decide_reached : (xs : List Strip) (run : List RowEntry) (team : ℕ) (rect : Rect) (n : ℕ) → n < length xs →
+    IsReached xs run team rect n ⊎ (IsReached xs run team rect n → ⊥)
+decide_reached xs run team rect n within = elim (decide_any P decide run) [ inl a ↦ inl (within, a) | inr none ↦ inr (λ r. none r.1) ]
+  where
+    P : RowEntry → Type 0
+    P r = (d : Strip) → IsNear r.row team rect.x1 rect.x2 (get_or xs n d)
+
+    decide : (r : RowEntry) → P r ⊎ (P r → ⊥)
+    decide r = elim (decide_near r.row team rect.x1 rect.x2 (get_or xs n no_strip)) [
+      | inl near ↦ inl (λ d. subst (IsNear r.row team rect.x1 rect.x2) (get_or_default xs n no_strip d within) near)
+      | inr not ↦ inr (λ all. not (all no_strip))
+    ]
+
+not_of_team : (xs : List Strip) (run : List RowEntry) (team : ℕ) (rect : Rect) (n : ℕ) (d : Strip) → ((get_or xs n d).team ≡ team → ⊥) →
+    IsReached xs run team rect n → ⊥
+not_of_team xs run team rect n d other (within, (k, r, below, is, near)) = other (near d).of_team
+
+-- where one team's boxes change, only the lanes of its strips do
+pub lanes_of_team : (xs : List Strip) (boxes : List (List (Option Rect))) (team : ℕ) (cells : List (Option Rect)) (lanes new : List Lane) →
+    team < length boxes →
+    length new ≡ length lanes → AreLanes xs boxes lanes →
+    ((n : ℕ) (d : Strip) (e : Lane) → n < length xs → (get_or xs n d).team ≡ team → IsLane (get_or boxes team []) (get_or xs n d).area (get_or lanes n e) →
+    IsLane cells (get_or xs n d).area (get_or new n e)) →
+    ((n : ℕ) (d : Strip) (e : Lane) → n < length xs → ((get_or xs n d).team ≡ team → ⊥) → get_or new n e ≡ get_or lanes n e) →
+    AreLanes xs (set boxes team cells) new
+lanes_of_team xs boxes team cells lanes new has many old own others = record {
+  many = many ∙ old.many;
+  each = λ n d e within.
+      let g : Strip = get_or xs n d in
+      let lane = old.each n d e within in
+      elim (eqb_tells g.team team) [
+        | inl same ↦
+            let At : ℕ → Type 0 = λ t. IsLane (get_or boxes t []) g.area (get_or lanes n e) in
+            let Here : ℕ → Type 0 = λ t. IsLane (get_or (set boxes team cells) t []) g.area (get_or new n e) in
+            subst Here (sym same.1)
+            (subst (λ (cs : List (Option Rect)). IsLane cs g.area (get_or new n e)) (sym (get_or-set_same boxes team cells [] has))
+            (own n d e within same.1 (subst At same.1 lane)))
+        | inr apart ↦
+            subst (λ (cs : List (Option Rect)). IsLane cs g.area (get_or new n e)) (sym (get_or-set_other boxes team g.team cells [] apart.1))
+            (subst (IsLane (get_or boxes g.team []) g.area) (sym (others n d e within apart.1)) lane)
+      ];
+}
+
+-- the lanes that are pruned where the old box reaches
+pub lanes_out : (s : Strips) (boxes : List (List (Option Rect))) (team own : ℕ) (rect : Rect) (run : List RowEntry) (lanes new : List Lane) → AreStrips s →
+    AreRowsNear s.rows s.height rect run → team < length boxes → own < length (get_or boxes team []) → cell_box (get_or boxes team []) own ≡ Some rect →
+    AreLanes s.list.items boxes lanes → AreChanged (IsReached s.list.items run team rect) (λ n. IsPruned own) lanes new →
+    AreLanes s.list.items (set boxes team (set (get_or boxes team []) own None)) new
+lanes_out s boxes team own rect run lanes new strips rows has_team has is old changed =
+    lanes_of_team s.list.items boxes team (set cells own None) lanes new has_team changed.many old each
+    (λ n d e within other. changed.others n e (inside n within) (not_of_team s.list.items run team rect n d other))
+  where
+    cells : List (Option Rect)
+    cells = get_or boxes team []
+
+    inside : (n : ℕ) → n < length s.list.items → n < length lanes
+    inside n within = let m = old.many in omega (arith, m, within)
+
+    same_rect : (r : Rect) → ◌≡◌ {A = Option Rect} (Some rect) (Some r) → r ≡ rect
+    same_rect r e = cc
+
+    each : (n : ℕ) (d : Strip) (e : Lane) → n < length s.list.items → (get_or s.list.items n d).team ≡ team →
+        IsLane cells (get_or s.list.items n d).area (get_or lanes n e) → IsLane (set cells own None) (get_or s.list.items n d).area (get_or new n e)
+    each n d e within of_team lane = elim (decide_reached s.list.items run team rect n within) [
+      | inl reached ↦ lane_pruned cells (get_or s.list.items n d).area own (get_or lanes n e) (get_or new n e) has lane (changed.chosen n e
+          (inside n within) reached)
+      | inr never ↦
+          subst (IsLane (set cells own None) (get_or s.list.items n d).area) (sym (changed.others n e (inside n within) never))
+          (lane_beside cells (get_or s.list.items n d).area own None (get_or lanes n e) has
+          (λ x y lies.
+          never (point_is_reached s rect run team n d x y strips rows within of_team lies.in_area
+          (subst (λ (q : Rect). Covers q x y) (same_rect lies.box (sym is ∙ lies.is)) lies.in_box)))
+          (λ r x y same a b. nothing r same) lane)
+    ]
+      where
+        nothing : (r : Rect) → ◌≡◌ {A = Option Rect} None (Some r) → ⊥
+        nothing r same = cc
+
+-- a cell that stands nowhere is taken out of no lane
+pub lanes_without : (xs : List Strip) (boxes : List (List (Option Rect))) (team own : ℕ) (lanes : List Lane) → team < length boxes →
+    own < length (get_or boxes team []) → cell_box (get_or boxes team []) own ≡ None → AreLanes xs boxes lanes →
+    AreLanes xs (set boxes team (set (get_or boxes team []) own None)) lanes
+lanes_without xs boxes team own lanes has_team has is old =
+    lanes_of_team xs boxes team (set cells own None) lanes lanes has_team refl old
+    (λ n d e within of_team lane.
+    lane_beside cells (get_or xs n d).area own None (get_or lanes n e) has (λ x y lies. nothing lies.box (sym is ∙ lies.is))
+    (λ r x y same a b. nothing r same) lane)
+    (λ n d e within other. refl)
+  where
+    cells : List (Option Rect)
+    cells = get_or boxes team []
+
+    nothing : (r : Rect) → ◌≡◌ {A = Option Rect} None (Some r) → ⊥
+    nothing r same = cc
+
+-- the lanes that take the parts of the new box where it reaches
+pub lanes_in : (s : Strips) (boxes : List (List (Option Rect))) (team own : ℕ) (rect : Rect) (run : List RowEntry) (lanes new : List Lane) → AreStrips s →
+    AreRowsNear s.rows s.height rect run → team < length boxes → own < length (get_or boxes team []) → cell_box (get_or boxes team []) own ≡ None →
+    AreLanes s.list.items boxes lanes → AreChanged (IsReached s.list.items run team rect) (PutsIn s.list.items own rect) lanes new →
+    AreLanes s.list.items (set boxes team (set (get_or boxes team []) own (Some rect))) new
+lanes_in s boxes team own rect run lanes new strips rows has_team has is old changed =
+    lanes_of_team s.list.items boxes team (set cells own (Some rect)) lanes new has_team changed.many old each
+    (λ n d e within other. changed.others n e (inside n within) (not_of_team s.list.items run team rect n d other))
+  where
+    cells : List (Option Rect)
+    cells = get_or boxes team []
+
+    inside : (n : ℕ) → n < length s.list.items → n < length lanes
+    inside n within = let m = old.many in omega (arith, m, within)
+
+    nothing : (r : Rect) → ◌≡◌ {A = Option Rect} None (Some r) → ⊥
+    nothing r same = cc
+
+    same_rect : (r : Rect) → ◌≡◌ {A = Option Rect} (Some rect) (Some r) → r ≡ rect
+    same_rect r e = cc
+
+    each : (n : ℕ) (d : Strip) (e : Lane) → n < length s.list.items → (get_or s.list.items n d).team ≡ team →
+        IsLane cells (get_or s.list.items n d).area (get_or lanes n e) → IsLane (set cells own (Some rect)) (get_or s.list.items n d).area (get_or new n e)
+    each n d e within of_team lane = elim (decide_reached s.list.items run team rect n within) [
+      | inl reached ↦
+          let placed = strips.placed n d within in
+          lane_put cells (get_or s.list.items n d).area own rect (get_or lanes n e)
+          (get_or new n e) has is record { low = placed.x_low; high = placed.x_high } lane
+          (changed.chosen n e (inside n within) reached d)
+      | inr never ↦
+          subst (IsLane (set cells own (Some rect)) (get_or s.list.items n d).area) (sym (changed.others n e (inside n within) never))
+          (lane_beside cells (get_or s.list.items n d).area own (Some rect) (get_or lanes n e) has (λ x y lies. nothing lies.box (sym is ∙ lies.is))
+          (λ r x y same a b. never (point_is_reached s rect run team n d x y strips rows within of_team a (subst (λ (q : Rect). Covers q x y)
+          (same_rect r same) b)))
+          lane)
+    ]
+
+-- lanes that hold what they held
+pub lanes_kept : (xs : List Strip) (boxes : List (List (Option Rect))) (old new : List Lane) → AreKept old new → AreLanes xs boxes old → AreLanes xs boxes new
+lanes_kept xs boxes old new kept lanes = record {
+  many = kept.many ∙ lanes.many;
+  each = λ n d e within.
+      lane_kept _ _ (get_or old n e) (get_or new n e) (lanes.each n d e within) (kept.each n e (let m = lanes.many in omega (arith, m, within)));
+}
+
+pub lanes_orderly : (xs : List Strip) (boxes : List (List (Option Rect))) (lanes : List Lane) → AreLanes xs boxes lanes → AreOrderly xs lanes
+lanes_orderly xs boxes lanes l = record {
+  many = l.many;
+  each = λ n e within. (l.each n no_strip e within).orderly;
+  inside = λ n d e within. (l.each n d e within).inside;
+}
+
+-- a team's boxes changed twice are changed once
+pub set_twice : (boxes : List (List (Option Rect))) (team own : ℕ) (a b : Option Rect) → team < length boxes →
+    set (set boxes team (set (get_or boxes team []) own a)) team (set (get_or (set boxes team (set (get_or boxes team []) own a)) team []) own b)
+    ≡ set boxes team (set (get_or boxes team []) own b)
+set_twice boxes team own a b has =
+    let cells : List (Option Rect) = get_or boxes team [] in
+    ap (λ (cs : List (Option Rect)). set (set boxes team (set cells own a)) team (set cs own b)) (get_or-set_same boxes team (set cells own a) [] has)
+    ∙ set-set boxes team (set cells own a) (set (set cells own a) own b)
+    ∙ ap (λ (cs : List (Option Rect)). set boxes team cs) (set-set cells own a b)
+
+-- what differs in a list differs in its parts
+pub once_in_run : (s : Strips) (rect : Rect) (run : List RowEntry) → AllPairs (λ a b. a.row ≢ b.row) s.rows → AreRowsNear s.rows s.height rect run →
+    AllPairs (λ a b. a.row ≢ b.row) run
+once_in_run s rect run once rows i j d less within =
+    let front = rows.part.before in
+    let whole : AllPairs (λ a b. a.row ≢ b.row) (front ++ (run ++ rows.part.behind)) =
+    subst (λ (es : List RowEntry). AllPairs (λ a b. a.row ≢ b.row) es) rows.part.parts once in
+    let long = length-append front (run ++ rows.part.behind) in
+    let longer = length-append run rows.part.behind in
+    let a = get_or-append-add front (run ++ rows.part.behind) i d ∙ get_or_append_left run rows.part.behind d i (omega (arith, less, within)) in
+    let b = get_or-append-add front (run ++ rows.part.behind) j d ∙ get_or_append_left run rows.part.behind d j within in
+    λ same. whole (length front + i) (length front + j) d (omega (arith, less)) (omega (arith, long, longer, within))
+    (ap (λ (r : RowEntry). r.row) a ∙ same ∙ sym (ap (λ (r : RowEntry). r.row) b))
+
+-- lanes that are pruned or stay the same still take one entry more
+pub room_out : (xs : List Strip) (run : List RowEntry) (team own : ℕ) (rect : Rect) (lanes new : List Lane) → length lanes ≡ length xs →
+    AreChanged (IsReached xs run team rect) (λ n. IsPruned own) lanes new → KeepRoom lanes new
+room_out xs run team own rect lanes new many changed = record {
+  many = changed.many;
+  each = λ n e within takes. elim (decide_reached xs run team rect n (omega (arith, within, many))) [
+    | inl reached ↦ pruned (get_or lanes n e) (get_or new n e) (changed.chosen n e within reached) takes
+    | inr never ↦ subst TakesOne (sym (changed.others n e within never)) takes
+  ];
+}
+  where
+    pruned : (a b : Lane) → IsPruned own a b → TakesOne a → TakesOne b
+    pruned a b p takes = record {
+      order = subst AreInOrder (sym p.entries) (pairs_filter (λ x y. x.area.x1 ≤ℤ y.area.x1) (λ x. not (eqb x.own own)) a.entries.items takes.order);
+      room = let f = p.fewer in let r = p.room in let h = takes.room in omega (arith, f, r, h);
+    }
+
+pub room_same : (lanes : List Lane) → KeepRoom lanes lanes
+room_same lanes = record { many = refl; each = λ n e within takes. takes }
+
+-- lanes that hold what they held, take one entry more where there is room
+pub takes_after : (xs : List Strip) (run : List RowEntry) (team : ℕ) (rect : Rect) (old mid new : List Lane) → AreOrderly xs old → AreKept old mid →
+    ((n : ℕ) (e : Lane) → IsReached xs run team rect n → HasRoom (get_or mid n e)) → KeepRoom mid new →
+    (n : ℕ) (e : Lane) → IsReached xs run team rect n → TakesOne (get_or new n e)
+takes_after xs run team rect old mid new orderly kept room keep n e reached =
+    let within = reached.0 in
+    let many = orderly.many in
+    let same = kept.many in
+    keep.each n e (omega (arith, within, many, same)) record {
+      order = subst AreInOrder (sym (kept.each n e (omega (arith, within, many))).entries) (orderly.each n e within).order;
+      room = room n e reached;
+    }
+
+-- the cell is taken out, and then put in
+pub lanes_replaced : (s : Strips) (id : CellId) (from : Option Rect) (rect : Rect) (run : List RowEntry) (old mid out new : List Lane) → AreStrips s →
+    AreRowsNear s.rows s.height rect run → AreKept old mid → Follows s id from None mid out →
+    AreChanged (IsReached s.list.items run id.team rect) (PutsIn s.list.items id.own rect) out new → Follows s id from (Some rect) old new
+lanes_replaced s id from rect run old mid out new strips rows kept follows changed boxes has is lanes =
+    subst (λ (bs : List (List (Option Rect))). AreLanes s.list.items bs new) (set_twice boxes id.team id.own None (Some rect) has.team)
+    (lanes_in s bare id.team id.own rect run out new strips rows has_team has_own none (follows boxes has is
+    (lanes_kept s.list.items boxes old mid kept lanes)) changed)
+  where
+    cells : List (Option Rect)
+    cells = get_or boxes id.team []
+
+    bare : List (List (Option Rect))
+    bare = set boxes id.team (set cells id.own None)
+
+    there : get_or bare id.team [] ≡ set cells id.own None
+    there = get_or-set_same boxes id.team (set cells id.own None) [] has.team
+
+    has_team : id.team < length bare
+    has_team = let h = has.team in omega (arith, h, length-set boxes id.team (set cells id.own None))
+
+    has_own : id.own < length (get_or bare id.team [])
+    has_own =
+        let h = has.own in
+        let long = ap (λ (cs : List (Option Rect)). length cs) there in
+        let nothing : Option Rect = None in
+        let same = length-set cells id.own nothing in
+        omega (arith, h, long, same)
+
+    none : cell_box (get_or bare id.team []) id.own ≡ None
+    none = ap (λ (cs : List (Option Rect)). cell_box cs id.own) there ∙ box_same cells id.own None has.own

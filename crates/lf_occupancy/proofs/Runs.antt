@@ -1,0 +1,207 @@
+-- Entries near a range, found by bisection.
+use Rattle.std.proofs.Common.{◌≡◌, ◌⊎◌, inl, inr, ℕ, ◌+◌, ◌<◌, ◌≤◌, ℤ, ◌-ℤ◌, ◌≤ℤ◌, ◌<ℤ◌, true, false, List, ◌++◌, length, get_or, take}
+use Rattle.std.proofs.Common.{drop, map, eqb, sym, ap, subst, ◌∙◌, arith, int_lt}
+use Rattle.std.specs.Prelude.{All, AllPairs, Contains, not}
+use Rattle.std.specs.List.Sorted.{IsPartitionedBy, IsPartitionPoint}
+use Rattle.std.proofs.lemmas.Int.{ints}
+use Rattle.std.proofs.lemmas.Bool.Decides.{nat_tests}
+use Rattle.std.proofs.lemmas.List.{get_or-take, get_or-drop, get_or-map, length-take, length-drop, length-map, take-append-drop}
+use Rattle.std.proofs.lemmas.List.{length-append, get_or_append_left, get_or-append-add}
+use Rattle.std.proofs.lemmas.List.Elements.{All-contains, All-contains_itself, All-filter, All-map, filter_passes}
+use Rattle.std.proofs.lemmas.List.Elements.{Contains-append_left, Contains-append_right, Contains-append_cases, Contains-get_or}
+use Rattle.lf_units.specs.declared.area.Rect.{Rect}
+use Rattle.lf_spans.specs.declared.span.Span.{Span}
+use Rattle.lf_spans.specs.Spans.{AreApart, IsApart, IsFreeIn, LiesIn}
+use Rattle.lf_occupancy.specs.declared.lane.Entry.{Entry}
+use Rattle.lf_occupancy.specs.Lanes.{AreInOrder, IsNearRun, MeetsOne, others_in, spans_in, x_range}
+use Rattle.lf_occupancy.proofs.Lists.{contains_filter, pairs_filter}
+
+less_of : (a b : ℤ) → int_lt a b ≡ true → a <ℤ b
+less_of a b e = grind (arith, ints)
+
+of_less : (a b : ℤ) → a <ℤ b → int_lt a b ≡ true
+of_less a b h = grind (arith, ints)
+
+not_less_of : (a b : ℤ) → int_lt a b ≡ false → b ≤ℤ a
+not_less_of a b e = grind (arith, ints)
+
+rises : (xs : List Entry) (i j : ℕ) (d : Entry) → AreInOrder xs → i ≤ j → j < length xs → (get_or xs i d).area.x1 ≤ℤ (get_or xs j d).area.x1
+rises xs i j d pairs order within = elim same_or [
+  | inl same ↦ let At : ℕ → Type 0 = λ n. (get_or xs i d).area.x1 ≤ℤ (get_or xs n d).area.x1 in subst At same (omega (arith, ints))
+  | inr less ↦ pairs i j d less within
+]
+  where
+    same_or : (i ≡ j) ⊎ (i < j)
+    same_or = grind arith
+
+pub parted : (xs : List Entry) (x : ℤ) → AreInOrder xs → IsPartitionedBy (λ e. int_lt e.area.x1 x) xs
+parted xs x pairs i j d order within t =
+    let later = rises xs i j d pairs order within in
+    let low = less_of (get_or xs j d).area.x1 x t in
+    of_less (get_or xs i d).area.x1 x (omega (arith, ints, later, low))
+
+pub below_x : (xs : List Entry) (x : ℤ) (n : ℕ) → IsPartitionPoint (λ e. int_lt e.area.x1 x ≡ true) (λ e. int_lt e.area.x1 x ≡ false) xs n →
+    (k : ℕ) (d : Entry) → k < n → (get_or xs k d).area.x1 <ℤ x
+below_x xs x n point k d less = less_of (get_or xs k d).area.x1 x (point.0 k d (omega arith) less)
+
+pub from_x : (xs : List Entry) (x : ℤ) (n : ℕ) → IsPartitionPoint (λ e. int_lt e.area.x1 x ≡ true) (λ e. int_lt e.area.x1 x ≡ false) xs n →
+    (k : ℕ) (d : Entry) → n ≤ k → k < length xs → x ≤ℤ (get_or xs k d).area.x1
+from_x xs x n point k d from within = not_less_of (get_or xs k d).area.x1 x (point.1 k d from within)
+
+-- two bisections cut out what lies near a range
+pub near_run : (xs ys : List Entry) (lo hi widest : ℤ) (f c : ℕ) → f ≤ length xs → ys ≡ drop f xs → All (λ e. (e.area.x2 -ℤ e.area.x1) ≤ℤ widest) xs →
+    ((k : ℕ) (d : Entry) → k < f → (get_or xs k d).area.x1 <ℤ (lo -ℤ widest)) →
+    ((k : ℕ) (d : Entry) → c ≤ k → k < length ys → hi ≤ℤ (get_or ys k d).area.x1) → IsNearRun xs lo hi (take c ys)
+near_run xs ys lo hi widest f c bound same wide low high = record {
+  before = take f xs;
+  behind = drop c ys;
+  parts = sym (take-append-drop f xs) ∙ ap (λ (zs : List Entry). take f xs ++ zs) (sym same ∙ sym (take-append-drop c ys));
+  left = λ k d at.
+      let long = length-take f xs in
+      let less : k < f = omega (arith, long, at) in
+      let left = low k d less in
+      let width = wide k d (omega (arith, less, bound)) in
+      subst (λ (e : Entry). e.area.x2 ≤ℤ lo) (sym (get_or-take f xs k d less)) (omega (arith, ints, left, width));
+  right = λ k d at.
+      let long = length-drop c ys in
+      subst (λ (e : Entry). hi ≤ℤ e.area.x1) (sym (get_or-drop c ys k d)) (high (c + k) d (omega arith) (omega (arith, long, at)));
+}
+
+-- what stands near stands in the list
+pub near_in : (xs near : List Entry) (lo hi : ℤ) (e : Entry) → IsNearRun xs lo hi near → Contains near e → Contains xs e
+near_in xs near lo hi e run there =
+    subst (λ (zs : List Entry). Contains zs e) (sym run.parts)
+    (Contains-append_right run.before (near ++ run.behind) e (Contains-append_left near run.behind e there))
+
+-- what does not end before the range, and begins before it ends, stands near
+pub in_near : (xs near : List Entry) (lo hi : ℤ) (e : Entry) → IsNearRun xs lo hi near → Contains xs e → lo <ℤ e.area.x2 → e.area.x1 <ℤ hi → Contains near e
+in_near xs near lo hi e run there right left =
+    elim (Contains-append_cases run.before (near ++ run.behind) e (subst (λ (zs : List Entry). Contains zs e) run.parts there)) [
+      | inl before ↦ let h = All-contains (λ x. x.area.x2 ≤ℤ lo) run.before e run.left before in absurd (omega (arith, ints, h, right))
+      | inr rest ↦ elim (Contains-append_cases near run.behind e rest) [
+        | inl inside ↦ inside
+        | inr behind ↦ let h = All-contains (λ x. hi ≤ℤ x.area.x1) run.behind e run.right behind in absurd (omega (arith, ints, h, left))
+      ]
+    ]
+
+-- an entry that meets a rectangle stands near it
+pub met_near : (xs near : List Entry) (lo left : ℤ) (rect : Rect) (but own : ℕ) → IsNearRun xs lo rect.x2 near → All (λ e. left ≤ℤ e.area.x1) xs →
+    ((x : ℤ) → rect.x1 ≤ℤ x → left ≤ℤ x → lo ≤ℤ x) → MeetsOne xs rect but own → MeetsOne near rect but own
+met_near xs near lo left rect but own run inside most (k, e, within, is, meets) =
+    let there : Contains xs e = (k, within, is) in
+    let at = All-contains (λ x. left ≤ℤ x.area.x1) xs e inside there in
+    let s = meets.meets in
+    let a = s.in_first.left in
+    let b = s.in_first.right in
+    let c = s.in_second.left in
+    let d = s.in_second.right in
+    let low : lo ≤ℤ s.x = most s.x a (omega (arith, ints, at, c)) in
+    let found = in_near xs near lo rect.x2 e run there (omega (arith, ints, low, d)) (omega (arith, ints, b, c)) in
+    (found.0, e, found.1, found.2, meets)
+
+pub near_met : (xs near : List Entry) (lo hi : ℤ) (rect : Rect) (but own : ℕ) → IsNearRun xs lo hi near → MeetsOne near rect but own → MeetsOne xs rect but own
+near_met xs near lo hi rect but own run (k, e, within, is, meets) =
+    let found = near_in xs near lo hi e run (k, within, is) in
+    (found.0, e, found.1, found.2, meets)
+
+other_test : (a b : ℕ) → (a ≡ b → ⊥) → not (eqb a b) ≡ true
+other_test a b apart = grind (arith, nat_tests, apart)
+
+test_other : (a b : ℕ) → not (eqb a b) ≡ true → a ≡ b → ⊥
+test_other a b t same = grind (arith, nat_tests)
+
+-- the other cells' entries share no number with the span exactly where each of them does not
+pub apart_each : (xs : List Entry) (own : ℕ) (s : Span) → IsApart (spans_in (others_in xs own)) s → (e : Entry) → Contains xs e → (e.own ≡ own → ⊥) →
+    AreApart s (x_range e.area)
+apart_each xs own s apart e there other =
+    let kept : Contains (others_in xs own) e = contains_filter (λ x. not (eqb x.own own)) xs e there (other_test e.own own other) in
+    let mapped : Contains (spans_in (others_in xs own)) (x_range e.area) = map_contains (others_in xs own) e kept in
+    All-contains (λ t. AreApart s t) (spans_in (others_in xs own)) (x_range e.area) apart mapped
+  where
+    map_contains : (ys : List Entry) (y : Entry) → Contains ys y → Contains (spans_in ys) (x_range y.area)
+    map_contains ys y (k, within, is) =
+        let long = length-map ys (λ z. x_range z.area) in
+        (k, omega (arith, within, long), get_or-map (λ z. x_range z.area) ys k y (x_range y.area) within ∙ ap (λ (z : Entry). x_range z.area) is)
+
+pub each_apart : (xs : List Entry) (own : ℕ) (s : Span) → ((e : Entry) → Contains xs e → (e.own ≡ own → ⊥) → AreApart s (x_range e.area)) →
+    IsApart (spans_in (others_in xs own)) s
+each_apart xs own s each =
+    let p = λ (x : Entry). not (eqb x.own own) in
+    All-map (λ t. AreApart s t) (λ e. x_range e.area) (others_in xs own)
+    (λ k d within.
+    each (get_or (others_in xs own) k d) (All-filter p (Contains xs) xs (All-contains_itself xs) k d within)
+    (test_other (get_or (others_in xs own) k d).own own (filter_passes p xs k d within)))
+
+-- what a window shows of a strip rests on the entries near the window alone
+pub free_near : (xs near : List Entry) (own : ℕ) (strip window : Span) (free : List Span) → IsNearRun xs window.lo window.hi near →
+    IsFreeIn strip (spans_in (others_in near own)) window free → IsFreeIn strip (spans_in (others_in xs own)) window free
+free_near xs near own strip window free run f = record {
+  rising = f.rising;
+  exact = λ s filled. (
+    λ lies.
+        let h = (f.exact s filled).0 lies in
+        (h.0, h.1, each_apart xs own s (λ e there other. all_apart s h.1 h.2 e there other)),
+    λ h.
+        (f.exact s filled).1
+        (h.0, h.1, each_apart near own s (λ e there other. apart_each xs own s h.2 e (near_in xs near window.lo window.hi e run there) other)),
+  );
+}
+  where
+    all_apart : (s : Span) → LiesIn s window → IsApart (spans_in (others_in near own)) s → (e : Entry) → Contains xs e → (e.own ≡ own → ⊥) →
+        AreApart s (x_range e.area)
+    all_apart s inside apart e there other x first second =
+        let w = inside x first in
+        let a = w.low in
+        let b = w.high in
+        let c = second.low in
+        let d = second.high in
+        let at : Contains near e = in_near xs near window.lo window.hi e run there (omega (arith, ints, a, d)) (omega (arith, ints, b, c)) in
+        apart_each near own s apart e at other x first second
+
+-- the spans of the other cells' entries stand in order, and none is wider than the widest
+pub others_in_order : (xs near : List Entry) (lo hi : ℤ) (own : ℕ) → IsNearRun xs lo hi near → AreInOrder xs →
+    AllPairs (λ s t. s.lo ≤ℤ t.lo) (map (λ (e : Entry). x_range e.area) (others_in near own))
+others_in_order xs near lo hi own run order i j d less within =
+    let ys = others_in near own in
+    let long = length-map ys (λ (e : Entry). x_range e.area) in
+    let kept : AreInOrder ys = pairs_filter (λ a b. a.area.x1 ≤ℤ b.area.x1) (λ e. not (eqb e.own own)) near near_order in
+    let e : Entry = record { own = 0; area = record { x1 = d.lo; y1 = d.lo; x2 = d.hi; y2 = d.lo } } in
+    let first = get_or-map (λ (x : Entry). x_range x.area) ys i e d (omega (arith, long, less, within)) in
+    let second = get_or-map (λ (x : Entry). x_range x.area) ys j e d (omega (arith, long, within)) in
+    let low : (get_or (map (λ (x : Entry). x_range x.area) ys) i d).lo ≡ (get_or ys i e).area.x1 = ap (λ (s : Span). s.lo) first in
+    let high : (get_or (map (λ (x : Entry). x_range x.area) ys) j d).lo ≡ (get_or ys j e).area.x1 = ap (λ (s : Span). s.lo) second in
+    let up = kept i j e less (omega (arith, long, within)) in
+    omega (arith, ints, low, high, up)
+  where
+    near_order : AreInOrder near
+    near_order = pairs_left near run.behind (pairs_right run.before (near ++ run.behind) (subst AreInOrder run.parts order))
+      where
+        pairs_left : (front back : List Entry) → AreInOrder (front ++ back) → AreInOrder front
+        pairs_left front back r i j d less within =
+            let long = length-append front back in
+            let a = get_or_append_left front back d i (omega (arith, less, within)) in
+            let b = get_or_append_left front back d j within in
+            let first : (get_or (front ++ back) i d).area.x1 ≡ (get_or front i d).area.x1 = ap (λ (e : Entry). e.area.x1) a in
+            let second : (get_or (front ++ back) j d).area.x1 ≡ (get_or front j d).area.x1 = ap (λ (e : Entry). e.area.x1) b in
+            let up = r i j d less (omega (arith, long, within)) in
+            omega (arith, ints, first, second, up)
+
+        pairs_right : (front back : List Entry) → AreInOrder (front ++ back) → AreInOrder back
+        pairs_right front back r i j d less within =
+            let long = length-append front back in
+            let a = get_or-append-add front back i d in
+            let b = get_or-append-add front back j d in
+            let first : (get_or (front ++ back) (length front + i) d).area.x1 ≡ (get_or back i d).area.x1 = ap (λ (e : Entry). e.area.x1) a in
+            let second : (get_or (front ++ back) (length front + j) d).area.x1 ≡ (get_or back j d).area.x1 = ap (λ (e : Entry). e.area.x1) b in
+            let up = r (length front + i) (length front + j) d (omega (arith, less)) (omega (arith, long, within)) in
+            omega (arith, ints, first, second, up)
+
+pub others_narrow : (xs near : List Entry) (lo hi widest : ℤ) (own : ℕ) → IsNearRun xs lo hi near → All (λ e. (e.area.x2 -ℤ e.area.x1) ≤ℤ widest) xs →
+    All (λ s. (s.hi -ℤ s.lo) ≤ℤ widest) (map (λ (e : Entry). x_range e.area) (others_in near own))
+others_narrow xs near lo hi widest own run wide =
+    let p = λ (x : Entry). not (eqb x.own own) in
+    All-map (λ s. (s.hi -ℤ s.lo) ≤ℤ widest) (λ (e : Entry). x_range e.area) (others_in near own)
+    (All-filter p (λ e. (e.area.x2 -ℤ e.area.x1) ≤ℤ widest) near
+    (λ k d within.
+    All-contains (λ e. (e.area.x2 -ℤ e.area.x1) ≤ℤ widest) xs (get_or near k d) wide
+    (near_in xs near lo hi (get_or near k d) run (Contains-get_or near k d within))))

@@ -1,0 +1,174 @@
+-- What lanes tell of the boxes of teams' cells.
+use Rattle.std.proofs.Common.{◌≡◌, ℕ, ◌<◌, ℤ, ◌<ℤ◌, List, [], Option, Some, None, length, get_or, sym, ap, subst, ◌∙◌, arith}
+use Rattle.std.specs.Prelude.{Any, Contains}
+use Rattle.std.proofs.lemmas.Int.{ints}
+use Rattle.std.proofs.lemmas.List.{get_or_default}
+use Rattle.std.proofs.lemmas.List.Elements.{All-contains}
+use Rattle.lf_units.specs.declared.area.Rect.{Rect}
+use Rattle.lf_units.specs.Area.{Covers, SharesPoint}
+use Rattle.lf_spans.specs.declared.span.Span.{Span}
+use Rattle.lf_spans.specs.Spans.{AreApart, Holds, LiesIn}
+use Rattle.lf_cells.specs.declared.cell.CellId.{CellId}
+use Rattle.lf_occupancy.specs.declared.lane.Entry.{Entry}
+use Rattle.lf_occupancy.specs.declared.lane.Lane.{Lane}
+use Rattle.lf_occupancy.specs.declared.strip.Strip.{Strip}
+use Rattle.lf_occupancy.specs.Lanes.{IsLane, LiesInBox, IsLeast, cell_box, x_range}
+use Rattle.lf_occupancy.specs.Strips.{AreFreeTo, AreLanes, LiesFree, MeetsInOne}
+use Rattle.lf_occupancy.specs.Occupied.{Occupied, IsFirstMet, IsFreeInRow, IsFreeOver, IsOther, IsStripOf, MeetsInStrips, across, over}
+use Rattle.lf_occupancy.proofs.Finds.{no_strip, some_lane}
+use Rattle.lf_occupancy.proofs.Leasts.{least_alike, least_from_none}
+use Rattle.lf_occupancy.proofs.Runs.{apart_each, each_apart}
+
+-- the lane of a strip of the team
+team_lane : (o : Occupied) (lanes : List Lane) (team n : ℕ) (d : Strip) (e : Lane) → AreLanes o.strips o.boxes lanes → n < length o.strips →
+    (get_or o.strips n d).team ≡ team → IsLane (get_or o.boxes team []) (get_or o.strips n d).area (get_or lanes n e)
+team_lane o lanes team n d e are within of_team =
+    let At : ℕ → Type 0 = λ t. IsLane (get_or o.boxes t []) (get_or o.strips n d).area (get_or lanes n e) in
+    subst At of_team (are.each n d e within)
+
+met_in_lanes : (o : Occupied) (lanes : List Lane) (id : CellId) (rect : Rect) (own : ℕ) → AreLanes o.strips o.boxes lanes → MeetsInStrips o id rect own →
+    MeetsInOne o.strips lanes id.team rect id.own own
+met_in_lanes o lanes id rect own are m =
+    let strip = m.in_strip in
+    let n = strip.0 in
+    let g = strip.1 in
+    let within = strip.2 in
+    let is : get_or o.strips n g ≡ g = strip.3 in
+    let of_team : (get_or o.strips n g).team ≡ id.team = ap (λ (x : Strip). x.team) is ∙ strip.4.0 in
+    let covers = subst (λ (x : Strip). Covers x.area m.x m.y) (sym is) strip.4.1 in (
+      n,
+      record {
+        within = within;
+        of_team = λ d. ap (λ (x : Strip). x.team) (get_or_default o.strips n d g within) ∙ of_team;
+        meets = λ d.
+            let found = (team_lane o lanes id.team n g d are within of_team).held own m.x m.y
+            record { box = m.box; is = m.is.stands; in_area = covers; in_box = m.in_box } in (
+              found.0,
+              found.1,
+              found.2,
+              found.3,
+              record {
+                is = found.4.is;
+                other = m.is.other;
+                meets = record { x = m.x; y = m.y; in_first = m.in_rect; in_second = found.4.covers };
+              },
+            );
+      },
+    )
+
+met_in_strips : (o : Occupied) (lanes : List Lane) (id : CellId) (rect : Rect) (own : ℕ) → AreLanes o.strips o.boxes lanes →
+    MeetsInOne o.strips lanes id.team rect id.own own → MeetsInStrips o id rect own
+met_in_strips o lanes id rect own are (n, at) =
+    let within = at.within in
+    let many = are.many in
+    let lane = some_lane lanes n (omega (arith, many, within)) in
+    let met = at.meets lane in
+    let e = met.1 in
+    let m = met.4 in
+    let l = team_lane o lanes id.team n no_strip lane are within (at.of_team no_strip) in
+    let told = All-contains (λ z. (x y : ℤ) → Covers z.area x y → LiesInBox (get_or o.boxes id.team []) (get_or o.strips n no_strip).area z.own x y)
+    (get_or lanes n lane).entries.items e l.told (met.0, met.2, met.3) in
+    let lies = told m.meets.x m.meets.y m.meets.in_second in
+    let At : ℕ → Type 0 = λ k. cell_box (get_or o.boxes id.team []) k ≡ Some lies.box in
+    record {
+      box = lies.box;
+      is = record { other = m.other; stands = subst At m.is lies.is };
+      x = m.meets.x;
+      y = m.meets.y;
+      in_strip = (n, get_or o.strips n no_strip, within, get_or_default o.strips n _ no_strip within, (at.of_team no_strip, lies.in_area));
+      in_rect = m.meets.in_first;
+      in_box = lies.in_box;
+    }
+
+pub first_of_least : (o : Occupied) (lanes : List Lane) (id : CellId) (rect : Rect) (met : Option ℕ) → AreLanes o.strips o.boxes lanes →
+    IsLeast (MeetsInOne o.strips lanes id.team rect id.own) None met → IsFirstMet o id rect met
+first_of_least o lanes id rect met are least =
+    least_from_none (MeetsInStrips o id rect) met
+    (least_alike (MeetsInOne o.strips lanes id.team rect id.own) (MeetsInStrips o id rect) None met (λ own m. met_in_strips o lanes id rect own are m)
+    (λ own m. met_in_lanes o lanes id rect own are m) least)
+
+pub free_of_strips : (o : Occupied) (lanes : List Lane) (row : ℕ) (id : CellId) (window : Span) (free : List Span) → AreLanes o.strips o.boxes lanes →
+    AreFreeTo o.strips lanes row id.team id.own window (length o.strips) free → IsFreeInRow o row id window free
+free_of_strips o lanes row id window free are f = record {
+  rising = f.rising;
+  exact = λ s filled. (
+    λ lies. let h = (f.exact s filled).0 lies in (h.0, to s h.1.0 h.1.1.1),
+    λ both. (f.exact s filled).1 (both.0, back s both.1),
+  );
+}
+  where
+    xs : List Strip
+    xs = o.strips
+
+    to : (s : Span) (n : ℕ) → LiesFree xs lanes row id.team id.own s n → Any (λ g. IsStripOf row id.team g × IsFreeOver o id g s) xs
+    to s n l = (
+      n,
+      g,
+      l.within,
+      get_or_default xs n _ no_strip l.within,
+      (
+        record { in_row = l.in_row no_strip; of_team = l.of_team no_strip },
+        record {
+          within = l.inside no_strip;
+          clear = clear;
+        },
+      ),
+    )
+      where
+        g : Strip
+        g = get_or xs n no_strip
+
+        clear : (own : ℕ) (box : Rect) → IsOther o id own box → SharesPoint (over g s) box → ⊥
+        clear own box other shares =
+            let many = are.many in
+            let within = l.within in
+            let lane = some_lane lanes n (omega (arith, many, within)) in
+            let held : Holds s shares.x = record { low = shares.in_first.left; high = shares.in_first.right } in
+            let inside = l.inside no_strip shares.x held in
+            let found = (team_lane o lanes id.team n no_strip lane are within (l.of_team no_strip)).held own shares.x shares.y record {
+              box = box;
+              is = other.stands;
+              in_area = record { left = inside.low; right = inside.high; bottom = shares.in_first.bottom; top = shares.in_first.top };
+              in_box = shares.in_second;
+            } in
+            apart_each (get_or lanes n lane).entries.items id.own s (l.apart lane) found.1 (found.0, found.2, found.3)
+            (λ same. other.other (sym found.4.is ∙ same)) shares.x held record { low = found.4.covers.left; high = found.4.covers.right }
+
+    back : (s : Span) → Any (λ g. IsStripOf row id.team g × IsFreeOver o id g s) xs →
+        (n : ℕ) × ((n < length xs) × LiesFree xs lanes row id.team id.own s n)
+    back s (n, g, within, is, (strip, free_over)) = (
+      n,
+      (
+        within,
+        record {
+          within = within;
+          in_row = λ d. ap (λ (x : Strip). x.row) (same d) ∙ strip.in_row;
+          of_team = λ d. ap (λ (x : Strip). x.team) (same d) ∙ strip.of_team;
+          inside = λ d. subst (λ (x : Strip). LiesIn s (across x)) (sym (same d)) free_over.within;
+          apart = λ d. each_apart (get_or lanes n d).entries.items id.own s (λ e there other x first second. never d e there other x first second);
+        },
+      ),
+    )
+      where
+        same : (d : Strip) → get_or xs n d ≡ g
+        same d = get_or_default xs n d g within ∙ is
+
+        of_team : (get_or xs n g).team ≡ id.team
+        of_team = ap (λ (x : Strip). x.team) is ∙ strip.of_team
+
+        never : (d : Lane) (e : Entry) → Contains (get_or lanes n d).entries.items e → (e.own ≡ id.own → ⊥) → AreApart s (x_range e.area)
+        never d e there other x first second =
+            let lane = team_lane o lanes id.team n g d are within of_team in
+            let whole = All-contains (λ z. (z.area.x1 <ℤ z.area.x2) × (z.area.y1 <ℤ z.area.y2)) (get_or lanes n d).entries.items e
+            (λ k c inner. let w = lane.whole k c inner in (w.wide, w.high)) there in
+            let high = whole.1 in
+            let told = All-contains (λ z. (x y : ℤ) → Covers z.area x y → LiesInBox (get_or o.boxes id.team []) (get_or xs n g).area z.own x y)
+            (get_or lanes n d).entries.items e lane.told there in
+            let lies = told x e.area.y1 record { left = second.low; right = second.high; bottom = omega (arith, ints); top = high } in
+            let covers = subst (λ (z : Strip). Covers z.area x e.area.y1) is lies.in_area in
+            free_over.clear e.own lies.box record { other = other; stands = lies.is } record {
+              x = x;
+              y = e.area.y1;
+              in_first = record { left = first.low; right = first.high; bottom = covers.bottom; top = covers.top };
+              in_second = lies.in_box;
+            }

@@ -1,0 +1,23 @@
+use Rattle.std.proofs.Common.{◌≡◌, List, Option, get_or, [], sym, subst, refl, ap, ◌∙◌}
+use Rattle.lf_units.specs.declared.area.Rect.{Rect}
+use Rattle.lf_occupancy.specs.Lanes.{cell_box}
+use Rattle.lf_occupancy.specs.Strips.{AreLanes, HasCell}
+use Rattle.lf_occupancy.proofs.Reaching.{lanes_kept, lanes_orderly}
+use Rattle.lf_occupancy.proofs.change.move_box.Goals as goal
+
+pub follow-requires-clause-lanes : goal.follow-requires-clause-lanes
+follow-requires-clause-lanes c = lanes_orderly c.args.strips.now.list.items c.args.boxes.now.items c.args.lanes.now.items c.requires.lanes
+
+pub returns-in_err-follow-clause-lanes : goal.returns-in_err-follow-clause-lanes
+returns-in_err-follow-clause-lanes c =
+    lanes_kept c.args.strips.now.list.items c.args.boxes.now.items c.args.lanes.now.items c.follow.new.lanes.items c.in_err-follow.ensures.err c.requires.lanes
+
+pub returns-clause-lanes : goal.returns-clause-lanes
+returns-clause-lanes c =
+    let boxes = c.args.boxes.now.items in
+    let id = c.args.id.now in
+    let has = subst (λ (bs : List (List (Option Rect))). HasCell bs id) c.deref.ensures.value (c.if-not-has_cell.ensures.0 refl) in
+    let from : cell_box (get_or boxes id.team []) id.own ≡ c.box_of_cell-old.result =
+    sym (c.box_of_cell-old.ensures ∙ ap (λ (bs : List (List (Option Rect))). cell_box (get_or bs id.team []) id.own) c.deref-2.ensures.value) in
+    subst (λ (bs : List (List (Option Rect))). AreLanes c.args.strips.now.list.items bs c.follow.new.lanes.items) (sym c.set_box.ensures)
+    (c.in_ok-follow.ensures.ok boxes has from c.requires.lanes)

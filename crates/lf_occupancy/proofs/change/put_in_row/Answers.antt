@@ -1,0 +1,66 @@
+use Rattle.std.proofs.Common.{◌≡◌, ◌<◌, List, arith, get_or, length, ap, sym, subst, ◌∙◌}
+use Rattle.std.proofs.lemmas.List.{get_or_default}
+use Rattle.lf_occupancy.specs.declared.strip.Strip.{Strip}
+use Rattle.lf_occupancy.specs.Strips.{AreNear, IsPlaced, PutsIn}
+use Rattle.lf_occupancy.specs.Lanes.{IsPutIn, TakesOne}
+use Rattle.lf_occupancy.proofs.Finds.{no_strip}
+use Rattle.lf_occupancy.proofs.Changes.{none_changed, changed_further, between_is_reached}
+use Rattle.lf_occupancy.proofs.change.put_in_row.Goals as goal
+
+pub loop-n-init : goal.loop-n-init
+loop-n-init c = none_changed _ _ _ (λ n b. let f = b.from in let h = b.below in omega (arith, f, h))
+
+pub put_in-requires : goal.put_in-requires
+put_in-requires c =
+    let xs = c.args.strips.now.list.items in
+    let row = c.args.row in
+    let team = c.args.id.now.team in
+    let rect = c.args.rect.now in
+    let n = c.loop-n.n in
+    let start = c.near_strips-near.result.start in
+    let end = c.near_strips-near.result.end in
+    let lane = c.index_mut.result.now in
+    let near = subst (λ (zs : List Strip). AreNear zs row team rect.x1 rect.x2 start end) c.as_slice-list.ensures.value c.near_strips-near.ensures in
+    let bound = near.within in
+    let test = c.loop-n-test.true in
+    let many = c.requires.many in
+    let within : n < length xs = omega (arith, bound, test) in
+    let takes = c.requires.room n lane (within, λ d. (near.exact n d within).0 (c.loop-n.auto.n, test)) in
+    let same : get_or c.loop-n.lanes.items n lane ≡ get_or c.args.lanes.now.items n lane =
+    c.loop-n.invariant.others n lane (omega (arith, within, many)) (λ b. let h = b.below in omega (arith, h)) in
+    let one = subst TakesOne (sym same ∙ sym c.index_mut.ensures.value) takes in
+    let placed : IsPlaced c.args.strips.now.rows c.args.strips.now.height (get_or c.as_slice-list.result.now n no_strip) =
+    subst (λ (zs : List Strip). IsPlaced c.args.strips.now.rows c.args.strips.now.height (get_or zs n no_strip)) (sym c.as_slice-list.ensures.value)
+    (c.requires.strips.placed n no_strip within) in
+    record { order = one.order; within = record { low = placed.x_low; high = placed.x_high }; room = one.room }
+
+pub loop-n-preserved : goal.loop-n-preserved
+loop-n-preserved c =
+    let xs = c.args.strips.now.list.items in
+    let n = c.loop-n.n in
+    let list = c.as_slice-list.ensures.value in
+    let bound = c.near_strips-near.ensures.within in
+    let test = c.loop-n-test.true in
+    let many = c.requires.many in
+    let same = c.loop-n.invariant.many in
+    let long = ap (λ (zs : List Strip). length zs) list in
+    let inner : n < length xs = omega (arith, bound, test, long) in
+    let put : PutsIn xs c.args.id.now.own c.args.rect.now n c.index_mut.result.now c.put_in.new.lane =
+    λ d.
+    subst (λ (g : Strip). IsPutIn c.args.id.now.own c.args.rect.now g.area c.index_mut.result.now c.put_in.new.lane)
+    (ap (λ (zs : List Strip). get_or zs n no_strip) list ∙ get_or_default xs n no_strip d inner) c.put_in.ensures in
+    changed_further (PutsIn xs c.args.id.now.own c.args.rect.now) c.near_strips-near.result.start n c.near_strips-near.result.end c.args.lanes.now.items
+    c.loop-n.lanes.items c.index_mut.result.now c.put_in.new.lane c.loop-n.auto.n test (omega (arith, inner, many, same)) c.index_mut.ensures.value
+    put c.loop-n.invariant
+
+pub returns : goal.returns
+returns c =
+    let xs = c.args.strips.now.list.items in
+    let row = c.args.row in
+    let team = c.args.id.now.team in
+    let rect = c.args.rect.now in
+    let start = c.near_strips-near.result.start in
+    let end = c.near_strips-near.result.end in
+    let near = subst (λ (zs : List Strip). AreNear zs row team rect.x1 rect.x2 start end) c.as_slice-list.ensures.value c.near_strips-near.ensures in
+    between_is_reached xs row team start c.loop-n.n end rect (PutsIn xs c.args.id.now.own rect) c.args.lanes.now.items c.loop-n.lanes.items near
+    c.loop-n-test.false c.loop-n.invariant

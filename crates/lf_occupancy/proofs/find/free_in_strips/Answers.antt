@@ -1,0 +1,60 @@
+use Rattle.std.proofs.Common.{◌≡◌, ◌<◌, ◌+◌, ◌++◌, List, arith, length, get_or, ap, subst, sym, ◌∙◌}
+use Rattle.std.proofs.lemmas.List.{get_or_default}
+use Rattle.lf_spans.specs.declared.span.Span.{Span}
+use Rattle.lf_spans.specs.Spans.{IsFreeIn}
+use Rattle.lf_occupancy.specs.declared.strip.Strip.{Strip}
+use Rattle.lf_occupancy.specs.Lanes.{others_in, spans_in, x_range}
+use Rattle.lf_occupancy.specs.Strips.{AreNear}
+use Rattle.lf_occupancy.proofs.Frees.{AreFreeBetween, none_free, free_further, free_of_row}
+use Rattle.lf_occupancy.proofs.Finds.{no_strip}
+use Rattle.lf_occupancy.proofs.find.free_in_strips.Goals as goal
+
+pub loop-n-init : goal.loop-n-init
+loop-n-init c =
+    let start = c.near_strips-near.result.start in
+    let end = c.near_strips-near.result.end in
+    let xs = c.args.strips.now.list.items in
+    let lanes = c.args.lanes.now in
+    let own = c.args.id.now.own in
+    subst (λ (free : List Span). AreFreeBetween xs lanes own start start end c.args.window.now free) (sym c.new-free.ensures.items)
+    (none_free xs lanes own start end c.args.window.now)
+
+pub loop-n-preserved : goal.loop-n-preserved
+loop-n-preserved c =
+    let start = c.near_strips-near.result.start in
+    let end = c.near_strips-near.result.end in
+    let n = c.loop-n.n in
+    let xs = c.args.strips.now.list.items in
+    let lanes = c.args.lanes.now in
+    let row = c.args.row in
+    let team = c.args.id.now.team in
+    let own = c.args.id.now.own in
+    let window = c.args.window.now in
+    let lane = c.index-lanes-n.result in
+    let list = c.as_slice-list.ensures.value in
+    let part = c.in_ok-part.part.items in
+    let free = c.loop-n.free.items in
+    let near = subst (λ (zs : List Strip). AreNear zs row team window.lo window.hi start end) list c.near_strips-near.ensures in
+    let bound = near.within in
+    let test = c.loop-n-test.true in
+    let many = c.requires.lanes.many in
+    let within : n < length xs = omega (arith, bound, test) in
+    let g : Strip = get_or xs n no_strip in
+    let is : c.x_range_of.result ≡ x_range g.area = c.x_range_of.ensures ∙ ap (λ (zs : List Strip). x_range (get_or zs n no_strip).area) list in
+    let new = subst (λ (s : Span). IsFreeIn s (spans_in (others_in lane.entries.items own)) window part) is c.in_ok-part.ensures in
+    subst (λ (zs : List Span). AreFreeBetween xs lanes own start (n + 1) end window zs)
+    (sym (c.in_ok-extend_from_slice.ensures.items ∙ ap (λ (zs : List Span). free ++ zs) c.deref.ensures.value))
+    (free_further xs lanes row team own start n end window lane g free part c.requires.strips.in_order near c.loop-n.auto.n test
+    (omega (arith, within, many)) (λ k d inner. (c.requires.strips.placed k d inner).wide) c.index-lanes-n.is
+    (λ d. get_or_default xs n no_strip d within) c.loop-n.invariant new)
+
+pub returns : goal.returns
+returns c =
+    let start = c.near_strips-near.result.start in
+    let end = c.near_strips-near.result.end in
+    let xs = c.args.strips.now.list.items in
+    let row = c.args.row in
+    let team = c.args.id.now.team in
+    let window = c.args.window.now in
+    let near = subst (λ (zs : List Strip). AreNear zs row team window.lo window.hi start end) c.as_slice-list.ensures.value c.near_strips-near.ensures in
+    free_of_row xs c.args.lanes.now row team c.args.id.now.own start c.loop-n.n end window c.loop-n.free.items near c.loop-n-test.false c.loop-n.invariant

@@ -1,0 +1,37 @@
+-- The steps of making an occupancy.
+use Rattle.std.specs.Prelude.{◌≡◌, ℕ, pos, List, [], All, Contains, map, length, Option, None, Some, slice_index_or, replicate}
+use Rattle.lf_units.specs.declared.area.Rect.{Rect}
+use Rattle.lf_floorplan.specs.declared.frame.Frame.{Frame}
+use Rattle.lf_segments.specs.declared.segment.Segment.{Segment}
+use Rattle.lf_cells.specs.declared.cell.Cell.{Cell}
+use Rattle.lf_cells.specs.declared.cell.CellId.{CellId}
+use Rattle.lf_cells.specs.Cells.{Cells, cells_of, cell_at}
+use Rattle.lf_occupancy.specs.declared.lane.Lane.{Lane}
+use Rattle.lf_occupancy.specs.declared.strips.Strips.{Strips}
+use Rattle.lf_occupancy.specs.Floorplans.{box_of, strip_of}
+use Rattle.lf_occupancy.specs.Lanes.{cell_box}
+use Rattle.lf_occupancy.specs.Strips.{AreStrips}
+
+-- the strips of a frame's segments
+pub record AreLaidOut (f : Frame) (segments : List Segment) (s : Strips) : Type 0 where
+  pub list : s.list.items ≡ map (strip_of f) segments
+  pub strips : AreStrips s
+
+-- nothing stands in the lane
+pub record IsBare (l : Lane) : Type 0 where
+  pub entries : l.entries.items ≡ []
+  pub widest : l.widest ≡ pos 0
+
+-- so many lanes in which nothing stands
+pub record AreBare (count : ℕ) (lanes : List Lane) : Type 0 where
+  pub many : length lanes ≡ count
+  pub each : All IsBare lanes
+
+-- each team has a box for each of its cells, and each is none
+abbrev pub AreNowhere : Cells → List (List (Option Rect)) → Type 0
+AreNowhere cells boxes = (team : ℕ) → slice_index_or boxes team [] ≡ replicate (length (cells_of cells team)) None
+
+-- each team has a box for each of its cells, and those of these ids are the cells' boxes
+pub record AreFilled (f : Frame) (cells : Cells) (ids : List CellId) (boxes : List (List (Option Rect))) : Type 0 where
+  pub many : (team : ℕ) → length (slice_index_or boxes team []) ≡ length (cells_of cells team)
+  pub done : (id : CellId) (c : Cell) → Contains ids id → cell_at cells id ≡ Some c → cell_box (slice_index_or boxes id.team []) id.own ≡ box_of f c

@@ -1,0 +1,185 @@
+//! How what stands in strips is changed.
+
+ghost use Rattle.std.specs.Prelude.{AllPairs, ◌≡◌, ◌≢◌, ℕ, None, OnErr, OnOk, Some, length, slice_index_or};
+ghost use Rattle.lf_occupancy.specs.declared.lane.Lane.{Lane};
+ghost use Rattle.lf_occupancy.specs.Lanes.{HasRoom, IsPruned, TakesOne};
+ghost use Rattle.lf_occupancy.specs.Strips.{AreChanged, AreKept, AreLanes, AreOrderly, AreStrips, Follows, IsReached};
+ghost use Rattle.lf_occupancy.specs.Strips.{IsReachedIn, CanTake, HaveRoom, KeepRoom, PutInRow, PutInRows, boxes_set};
+
+use crate::boxes::{TeamBoxes, box_of_cell, has_cell, set_box};
+use crate::lane::{Lane, make_room, prune, put_in};
+use crate::strips::{Strips, near_strips, rows_near};
+use lf_cells::CellId;
+use lf_segments::RowEntry;
+use lf_units::Rect;
+use std::alloc::AllocError;
+
+/// Makes room for one more entry in the strips of a row and the cell's team that the rectangle
+/// reaches. Also on `Err` each strip holds what it held.
+fn make_room_in_row(
+    lanes: &mut Vec<Lane>,
+    strips: &Strips,
+    row: usize,
+    id: &CellId,
+    rect: &Rect,
+) -> Result<(), AllocError>
+    requires strips { AreStrips strips.now }
+    requires many { length lanes.old.items ≡ length strips.now.list.items }
+    ensures kept { AreKept lanes.old.items lanes.new.items }
+    ensures ok { OnOk result (HaveRoom (IsReachedIn strips.now.list.items row id.now.team rect.now) lanes.new.items) }
+{
+    let list = strips.list.as_slice();
+    let near = near_strips(list, row, id.team as usize, &rect.x1, &rect.x2);
+    for n in near.start..near.end {
+        make_room(&mut lanes[n])?;
+    }
+    Ok(())
+}
+
+/// The same for all these rows.
+fn make_room_in_rows(
+    lanes: &mut Vec<Lane>,
+    strips: &Strips,
+    rows: &[RowEntry],
+    id: &CellId,
+    rect: &Rect,
+) -> Result<(), AllocError>
+    requires strips { AreStrips strips.now }
+    requires many { length lanes.old.items ≡ length strips.now.list.items }
+    ensures kept { AreKept lanes.old.items lanes.new.items }
+    ensures ok { OnOk result (HaveRoom (IsReached strips.now.list.items rows.now id.now.team rect.now) lanes.new.items) }
+{
+    for entry in rows {
+        make_room_in_row(lanes, strips, entry.row, id, rect)?;
+    }
+    Ok(())
+}
+
+/// Takes the cell's entries out of the strips of a row and the cell's team that the rectangle reaches.
+fn prune_row(lanes: &mut Vec<Lane>, strips: &Strips, row: usize, id: &CellId, rect: &Rect)
+    requires strips { AreStrips strips.now }
+    requires many { length lanes.old.items ≡ length strips.now.list.items }
+    ensures { AreChanged (IsReachedIn strips.now.list.items row id.now.team rect.now) (λ n. IsPruned id.now.own) lanes.old.items lanes.new.items }
+{
+    let list = strips.list.as_slice();
+    let near = near_strips(list, row, id.team as usize, &rect.x1, &rect.x2);
+    for n in near.start..near.end {
+        prune(&mut lanes[n], id.own);
+    }
+}
+
+/// The same for all these rows.
+fn prune_rows(lanes: &mut Vec<Lane>, strips: &Strips, rows: &[RowEntry], id: &CellId, rect: &Rect)
+    requires strips { AreStrips strips.now }
+    requires many { length lanes.old.items ≡ length strips.now.list.items }
+    requires once { AllPairs (λ a b. a.row ≢ b.row) rows.now }
+    ensures { AreChanged (IsReached strips.now.list.items rows.now id.now.team rect.now) (λ n. IsPruned id.now.own) lanes.old.items lanes.new.items }
+{
+    for entry in rows {
+        prune_row(lanes, strips, entry.row, id, rect);
+    }
+}
+
+/// Puts the parts of the cell's box into the strips of a row and the cell's team that it reaches.
+fn put_in_row(lanes: &mut Vec<Lane>, strips: &Strips, row: usize, id: &CellId, rect: &Rect)
+    requires strips { AreStrips strips.now }
+    requires many { length lanes.old.items ≡ length strips.now.list.items }
+    requires room { CanTake (IsReachedIn strips.now.list.items row id.now.team rect.now) lanes.old.items }
+    ensures { PutInRow strips.now row id.now rect.now lanes.old.items lanes.new.items }
+{
+    let list = strips.list.as_slice();
+    let near = near_strips(list, row, id.team as usize, &rect.x1, &rect.x2);
+    for n in near.start..near.end {
+        put_in(&mut lanes[n], &list[n].area, id.own, rect);
+    }
+}
+
+/// The same for all these rows.
+fn put_in_rows(lanes: &mut Vec<Lane>, strips: &Strips, rows: &[RowEntry], id: &CellId, rect: &Rect)
+    requires strips { AreStrips strips.now }
+    requires many { length lanes.old.items ≡ length strips.now.list.items }
+    requires once { AllPairs (λ a b. a.row ≢ b.row) rows.now }
+    requires room { CanTake (IsReached strips.now.list.items rows.now id.now.team rect.now) lanes.old.items }
+    ensures { PutInRows strips.now rows.now id.now rect.now lanes.old.items lanes.new.items }
+{
+    for entry in rows {
+        put_in_row(lanes, strips, entry.row, id, rect);
+    }
+}
+
+/// Takes the cell out of all strips that its old box reaches.
+fn take_out(lanes: &mut Vec<Lane>, strips: &Strips, id: &CellId, old: &Option<Rect>)
+    requires strips { AreStrips strips.now }
+    requires many { length lanes.old.items ≡ length strips.now.list.items }
+    ensures follows { Follows strips.now id.now old.now None lanes.old.items lanes.new.items }
+    ensures room { KeepRoom lanes.old.items lanes.new.items }
+{
+    if let Some(rect) = old {
+        prune_rows(lanes, strips, rows_near(strips, rect), id, rect);
+    }
+}
+
+/// Puts the cell into all strips that its new box reaches, after room was made there, in place of its
+/// old box.
+fn replace_by(
+    lanes: &mut Vec<Lane>,
+    strips: &Strips,
+    id: &CellId,
+    old: &Option<Rect>,
+    rect: &Rect,
+) -> Result<(), AllocError>
+    requires strips { AreStrips strips.now }
+    requires lanes { AreOrderly strips.now.list.items lanes.old.items }
+    ensures ok { OnOk result (Follows strips.now id.now old.now (Some rect.now) lanes.old.items lanes.new.items) }
+    ensures err { OnErr result (AreKept lanes.old.items lanes.new.items) }
+{
+    let rows = rows_near(strips, rect);
+    make_room_in_rows(lanes, strips, rows, id, rect)?;
+    take_out(lanes, strips, id, old);
+    put_in_rows(lanes, strips, rows, id, rect);
+    Ok(())
+}
+
+/// Lets the lanes follow where the cell's old box is replaced. On `Err` they hold what they held.
+fn follow(
+    lanes: &mut Vec<Lane>,
+    strips: &Strips,
+    id: &CellId,
+    old: &Option<Rect>,
+    new: &Option<Rect>,
+) -> Result<(), AllocError>
+    requires strips { AreStrips strips.now }
+    requires lanes { AreOrderly strips.now.list.items lanes.old.items }
+    ensures ok { OnOk result (Follows strips.now id.now old.now new.now lanes.old.items lanes.new.items) }
+    ensures err { OnErr result (AreKept lanes.old.items lanes.new.items) }
+{
+    if let Some(rect) = new {
+        return replace_by(lanes, strips, id, old, rect);
+    }
+    take_out(lanes, strips, id, old);
+    Ok(())
+}
+
+/// Gives the cell its new box, or none, and lets the lanes follow. On `Err` nothing is changed; where
+/// there is no such cell, nothing is either.
+pub(crate) fn move_box(
+    lanes: &mut Vec<Lane>,
+    boxes: &mut Vec<TeamBoxes>,
+    strips: &Strips,
+    id: &CellId,
+    rect: &Option<Rect>,
+) -> Result<(), AllocError>
+    requires strips { AreStrips strips.now }
+    requires lanes { AreLanes strips.now.list.items boxes.old.items lanes.old.items }
+    ensures lanes { AreLanes strips.now.list.items boxes.new.items lanes.new.items }
+    ensures ok { OnOk result (boxes.new.items ≡ boxes_set boxes.old.items id.now rect.now) }
+    ensures err { OnErr result (boxes.new.items ≡ boxes.old.items) }
+{
+    if !has_cell(boxes, id) {
+        return Ok(());
+    }
+    let old = box_of_cell(boxes, id);
+    follow(lanes, strips, id, &old, rect)?;
+    set_box(boxes, id, rect);
+    Ok(())
+}

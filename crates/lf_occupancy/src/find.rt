@@ -1,0 +1,73 @@
+//! What is met in strips, and what is free in them.
+
+ghost use Rattle.std.specs.Prelude.{All, AllPairs, IfOk, None, negsuc, ◌≤ℤ◌, ◌<ℤ◌, length};
+ghost use Rattle.lf_occupancy.specs.Lanes.{IsLeast};
+ghost use Rattle.lf_occupancy.specs.Strips.{AreFreeTo, AreOrderly, AreStrips, ComesBefore, IsPlaced, MeetsInOne, MeetsInRow};
+
+use crate::lane::{Lane, free_in_lane, least_in_lane, x_range_of};
+use crate::strip::Strip;
+use crate::strips::{Strips, near_strips, rows_near};
+use lf_cells::CellId;
+use lf_units::{Rect, Span};
+use std::alloc::{AllocError, Global};
+
+/// The least number of a cell, other than this one, of which an entry in a strip of the row and the
+/// cell's team shares a point with the rectangle; the number so far where that is less, or none is met.
+fn least_in_row(
+    strips: &Strips,
+    lanes: &[Lane],
+    row: usize,
+    id: &CellId,
+    rect: &Rect,
+    so_far: Option<u32>,
+) -> Option<u32>
+    requires strips { AreStrips strips.now }
+    requires lanes { AreOrderly strips.now.list.items lanes.now }
+    ensures { IsLeast (MeetsInRow strips.now.list.items lanes.now row id.now.team rect.now id.now.own) so_far result }
+{
+    let list = strips.list.as_slice();
+    let near = near_strips(list, row, id.team as usize, &rect.x1, &rect.x2);
+    let mut least = so_far;
+    for n in near.start..near.end {
+        least = least_in_lane(&lanes[n], &list[n].area.x1, rect, id.own, least);
+    }
+    least
+}
+
+/// The same in the strips of all rows: none where none is met.
+pub(crate) fn least_met(strips: &Strips, lanes: &[Lane], id: &CellId, rect: &Rect) -> Option<u32>
+    requires strips { AreStrips strips.now }
+    requires lanes { AreOrderly strips.now.list.items lanes.now }
+    ensures { IsLeast (MeetsInOne strips.now.list.items lanes.now id.now.team rect.now id.now.own) None result }
+{
+    let mut least = None;
+    for entry in rows_near(strips, rect) {
+        least = least_in_row(strips, lanes, entry.row, id, rect, least);
+    }
+    least
+}
+
+/// What a window shows of the spans of a row's strips that other cells of the cell's team than this
+/// one leave free.
+pub(crate) fn free_in_strips(
+    alloc: Global,
+    strips: &Strips,
+    lanes: &[Lane],
+    row: usize,
+    id: &CellId,
+    window: &Span,
+) -> Result<Vec<Span>, AllocError>
+    requires strips { AreStrips strips.now }
+    requires lanes { AreOrderly strips.now.list.items lanes.now }
+    requires low { negsuc 4611686018427387903 ≤ℤ window.now.lo }
+    ensures { IfOk result (λ free. AreFreeTo strips.now.list.items lanes.now row id.now.team id.now.own window.now (length strips.now.list.items) free.items) }
+{
+    let list = strips.list.as_slice();
+    let near = near_strips(list, row, id.team as usize, &window.lo, &window.hi);
+    let mut free = Vec::new(alloc);
+    for n in near.start..near.end {
+        let part = free_in_lane(alloc, &lanes[n], &x_range_of(&list[n].area), id.own, window)?;
+        free.extend_from_slice(&part)?;
+    }
+    Ok(free)
+}

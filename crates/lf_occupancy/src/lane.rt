@@ -1,0 +1,220 @@
+//! What stands in one strip.
+
+ghost use Rattle.std.specs.Prelude.{All, ◌≡◌, ◌↔◌, ◌<◌, ◌≤◌, ◌≤ℤ◌, ◌<ℤ◌, ℕ, ◌++◌, ◌∷◌, [], IfOk, IsTrue, OnOk, OnErr, insert, length, negsuc, slice_index_or};
+ghost use Rattle.lf_spans.specs.Spans.{IsFreeIn};
+ghost use Rattle.lf_occupancy.specs.declared.lane.Entry.{Entry};
+ghost use Rattle.lf_occupancy.specs.Lanes.{AreInOrder, HasRoom, IsKept, IsLeast, IsNearRun, IsOrderly, IsPart, IsPruned, IsWhole};
+ghost use Rattle.lf_occupancy.specs.Lanes.{IsJoined, IsPutIn, IsWithinDef, MeetsEntry, MeetsOne, entry_for, others_in, spans_in, x_range};
+
+use lf_spans::{HasSpan, Span, free_in};
+use lf_units::Rect;
+use std::alloc::{AllocError, Global};
+
+/// The part of a strip where the box of a cell lies, in database units. A point lies in it.
+#[derive(Clone, Copy, Debug, PartialEq, Eq)]
+pub(crate) struct Entry {
+    /// The position of the cell among its team's cells.
+    pub(crate) own: u32,
+    pub(crate) area: Rect,
+}
+
+impl HasSpan for Entry {
+    ghost span = { λ e. x_range e.area };
+
+    fn span(&self) -> Span {
+        x_range_of(&self.area)
+    }
+}
+
+/// The entries of one strip, in the order of their left edges, and a width that none exceeds, in
+/// database units.
+#[derive(Drop)]
+pub(crate) struct Lane {
+    pub(crate) entries: Vec<Entry>,
+    pub(crate) widest: i64,
+}
+
+/// The x range of a rectangle.
+pub(crate) fn x_range_of(rect: &Rect) -> Span
+    ensures { result ≡ x_range rect.now }
+{
+    Span {
+        lo: rect.x1,
+        hi: rect.x2,
+    }
+}
+
+/// The part of the first rectangle that the second one covers.
+pub(crate) fn part_of(a: &Rect, b: &Rect) -> Rect
+    ensures { IsPart a.now b.now result }
+{
+    Rect {
+        x1: a.x1.max(b.x1),
+        y1: a.y1.max(b.y1),
+        x2: a.x2.min(b.x2),
+        y2: a.y2.min(b.y2),
+    }
+}
+
+/// Whether a point lies in the rectangle.
+pub(crate) fn is_whole(rect: &Rect) -> bool
+    ensures { IsTrue result ↔ IsWhole rect.now }
+{
+    if rect.x2 <= rect.x1 {
+        return false;
+    }
+    rect.y1 < rect.y2
+}
+
+/// How many of the entries begin before x.
+pub(crate) fn count_before(entries: &[Entry], x: &i64) -> usize
+    requires { AreInOrder entries.now }
+    ensures within { result ≤ length entries.now }
+    ensures below { (k : ℕ) → (d : Entry) → k < result → (slice_index_or entries.now k d).area.x1 <ℤ x.now }
+    ensures rest { (k : ℕ) → (d : Entry) → result ≤ k → k < length entries.now → x.now ≤ℤ (slice_index_or entries.now k d).area.x1 }
+{
+    entries.partition_point(|entry| entry.area.x1 < *x)
+}
+
+/// The entries that lie near a range of x. They are found by bisection.
+pub(crate) fn near_entries<'a>(lane: &'a Lane, lo: &i64, hi: &i64) -> &'a [Entry]
+    requires orderly { IsOrderly lane.now }
+    requires low { negsuc 4611686018427387903 ≤ℤ lo.now }
+    ensures { IsNearRun lane.now.entries.items lo.now hi.now result.now }
+{
+    let entries = lane.entries.as_slice();
+    let from = *lo - lane.widest;
+    let rest = &entries[count_before(entries, &from)..];
+    &rest[..count_before(rest, hi)]
+}
+
+/// The number of the cell where it is the lesser one, is not `but`, and the entry shares a point with
+/// the rectangle; else the number so far.
+fn lesser(entry: &Entry, rect: &Rect, but: u32, so_far: Option<u32>) -> Option<u32>
+    ensures { IsLeast (λ own. MeetsEntry rect.now but own entry.now) so_far result }
+{
+    if entry.own == but {
+        return so_far;
+    }
+    if let Some(least) = so_far
+        && least <= entry.own
+    {
+        return so_far;
+    }
+    if rect.overlaps(&entry.area) {
+        Some(entry.own)
+    } else {
+        so_far
+    }
+}
+
+/// The same over each of the entries, one after another.
+fn least_in(entries: &[Entry], rect: &Rect, but: u32, so_far: Option<u32>) -> Option<u32>
+    ensures { IsLeast (MeetsOne entries.now rect.now but) so_far result }
+{
+    let mut least = so_far;
+    for entry in entries {
+        least = lesser(entry, rect, but, least);
+    }
+    least
+}
+
+/// The same over the entries of a lane whose strip begins at `left`. Only those near the rectangle are
+/// looked at.
+pub(crate) fn least_in_lane(
+    lane: &Lane,
+    left: &i64,
+    rect: &Rect,
+    but: u32,
+    so_far: Option<u32>,
+) -> Option<u32>
+    requires orderly { IsOrderly lane.now }
+    requires inside { All (λ e. left.now ≤ℤ e.area.x1) lane.now.entries.items }
+    requires low { negsuc 2147483647 ≤ℤ left.now }
+    ensures { IsLeast (λ own. MeetsOne lane.now.entries.items rect.now but own) so_far result }
+{
+    let lo = rect.x1.max(*left);
+    least_in(near_entries(lane, &lo, &rect.x2), rect, but, so_far)
+}
+
+/// The entries of all cells but this one.
+fn others_of(alloc: Global, entries: &[Entry], own: u32) -> Result<Vec<Entry>, AllocError>
+    ensures { IfOk result (λ others. others.items ≡ others_in entries.now own) }
+{
+    let mut others = Vec::new(alloc);
+    for entry in entries {
+        if entry.own != own {
+            others.push(*entry)?;
+        }
+    }
+    Ok(others)
+}
+
+/// What a window shows of the spans of a strip that other cells than this one leave free. Only what
+/// lies near the window is looked at.
+pub(crate) fn free_in_lane(
+    alloc: Global,
+    lane: &Lane,
+    strip: &Span,
+    own: u32,
+    window: &Span,
+) -> Result<Vec<Span>, AllocError>
+    requires orderly { IsOrderly lane.now }
+    requires low { negsuc 4611686018427387903 ≤ℤ window.now.lo }
+    ensures { IfOk result (λ free. IsFreeIn strip.now (spans_in (others_in lane.now.entries.items own)) window.now free.items) }
+{
+    let near = near_entries(lane, &window.lo, &window.hi);
+    let others = others_of(alloc, near, own)?;
+    free_in(alloc, strip, others.as_slice(), lane.widest, window)
+}
+
+/// Takes the cell's entries out.
+pub(crate) fn prune(lane: &mut Lane, own: u32)
+    ensures { IsPruned own lane.old lane.new }
+{
+    lane.entries.retain(|entry| entry.own != own);
+}
+
+/// Makes room for one more entry.
+pub(crate) fn make_room(lane: &mut Lane) -> Result<(), AllocError>
+    ensures kept { IsKept lane.old lane.new }
+    ensures ok { OnOk result (HasRoom lane.new) }
+{
+    lane.entries.reserve(1)
+}
+
+/// Puts an entry at its place in the order. No memory is taken.
+fn join(lane: &mut Lane, entry: &Entry)
+    requires order { AreInOrder lane.old.entries.items }
+    requires within { IsWithinDef entry.now.area }
+    requires whole { IsWhole entry.now.area }
+    requires room { HasRoom lane.old }
+    ensures { IsJoined entry.now lane.old lane.new }
+{
+    let at = count_before(lane.entries.as_slice(), &entry.area.x1);
+    lane.widest = lane.widest.max(entry.area.x2 - entry.area.x1);
+    if lane.entries.insert(at, *entry).is_err() {
+        unreachable!();
+    }
+}
+
+/// The entry of a cell for a part of its strip.
+fn entry_of(own: u32, area: &Rect) -> Entry
+    ensures { result ≡ entry_for own area.now }
+{
+    Entry { own, area: *area }
+}
+
+/// Puts in the part of the cell's box that lies in the strip's area, where there is one. No memory is
+/// taken.
+pub(crate) fn put_in(lane: &mut Lane, area: &Rect, own: u32, rect: &Rect)
+    requires order { AreInOrder lane.old.entries.items }
+    requires within { IsWithinDef area.now }
+    requires room { HasRoom lane.old }
+    ensures { IsPutIn own rect.now area.now lane.old lane.new }
+{
+    let part = part_of(area, rect);
+    if is_whole(&part) {
+        join(lane, &entry_of(own, &part));
+    }
+}
