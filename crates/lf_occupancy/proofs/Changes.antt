@@ -7,7 +7,7 @@ use Rattle.lf_units.specs.declared.area.Rect.{Rect}
 use Rattle.lf_segments.specs.declared.rows_by_y.RowEntry.{RowEntry}
 use Rattle.lf_occupancy.specs.declared.lane.Lane.{Lane}
 use Rattle.lf_occupancy.specs.declared.strip.Strip.{Strip}
-use Rattle.lf_occupancy.specs.Lanes.{HasRoom, IsKept}
+use Rattle.lf_occupancy.specs.Lanes.{HasRoomOf, IsKept}
 use Rattle.lf_occupancy.specs.Strips.{AreChanged, AreKept, AreNear, IsNear, IsReached, IsReachedIn}
 use Rattle.lf_occupancy.proofs.Lists.{any_more, any_less}
 use Rattle.lf_occupancy.proofs.Finds.{no_strip}
@@ -155,38 +155,38 @@ kept_set lanes k lane new within is kept = record {
     order n = elim (eqb_tells n k) [ inl h ↦ inl h.1 | inr h ↦ inr h.1 ]
 
 -- lanes that are kept keep their room
-pub room_kept : (old new : Lane) → IsKept old new → HasRoom old → HasRoom new
-room_kept old new kept room = let m = kept.many in let r = kept.room in omega (arith, m, r, room)
+pub room_kept : (more : ℕ) (old new : Lane) → IsKept old new → HasRoomOf more old → HasRoomOf more new
+room_kept more old new kept room = let m = kept.many in let r = kept.room in omega (arith, m, r, room)
 
-pub room_further : (start k end : ℕ) (lanes : List Lane) (lane new : Lane) → k < length lanes → lane ≡ get_or lanes k lane → HasRoom new →
-    ((n : ℕ) (e : Lane) → IsBetween start k end n → HasRoom (get_or lanes n e)) →
-    (n : ℕ) (e : Lane) → IsBetween start (k + 1) end n → HasRoom (get_or (set lanes k new) n e)
-room_further start k end lanes lane new within is room before n e b = elim (order b.below) [
+pub room_further : (more start k end : ℕ) (lanes : List Lane) (lane new : Lane) → k < length lanes → lane ≡ get_or lanes k lane → HasRoomOf more new →
+    ((n : ℕ) (e : Lane) → IsBetween start k end n → HasRoomOf more (get_or lanes n e)) →
+    (n : ℕ) (e : Lane) → IsBetween start (k + 1) end n → HasRoomOf more (get_or (set lanes k new) n e)
+room_further more start k end lanes lane new within is room before n e b = elim (order b.below) [
   | inl less ↦
       let apart : n ≢ k = omega (arith, less) in
-      subst HasRoom (sym (get_or-set_other lanes k n new e apart)) (before n e record { from = b.from; below = less; until = b.until })
+      subst (HasRoomOf more) (sym (get_or-set_other lanes k n new e apart)) (before n e record { from = b.from; below = less; until = b.until })
   | inr same ↦
-      let here : HasRoom (get_or (set lanes k new) k e) = subst HasRoom (sym (get_or-set_same lanes k new e within)) room in
-      subst (λ (m : ℕ). HasRoom (get_or (set lanes k new) m e)) (sym same) here
+      let here : HasRoomOf more (get_or (set lanes k new) k e) = subst (HasRoomOf more) (sym (get_or-set_same lanes k new e within)) room in
+      subst (λ (m : ℕ). HasRoomOf more (get_or (set lanes k new) m e)) (sym same) here
 ]
   where
     order : n < k + 1 → (n < k) ⊎ (n ≡ k)
     order less = grind arith
 
-pub room_of_row : (xs : List Strip) (row team start k end : ℕ) (rect : Rect) (lanes : List Lane) → AreNear xs row team rect.x1 rect.x2 start end → end ≤ k →
-    ((n : ℕ) (e : Lane) → IsBetween start k end n → HasRoom (get_or lanes n e)) →
-    (n : ℕ) (e : Lane) → IsReachedIn xs row team rect n → HasRoom (get_or lanes n e)
-room_of_row xs row team start k end rect lanes near past room n e r =
+pub room_of_row : (more : ℕ) (xs : List Strip) (row team start k end : ℕ) (rect : Rect) (lanes : List Lane) → AreNear xs row team rect.x1 rect.x2 start end → end ≤ k →
+    ((n : ℕ) (e : Lane) → IsBetween start k end n → HasRoomOf more (get_or lanes n e)) →
+    (n : ℕ) (e : Lane) → IsReachedIn xs row team rect n → HasRoomOf more (get_or lanes n e)
+room_of_row more xs row team start k end rect lanes near past room n e r =
     let both = (near.exact n no_strip r.0).1 (r.1 no_strip) in
     let until = both.1 in
     room n e record { from = both.0; below = omega (arith, until, past); until = until }
 
-pub rooms_further : (xs : List Strip) (rows : List RowEntry) (i : ℕ) (r : RowEntry) (team : ℕ) (rect : Rect) (old new : List Lane) → i < length rows →
-    r ≡ get_or rows i r → length old ≡ length xs → AreKept old new → ((n : ℕ) (e : Lane) → IsReached xs (take i rows) team rect n → HasRoom (get_or old n e)) →
-    ((n : ℕ) (e : Lane) → IsReachedIn xs r.row team rect n → HasRoom (get_or new n e)) →
-    (n : ℕ) (e : Lane) → IsReached xs (take (i + 1) rows) team rect n → HasRoom (get_or new n e)
-rooms_further xs rows i r team rect old new within is many kept before here n e reached =
+pub rooms_further : (more : ℕ) (xs : List Strip) (rows : List RowEntry) (i : ℕ) (r : RowEntry) (team : ℕ) (rect : Rect) (old new : List Lane) → i < length rows →
+    r ≡ get_or rows i r → length old ≡ length xs → AreKept old new → ((n : ℕ) (e : Lane) → IsReached xs (take i rows) team rect n → HasRoomOf more (get_or old n e)) →
+    ((n : ℕ) (e : Lane) → IsReachedIn xs r.row team rect n → HasRoomOf more (get_or new n e)) →
+    (n : ℕ) (e : Lane) → IsReached xs (take (i + 1) rows) team rect n → HasRoomOf more (get_or new n e)
+rooms_further more xs rows i r team rect old new within is many kept before here n e reached =
     elim (any_less (λ (x : RowEntry). (d : Strip) → IsNear x.row team rect.x1 rect.x2 (get_or xs n d)) rows i r within is reached.1) [
-      | inl first ↦ room_kept (get_or old n e) (get_or new n e) (kept.each n e (let w = reached.0 in omega (arith, w, many))) (before n e (reached.0, first))
+      | inl first ↦ room_kept more (get_or old n e) (get_or new n e) (kept.each n e (let w = reached.0 in omega (arith, w, many))) (before n e (reached.0, first))
       | inr last ↦ here n e (reached.0, last)
     ]

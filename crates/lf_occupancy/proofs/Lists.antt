@@ -1,6 +1,6 @@
 -- Lists: what a filter keeps of them, and parts of a list.
 use Rattle.std.proofs.Common.{◌≡◌, ◌⊎◌, inl, inr, ℕ, zero, suc, ◌+◌, ◌<◌, Bool, true, false, cond, List, [], ◌∷◌, ◌++◌, length, get_or}
-use Rattle.std.proofs.Common.{take, sym, ap, subst, ◌∙◌, arith}
+use Rattle.std.proofs.Common.{take, map, refl, sym, ap, subst, ◌∙◌, arith}
 use Rattle.std.specs.Prelude.{All, AllPairs, Any, Contains, filter}
 use Rattle.std.proofs.lemmas.List.{take_more}
 use Rattle.std.proofs.lemmas.List.Elements.{All-append, All-contains, All-contains_itself, All-filter}
@@ -74,3 +74,13 @@ pairs_append R [] ys cross first second = second
 pairs_append R (x ∷ xs) ys cross first second =
     pairs_cons R x (xs ++ ys) (All-append (R x) xs ys (pairs_head R x xs first) (cross 0 x (omega arith)))
     (pairs_append R xs ys (λ k d within. cross (suc k) d (omega (arith, within))) (pairs_tail R x xs first) second)
+
+-- lists whose elements have the same image each
+pub maps_alike : {X Y : Type 0} (f : X → Y) (xs ys : List X) → length xs ≡ length ys →
+    ((n : ℕ) (d : X) → n < length ys → f (get_or xs n d) ≡ f (get_or ys n d)) → map f xs ≡ map f ys
+maps_alike f [] [] long each = refl
+maps_alike f [] (y ∷ ys) long each = absurd (omega (arith, long))
+maps_alike f (x ∷ xs) [] long each = absurd (omega (arith, long))
+maps_alike f (x ∷ xs) (y ∷ ys) long each =
+    ap (λ z. z ∷ map f xs) (each 0 x (omega arith))
+    ∙ ap (λ zs. f y ∷ zs) (maps_alike f xs ys (omega (arith, long)) (λ n d within. each (suc n) d (omega (arith, within))))

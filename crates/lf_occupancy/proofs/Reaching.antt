@@ -1,13 +1,16 @@
 -- Which strips a rectangle reaches, and what becomes of the lanes when a cell's box changes.
-use Rattle.std.proofs.Common.{◌≡◌, ◌≢◌, ◌⊎◌, inl, inr, ℕ, ◌+◌, ◌<◌, ℤ, ◌≤ℤ◌, ◌<ℤ◌, List, [], ◌∷◌, ◌++◌, Option, Some, None, length, get_or}
+use Rattle.std.proofs.Common.{◌≡◌, ◌≢◌, ◌⊎◌, inl, inr, ℕ, ◌+◌, ◌<◌, ◌≤◌, ℤ, ◌≤ℤ◌, ◌<ℤ◌, List, [], ◌∷◌, ◌++◌, Option, Some, None, length, get_or}
 use Rattle.std.proofs.Common.{set, eqb, refl, sym, ap, subst, ◌∙◌, arith}
-use Rattle.std.specs.Prelude.{AllPairs, Any, Contains, not}
+use Rattle.std.specs.Prelude.{AllPairs, Any, Contains, IfSome, IsSomeAnd, map, not}
+use Rattle.std.specs.Vec.{vec_capacity, vec_len}
 use Rattle.std.proofs.lemmas.Bool.Decides.{eqb_tells}
 use Rattle.std.proofs.lemmas.Int.{ints}
+use Rattle.std.proofs.lemmas.List.{get_or-map, get_or_past, length-map}
+use Rattle.std.proofs.lemmas.Option.{slice_get-get_or, slice_get_past}
 use Rattle.std.proofs.lemmas.List.{get_or_default, get_or-set_same, get_or-set_other, set-set, length-set, length-append, get_or_append_left, get_or-append-add}
 use Rattle.std.proofs.lemmas.List.Elements.{All-contains, Contains-append_cases}
 use Rattle.lf_units.specs.declared.area.Rect.{Rect}
-use Rattle.lf_units.specs.Area.{Covers}
+use Rattle.lf_units.specs.Area.{Covers, SharesPoint}
 use Rattle.lf_spans.proofs.Anys.{any_nil, any_head, any_tail, any_cases}
 use Rattle.lf_cells.specs.declared.cell.CellId.{CellId}
 use Rattle.lf_segments.specs.declared.rows_by_y.RowEntry.{RowEntry}
@@ -15,9 +18,11 @@ use Rattle.lf_occupancy.specs.declared.lane.Lane.{Lane}
 use Rattle.lf_occupancy.specs.declared.strip.Strip.{Strip}
 use Rattle.lf_occupancy.specs.declared.strips.Strips.{Strips}
 use Rattle.lf_occupancy.specs.Lanes.{AreInOrder, HasRoom, IsLane, IsPruned, TakesOne, cell_box}
-use Rattle.lf_occupancy.specs.Strips.{AreChanged, AreKept, AreLanes, AreOrderly, AreRowsNear, AreStrips, Follows, KeepRoom, IsNear, IsPlaced, IsReached, PutsIn}
-use Rattle.lf_occupancy.proofs.Finds.{no_strip}
-use Rattle.lf_occupancy.proofs.Lists.{pairs_filter}
+use Rattle.lf_occupancy.specs.Strips.{AreChanged, AreKept, AreLanes, AreOrderly, AreRowsNear, AreStrips, Follows, KeepRoom, IsNear, IsPlaced, IsReached, PutsIn, CanTake, HaveRoom, counts_in, rooms_in}
+use Rattle.lf_occupancy.specs.Occupied.{GrowAtMost, MeetsStrip}
+use Rattle.lf_occupancy.proofs.Finds.{no_strip, some_lane}
+use Rattle.lf_occupancy.proofs.Lists.{maps_alike, pairs_filter}
+use Rattle.lf_occupancy.proofs.Changes.{room_kept}
 use Rattle.lf_occupancy.proofs.Laning.{box_same, lane_beside, lane_kept, lane_pruned, lane_put}
 
 -- a strip that shares a point with the rectangle is reached
@@ -341,3 +346,147 @@ lanes_replaced s id from rect run old mid out new strips rows kept follows chang
 
     none : cell_box (get_or bare id.team []) id.own ≡ None
     none = ap (λ (cs : List (Option Rect)). cell_box cs id.own) there ∙ box_same cells id.own None has.own
+
+-- lanes that are pruned or stay the same have the room that they had
+pub rooms_out : (xs : List Strip) (run : List RowEntry) (team own : ℕ) (rect : Rect) (lanes new : List Lane) → length lanes ≡ length xs →
+    AreChanged (IsReached xs run team rect) (λ n. IsPruned own) lanes new → rooms_in new ≡ rooms_in lanes
+rooms_out xs run team own rect lanes new many changed = maps_alike (λ (l : Lane). vec_capacity l.entries) new lanes changed.many each
+  where
+    each : (n : ℕ) (e : Lane) → n < length lanes → vec_capacity (get_or new n e).entries ≡ vec_capacity (get_or lanes n e).entries
+    each n e within = elim (decide_reached xs run team rect n (omega (arith, within, many))) [
+      | inl reached ↦ (changed.chosen n e within reached).room
+      | inr never ↦ ap (λ (l : Lane). vec_capacity l.entries) (changed.others n e within never)
+    ]
+
+order_of : (n m : ℕ) → (n < m) ⊎ (m ≤ n)
+order_of n m = grind arith
+
+-- a number of each lane that is greater by no more than this
+pub maps_grow : (f : Lane → ℕ) (by : ℕ) (old new : List Lane) → length new ≡ length old →
+    ((n : ℕ) (e : Lane) → n < length old → f (get_or new n e) ≤ (f (get_or old n e) + by)) → GrowAtMost by (map f old) (map f new)
+maps_grow f by old new many each = record {
+  many = length-map new f ∙ many ∙ sym (length-map old f);
+  each = λ n. elim (order_of n (length old)) [
+    | inl within ↦
+        let e = some_lane old n within in
+        let a = get_or-map f old n e 0 within in
+        let b = get_or-map f new n e 0 (omega (arith, within, many)) in
+        let h = each n e within in
+        omega (arith, a, b, h)
+    | inr past ↦
+        let long = length-map new f in
+        let a = get_or_past (map f new) n 0 (omega (arith, past, many, long)) in
+        omega (arith, a)
+  ];
+}
+
+pub counts_same : (lanes : List Lane) → GrowAtMost 0 (counts_in lanes) (counts_in lanes)
+counts_same lanes = maps_grow (λ l. vec_len l.entries) 0 lanes lanes refl (λ n e within. omega arith)
+
+pub counts_out : (xs : List Strip) (run : List RowEntry) (team own : ℕ) (rect : Rect) (lanes new : List Lane) → length lanes ≡ length xs →
+    AreChanged (IsReached xs run team rect) (λ n. IsPruned own) lanes new → GrowAtMost 0 (counts_in lanes) (counts_in new)
+counts_out xs run team own rect lanes new many changed = maps_grow (λ l. vec_len l.entries) 0 lanes new changed.many each
+  where
+    each : (n : ℕ) (e : Lane) → n < length lanes → vec_len (get_or new n e).entries ≤ (vec_len (get_or lanes n e).entries + 0)
+    each n e within = elim (decide_reached xs run team rect n (omega (arith, within, many))) [
+      | inl reached ↦ let h = (changed.chosen n e within reached).fewer in omega (arith, h)
+      | inr never ↦ let h = ap (λ (l : Lane). vec_len l.entries) (changed.others n e within never) in omega (arith, h)
+    ]
+
+-- lanes that take the parts of a box keep their room, and get one entry each at most
+pub rooms_put : (xs : List Strip) (run : List RowEntry) (team own : ℕ) (rect : Rect) (lanes new : List Lane) → length lanes ≡ length xs →
+    AreChanged (IsReached xs run team rect) (PutsIn xs own rect) lanes new → rooms_in new ≡ rooms_in lanes
+rooms_put xs run team own rect lanes new many changed = maps_alike (λ (l : Lane). vec_capacity l.entries) new lanes changed.many each
+  where
+    each : (n : ℕ) (e : Lane) → n < length lanes → vec_capacity (get_or new n e).entries ≡ vec_capacity (get_or lanes n e).entries
+    each n e within = elim (decide_reached xs run team rect n (omega (arith, within, many))) [
+      | inl reached ↦ elim (changed.chosen n e within reached no_strip).change [
+        | inl joined ↦ joined.1.room
+        | inr same ↦ ap (λ (l : Lane). vec_capacity l.entries) same.1
+      ]
+      | inr never ↦ ap (λ (l : Lane). vec_capacity l.entries) (changed.others n e within never)
+    ]
+
+pub counts_put : (xs : List Strip) (run : List RowEntry) (team own : ℕ) (rect : Rect) (lanes new : List Lane) → length lanes ≡ length xs →
+    AreChanged (IsReached xs run team rect) (PutsIn xs own rect) lanes new → GrowAtMost 1 (counts_in lanes) (counts_in new)
+counts_put xs run team own rect lanes new many changed = maps_grow (λ l. vec_len l.entries) 1 lanes new changed.many each
+  where
+    each : (n : ℕ) (e : Lane) → n < length lanes → vec_len (get_or new n e).entries ≤ (vec_len (get_or lanes n e).entries + 1)
+    each n e within = elim (decide_reached xs run team rect n (omega (arith, within, many))) [
+      | inl reached ↦ elim (changed.chosen n e within reached no_strip).change [
+        | inl joined ↦ let h = joined.1.more in omega (arith, h)
+        | inr same ↦ let h = ap (λ (l : Lane). vec_len l.entries) same.1 in omega (arith, h)
+      ]
+      | inr never ↦ let h = ap (λ (l : Lane). vec_len l.entries) (changed.others n e within never) in omega (arith, h)
+    ]
+
+-- a reached lane takes the part of the box where the strips that the box meets have room
+pub takes_parts : (xs : List Strip) (boxes : List (List (Option Rect))) (team : ℕ) (rect : Rect) (run : List RowEntry) (lanes : List Lane) →
+    AreLanes xs boxes lanes → HaveRoom (MeetsStrip xs team rect) 1 lanes → CanTake xs rect (IsReached xs run team rect) lanes
+takes_parts xs boxes team rect run lanes are room n d e (within, (k, r, below, at, near)) = record {
+  order = (are.each n d e within).orderly.order;
+  room = λ part is whole.
+      let both = (is.points part.x1 part.y1).0
+      record { left = omega (arith, ints); right = whole.wide; bottom = omega (arith, ints); top = whole.high } in
+      let meets : MeetsStrip xs team rect n =
+      subst (λ (found : Option Strip). IsSomeAnd found (λ g. (g.team ≡ team) × SharesPoint g.area rect)) (sym (slice_get-get_or xs n d within))
+      ((near d).of_team, record { x = part.x1; y = part.y1; in_first = both.0; in_second = both.1 }) in
+      let h = room n e meets in
+      omega (arith, h);
+}
+
+-- the strips that the box meets have room where those that are reached have it
+pub room_of_met : (s : Strips) (team : ℕ) (rect : Rect) (run : List RowEntry) (more : ℕ) (lanes : List Lane) → AreStrips s →
+    AreRowsNear s.rows s.height rect run → HaveRoom (IsReached s.list.items run team rect) more lanes →
+    HaveRoom (MeetsStrip s.list.items team rect) more lanes
+room_of_met s team rect run more lanes strips rows room n e meets = elim (order_of n (length s.list.items)) [
+  | inl within ↦
+      let m = subst (λ (found : Option Strip). IsSomeAnd found (λ g. (g.team ≡ team) × SharesPoint g.area rect))
+      (slice_get-get_or s.list.items n no_strip within) meets in
+      room n e (point_is_reached s rect run team n no_strip m.1.x m.1.y strips rows within m.0 m.1.in_first m.1.in_second)
+  | inr past ↦ absurd (subst (λ (found : Option Strip). IsSomeAnd found (λ g. (g.team ≡ team) × SharesPoint g.area rect))
+      (slice_get_past s.list.items n past) meets)
+]
+
+-- room that was made stays
+pub room_stays : (xs : List Strip) (team : ℕ) (rect : Rect) (more : ℕ) (old new : List Lane) → length old ≡ length xs → AreKept old new →
+    HaveRoom (MeetsStrip xs team rect) more old → HaveRoom (MeetsStrip xs team rect) more new
+room_stays xs team rect more old new many kept room n e meets = elim (order_of n (length xs)) [
+  | inl within ↦ room_kept more (get_or old n e) (get_or new n e) (kept.each n e (omega (arith, within, many))) (room n e meets)
+  | inr past ↦ absurd (subst (λ (found : Option Strip). IsSomeAnd found (λ g. (g.team ≡ team) × SharesPoint g.area rect))
+      (slice_get_past xs n past) meets)
+]
+
+pub move_stays : (xs : List Strip) (team : ℕ) (to : Option Rect) (more : ℕ) (old new : List Lane) → length old ≡ length xs → AreKept old new →
+    IfSome to (λ rect. HaveRoom (MeetsStrip xs team rect) more old) → IfSome to (λ rect. HaveRoom (MeetsStrip xs team rect) more new)
+move_stays xs team None more old new many kept room = tt
+move_stays xs team (Some rect) more old new many kept room = room_stays xs team rect more old new many kept room
+
+-- room in lanes is room in the numbers of their entries and places
+pub room_of_lanes : (xs : List Strip) (team : ℕ) (rect : Rect) (more : ℕ) (lanes : List Lane) → length lanes ≡ length xs →
+    HaveRoom (MeetsStrip xs team rect) more lanes →
+    (n : ℕ) → MeetsStrip xs team rect n → (get_or (counts_in lanes) n 0 + more) ≤ get_or (rooms_in lanes) n 0
+room_of_lanes xs team rect more lanes many room n meets = elim (order_of n (length xs)) [
+  | inl within ↦
+      let e = some_lane lanes n (omega (arith, within, many)) in
+      let a = get_or-map (λ (l : Lane). vec_len l.entries) lanes n e 0 (omega (arith, within, many)) in
+      let b = get_or-map (λ (l : Lane). vec_capacity l.entries) lanes n e 0 (omega (arith, within, many)) in
+      let h = room n e meets in
+      omega (arith, a, b, h)
+  | inr past ↦ absurd (subst (λ (found : Option Strip). IsSomeAnd found (λ g. (g.team ≡ team) × SharesPoint g.area rect))
+      (slice_get_past xs n past) meets)
+]
+
+-- lanes that hold what they held have as many entries, and no less room
+pub counts_kept : (old new : List Lane) → AreKept old new → counts_in new ≡ counts_in old
+counts_kept old new kept = maps_alike (λ (l : Lane). vec_len l.entries) new old kept.many (λ n e within. (kept.each n e within).many)
+
+pub rooms_kept : (old new : List Lane) → AreKept old new → GrowAtMost 0 (rooms_in new) (rooms_in old)
+rooms_kept old new kept = maps_grow (λ l. vec_capacity l.entries) 0 new old (sym kept.many)
+    (λ n e within. let m = kept.many in let h = (kept.each n e (omega (arith, m, within))).room in omega (arith, h))
+
+pub move_fits : (xs : List Strip) (team : ℕ) (to : Option Rect) (more : ℕ) (lanes : List Lane) → length lanes ≡ length xs →
+    IfSome to (λ rect. HaveRoom (MeetsStrip xs team rect) more lanes) →
+    IfSome to (λ rect. (n : ℕ) → MeetsStrip xs team rect n → (get_or (counts_in lanes) n 0 + more) ≤ get_or (rooms_in lanes) n 0)
+move_fits xs team None more lanes many room = tt
+move_fits xs team (Some rect) more lanes many room = room_of_lanes xs team rect more lanes many room

@@ -205,3 +205,30 @@ others_narrow xs near lo hi widest own run wide =
     (λ k d within.
     All-contains (λ e. (e.area.x2 -ℤ e.area.x1) ≤ℤ widest) xs (get_or near k d) wide
     (near_in xs near lo hi (get_or near k d) run (Contains-get_or near k d within))))
+
+-- the spans of entries that stand in order do too, and none is wider than the widest
+pub spans_in_order : (xs : List Entry) → AreInOrder xs → AllPairs (λ s t. s.lo ≤ℤ t.lo) (map (λ (e : Entry). x_range e.area) xs)
+spans_in_order xs order i j d less within =
+    let long = length-map xs (λ (e : Entry). x_range e.area) in
+    let e : Entry = record { own = 0; area = record { x1 = d.lo; y1 = d.lo; x2 = d.hi; y2 = d.lo } } in
+    let first = get_or-map (λ (x : Entry). x_range x.area) xs i e d (omega (arith, long, less, within)) in
+    let second = get_or-map (λ (x : Entry). x_range x.area) xs j e d (omega (arith, long, within)) in
+    let low : (get_or (map (λ (x : Entry). x_range x.area) xs) i d).lo ≡ (get_or xs i e).area.x1 = ap (λ (s : Span). s.lo) first in
+    let high : (get_or (map (λ (x : Entry). x_range x.area) xs) j d).lo ≡ (get_or xs j e).area.x1 = ap (λ (s : Span). s.lo) second in
+    let up = order i j e less (omega (arith, long, within)) in
+    omega (arith, ints, low, high, up)
+
+pub spans_narrow : (xs : List Entry) (widest : ℤ) → All (λ e. (e.area.x2 -ℤ e.area.x1) ≤ℤ widest) xs →
+    All (λ s. (s.hi -ℤ s.lo) ≤ℤ widest) (map (λ (e : Entry). x_range e.area) xs)
+spans_narrow xs widest wide = All-map (λ s. (s.hi -ℤ s.lo) ≤ℤ widest) (λ (e : Entry). x_range e.area) xs wide
+
+-- all entries share no number with the span exactly where each of them does not
+pub all_apart_each : (xs : List Entry) (s : Span) → IsApart (spans_in xs) s → (e : Entry) → Contains xs e → AreApart s (x_range e.area)
+all_apart_each xs s apart e (k, within, is) =
+    let long = length-map xs (λ z. x_range z.area) in
+    let mapped : Contains (spans_in xs) (x_range e.area) =
+    (k, omega (arith, within, long), get_or-map (λ z. x_range z.area) xs k e (x_range e.area) within ∙ ap (λ (z : Entry). x_range z.area) is) in
+    All-contains (λ t. AreApart s t) (spans_in xs) (x_range e.area) apart mapped
+
+pub each_all_apart : (xs : List Entry) (s : Span) → ((e : Entry) → Contains xs e → AreApart s (x_range e.area)) → IsApart (spans_in xs) s
+each_all_apart xs s each = All-map (λ t. AreApart s t) (λ e. x_range e.area) xs (λ k d within. each (get_or xs k d) (Contains-get_or xs k d within))

@@ -1,6 +1,8 @@
 -- What lanes tell of the boxes of teams' cells.
-use Rattle.std.proofs.Common.{◌≡◌, ℕ, ◌<◌, ℤ, ◌<ℤ◌, List, [], Option, Some, None, length, get_or, sym, ap, subst, ◌∙◌, arith}
-use Rattle.std.specs.Prelude.{Any, Contains}
+use Rattle.std.proofs.Common.{◌≡◌, ◌⊎◌, inl, inr, ℕ, ◌<◌, ◌≤◌, ℤ, ◌<ℤ◌, List, [], Option, Some, None, length, get_or, sym, ap, subst, ◌∙◌, arith}
+use Rattle.std.specs.Prelude.{Any, Contains, IsSomeAnd, slice_get}
+use Rattle.std.proofs.lemmas.Bool.Decides.{eqb_tells}
+use Rattle.std.proofs.lemmas.Option.{slice_get-get_or, slice_get_past}
 use Rattle.std.proofs.lemmas.Int.{ints}
 use Rattle.std.proofs.lemmas.List.{get_or_default}
 use Rattle.std.proofs.lemmas.List.Elements.{All-contains}
@@ -13,11 +15,12 @@ use Rattle.lf_occupancy.specs.declared.lane.Entry.{Entry}
 use Rattle.lf_occupancy.specs.declared.lane.Lane.{Lane}
 use Rattle.lf_occupancy.specs.declared.strip.Strip.{Strip}
 use Rattle.lf_occupancy.specs.Lanes.{IsLane, LiesInBox, IsLeast, cell_box, x_range}
-use Rattle.lf_occupancy.specs.Strips.{AreFreeTo, AreLanes, LiesFree, MeetsInOne}
+use Rattle.lf_occupancy.specs.Strips.{AreFreeTo, AreLanes, AreLeft, LiesFree, LiesLeft, MeetsInOne}
+use Rattle.lf_occupancy.specs.Occupied.{AreFreeSpans, IsLeftOver, StandsBut}
 use Rattle.lf_occupancy.specs.Occupied.{Occupied, IsFirstMet, IsFreeInRow, IsFreeOver, IsOther, IsStripOf, MeetsInStrips, across, over}
 use Rattle.lf_occupancy.proofs.Finds.{no_strip, some_lane}
 use Rattle.lf_occupancy.proofs.Leasts.{least_alike, least_from_none}
-use Rattle.lf_occupancy.proofs.Runs.{apart_each, each_apart}
+use Rattle.lf_occupancy.proofs.Runs.{all_apart_each, apart_each, each_all_apart, each_apart}
 
 -- the lane of a strip of the team
 team_lane : (o : Occupied) (lanes : List Lane) (team n : ℕ) (d : Strip) (e : Lane) → AreLanes o.strips o.boxes lanes → n < length o.strips →
@@ -172,3 +175,84 @@ free_of_strips o lanes row id window free are f = record {
               in_first = record { left = first.low; right = first.high; bottom = covers.bottom; top = covers.top };
               in_second = lies.in_box;
             }
+
+-- what lies over the strip of that number, and no entry of the lane shares a number with it
+left_over : (o : Occupied) (lanes : List Lane) (id : CellId) (n : ℕ) (s : Span) → AreLanes o.strips o.boxes lanes → LiesLeft o.strips lanes id n s →
+    IsLeftOver o id (get_or o.strips n no_strip) s
+left_over o lanes id n s are l = record { within = l.inside no_strip; clear = clear }
+  where
+    g : Strip
+    g = get_or o.strips n no_strip
+
+    clear : (own : ℕ) (box : Rect) → StandsBut o id g.team own box → SharesPoint (over g s) box → ⊥
+    clear own box stands shares =
+        let many = are.many in
+        let within = l.within in
+        let lane = some_lane lanes n (omega (arith, many, within)) in
+        let held : Holds s shares.x = record { low = shares.in_first.left; high = shares.in_first.right } in
+        let inside = l.inside no_strip shares.x held in
+        let found = (are.each n no_strip lane within).held own shares.x shares.y record {
+          box = box;
+          is = stands.stands;
+          in_area = record { left = inside.low; right = inside.high; bottom = shares.in_first.bottom; top = shares.in_first.top };
+          in_box = shares.in_second;
+        } in
+        let taken : Holds (x_range found.1.area) shares.x = record { low = found.4.covers.left; high = found.4.covers.right } in
+        elim (eqb_tells g.team id.team) [
+          | inl same ↦ apart_each (get_or lanes n lane).entries.items id.own s (l.own no_strip lane same.1) found.1 (found.0, found.2, found.3)
+              (λ is. stands.other same.1 (sym found.4.is ∙ is)) shares.x held taken
+          | inr away ↦ all_apart_each (get_or lanes n lane).entries.items s (l.foreign no_strip lane away.1) found.1 (found.0, found.2, found.3)
+              shares.x held taken
+        ]
+
+over_left : (o : Occupied) (lanes : List Lane) (id : CellId) (n : ℕ) (g : Strip) (s : Span) → AreLanes o.strips o.boxes lanes → n < length o.strips →
+    ((d : Strip) → get_or o.strips n d ≡ g) → IsLeftOver o id g s → LiesLeft o.strips lanes id n s
+over_left o lanes id n g s are within is left = record {
+  within = within;
+  inside = λ d. subst (λ (x : Strip). LiesIn s (across x)) (sym (is d)) left.within;
+  own = λ d e same.
+      each_apart (get_or lanes n e).entries.items id.own s (λ x there other. never e x there (λ team. other));
+  foreign = λ d e away.
+      each_all_apart (get_or lanes n e).entries.items s
+      (λ x there. never e x there (λ team. absurd (away (ap (λ (q : Strip). q.team) (is d) ∙ team))));
+}
+  where
+    never : (d : Lane) (e : Entry) → Contains (get_or lanes n d).entries.items e → (g.team ≡ id.team → e.own ≡ id.own → ⊥) → AreApart s (x_range e.area)
+    never d e there other x first second =
+        let At : Strip → Type 0 = λ q. IsLane (get_or o.boxes q.team []) q.area (get_or lanes n d) in
+        let lane : At g = subst At (is no_strip) (are.each n no_strip d within) in
+        let whole = All-contains (λ z. (z.area.x1 <ℤ z.area.x2) × (z.area.y1 <ℤ z.area.y2)) (get_or lanes n d).entries.items e
+        (λ k c inner. let w = lane.whole k c inner in (w.wide, w.high)) there in
+        let high = whole.1 in
+        let told = All-contains (λ z. (x y : ℤ) → Covers z.area x y → LiesInBox (get_or o.boxes g.team []) g.area z.own x y)
+        (get_or lanes n d).entries.items e lane.told there in
+        let lies = told x e.area.y1 record { left = second.low; right = second.high; bottom = omega (arith, ints); top = high } in
+        left.clear e.own lies.box record { other = other; stands = lies.is } record {
+          x = x;
+          y = e.area.y1;
+          in_first = record { left = first.low; right = first.high; bottom = lies.in_area.bottom; top = lies.in_area.top };
+          in_second = lies.in_box;
+        }
+
+pub spans_of_strip : (o : Occupied) (lanes : List Lane) (id : CellId) (n : ℕ) (free : List Span) → AreLanes o.strips o.boxes lanes →
+    AreLeft o.strips lanes id n free → AreFreeSpans o n id free
+spans_of_strip o lanes id n free are left = record {
+  rising = left.rising;
+  exact = λ s filled. (λ lies. to s ((left.exact s filled).0 lies), λ some. (left.exact s filled).1 (back s some));
+}
+  where
+    to : (s : Span) → LiesLeft o.strips lanes id n s → IsSomeAnd (slice_get o.strips n) (λ g. IsLeftOver o id g s)
+    to s l =
+        subst (λ (found : Option Strip). IsSomeAnd found (λ g. IsLeftOver o id g s)) (sym (slice_get-get_or o.strips n no_strip l.within))
+        (left_over o lanes id n s are l)
+
+    order : (n < length o.strips) ⊎ (length o.strips ≤ n)
+    order = grind arith
+
+    back : (s : Span) → IsSomeAnd (slice_get o.strips n) (λ g. IsLeftOver o id g s) → LiesLeft o.strips lanes id n s
+    back s some = elim order [
+      | inl within ↦
+          over_left o lanes id n (get_or o.strips n no_strip) s are within (λ d. get_or_default o.strips n d no_strip within)
+          (subst (λ (found : Option Strip). IsSomeAnd found (λ g. IsLeftOver o id g s)) (slice_get-get_or o.strips n no_strip within) some)
+      | inr past ↦ absurd (subst (λ (found : Option Strip). IsSomeAnd found (λ g. IsLeftOver o id g s)) (slice_get_past o.strips n past) some)
+    ]

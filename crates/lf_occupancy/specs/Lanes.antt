@@ -1,5 +1,5 @@
 -- What stands in one strip: an entry for the part of each cell's box that lies in it.
-use Rattle.std.specs.Prelude.{◌≡◌, ◌≢◌, ◌⊎◌, ◌↔◌, ◌==◌, ℕ, ◌<◌, ◌≤◌, ℤ, pos, negsuc, ◌-ℤ◌, ◌≤ℤ◌, ◌<ℤ◌, List, ◌++◌, map, filter, not, length, All, AllPairs, Any}
+use Rattle.std.specs.Prelude.{◌≡◌, ◌≢◌, ◌⊎◌, ◌↔◌, ◌==◌, ℕ, ◌+◌, ◌<◌, ◌≤◌, ℤ, pos, negsuc, ◌-ℤ◌, ◌≤ℤ◌, ◌<ℤ◌, List, ◌++◌, map, filter, not, length, All, AllPairs, Any}
 use Rattle.std.specs.Prelude.{Option, Some, IfSome, insert, IsSomeAnd, option_and_then, slice_get, slice_index_or}
 use Rattle.std.specs.Int.{int_max}
 use Rattle.std.specs.Vec.{vec_len, vec_capacity}
@@ -120,10 +120,19 @@ pub record IsKept (old new : Lane) : Type 0 where
 abbrev pub HasRoom : Lane → Type 0
 HasRoom l = vec_len l.entries < vec_capacity l.entries
 
+-- so many more entries find room
+abbrev pub HasRoomOf : ℕ → Lane → Type 0
+HasRoomOf more l = (vec_len l.entries + more) ≤ vec_capacity l.entries
+
 -- the lane's entries stand in order, and it has room for one more
 pub record TakesOne (l : Lane) : Type 0 where
   pub order : AreInOrder l.entries.items
   pub room : HasRoom l
+
+-- the lane's entries stand in order, and it has room for the part of the rectangle that lies in the area, where there is one
+pub record TakesPart (area rect : Rect) (l : Lane) : Type 0 where
+  pub order : AreInOrder l.entries.items
+  pub room : (part : Rect) → IsPart area rect part → IsWhole part → HasRoom l
 
 -- the entry stands in the lane too, at its place in the order
 pub record IsJoined (e : Entry) (old new : Lane) : Type 0 where
@@ -133,6 +142,8 @@ pub record IsJoined (e : Entry) (old new : Lane) : Type 0 where
   pub before : (k : ℕ) (d : Entry) → k < at → (slice_index_or old.entries.items k d).area.x1 <ℤ e.area.x1
   pub behind : (k : ℕ) (d : Entry) → at ≤ k → k < length old.entries.items → e.area.x1 ≤ℤ (slice_index_or old.entries.items k d).area.x1
   pub widest : new.widest ≡ int_max old.widest (e.area.x2 -ℤ e.area.x1)
+  pub more : vec_len new.entries ≡ vec_len old.entries + 1
+  pub room : vec_capacity new.entries ≡ vec_capacity old.entries
 
 -- the entry of a cell for a part of its strip
 abbrev pub entry_for : ℕ → Rect → Entry

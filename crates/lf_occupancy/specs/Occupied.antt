@@ -1,5 +1,5 @@
 -- What stands in strips: the boxes of teams' cells, and what they leave free.
-use Rattle.std.specs.Prelude.{◌≡◌, ◌≢◌, ◌↔◌, ℕ, ℤ, ◌≤◌, List, [], Option, Some, Any, MatchOption, option_and_then, slice_get, slice_index_or, slice_set}
+use Rattle.std.specs.Prelude.{◌≡◌, ◌≢◌, ◌↔◌, ℕ, ◌+◌, ℤ, ◌≤◌, length, List, [], Option, Some, Any, IsSomeAnd, MatchOption, option_and_then, slice_get, slice_index_or, slice_set}
 use Rattle.lf_units.specs.declared.area.Rect.{Rect}
 use Rattle.lf_units.specs.Area.{Covers, SharesPoint}
 use Rattle.lf_spans.specs.declared.span.Span.{Span}
@@ -7,10 +7,11 @@ use Rattle.lf_spans.specs.Spans.{IsFilled, IsRising, LiesIn, LiesInOne}
 use Rattle.lf_cells.specs.declared.cell.CellId.{CellId}
 use Rattle.lf_occupancy.specs.declared.strip.Strip.{Strip}
 
--- the strips, for each team the boxes of its cells in loading order, and for each strip how many cells it has room for
+-- the strips, for each team the boxes of its cells in loading order, and for each strip how many entries stand in it and for how many it has room
 pub record Occupied : Type 0 where
   pub strips : List Strip
   pub boxes : List (List (Option Rect))
+  pub entries : List ℕ
   pub rooms : List ℕ
 
 -- the boxes of a team's cells; a team that is none has none
@@ -58,6 +59,22 @@ pub record IsFreeInRow (o : Occupied) (row : ℕ) (id : CellId) (window : Span) 
   pub rising : IsRising free
   pub exact : (s : Span) → IsFilled s → (LiesInOne free s ↔ (LiesIn s window × Any (λ g. IsStripOf row id.team g × IsFreeOver o id g s) o.strips))
 
+-- the team's cell of that position, which is not the one that is left out, stands at this box
+pub record StandsBut (o : Occupied) (without : CellId) (team own : ℕ) (box : Rect) : Type 0 where
+  pub other : team ≡ without.team → own ≢ without.own
+  pub stands : box_at o team own ≡ Some box
+
+-- the span lies in the strip, and over it stands no cell of the strip's team but the one that is left out
+pub record IsLeftOver (o : Occupied) (without : CellId) (g : Strip) (s : Span) : Type 0 where
+  pub within : LiesIn s (across g)
+  pub clear : (own : ℕ) (box : Rect) → StandsBut o without g.team own box → SharesPoint (over g s) box → ⊥
+
+-- the free spans of one strip, a cell left out: a span that holds a number lies in one of them exactly where it lies in the strip, and over it
+-- stands no other cell of the strip's team; there are none where there is no such strip
+pub record AreFreeSpans (o : Occupied) (segment : ℕ) (without : CellId) (free : List Span) : Type 0 where
+  pub rising : IsRising free
+  pub exact : (s : Span) → IsFilled s → (LiesInOne free s ↔ IsSomeAnd (slice_get o.strips segment) (λ g. IsLeftOver o without g s))
+
 -- another placed cell of the team shares with the rectangle a point of one of the team's strips
 pub record MeetsInStrips (o : Occupied) (id : CellId) (rect : Rect) (own : ℕ) : Type 0 where
   pub box : Rect
@@ -73,3 +90,20 @@ abbrev pub IsFirstMet : Occupied → CellId → Rect → Option ℕ → Type 0
 IsFirstMet o id rect met =
     MatchOption met ((own : ℕ) → MeetsInStrips o id rect own → ⊥)
     (λ own. MeetsInStrips o id rect own × ((other : ℕ) → MeetsInStrips o id rect other → own ≤ other))
+
+-- the strip of that number is of the team, and shares a point with the rectangle
+abbrev pub MeetsStrip : List Strip → ℕ → Rect → ℕ → Type 0
+MeetsStrip strips team rect n = IsSomeAnd (slice_get strips n) (λ g. (g.team ≡ team) × SharesPoint g.area rect)
+
+-- each strip of the team that shares a point with the rectangle has room for so many more entries
+abbrev pub HasRoomFor : Occupied → ℕ → Rect → ℕ → Type 0
+HasRoomFor o team rect more = (n : ℕ) → MeetsStrip o.strips team rect n → (slice_index_or o.entries n 0 + more) ≤ slice_index_or o.rooms n 0
+
+-- of two lists of the same length, no number of the new one is greater by more than this
+pub record GrowAtMost (by : ℕ) (old new : List ℕ) : Type 0 where
+  pub many : length new ≡ length old
+  pub each : (n : ℕ) → slice_index_or new n 0 ≤ (slice_index_or old n 0 + by)
+
+-- of two lists of the same length, no number of the new one is less
+abbrev pub NoLess : List ℕ → List ℕ → Type 0
+NoLess old new = GrowAtMost 0 new old

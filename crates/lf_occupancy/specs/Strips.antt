@@ -1,7 +1,8 @@
 -- Where strips stand, and how they are found.
 use Rattle.std.specs.Prelude.{◌≡◌, ◌≢◌, ◌⊎◌, ◌↔◌, ◌==◌, if◌then◌else◌, nat_lt, Bool, ℕ, ◌<◌, ◌≤◌, ℤ, pos, negsuc, ◌+ℤ◌, ◌≤ℤ◌, ◌<ℤ◌, List}
 use Rattle.std.specs.Prelude.{length, All, AllPairs, Any}
-use Rattle.std.specs.Prelude.{int_le, int_lt, Option, slice_index_or, slice_set, []}
+use Rattle.std.specs.Prelude.{int_le, int_lt, Option, map, slice_index_or, slice_set, []}
+use Rattle.std.specs.Vec.{vec_len, vec_capacity}
 use Rattle.lf_cells.specs.declared.cell.CellId.{CellId}
 use Rattle.lf_units.specs.declared.area.Rect.{Rect}
 use Rattle.lf_spans.specs.declared.span.Span.{Span}
@@ -11,7 +12,7 @@ use Rattle.lf_segments.specs.RowsByY.{IsRunBetween}
 use Rattle.lf_occupancy.specs.declared.lane.Lane.{Lane}
 use Rattle.lf_occupancy.specs.declared.strip.Strip.{Strip}
 use Rattle.lf_occupancy.specs.declared.strips.Strips.{Strips}
-use Rattle.lf_occupancy.specs.Lanes.{HasRoom, TakesOne, cell_box, IsInside, IsKept, IsLane, IsOrderly, IsPutIn, MeetsOne, others_in, spans_in}
+use Rattle.lf_occupancy.specs.Lanes.{HasRoomOf, TakesOne, TakesPart, cell_box, IsInside, IsKept, IsLane, IsOrderly, IsPutIn, MeetsOne, others_in, spans_in}
 use Rattle.lf_occupancy.specs.Occupied.{across}
 
 -- the order of strips: by row, then by team, then by x, without overlap
@@ -142,13 +143,14 @@ Follows s id from to old new =
     (boxes : List (List (Option Rect))) → HasCell boxes id → cell_box (slice_index_or boxes id.team []) id.own ≡ from → AreLanes s.list.items boxes old →
     AreLanes s.list.items (boxes_set boxes id to) new
 
--- the chosen lanes have room for one entry more
-abbrev pub HaveRoom : (ℕ → Type 0) → List Lane → Type 0
-HaveRoom Chosen lanes = (n : ℕ) (e : Lane) → Chosen n → HasRoom (slice_index_or lanes n e)
+-- the chosen lanes have room for so many more entries
+abbrev pub HaveRoom : (ℕ → Type 0) → ℕ → List Lane → Type 0
+HaveRoom Chosen more lanes = (n : ℕ) (e : Lane) → Chosen n → HasRoomOf more (slice_index_or lanes n e)
 
--- the chosen lanes can take one entry more
-abbrev pub CanTake : (ℕ → Type 0) → List Lane → Type 0
-CanTake Chosen lanes = (n : ℕ) (e : Lane) → Chosen n → TakesOne (slice_index_or lanes n e)
+-- the chosen lanes can take the parts of the rectangle that lie in their strips
+abbrev pub CanTake : List Strip → Rect → (ℕ → Type 0) → List Lane → Type 0
+CanTake strips rect Chosen lanes =
+    (n : ℕ) (d : Strip) (e : Lane) → Chosen n → TakesPart (slice_index_or strips n d).area rect (slice_index_or lanes n e)
 
 -- the cell's parts are put into the lanes of a row that its box reaches
 abbrev pub PutInRow : Strips → ℕ → CellId → Rect → List Lane → List Lane → Type 0
@@ -165,3 +167,24 @@ is_ended strips row team x k d = is_earlier row team (int_le (slice_index_or str
 -- the same, where it begins before x
 abbrev pub is_begun : List Strip → ℕ → ℕ → ℤ → ℕ → Strip → Bool
 is_begun strips row team x k d = is_earlier row team (int_lt (slice_index_or strips k d).area.x1 x) (slice_index_or strips k d)
+
+-- for how many entries each lane has room
+abbrev pub rooms_in : List Lane → List ℕ
+rooms_in lanes = map (λ l. vec_capacity l.entries) lanes
+
+-- the span lies in the strip of that number, and shares no number with an entry there, those of a cell of the strip's team left out
+pub record LiesLeft (strips : List Strip) (lanes : List Lane) (without : CellId) (n : ℕ) (s : Span) : Type 0 where
+  pub within : n < length strips
+  pub inside : (d : Strip) → LiesIn s (across (slice_index_or strips n d))
+  pub own : (d : Strip) (e : Lane) → (slice_index_or strips n d).team ≡ without.team →
+      IsApart (spans_in (others_in (slice_index_or lanes n e).entries.items without.own)) s
+  pub foreign : (d : Strip) (e : Lane) → (slice_index_or strips n d).team ≢ without.team → IsApart (spans_in (slice_index_or lanes n e).entries.items) s
+
+-- a span that holds a number lies in one of the free ones exactly where it lies so in the strip of that number
+pub record AreLeft (strips : List Strip) (lanes : List Lane) (without : CellId) (n : ℕ) (free : List Span) : Type 0 where
+  pub rising : IsRising free
+  pub exact : (s : Span) → IsFilled s → (LiesInOne free s ↔ LiesLeft strips lanes without n s)
+
+-- how many entries stand in each lane
+abbrev pub counts_in : List Lane → List ℕ
+counts_in lanes = map (λ l. vec_len l.entries) lanes

@@ -1,10 +1,11 @@
 //! How what stands in strips is changed.
 
-ghost use Rattle.std.specs.Prelude.{AllPairs, ◌≡◌, ◌≢◌, ℕ, None, OnErr, OnOk, Some, length, slice_index_or};
+ghost use Rattle.std.specs.Prelude.{All, AllPairs, IfSome, [], ◌≡◌, ◌≢◌, ℕ, None, OnErr, OnOk, Some, length, slice_index_or};
 ghost use Rattle.lf_occupancy.specs.declared.lane.Lane.{Lane};
-ghost use Rattle.lf_occupancy.specs.Lanes.{HasRoom, IsPruned, TakesOne};
-ghost use Rattle.lf_occupancy.specs.Strips.{AreChanged, AreKept, AreLanes, AreOrderly, AreStrips, Follows, IsReached};
-ghost use Rattle.lf_occupancy.specs.Strips.{IsReachedIn, CanTake, HaveRoom, KeepRoom, PutInRow, PutInRows, boxes_set};
+ghost use Rattle.lf_occupancy.specs.Lanes.{IsPruned, cell_box};
+ghost use Rattle.lf_occupancy.specs.Strips.{AreChanged, AreKept, AreLanes, AreOrderly, AreStrips, Follows, HasCell, IsReached};
+ghost use Rattle.lf_occupancy.specs.Strips.{IsReachedIn, CanTake, HaveRoom, KeepRoom, PutInRow, PutInRows, boxes_set, counts_in, rooms_in};
+ghost use Rattle.lf_occupancy.specs.Occupied.{GrowAtMost, MeetsStrip};
 
 use crate::boxes::{TeamBoxes, box_of_cell, has_cell, set_box};
 use crate::lane::{Lane, make_room, prune, put_in};
@@ -14,7 +15,7 @@ use lf_segments::RowEntry;
 use lf_units::Rect;
 use std::alloc::AllocError;
 
-/// Makes room for one more entry in the strips of a row and the cell's team that the rectangle
+/// Makes room for so many more entries in the strips of a row and the cell's team that the rectangle
 /// reaches. Also on `Err` each strip holds what it held.
 fn make_room_in_row(
     lanes: &mut Vec<Lane>,
@@ -22,16 +23,17 @@ fn make_room_in_row(
     row: usize,
     id: &CellId,
     rect: &Rect,
+    more: usize,
 ) -> Result<(), AllocError>
     requires strips { AreStrips strips.now }
     requires many { length lanes.old.items ≡ length strips.now.list.items }
     ensures kept { AreKept lanes.old.items lanes.new.items }
-    ensures ok { OnOk result (HaveRoom (IsReachedIn strips.now.list.items row id.now.team rect.now) lanes.new.items) }
+    ensures ok { OnOk result (HaveRoom (IsReachedIn strips.now.list.items row id.now.team rect.now) more lanes.new.items) }
 {
     let list = strips.list.as_slice();
     let near = near_strips(list, row, id.team as usize, &rect.x1, &rect.x2);
     for n in near.start..near.end {
-        make_room(&mut lanes[n])?;
+        make_room(&mut lanes[n], more)?;
     }
     Ok(())
 }
@@ -43,14 +45,15 @@ fn make_room_in_rows(
     rows: &[RowEntry],
     id: &CellId,
     rect: &Rect,
+    more: usize,
 ) -> Result<(), AllocError>
     requires strips { AreStrips strips.now }
     requires many { length lanes.old.items ≡ length strips.now.list.items }
     ensures kept { AreKept lanes.old.items lanes.new.items }
-    ensures ok { OnOk result (HaveRoom (IsReached strips.now.list.items rows.now id.now.team rect.now) lanes.new.items) }
+    ensures ok { OnOk result (HaveRoom (IsReached strips.now.list.items rows.now id.now.team rect.now) more lanes.new.items) }
 {
     for entry in rows {
-        make_room_in_row(lanes, strips, entry.row, id, rect)?;
+        make_room_in_row(lanes, strips, entry.row, id, rect, more)?;
     }
     Ok(())
 }
@@ -84,7 +87,7 @@ fn prune_rows(lanes: &mut Vec<Lane>, strips: &Strips, rows: &[RowEntry], id: &Ce
 fn put_in_row(lanes: &mut Vec<Lane>, strips: &Strips, row: usize, id: &CellId, rect: &Rect)
     requires strips { AreStrips strips.now }
     requires many { length lanes.old.items ≡ length strips.now.list.items }
-    requires room { CanTake (IsReachedIn strips.now.list.items row id.now.team rect.now) lanes.old.items }
+    requires room { CanTake strips.now.list.items rect.now (IsReachedIn strips.now.list.items row id.now.team rect.now) lanes.old.items }
     ensures { PutInRow strips.now row id.now rect.now lanes.old.items lanes.new.items }
 {
     let list = strips.list.as_slice();
@@ -99,7 +102,7 @@ fn put_in_rows(lanes: &mut Vec<Lane>, strips: &Strips, rows: &[RowEntry], id: &C
     requires strips { AreStrips strips.now }
     requires many { length lanes.old.items ≡ length strips.now.list.items }
     requires once { AllPairs (λ a b. a.row ≢ b.row) rows.now }
-    requires room { CanTake (IsReached strips.now.list.items rows.now id.now.team rect.now) lanes.old.items }
+    requires room { CanTake strips.now.list.items rect.now (IsReached strips.now.list.items rows.now id.now.team rect.now) lanes.old.items }
     ensures { PutInRows strips.now rows.now id.now rect.now lanes.old.items lanes.new.items }
 {
     for entry in rows {
@@ -113,6 +116,8 @@ fn take_out(lanes: &mut Vec<Lane>, strips: &Strips, id: &CellId, old: &Option<Re
     requires many { length lanes.old.items ≡ length strips.now.list.items }
     ensures follows { Follows strips.now id.now old.now None lanes.old.items lanes.new.items }
     ensures room { KeepRoom lanes.old.items lanes.new.items }
+    ensures rooms { rooms_in lanes.new.items ≡ rooms_in lanes.old.items }
+    ensures entries { GrowAtMost 0 (counts_in lanes.old.items) (counts_in lanes.new.items) }
 {
     if let Some(rect) = old {
         prune_rows(lanes, strips, rows_near(strips, rect), id, rect);
@@ -134,7 +139,7 @@ fn replace_by(
     ensures err { OnErr result (AreKept lanes.old.items lanes.new.items) }
 {
     let rows = rows_near(strips, rect);
-    make_room_in_rows(lanes, strips, rows, id, rect)?;
+    make_room_in_rows(lanes, strips, rows, id, rect, 1)?;
     take_out(lanes, strips, id, old);
     put_in_rows(lanes, strips, rows, id, rect);
     Ok(())
@@ -181,5 +186,87 @@ pub(crate) fn move_box(
     let old = box_of_cell(boxes, id);
     follow(lanes, strips, id, &old, rect)?;
     set_box(boxes, id, rect);
+    Ok(())
+}
+
+/// Takes the cell away, so that it stands nowhere, and lets the lanes follow; where there is no such
+/// cell, nothing changes.
+pub(crate) fn remove_box(
+    lanes: &mut Vec<Lane>,
+    boxes: &mut Vec<TeamBoxes>,
+    strips: &Strips,
+    id: &CellId,
+)
+    requires strips { AreStrips strips.now }
+    requires lanes { AreLanes strips.now.list.items boxes.old.items lanes.old.items }
+    ensures lanes { AreLanes strips.now.list.items boxes.new.items lanes.new.items }
+    ensures boxes { boxes.new.items ≡ boxes_set boxes.old.items id.now None }
+    ensures rooms { rooms_in lanes.new.items ≡ rooms_in lanes.old.items }
+    ensures entries { GrowAtMost 0 (counts_in lanes.old.items) (counts_in lanes.new.items) }
+{
+    if !has_cell(boxes, id) {
+        return;
+    }
+    let old = box_of_cell(boxes, id);
+    take_out(lanes, strips, id, &old);
+    set_box(boxes, id, &None);
+}
+
+/// Gives a cell that stands nowhere a box, and lets the lanes follow. No memory is taken.
+pub(crate) fn insert_box(
+    lanes: &mut Vec<Lane>,
+    boxes: &mut Vec<TeamBoxes>,
+    strips: &Strips,
+    id: &CellId,
+    rect: &Rect,
+)
+    requires strips { AreStrips strips.now }
+    requires lanes { AreLanes strips.now.list.items boxes.old.items lanes.old.items }
+    requires known { HasCell boxes.old.items id.now }
+    requires nowhere { cell_box (slice_index_or boxes.old.items id.now.team []) id.now.own ≡ None }
+    requires room { HaveRoom (MeetsStrip strips.now.list.items id.now.team rect.now) 1 lanes.old.items }
+    ensures lanes { AreLanes strips.now.list.items boxes.new.items lanes.new.items }
+    ensures boxes { boxes.new.items ≡ boxes_set boxes.old.items id.now (Some rect.now) }
+    ensures rooms { rooms_in lanes.new.items ≡ rooms_in lanes.old.items }
+    ensures entries { GrowAtMost 1 (counts_in lanes.old.items) (counts_in lanes.new.items) }
+{
+    put_in_rows(lanes, strips, rows_near(strips, rect), id, rect);
+    set_box(boxes, id, &Some(*rect));
+}
+
+/// Makes room for so many more entries in the strips of the cell's team that share a point with its
+/// box, where it has one. Also on `Err` each strip holds what it held.
+fn reserve_box(
+    lanes: &mut Vec<Lane>,
+    strips: &Strips,
+    id: &CellId,
+    to: &Option<Rect>,
+    more: usize,
+) -> Result<(), AllocError>
+    requires strips { AreStrips strips.now }
+    requires many { length lanes.old.items ≡ length strips.now.list.items }
+    ensures kept { AreKept lanes.old.items lanes.new.items }
+    ensures ok { OnOk result (IfSome to.now (λ rect. HaveRoom (MeetsStrip strips.now.list.items id.now.team rect) more lanes.new.items)) }
+{
+    if let Some(rect) = to {
+        make_room_in_rows(lanes, strips, rows_near(strips, rect), id, rect, more)?;
+    }
+    Ok(())
+}
+
+/// The same for the box of each move, as many entries as there are moves.
+pub(crate) fn reserve_moves(
+    lanes: &mut Vec<Lane>,
+    strips: &Strips,
+    moves: &[(CellId, Option<Rect>)],
+) -> Result<(), AllocError>
+    requires strips { AreStrips strips.now }
+    requires many { length lanes.old.items ≡ length strips.now.list.items }
+    ensures kept { AreKept lanes.old.items lanes.new.items }
+    ensures ok { OnOk result (All (λ m. IfSome m.1 (λ rect. HaveRoom (MeetsStrip strips.now.list.items m.0.team rect) (length moves.now) lanes.new.items)) moves.now) }
+{
+    for (id, to) in moves {
+        reserve_box(lanes, strips, id, to, moves.len())?;
+    }
     Ok(())
 }

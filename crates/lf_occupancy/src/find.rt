@@ -2,9 +2,9 @@
 
 ghost use Rattle.std.specs.Prelude.{All, AllPairs, IfOk, None, negsuc, ◌≤ℤ◌, ◌<ℤ◌, length};
 ghost use Rattle.lf_occupancy.specs.Lanes.{IsLeast};
-ghost use Rattle.lf_occupancy.specs.Strips.{AreFreeTo, AreOrderly, AreStrips, ComesBefore, IsPlaced, MeetsInOne, MeetsInRow};
+ghost use Rattle.lf_occupancy.specs.Strips.{AreFreeTo, AreLeft, AreOrderly, AreStrips, ComesBefore, IsPlaced, MeetsInOne, MeetsInRow};
 
-use crate::lane::{Lane, free_in_lane, least_in_lane, x_range_of};
+use crate::lane::{Lane, free_in_lane, free_of_all, least_in_lane, x_range_of};
 use crate::strip::Strip;
 use crate::strips::{Strips, near_strips, rows_near};
 use lf_cells::CellId;
@@ -70,4 +70,28 @@ pub(crate) fn free_in_strips(
         free.extend_from_slice(&part)?;
     }
     Ok(free)
+}
+
+/// The spans of the strip of that number that the cells of its team leave free, but for one that is
+/// left out; none where there is no such strip.
+pub(crate) fn free_in_one(
+    alloc: Global,
+    strips: &Strips,
+    lanes: &[Lane],
+    number: usize,
+    without: &CellId,
+) -> Result<Vec<Span>, AllocError>
+    requires strips { AreStrips strips.now }
+    requires lanes { AreOrderly strips.now.list.items lanes.now }
+    ensures { IfOk result (λ free. AreLeft strips.now.list.items lanes.now without.now number free.items) }
+{
+    let list = strips.list.as_slice();
+    if number >= list.len() {
+        return Ok(Vec::new(alloc));
+    }
+    let span = x_range_of(&list[number].area);
+    if list[number].team == without.team as usize {
+        return free_in_lane(alloc, &lanes[number], &span, without.own, &span);
+    }
+    free_of_all(alloc, &lanes[number], &span)
 }

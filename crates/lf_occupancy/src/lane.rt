@@ -2,8 +2,9 @@
 
 ghost use Rattle.std.specs.Prelude.{All, ◌≡◌, ◌↔◌, ◌<◌, ◌≤◌, ◌≤ℤ◌, ◌<ℤ◌, ℕ, ◌++◌, ◌∷◌, [], IfOk, IsTrue, OnOk, OnErr, insert, length, negsuc, slice_index_or};
 ghost use Rattle.lf_spans.specs.Spans.{IsFreeIn};
+ghost use Rattle.lf_units.specs.declared.area.Rect.{Rect};
 ghost use Rattle.lf_occupancy.specs.declared.lane.Entry.{Entry};
-ghost use Rattle.lf_occupancy.specs.Lanes.{AreInOrder, HasRoom, IsKept, IsLeast, IsNearRun, IsOrderly, IsPart, IsPruned, IsWhole};
+ghost use Rattle.lf_occupancy.specs.Lanes.{AreInOrder, HasRoom, HasRoomOf, IsKept, IsLeast, IsNearRun, IsOrderly, IsPart, IsPruned, IsWhole};
 ghost use Rattle.lf_occupancy.specs.Lanes.{IsJoined, IsPutIn, IsWithinDef, MeetsEntry, MeetsOne, entry_for, others_in, spans_in, x_range};
 
 use lf_spans::{HasSpan, Span, free_in};
@@ -168,6 +169,15 @@ pub(crate) fn free_in_lane(
     free_in(alloc, strip, others.as_slice(), lane.widest, window)
 }
 
+/// The spans of a strip that its cells leave free.
+pub(crate) fn free_of_all(alloc: Global, lane: &Lane, strip: &Span) -> Result<Vec<Span>, AllocError>
+    requires orderly { IsOrderly lane.now }
+    requires low { negsuc 4611686018427387903 ≤ℤ strip.now.lo }
+    ensures { IfOk result (λ free. IsFreeIn strip.now (spans_in lane.now.entries.items) strip.now free.items) }
+{
+    free_in(alloc, strip, lane.entries.as_slice(), lane.widest, strip)
+}
+
 /// Takes the cell's entries out.
 pub(crate) fn prune(lane: &mut Lane, own: u32)
     ensures { IsPruned own lane.old lane.new }
@@ -175,12 +185,12 @@ pub(crate) fn prune(lane: &mut Lane, own: u32)
     lane.entries.retain(|entry| entry.own != own);
 }
 
-/// Makes room for one more entry.
-pub(crate) fn make_room(lane: &mut Lane) -> Result<(), AllocError>
+/// Makes room for so many more entries.
+pub(crate) fn make_room(lane: &mut Lane, more: usize) -> Result<(), AllocError>
     ensures kept { IsKept lane.old lane.new }
-    ensures ok { OnOk result (HasRoom lane.new) }
+    ensures ok { OnOk result (HasRoomOf more lane.new) }
 {
-    lane.entries.reserve(1)
+    lane.entries.reserve(more)
 }
 
 /// Puts an entry at its place in the order. No memory is taken.
@@ -210,7 +220,7 @@ fn entry_of(own: u32, area: &Rect) -> Entry
 pub(crate) fn put_in(lane: &mut Lane, area: &Rect, own: u32, rect: &Rect)
     requires order { AreInOrder lane.old.entries.items }
     requires within { IsWithinDef area.now }
-    requires room { HasRoom lane.old }
+    requires room { (part : Rect) → IsPart area.now rect.now part → IsWhole part → HasRoom lane.old }
     ensures { IsPutIn own rect.now area.now lane.old lane.new }
 {
     let part = part_of(area, rect);

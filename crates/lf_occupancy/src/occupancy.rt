@@ -1,16 +1,17 @@
 //! What stands in the strips of a frame.
 
-ghost use Rattle.std.specs.Prelude.{ℕ, ◌≡◌, ◌≤ℤ◌, All, IfOk, OnErr, OnOk, negsuc};
+ghost use Rattle.std.specs.Prelude.{ℕ, ◌≡◌, ◌≤ℤ◌, All, IfOk, IfSome, None, OnErr, OnOk, Some, length, negsuc};
 ghost use Rattle.lf_floorplan.specs.declared.frame.Frame.{Frame};
 ghost use Rattle.lf_segments.specs.Segments.{IsCut};
-ghost use Rattle.lf_occupancy.specs.Occupied.{boxes_with, IsFirstMet, IsFreeInRow};
+ghost use Rattle.lf_occupancy.specs.Occupied.{box_at, boxes_with, AreFreeSpans, GrowAtMost, HasRoomFor, NoLess, IsFirstMet, IsFreeInRow};
 ghost use Rattle.lf_occupancy.specs.Floorplans.{HasSize, IsOccupancyOf};
 ghost use Rattle.lf_cells.specs.Cells.{cells_of};
+ghost use Rattle.lf_occupancy.specs.Strips.{HasCell};
 
 use crate::boxes::TeamBoxes;
 use crate::build::{bare_lanes, fill, lay_out, no_boxes_of};
-use crate::change::move_box;
-use crate::find::{free_in_strips, least_met};
+use crate::change::{insert_box, move_box, remove_box, reserve_moves};
+use crate::find::{free_in_one, free_in_strips, least_met};
 use crate::lane::Lane;
 use crate::strips::Strips;
 use lf_cells::{CellId, CellTable};
@@ -22,7 +23,8 @@ use std::marker::Model;
 
 /// What stands in the strips of a frame: for each team the boxes of its cells, and for each strip the
 /// parts of those boxes that lie in it, in the order of their left edges. A strip is the area of a
-/// segment. A contract sees the strips, the boxes, and for how many entries each strip has room.
+/// segment. A contract sees the strips, the boxes, and for each strip how many parts stand in it and
+/// for how many it has room.
 #[derive(Drop)]
 pub struct Occupancy {
     strips: Strips,
@@ -31,15 +33,18 @@ pub struct Occupancy {
 }
 
 impl Model for Occupancy {
-    ghost use Rattle.std.specs.Prelude.{map};
-    ghost use Rattle.std.specs.Vec.{vec_capacity};
     ghost use Rattle.lf_occupancy.specs.Occupied.{Occupied};
 
     ghost Value = { Occupied };
 
-    ghost use Rattle.lf_occupancy.specs.Strips.{AreLanes, AreStrips};
+    ghost use Rattle.lf_occupancy.specs.Strips.{AreLanes, AreStrips, counts_in, rooms_in};
 
-    ghost view = { λ o. record { strips = o.strips.list.items; boxes = o.boxes.items; rooms = map (λ l. vec_capacity l.entries) o.lanes.items } };
+    ghost view = { λ o. record {
+      strips = o.strips.list.items;
+      boxes = o.boxes.items;
+      entries = counts_in o.lanes.items;
+      rooms = rooms_in o.lanes.items;
+    } };
 
     ghost invariant = { λ o. AreStrips o.strips × AreLanes o.strips.list.items o.boxes.items o.lanes.items };
 }
@@ -86,6 +91,21 @@ impl Occupancy {
         free_in_strips(alloc, &self.strips, &self.lanes, row, &id, window)
     }
 
+    /// The free spans of one strip, the segment's of that number, in database units: what the cells of
+    /// its team leave of it, where one cell may be left out. A cell of another team is not looked at,
+    /// so with such a cell none is left out. None where there is no such segment. `Err` where memory
+    /// is refused.
+    pub fn free_spans(
+        &self,
+        alloc: Global,
+        segment: usize,
+        without: CellId,
+    ) -> Result<Vec<Span>, AllocError>
+        ensures { IfOk result (λ free. AreFreeSpans self.now segment without free.items) }
+    {
+        free_in_one(alloc, &self.strips, &self.lanes, segment, &without)
+    }
+
     /// The first of the other cells of the cell's team, by their positions, that shares with the
     /// rectangle a point of one of the team's strips; none where none does. No memory is taken.
     pub fn first_met(&self, id: CellId, rect: &Rect) -> Option<u32>
@@ -102,5 +122,45 @@ impl Occupancy {
         ensures strips { self.new.strips ≡ self.old.strips }
     {
         move_box(&mut self.lanes, &mut self.boxes, &self.strips, &id, &rect)
+    }
+
+    /// Takes the cell away, so that it stands nowhere; where it does already, or there is no such cell,
+    /// nothing changes. No memory is taken, and each strip keeps the room that it has.
+    pub fn remove(&mut self, id: CellId)
+        ensures boxes { self.new.boxes ≡ boxes_with self.old id None }
+        ensures strips { self.new.strips ≡ self.old.strips }
+        ensures rooms { self.new.rooms ≡ self.old.rooms }
+        ensures entries { GrowAtMost 0 self.old.entries self.new.entries }
+    {
+        remove_box(&mut self.lanes, &mut self.boxes, &self.strips, &id);
+    }
+
+    /// Gives a cell that stands nowhere a box. No memory is taken: each strip of its team that shares a
+    /// point with the box has room for one entry more. Each strip keeps the room that it has, and gets
+    /// at most one entry.
+    pub fn insert(&mut self, id: CellId, rect: &Rect)
+        requires known { HasCell self.old.boxes id }
+        requires nowhere { box_at self.old id.team id.own ≡ None }
+        requires room { HasRoomFor self.old id.team rect.now 1 }
+        ensures boxes { self.new.boxes ≡ boxes_with self.old id (Some rect.now) }
+        ensures strips { self.new.strips ≡ self.old.strips }
+        ensures rooms { self.new.rooms ≡ self.old.rooms }
+        ensures entries { GrowAtMost 1 self.old.entries self.new.entries }
+    {
+        insert_box(&mut self.lanes, &mut self.boxes, &self.strips, &id, rect);
+    }
+
+    /// Makes the room that `insert` asks where the moves are made in their order, each by taking the
+    /// cell away and giving it its box, if it has one: for as many entries as there are moves, in each
+    /// strip of a cell's team that shares a point with its box. What stands there stays. `Err` where
+    /// memory is refused: then some room may have been made, and nothing else is changed.
+    pub fn reserve_for(&mut self, moves: &[(CellId, Option<Rect>)]) -> Result<(), AllocError>
+        ensures ok { OnOk result (All (λ m. IfSome m.1 (λ rect. HasRoomFor self.new m.0.team rect (length moves.now))) moves.now) }
+        ensures boxes { self.new.boxes ≡ self.old.boxes }
+        ensures strips { self.new.strips ≡ self.old.strips }
+        ensures entries { self.new.entries ≡ self.old.entries }
+        ensures rooms { NoLess self.old.rooms self.new.rooms }
+    {
+        reserve_moves(&mut self.lanes, &self.strips, moves)
     }
 }

@@ -8,5 +8,5 @@ work_on_floor-requires g c =
     record {
       fits = λ s places same are.
           c.loaded_cells_can_be_given.ensures _ c.args.loaded places loads.2
-          (c.places_follow_design.ensures c.args.loaded s places (same ∙ ap (λ (f : FloorState). f.components) c.in-Ok.ensures.opens) are);
+          (c.places_follow_design.ensures c.args.loaded s places (same ∙ ap (λ (f : FloorState). f.components) c.in-Ok.ensures) are);
     }

@@ -20,7 +20,7 @@ loop-n-preserved c =
       kept = kept_along c.args.lanes.now.items c.loop-n.lanes.items _ c.loop-n.invariant.kept
           (kept_set c.loop-n.lanes.items c.loop-n.n c.index_mut.result.now c.make_room.new.lane within c.index_mut.ensures.value
           c.in_ok-make_room.ensures.kept);
-      room = room_further c.near_strips-near.result.start c.loop-n.n c.near_strips-near.result.end c.loop-n.lanes.items c.index_mut.result.now
+      room = room_further c.args.more c.near_strips-near.result.start c.loop-n.n c.near_strips-near.result.end c.loop-n.lanes.items c.index_mut.result.now
           c.make_room.new.lane within c.index_mut.ensures.value c.in_ok-make_room.ensures.ok c.loop-n.invariant.room;
     }
 
@@ -50,5 +50,5 @@ returns c =
     let near = subst (λ (zs : List Strip). AreNear zs row team rect.x1 rect.x2 start end) c.as_slice-list.ensures.value c.near_strips-near.ensures in
     record {
       kept = c.loop-n.invariant.kept;
-      ok = room_of_row xs row team start c.loop-n.n end rect c.loop-n.lanes.items near c.loop-n-test.false c.loop-n.invariant.room;
+      ok = room_of_row c.args.more xs row team start c.loop-n.n end rect c.loop-n.lanes.items near c.loop-n-test.false c.loop-n.invariant.room;
     }

@@ -1,6 +1,6 @@
 use Rattle.std.proofs.Common.{ℕ, get_or}
 use Rattle.lf_occupancy.specs.declared.lane.Lane.{Lane}
-use Rattle.lf_occupancy.specs.Lanes.{HasRoom}
+use Rattle.lf_occupancy.specs.Lanes.{HasRoomOf}
 use Rattle.lf_occupancy.specs.Strips.{AreKept}
 use Rattle.lf_occupancy.proofs.Changes.{IsBetween}
 use Rattle.lf_occupancy.proofs.change.make_room_in_row.Given as goal
@@ -9,5 +9,5 @@ use Rattle.lf_occupancy.proofs.change.make_room_in_row.Given as goal
 abbrev pub invariant-loop-n : goal.invariant-loop-n
 invariant-loop-n l = record {
   kept : AreKept l.initial.lanes.items l.lanes.items;
-  room : (n : ℕ) (e : Lane) → IsBetween l.initial.n l.n l.n-end n → HasRoom (get_or l.lanes.items n e);
+  room : (n : ℕ) (e : Lane) → IsBetween l.initial.n l.n l.n-end n → HasRoomOf l.more (get_or l.lanes.items n e);
 }

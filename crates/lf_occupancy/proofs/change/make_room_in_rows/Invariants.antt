@@ -1,6 +1,6 @@
 use Rattle.std.proofs.Common.{ℕ, get_or, take}
 use Rattle.lf_occupancy.specs.declared.lane.Lane.{Lane}
-use Rattle.lf_occupancy.specs.Lanes.{HasRoom}
+use Rattle.lf_occupancy.specs.Lanes.{HasRoomOf}
 use Rattle.lf_occupancy.specs.Strips.{AreKept, IsReached}
 use Rattle.lf_occupancy.proofs.change.make_room_in_rows.Given as goal
 
@@ -8,5 +8,5 @@ use Rattle.lf_occupancy.proofs.change.make_room_in_rows.Given as goal
 abbrev pub invariant-loop-entry : goal.invariant-loop-entry
 invariant-loop-entry l = record {
   kept : AreKept l.initial.lanes.items l.lanes.items;
-  room : (n : ℕ) (e : Lane) → IsReached l.strips.list.items (take l.entry-index l.rows) l.id.team l.rect n → HasRoom (get_or l.lanes.items n e);
+  room : (n : ℕ) (e : Lane) → IsReached l.strips.list.items (take l.entry-index l.rows) l.id.team l.rect n → HasRoomOf l.more (get_or l.lanes.items n e);
 }

@@ -2,7 +2,7 @@ use Rattle.std.proofs.Common.{◌≡◌, ◌<◌, List, arith, get_or, length, a
 use Rattle.std.proofs.lemmas.List.{get_or_default}
 use Rattle.lf_occupancy.specs.declared.strip.Strip.{Strip}
 use Rattle.lf_occupancy.specs.Strips.{AreNear, IsPlaced, PutsIn}
-use Rattle.lf_occupancy.specs.Lanes.{IsPutIn, TakesOne}
+use Rattle.lf_occupancy.specs.Lanes.{IsPutIn, TakesPart}
 use Rattle.lf_occupancy.proofs.Finds.{no_strip}
 use Rattle.lf_occupancy.proofs.Changes.{none_changed, changed_further, between_is_reached}
 use Rattle.lf_occupancy.proofs.change.put_in_row.Goals as goal
@@ -25,14 +25,15 @@ put_in-requires c =
     let test = c.loop-n-test.true in
     let many = c.requires.many in
     let within : n < length xs = omega (arith, bound, test) in
-    let takes = c.requires.room n lane (within, λ d. (near.exact n d within).0 (c.loop-n.auto.n, test)) in
+    let takes = c.requires.room n no_strip lane (within, λ d. (near.exact n d within).0 (c.loop-n.auto.n, test)) in
     let same : get_or c.loop-n.lanes.items n lane ≡ get_or c.args.lanes.now.items n lane =
     c.loop-n.invariant.others n lane (omega (arith, within, many)) (λ b. let h = b.below in omega (arith, h)) in
-    let one = subst TakesOne (sym same ∙ sym c.index_mut.ensures.value) takes in
+    let one = subst (TakesPart (get_or xs n no_strip).area rect) (sym same ∙ sym c.index_mut.ensures.value) takes in
+    let part = subst (λ (zs : List Strip). TakesPart (get_or zs n no_strip).area rect lane) (sym c.as_slice-list.ensures.value) one in
     let placed : IsPlaced c.args.strips.now.rows c.args.strips.now.height (get_or c.as_slice-list.result.now n no_strip) =
     subst (λ (zs : List Strip). IsPlaced c.args.strips.now.rows c.args.strips.now.height (get_or zs n no_strip)) (sym c.as_slice-list.ensures.value)
     (c.requires.strips.placed n no_strip within) in
-    record { order = one.order; within = record { low = placed.x_low; high = placed.x_high }; room = one.room }
+    record { order = part.order; within = record { low = placed.x_low; high = placed.x_high }; room = part.room }
 
 pub loop-n-preserved : goal.loop-n-preserved
 loop-n-preserved c =

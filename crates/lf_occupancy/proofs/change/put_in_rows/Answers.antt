@@ -5,14 +5,14 @@ use Rattle.lf_segments.specs.declared.rows_by_y.RowEntry.{RowEntry}
 use Rattle.lf_occupancy.specs.Strips.{IsReached, PutsIn}
 use Rattle.lf_occupancy.specs.Strips.{AreChanged}
 use Rattle.lf_occupancy.proofs.Changes.{none_changed, other_row, rows_further}
-use Rattle.lf_occupancy.specs.Lanes.{TakesOne}
+use Rattle.lf_occupancy.specs.Lanes.{TakesPart}
 use Rattle.lf_occupancy.proofs.change.put_in_rows.Goals as goal
 
 pub loop-entry-init : goal.loop-entry-init
 loop-entry-init c = none_changed _ _ _ (λ n r. any_nil _ r.1)
 
 pub put_in_row-requires-clause-room : goal.put_in_row-requires-clause-room
-put_in_row-requires-clause-room c = λ n e reached.
+put_in_row-requires-clause-room c = λ n d e reached.
     let xs = c.args.strips.now.list.items in
     let rows = c.args.rows.now in
     let team = c.args.id.now.team in
@@ -25,7 +25,7 @@ put_in_row-requires-clause-room c = λ n e reached.
     let same : get_or c.loop-entry.lanes.items n e ≡ get_or c.args.lanes.now.items n e =
     c.loop-entry.invariant.others n e (omega (arith, inner, many))
     (λ before. other_row xs rows i _ team rect n c.requires.once within (get_or_default rows i _ _ within) before reached) in
-    subst TakesOne (sym same) (c.requires.room n e there)
+    subst (TakesPart (get_or xs n d).area rect) (sym same) (c.requires.room n d e there)
 
 pub loop-entry-preserved : goal.loop-entry-preserved
 loop-entry-preserved c =

@@ -1,4 +1,4 @@
-use Rattle.std.proofs.Common.{◌≤◌, ◌<◌, ◌≤ℤ◌, ◌<ℤ◌, ℕ, List, cond, length, get_or, ap, subst, ◌∙◌, arith}
+use Rattle.std.proofs.Common.{◌≤◌, ◌<◌, ◌≤ℤ◌, ◌<ℤ◌, ℕ, List, cond, length, get_or, ap, subst, ◌∙◌, arith, rules}
 use Rattle.std.specs.Prelude.{insert, not}
 use Rattle.std.proofs.lemmas.Int.{ints, clamps}
 use Rattle.lf_occupancy.specs.declared.lane.Entry.{Entry}
@@ -30,4 +30,6 @@ returns c =
           let high = c.requires.within.high in
           let wide = c.requires.whole.wide in
           omega (arith, ints, clamps, h, low, high, wide);
+      more = search rules;
+      room = search rules;
     }

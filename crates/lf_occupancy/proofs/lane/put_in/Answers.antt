@@ -16,7 +16,7 @@ join-requires c =
       within = subst (λ (e : Entry). IsWithinDef e.area) (sym c.entry_of.ensures)
           record { low = omega (arith, ints, low, left); high = omega (arith, ints, high, right) };
       whole = subst (λ (e : Entry). IsWhole e.area) (sym c.entry_of.ensures) (c.if-is_whole.ensures.0 refl);
-      room = c.requires.room;
+      room = c.requires.room c.part_of-part.result c.part_of-part.ensures (c.if-is_whole.ensures.0 refl);
     }
 
 pub returns-then-is_whole : goal.returns-then-is_whole

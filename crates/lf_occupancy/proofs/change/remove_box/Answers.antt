@@ -1,0 +1,15 @@
+use Rattle.std.proofs.Common.{◌≡◌, List, Option, get_or, [], sym, subst, refl, ap, ◌∙◌}
+use Rattle.lf_units.specs.declared.area.Rect.{Rect}
+use Rattle.lf_occupancy.specs.Lanes.{cell_box}
+use Rattle.lf_occupancy.specs.Strips.{AreLanes, HasCell}
+use Rattle.lf_occupancy.proofs.change.remove_box.Goals as goal
+
+pub returns-clause-lanes : goal.returns-clause-lanes
+returns-clause-lanes c =
+    let boxes = c.args.boxes.now.items in
+    let id = c.args.id.now in
+    let has = subst (λ (bs : List (List (Option Rect))). HasCell bs id) c.deref.ensures.value (c.if-not-has_cell.ensures.0 refl) in
+    let from : cell_box (get_or boxes id.team []) id.own ≡ c.box_of_cell-old.result =
+    sym (c.box_of_cell-old.ensures ∙ ap (λ (bs : List (List (Option Rect))). cell_box (get_or bs id.team []) id.own) c.deref-2.ensures.value) in
+    subst (λ (bs : List (List (Option Rect))). AreLanes c.args.strips.now.list.items bs c.take_out.new.lanes.items) (sym c.set_box.ensures)
+    (c.take_out.ensures.follows boxes has from c.requires.lanes)
