@@ -173,7 +173,8 @@ room_further more start k end lanes lane new within is room before n e b = elim 
     order : n < k + 1 → (n < k) ⊎ (n ≡ k)
     order less = grind arith
 
-pub room_of_row : (more : ℕ) (xs : List Strip) (row team start k end : ℕ) (rect : Rect) (lanes : List Lane) → AreNear xs row team rect.x1 rect.x2 start end → end ≤ k →
+pub room_of_row : (more : ℕ) (xs : List Strip) (row team start k end : ℕ) (rect : Rect) (lanes : List Lane) →
+    AreNear xs row team rect.x1 rect.x2 start end → end ≤ k →
     ((n : ℕ) (e : Lane) → IsBetween start k end n → HasRoomOf more (get_or lanes n e)) →
     (n : ℕ) (e : Lane) → IsReachedIn xs row team rect n → HasRoomOf more (get_or lanes n e)
 room_of_row more xs row team start k end rect lanes near past room n e r =
@@ -181,12 +182,14 @@ room_of_row more xs row team start k end rect lanes near past room n e r =
     let until = both.1 in
     room n e record { from = both.0; below = omega (arith, until, past); until = until }
 
-pub rooms_further : (more : ℕ) (xs : List Strip) (rows : List RowEntry) (i : ℕ) (r : RowEntry) (team : ℕ) (rect : Rect) (old new : List Lane) → i < length rows →
-    r ≡ get_or rows i r → length old ≡ length xs → AreKept old new → ((n : ℕ) (e : Lane) → IsReached xs (take i rows) team rect n → HasRoomOf more (get_or old n e)) →
+pub rooms_further : (more : ℕ) (xs : List Strip) (rows : List RowEntry) (i : ℕ) (r : RowEntry) (team : ℕ) (rect : Rect) (old new : List Lane) →
+    i < length rows → r ≡ get_or rows i r → length old ≡ length xs → AreKept old new →
+    ((n : ℕ) (e : Lane) → IsReached xs (take i rows) team rect n → HasRoomOf more (get_or old n e)) →
     ((n : ℕ) (e : Lane) → IsReachedIn xs r.row team rect n → HasRoomOf more (get_or new n e)) →
     (n : ℕ) (e : Lane) → IsReached xs (take (i + 1) rows) team rect n → HasRoomOf more (get_or new n e)
 rooms_further more xs rows i r team rect old new within is many kept before here n e reached =
     elim (any_less (λ (x : RowEntry). (d : Strip) → IsNear x.row team rect.x1 rect.x2 (get_or xs n d)) rows i r within is reached.1) [
-      | inl first ↦ room_kept more (get_or old n e) (get_or new n e) (kept.each n e (let w = reached.0 in omega (arith, w, many))) (before n e (reached.0, first))
+      | inl first ↦ room_kept more (get_or old n e) (get_or new n e) (kept.each n e (let w = reached.0 in omega (arith, w, many)))
+          (before n e (reached.0, first))
       | inr last ↦ here n e (reached.0, last)
     ]

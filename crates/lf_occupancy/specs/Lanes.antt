@@ -1,5 +1,6 @@
 -- What stands in one strip: an entry for the part of each cell's box that lies in it.
-use Rattle.std.specs.Prelude.{◌≡◌, ◌≢◌, ◌⊎◌, ◌↔◌, ◌==◌, ℕ, ◌+◌, ◌<◌, ◌≤◌, ℤ, pos, negsuc, ◌-ℤ◌, ◌≤ℤ◌, ◌<ℤ◌, List, ◌++◌, map, filter, not, length, All, AllPairs, Any}
+use Rattle.std.specs.Prelude.{◌≡◌, ◌≢◌, ◌⊎◌, ◌↔◌, ◌==◌, ℕ, ◌+◌, ◌<◌, ◌≤◌, ℤ, pos, negsuc}
+use Rattle.std.specs.Prelude.{◌-ℤ◌, ◌≤ℤ◌, ◌<ℤ◌, List, ◌++◌, map, filter, not, length, All, AllPairs, Any}
 use Rattle.std.specs.Prelude.{Option, Some, IfSome, insert, IsSomeAnd, option_and_then, slice_get, slice_index_or}
 use Rattle.std.specs.Int.{int_max}
 use Rattle.std.specs.Vec.{vec_len, vec_capacity}

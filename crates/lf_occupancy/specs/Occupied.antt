@@ -1,5 +1,6 @@
 -- What stands in strips: the boxes of teams' cells, and what they leave free.
-use Rattle.std.specs.Prelude.{◌≡◌, ◌≢◌, ◌↔◌, ℕ, ◌+◌, ℤ, ◌≤◌, length, List, [], Option, Some, Any, IsSomeAnd, MatchOption, option_and_then, slice_get, slice_index_or, slice_set}
+use Rattle.std.specs.Prelude.{◌≡◌, ◌≢◌, ◌↔◌, ℕ, ◌+◌, ℤ, ◌≤◌, length, List}
+use Rattle.std.specs.Prelude.{[], Option, Some, Any, IsSomeAnd, MatchOption, option_and_then, slice_get, slice_index_or, slice_set}
 use Rattle.lf_units.specs.declared.area.Rect.{Rect}
 use Rattle.lf_units.specs.Area.{Covers, SharesPoint}
 use Rattle.lf_spans.specs.declared.span.Span.{Span}

@@ -1,6 +1,6 @@
 -- Where strips stand, and how they are found.
 use Rattle.std.specs.Prelude.{◌≡◌, ◌≢◌, ◌⊎◌, ◌↔◌, ◌==◌, if◌then◌else◌, nat_lt, Bool, ℕ, ◌<◌, ◌≤◌, ℤ, pos, negsuc, ◌+ℤ◌, ◌≤ℤ◌, ◌<ℤ◌, List}
-use Rattle.std.specs.Prelude.{length, All, AllPairs, Any}
+use Rattle.std.specs.Prelude.{length, All, AllPairs, Any, IfSome}
 use Rattle.std.specs.Prelude.{int_le, int_lt, Option, map, slice_index_or, slice_set, []}
 use Rattle.std.specs.Vec.{vec_len, vec_capacity}
 use Rattle.lf_cells.specs.declared.cell.CellId.{CellId}
@@ -13,7 +13,7 @@ use Rattle.lf_occupancy.specs.declared.lane.Lane.{Lane}
 use Rattle.lf_occupancy.specs.declared.strip.Strip.{Strip}
 use Rattle.lf_occupancy.specs.declared.strips.Strips.{Strips}
 use Rattle.lf_occupancy.specs.Lanes.{HasRoomOf, TakesOne, TakesPart, cell_box, IsInside, IsKept, IsLane, IsOrderly, IsPutIn, MeetsOne, others_in, spans_in}
-use Rattle.lf_occupancy.specs.Occupied.{across}
+use Rattle.lf_occupancy.specs.Occupied.{MeetsStrip, across}
 
 -- the order of strips: by row, then by team, then by x, without overlap
 abbrev pub ComesBefore : Strip → Strip → Type 0
@@ -188,3 +188,7 @@ pub record AreLeft (strips : List Strip) (lanes : List Lane) (without : CellId) 
 -- how many entries stand in each lane
 abbrev pub counts_in : List Lane → List ℕ
 counts_in lanes = map (λ l. vec_len l.entries) lanes
+
+-- for the box of each of the moves, the strips of the cell's team that it meets have room for so many more entries
+abbrev pub HaveRoomForAll : List Strip → List (CellId × Option Rect) → ℕ → List Lane → Type 0
+HaveRoomForAll strips moves more lanes = All (λ m. IfSome m.1 (λ rect. HaveRoom (MeetsStrip strips m.0.team rect) more lanes)) moves

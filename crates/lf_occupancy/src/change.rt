@@ -3,7 +3,7 @@
 ghost use Rattle.std.specs.Prelude.{All, AllPairs, IfSome, [], ◌≡◌, ◌≢◌, ℕ, None, OnErr, OnOk, Some, length, slice_index_or};
 ghost use Rattle.lf_occupancy.specs.declared.lane.Lane.{Lane};
 ghost use Rattle.lf_occupancy.specs.Lanes.{IsPruned, cell_box};
-ghost use Rattle.lf_occupancy.specs.Strips.{AreChanged, AreKept, AreLanes, AreOrderly, AreStrips, Follows, HasCell, IsReached};
+ghost use Rattle.lf_occupancy.specs.Strips.{AreChanged, AreKept, AreLanes, HaveRoomForAll, AreOrderly, AreStrips, Follows, HasCell, IsReached};
 ghost use Rattle.lf_occupancy.specs.Strips.{IsReachedIn, CanTake, HaveRoom, KeepRoom, PutInRow, PutInRows, boxes_set, counts_in, rooms_in};
 ghost use Rattle.lf_occupancy.specs.Occupied.{GrowAtMost, MeetsStrip};
 
@@ -263,7 +263,7 @@ pub(crate) fn reserve_moves(
     requires strips { AreStrips strips.now }
     requires many { length lanes.old.items ≡ length strips.now.list.items }
     ensures kept { AreKept lanes.old.items lanes.new.items }
-    ensures ok { OnOk result (All (λ m. IfSome m.1 (λ rect. HaveRoom (MeetsStrip strips.now.list.items m.0.team rect) (length moves.now) lanes.new.items)) moves.now) }
+    ensures ok { OnOk result (HaveRoomForAll strips.now.list.items moves.now (length moves.now) lanes.new.items) }
 {
     for (id, to) in moves {
         reserve_box(lanes, strips, id, to, moves.len())?;

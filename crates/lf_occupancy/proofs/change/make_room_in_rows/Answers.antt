@@ -27,6 +27,7 @@ returns c = record {
   kept = c.loop-entry.invariant.kept;
   ok = subst
       (λ (es : List RowEntry).
-      (n : ℕ) (e : Lane) → IsReached c.args.strips.now.list.items es c.args.id.now.team c.args.rect.now n → HasRoomOf c.args.more (get_or c.loop-entry.lanes.items n e))
+      (n : ℕ) (e : Lane) → IsReached c.args.strips.now.list.items es c.args.id.now.team c.args.rect.now n →
+      HasRoomOf c.args.more (get_or c.loop-entry.lanes.items n e))
       (take_all c.loop-entry.entry-index c.args.rows.now (omega arith)) c.loop-entry.invariant.room;
 }
