@@ -100,6 +100,15 @@ def tiles(fences, rows, sites):
     return -(-fences // down), rows // down // 2 * 2
 
 
+def regions(fences, across, wide, high):
+    """The fences, each the left half of its tile."""
+    yield f"REGIONS {fences} ;\n"
+    for fence in range(fences):
+        x, y = fence % across * wide * 200, fence // across * high * 2000
+        yield f"- f{fence} ( {x} {y} ) ( {x + wide // 2 * 200} {y + high * 2000} ) + TYPE FENCE ;\n"
+    yield "END REGIONS\n"
+
+
 FILLED = 0.7    # how much of the ground the cells take; the rest is gaps between them
 
 
@@ -149,11 +158,8 @@ def placed(components, fences, blockages, seed):
     yield f"DIEAREA ( 0 0 ) ( {sites * 200} {rows * 2000} ) ;\n"
     for row in range(rows):
         yield f"ROW r{row} core 0 {row * 2000} {'N' if row % 2 == 0 else 'FS'} DO {sites} BY 1 STEP 200 0 ;\n"
-    yield f"REGIONS {fences} ;\n"
-    for fence in range(fences):
-        x, y = fence % across * wide * 200, fence // across * high * 2000
-        yield f"- f{fence} ( {x} {y} ) ( {x + wide // 2 * 200} {y + high * 2000} ) + TYPE FENCE ;\n"
-    yield f"END REGIONS\nCOMPONENTS {components} ;\n"
+    yield from regions(fences, across, wide, high)
+    yield f"COMPONENTS {components} ;\n"
     members = [[] for _ in range(fences)]
     for number, (mac, x, row, team) in enumerate(cells):
         orient = rng.choice(("N", "FN") if row % 2 == 0 else ("FS", "S"))
@@ -236,12 +242,8 @@ def packed(components, fences, percent, illegal, seed):
     yield "VERSION 5.8 ;\nDIVIDERCHAR \"/\" ;\nBUSBITCHARS \"[]\" ;\nDESIGN bench ;\nUNITS DISTANCE MICRONS 1000 ;\n"
     for row in range(quads * 4):
         yield f"ROW r{row} core 0 {row * 2000} {'N' if row % 2 == 0 else 'FS'} DO {sites} BY 1 STEP 200 0 ;\n"
-    yield f"REGIONS {fences} ;\n"
-    pitch = sites // across
-    for fence in range(fences):
-        x, y = fence % across * pitch * 200, fence // across * high * 2000
-        yield f"- f{fence} ( {x} {y} ) ( {x + pitch // 2 * 200} {y + high * 2000} ) + TYPE FENCE ;\n"
-    yield f"END REGIONS\nCOMPONENTS {components} ;\n"
+    yield from regions(fences, across, wide, high)
+    yield f"COMPONENTS {components} ;\n"
     members = [[] for _ in range(fences)]
     for number, (mac, x, row, team) in enumerate(cells):
         beside = 100 if rng.randrange(100) < illegal else 0
