@@ -1,7 +1,7 @@
 -- What boxes cover at one y, and over a height.
 use Rattle.std.proofs.Common.{◌≡◌, ◌⊎◌, inl, inr, ℕ, ℤ, ◌+◌, ◌<◌, ◌≤◌, ◌≤ℤ◌, ◌<ℤ◌, List, [], ◌∷◌, ◌++◌}
 use Rattle.std.proofs.Common.{length, get_or, take, refl, sym, ap, subst, ◌∙◌, arith}
-use Rattle.std.specs.Prelude.{Any, IsPermutation}
+use Rattle.std.specs.Prelude.{Any, IfSome, IsPermutation, IsSomeAnd, None, Option, Some}
 use Rattle.std.proofs.lemmas.Int.{ints, by_lt_z}
 use Rattle.std.proofs.lemmas.List.{get_or_default, take_more}
 use Rattle.std.proofs.lemmas.List.Sorted.{All-permutation, IsPermutation-sym}
@@ -81,20 +81,22 @@ covered_of boxes y free spans joined met at j m = record {
 
 -- ---- over a height
 
-pub record CoversSoFar (boxes : List Placed) (lower upper : ℤ) (free covered : List Span) (k : ℕ) : Type 0 where
+pub record CoversSoFar (boxes : List Placed) (lower upper : ℤ) (last : Option Placed) (free covered : List Span) (k : ℕ) : Type 0 where
   pub rising : IsRising covered
   pub in_free : (s : Span) → IsFilled s → LiesInOne covered s → LiesInOne free s
   pub at_lower : (s : Span) → IsFilled s → LiesInOne covered s → AreUnder boxes lower s
+  pub at_last : (s : Span) → IsFilled s → LiesInOne covered s → IfSome last (λ p. AreUnder boxes p.rect.y2 s)
   pub at_ends : (s : Span) → IsFilled s → LiesInOne covered s → (m : ℕ) (d : Placed) → m < k → (get_or boxes m d).rect.y2 <ℤ upper →
       AreUnder boxes (get_or boxes m d).rect.y2 s
   pub all : (s : Span) → IsFilled s → LiesInOne free s → ((y : ℤ) → lower ≤ℤ y → y <ℤ upper → AreUnder boxes y s) → LiesInOne covered s
 
 pub covers_start : (boxes : List Placed) (lower upper : ℤ) (free covered : List Span) → lower <ℤ upper → IsCoveredAt boxes lower free covered →
-    CoversSoFar boxes lower upper free covered 0
+    CoversSoFar boxes lower upper None free covered 0
 covers_start boxes lower upper free covered high c = record {
   rising = c.rising;
   in_free = λ s g h. ((c.exact s g).0 h).0;
   at_lower = λ s g h. ((c.exact s g).0 h).1;
+  at_last = λ s g h. tt;
   at_ends = λ s g h m d less. absurd (omega (arith, less));
   all = λ s g h each. (c.exact s g).1 (h, each lower (omega (arith, ints)) high);
 }
@@ -102,31 +104,46 @@ covers_start boxes lower upper free covered high c = record {
 below_or_at : (m k : ℕ) → m < k + 1 → (m < k) ⊎ (m ≡ k)
 below_or_at m k less = grind arith
 
-pub covers_skip : (boxes : List Placed) (lower upper : ℤ) (free covered : List Span) (k : ℕ) (e : Placed) → k < length boxes →
-    CoversSoFar boxes lower upper free covered k →
-    upper ≤ℤ (get_or boxes k e).rect.y2 → CoversSoFar boxes lower upper free covered (k + 1)
-covers_skip boxes lower upper free covered k e within c over = record {
+-- a box that ends where the last one does
+under_last : (boxes : List Placed) (last : Option Placed) (p : Placed) (s : Span) → IsSomeAnd last (λ l. l.rect.y2 ≡ p.rect.y2) →
+    IfSome last (λ l. AreUnder boxes l.rect.y2 s) → AreUnder boxes p.rect.y2 s
+under_last boxes None p s same under = elim same [ ]
+under_last boxes (Some l) p s same under = subst (λ (y : ℤ). AreUnder boxes y s) same under
+
+pub covers_skip : (boxes : List Placed) (lower upper : ℤ) (last : Option Placed) (free covered : List Span) (k : ℕ) (e : Placed) → k < length boxes →
+    CoversSoFar boxes lower upper last free covered k →
+    (upper ≤ℤ (get_or boxes k e).rect.y2) ⊎ IsSomeAnd last (λ l. l.rect.y2 ≡ (get_or boxes k e).rect.y2) → CoversSoFar boxes lower upper last free covered (k + 1)
+covers_skip boxes lower upper last free covered k e within c over = record {
   rising = c.rising;
   in_free = c.in_free;
   at_lower = c.at_lower;
+  at_last = c.at_last;
   at_ends = λ s g h m d less under. elim (below_or_at m k less) [
     | inl before ↦ c.at_ends s g h m d before under
     | inr same ↦
         let End : ℕ → Type 0 = λ n. (get_or boxes n d).rect.y2 <ℤ upper in
+        let Under : ℕ → Type 0 = λ n. AreUnder boxes (get_or boxes n d).rect.y2 s in
         let here : (get_or boxes k d).rect.y2 <ℤ upper = subst End same under in
         let there : (get_or boxes k e).rect.y2 <ℤ upper = subst (λ (p : Placed). p.rect.y2 <ℤ upper) (get_or_default boxes k d e within) here in
-        absurd (omega (arith, ints, over, there))
+        elim over [
+          | inl above ↦ absurd (omega (arith, ints, above, there))
+          | inr end ↦
+              let at_end : AreUnder boxes (get_or boxes k e).rect.y2 s = under_last boxes last (get_or boxes k e) s end (c.at_last s g h) in
+              subst Under (sym same) (subst (λ (p : Placed). AreUnder boxes p.rect.y2 s) (get_or_default boxes k e d within) at_end)
+        ]
   ];
   all = c.all;
 }
 
-pub covers_more : (boxes : List Placed) (lower upper : ℤ) (free covered slice new : List Span) (k : ℕ) (e : Placed) → k < length boxes →
-    CoversSoFar boxes lower upper free covered k → lower ≤ℤ (get_or boxes k e).rect.y2 → (get_or boxes k e).rect.y2 <ℤ upper → slice ≡ covered →
-    IsCoveredAt boxes (get_or boxes k e).rect.y2 slice new → CoversSoFar boxes lower upper free new (k + 1)
-covers_more boxes lower upper free covered slice new k e within c from under same at_slice = record {
+pub covers_more : (boxes : List Placed) (lower upper : ℤ) (last : Option Placed) (free covered slice new : List Span) (k : ℕ) (e : Placed) → k < length boxes →
+    CoversSoFar boxes lower upper last free covered k → lower ≤ℤ (get_or boxes k e).rect.y2 → (get_or boxes k e).rect.y2 <ℤ upper → slice ≡ covered →
+    IsCoveredAt boxes (get_or boxes k e).rect.y2 slice new →
+    CoversSoFar boxes lower upper (Some (get_or boxes k e)) free new (k + 1)
+covers_more boxes lower upper last free covered slice new k e within c from under same at_slice = record {
   rising = n.rising;
   in_free = λ s g h. c.in_free s g (older s g h);
   at_lower = λ s g h. c.at_lower s g (older s g h);
+  at_last = λ s g h. ((n.exact s g).0 h).1;
   at_ends = λ s g h m d less low. elim (below_or_at m k less) [
     | inl before ↦ c.at_ends s g (older s g h) m d before low
     | inr same ↦
@@ -223,9 +240,9 @@ at_each boxes lower upper s at_lower at_ends y from below x holds =
           subst (λ (t : ℤ). AreUnder boxes t s) same (at_ends end.0 end.1 end.2 under)
     ]
 
-pub covers_end : (boxes : List Placed) (lower upper : ℤ) (free covered : List Span) (k : ℕ) → length boxes ≤ k → CoversSoFar boxes lower upper free covered k →
-    IsCoveredOver boxes lower upper free covered
-covers_end boxes lower upper free covered k passed_all c = record {
+pub covers_end : (boxes : List Placed) (lower upper : ℤ) (last : Option Placed) (free covered : List Span) (k : ℕ) → length boxes ≤ k →
+    CoversSoFar boxes lower upper last free covered k → IsCoveredOver boxes lower upper free covered
+covers_end boxes lower upper last free covered k passed_all c = record {
   rising = c.rising;
   exact = λ s g. (
     (λ h. (
@@ -237,9 +254,6 @@ covers_end boxes lower upper free covered k passed_all c = record {
   );
 }
 
--- what is not below is above, and what shares a point with an area ends above its lower edge
-pub above_of : (a b : ℤ) → (a <ℤ b → ⊥) → b ≤ℤ a
-above_of a b never = by_lt_z a b (λ less. absurd (never less)) (λ more. more)
-
+-- what shares a point with an area ends above its lower edge
 pub below_of : (a r : Rect) → SharesPoint a r → a.y1 ≤ℤ r.y2
 below_of a r s = omega (arith, ints, s.in_first.bottom, s.in_second.top)

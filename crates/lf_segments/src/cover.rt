@@ -1,6 +1,6 @@
 //! What boxes leave free of a range, and what they cover over a height.
 
-ghost use Rattle.std.specs.Prelude.{◌≡◌, ◌↔◌, ◌≤ℤ◌, ◌<ℤ◌, All, IfOk, IsPermutation, IsTrue, map};
+ghost use Rattle.std.specs.Prelude.{◌≡◌, ◌⊎◌, ◌↔◌, ◌≤ℤ◌, ◌<ℤ◌, All, IfOk, IsFalse, IsPermutation, IsSomeAnd, IsTrue, map};
 ghost use Rattle.lf_units.specs.Area.{SharesPoint};
 ghost use Rattle.lf_spans.specs.Spans.{IsFree, IsInOrder, IsRising};
 ghost use Rattle.lf_segments.specs.Boxes.{across, AreSpansAt, IsCoveredAt, IsCoveredOver};
@@ -88,16 +88,23 @@ fn covered_at(
     spans_meet(alloc, free, joined.as_slice())
 }
 
-/// Whether the rectangle ends below the area's upper edge.
-fn ends_below(rect: &Rect, area: &Rect) -> bool
-    ensures { IsTrue result ↔ (rect.now.y2 <ℤ area.now.y2) }
+/// Whether the box ends below the area's upper edge, and not where the last one ends.
+fn ends_elsewhere(placed: &Placed, area: &Rect, last: &Option<Placed>) -> bool
+    ensures ends { IsTrue result → placed.now.rect.y2 <ℤ area.now.y2 }
+    ensures not { IsFalse result → (area.now.y2 ≤ℤ placed.now.rect.y2) ⊎ IsSomeAnd last.now (λ l. l.rect.y2 ≡ placed.now.rect.y2) }
 {
-    rect.y2 < area.y2
+    if let Some(last) = last
+        && last.rect.y2 == placed.rect.y2
+    {
+        return false;
+    }
+    placed.rect.y2 < area.y2
 }
 
 /// Of the free spans, what the boxes cover over the whole height of the area. What covers an area
 /// together changes at most where a box begins or ends, and only the ends can take anything away: so
-/// it is looked at from the area's lower edge and from each end within it.
+/// it is looked at from the area's lower edge and from each end within it, and once where boxes that
+/// follow one another end at one y.
 pub(crate) fn covered_over(
     alloc: Global,
     area: &Rect,
@@ -110,11 +117,13 @@ pub(crate) fn covered_over(
     ensures { IfOk result (λ covered. IsCoveredOver boxes.now area.now.y1 area.now.y2 free.now covered.items) }
 {
     let mut covered = covered_at(alloc, boxes, &area.y1, free)?;
+    let mut last = None;
     for placed in boxes {
-        if !ends_below(&placed.rect, area) {
+        if !ends_elsewhere(placed, area, &last) {
             continue;
         }
         covered = covered_at(alloc, boxes, &placed.rect.y2, covered.as_slice())?;
+        last = Some(*placed);
     }
     Ok(covered)
 }
