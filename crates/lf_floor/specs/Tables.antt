@@ -79,10 +79,9 @@ pub record IsHeld (f : Frame) (number : ℕ) (cells : Cells) (occupancy : Option
 abbrev pub IsFollowed : Frame → Tables → Type 0
 IsFollowed f tables = Follows f tables.cells tables.occupancy
 
--- the index and the segments are the frame's
+-- the index is the frame's
 pub record IsReady {S : Type 0} (around : Surroundings S) : Type 0 where
   pub index : IsIndexOf around.frame.now around.index.now
-  pub cut : IsCut around.frame.now around.segments.now
 
 -- each table has a row for the team of that number
 pub record HasRows (number : ℕ) (tables : Tables) : Type 0 where

@@ -1,16 +1,17 @@
 -- The rules on ground and obstacles, by what lies near the box.
 use Rattle.std.proofs.Common.{◌≡◌, inl, inr, ℕ, zero, suc, ℤ, ◌+◌, ◌<◌, Bool, true, false, IsTrue, List, [], ◌∷◌, length, map, get_or, slice_get, Some, None, refl, sym, ◌∙◌, ap, subst, arith, eqb}
-use Rattle.std.specs.Prelude.{All, Contains, ◌↔◌}
+use Rattle.std.specs.Prelude.{All, Contains, MatchOption, Option, ◌↔◌, ◌≢◌}
+use Rattle.std.specs.Option.{is_none}
 use Rattle.std.proofs.Math.ListN.{get_or-map}
 use Rattle.std.proofs.lemmas.List.{length-map, get_or_default}
 use Rattle.std.proofs.lemmas.Bool.Decides.{nat_tests}
-use Rattle.std.proofs.lemmas.Option.{slice_get_read, slice_get_within}
+use Rattle.std.proofs.lemmas.Option.{get_or_from_slice_get, slice_get_read, slice_get_within}
 use Rattle.std.proofs.lemmas.List.Sorted.{Contains-permutation, IsPermutation-sym}
 use Rattle.std.proofs.lemmas.List.Elements.{All-contains, Contains-get_or, Contains-append_left, Contains-append_right, Contains-append_cases}
 use Rattle.lf_units.specs.declared.area.Rect.{Rect}
 use Rattle.lf_units.specs.Area.{Covers, CoveredBy, SharesPoint}
 use Rattle.lf_rtree.specs.declared.placed.Placed.{Placed}
-use Rattle.lf_rtree.specs.Near.{AreNear}
+use Rattle.lf_rtree.specs.Near.{AreNear, IsLeastMet, IsNoneMet}
 use Rattle.lf_rtree.proofs.Nears.{each_near, only_near}
 use Rattle.lf_floorplan.specs.declared.frame.Frame.{Frame}
 use Rattle.lf_floorplan.specs.declared.parts.Team.{Team}
@@ -34,36 +35,41 @@ of_map g [] y (k, within, is) = absurd (omega arith)
 of_map g (x ∷ xs) y (zero, within, is) = (x, first_there x xs, is)
 of_map g (x ∷ xs) y (suc k, within, is) = let deeper = of_map g xs y (k, omega arith, is) in (deeper.0, later_there x deeper.0 xs deeper.1, deeper.2)
 
--- none is found where nothing shares a point, and nothing shares a point where none is found
-nothing_near : (boxes : List Placed) (box : Rect) (found : List Placed) → AreNear boxes box found → All (λ p. SharesPoint box p.rect → ⊥) boxes → found ≡ []
-nothing_near boxes box [] near none = refl
-nothing_near boxes box (p ∷ found) near none =
-    let first = only_near boxes box (p ∷ found) near 0 p (omega arith) in
-    absurd (All-contains (λ q. SharesPoint box q.rect → ⊥) boxes p none first.0 first.1)
-
-none_there : (boxes : List Placed) (box : Rect) (found : List Placed) → AreNear boxes box found → found ≡ [] → (p : Placed) → Contains boxes p →
-    SharesPoint box p.rect → ⊥
-none_there boxes box [] near is p there shares =
-    let at = All-contains (λ q. SharesPoint box q.rect → Contains [] q) boxes p (each_near boxes box [] near) there shares in
-    let within = at.1 in
-    omega (arith, within)
-none_there boxes box (q ∷ found) near is p there shares = absurd cc
+-- no box is met where none shares a point, and none bears the number that is passed over
+pub none_met : (boxes : List Placed) (box : Rect) (but : ℕ) (met : Option ℕ) → All (λ p. p.own ≢ but) boxes →
+    MatchOption met (IsNoneMet boxes box but) (IsLeastMet boxes box but) → IsTrue (is_none met) ↔ All (λ p. SharesPoint box p.rect → ⊥) boxes
+none_met boxes box but None others none = (λ t k d within shares. none k d within (others k d within) shares, λ clear. refl)
+none_met boxes box but (Some own) others least = (
+  λ t. absurd cc,
+  λ clear. absurd (All-contains (λ p. SharesPoint box p.rect → ⊥) boxes least.met.placed clear least.met.among least.met.shares),
+)
 
 -- ---- obstacles
 
-pub clear_near : (f : Frame) (i : FrameIndex) (box : Rect) (found : List Placed) → IsIndexOf f i → AreNear i.obstacles box found → (found ≡ []) ↔ IsClear f box
-clear_near f i box found index near = (
-  λ is k d within shares.
+of_obstacle : (f : Frame) (i : FrameIndex) (k : ℕ) (d : Placed) → IsIndexOf f i → k < length i.obstacles →
+    (r : Rect) × Contains f.obstacles r × (numbered 0 r ≡ get_or i.obstacles k d)
+of_obstacle f i k d index within =
+    of_map (numbered 0) f.obstacles (get_or i.obstacles k d)
+    (Contains-permutation i.obstacles (obstacle_boxes f.obstacles) (get_or i.obstacles k d)
+    (IsPermutation-sym (obstacle_boxes f.obstacles) i.obstacles index.obstacles) (Contains-get_or i.obstacles k d within))
+
+pub not_one : (f : Frame) (i : FrameIndex) → IsIndexOf f i → All (λ p. p.own ≢ 1) i.obstacles
+not_one f i index k d within same =
+    let from = of_obstacle f i k d index within in
+    let number : 0 ≡ (get_or i.obstacles k d).own = ap (λ (q : Placed). q.own) from.2 in
+    omega (arith, number, same)
+
+pub clear_met : (f : Frame) (i : FrameIndex) (box : Rect) → IsIndexOf f i → All (λ p. SharesPoint box p.rect → ⊥) i.obstacles ↔ IsClear f box
+clear_met f i box index = (
+  λ none k d within shares.
       let r : Rect = get_or f.obstacles k d in
       let there : Contains (obstacle_boxes f.obstacles) (numbered 0 r) = map_there (numbered 0) f.obstacles r (Contains-get_or f.obstacles k d within) in
-      none_there i.obstacles box found near is (numbered 0 r) (Contains-permutation (obstacle_boxes f.obstacles) i.obstacles (numbered 0 r) index.obstacles there) shares,
-  λ clear. nothing_near i.obstacles box found near (λ k d within shares.
-      let p : Placed = get_or i.obstacles k d in
-      let there : Contains (obstacle_boxes f.obstacles) p =
-      Contains-permutation i.obstacles (obstacle_boxes f.obstacles) p (IsPermutation-sym (obstacle_boxes f.obstacles) i.obstacles index.obstacles) (Contains-get_or i.obstacles k d within) in
-      let from = of_map (numbered 0) f.obstacles p there in
-      let same : from.0 ≡ p.rect = ap (λ (q : Placed). q.rect) from.2 in
-      All-contains (λ r. SharesPoint box r → ⊥) f.obstacles from.0 clear from.1 (subst (SharesPoint box) (sym same) shares)),
+      All-contains (λ p. SharesPoint box p.rect → ⊥) i.obstacles (numbered 0 r) none
+      (Contains-permutation (obstacle_boxes f.obstacles) i.obstacles (numbered 0 r) index.obstacles there) shares,
+  λ clear k d within shares.
+      let from = of_obstacle f i k d index within in
+      let same : from.0 ≡ (get_or i.obstacles k d).rect = ap (λ (q : Placed). q.rect) from.2 in
+      All-contains (λ r. SharesPoint box r → ⊥) f.obstacles from.0 clear from.1 (subst (SharesPoint box) (sym same) shares),
 )
 
 -- ---- fences
@@ -173,28 +179,42 @@ stays_near f i box near t team stays index found is test = (
   λ ground. test.1 (λ x y in_box. covered_back f i box near t team index found is x y in_box (rw is at (ground x y in_box))),
 )
 
-clear_of_fences : (f : Frame) (i : FrameIndex) (box : Rect) (near : List Placed) → IsIndexOf f i → AreNear i.fences box near →
-    (near ≡ []) ↔ open_ground.IsClear box f.teams
-clear_of_fences f i box near index found = (
-  λ is k d within j e inside shares.
+fence_at : (f : Frame) (i : FrameIndex) (k : ℕ) (d : Placed) → IsIndexOf f i → k < length i.fences → OfFence 0 f.teams (get_or i.fences k d)
+fence_at f i k d index within =
+    of_fence 0 f.teams (get_or i.fences k d)
+    (Contains-permutation i.fences (fence_boxes 0 f.teams) (get_or i.fences k d) (IsPermutation-sym (fence_boxes 0 f.teams) i.fences index.fences)
+    (Contains-get_or i.fences k d within))
+
+-- the ground team's number is no fence's
+pub not_ground : (f : Frame) (i : FrameIndex) (t : ℕ) → IsIndexOf f i → t ≡ length f.teams → All (λ p. p.own ≢ t) i.fences
+not_ground f i t index ground k d within same =
+    let of = fence_at f i k d index within in
+    let number = of.number in
+    let inside : of.place < length f.teams = slice_get_within f.teams of.place of.team of.is in
+    omega (arith, number, inside, ground, same)
+
+clear_of_fences : (f : Frame) (i : FrameIndex) (box : Rect) → IsIndexOf f i → All (λ p. SharesPoint box p.rect → ⊥) i.fences ↔ open_ground.IsClear box f.teams
+clear_of_fences f i box index = (
+  λ none k d within j e inside shares.
       let team : Team = get_or f.teams k d in
       let r : Rect = get_or team.rects j e in
       let at : slice_get f.teams k ≡ Some team = slice_get_read f.teams (length f.teams) k team refl within (get_or_default f.teams k d team within) in
       let there : Contains i.fences (numbered k r) =
       Contains-permutation (fence_boxes 0 f.teams) i.fences (numbered k r) index.fences (fence_listed f.teams k team r at (Contains-get_or team.rects j e inside)) in
-      none_there i.fences box near found is (numbered k r) there shares,
-  λ clear. nothing_near i.fences box near found (λ k d within shares.
+      All-contains (λ p. SharesPoint box p.rect → ⊥) i.fences (numbered k r) none there shares,
+  λ clear k d within shares.
       let p : Placed = get_or i.fences k d in
-      let of = of_fence 0 f.teams p (Contains-permutation i.fences (fence_boxes 0 f.teams) p (IsPermutation-sym (fence_boxes 0 f.teams) i.fences index.fences) (Contains-get_or i.fences k d within)) in
+      let of = fence_at f i k d index within in
       let inside : of.place < length f.teams = slice_get_within f.teams of.place of.team of.is in
-      let rects_clear : All (λ r. SharesPoint box r → ⊥) of.team.rects = subst (λ (u : Team). All (λ r. SharesPoint box r → ⊥) u.rects) (Rattle.std.proofs.lemmas.Option.get_or_from_slice_get f.teams of.place of.team of.team of.is) (clear of.place of.team inside) in
-      All-contains (λ r. SharesPoint box r → ⊥) of.team.rects p.rect rects_clear of.there shares),
+      let rects_clear : All (λ r. SharesPoint box r → ⊥) of.team.rects =
+      subst (λ (u : Team). All (λ r. SharesPoint box r → ⊥) u.rects) (get_or_from_slice_get f.teams of.place of.team of.team of.is) (clear of.place of.team inside) in
+      All-contains (λ r. SharesPoint box r → ⊥) of.team.rects p.rect rects_clear of.there shares,
 )
 
-pub open_near : (f : Frame) (i : FrameIndex) (box : Rect) (near : List Placed) (t : ℕ) → IsIndexOf f i → AreNear i.fences box near →
-    slice_get f.teams t ≡ None → t ≡ length f.teams → (near ≡ []) ↔ StaysInGround f t box
-open_near f i box near t index found none ground =
-    let clear = clear_of_fences f i box near index found in (
-      λ is. open_ground.stays_in_open f t box none ground (open_ground.open_of_clear box f.teams (clear.0 is)),
+pub open_met : (f : Frame) (i : FrameIndex) (box : Rect) (t : ℕ) → IsIndexOf f i → slice_get f.teams t ≡ None → t ≡ length f.teams →
+    All (λ p. SharesPoint box p.rect → ⊥) i.fences ↔ StaysInGround f t box
+open_met f i box t index none ground =
+    let clear = clear_of_fences f i box index in (
+      λ apart. open_ground.stays_in_open f t box none ground (open_ground.open_of_clear box f.teams (clear.0 apart)),
       λ stays. clear.1 (open_ground.clear_of_open box f.teams (open_ground.open_of_stays f t box none stays)),
     )

@@ -13,7 +13,8 @@ use Rattle.lf_floorplan.specs.declared.frame.Frame.{Frame}
 use Rattle.lf_rules.specs.Choice.{Spot}
 use Rattle.lf_floorplan.specs.Ground.{StaysInGround, IsClear}
 use Rattle.lf_rules.specs.declared.rule.Rule.{Rule}
-use Rattle.lf_rules.specs.declared.rule.Rule.TheVariants.{Overlap}
+use Rattle.lf_floorplan.specs.Standing.{StandsOn}
+use Rattle.lf_rules.specs.declared.rule.Rule.TheVariants.{Fence, Obstacle, Overlap}
 use Rattle.lf_rules.specs.Legality.{Trial, Holds, IsFirstMet, IsFirstBroken, box_of, number_of}
 use Rattle.lf_rules.specs.Legalizer.{IsVerdict}
 use Rattle.lf_reports.specs.Nearby.{IsFrameVerdict, IsRowVerdict, IsAreaVerdict}
@@ -134,12 +135,46 @@ none_beside f cells tree box but same none =
 -- ---- the verdict
 
 -- the rule on rows that is the first broken
-pub rows_broken : (t : Trial) (verdict : Option Rule) (rule : Rule) → verdict ≡ Some rule → IsRowVerdict t verdict →
+rows_broken : (t : Trial) (verdict : Option Rule) (rule : Rule) → verdict ≡ Some rule → IsRowVerdict t verdict →
     IsFirstBroken t record { rule = rule; other = None }
 rows_broken t verdict rule is said = subst (IsRowVerdict t) is said
 
+-- a rule but overlap that is the first broken
+pub frame_broken : (t : Trial) (verdict : Option Rule) (rule : Rule) → verdict ≡ Some rule → IsFrameVerdict t verdict →
+    IsFirstBroken t record { rule = rule; other = None }
+frame_broken t verdict rule is said = subst (IsFrameVerdict t) is said
+
+-- where all rules but overlap hold, the cell that is met decides
+pub met_verdict : (t : Trial) (cells : List Member) (own : ℕ) (tree : List Placed) (box : Rect) (frame_said : Option Rule) (met : Option ℕ) →
+    t.others ≡ boxes_beside t.frame cells own → box ≡ box_of t → frame_said ≡ None → IsFrameVerdict t frame_said →
+    IsPermutation (boxes_from t.frame 0 cells) tree →
+    MatchOption met (IsNoneMet tree box own) (IsLeastMet tree box own) → IsVerdict t (option_map (λ other. record { rule = Overlap; other = Some other }) met)
+met_verdict t cells own tree box frame_said met beside at none said same found = by met found
+  where
+    holds : (r : Rule) → number_of r ≤ 7 → Holds t r
+    holds = subst (IsFrameVerdict t) none said
+
+    held : OnRows t
+    held = rows_held t (λ r below. holds r (omega (arith, below)))
+
+    stays : StaysInGround t.frame t.team box
+    stays = subst (StaysInGround t.frame t.team) (sym at) (holds Fence (omega arith))
+
+    clear : IsClear t.frame box
+    clear = subst (IsClear t.frame) (sym at) (holds Obstacle (omega arith))
+
+    by : (m : Option ℕ) → MatchOption m (IsNoneMet tree box own) (IsLeastMet tree box own) →
+        IsVerdict t (option_map (λ other. record { rule = Overlap; other = Some other }) m)
+    by None none_met =
+        all_at t box at held stays clear (subst (All (λ p. SharesPoint box p.rect → ⊥)) (sym beside) (none_beside t.frame cells tree box own same none_met))
+    by (Some other) least =
+        overlap_not t box other at held stays clear
+        (subst (λ (boxes : List Placed). IsFirstMet box boxes other) (sym beside) (first_beside t.frame cells tree box own other same least))
+
+-- ---- the rules but overlap
+
 -- the rule on ground or obstacles that is the first broken
-pub areas_broken : (t : Trial) (box : Rect) (rows areas : Option Rule) (rule : Rule) → box ≡ box_of t → rows ≡ None → areas ≡ Some rule → IsRowVerdict t rows →
+areas_broken : (t : Trial) (box : Rect) (rows areas : Option Rule) (rule : Rule) → box ≡ box_of t → rows ≡ None → areas ≡ Some rule → IsRowVerdict t rows →
     IsAreaVerdict t.frame t.team box areas → IsFirstBroken t record { rule = rule; other = None }
 areas_broken t box rows areas rule at no_rows is rows_said said =
     let held : OnRows t = rows_held t (subst (IsRowVerdict t) no_rows rows_said) in
@@ -148,26 +183,6 @@ areas_broken t box rows areas rule at no_rows is rows_said said =
       | inl fence ↦ subst (λ (r : Rule). IsFirstBroken t record { rule = r; other = None }) (sym fence.0) (fence_not t box at held fence.1)
       | inr obstacle ↦ subst (λ (r : Rule). IsFirstBroken t record { rule = r; other = None }) (sym obstacle.0) (obstacle_not t box at held obstacle.1 obstacle.2)
     ]
-
--- where those rules hold, the cell that is met decides
-pub met_verdict : (t : Trial) (cells : List Member) (own : ℕ) (tree : List Placed) (box : Rect) (rows areas : Option Rule) (met : Option ℕ) →
-    t.others ≡ boxes_beside t.frame cells own → box ≡ box_of t →
-    rows ≡ None → areas ≡ None → IsRowVerdict t rows → IsAreaVerdict t.frame t.team box areas → IsPermutation (boxes_from t.frame 0 cells) tree →
-    MatchOption met (IsNoneMet tree box own) (IsLeastMet tree box own) → IsVerdict t (option_map (λ other. record { rule = Overlap; other = Some other }) met)
-met_verdict t cells own tree box rows areas met beside at no_rows no_areas rows_said areas_said same found = by met found
-  where
-    held : OnRows t
-    held = rows_held t (subst (IsRowVerdict t) no_rows rows_said)
-
-    both : StaysInGround t.frame t.team box × IsClear t.frame box
-    both = subst (IsAreaVerdict t.frame t.team box) no_areas areas_said
-
-    by : (m : Option ℕ) → MatchOption m (IsNoneMet tree box own) (IsLeastMet tree box own) →
-        IsVerdict t (option_map (λ other. record { rule = Overlap; other = Some other }) m)
-    by None none = all_at t box at held both.0 both.1 (subst (All (λ p. SharesPoint box p.rect → ⊥)) (sym beside) (none_beside t.frame cells tree box own same none))
-    by (Some other) least = overlap_not t box other at held both.0 both.1 (subst (λ (boxes : List Placed). IsFirstMet box boxes other) (sym beside) (first_beside t.frame cells tree box own other same least))
-
--- ---- the rules but overlap
 
 -- those on rows hold, and those on ground and obstacles
 but_overlap : (t : Trial) (box : Rect) → box ≡ box_of t → OnRows t → StaysInGround t.frame t.team box → IsClear t.frame box →
@@ -190,3 +205,10 @@ areas_decide t box rows areas at no_rows rows_said said = by areas refl
     by None is =
         let both : StaysInGround t.frame t.team box × IsClear t.frame box = subst (IsAreaVerdict t.frame t.team box) is said in
         but_overlap t box at (rows_held t (subst (IsRowVerdict t) no_rows rows_said)) both.0 both.1
+
+-- where the rules on rows hold, the box stands on rows
+pub stands_on : (t : Trial) (box : Rect) (rows : Option Rule) → box ≡ box_of t → rows ≡ None → IsRowVerdict t rows → StandsOn t.frame box
+stands_on t box rows at no_rows said = subst (StandsOn t.frame) (sym at) (record { height = held.height; row = held.row; stand = held.stand })
+  where
+    held : OnRows t
+    held = rows_held t (subst (IsRowVerdict t) no_rows said)

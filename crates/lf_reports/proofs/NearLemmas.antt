@@ -4,7 +4,7 @@ use Rattle.std.specs.Prelude.{All, Contains}
 use Rattle.std.proofs.Math.Nat.{mul-lt-mul_of_pos_right}
 use Rattle.std.proofs.lemmas.Int.{ints}
 use Rattle.std.proofs.lemmas.List.{get_or_default}
-use Rattle.std.proofs.lemmas.Option.{slice_get_read}
+use Rattle.std.proofs.lemmas.Option.{get_or_from_slice_get, slice_get_read, slice_get_within}
 use Rattle.std.proofs.lemmas.List.Sorted.{Contains-permutation, IsPermutation-sym}
 use Rattle.std.proofs.lemmas.List.Elements.{All-nil, All-cons, All-contains, Contains-append_right}
 use Rattle.lf_units.specs.declared.area.Point.{Point}
@@ -17,6 +17,10 @@ use Rattle.lf_floorplan.specs.declared.frame.Frame.{Frame}
 use Rattle.lf_floorplan.specs.declared.parts.Row.{Row}
 use Rattle.lf_floorplan.specs.Rows.{row_area}
 use Rattle.lf_floorplan.specs.Standing.{IsSitesHigh, IsRowOfBox, IsBottomRow, Carries}
+use Rattle.lf_segments.specs.declared.segment.Segment.{Segment}
+use Rattle.lf_segments.specs.Boxes.{across}
+use Rattle.lf_segments.specs.Laws.{LiesInSegments}
+use Rattle.lf_segments.specs.Segments.{LiesInSegment}
 use Rattle.lf_reports.specs.declared.frame_index.FrameIndex.{FrameIndex}
 use Rattle.lf_rules.specs.Solid.{IsSolid}
 use Rattle.lf_reports.specs.Nearby.{numbered, row_boxes, IsIndexOf, AreRowsNear}
@@ -104,6 +108,18 @@ carrier_shares f box bottom j k r solid up tall less is =
     let top = tall.high in
     let fewer = fewer_steps f.pitch.y j k up less in
     (is.heeded, row_shares f box j r solid.wide up is.at_row (omega (arith, ints)))
+
+-- what lies in segments in each row near a box does so in each row that carries it
+pub in_segments : (f : Frame) (segments : List Segment) (near : List Placed) (team : ℕ) (box : Rect) → IsSolid box → pos 0 <ℤ f.pitch.y → AreRowsNear f box near →
+    All (λ p. LiesInSegment segments p.own team (across box)) near → LiesInSegments f segments team box
+in_segments f segments near team box solid up rows each k bottom j n r tall is_bottom less at carries =
+    let shares : SharesPoint box (row_area f.pitch r) = (carrier_shares f box bottom j k r solid up tall less carries).1 in
+    let there : SharesPoint box (row_area f.pitch (get_or f.rows n r)) =
+    subst (λ (s : Row). SharesPoint box (row_area f.pitch s)) (sym (get_or_from_slice_get f.rows n r r at)) shares in
+    let found = rows.each n r (slice_get_within f.rows n r at) there in
+    let lies : LiesInSegment segments found.1.own team (across box) =
+    subst (λ (p : Placed). LiesInSegment segments p.own team (across box)) found.3 (each found.0 found.1 found.2) in
+    subst (λ (m : ℕ). LiesInSegment segments m team (across box)) found.4 lies
 
 -- ---- a walk over the rows near a box
 

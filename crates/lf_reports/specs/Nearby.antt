@@ -10,6 +10,7 @@ use Rattle.lf_floorplan.specs.declared.parts.Row.{Row}
 use Rattle.lf_floorplan.specs.declared.parts.Team.{Team}
 use Rattle.lf_floorplan.specs.Rows.{row_area}
 use Rattle.lf_floorplan.specs.Ground.{StaysInGround, IsClear}
+use Rattle.lf_segments.specs.Segments.{IsCut}
 use Rattle.lf_rules.specs.declared.rule.Rule.{Rule}
 use Rattle.lf_rules.specs.declared.rule.Rule.TheVariants.{Fence, Obstacle}
 use Rattle.lf_reports.specs.declared.frame_index.FrameIndex.{FrameIndex}
@@ -41,11 +42,12 @@ obstacle_boxes rects = map (numbered 0) rects
 abbrev pub rects_of : List Placed → ℕ → List Rect
 rects_of boxes own = map (λ p. p.rect) (filter (λ p. p.own == own) boxes)
 
--- the index holds the frame's rows, fences and obstacles
+-- the index holds the frame's rows, fences, obstacles and segments
 pub record IsIndexOf (f : Frame) (i : FrameIndex) : Type 0 where
   pub rows : IsPermutation (row_boxes f.pitch 0 f.rows) i.rows
   pub fences : IsPermutation (fence_boxes 0 f.teams) i.fences
   pub obstacles : IsPermutation (obstacle_boxes f.obstacles) i.obstacles
+  pub cut : IsCut f i.segments
 
 -- the inner rectangle reaches over no edge of the outer one
 pub record IsWithin (outer inner : Rect) : Type 0 where
@@ -54,13 +56,11 @@ pub record IsWithin (outer inner : Rect) : Type 0 where
   pub right : inner.x2 ≤ℤ outer.x2
   pub top : inner.y2 ≤ℤ outer.y2
 
--- the window holds the frame's rows, fences and obstacles that share a point with its rectangle
+-- the window holds the frame's rows that share a point with its rectangle
 pub record IsWindowOf (f : Frame) (w : Window) : Type 0 where
   pub index : FrameIndex
   pub of : IsIndexOf f index
   pub rows : AreNear index.rows w.rect w.rows.items
-  pub fences : AreNear index.fences w.rect w.fences.items
-  pub obstacles : AreNear index.obstacles w.rect w.obstacles.items
 
 -- the numbers are those of rows, and each row that shares a point with the box has its number among them
 pub record AreRowsNear (f : Frame) (box : Rect) (near : List Placed) : Type 0 where

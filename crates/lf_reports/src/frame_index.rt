@@ -1,14 +1,16 @@
-//! A frame's rows, fences and obstacles, looked up by where they lie.
+//! A frame's rows, fences, obstacles and segments, looked up by where they lie.
 
 ghost use Rattle.std.specs.Prelude.{◌≡◌, ◌≤◌, ◌++◌, IfOk, OnOk, length, map};
 ghost use Rattle.lf_reports.specs.Nearby.{numbered, row_boxes, fence_boxes, obstacle_boxes, IsIndexOf};
 
 use lf_floorplan::{Frame, Team};
 use lf_rtree::{Placed, RTree};
+use lf_segments::Segments;
 use lf_units::Rect;
 use std::alloc::{AllocError, Global};
 
-/// A frame's rows, fences and obstacles in trees: those near a box are found without a look at all of them.
+/// A frame's rows, fences and obstacles in trees, and its segments: what lies near a box is found without a look at all
+/// of them.
 #[derive(Drop)]
 pub struct FrameIndex {
     /// The areas of the rows, by the rows' numbers.
@@ -17,6 +19,8 @@ pub struct FrameIndex {
     pub fences: RTree,
     /// The obstacles; their numbers play no part.
     pub obstacles: RTree,
+    /// What of each row each team may use.
+    pub segments: Segments,
 }
 
 /// The areas of the rows, numbered in their order.
@@ -76,6 +80,7 @@ impl FrameIndex {
             rows: RTree::build(alloc, rows.as_mut_slice())?,
             fences: RTree::build(alloc, fences.as_mut_slice())?,
             obstacles: RTree::build(alloc, obstacles.as_mut_slice())?,
+            segments: Segments::cut(alloc, frame)?,
         })
     }
 }

@@ -1,22 +1,27 @@
 //! The rules on rows, ground and obstacles, by what lies near the box.
 
-ghost use Rattle.std.specs.Prelude.{◌≡◌, ◌↔◌, ◌<◌, ◌<ℤ◌, ℕ, List, [], IfOk, IsTrue, MatchOption, Contains, Some, length, slice_get};
+ghost use Rattle.std.specs.Prelude.{◌≡◌, ◌≢◌, ◌↔◌, ◌<◌, ◌<ℤ◌, ℕ, List, [], All, IfOk, IsTrue, MatchOption, Contains, Some, length, slice_get};
+ghost use Rattle.lf_units.specs.Area.{SharesPoint};
 ghost use Rattle.lf_floorplan.specs.Rows.{IsHeeded};
 ghost use Rattle.lf_rtree.specs.Near.{AreNear};
 ghost use Rattle.lf_floorplan.specs.declared.parts.Row.{Row};
 ghost use Rattle.lf_floorplan.specs.Boxes.{IsSized};
 ghost use Rattle.lf_floorplan.specs.Ground.{StaysInGround, IsClear};
-ghost use Rattle.lf_floorplan.specs.Standing.{IsBottomRow, IsSitesHigh, Carries};
+ghost use Rattle.lf_floorplan.specs.Standing.{IsBottomRow, IsSitesHigh, Carries, StandsOn};
+ghost use Rattle.lf_segments.specs.Boxes.{across};
+ghost use Rattle.lf_segments.specs.Segments.{LiesInSegment};
 ghost use Rattle.lf_rules.specs.Solid.{IsSolid};
 ghost use Rattle.lf_rules.specs.Legality.{box_of, trial_of};
-ghost use Rattle.lf_reports.specs.Nearby.{AreRowsNear, IsAreaVerdict, IsRowVerdict, IsWindowOf, IsWithin, rects_of};
+ghost use Rattle.lf_reports.specs.Nearby.{AreRowsNear, IsAreaVerdict, IsIndexOf, IsRowVerdict, IsWindowOf, IsWithin, rects_of};
 
-use crate::window::Window;
+use crate::frame_index::FrameIndex;
+use crate::window::{Window, near_in};
 use lf_floorplan::{Frame, Macro, Place, Row};
-use lf_rtree::Placed;
+use lf_rtree::{Placed, RTree};
 use lf_rules::{
     Rule, carries, height_in_sites, is_bottom_row, is_covered, is_on_rail, is_oriented,
 };
+use lf_segments::{Segments, lies_in_segments};
 use lf_units::Rect;
 use std::alloc::{AllocError, Global};
 
@@ -33,15 +38,8 @@ fn near(alloc: Global, boxes: &[Placed], rect: &Rect) -> Result<Vec<Placed>, All
     Ok(found)
 }
 
-/// Whether there is no box.
-fn are_none(boxes: &[Placed]) -> bool
-    ensures { IsTrue result ↔ (boxes.now ≡ []) }
-{
-    boxes.is_empty()
-}
-
 /// The rows that share a point with the box, by their numbers.
-fn rows_near(
+pub(crate) fn rows_near(
     alloc: Global,
     frame: &Frame,
     window: &Window,
@@ -119,39 +117,37 @@ fn is_standing_near(frame: &Frame, rect: &Rect, near: &[Placed], bottom: &Row, h
     true
 }
 
-/// The first of the rules on rows that the macro's box breaks at the place; none where it keeps them all.
+/// The first of the rules on rows that the macro's box breaks at the place, beside which these rows lie; none where it
+/// keeps them all.
 pub(crate) fn broken_by_rows(
-    alloc: Global,
     frame: &Frame,
-    window: &Window,
+    near: &[Placed],
     mac: &Macro,
     place: &Place,
     rect: &Rect,
-) -> Result<Option<Rule>, AllocError>
+) -> Option<Rule>
     requires sized { IsSized frame.now mac.now }
-    requires window { IsWindowOf frame.now window.now }
-    requires within { IsWithin window.now.rect rect.now }
+    requires near { AreRowsNear frame.now rect.now near.now }
     requires of_place { rect.now ≡ box_of (trial_of frame.now 0 mac.now place.now []) }
     requires solid { IsSolid rect.now }
-    ensures { IfOk result (λ verdict. (team : ℕ) (others : List Placed) → IsRowVerdict (trial_of frame.now team mac.now place.now others) verdict) }
+    ensures { (team : ℕ) (others : List Placed) → IsRowVerdict (trial_of frame.now team mac.now place.now others) result }
 {
     let Some(height) = height_in_sites(frame, rect) else {
-        return Ok(Some(Rule::Height));
+        return Some(Rule::Height);
     };
-    let near = rows_near(alloc, frame, window, rect)?;
-    let Some(bottom) = bottom_row_near(frame, rect, &near) else {
-        return Ok(Some(Rule::Row));
+    let Some(bottom) = bottom_row_near(frame, rect, near) else {
+        return Some(Rule::Row);
     };
-    if !is_standing_near(frame, rect, &near, bottom, height) {
-        return Ok(Some(Rule::Stand));
+    if !is_standing_near(frame, rect, near, bottom, height) {
+        return Some(Rule::Stand);
     }
     if !is_oriented(frame, mac, place.orient, height, bottom) {
-        return Ok(Some(Rule::Orient));
+        return Some(Rule::Orient);
     }
     if !is_on_rail(mac, height, bottom) {
-        return Ok(Some(Rule::Rail));
+        return Some(Rule::Rail);
     }
-    Ok(None)
+    None
 }
 
 /// The rectangles of the boxes that bear the number.
@@ -167,23 +163,34 @@ fn rects_of(alloc: Global, boxes: &[Placed], own: u32) -> Result<Vec<Rect>, Allo
     Ok(rects)
 }
 
+/// Whether no box of the tree shares a point with the rectangle, where none bears the number `but`. The first one that is met
+/// decides. It takes no memory.
+fn meets_none(tree: &RTree, rect: &Rect, but: u32) -> bool
+    requires { All (λ p. p.own ≢ but) tree.now }
+    ensures { IsTrue result ↔ All (λ p. SharesPoint rect.now p.rect → ⊥) tree.now }
+{
+    match tree.least_met(rect, but) {
+        Some(_) => false,
+        None => true,
+    }
+}
+
 /// Whether every point of the box is ground of the team.
 fn stays_in_ground(
     alloc: Global,
     frame: &Frame,
-    window: &Window,
+    index: &FrameIndex,
     team: usize,
     rect: &Rect,
 ) -> Result<bool, AllocError>
-    requires window { IsWindowOf frame.now window.now }
-    requires within { IsWithin window.now.rect rect.now }
+    requires index { IsIndexOf frame.now index.now }
     requires wide { rect.now.x1 <ℤ rect.now.x2 }
     requires high { rect.now.y1 <ℤ rect.now.y2 }
     ensures { IfOk result (λ stays. IsTrue stays ↔ StaysInGround frame.now team rect.now) }
 {
-    let near = near(alloc, &window.fences, rect)?;
     match frame.teams.as_slice().get(team) {
         Some(_) => {
+            let near = near_in(alloc, &index.fences, rect)?;
             let rects = rects_of(alloc, &near, team as u32)?;
             Ok(is_covered(rect, &rects))
         }
@@ -191,41 +198,88 @@ fn stays_in_ground(
             if team != frame.teams.len() {
                 return Ok(false);
             }
-            Ok(are_none(&near))
+            Ok(meets_none(&index.fences, rect, team as u32))
         }
     }
 }
 
-/// Whether the box meets no obstacle.
-fn is_clear(alloc: Global, frame: &Frame, window: &Window, rect: &Rect) -> Result<bool, AllocError>
-    requires window { IsWindowOf frame.now window.now }
-    requires within { IsWithin window.now.rect rect.now }
-    ensures { IfOk result (λ clear. IsTrue clear ↔ IsClear frame.now rect.now) }
+/// Whether the box meets no obstacle. The obstacles of an index bear the number 0.
+fn is_clear(frame: &Frame, index: &FrameIndex, rect: &Rect) -> bool
+    requires { IsIndexOf frame.now index.now }
+    ensures { IsTrue result ↔ IsClear frame.now rect.now }
 {
-    let near = near(alloc, &window.obstacles, rect)?;
-    Ok(are_none(&near))
+    meets_none(&index.obstacles, rect, 1)
 }
 
 /// The first of the rules on ground and obstacles that the box of a cell of the team breaks; none where it keeps
 /// both.
-pub(crate) fn broken_by_areas(
+fn broken_by_areas(
     alloc: Global,
     frame: &Frame,
-    window: &Window,
+    index: &FrameIndex,
     team: usize,
     rect: &Rect,
 ) -> Result<Option<Rule>, AllocError>
-    requires window { IsWindowOf frame.now window.now }
-    requires within { IsWithin window.now.rect rect.now }
+    requires index { IsIndexOf frame.now index.now }
     requires wide { rect.now.x1 <ℤ rect.now.x2 }
     requires high { rect.now.y1 <ℤ rect.now.y2 }
     ensures { IfOk result (λ verdict. IsAreaVerdict frame.now team rect.now verdict) }
 {
-    if !stays_in_ground(alloc, frame, window, team, rect)? {
+    if !stays_in_ground(alloc, frame, index, team, rect)? {
         return Ok(Some(Rule::Fence));
     }
-    if !is_clear(alloc, frame, window, rect)? {
+    if !is_clear(frame, index, rect) {
         return Ok(Some(Rule::Obstacle));
     }
     Ok(None)
+}
+
+/// Whether the rectangle's x range lies in one segment of the row and the team.
+fn lies_in_one(segments: &Segments, row: usize, team: usize, rect: &Rect) -> bool
+    ensures { IsTrue result → LiesInSegment segments.now row team (across rect.now) }
+{
+    let Some(number) = segments.segment_at(row, team, rect.x1) else {
+        return false;
+    };
+    match segments.as_slice().get(number) {
+        Some(segment) => rect.x2 <= segment.span.hi,
+        None => false,
+    }
+}
+
+/// Whether the rectangle's x range lies in one segment of the team in each of these rows.
+fn lies_in_each(segments: &Segments, rows: &[Placed], team: usize, rect: &Rect) -> bool
+    ensures { IsTrue result → All (λ p. LiesInSegment segments.now p.own team (across rect.now)) rows.now }
+{
+    for placed in rows {
+        if !lies_in_one(segments, placed.own as usize, team, rect) {
+            return false;
+        }
+    }
+    true
+}
+
+/// The first of the rules on ground and obstacles that the box of a cell of the team breaks, which stands on rows; none
+/// where it keeps both.
+///
+/// Where the box lies in the team's segments it keeps both, and neither fences nor obstacles are looked at.
+pub(crate) fn broken_on_rows(
+    alloc: Global,
+    frame: &Frame,
+    index: &FrameIndex,
+    near: &[Placed],
+    team: usize,
+    rect: &Rect,
+) -> Result<Option<Rule>, AllocError>
+    requires index { IsIndexOf frame.now index.now }
+    requires near { AreRowsNear frame.now rect.now near.now }
+    requires solid { IsSolid rect.now }
+    requires stands { StandsOn frame.now rect.now }
+    ensures { IfOk result (λ verdict. IsAreaVerdict frame.now team rect.now verdict) }
+{
+    lies_in_segments();
+    if lies_in_each(&index.segments, near, team, rect) {
+        return Ok(None);
+    }
+    broken_by_areas(alloc, frame, index, team, rect)
 }

@@ -8,7 +8,7 @@ ghost use Rattle.lf_rules.specs.Solid.{IsSolid};
 ghost use Rattle.lf_reports.specs.Nearby.{IsFrameVerdict, IsIndexOf, IsWindowOf, IsWithin};
 
 use crate::frame_index::FrameIndex;
-use crate::near::{broken_by_areas, broken_by_rows};
+use crate::near::{broken_by_rows, broken_on_rows, rows_near};
 use crate::window::Window;
 use lf_floorplan::{Frame, Macro, Place};
 use lf_rules::{Rule, solid_box};
@@ -16,9 +16,10 @@ use lf_units::Rect;
 use std::alloc::{AllocError, Global};
 
 /// The first of the rules but overlap that the macro's box breaks, where it is the window's.
-fn broken_in_window(
+pub(crate) fn broken_in_window(
     alloc: Global,
     frame: &Frame,
+    index: &FrameIndex,
     window: &Window,
     team: usize,
     mac: &Macro,
@@ -26,16 +27,18 @@ fn broken_in_window(
     rect: &Rect,
 ) -> Result<Option<Rule>, AllocError>
     requires sized { IsSized frame.now mac.now }
+    requires index { IsIndexOf frame.now index.now }
     requires window { IsWindowOf frame.now window.now }
     requires within { IsWithin window.now.rect rect.now }
     requires of_place { rect.now ≡ box_of (trial_of frame.now 0 mac.now place.now []) }
     requires solid { IsSolid rect.now }
     ensures { IfOk result (λ verdict. (others : List Placed) → IsFrameVerdict (trial_of frame.now team mac.now place.now others) verdict) }
 {
-    if let Some(rule) = broken_by_rows(alloc, frame, window, mac, place, rect)? {
+    let near = rows_near(alloc, frame, window, rect)?;
+    if let Some(rule) = broken_by_rows(frame, &near, mac, place, rect) {
         return Ok(Some(rule));
     }
-    broken_by_areas(alloc, frame, window, team, rect)
+    broken_on_rows(alloc, frame, index, &near, team, rect)
 }
 
 /// The first of the rules but overlap that a cell of the team breaks at the place; none where it keeps
@@ -57,5 +60,5 @@ pub fn broken_on_frame(
 {
     let rect = solid_box(frame, mac, place);
     let window = Window::over(alloc, index, &rect)?;
-    broken_in_window(alloc, frame, &window, team, mac, place, &rect)
+    broken_in_window(alloc, frame, index, &window, team, mac, place, &rect)
 }

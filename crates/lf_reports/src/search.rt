@@ -11,7 +11,7 @@ ghost use Rattle.lf_rules.specs.Team.{Member, boxes_from, boxes_beside};
 ghost use Rattle.lf_reports.specs.Nearby.{IsIndexOf, IsSearchOf, IsWindowOf, IsWithin};
 
 use crate::frame_index::FrameIndex;
-use crate::near::{broken_by_areas, broken_by_rows};
+use crate::on_frame::broken_in_window;
 use crate::window::{CELLS, Window};
 use lf_floorplan::{Frame, Macro, Place};
 use lf_rtree::{Placed, RTree};
@@ -65,6 +65,7 @@ fn overlap(met: Option<u32>) -> Option<Broken>
 fn broken_within(
     alloc: Global,
     frame: &Frame,
+    index: &FrameIndex,
     window: &Window,
     boxes: &RTree,
     team: usize,
@@ -74,6 +75,7 @@ fn broken_within(
     rect: &Rect,
 ) -> Result<Option<Broken>, AllocError>
     requires sized { IsSized frame.now mac.now }
+    requires index { IsIndexOf frame.now index.now }
     requires window { IsWindowOf frame.now window.now }
     requires within { IsWithin window.now.rect rect.now }
     requires of_place { rect.now ≡ box_of (trial_of frame.now 0 mac.now place.now []) }
@@ -81,10 +83,7 @@ fn broken_within(
     ensures { (cells : List Member) → IsPermutation (boxes_from frame.now 0 cells) boxes.now →
         IfOk result (λ verdict. IsVerdict (trial_of frame.now team mac.now place.now (boxes_beside frame.now cells own)) verdict) }
 {
-    if let Some(rule) = broken_by_rows(alloc, frame, window, mac, place, rect)? {
-        return Ok(Some(Broken { rule, other: None }));
-    }
-    if let Some(rule) = broken_by_areas(alloc, frame, window, team, rect)? {
+    if let Some(rule) = broken_in_window(alloc, frame, index, window, team, mac, place, rect)? {
         return Ok(Some(Broken { rule, other: None }));
     }
     Ok(overlap(boxes.least_met(rect, own)))
@@ -111,8 +110,8 @@ pub(crate) fn broken_beside(
 {
     let rect = solid_box(frame, mac, place);
     if window.holds(&rect) {
-        return broken_within(alloc, frame, window, boxes, team, mac, place, own, &rect);
+        return broken_within(alloc, frame, index, window, boxes, team, mac, place, own, &rect);
     }
     let wider = Window::over(alloc, index, &rect)?;
-    broken_within(alloc, frame, &wider, boxes, team, mac, place, own, &rect)
+    broken_within(alloc, frame, index, &wider, boxes, team, mac, place, own, &rect)
 }

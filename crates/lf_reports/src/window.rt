@@ -21,21 +21,21 @@ const NOWHERE: Rect = Rect {
     y2: 0,
 };
 
-/// What of a frame's rows, fences and obstacles shares a point with a rectangle. Cells that lie side by side are
-/// tested against what one window holds, and the frame's trees are asked once for all of them.
+/// The rows of a frame that share a point with a rectangle. Cells that lie side by side are tested against the rows of one
+/// window, and the tree of rows is asked once for all of them.
 #[derive(Drop)]
 pub struct Window {
     pub rect: Rect,
     /// As in the frame's index.
     pub rows: Vec<Placed>,
-    /// As in the frame's index.
-    pub fences: Vec<Placed>,
-    /// As in the frame's index.
-    pub obstacles: Vec<Placed>,
 }
 
 /// The boxes of the tree that share a point with this one.
-fn near(alloc: Global, tree: &RTree, rect: &Rect) -> Result<Vec<Placed>, AllocError>
+pub(crate) fn near_in(
+    alloc: Global,
+    tree: &RTree,
+    rect: &Rect,
+) -> Result<Vec<Placed>, AllocError>
     ensures { IfOk result (λ found. AreNear tree.now rect.now found.items) }
 {
     let mut found = Vec::new(alloc);
@@ -80,9 +80,7 @@ impl Window {
     {
         Ok(Window {
             rect: *rect,
-            rows: near(alloc, &index.rows, rect)?,
-            fences: near(alloc, &index.fences, rect)?,
-            obstacles: near(alloc, &index.obstacles, rect)?,
+            rows: near_in(alloc, &index.rows, rect)?,
         })
     }
 
@@ -96,10 +94,7 @@ impl Window {
         ensures { (f : Frame) → IsIndexOf f index.now → OnOk result (IsWindowOf f self.new) }
     {
         self.rect = bound_of(ahead);
-        index.rows.find_near(&self.rect, &mut self.rows)?;
-        index.fences.find_near(&self.rect, &mut self.fences)?;
-        index.obstacles.find_near(&self.rect, &mut self.obstacles)?;
-        Ok(())
+        index.rows.find_near(&self.rect, &mut self.rows)
     }
 
     /// Whether the rectangle lies within the window.
