@@ -9,7 +9,6 @@ use Rattle.lf_cells.specs.Cells.{Cells, cells_of}
 use Rattle.lf_cells.specs.Openings.{opening_cells, opening_components}
 use Rattle.lf_legalize.specs.Members.{IsSizedCell}
 use Rattle.lf_reports.specs.Nearby.{IsIndexOf}
-use Rattle.lf_segments.specs.Segments.{IsCut}
 use Rattle.lf_occupancy.specs.Occupied.{Occupied}
 use Rattle.lf_occupancy.specs.Floorplans.{IsOccupancyOf}
 use Rattle.lf_sessions.specs.Slots.{seen_at, slots_of, with_slot}

@@ -110,8 +110,12 @@ pub(crate) fn broken_beside(
 {
     let rect = solid_box(frame, mac, place);
     if window.holds(&rect) {
-        return broken_within(alloc, frame, index, window, boxes, team, mac, place, own, &rect);
+        return broken_within(
+            alloc, frame, index, window, boxes, team, mac, place, own, &rect,
+        );
     }
     let wider = Window::over(alloc, index, &rect)?;
-    broken_within(alloc, frame, index, &wider, boxes, team, mac, place, own, &rect)
+    broken_within(
+        alloc, frame, index, &wider, boxes, team, mac, place, own, &rect,
+    )
 }

@@ -31,11 +31,7 @@ pub struct Window {
 }
 
 /// The boxes of the tree that share a point with this one.
-pub(crate) fn near_in(
-    alloc: Global,
-    tree: &RTree,
-    rect: &Rect,
-) -> Result<Vec<Placed>, AllocError>
+pub(crate) fn near_in(alloc: Global, tree: &RTree, rect: &Rect) -> Result<Vec<Placed>, AllocError>
     ensures { IfOk result (λ found. AreNear tree.now rect.now found.items) }
 {
     let mut found = Vec::new(alloc);
