@@ -1,7 +1,8 @@
 -- How an occupancy is made: the strips of a frame's segments, and the boxes of all cells.
 use Rattle.std.proofs.Common.{◌≡◌, ◌⊎◌, inl, inr, ℕ, zero, suc, ◌+◌, ◌<◌, ◌≤◌, ℤ, pos, ◌-ℤ◌, ◌+ℤ◌, ◌<ℤ◌, List, [], ◌∷◌, Option, Some, None}
 use Rattle.std.proofs.Common.{length, get_or, set, take, map, replicate, slice_get, refl, sym, ap, subst, ◌∙◌, arith}
-use Rattle.std.specs.Prelude.{All, AllPairs, Any, Contains, IsSome}
+use Rattle.std.specs.Prelude.{All, AllPairs, Any, Contains, IsPermutation, IsSome, ◌↔◌}
+use Rattle.std.proofs.lemmas.List.Sorted.{Contains-permutation, IsPermutation-sym}
 use Rattle.std.specs.Option.{option_map_or}
 use Rattle.std.proofs.lemmas.Bool.Decides.{eqb_tells}
 use Rattle.std.proofs.lemmas.Int.{ints}
@@ -151,10 +152,21 @@ pub nowhere_many : (cells : Cells) (boxes : List (List (Option Rect))) → AreNo
     length (get_or boxes team []) ≡ length (cells_of cells team)
 nowhere_many cells boxes none team = ap (λ xs. length xs) (none team) ∙ length-replicate (length (cells_of cells team)) None
 
+-- the ids are those of all cells of the table
+abbrev pub AreIds : Cells → List CellId → Type 0
+AreIds cells ids = (id : CellId) → Contains ids id ↔ IsSome (cell_at cells id)
+
+-- the order of ids is nothing to whose they are
+pub ids_moved : (cells : Cells) (all order : List CellId) → AreAll cells all → IsPermutation all order → AreIds cells order
+ids_moved cells all order are moved id = (
+  λ there. ((are.cells id).0) (Contains-permutation order all id (IsPermutation-sym all order moved) there),
+  λ some. Contains-permutation all order id moved ((are.cells id).1 some),
+)
+
 -- one more cell has its box
 pub filled_further : (f : Frame) (cells : Cells) (ids : List CellId) (i : ℕ) (id : CellId) (box : Option Rect) (boxes : List (List (Option Rect))) →
     i < length ids →
-    id ≡ get_or ids i id → AreAll cells ids → ((c : Cell) → cell_at cells id ≡ Some c → box ≡ box_of f c) → AreFilled f cells (take i ids) boxes →
+    id ≡ get_or ids i id → AreIds cells ids → ((c : Cell) → cell_at cells id ≡ Some c → box ≡ box_of f c) → AreFilled f cells (take i ids) boxes →
     AreFilled f cells (take (i + 1) ids) (set boxes id.team (set (get_or boxes id.team []) id.own box))
 filled_further f cells ids i id box boxes within is all said before = record {
   many = λ team. elim (eqb_tells team id.team) [
@@ -252,7 +264,7 @@ some_cell : (cells : List Cell) (k : ℕ) → k < length cells → Cell
 some_cell [] k within = absurd (omega (arith, within))
 some_cell (c ∷ cells) k within = c
 
-pub all_filled : (f : Frame) (cells : Cells) (ids : List CellId) (boxes : List (List (Option Rect))) → AreAll cells ids → AreFilled f cells ids boxes →
+pub all_filled : (f : Frame) (cells : Cells) (ids : List CellId) (boxes : List (List (Option Rect))) → AreIds cells ids → AreFilled f cells ids boxes →
     (team : ℕ) → get_or boxes team [] ≡ map (box_of f) (cells_of cells team)
 all_filled f cells ids boxes all filled team = same_lists (get_or boxes team []) (map (box_of f) (cells_of cells team))
     (filled.many team ∙ sym (length-map (cells_of cells team) (box_of f))) each
@@ -267,7 +279,7 @@ all_filled f cells ids boxes all filled team = same_lists (get_or boxes team [])
         let c : Cell = get_or own_cells k (some_cell own_cells k inner) in
         let id : CellId = record { team = team; own = k } in
         let at : cell_at cells id ≡ Some c = slice_get-get_or own_cells k (some_cell own_cells k inner) inner in
-        let there : Contains ids id = (all.cells id).1 (some_is (cell_at cells id) c at) in
+        let there : Contains ids id = (all id).1 (some_is (cell_at cells id) c at) in
         sym (cell_box_at (get_or boxes team []) k d within) ∙ filled.done id c there at ∙ sym (get_or-map (box_of f) own_cells k
         (some_cell own_cells k inner) d inner)
       where

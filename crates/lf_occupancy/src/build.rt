@@ -1,6 +1,6 @@
 //! How an occupancy is made.
 
-ghost use Rattle.std.specs.Prelude.{◌≡◌, ◌≤◌, ◌≤ℤ◌, ◌<ℤ◌, negsuc, pos, ◌<◌, ℕ, All, IfOk, OnOk, Some, [], length, map, slice_index_or};
+ghost use Rattle.std.specs.Prelude.{◌≡◌, ◌≤◌, ◌≤ℤ◌, ◌<ℤ◌, negsuc, pos, ◌<◌, ℕ, All, IfOk, IsPermutation, OnOk, Some, [], length, map, slice_index_or};
 ghost use Rattle.lf_segments.specs.Segments.{IsCut};
 ghost use Rattle.lf_cells.specs.declared.cell.Cell.{Cell};
 ghost use Rattle.lf_cells.specs.Cells.{cell_at, cells_of};
@@ -135,8 +135,83 @@ fn box_at_work(frame: &Frame, cells: &CellTable, id: &CellId) -> Option<Rect>
     Some(solid_box(frame, &frame.macros.as_slice()[standing.mac], &place))
 }
 
+/// A cell that waits for its box, and its working place, in database units; 0 where it has none.
+#[derive(Clone, Copy)]
+pub(crate) struct Waiting {
+    id: CellId,
+    x: i32,
+    y: i32,
+}
+
+/// The cell with its working place.
+fn waiting_cell(cells: &CellTable, id: &CellId) -> Waiting
+    ensures { result.id ≡ id.now }
+{
+    let standing = cells.standing(id.team as usize, id.own as usize);
+    match standing.and_then(|standing| standing.working) {
+        Some(place) => Waiting {
+            id: *id,
+            x: place.x,
+            y: place.y,
+        },
+        None => Waiting {
+            id: *id,
+            x: 0,
+            y: 0,
+        },
+    }
+}
+
+/// The cells of these ids with their working places.
+fn all_waiting(
+    alloc: Global,
+    cells: &CellTable,
+    ids: &[CellId],
+) -> Result<Vec<Waiting>, AllocError>
+    ensures { IfOk result (λ list. map (λ w. w.id) list.items ≡ ids.now) }
+{
+    let mut list = Vec::with_capacity(alloc, ids.len())?;
+    for id in ids {
+        list.push(waiting_cell(cells, id))?;
+    }
+    Ok(list)
+}
+
+/// Brings them into the order of their y, and of one y into that of their x.
+fn sort_by_place(list: &mut Vec<Waiting>)
+    ensures { IsPermutation list.old.items list.new.items }
+{
+    list.sort_unstable_by_key(|waiting| (waiting.y, waiting.x));
+}
+
+/// The ids of those that wait.
+fn ids_of(alloc: Global, list: &[Waiting]) -> Result<Vec<CellId>, AllocError>
+    ensures { IfOk result (λ ids. ids.items ≡ map (λ w. w.id) list.now) }
+{
+    let mut ids = Vec::with_capacity(alloc, list.len())?;
+    for waiting in list {
+        ids.push(waiting.id)?;
+    }
+    Ok(ids)
+}
+
+/// These ids in the order of the cells' working places, from row to row and from left to right: so strips
+/// are filled one after another, each from its left end on.
+fn by_place(
+    alloc: Global,
+    cells: &CellTable,
+    ids: &[CellId],
+) -> Result<Vec<CellId>, AllocError>
+    ensures { IfOk result (λ order. IsPermutation ids.now order.items) }
+{
+    let mut list = all_waiting(alloc, cells, ids)?;
+    sort_by_place(&mut list);
+    ids_of(alloc, &list)
+}
+
 /// Gives each cell its box at its working place.
 pub(crate) fn fill(
+    alloc: Global,
     lanes: &mut Vec<Lane>,
     boxes: &mut Vec<TeamBoxes>,
     strips: &Strips,
@@ -150,7 +225,8 @@ pub(crate) fn fill(
     ensures lanes { OnOk result (AreLanes strips.now.list.items boxes.new.items lanes.new.items) }
     ensures boxes { OnOk result ((team : ℕ) → slice_index_or boxes.new.items team [] ≡ map (box_of frame.now) (cells_of cells.now team)) }
 {
-    for id in cells.all() {
+    let order = by_place(alloc, cells, cells.all())?;
+    for id in &order {
         move_box(lanes, boxes, strips, id, &box_at_work(frame, cells, id))?;
     }
     Ok(())

@@ -5,7 +5,7 @@ ghost use Rattle.lf_occupancy.specs.declared.lane.Lane.{Lane};
 ghost use Rattle.lf_occupancy.specs.Lanes.{IsPruned, cell_box};
 ghost use Rattle.lf_occupancy.specs.Strips.{AreChanged, AreKept, AreLanes, HaveRoomForAll, AreOrderly, AreStrips, Follows, HasCell, IsReached};
 ghost use Rattle.lf_occupancy.specs.Strips.{IsReachedIn, CanTake, HaveRoom, KeepRoom, PutInRow, PutInRows, boxes_set, counts_in, rooms_in};
-ghost use Rattle.lf_occupancy.specs.Occupied.{GrowAtMost, MeetsStrip};
+ghost use Rattle.lf_occupancy.specs.Occupied.{GrowAtMost, MeetsStrip, NoLess};
 
 use crate::boxes::{TeamBoxes, box_of_cell, has_cell, set_box};
 use crate::lane::{Lane, make_room, prune, put_in};
@@ -137,6 +137,8 @@ fn replace_by(
     requires lanes { AreOrderly strips.now.list.items lanes.old.items }
     ensures ok { OnOk result (Follows strips.now id.now old.now (Some rect.now) lanes.old.items lanes.new.items) }
     ensures err { OnErr result (AreKept lanes.old.items lanes.new.items) }
+    ensures entries { OnErr result (counts_in lanes.new.items ≡ counts_in lanes.old.items) }
+    ensures rooms { NoLess (rooms_in lanes.old.items) (rooms_in lanes.new.items) }
 {
     let rows = rows_near(strips, rect);
     make_room_in_rows(lanes, strips, rows, id, rect, 1)?;
@@ -157,6 +159,8 @@ fn follow(
     requires lanes { AreOrderly strips.now.list.items lanes.old.items }
     ensures ok { OnOk result (Follows strips.now id.now old.now new.now lanes.old.items lanes.new.items) }
     ensures err { OnErr result (AreKept lanes.old.items lanes.new.items) }
+    ensures entries { OnErr result (counts_in lanes.new.items ≡ counts_in lanes.old.items) }
+    ensures rooms { NoLess (rooms_in lanes.old.items) (rooms_in lanes.new.items) }
 {
     if let Some(rect) = new {
         return replace_by(lanes, strips, id, old, rect);
@@ -179,6 +183,8 @@ pub(crate) fn move_box(
     ensures lanes { AreLanes strips.now.list.items boxes.new.items lanes.new.items }
     ensures ok { OnOk result (boxes.new.items ≡ boxes_set boxes.old.items id.now rect.now) }
     ensures err { OnErr result (boxes.new.items ≡ boxes.old.items) }
+    ensures entries { OnErr result (counts_in lanes.new.items ≡ counts_in lanes.old.items) }
+    ensures rooms { NoLess (rooms_in lanes.old.items) (rooms_in lanes.new.items) }
 {
     if !has_cell(boxes, id) {
         return Ok(());

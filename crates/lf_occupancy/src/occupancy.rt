@@ -66,7 +66,7 @@ impl Occupancy {
         let strips = lay_out(alloc, frame, segments)?;
         let mut lanes = bare_lanes(alloc, strips.list.as_slice().len())?;
         let mut boxes = no_boxes_of(alloc, cells)?;
-        fill(&mut lanes, &mut boxes, &strips, frame, cells)?;
+        fill(alloc, &mut lanes, &mut boxes, &strips, frame, cells)?;
         Ok(Occupancy {
             strips,
             lanes,
@@ -114,12 +114,15 @@ impl Occupancy {
         least_met(&self.strips, &self.lanes, &id, rect)
     }
 
-    /// Gives the cell another box, or none; where there is no such cell, nothing changes. `Err` where
-    /// memory is refused: then nothing is changed.
+    /// Gives the cell another box, or none; where there is no such cell, nothing changes. No strip loses
+    /// room. `Err` where memory is refused: then some room may have been made, and nothing else is
+    /// changed.
     pub fn move_to(&mut self, id: CellId, rect: Option<Rect>) -> Result<(), AllocError>
         ensures ok { OnOk result (self.new.boxes ≡ boxes_with self.old id rect) }
         ensures err { OnErr result (self.new.boxes ≡ self.old.boxes) }
+        ensures kept { OnErr result (self.new.entries ≡ self.old.entries) }
         ensures strips { self.new.strips ≡ self.old.strips }
+        ensures rooms { NoLess self.old.rooms self.new.rooms }
     {
         move_box(&mut self.lanes, &mut self.boxes, &self.strips, &id, &rect)
     }

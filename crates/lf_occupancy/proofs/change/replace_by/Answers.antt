@@ -1,5 +1,7 @@
-use Rattle.std.proofs.Common.{arith}
-use Rattle.lf_occupancy.proofs.Reaching.{lanes_replaced, once_in_run, takes_after}
+use Rattle.std.proofs.Common.{ℕ, List, arith, rules, subst, sym, ◌∙◌}
+use Rattle.lf_occupancy.specs.Occupied.{NoLess}
+use Rattle.lf_occupancy.specs.Strips.{rooms_in}
+use Rattle.lf_occupancy.proofs.Reaching.{counts_kept, lanes_replaced, once_in_run, rooms_kept, rooms_put, takes_after}
 use Rattle.lf_occupancy.proofs.change.replace_by.Goals as goal
 
 pub put_in_rows-requires-clause-once : goal.put_in_rows-requires-clause-once
@@ -18,3 +20,21 @@ returns-clause-ok c =
     lanes_replaced c.args.strips.now c.args.id.now c.args.old.now c.args.rect.now c.rows_near-rows.result.now c.args.lanes.now.items
     c.make_room_in_rows.new.lanes.items c.take_out.new.lanes.items c.put_in_rows.new.lanes.items c.requires.strips c.rows_near-rows.ensures
     c.in_ok-make_room_in_rows.ensures.kept c.take_out.ensures.follows c.put_in_rows.ensures
+
+pub returns-in_err-make_room_in_rows-clause-rooms : goal.returns-in_err-make_room_in_rows-clause-rooms
+returns-in_err-make_room_in_rows-clause-rooms c =
+    rooms_kept c.args.lanes.now.items c.make_room_in_rows.new.lanes.items c.in_err-make_room_in_rows.ensures.kept
+
+pub returns-clause-rooms : goal.returns-clause-rooms
+returns-clause-rooms c =
+    let kept = c.in_ok-make_room_in_rows.ensures.kept in
+    let made = c.make_room_in_rows.new.lanes.items in
+    let same = rooms_put c.args.strips.now.list.items c.rows_near-rows.result.now c.args.id.now.team c.args.id.now.own c.args.rect.now c.take_out.new.lanes.items
+    c.put_in_rows.new.lanes.items (c.take_out.ensures.room.many ∙ kept.many ∙ c.requires.lanes.many) c.put_in_rows.ensures in
+    subst (λ (rooms : List ℕ). NoLess (rooms_in c.args.lanes.now.items) rooms) (sym (same ∙ c.take_out.ensures.rooms))
+    (rooms_kept c.args.lanes.now.items made kept)
+
+pub returns-in_err-make_room_in_rows-clause-entries : goal.returns-in_err-make_room_in_rows-clause-entries
+returns-in_err-make_room_in_rows-clause-entries c =
+    let same = counts_kept c.args.lanes.now.items c.make_room_in_rows.new.lanes.items c.in_err-make_room_in_rows.ensures.kept in
+    search (rules, same)
