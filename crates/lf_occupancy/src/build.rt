@@ -163,11 +163,7 @@ fn waiting_cell(cells: &CellTable, id: &CellId) -> Waiting
 }
 
 /// The cells of these ids with their working places.
-fn all_waiting(
-    alloc: Global,
-    cells: &CellTable,
-    ids: &[CellId],
-) -> Result<Vec<Waiting>, AllocError>
+fn all_waiting(alloc: Global, cells: &CellTable, ids: &[CellId]) -> Result<Vec<Waiting>, AllocError>
     ensures { IfOk result (λ list. map (λ w. w.id) list.items ≡ ids.now) }
 {
     let mut list = Vec::with_capacity(alloc, ids.len())?;
@@ -197,11 +193,7 @@ fn ids_of(alloc: Global, list: &[Waiting]) -> Result<Vec<CellId>, AllocError>
 
 /// These ids in the order of the cells' working places, from row to row and from left to right: so strips
 /// are filled one after another, each from its left end on.
-fn by_place(
-    alloc: Global,
-    cells: &CellTable,
-    ids: &[CellId],
-) -> Result<Vec<CellId>, AllocError>
+fn by_place(alloc: Global, cells: &CellTable, ids: &[CellId]) -> Result<Vec<CellId>, AllocError>
     ensures { IfOk result (λ order. IsPermutation ids.now order.items) }
 {
     let mut list = all_waiting(alloc, cells, ids)?;
