@@ -142,6 +142,7 @@ lanes_bare s cells boxes lanes none bare = record {
           held = λ own x y lies.
               absurd (nowhere (length (cells_of cells team)) own lies.box (sym (ap (λ cs. cell_box cs own) (none team)) ∙ lies.is));
           told = λ k d within. absurd (omega (arith, long, within));
+          once = λ i j d less within. absurd (omega (arith, long, within));
         }
 
 pub none_filled : (f : Frame) (cells : Cells) (boxes : List (List (Option Rect))) →

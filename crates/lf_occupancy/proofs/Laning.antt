@@ -4,7 +4,7 @@ use Rattle.std.proofs.Common.{Some, None, length, get_or, set, take, drop, eqb, 
 use Rattle.std.specs.Prelude.{All, AllPairs, Any, Contains, filter, insert, not, option_and_then, slice_get}
 use Rattle.std.proofs.lemmas.Bool.Decides.{eqb_tells, nat_tests}
 use Rattle.std.proofs.lemmas.Int.{ints, clamps}
-use Rattle.std.proofs.lemmas.List.{get_or-take, get_or-drop, length-take, length-drop, take-append-drop}
+use Rattle.std.proofs.lemmas.List.{get_or_default, get_or-take, get_or-drop, length-take, length-drop, take-append-drop}
 use Rattle.std.proofs.lemmas.List.Elements.{All-append, All-cons, All-drop, All-filter, All-take, filter_passes}
 use Rattle.std.proofs.lemmas.List.Elements.{Contains-append_left, Contains-append_right, Contains-append_cases}
 use Rattle.lf_units.specs.declared.area.Rect.{Rect}
@@ -30,6 +30,10 @@ get_set_same (y ∷ ys) (suc i) x within = get_set_same ys i x (omega (arith, wi
 abbrev inner : Option (Option Rect) → Option Rect
 inner o = option_and_then (λ box. box) o
 
+-- no two entries are of one cell
+abbrev AreOnce : List Entry → Type 0
+AreOnce entries = AllPairs (λ a b. a.own ≢ b.own) entries
+
 -- the boxes where one cell has another box
 pub box_other : (cells : List (Option Rect)) (own k : ℕ) (box : Option Rect) → k ≢ own → cell_box (set cells own box) k ≡ cell_box cells k
 box_other cells own k box apart = ap inner (get_set_other cells own k box apart)
@@ -52,6 +56,7 @@ lane_alike cells other area l f g lane = record {
   inside = lane.inside;
   held = λ own x y lies. lane.held own x y (g own x y lies);
   told = λ k d within x y covers. f (get_or l.entries.items k d).own x y (lane.told k d within x y covers);
+  once = lane.once;
 }
 
 -- a lane with the same entries
@@ -68,6 +73,7 @@ lane_kept cells area old new lane kept = record {
   inside = subst (All (IsInside area)) back lane.inside;
   held = λ own x y lies. subst (Any (HoldsPoint own x y)) back (lane.held own x y lies);
   told = subst (All (λ e. (x y : ℤ) → Covers e.area x y → LiesInBox cells area e.own x y)) back lane.told;
+  once = subst AreOnce back lane.once;
 }
   where
     back : old.entries.items ≡ new.entries.items
@@ -97,6 +103,7 @@ lane_pruned cells area own old new has lane pruned = record {
   inside = subst (All (IsInside area)) back (All-filter p (IsInside area) items lane.inside);
   held = λ k x y lies. subst (Any (HoldsPoint k x y)) back (held k x y lies);
   told = subst (All (λ e. (x y : ℤ) → Covers e.area x y → LiesInBox (set cells own None) area e.own x y)) back told;
+  once = subst AreOnce back (pairs_filter (λ a b. a.own ≢ b.own) p items lane.once);
 }
   where
     items : List Entry
@@ -209,6 +216,46 @@ order_insert xs i e order before behind =
         let high = after n z (omega (arith, inner)) in
         omega (arith, ints, first, low, high)
 
+-- the entry of a cell that has none is put in
+once_insert : (xs : List Entry) (i : ℕ) (e : Entry) → AreOnce xs → All (λ z. z.own ≢ e.own) xs → AreOnce (insert xs i e)
+once_insert xs i e once fresh = pairs_append R (take i xs) (e ∷ drop i xs) cross front (pairs_cons R e (drop i xs) after rest)
+  where
+    R : Entry → Entry → Type 0
+    R a b = a.own ≢ b.own
+
+    own_of : (a b : Entry) → a ≡ b → a.own ≡ b.own
+    own_of a b same = ap (λ (z : Entry). z.own) same
+
+    taken : (m : ℕ) (d : Entry) → m < length (take i xs) → (get_or (take i xs) m d).own ≡ (get_or xs m d).own
+    taken m d within = let long = length-take i xs in own_of _ _ (get_or-take i xs m d (omega (arith, long, within)))
+
+    front : AllPairs R (take i xs)
+    front m n d less within same =
+        let long = length-take i xs in
+        once m n d less (omega (arith, long, within)) (sym (taken m d (omega (arith, less, within))) ∙ same ∙ taken n d within)
+
+    rest : AllPairs R (drop i xs)
+    rest m n d less within same =
+        let long = length-drop i xs in
+        once (i + m) (i + n) d (omega (arith, less)) (omega (arith, long, within))
+        (sym (own_of _ _ (get_or-drop i xs m d)) ∙ same ∙ own_of _ _ (get_or-drop i xs n d))
+
+    after : All (R e) (drop i xs)
+    after m d within same =
+        let long = length-drop i xs in
+        fresh (i + m) d (omega (arith, long, within)) (sym (same ∙ own_of _ _ (get_or-drop i xs m d)))
+
+    cross : All (λ a. All (R a) (e ∷ drop i xs)) (take i xs)
+    cross m d within zero z inner same =
+        let long = length-take i xs in
+        fresh m d (omega (arith, long, within)) (sym (taken m d within) ∙ same)
+    cross m d within (suc n) z inner same =
+        let long = length-take i xs in
+        let wide = length-drop i xs in
+        once m (i + n) d (omega (arith, long, within)) (omega (arith, wide, inner))
+        (sym (taken m d within) ∙ same ∙ own_of _ _ (get_or-drop i xs n z)
+        ∙ own_of _ _ (get_or_default xs (i + n) z d (omega (arith, wide, inner))))
+
 -- the lane with the cell's part is that of the boxes where the cell stands there
 pub lane_put : (cells : List (Option Rect)) (area : Rect) (own : ℕ) (rect : Rect) (old new : Lane) → own < length cells → cell_box cells own ≡ None →
     IsWithinDef area →
@@ -276,6 +323,7 @@ lane_put cells area own rect old new has nowhere def lane put = elim put.change 
       held = λ k x y lies. subst (Any (HoldsPoint k x y)) back (held k x y lies);
       told = subst (All (λ z. (x y : ℤ) → Covers z.area x y → LiesInBox (set cells own (Some rect)) area z.own x y)) back
           (all_insert (λ z. (x y : ℤ) → Covers z.area x y → LiesInBox (set cells own (Some rect)) area z.own x y) items j.at e here there);
+      once = subst AreOnce back (once_insert items j.at e lane.once fresh);
     }
       where
         items : List Entry
@@ -294,6 +342,15 @@ lane_put cells area own rect old new has nowhere def lane put = elim put.change 
             let z : Entry = get_or items k d in
             let lies = lane.told k d within x y covers in
             in_box_of cells (set cells own (Some rect)) area z.own x y (box_other cells own z.own (Some rect) (apart_from z.own lies.box lies.is)) lies
+
+        fresh : All (λ z. z.own ≢ own) items
+        fresh k d within =
+            let z : Entry = get_or items k d in
+            let w = (lane.whole k d within).wide in
+            let h = (lane.whole k d within).high in
+            let lies = lane.told k d within z.area.x1 z.area.y1
+            record { left = omega (arith, ints); right = w; bottom = omega (arith, ints); top = h } in
+            apart_from z.own lies.box lies.is
 
         held : (k : ℕ) (x y : ℤ) → LiesInBox (set cells own (Some rect)) area k x y → Any (HoldsPoint k x y) (insert items j.at e)
         held k x y lies = elim (eqb_tells k own) [

@@ -59,13 +59,14 @@ pub record IsInside (area : Rect) (e : Entry) : Type 0 where
   pub right : e.area.x2 ≤ℤ area.x2
   pub top : e.area.y2 ≤ℤ area.y2
 
--- each point of the area that lies in a cell's box is held by an entry of the cell, and the entries hold no other point
+-- each point of the area that lies in a cell's box is held by an entry of the cell, the entries hold no other point, and no cell has two
 pub record IsLane (cells : List (Option Rect)) (area : Rect) (l : Lane) : Type 0 where
   pub orderly : IsOrderly l
   pub whole : All (λ e. IsWhole e.area) l.entries.items
   pub inside : All (IsInside area) l.entries.items
   pub held : (own : ℕ) (x y : ℤ) → LiesInBox cells area own x y → Any (HoldsPoint own x y) l.entries.items
   pub told : All (λ e. (x y : ℤ) → Covers e.area x y → LiesInBox cells area e.own x y) l.entries.items
+  pub once : AllPairs (λ a b. a.own ≢ b.own) l.entries.items
 
 -- the run of entries near a range: what stands before them ends before the range, and what stands behind them begins behind it
 pub record IsNearRun (entries : List Entry) (lo hi : ℤ) (near : List Entry) : Type 0 where
