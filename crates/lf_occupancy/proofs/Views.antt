@@ -1,10 +1,11 @@
 -- What lanes tell of the boxes of teams' cells.
-use Rattle.std.proofs.Common.{◌≡◌, ◌⊎◌, inl, inr, ℕ, ◌<◌, ◌≤◌, ℤ, ◌<ℤ◌, List, [], Option, Some, None, length, get_or, sym, ap, subst, ◌∙◌, arith}
-use Rattle.std.specs.Prelude.{Any, Contains, IsSomeAnd, slice_get}
+use Rattle.std.proofs.Common.{refl, ◌≡◌, ◌⊎◌, inl, inr, ℕ, ◌<◌, ◌≤◌, ℤ, ◌<ℤ◌, List, [], Option, Some, None, length, get_or, sym, ap, subst, ◌∙◌, arith}
+use Rattle.std.specs.Prelude.{All, Any, Contains, IsSomeAnd, map, slice_get}
+use Rattle.std.specs.Vec.{vec_len}
 use Rattle.std.proofs.lemmas.Bool.Decides.{eqb_tells}
 use Rattle.std.proofs.lemmas.Option.{slice_get-get_or, slice_get_past}
 use Rattle.std.proofs.lemmas.Int.{ints}
-use Rattle.std.proofs.lemmas.List.{get_or_default}
+use Rattle.std.proofs.lemmas.List.{get_or_default, get_or-map, length-map}
 use Rattle.std.proofs.lemmas.List.Elements.{All-contains}
 use Rattle.lf_units.specs.declared.area.Rect.{Rect}
 use Rattle.lf_units.specs.Area.{Covers, SharesPoint}
@@ -15,8 +16,8 @@ use Rattle.lf_occupancy.specs.declared.lane.Entry.{Entry}
 use Rattle.lf_occupancy.specs.declared.lane.Lane.{Lane}
 use Rattle.lf_occupancy.specs.declared.strip.Strip.{Strip}
 use Rattle.lf_occupancy.specs.Lanes.{IsLane, LiesInBox, IsLeast, cell_box, x_range}
-use Rattle.lf_occupancy.specs.Strips.{AreFreeTo, AreLanes, AreLeft, LiesFree, LiesLeft, MeetsInOne}
-use Rattle.lf_occupancy.specs.Occupied.{AreFreeSpans, IsLeftOver, StandsBut}
+use Rattle.lf_occupancy.specs.Strips.{counts_in, AreFreeTo, AreLanes, AreLeft, LiesFree, LiesLeft, MeetsInOne}
+use Rattle.lf_occupancy.specs.Occupied.{AreCellsIn, AreCounted, IsCountIn, box_at, AreFreeSpans, IsLeftOver, StandsBut}
 use Rattle.lf_occupancy.specs.Occupied.{Occupied, IsFirstMet, IsFreeInRow, IsFreeOver, IsOther, IsStripOf, MeetsInStrips, across, over}
 use Rattle.lf_occupancy.proofs.Finds.{no_strip, some_lane}
 use Rattle.lf_occupancy.proofs.Leasts.{least_alike, least_from_none}
@@ -256,3 +257,72 @@ spans_of_strip o lanes id n free are left = record {
           (subst (λ (found : Option Strip). IsSomeAnd found (λ g. IsLeftOver o id g s)) (slice_get-get_or o.strips n no_strip within) some)
       | inr past ↦ absurd (subst (λ (found : Option Strip). IsSomeAnd found (λ g. IsLeftOver o id g s)) (slice_get_past o.strips n past) some)
     ]
+
+-- the cells whose entries stand in a lane are those whose boxes share a point with its strip
+some_box : (P : Rect → Type 0) (found : Option Rect) → IsSomeAnd found P → (box : Rect) × ((found ≡ Some box) × P box)
+some_box P None some = absurd some
+some_box P (Some box) some = (box, (refl, some))
+
+cells_in_lane : (o : Occupied) (g : Strip) (l : Lane) → IsLane (get_or o.boxes g.team []) g.area l →
+    AreCellsIn o g (map (λ (e : Entry). e.own) l.entries.items)
+cells_in_lane o g l lane = record { once = once; exact = λ own. (to own, back own) }
+  where
+    items : List Entry
+    items = l.entries.items
+
+    owns : List ℕ
+    owns = map (λ (e : Entry). e.own) items
+
+    none : Entry
+    none = record { own = 0; area = g.area }
+
+    own_at : (k d : ℕ) → k < length owns → get_or owns k d ≡ (get_or items k none).own
+    own_at k d within = let long = length-map items (λ (e : Entry). e.own) in get_or-map (λ (e : Entry). e.own) items k none d (omega (arith, long, within))
+
+    once : (i j d : ℕ) → i < j → j < length owns → get_or owns i d ≡ get_or owns j d → ⊥
+    once i j d less within same =
+        let long = length-map items (λ (e : Entry). e.own) in
+        lane.once i j none less (omega (arith, long, within)) (sym (own_at i d (omega (arith, less, within))) ∙ same ∙ own_at j d within)
+
+    to : (own : ℕ) → Contains owns own → IsSomeAnd (box_at o g.team own) (λ box. SharesPoint g.area box)
+    to own (k, within, is) =
+        let long = length-map items (λ (e : Entry). e.own) in
+        let e : Entry = get_or items k none in
+        let inner : k < length items = omega (arith, long, within) in
+        let w = (lane.whole k none inner).wide in
+        let h = (lane.whole k none inner).high in
+        let lies = lane.told k none inner e.area.x1 e.area.y1
+        record { left = omega (arith, ints); right = w; bottom = omega (arith, ints); top = h } in
+        let At : ℕ → Type 0 = λ m. IsSomeAnd (box_at o g.team m) (λ box. SharesPoint g.area box) in
+        subst At (sym (own_at k own within) ∙ is)
+        (subst (λ (found : Option Rect). IsSomeAnd found (λ box. SharesPoint g.area box)) (sym lies.is)
+        record { x = e.area.x1; y = e.area.y1; in_first = lies.in_area; in_second = lies.in_box })
+
+    back : (own : ℕ) → IsSomeAnd (box_at o g.team own) (λ box. SharesPoint g.area box) → Contains owns own
+    back own some =
+        let long = length-map items (λ (e : Entry). e.own) in
+        let b = some_box (λ box. SharesPoint g.area box) (box_at o g.team own) some in
+        let s = b.1.1 in
+        let found = lane.held own s.x s.y record { box = b.0; is = b.1.0; in_area = s.in_first; in_box = s.in_second } in
+        let within = found.2 in
+        let inner : found.0 < length owns = omega (arith, long, within) in
+        (found.0, inner, get_or-map (λ (e : Entry). e.own) items found.0 found.1 own within ∙ ap (λ (e : Entry). e.own) found.3 ∙ found.4.is)
+
+pub entries_counted : (o : Occupied) (lanes : List Lane) → o.entries ≡ counts_in lanes → AreLanes o.strips o.boxes lanes → AreCounted o
+entries_counted o lanes are_counts are = record {
+  many = ap (λ (ns : List ℕ). length ns) are_counts ∙ length-map lanes (λ (l : Lane). vec_len l.entries) ∙ are.many;
+  each = λ n d within.
+      let many = are.many in
+      let inner : n < length lanes = omega (arith, many, within) in
+      let e = some_lane lanes n inner in
+      let l = get_or lanes n e in
+      let long : length l.entries.items ≡ vec_len l.entries = sym l.entries.ok.0 in
+      (
+        map (λ (x : Entry). x.own) l.entries.items,
+        (
+          cells_in_lane o (get_or o.strips n d) l (are.each n d e within),
+          length-map l.entries.items (λ (x : Entry). x.own) ∙ long ∙ sym (get_or-map (λ (x : Lane). vec_len x.entries) lanes n e 0 inner)
+          ∙ ap (λ (ns : List ℕ). get_or ns n 0) (sym are_counts),
+        ),
+      );
+}

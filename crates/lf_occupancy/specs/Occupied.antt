@@ -1,6 +1,6 @@
 -- What stands in strips: the boxes of teams' cells, and what they leave free.
 use Rattle.std.specs.Prelude.{◌≡◌, ◌≢◌, ◌↔◌, ℕ, ◌+◌, ℤ, ◌≤◌, length, List}
-use Rattle.std.specs.Prelude.{[], Option, Some, Any, IsSomeAnd, MatchOption, option_and_then, slice_get, slice_index_or, slice_set}
+use Rattle.std.specs.Prelude.{◌<◌, AllPairs, Contains, [], Option, Some, Any, IsSomeAnd, MatchOption, option_and_then, slice_get, slice_index_or, slice_set}
 use Rattle.lf_units.specs.declared.area.Rect.{Rect}
 use Rattle.lf_units.specs.Area.{Covers, SharesPoint}
 use Rattle.lf_spans.specs.declared.span.Span.{Span}
@@ -108,3 +108,17 @@ pub record GrowAtMost (by : ℕ) (old new : List ℕ) : Type 0 where
 -- of two lists of the same length, no number of the new one is less
 abbrev pub NoLess : List ℕ → List ℕ → Type 0
 NoLess old new = GrowAtMost 0 new old
+
+-- the list names each cell of the strip's team whose box shares a point with the strip, once, and no other
+pub record AreCellsIn (o : Occupied) (g : Strip) (cells : List ℕ) : Type 0 where
+  pub once : AllPairs (λ a b. a ≢ b) cells
+  pub exact : (own : ℕ) → Contains cells own ↔ IsSomeAnd (box_at o g.team own) (λ box. SharesPoint g.area box)
+
+-- there are so many of those cells
+abbrev pub IsCountIn : Occupied → Strip → ℕ → Type 0
+IsCountIn o g count = (cells : List ℕ) × (AreCellsIn o g cells × (length cells ≡ count))
+
+-- `entries` counts, for each strip, the cells of its team whose boxes share a point with it
+pub record AreCounted (o : Occupied) : Type 0 where
+  pub many : length o.entries ≡ length o.strips
+  pub each : (n : ℕ) (d : Strip) → n < length o.strips → IsCountIn o (slice_index_or o.strips n d) (slice_index_or o.entries n 0)

@@ -3,7 +3,7 @@
 ghost use Rattle.std.specs.Prelude.{ℕ, ◌≡◌, ◌≤ℤ◌, All, IfOk, IfSome, None, OnErr, OnOk, Some, length, negsuc};
 ghost use Rattle.lf_floorplan.specs.declared.frame.Frame.{Frame};
 ghost use Rattle.lf_segments.specs.Segments.{IsCut};
-ghost use Rattle.lf_occupancy.specs.Occupied.{box_at, boxes_with, AreFreeSpans, GrowAtMost, HasRoomFor, NoLess, IsFirstMet, IsFreeInRow};
+ghost use Rattle.lf_occupancy.specs.Occupied.{box_at, boxes_with, AreCounted, AreFreeSpans, GrowAtMost, HasRoomFor, NoLess, IsFirstMet, IsFreeInRow};
 ghost use Rattle.lf_occupancy.specs.Floorplans.{HasSize, IsOccupancyOf};
 ghost use Rattle.lf_cells.specs.Cells.{cells_of};
 ghost use Rattle.lf_occupancy.specs.Strips.{HasCell};
@@ -165,5 +165,12 @@ impl Occupancy {
         ensures rooms { NoLess self.old.rooms self.new.rooms }
     {
         reserve_moves(&mut self.lanes, &self.strips, moves)
+    }
+
+    /// The entries of each strip are as many as its team has cells whose boxes share a point with it.
+    pub fn entries_are_counted(&self)
+        ensures { AreCounted self.now }
+    {
+        let _ = &self.lanes;
     }
 }
