@@ -316,13 +316,12 @@ entries_counted o lanes are_counts are = record {
       let inner : n < length lanes = omega (arith, many, within) in
       let e = some_lane lanes n inner in
       let l = get_or lanes n e in
-      let long : length l.entries.items ≡ vec_len l.entries = sym l.entries.ok.0 in
-      (
+      let long : length l.entries.items ≡ vec_len l.entries = sym l.entries.ok.0 in (
         map (λ (x : Entry). x.own) l.entries.items,
         (
           cells_in_lane o (get_or o.strips n d) l (are.each n d e within),
           length-map l.entries.items (λ (x : Entry). x.own) ∙ long ∙ sym (get_or-map (λ (x : Lane). vec_len x.entries) lanes n e 0 inner)
-          ∙ ap (λ (ns : List ℕ). get_or ns n 0) (sym are_counts),
+              ∙ ap (λ (ns : List ℕ). get_or ns n 0) (sym are_counts),
         ),
       );
 }
