@@ -12,8 +12,6 @@ mod lines;
 #[cfg(test)]
 mod runs;
 #[cfg(test)]
-mod segments;
-#[cfg(test)]
 mod shelf;
 #[cfg(test)]
 mod tasks;

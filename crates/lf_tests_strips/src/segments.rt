@@ -2,7 +2,6 @@
 
 use crate::designs::{design_of, with_line};
 use lf_def::W_DEF;
-use lf_frame::Limits;
 use lf_segments::{RowEntry, RowsByY, Segment, Segments};
 use lf_units::Span;
 use std::test::Fail;
@@ -37,7 +36,7 @@ fn are(segments: &[Segment], wanted: &[(usize, usize, i64, i64)]) -> bool {
 
 #[test]
 fn segments_of_the_design(rt: HostRuntime) -> Result<(), Fail> {
-    let design = design_of(rt.alloc(), W_DEF, Limits::standard())?;
+    let design = design_of(rt.alloc(), W_DEF)?;
     let segments = Segments::cut(rt.alloc(), &design.frame)?;
     assert!(rt; are(segments.as_slice(), &OF_DESIGN));
     assert!(rt; are(segments.of_row(1, 2), &OF_DESIGN[5..6]));
@@ -51,7 +50,7 @@ fn segments_of_the_design(rt: HostRuntime) -> Result<(), Fail> {
 fn segments_of_two_rectangles_join(rt: HostRuntime) -> Result<(), Fail> {
     let line = b"- A ( 0 0 ) ( 500 4000 ) ( 500 0 ) ( 4000 3000 ) + TYPE FENCE ;";
     let def = with_line(rt.alloc(), W_DEF, 11, line)?;
-    let design = design_of(rt.alloc(), &def, Limits::standard())?;
+    let design = design_of(rt.alloc(), &def)?;
     let segments = Segments::cut(rt.alloc(), &design.frame)?;
     assert!(rt; are(segments.of_row(0, 0), &[(0, 0, 0, 4000)]));
     assert!(rt; are(segments.of_row(1, 0), &[(1, 0, 0, 500)]));
@@ -86,7 +85,7 @@ fn rows_by_y(rt: HostRuntime) -> Result<(), Fail> {
         9,
         b"ROW r3 core 5000 8000 N DO 9 BY 1 STEP 200 0 ;",
     )?;
-    let design = design_of(rt.alloc(), &def, Limits::standard())?;
+    let design = design_of(rt.alloc(), &def)?;
     let rows = RowsByY::build(rt.alloc(), &design.frame)?;
     assert!(rt; are_rows(rows.at(8000), &[0, 3]));
     assert!(rt; are_rows(rows.between(2000, 4001), &[1, 2]));
