@@ -223,9 +223,6 @@ level_above s own bottom window (suc j) xs some free = free
 abbrev pub LevelsSoFar : RowSearch → ℕ → Row → Span → ℕ → List (Vec Span Global) → Type 0
 LevelsSoFar s own bottom window count lists = AreLevels s own bottom window count (map (λ v. v.items) lists)
 
-pub levels_start : (s : RowSearch) (own : ℕ) (bottom : Row) (window : Span) → LevelsSoFar s own bottom window 0 []
-levels_start s own bottom window = record { number = refl; each = λ j less. absurd (omega (arith, less)) }
-
 pub levels_next : (s : RowSearch) (own : ℕ) (bottom : Row) (window : Span) (count : ℕ) (old new : List (Vec Span Global)) (v : Vec Span Global) →
     new ≡ old ++ v ∷ [] → IsLevel s own bottom window count v.items → LevelsSoFar s own bottom window count old →
     LevelsSoFar s own bottom window (count + 1) new

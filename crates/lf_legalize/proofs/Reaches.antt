@@ -117,7 +117,7 @@ in_reach f size target lim rise y w r p at is less lo hi on =
     abs_within (negsuc m) n a b = omega (arith, ints)
 
 -- the better of two is what is known after a look at the second
-better_looks : (cell : Lifted) (target : Point) (best new : Option Spot) (s : Spot) → IsLegalAt cell s → IsBetter target best s new →
+pub better_looks : (cell : Lifted) (target : Point) (best new : Option Spot) (s : Spot) → IsLegalAt cell s → IsBetter target best s new →
     LooksAt (λ p. p ≡ s) cell target best new
 better_looks cell target None new s legal (inl take) = rw take.0 (taken_first cell target s legal)
 better_looks cell target (Some b) new s legal (inl take) = rw take.0 (taken cell target b s legal take.1)

@@ -135,10 +135,6 @@ IsPassed f bottom j run count n = Any (λ e. e.row ≡ n) (take count run) × Is
 abbrev pub FreeSoFar : RowSearch → Row → ℕ → Span → List RowEntry → ℕ → List Span → Type 0
 FreeSoFar s bottom j window run count free = AreFreeOn (IsPassed s.frame.now bottom j run count) s.occupancy.now s.id window free
 
-pub free_start : (s : RowSearch) (bottom : Row) (j : ℕ) (window : Span) (run : List RowEntry) → FreeSoFar s bottom j window run 0 []
-free_start s bottom j window run =
-    free_none (IsPassed s.frame.now bottom j run 0) s.occupancy.now s.id window (λ n p. any_nil (λ e. e.row ≡ n) p.0)
-
 next_left : (f : Frame) (es run : List RowEntry) (y : ℤ) (bottom : Row) (j k : ℕ) (d : RowEntry) → IsRowsByY f es → IsRunAt es y run → k < length run →
     LieLeft f (IsPassed f bottom j run k) (λ n. (n ≡ (get_or run k d).row) × IsRailed f bottom j (get_or run k d).row)
 next_left f es run y bottom j k d rows p within m n a b ((i, e, below, is, number), railed) (same, also) first second =

@@ -10,14 +10,6 @@ use lf_orient::Orient;
 use lf_units::Point;
 
 /// How far the two numbers are apart.
-fn apart(a: i32, b: i64) -> u128
-    ensures value { result ≡ unsigned_abs (a -ℤ b) }
-    ensures small { result ≤ 2 ^ 64 }
-{
-    (i128::from(a) - i128::from(b)).unsigned_abs()
-}
-
-/// How far the two numbers are apart.
 pub(crate) fn gap(a: &i64, b: &i64) -> u64
     ensures { result ≡ unsigned_abs (a.now -ℤ b.now) }
 {
@@ -28,7 +20,9 @@ pub(crate) fn gap(a: &i64, b: &i64) -> u64
 pub(crate) fn distance(target: &Point, place: &Place) -> u128
     ensures { result ≡ distance_of target.now (spot_of place.now) }
 {
-    apart(place.x, target.x) + apart(place.y, target.y)
+    let across = gap(&i64::from(place.x), &target.x);
+    let along = gap(&i64::from(place.y), &target.y);
+    u128::from(across) + u128::from(along)
 }
 
 /// Which of the places that differ in their orientation only comes first: the lesser number.

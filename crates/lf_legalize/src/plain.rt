@@ -10,7 +10,7 @@ ghost use Rattle.lf_rules.proofs.Looking.{IsAtSite, IsOnSites, spot_at};
 ghost use Rattle.lf_legalize.specs.Lifting.{lifted};
 ghost use Rattle.lf_legalize.specs.Searches.{cell_of, LooksAt};
 
-use crate::key::precedes;
+use crate::reach::better;
 use crate::search::Search;
 use lf_floorplan::{Frame, Macro, Place, Row};
 use lf_orient::Orient;
@@ -31,16 +31,7 @@ fn with_place(search: &Search<'_>, best: Option<Place>, place: Place) -> Option<
     if !is_legal(search, &place) {
         return best;
     }
-    match best {
-        None => Some(place),
-        Some(old) => {
-            if precedes(search.target, &place, &old) {
-                Some(place)
-            } else {
-                Some(old)
-            }
-        }
-    }
+    better(search.target, best, place)
 }
 
 /// How far the site lies from the row's left end.

@@ -145,10 +145,6 @@ lanes_bare s cells boxes lanes none bare = record {
           once = λ i j d less within. absurd (omega (arith, long, within));
         }
 
-pub none_filled : (f : Frame) (cells : Cells) (boxes : List (List (Option Rect))) →
-    ((team : ℕ) → length (get_or boxes team []) ≡ length (cells_of cells team)) → AreFilled f cells [] boxes
-none_filled f cells boxes many = record { many = many; done = λ id c there is. let h = there.1 in absurd (omega (arith, h)) }
-
 pub nowhere_many : (cells : Cells) (boxes : List (List (Option Rect))) → AreNowhere cells boxes → (team : ℕ) →
     length (get_or boxes team []) ≡ length (cells_of cells team)
 nowhere_many cells boxes none team = ap (λ xs. length xs) (none team) ∙ length-replicate (length (cells_of cells team)) None

@@ -19,9 +19,6 @@ contains_filter {X} p (y ∷ ys) x (suc k, within, is) t = both (p y) (contains_
     both true rest = (suc rest.0, (let h = rest.1 in omega (arith, h)), rest.2)
     both false rest = rest
 
-pub filter_contains : {X : Type 0} (p : X → Bool) (xs : List X) (x : X) → Contains (filter p xs) x → Contains xs x
-filter_contains p xs x there = All-contains (Contains xs) (filter p xs) x (All-filter p (Contains xs) xs (All-contains_itself xs)) there
-
 -- pairs of a list in order
 pairs_tail : {X : Type 0} (R : X → X → Type 0) (x : X) (xs : List X) → AllPairs R (x ∷ xs) → AllPairs R xs
 pairs_tail R x xs r i j d less within = r (suc i) (suc j) d (omega (arith, less)) (omega (arith, within))
