@@ -1,11 +1,11 @@
 -- What the parts of a pattern become.
-use Rattle.std.proofs.Common.{◌≡◌, ◌↔◌, ℕ, ◌-◌, Bool, true, false, not, nat_eq, IsTrue, is_some, Option, None, Some, MatchOption, Bor, List, [], ◌∷◌, ◌++◌, length, map, take, drop, refl, sym, ap, subst, ◌∙◌, append_assoc}
+use Rattle.std.proofs.Common.{◌≡◌, ◌↔◌, ℕ, ◌-◌, Bool, true, false, not, nat_eq, IsTrue, is_some, Option, None, Some, MatchOption, Bor, List, [], ◌∷◌, ◌++◌, length, map, take, drop, refl, sym, ap, subst, ◌∙◌, append_assoc, append-nil}
 use Rattle.std.proofs.Math.Seq.{drop-append_seam}
 use Rattle.std.proofs.lemmas.Bool.{false≢true}
 use Rattle.std.proofs.lemmas.Bool.Decides.{Decides-eqb}
 use Rattle.std.proofs.lemmas.Slice.Eq.{ends_is}
 use Rattle.std.specs.List.{ends_with}
-use Rattle.lf_names.specs.Pattern.{Part, byte, star, parts_of, bytes_before_star, Becomes, IsLiteral}
+use Rattle.lf_names.specs.Pattern.{Part, byte, star, parts_of, bytes_before_star, bytes_behind_star, Becomes, IsLiteral}
 use Rattle.lf_names.specs.Places.{IsBehindFirst}
 
 -- bytes become themselves
@@ -108,3 +108,29 @@ begins_before_star [] name h = (name, refl)
 begins_before_star (byte c ∷ parts) name h =
     let more = begins_before_star parts h.0 h.2 in (more.0, h.1 ∙ ap (λ l. c ∷ l) more.1)
 begins_before_star (star ∷ parts) name h = (name, refl)
+
+-- the bytes behind the last star are those of what is behind any star
+pub behind_star : (seen piece : List ℕ) (more : List Part) → bytes_behind_star seen (map byte piece ++ star ∷ more) ≡ bytes_behind_star [] more
+behind_star seen [] more = refl
+behind_star seen (c ∷ piece) more = behind_star (seen ++ c ∷ []) piece more
+
+pub behind_no_star : (seen piece : List ℕ) → bytes_behind_star seen (map byte piece) ≡ seen ++ piece
+behind_no_star seen [] = sym (append-nil seen)
+behind_no_star seen (c ∷ piece) = behind_no_star (seen ++ c ∷ []) piece ∙ append_assoc seen (c ∷ []) piece
+
+-- what some parts become ends with the bytes behind their last star, once the bytes seen before stand in front of it
+seen_ends_behind_star : (parts : List Part) (seen name : List ℕ) → Becomes parts name → (run : List ℕ) × (seen ++ name ≡ run ++ bytes_behind_star seen parts)
+seen_ends_behind_star [] seen name h = ([], ap (λ l. seen ++ l) h ∙ append-nil seen)
+seen_ends_behind_star (byte c ∷ parts) seen name h =
+    let more = seen_ends_behind_star parts (seen ++ c ∷ []) h.0 h.2 in
+    (more.0, ap (λ l. seen ++ l) h.1 ∙ sym (append_assoc seen (c ∷ []) h.0) ∙ more.1)
+seen_ends_behind_star (star ∷ parts) seen name h =
+    let more = seen_ends_behind_star parts [] h.1 h.3 in
+    let ends : List ℕ = bytes_behind_star [] parts in (
+      seen ++ (h.0 ++ more.0),
+      ap (λ l. seen ++ l) (h.2 ∙ ap (λ l. h.0 ++ l) more.1 ∙ sym (append_assoc h.0 more.0 ends)) ∙ sym (append_assoc seen (h.0 ++ more.0) ends),
+    )
+
+-- what some parts become ends with the bytes behind their last star. A caller's proof may cite this.
+pub ends_behind_star : (parts : List Part) (name : List ℕ) → Becomes parts name → (run : List ℕ) × (name ≡ run ++ bytes_behind_star [] parts)
+ends_behind_star parts name h = seen_ends_behind_star parts [] name h

@@ -50,3 +50,13 @@ bytes_before_star (star ∷ parts) = []
 -- the bytes of a pattern before its first star
 abbrev pub prefix_of : List ℕ → List ℕ
 prefix_of pattern = bytes_before_star (parts_of pattern)
+
+-- the bytes since the last star, where these bytes have been seen since a star, or since the pattern's beginning
+abbrev pub bytes_behind_star : List ℕ → List Part → List ℕ
+bytes_behind_star seen [] = seen
+bytes_behind_star seen (byte c ∷ parts) = bytes_behind_star (seen ++ c ∷ []) parts
+bytes_behind_star seen (star ∷ parts) = bytes_behind_star [] parts
+
+-- the bytes of a pattern behind its last star, or all where there is none
+abbrev pub suffix_of : List ℕ → List ℕ
+suffix_of pattern = bytes_behind_star [] (parts_of pattern)

@@ -1,7 +1,7 @@
 //! Patterns that stand for names.
 
 ghost use Rattle.std.specs.Prelude.{◌≡◌, ◌≢◌, ◌<◌, ◌↔◌, ℕ, List, ◌∷◌, ◌++◌, length, map, IsTrue, IfSome, MatchOption};
-ghost use Rattle.lf_names.specs.Pattern.{byte, star, parts_of, prefix_of, Becomes, Matches, IsLiteral};
+ghost use Rattle.lf_names.specs.Pattern.{byte, star, parts_of, prefix_of, suffix_of, Becomes, Matches, IsLiteral};
 ghost use Rattle.lf_names.specs.Places.{IsBehindFirst};
 
 use std::marker::Model;
@@ -48,6 +48,15 @@ impl<'a> Pattern<'a> {
             Some((before, _)) => before,
             None => self.bytes,
         }
+    }
+
+    /// The bytes behind the last star, or all where there is none. Each name that the pattern
+    /// stands for ends with them.
+    pub fn suffix(&self) -> &'a [u8]
+        ensures suffix { result.now ≡ suffix_of self.now }
+        ensures ends { (name : List ℕ) → Matches self.now name → (run : List ℕ) × (name ≡ run ++ result.now) }
+    {
+        behind_last_star(self.bytes)
     }
 
     /// Whether the pattern stands for the name. Takes no memory, and time at most in proportion to
@@ -102,6 +111,17 @@ fn split_at_star(pattern: &[u8]) -> Option<(&[u8], &[u8])>
         escaped = byte == b'\\';
     }
     None
+}
+
+/// The bytes behind the pattern's last star, or all where there is none.
+fn behind_last_star(pattern: &[u8]) -> &[u8]
+    ensures { result.now ≡ suffix_of pattern.now }
+{
+    let mut remaining = pattern;
+    while let Some((_, behind)) = split_at_star(remaining) {
+        remaining = behind;
+    }
+    remaining
 }
 
 /// What the name has behind the first place of the piece.
