@@ -3,7 +3,9 @@ pub mod NameLemmas
 pub mod Named
 pub mod MapLemmas
 pub mod Tellings
-pub mod PrefixLemmas
+pub mod EndLemmas
+pub mod KeyLemmas
+pub mod TwoEnds
 pub mod Indexes
 pub mod Numbered
 pub mod Claimants

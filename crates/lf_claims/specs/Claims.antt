@@ -1,11 +1,11 @@
 -- Which fences claim a component, by the patterns of all groups (DEF GROUPS).
-use Rattle.std.specs.Prelude.{◌≡◌, ◌≢◌, ℕ, ◌<◌, ◌≤◌, ◌==◌, ◌⊎◌, if◌then◌else◌, List, [], ◌∷◌, ◌++◌, length, map, take, Option, None, Some, Any, slice_get}
+use Rattle.std.specs.Prelude.{◌≡◌, ◌≢◌, ℕ, ◌<◌, ◌≤◌, ◌==◌, ◌⊎◌, ◌↔◌, if◌then◌else◌, List, [], ◌∷◌, ◌++◌, length, map, Option, None, Some, Any, slice_get}
 use Rattle.std.specs.Prelude.{slice_index_or, Contains, Vec}
 use Rattle.std.specs.List.{flat_map}
 use Rattle.std.specs.Global.{Global}
 use Rattle.std.specs.Option.{option_and_then}
 use Rattle.lf_names.specs.Names.{position_of}
-use Rattle.lf_names.specs.Pattern.{prefix_of, Matches}
+use Rattle.lf_names.specs.Pattern.{Matches}
 use Rattle.lf_names.specs.Labels.{Labelled}
 use Rattle.lf_names.specs.declared.name_parts.Match.{Match}
 use Rattle.lf_def.specs.declared.regions.Region.{Region}
@@ -14,6 +14,7 @@ use Rattle.lf_def.specs.declared.components.Component.{Component}
 use Rattle.lf_claims.specs.declared.claims.Claim.{Claim}
 use Rattle.lf_claims.specs.declared.claims.Claim.TheVariants.{Unclaimed, ByOne, ByTwo}
 use Rattle.lf_claims.specs.declared.starred.Bound.{Bound}
+use Rattle.lf_claims.specs.declared.starred.PatternsAtEnd.{PatternsAtEnd}
 use Rattle.lf_claims.specs.declared.starred.StarredPatterns.{StarredPatterns}
 use Rattle.lf_claims.specs.declared.pattern_index.PatternIndex.{PatternIndex}
 use Rattle.lf_claims.specs.declared.name_map.NameMap.{NameMap}
@@ -22,6 +23,7 @@ use Rattle.lf_claims.specs.Teams.{fence_names}
 use Rattle.lf_claims.specs.Entries.{NoneBreaks}
 use Rattle.lf_claims.specs.Refusals.{BearsEarlierName}
 use Rattle.lf_claims.specs.ClaimTables.{claim_at}
+use Rattle.lf_claims.specs.Ends.{key_of, part_of}
 
 -- the claim when this fence claims the name too
 abbrev pub joined : Claim → ℕ → Claim
@@ -75,29 +77,38 @@ abbrev pub bounds_there : Option (Vec Bound Global) → List Bound
 bounds_there None = []
 bounds_there (Some bounds) = bounds.items
 
--- the patterns that are kept under a prefix
-abbrev pub kept_under : StarredPatterns → List ℕ → List Bound
-kept_under starred prefix = bounds_there (option_and_then (slice_get starred.bounds.items) (position_of starred.prefixes prefix))
+-- the patterns that are kept under a key
+abbrev pub kept_under : PatternsAtEnd → List ℕ → List Bound
+kept_under kept key = bounds_there (option_and_then (slice_get kept.bounds.items) (position_of kept.keys key))
 
--- a pattern claims the name that is kept under the name's first bytes, so many of them
-abbrev pub ClaimsUnder : StarredPatterns → List ℕ → ℕ → ℕ → Type 0
-ClaimsUnder starred name count fence = (count ≤ length name) × ClaimsBy (kept_under starred (take count name)) name fence
+-- a pattern claims the name that is kept under the name's bytes at the end, so many of them
+abbrev pub ClaimsUnder : PatternsAtEnd → List ℕ → ℕ → ℕ → Type 0
+ClaimsUnder kept name count fence = (count ≤ length name) × ClaimsBy (kept_under kept (part_of kept.end count name)) name fence
 
--- these patterns are kept: where one of them claims a name, one claims it that is kept under the name's first bytes, as many as a length tells; what is kept claims nothing that these do not; and each length is that of one's prefix
-pub record HasStarred (starred : StarredPatterns) (bounds : List Bound) : Type 0 where
-  pub whole : length starred.prefixes ≡ length starred.bounds.items
-  pub found : (name : List ℕ) (fence : ℕ) → ClaimsBy bounds name fence → Any (λ count. ClaimsUnder starred name count fence) starred.lengths.items
-  pub own : (prefix name : List ℕ) (fence : ℕ) → ClaimsBy (kept_under starred prefix) name fence → ClaimsBy bounds name fence
-  pub needed : (count : ℕ) → Contains starred.lengths.items count → Any (λ b. length (prefix_of b.pattern) ≡ count) bounds
+-- these patterns are kept: where one of them claims a name, one claims it that is kept under the name's bytes at the end, as many as a length tells; what is kept claims nothing that these do not; and each length is that of one's key
+pub record HasAtEnd (kept : PatternsAtEnd) (bounds : List Bound) : Type 0 where
+  pub whole : length kept.keys ≡ length kept.bounds.items
+  pub found : (name : List ℕ) (fence : ℕ) → ClaimsBy bounds name fence → Any (λ count. ClaimsUnder kept name count fence) kept.lengths.items
+  pub own : (key name : List ℕ) (fence : ℕ) → ClaimsBy (kept_under kept key) name fence → ClaimsBy bounds name fence
+  pub needed : (count : ℕ) → Contains kept.lengths.items count → Any (λ b. length (key_of kept.end b.pattern) ≡ count) bounds
 
--- the pattern is kept behind those of the prefix; under each other prefix, and among the lengths, all is as it was
-pub record Keeps (old new : StarredPatterns) (prefix : List ℕ) (bound : Bound) : Type 0 where
-  pub whole : length new.prefixes ≡ length new.bounds.items
-  pub there : kept_under new prefix ≡ kept_under old prefix ++ bound ∷ []
-  pub others : (other : List ℕ) → other ≢ prefix → kept_under new other ≡ kept_under old other
+-- the pattern is kept behind those of the key; under each other key, and among the lengths, all is as it was, and so is the end
+pub record Keeps (old new : PatternsAtEnd) (key : List ℕ) (bound : Bound) : Type 0 where
+  pub whole : length new.keys ≡ length new.bounds.items
+  pub there : kept_under new key ≡ kept_under old key ++ bound ∷ []
+  pub others : (other : List ℕ) → other ≢ key → kept_under new other ≡ kept_under old other
   pub lengths : new.lengths ≡ old.lengths
+  pub end : new.end ≡ old.end
 
--- the index holds these patterns: literal ones as names, labelled with the number of the fence, the others by their prefixes
+-- these patterns are kept, some at the front and the others at the back: what these claim, one of the two lists claims, and the two claim nothing else
+pub record HasStarred (starred : StarredPatterns) (bounds : List Bound) : Type 0 where
+  pub fronts : List Bound
+  pub backs : List Bound
+  pub by_front : HasAtEnd starred.fronts fronts
+  pub by_back : HasAtEnd starred.backs backs
+  pub together : (name : List ℕ) (fence : ℕ) → ClaimsBy bounds name fence ↔ (ClaimsBy fronts name fence ⊎ ClaimsBy backs name fence)
+
+-- the index holds these patterns: literal ones as names, labelled with the number of the fence, the others by what their names have at an end
 pub record Holds (index : PatternIndex) (bounds : List Bound) : Type 0 where
   pub starred : List Bound
   pub tried : HasStarred index.starred starred

@@ -4,4 +4,5 @@ pub mod Refusals
 pub mod NameMaps
 pub mod Tables
 pub mod ClaimTables
+pub mod Ends
 pub mod Claims

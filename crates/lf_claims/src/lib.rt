@@ -3,6 +3,7 @@
 
 mod claims;
 mod component_names;
+mod ends;
 mod kinds;
 mod name_map;
 mod pattern_index;

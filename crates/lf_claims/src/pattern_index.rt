@@ -20,7 +20,7 @@ use lf_units::Name;
 use std::alloc::{AllocError, Global};
 
 /// Patterns that are bound to fences: those without a star in parts, as the names that they stand for, each labelled
-/// with the number of its fence; the others by what they begin with.
+/// with the number of its fence; the others by what their names begin or end with.
 #[derive(Drop)]
 pub struct PatternIndex {
     literals: NameParts,
@@ -46,7 +46,7 @@ impl PatternIndex {
         Ok(())
     }
 
-    /// Adds a pattern that is tried on each name that begins as it does.
+    /// Adds a pattern that is tried on each name that begins as it does, or that ends as it does.
     fn add_starred(&mut self, alloc: Global, pattern: &[u8], fence: u32) -> Result<(), AllocError>
         ensures { OnOk result (Extends self.old self.new (record { pattern = pattern.now; fence = fence } ∷ [])) }
     {
@@ -110,7 +110,7 @@ impl PatternIndex {
     }
 
     /// These claims of all components with those of the patterns with a star, each of which is tried on the names that
-    /// begin as it does.
+    /// begin, or end, as it does.
     fn with_starred(
         &self,
         alloc: Global,

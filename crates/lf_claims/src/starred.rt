@@ -1,10 +1,11 @@
-//! Patterns with a star, each tried only on names that begin as it does.
+//! Patterns with a star, each tried only on names that begin as it does, or that end as it does.
 
 ghost use Rattle.std.specs.Prelude.{◌≡◌, ◌↔◌, ◌⊎◌, ℕ, [], ◌∷◌, ◌++◌, List, Some, IsTrue, IfOk, OnOk, Contains, Vec, length, slice_get, slice_set};
 ghost use Rattle.std.specs.Global.{Global};
-ghost use Rattle.lf_claims.specs.Claims.{Tells, ClaimsBy, StepsTo, kept_under as bounds_under, ClaimsUnder, HasStarred, Keeps};
+ghost use Rattle.lf_claims.specs.Claims.{Tells, ClaimsBy, StepsTo, kept_under as bounds_under, ClaimsUnder, HasAtEnd, HasStarred, Keeps};
 
 use crate::claims::{Claim, joined, merged};
+use crate::ends::{End, key_at, part_at};
 use lf_names::{Added, NameTable, Pattern};
 use lf_units::Name;
 use std::alloc::{AllocError, Global};
@@ -16,14 +17,23 @@ pub struct Bound {
     pub fence: u32,
 }
 
-/// Patterns that are bound to fences, kept by their prefixes, which are their bytes before the first star: a pattern
-/// stands only for names that begin with these. The patterns of a prefix stand at its position, and each length that
-/// a prefix has is there once.
+/// Patterns that are bound to fences, kept by what each of their names has at one end: at the front their bytes before
+/// the first star, at the back those behind the last. The patterns of a key stand at its position, and each length that
+/// a key has is there once.
 #[derive(Drop)]
-pub struct StarredPatterns {
-    prefixes: NameTable,
+pub struct PatternsAtEnd {
+    end: End,
+    keys: NameTable,
     bounds: Vec<Vec<Bound>>,
     lengths: Vec<usize>,
+}
+
+/// Patterns that are bound to fences, each kept at an end of its names where it has bytes of its own: those that begin
+/// with a star at the back, the others at the front.
+#[derive(Drop)]
+pub struct StarredPatterns {
+    fronts: PatternsAtEnd,
+    backs: PatternsAtEnd,
 }
 
 /// The claim with that of one pattern more.
@@ -78,15 +88,92 @@ fn add_length(lengths: &mut Vec<usize>, added: usize) -> Result<(), AllocError>
     Ok(())
 }
 
+impl PatternsAtEnd {
+    /// No pattern.
+    fn new(alloc: Global, end: End) -> Self
+        ensures { HasAtEnd result [] }
+    {
+        PatternsAtEnd {
+            end,
+            keys: NameTable::new(alloc),
+            bounds: Vec::new(alloc),
+            lengths: Vec::new(alloc),
+        }
+    }
+
+    /// Whether there is no pattern.
+    fn is_empty(&self) -> bool
+        ensures { (bounds : List Bound) → HasAtEnd self.now bounds → (IsTrue result ↔ (bounds ≡ [])) }
+    {
+        self.lengths.is_empty()
+    }
+
+    /// Puts the pattern behind those of the key.
+    fn keep(&mut self, alloc: Global, key: &[u8], bound: Bound) -> Result<(), AllocError>
+        ensures { OnOk result (length self.old.keys ≡ length self.old.bounds.items → Keeps self.old self.new key.now bound) }
+    {
+        match self.keys.add(key)? {
+            Added::New(_) => self.bounds.push(one_bound(alloc, bound)?)?,
+            Added::Present(place) => push_at(&mut self.bounds, place, bound)?,
+        }
+        Ok(())
+    }
+
+    /// Adds a pattern. After an `Err` the patterns are to be dropped.
+    fn add(&mut self, alloc: Global, pattern: &[u8], fence: u32) -> Result<(), AllocError>
+        ensures { OnOk result ((bounds : List Bound) → HasAtEnd self.old bounds → HasAtEnd self.new (bounds ++ record { pattern = pattern.now; fence = fence } ∷ [])) }
+    {
+        let key = key_at(self.end, pattern);
+        let pattern = Name::from_slice(alloc, pattern)?;
+        self.keep(alloc, key, Bound { pattern, fence })?;
+        add_length(&mut self.lengths, key.len())?;
+        Ok(())
+    }
+
+    /// The patterns of the key.
+    fn kept_under(&self, key: &[u8]) -> &[Bound]
+        ensures { result.now ≡ bounds_under self.now key.now }
+    {
+        let Some(place) = self.keys.find(key) else {
+            return &[];
+        };
+        match self.bounds.get(place) {
+            Some(bounds) => bounds,
+            None => &[],
+        }
+    }
+
+    /// What the patterns claim the name for whose key is as long as this and stands at this end of the name.
+    fn claim_under(&self, count: usize, name: &[u8]) -> Claim
+        ensures { Tells (ClaimsUnder self.now name.now count) result }
+    {
+        match part_at(self.end, name, count) {
+            Some(part) => claim_by_trial(self.kept_under(part), name),
+            None => Claim::Unclaimed,
+        }
+    }
+
+    /// What the patterns claim the name for. Tries those alone whose key the name has at this end, in a time that does
+    /// not depend on how many others there are, but for how many different lengths keys have.
+    fn claim_on(&self, name: &[u8]) -> Claim
+        ensures { (bounds : List Bound) → HasAtEnd self.now bounds → Tells (ClaimsBy bounds name.now) result }
+    {
+        let mut claim = Claim::Unclaimed;
+        for &count in &self.lengths {
+            claim = merged(claim, self.claim_under(count, name));
+        }
+        claim
+    }
+}
+
 impl StarredPatterns {
     /// No pattern.
     pub(crate) fn new(alloc: Global) -> Self
         ensures { HasStarred result [] }
     {
         StarredPatterns {
-            prefixes: NameTable::new(alloc),
-            bounds: Vec::new(alloc),
-            lengths: Vec::new(alloc),
+            fronts: PatternsAtEnd::new(alloc, End::Front),
+            backs: PatternsAtEnd::new(alloc, End::Back),
         }
     }
 
@@ -94,18 +181,7 @@ impl StarredPatterns {
     pub(crate) fn is_empty(&self) -> bool
         ensures { (bounds : List Bound) → HasStarred self.now bounds → (IsTrue result ↔ (bounds ≡ [])) }
     {
-        self.lengths.is_empty()
-    }
-
-    /// Puts the pattern behind those of the prefix.
-    fn keep(&mut self, alloc: Global, prefix: &[u8], bound: Bound) -> Result<(), AllocError>
-        ensures { OnOk result (length self.old.prefixes ≡ length self.old.bounds.items → Keeps self.old self.new prefix.now bound) }
-    {
-        match self.prefixes.add(prefix)? {
-            Added::New(_) => self.bounds.push(one_bound(alloc, bound)?)?,
-            Added::Present(place) => push_at(&mut self.bounds, place, bound)?,
-        }
-        Ok(())
+        self.fronts.is_empty() && self.backs.is_empty()
     }
 
     /// Adds a pattern. After an `Err` the patterns are to be dropped.
@@ -117,45 +193,16 @@ impl StarredPatterns {
     ) -> Result<(), AllocError>
         ensures { OnOk result ((bounds : List Bound) → HasStarred self.old bounds → HasStarred self.new (bounds ++ record { pattern = pattern.now; fence = fence } ∷ [])) }
     {
-        let prefix = Pattern::new(pattern).prefix();
-        let pattern = Name::from_slice(alloc, pattern)?;
-        self.keep(alloc, prefix, Bound { pattern, fence })?;
-        add_length(&mut self.lengths, prefix.len())?;
-        Ok(())
-    }
-
-    /// The patterns of the prefix.
-    fn kept_under(&self, prefix: &[u8]) -> &[Bound]
-        ensures { result.now ≡ bounds_under self.now prefix.now }
-    {
-        let Some(place) = self.prefixes.find(prefix) else {
-            return &[];
-        };
-        match self.bounds.get(place) {
-            Some(bounds) => bounds,
-            None => &[],
+        if key_at(End::Front, pattern).is_empty() {
+            return self.backs.add(alloc, pattern, fence);
         }
+        self.fronts.add(alloc, pattern, fence)
     }
 
-    /// What the patterns claim the name for whose prefix is as long as this and begins the name.
-    fn claim_under(&self, count: usize, name: &[u8]) -> Claim
-        ensures { Tells (ClaimsUnder self.now name.now count) result }
-    {
-        match name.get(..count) {
-            Some(prefix) => claim_by_trial(self.kept_under(prefix), name),
-            None => Claim::Unclaimed,
-        }
-    }
-
-    /// What the patterns claim the name for. Tries those alone whose prefix the name begins with, in a time that does
-    /// not depend on how many others there are, but for how many different lengths prefixes have.
+    /// What the patterns claim the name for.
     pub(crate) fn claim_on(&self, name: &[u8]) -> Claim
         ensures { (bounds : List Bound) → HasStarred self.now bounds → Tells (ClaimsBy bounds name.now) result }
     {
-        let mut claim = Claim::Unclaimed;
-        for &count in &self.lengths {
-            claim = merged(claim, self.claim_under(count, name));
-        }
-        claim
+        merged(self.fronts.claim_on(name), self.backs.claim_on(name))
     }
 }

@@ -1,0 +1,92 @@
+-- Patterns with a star, some kept at the front and the others at the back.
+use Rattle.std.proofs.Common.{◌≡◌, ℕ, ◌⊎◌, inl, inr, ◌↔◌, List, [], ◌∷◌, ◌++◌}
+use Rattle.lf_names.specs.Pattern.{Matches}
+use Rattle.lf_claims.specs.declared.claims.Claim.{Claim}
+use Rattle.lf_claims.specs.declared.starred.Bound.{Bound}
+use Rattle.lf_claims.specs.declared.starred.StarredPatterns.{StarredPatterns}
+use Rattle.lf_claims.specs.Claims.{merged, Tells, ClaimsBy, HasAtEnd, HasStarred}
+use Rattle.lf_claims.proofs.KeyLemmas.{no_claim_no_pattern}
+use Rattle.lf_claims.proofs.Tellings.{claims_parts, claims_old, claims_new, tells_same, tells_merged}
+use Rattle.lf_units.proofs.Any.{none_of_nothing}
+
+pub has_none : (starred : StarredPatterns) → HasAtEnd starred.fronts [] → HasAtEnd starred.backs [] → HasStarred starred []
+has_none starred front back = record {
+  fronts = [];
+  backs = [];
+  by_front = front;
+  by_back = back;
+  together = λ name fence. (λ c. inl c, λ u. elim u [ inl c ↦ c | inr c ↦ c ]);
+}
+
+claims_none : (bounds : List Bound) (name : List ℕ) (fence : ℕ) → bounds ≡ [] → ClaimsBy bounds name fence → ⊥
+claims_none bounds name fence none c = none_of_nothing (λ b. (b.fence ≡ fence) × Matches b.pattern name) (rw none at c)
+
+-- there is no pattern where there is none at either end, and only there
+module _ (starred : StarredPatterns) (bounds : List Bound) (h : HasStarred starred bounds) where
+  pub none_together : h.fronts ≡ [] → h.backs ≡ [] → bounds ≡ []
+  none_together front back = no_claim_no_pattern bounds (λ name fence c. elim ((h.together name fence).0 c) [
+    | inl f ↦ claims_none h.fronts name fence front f
+    | inr k ↦ claims_none h.backs name fence back k
+  ])
+
+  pub none_at_front : bounds ≡ [] → h.fronts ≡ []
+  none_at_front none = no_claim_no_pattern h.fronts (λ name fence c. claims_none bounds name fence none ((h.together name fence).1 (inl c)))
+
+  pub none_at_back : bounds ≡ [] → h.backs ≡ []
+  none_at_back none = no_claim_no_pattern h.backs (λ name fence c. claims_none bounds name fence none ((h.together name fence).1 (inr c)))
+
+-- a pattern more
+module _ (old new : StarredPatterns) (b : Bound) where
+  pub has_more_at_front : new.backs ≡ old.backs → ((fronts : List Bound) → HasAtEnd old.fronts fronts → HasAtEnd new.fronts (fronts ++ b ∷ [])) →
+      (bounds : List Bound) → HasStarred old bounds → HasStarred new (bounds ++ b ∷ [])
+  has_more_at_front same more bounds h = record {
+    fronts = h.fronts ++ b ∷ [];
+    backs = h.backs;
+    by_front = more h.fronts h.by_front;
+    by_back = rw same h.by_back;
+    together = λ name fence. (
+      λ c. elim (claims_parts bounds b name fence c) [
+        | inl early ↦ elim ((h.together name fence).0 early) [ inl f ↦ inl (claims_old h.fronts b name fence f) | inr k ↦ inr k ]
+        | inr own ↦ inl (rw (← own.0) (claims_new h.fronts b name own.1))
+      ],
+      λ u. elim u [
+        | inl f ↦ elim (claims_parts h.fronts b name fence f) [
+          | inl early ↦ claims_old bounds b name fence ((h.together name fence).1 (inl early))
+          | inr own ↦ rw (← own.0) (claims_new bounds b name own.1)
+        ]
+        | inr k ↦ claims_old bounds b name fence ((h.together name fence).1 (inr k))
+      ],
+    );
+  }
+
+  pub has_more_at_back : new.fronts ≡ old.fronts → ((backs : List Bound) → HasAtEnd old.backs backs → HasAtEnd new.backs (backs ++ b ∷ [])) →
+      (bounds : List Bound) → HasStarred old bounds → HasStarred new (bounds ++ b ∷ [])
+  has_more_at_back same more bounds h = record {
+    fronts = h.fronts;
+    backs = h.backs ++ b ∷ [];
+    by_front = rw same h.by_front;
+    by_back = more h.backs h.by_back;
+    together = λ name fence. (
+      λ c. elim (claims_parts bounds b name fence c) [
+        | inl early ↦ elim ((h.together name fence).0 early) [ inl f ↦ inl f | inr k ↦ inr (claims_old h.backs b name fence k) ]
+        | inr own ↦ inr (rw (← own.0) (claims_new h.backs b name own.1))
+      ],
+      λ u. elim u [
+        | inl f ↦ claims_old bounds b name fence ((h.together name fence).1 (inl f))
+        | inr k ↦ elim (claims_parts h.backs b name fence k) [
+          | inl early ↦ claims_old bounds b name fence ((h.together name fence).1 (inr early))
+          | inr own ↦ rw (← own.0) (claims_new bounds b name own.1)
+        ]
+      ],
+    );
+  }
+
+-- what is claimed at the two ends, all patterns claim
+pub tells_together : (starred : StarredPatterns) (name : List ℕ) (front back : Claim) →
+    ((fronts : List Bound) → HasAtEnd starred.fronts fronts → Tells (ClaimsBy fronts name) front) →
+    ((backs : List Bound) → HasAtEnd starred.backs backs → Tells (ClaimsBy backs name) back) → (bounds : List Bound) → HasStarred starred bounds →
+    Tells (ClaimsBy bounds name) (merged front back)
+tells_together starred name front back by_front by_back bounds h =
+    tells_same (λ fence. ClaimsBy h.fronts name fence ⊎ ClaimsBy h.backs name fence) (ClaimsBy bounds name) (merged front back)
+    (λ fence u. (h.together name fence).1 u) (λ fence c. (h.together name fence).0 c)
+    (tells_merged (ClaimsBy h.fronts name) (ClaimsBy h.backs name) front back (by_front h.fronts h.by_front) (by_back h.backs h.by_back))
