@@ -66,7 +66,8 @@ keeps_new old new key b own whole absent alone keys bounds lengths end = record 
 -- a pattern behind those of a key that was there
 pub keeps_old : (old new : PatternsAtEnd) (key : List ℕ) (b : Bound) (place : ℕ) (before after : Vec Bound Global) →
     length old.keys ≡ length old.bounds.items → position_of old.keys key ≡ Some place → slice_get old.bounds.items place ≡ Some before →
-    after.items ≡ before.items ++ b ∷ [] → new.keys ≡ old.keys → new.bounds.items ≡ set old.bounds.items place after → new.lengths ≡ old.lengths → new.end ≡ old.end → Keeps old new key b
+    after.items ≡ before.items ++ b ∷ [] → new.keys ≡ old.keys → new.bounds.items ≡ set old.bounds.items place after → new.lengths ≡ old.lengths →
+    new.end ≡ old.end → Keeps old new key b
 keeps_old old new key b place before after whole known there more keys bounds lengths end = record {
   whole = rw (keys, bounds) (omega (arith, length-set old.bounds.items place after));
   there =
@@ -115,7 +116,7 @@ module _ (old new : PatternsAtEnd) (key : List ℕ) (b : Bound) (keeps : Keeps o
       by false e =
           inl (rw (keeps.others q (λ same. false≢true (sym e ∙ (bytes_eq-Decides q key).1 same))) at h)
 
-  -- the pattern claims a name by the name's bytes at the end
+  -- the pattern claims a name by the name's bytes at this end
   claims_by_own : (name : List ℕ) → Matches b.pattern name → ClaimsUnder new name (length key) b.fence
   claims_by_own name h =
       let is : key_of new.end b.pattern ≡ key = ap (λ e. key_of e b.pattern) keeps.end ∙ sym own in
@@ -123,14 +124,15 @@ module _ (old new : PatternsAtEnd) (key : List ℕ) (b : Bound) (keeps : Keeps o
       let there : kept_under new (part_of new.end (length key) name) ≡ kept_under old key ++ b ∷ [] = ap (kept_under new) part.1 ∙ keeps.there in
       (part.0, rw there (claims_new (kept_under old key) b name h))
 
-  pub has_one_more : (lengths : Vec ℕ Global) → ((n : ℕ) → Contains lengths.items n ↔ (Contains new.lengths.items n ⊎ (n ≡ length key))) → (bounds : List Bound) →
-      HasAtEnd old bounds → HasAtEnd (record { end = new.end; keys = new.keys; bounds = new.bounds; lengths = lengths }) (bounds ++ b ∷ [])
+  pub has_one_more : (lengths : Vec ℕ Global) → ((n : ℕ) → Contains lengths.items n ↔ (Contains new.lengths.items n ⊎ (n ≡ length key))) →
+      (bounds : List Bound) → HasAtEnd old bounds → HasAtEnd (record { end = new.end; keys = new.keys; bounds = new.bounds; lengths = lengths }) (bounds ++ b ∷ [])
   has_one_more lengths added bounds h = record {
     whole = keeps.whole;
     found = λ name fence claims. elim (claims_parts bounds b name fence claims) [
-      | inl early ↦ any_more (λ count. ClaimsUnder old name count fence) (λ count. ClaimsUnder new name count fence) old.lengths.items lengths.items (λ n there. (grown n).1 (inl there))
-          (λ count under. (under.0, still_under name count fence under.1)) (h.found name fence early)
-      | inr here ↦ rw (← here.0) (has_item (λ count. ClaimsUnder new name count b.fence) lengths.items (length key) ((grown (length key)).1 (inr refl)) (claims_by_own name here.1))
+      | inl early ↦ any_more (λ count. ClaimsUnder old name count fence) (λ count. ClaimsUnder new name count fence) old.lengths.items lengths.items
+          (λ n there. (grown n).1 (inl there)) (λ count under. (under.0, still_under name count fence under.1)) (h.found name fence early)
+      | inr here ↦ rw (← here.0) (has_item (λ count. ClaimsUnder new name count b.fence) lengths.items (length key)
+          ((grown (length key)).1 (inr refl)) (claims_by_own name here.1))
     ];
     own = λ other name fence claims. elim (claims_so other name fence claims) [
       | inl early ↦ claims_old bounds b name fence (h.own other name fence early)
@@ -156,7 +158,8 @@ pub tells_length_more : (kept : PatternsAtEnd) (name : List ℕ) (lengths : List
     Tells (λ fence. Any (λ n. ClaimsUnder kept name n fence) lengths) claim → Tells (ClaimsUnder kept name count) more →
     Tells (λ fence. Any (λ n. ClaimsUnder kept name n fence) (lengths ++ count ∷ [])) (merged claim more)
 tells_length_more kept name lengths count claim more h g =
-    tells_same (λ fence. Any (λ n. ClaimsUnder kept name n fence) lengths ⊎ ClaimsUnder kept name count fence) (λ fence. Any (λ n. ClaimsUnder kept name n fence) (lengths ++ count ∷ [])) (merged claim more)
+    tells_same (λ fence. Any (λ n. ClaimsUnder kept name n fence) lengths ⊎ ClaimsUnder kept name count fence)
+    (λ fence. Any (λ n. ClaimsUnder kept name n fence) (lengths ++ count ∷ [])) (merged claim more)
     (λ fence u. elim u [
       | inl early ↦ any_left (λ n. ClaimsUnder kept name n fence) lengths (count ∷ []) early
       | inr last ↦ any_right (λ n. ClaimsUnder kept name n fence) lengths (count ∷ []) (any_first (λ n. ClaimsUnder kept name n fence) count [] last)
@@ -185,8 +188,9 @@ tells_next_length kept name read index claim more same within h g =
     let one : take index lengths ++ count ∷ [] ≡ take (index + 1) lengths = one_bound_more lengths index count inside (get_or_default lengths index 0 count inside) in
     rw (← one) (tells_length_more kept name (take index lengths) count claim more h (rw same at g))
 
--- the patterns of a key that the name has at the end
+-- the patterns of a key that the name has at this end
 pub tells_under : (kept : PatternsAtEnd) (name part : List ℕ) (count : ℕ) (claim : Claim) → count ≤ length name → part ≡ part_of kept.end count name →
     Tells (ClaimsBy (kept_under kept part) name) claim → Tells (ClaimsUnder kept name count) claim
 tells_under kept name part count claim within is h =
-    tells_same (ClaimsBy (kept_under kept (part_of kept.end count name)) name) (ClaimsUnder kept name count) claim (λ fence one. (within, one)) (λ fence one. one.1) (rw is at h)
+    tells_same (ClaimsBy (kept_under kept (part_of kept.end count name)) name) (ClaimsUnder kept name count) claim
+    (λ fence one. (within, one)) (λ fence one. one.1) (rw is at h)

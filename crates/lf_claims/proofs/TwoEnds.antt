@@ -1,5 +1,5 @@
 -- Patterns with a star, some kept at the front and the others at the back.
-use Rattle.std.proofs.Common.{◌≡◌, ℕ, ◌⊎◌, inl, inr, ◌↔◌, List, [], ◌∷◌, ◌++◌}
+use Rattle.std.proofs.Common.{◌≡◌, ℕ, ◌⊎◌, inl, inr, List, [], ◌∷◌, ◌++◌}
 use Rattle.lf_names.specs.Pattern.{Matches}
 use Rattle.lf_claims.specs.declared.claims.Claim.{Claim}
 use Rattle.lf_claims.specs.declared.starred.Bound.{Bound}

@@ -81,18 +81,19 @@ bounds_there (Some bounds) = bounds.items
 abbrev pub kept_under : PatternsAtEnd → List ℕ → List Bound
 kept_under kept key = bounds_there (option_and_then (slice_get kept.bounds.items) (position_of kept.keys key))
 
--- a pattern claims the name that is kept under the name's bytes at the end, so many of them
+-- a pattern claims the name that is kept under the name's bytes at this end, so many of them
 abbrev pub ClaimsUnder : PatternsAtEnd → List ℕ → ℕ → ℕ → Type 0
 ClaimsUnder kept name count fence = (count ≤ length name) × ClaimsBy (kept_under kept (part_of kept.end count name)) name fence
 
--- these patterns are kept: where one of them claims a name, one claims it that is kept under the name's bytes at the end, as many as a length tells; what is kept claims nothing that these do not; and each length is that of one's key
+-- these patterns are kept: where one of them claims a name, one claims it that is kept under the name's bytes at this end, as many
+-- as a length tells; what is kept claims nothing that these do not; and each length is that of one's key
 pub record HasAtEnd (kept : PatternsAtEnd) (bounds : List Bound) : Type 0 where
   pub whole : length kept.keys ≡ length kept.bounds.items
   pub found : (name : List ℕ) (fence : ℕ) → ClaimsBy bounds name fence → Any (λ count. ClaimsUnder kept name count fence) kept.lengths.items
   pub own : (key name : List ℕ) (fence : ℕ) → ClaimsBy (kept_under kept key) name fence → ClaimsBy bounds name fence
   pub needed : (count : ℕ) → Contains kept.lengths.items count → Any (λ b. length (key_of kept.end b.pattern) ≡ count) bounds
 
--- the pattern is kept behind those of the key; under each other key, and among the lengths, all is as it was, and so is the end
+-- the pattern is kept behind those of the key; under each other key, and among the lengths, all is as it was, and the end is the same
 pub record Keeps (old new : PatternsAtEnd) (key : List ℕ) (bound : Bound) : Type 0 where
   pub whole : length new.keys ≡ length new.bounds.items
   pub there : kept_under new key ≡ kept_under old key ++ bound ∷ []

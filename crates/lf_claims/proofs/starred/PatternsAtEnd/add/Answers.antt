@@ -1,5 +1,4 @@
-use Rattle.std.proofs.Common.{◌≡◌}
-use Rattle.lf_claims.specs.Ends.{key_of}
+use Rattle.lf_claims.specs.declared.starred.Bound.{Bound}
 use Rattle.lf_claims.specs.Claims.{Keeps}
 use Rattle.lf_claims.proofs.KeyLemmas.{has_one_more}
 use Rattle.lf_claims.proofs.starred.PatternsAtEnd.add.Goals as goal
@@ -9,5 +8,6 @@ returns c = λ bounds h.
     let old = c.args.self.now in
     let mid = c.keep.new.self in
     let key = c.key_at-key.result.now in
-    let keeps : Keeps old mid key (record { pattern = c.args.pattern.now; fence = c.args.fence }) = rw c.in_ok-pattern.ensures at (c.in_ok-keep.ensures {u = tt} h.whole) in
-    has_one_more old mid key (record { pattern = c.args.pattern.now; fence = c.args.fence }) keeps c.key_at-key.ensures c.add_length.new.lengths (c.in_ok-add_length.ensures {u = tt}) bounds h
+    let bound : Bound = record { pattern = c.args.pattern.now; fence = c.args.fence } in
+    let keeps : Keeps old mid key bound = rw c.in_ok-pattern.ensures at (c.in_ok-keep.ensures {u = tt} h.whole) in
+    has_one_more old mid key bound keeps c.key_at-key.ensures c.add_length.new.lengths (c.in_ok-add_length.ensures {u = tt}) bounds h
