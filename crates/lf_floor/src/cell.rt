@@ -42,7 +42,7 @@ fn fill<S>(
     ensures follows { Follows around.now.frame.now cells.now occupancy.new }
 {
     if occupancy.is_none() {
-        *occupancy = Some(Occupancy::build(around.alloc, around.frame, &around.index.segments, cells)?);
+        *occupancy = Some(Occupancy::build(around.alloc, around.frame, around.segments, cells)?);
     }
     Ok(())
 }

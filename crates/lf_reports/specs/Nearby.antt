@@ -1,5 +1,5 @@
 -- What lies near a box: the rows, fences and obstacles of a frame and the placed cells, by where they lie.
-use Rattle.std.specs.Prelude.{◌≡◌, ◌==◌, filter, ℕ, ◌+◌, ◌<◌, ◌≤◌, ◌≤ℤ◌, ◌⊎◌, List, [], ◌∷◌, ◌++◌, map, length, slice_index_or, All, Any, IsPermutation, Option, None, MatchOption}
+use Rattle.std.specs.Prelude.{◌≡◌, ◌==◌, filter, ℕ, ◌+◌, ◌<◌, ◌≤◌, ◌≤ℤ◌, ◌⊎◌, List, [], ◌∷◌, ◌++◌, map, length, slice_index_or, All, Any, IsPermutation, IfSome, Option, None, MatchOption}
 use Rattle.lf_units.specs.declared.area.Point.{Point}
 use Rattle.lf_units.specs.declared.area.Rect.{Rect}
 use Rattle.lf_units.specs.Area.{SharesPoint}
@@ -42,12 +42,12 @@ obstacle_boxes rects = map (numbered 0) rects
 abbrev pub rects_of : List Placed → ℕ → List Rect
 rects_of boxes own = map (λ p. p.rect) (filter (λ p. p.own == own) boxes)
 
--- the index holds the frame's rows, fences, obstacles and segments
+-- the index holds the frame's rows, fences and obstacles, and its segments, where they were cut
 pub record IsIndexOf (f : Frame) (i : FrameIndex) : Type 0 where
   pub rows : IsPermutation (row_boxes f.pitch 0 f.rows) i.rows
   pub fences : IsPermutation (fence_boxes 0 f.teams) i.fences
   pub obstacles : IsPermutation (obstacle_boxes f.obstacles) i.obstacles
-  pub cut : IsCut f i.segments
+  pub cut : IfSome i.segments (λ segments. IsCut f segments)
 
 -- the inner rectangle reaches over no edge of the outer one
 pub record IsWithin (outer inner : Rect) : Type 0 where

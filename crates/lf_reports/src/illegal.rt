@@ -6,7 +6,7 @@ ghost use Rattle.lf_rules.specs.Legalizer.{Legalizer};
 ghost use Rattle.lf_reports.specs.Reports.{AreVerdicts, IsListed, named};
 ghost use Rattle.lf_reports.specs.Illegal.{illegal_in};
 
-use crate::report::{boxes_in, indexed, verdicts_in};
+use crate::report::{boxes_in, by_trees, verdicts_in};
 use lf_floorplan::Frame;
 use lf_rules::{Broken, Listed};
 use std::alloc::{AllocError, Global};
@@ -51,7 +51,7 @@ pub fn first_illegal(
     ensures { (l : Legalizer) → IfOk result (λ first. first ≡ slice_get (illegal_in l frame.now (map named cells.now)) 0) }
 {
     let mut boxes = boxes_in(alloc, frame, cells)?;
-    let mut search = indexed(alloc, frame, boxes.as_mut_slice())?;
+    let mut search = by_trees(alloc, frame, boxes.as_mut_slice())?;
     let verdicts = verdicts_in(alloc, frame, &mut search, cells, &boxes)?;
     Ok(first_of(&verdicts))
 }

@@ -7,7 +7,7 @@ ghost use Rattle.lf_rules.specs.Legalizer.{IsVerdict, Legalizer};
 ghost use Rattle.lf_rules.specs.FullyLegal.{IsFullyLegal, standing_at};
 ghost use Rattle.lf_rules.specs.Reports.{IsClean, IsTold};
 ghost use Rattle.lf_reports.specs.Reports.{IsListed, broken_among, listed_at, member_of, name_among, named, report_of, standing_of, trial_among, AreSomeVerdicts, IsPut, AreVerdicts, PutsVerdict, verdict_at, violation_at, violation_of, violations_in};
-ghost use Rattle.lf_reports.specs.Nearby.{IsSearchOf};
+ghost use Rattle.lf_reports.specs.Nearby.{IsIndexOf, IsSearchOf};
 ghost use Rattle.lf_rules.specs.Team.{Member, boxes_beside, boxes_from, with_box};
 
 use crate::frame_index::FrameIndex;
@@ -346,7 +346,23 @@ pub(crate) fn boxes_in(
 
 /// The search that finds what lies near a cell without a look at all of the frame and of the cells, whose boxes are
 /// put into the order in which they lie.
-pub(crate) fn indexed(
+fn indexed(
+    alloc: Global,
+    frame: &Frame,
+    index: FrameIndex,
+    boxes: &mut [Placed],
+) -> Result<Search, AllocError>
+    requires { IsIndexOf frame.now index }
+    ensures same { IsPermutation boxes.old boxes.new }
+    ensures search { (cells : List Member) → IsPermutation (boxes_from frame.now 0 cells) boxes.old → IfOk result (λ search. IsSearchOf frame.now cells search) }
+{
+    let boxes = RTree::build(alloc, boxes)?;
+    let window = Window::new(alloc, &index)?;
+    Ok(Search::Indexed(index, boxes, window))
+}
+
+/// The search that asks the frame's trees alone: segments are not cut for the few cells of a team.
+pub(crate) fn by_trees(
     alloc: Global,
     frame: &Frame,
     boxes: &mut [Placed],
@@ -354,10 +370,17 @@ pub(crate) fn indexed(
     ensures same { IsPermutation boxes.old boxes.new }
     ensures search { (cells : List Member) → IsPermutation (boxes_from frame.now 0 cells) boxes.old → IfOk result (λ search. IsSearchOf frame.now cells search) }
 {
-    let boxes = RTree::build(alloc, boxes)?;
+    let index = FrameIndex::with(alloc, frame, None)?;
+    indexed(alloc, frame, index, boxes)
+}
+
+/// The search that asks the frame's segments first, which are cut for it.
+fn by_segments(alloc: Global, frame: &Frame, boxes: &mut [Placed]) -> Result<Search, AllocError>
+    ensures same { IsPermutation boxes.old boxes.new }
+    ensures search { (cells : List Member) → IsPermutation (boxes_from frame.now 0 cells) boxes.old → IfOk result (λ search. IsSearchOf frame.now cells search) }
+{
     let index = FrameIndex::build(alloc, frame)?;
-    let window = Window::new(alloc, &index)?;
-    Ok(Search::Indexed(index, boxes, window))
+    indexed(alloc, frame, index, boxes)
 }
 
 /// What the rules are tested against for each cell.
@@ -367,6 +390,8 @@ enum Against {
     All,
     /// What lies near the cell.
     Near,
+    /// The segments that the cell lies in, and else what lies near it.
+    Segments,
 }
 
 /// The report of these cells, in which overlap is between any two of them.
@@ -386,7 +411,11 @@ fn report_against(
     match against {
         Against::All => report_by(alloc, frame, &mut Search::Plain, cells, &boxes),
         Against::Near => {
-            let mut search = indexed(alloc, frame, boxes.as_mut_slice())?;
+            let mut search = by_trees(alloc, frame, boxes.as_mut_slice())?;
+            report_by(alloc, frame, &mut search, cells, &boxes)
+        }
+        Against::Segments => {
+            let mut search = by_segments(alloc, frame, boxes.as_mut_slice())?;
             report_by(alloc, frame, &mut search, cells, &boxes)
         }
     }
@@ -462,7 +491,7 @@ pub fn check_all(
     ensures legal { IfOk result (λ report. IsClean report ↔ IsFullyLegal loaded.now.frame (standing_at loaded.now.cells places.now)) }
     ensures told { IfOk result (λ report. All IsTold report.violations) }
 {
-    check_against(alloc, loaded, places, Against::Near)
+    check_against(alloc, loaded, places, Against::Segments)
 }
 
 /// The report of `check_all` by the plain search: each two cells are compared, and each cell with every row, fence

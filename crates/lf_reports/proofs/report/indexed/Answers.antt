@@ -7,7 +7,7 @@ use Rattle.lf_reports.proofs.report.indexed.Goals as goal
 pub returns-clause-search : goal.returns-clause-search
 returns-clause-search c = λ cells same.
     let all = boxes_from c.args.frame.now 0 cells in (
-      c.in_ok-index.ensures,
+      c.requires,
       subst (IsPermutation all) (sym c.in_ok-boxes.ensures.tree) (IsPermutation-trans all c.args.boxes.now _ same c.in_ok-boxes.ensures.same),
-      c.in_ok-window.ensures c.args.frame.now c.in_ok-index.ensures,
+      c.in_ok-window.ensures c.args.frame.now c.requires,
     )
