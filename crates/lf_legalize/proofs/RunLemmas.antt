@@ -18,7 +18,7 @@ use Rattle.lf_segments.proofs.HeightLemmas.{run_in_range, range_in_run, lower_is
 use Rattle.lf_occupancy.specs.Floorplans.{HasStripsOf}
 use Rattle.lf_legalize.specs.declared.row_search.RowSearch.{RowSearch}
 use Rattle.lf_legalize.specs.Levels.{AddsRow, AreFreeOn, IsLevelRow, IsRailed}
-use Rattle.lf_legalize.proofs.LevelLemmas.{LieLeft, any_right, free_append, free_as, free_none, same_row}
+use Rattle.lf_legalize.proofs.LevelLemmas.{LieLeft, any_right, free_append, free_as, same_row}
 
 -- ---- rows by their positions
 

@@ -1,6 +1,6 @@
 -- What lanes tell of the boxes of teams' cells.
 use Rattle.std.proofs.Common.{refl, ◌≡◌, ◌⊎◌, inl, inr, ℕ, ◌<◌, ◌≤◌, ℤ, ◌<ℤ◌, List, [], Option, Some, None, length, get_or, sym, ap, subst, ◌∙◌, arith}
-use Rattle.std.specs.Prelude.{All, Any, Contains, IsSomeAnd, map, slice_get}
+use Rattle.std.specs.Prelude.{Any, Contains, IsSomeAnd, map, slice_get}
 use Rattle.std.specs.Vec.{vec_len}
 use Rattle.std.proofs.lemmas.Bool.Decides.{eqb_tells}
 use Rattle.std.proofs.lemmas.Option.{slice_get-get_or, slice_get_past}
@@ -17,7 +17,7 @@ use Rattle.lf_occupancy.specs.declared.lane.Lane.{Lane}
 use Rattle.lf_occupancy.specs.declared.strip.Strip.{Strip}
 use Rattle.lf_occupancy.specs.Lanes.{IsLane, LiesInBox, IsLeast, cell_box, x_range}
 use Rattle.lf_occupancy.specs.Strips.{counts_in, AreFreeTo, AreLanes, AreLeft, LiesFree, LiesLeft, MeetsInOne}
-use Rattle.lf_occupancy.specs.Occupied.{AreCellsIn, AreCounted, IsCountIn, box_at, AreFreeSpans, IsLeftOver, StandsBut}
+use Rattle.lf_occupancy.specs.Occupied.{AreCellsIn, AreCounted, box_at, AreFreeSpans, IsLeftOver, StandsBut}
 use Rattle.lf_occupancy.specs.Occupied.{Occupied, IsFirstMet, IsFreeInRow, IsFreeOver, IsOther, IsStripOf, MeetsInStrips, across, over}
 use Rattle.lf_occupancy.proofs.Finds.{no_strip, some_lane}
 use Rattle.lf_occupancy.proofs.Leasts.{least_alike, least_from_none}
