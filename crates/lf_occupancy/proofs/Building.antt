@@ -18,6 +18,7 @@ use Rattle.lf_floorplan.specs.Rows.{IsHeeded}
 use Rattle.lf_segments.specs.declared.segment.Segment.{Segment}
 use Rattle.lf_segments.specs.declared.rows_by_y.RowEntry.{RowEntry}
 use Rattle.lf_segments.specs.Segments.{IsCut, IsOpen, IsSegment, LiesInSegment}
+use Rattle.lf_segments.specs.RowStarts.{AreRowStarts, rows_of}
 use Rattle.lf_segments.specs.RowsByY.{IsEntryOf, IsRowsByY}
 use Rattle.lf_cells.specs.declared.cell.Cell.{Cell}
 use Rattle.lf_cells.specs.declared.cell.CellId.{CellId}
@@ -98,10 +99,11 @@ strip_placed f segments rows height same cut by_y k d within = record {
         ap (λ (e : RowEntry). e.y) one.is ∙ sym there ∙ ap (λ (n : ℕ). row_y f n) found.4
 
 pub laid_out : (f : Frame) (segments : List Segment) (s : Strips) → s.list.items ≡ map (strip_of f) segments → s.height ≡ f.pitch.y → IsCut f segments →
-    IsRowsByY f s.rows → AreLaidOut f segments s
-laid_out f segments s list height cut by_y = record {
+    AreRowStarts (rows_of segments) s.starts → IsRowsByY f s.rows → AreLaidOut f segments s
+laid_out f segments s list height cut starts by_y = record {
   list = list;
   strips = record {
+    starts = subst (λ (rows : List ℕ). AreRowStarts rows s.starts) (rows_alike segments ∙ ap (λ (gs : List Strip). map (λ (g : Strip). g.row) gs) (sym list)) starts;
     in_order = subst (AllPairs ComesBefore) (sym list) (strips_in_order f segments cut);
     placed = subst (All (IsPlaced s.rows s.height)) (sym list)
         (All-map (IsPlaced s.rows s.height) (strip_of f) segments (strip_placed f segments s.rows s.height height cut by_y));
@@ -110,6 +112,11 @@ laid_out f segments s list height cut by_y = record {
     small = let h = f.pitch_whole.y_small in omega (arith, ints, height, h);
   };
 }
+  where
+    -- a strip is of its segment's row
+    rows_alike : (gs : List Segment) → rows_of gs ≡ map (λ (g : Strip). g.row) (map (strip_of f) gs)
+    rows_alike [] = refl
+    rows_alike (g ∷ gs) = ap (λ (rows : List ℕ). g.row ∷ rows) (rows_alike gs)
 
 -- where cells stand nowhere, their lanes are bare
 nowhere : (count own : ℕ) (box : Rect) → cell_box (replicate count None) own ≡ Some box → ⊥

@@ -11,3 +11,4 @@ pub mod Reaching
 pub mod Views
 pub mod Covering
 pub mod Building
+pub mod Ranges

@@ -44,6 +44,22 @@ of_earlier row team left g (by_x same both t) =
     let b : eqb g.team team ≡ true = grind (arith, nat_tests) in
     ap (λ t. cond t (cond (eqb g.team team) left (ltb g.team team)) (ltb g.row row)) a ∙ (ap (λ t. cond t left (ltb g.team team)) b ∙ t)
 
+-- a strip of an earlier row is earlier, and one of a later row is not
+pub earlier_row : (row team : ℕ) (left : Bool) (g : Strip) → g.row < row → is_earlier row team left g ≡ true
+earlier_row row team left g less = of_earlier row team left g (by_row less)
+
+pub later_row : (row team : ℕ) (left : Bool) (g : Strip) → row < g.row → is_earlier row team left g ≡ false
+later_row row team left g more = from (is_earlier row team left g) refl
+  where
+    never : Earlier row team left g → ⊥
+    never (by_row h) = omega (arith, h, more)
+    never (by_team e h) = omega (arith, e, more)
+    never (by_x e f h) = omega (arith, e, more)
+
+    from : (b : Bool) → is_earlier row team left g ≡ b → is_earlier row team left g ≡ false
+    from true is = absurd (never (earlier_of row team left g is))
+    from false is = is
+
 -- what comes before an earlier strip is earlier, where the answers fall so
 earlier_before : (row team : ℕ) (s t : Bool) (a b : Strip) → ComesBefore a b → (a.area.x2 ≤ℤ b.area.x1 → t ≡ true → s ≡ true) → Earlier row team t b →
     Earlier row team s a

@@ -8,6 +8,7 @@ use Rattle.lf_units.specs.declared.area.Rect.{Rect}
 use Rattle.lf_spans.specs.declared.span.Span.{Span}
 use Rattle.lf_spans.specs.Spans.{IsFilled, IsRising, LiesIn, LiesInOne, IsApart}
 use Rattle.lf_segments.specs.declared.rows_by_y.RowEntry.{RowEntry}
+use Rattle.lf_segments.specs.RowStarts.{AreRowStarts}
 use Rattle.lf_segments.specs.RowsByY.{IsRunBetween}
 use Rattle.lf_occupancy.specs.declared.lane.Lane.{Lane}
 use Rattle.lf_occupancy.specs.declared.strip.Strip.{Strip}
@@ -29,9 +30,10 @@ pub record IsPlaced (rows : List RowEntry) (height : ℤ) (g : Strip) : Type 0 w
   pub high : g.area.y2 ≡ g.area.y1 +ℤ height
   pub found : Any (λ e. (e.row ≡ g.row) × (e.y ≡ g.area.y1)) rows
 
--- the strips stand in order, each is placed, and the rows' entries are of different rows
+-- the strips stand in order, each is placed, their rows' starts are known, and the rows' entries are of different rows
 pub record AreStrips (s : Strips) : Type 0 where
   pub in_order : AllPairs ComesBefore s.list.items
+  pub starts : AreRowStarts (map (λ g. g.row) s.list.items) s.starts
   pub placed : All (IsPlaced s.rows s.height) s.list.items
   pub once : AllPairs (λ a b. a.row ≢ b.row) s.rows
   pub high : pos 0 <ℤ s.height

@@ -16,7 +16,7 @@ use crate::strips::Strips;
 use lf_cells::{CellId, CellTable};
 use lf_floorplan::Frame;
 use lf_rules::solid_box;
-use lf_segments::{RowsByY, Segment, Segments};
+use lf_segments::{RowStarts, RowsByY, Segment, Segments};
 use lf_units::Rect;
 use std::alloc::{AllocError, Global};
 
@@ -70,9 +70,11 @@ pub(crate) fn lay_out(
     ensures { IfOk result (λ strips. AreLaidOut frame.now segments.now strips) }
 {
     let list = strips_of(alloc, frame, segments.as_slice())?;
+    let starts = RowStarts::build(alloc, segments.as_slice(), frame.rows.len())?;
     let rows = RowsByY::build(alloc, frame)?;
     Ok(Strips {
         list,
+        starts,
         rows,
         height: frame.pitch.y,
     })

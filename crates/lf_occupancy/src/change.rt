@@ -30,8 +30,7 @@ fn make_room_in_row(
     ensures kept { AreKept lanes.old.items lanes.new.items }
     ensures ok { OnOk result (HaveRoom (IsReachedIn strips.now.list.items row id.now.team rect.now) more lanes.new.items) }
 {
-    let list = strips.list.as_slice();
-    let near = near_strips(list, row, id.team as usize, &rect.x1, &rect.x2);
+    let near = near_strips(strips, row, id.team as usize, &rect.x1, &rect.x2);
     for n in near.start..near.end {
         make_room(&mut lanes[n], more)?;
     }
@@ -64,8 +63,7 @@ fn prune_row(lanes: &mut Vec<Lane>, strips: &Strips, row: usize, id: &CellId, re
     requires many { length lanes.old.items ≡ length strips.now.list.items }
     ensures { AreChanged (IsReachedIn strips.now.list.items row id.now.team rect.now) (λ n. IsPruned id.now.own) lanes.old.items lanes.new.items }
 {
-    let list = strips.list.as_slice();
-    let near = near_strips(list, row, id.team as usize, &rect.x1, &rect.x2);
+    let near = near_strips(strips, row, id.team as usize, &rect.x1, &rect.x2);
     for n in near.start..near.end {
         prune(&mut lanes[n], id.own);
     }
@@ -91,7 +89,7 @@ fn put_in_row(lanes: &mut Vec<Lane>, strips: &Strips, row: usize, id: &CellId, r
     ensures { PutInRow strips.now row id.now rect.now lanes.old.items lanes.new.items }
 {
     let list = strips.list.as_slice();
-    let near = near_strips(list, row, id.team as usize, &rect.x1, &rect.x2);
+    let near = near_strips(strips, row, id.team as usize, &rect.x1, &rect.x2);
     for n in near.start..near.end {
         put_in(&mut lanes[n], &list[n].area, id.own, rect);
     }

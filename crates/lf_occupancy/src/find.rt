@@ -26,7 +26,7 @@ fn least_in_row(
     ensures { IsLeast (MeetsInRow strips.now.list.items lanes.now row id.now.team rect.now id.now.own) so_far result }
 {
     let list = strips.list.as_slice();
-    let near = near_strips(list, row, id.team as usize, &rect.x1, &rect.x2);
+    let near = near_strips(strips, row, id.team as usize, &rect.x1, &rect.x2);
     let mut least = so_far;
     for n in near.start..near.end {
         least = least_in_lane(&lanes[n], &list[n].area.x1, rect, id.own, least);
@@ -63,7 +63,7 @@ pub(crate) fn free_in_strips(
     ensures { IfOk result (λ free. AreFreeTo strips.now.list.items lanes.now row id.now.team id.now.own window.now (length strips.now.list.items) free.items) }
 {
     let list = strips.list.as_slice();
-    let near = near_strips(list, row, id.team as usize, &window.lo, &window.hi);
+    let near = near_strips(strips, row, id.team as usize, &window.lo, &window.hi);
     let mut free = Vec::new(alloc);
     for n in near.start..near.end {
         let part = free_in_lane(alloc, &lanes[n], &x_range_of(&list[n].area), id.own, window)?;

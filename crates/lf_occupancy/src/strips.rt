@@ -5,17 +5,18 @@ ghost use Rattle.lf_occupancy.specs.declared.strip.Strip.{Strip};
 ghost use Rattle.lf_occupancy.specs.Strips.{AreNear, AreRowsNear, AreStrips, ComesBefore, is_begun, is_earlier, is_ended};
 
 use crate::strip::Strip;
-use lf_segments::{RowEntry, RowsByY};
+use lf_segments::{RowEntry, RowStarts, RowsByY};
 use lf_units::Rect;
 
 /// No strip lies lower: the least coordinate of a DEF text is above this.
 const LOWEST: i64 = -2147483648;
 
-/// The strips of a frame, in the order of its segments, with its rows in order of their y, and the
-/// height of a row in database units.
+/// The strips of a frame, in the order of its segments, with the starts of its rows among them, its
+/// rows in order of their y, and the height of a row in database units.
 #[derive(Drop)]
 pub(crate) struct Strips {
     pub(crate) list: Vec<Strip>,
+    pub(crate) starts: RowStarts,
     pub(crate) rows: RowsByY,
     pub(crate) height: i64,
 }
@@ -62,16 +63,19 @@ fn count_begun(strips: &[Strip], row: usize, team: usize, x: &i64) -> usize
     strips.partition_point(|strip| is_before(strip, row, team, strip.area.x1 < *x))
 }
 
-/// The numbers of the strips of a row and a team that overlap a range of x. They are found by
-/// bisection.
-pub(crate) fn near_strips(strips: &[Strip], row: usize, team: usize, lo: &i64, hi: &i64) -> Near
-    requires order { AllPairs ComesBefore strips.now }
-    requires wide { All (λ g. g.area.x1 <ℤ g.area.x2) strips.now }
-    ensures { AreNear strips.now row team lo.now hi.now result.start result.end }
+/// The numbers of the strips of a row and a team that overlap a range of x. They are found by a
+/// look-up, and by bisection among those of the row.
+pub(crate) fn near_strips(strips: &Strips, row: usize, team: usize, lo: &i64, hi: &i64) -> Near
+    requires { AreStrips strips.now }
+    ensures { AreNear strips.now.list.items row team lo.now hi.now result.start result.end }
 {
-    let start = count_ended(strips, row, team, lo);
-    let end = count_begun(strips, row, team, hi);
-    Near { start, end }
+    let list = strips.list.as_slice();
+    let range = strips.starts.of_row(row, list.len());
+    let in_row = &list[range.start..range.end];
+    Near {
+        start: range.start + count_ended(in_row, row, team, lo),
+        end: range.start + count_begun(in_row, row, team, hi),
+    }
 }
 
 /// The entries of the rows whose strips may share a point with the rectangle. They are found by

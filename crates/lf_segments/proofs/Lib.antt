@@ -7,3 +7,4 @@ pub mod RowLemmas
 pub mod TreeLemmas
 pub mod OneLemmas
 pub mod HeightLemmas
+pub mod StartLemmas

@@ -2,3 +2,4 @@ pub mod Segments
 pub mod Boxes
 pub mod Laws
 pub mod RowsByY
+pub mod RowStarts

@@ -6,12 +6,14 @@ mod boxes;
 mod cover;
 mod laws;
 mod row;
+mod row_starts;
 mod rows_by_y;
 mod runs;
 mod segment;
 mod segments;
 
 pub use laws::{cut_is_one, lies_in_segments, runs_have_rows};
+pub use row_starts::{RowRange, RowStarts};
 pub use rows_by_y::{RowEntry, RowsByY};
 pub use segment::Segment;
 pub use segments::Segments;

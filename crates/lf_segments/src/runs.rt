@@ -1,12 +1,14 @@
-//! The segments of one row and team, found by bisection.
+//! The segments of one row and team: those of the row by a look-up, those of the team among them by bisection.
 
 ghost use Rattle.std.specs.Prelude.{◌≡◌, ◌↔◌, IsTrue, ◌<◌, ◌≤◌, ◌≤ℤ◌, ◌<ℤ◌, ℕ, All, AllPairs, MatchOption, length, slice_index_or};
 ghost use Rattle.std.specs.List.{HoldsAt};
 ghost use Rattle.std.specs.List.Sorted.{IsNonDecreasingBy};
 ghost use Rattle.lf_spans.specs.Spans.{IsFilled};
 ghost use Rattle.lf_segments.specs.declared.segment.Segment.{Segment};
+ghost use Rattle.lf_segments.specs.RowStarts.{AreRowStarts, rows_of};
 ghost use Rattle.lf_segments.specs.Segments.{ComesBefore, IsAt, IsOf, IsRunFrom};
 
+use crate::row_starts::RowStarts;
 use crate::segment::Segment;
 
 /// Segments that stand together in a list, and the position of the first of them.
@@ -16,17 +18,15 @@ pub(crate) struct Run<'a> {
     pub(crate) segments: &'a [Segment],
 }
 
-/// The segments of a row, among those that stand by rows.
-fn run_of_row(segments: &[Segment], row: usize) -> Run<'_>
-    requires { IsNonDecreasingBy (λ g. g.row) segments.now }
+/// The segments of a row, of which the starts are known.
+fn run_of_row<'a>(segments: &'a [Segment], starts: &RowStarts, row: usize) -> Run<'a>
+    requires { AreRowStarts (rows_of segments.now) starts.now }
     ensures { IsRunFrom (λ g. g.row ≡ row) segments.now result.start result.segments.now }
 {
-    let start = segments.partition_point(|segment| segment.row < row);
-    let rest = &segments[start..];
-    let count = rest.partition_point(|segment| segment.row <= row);
+    let range = starts.of_row(row, segments.len());
     Run {
-        start,
-        segments: &rest[..count],
+        start: range.start,
+        segments: &segments[range.start..range.end],
     }
 }
 
@@ -45,11 +45,17 @@ fn run_of_team(segments: &[Segment], team: usize) -> Run<'_>
 }
 
 /// The segments of a row and a team.
-pub(crate) fn run_of(segments: &[Segment], row: usize, team: usize) -> Run<'_>
-    requires { AllPairs ComesBefore segments.now }
+pub(crate) fn run_of<'a>(
+    segments: &'a [Segment],
+    starts: &RowStarts,
+    row: usize,
+    team: usize,
+) -> Run<'a>
+    requires order { AllPairs ComesBefore segments.now }
+    requires starts { AreRowStarts (rows_of segments.now) starts.now }
     ensures { IsRunFrom (IsOf row team) segments.now result.start result.segments.now }
 {
-    let in_row = run_of_row(segments, row);
+    let in_row = run_of_row(segments, starts, row);
     let of_team = run_of_team(in_row.segments, team);
     Run {
         start: in_row.start + of_team.start,
@@ -75,12 +81,19 @@ fn begins_behind(segment: &Segment, x: &i64) -> bool
 }
 
 /// The position of the segment of a row and a team that holds x; none where there is none.
-pub(crate) fn place_in(segments: &[Segment], row: usize, team: usize, x: &i64) -> Option<usize>
+pub(crate) fn place_in(
+    segments: &[Segment],
+    starts: &RowStarts,
+    row: usize,
+    team: usize,
+    x: &i64,
+) -> Option<usize>
     requires order { AllPairs ComesBefore segments.now }
+    requires starts { AreRowStarts (rows_of segments.now) starts.now }
     requires filled { All (λ g. IsFilled g.span) segments.now }
     ensures { MatchOption result (All (λ g. IsAt row team x.now g → ⊥) segments.now) (λ n. HoldsAt (IsAt row team x.now) segments.now n) }
 {
-    let run = run_of(segments, row, team);
+    let run = run_of(segments, starts, row, team);
     let k = count_ended(run.segments, x);
     if run.segments.len() <= k {
         return None;

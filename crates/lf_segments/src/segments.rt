@@ -6,6 +6,7 @@ ghost use Rattle.lf_segments.specs.Segments.{IsAt, IsCut, IsRunOf};
 
 use crate::boxes::boxes_of_frame;
 use crate::row::push_row;
+use crate::row_starts::RowStarts;
 use crate::runs::{place_in, run_of};
 use crate::segment::Segment;
 use lf_floorplan::Frame;
@@ -18,19 +19,21 @@ use std::marker::Model;
 #[derive(Drop)]
 pub struct Segments {
     list: Vec<Segment>,
+    starts: RowStarts,
 }
 
 impl Model for Segments {
     ghost use Rattle.std.specs.Prelude.{List, All, AllPairs};
     ghost use Rattle.lf_spans.specs.Spans.{IsFilled};
     ghost use Rattle.lf_segments.specs.declared.segment.Segment.{Segment};
+    ghost use Rattle.lf_segments.specs.RowStarts.{AreRowStarts, rows_of};
     ghost use Rattle.lf_segments.specs.Segments.{ComesBefore};
 
     ghost Value = { List Segment };
 
     ghost view = { λ s. s.list.items };
 
-    ghost invariant = { λ s. AllPairs ComesBefore s.list.items × All (λ g. IsFilled g.span) s.list.items };
+    ghost invariant = { λ s. AllPairs ComesBefore s.list.items × (All (λ g. IsFilled g.span) s.list.items × AreRowStarts (rows_of s.list.items) s.starts) };
 }
 
 /// The segments of all rows. For each row only what lies near it is looked at.
@@ -55,7 +58,8 @@ impl Segments {
         ensures { IfOk result (λ segments. IsCut frame.now segments) }
     {
         let list = cut_rows(alloc, frame)?;
-        Ok(Segments { list })
+        let starts = RowStarts::build(alloc, list.as_slice(), frame.rows.len())?;
+        Ok(Segments { list, starts })
     }
 
     /// The segments, lent.
@@ -73,18 +77,18 @@ impl Segments {
     }
 
     /// The segments of the row and the team, from left to right; none where there is no such row or
-    /// team. They are found by bisection.
+    /// team. They are found by a look-up and bisection.
     pub fn of_row(&self, row: usize, team: usize) -> &[Segment]
         ensures { IsRunOf self.now row team result.now }
     {
-        run_of(&self.list, row, team).segments
+        run_of(&self.list, &self.starts, row, team).segments
     }
 
     /// The number in the one list of the segment of the row and the team that holds x; none where
-    /// there is none. It is found by bisection.
+    /// there is none. It is found by a look-up and bisection.
     pub fn segment_at(&self, row: usize, team: usize, x: i64) -> Option<usize>
         ensures { MatchOption result (All (λ g. IsAt row team x g → ⊥) self.now) (HoldsAt (IsAt row team x) self.now) }
     {
-        place_in(&self.list, row, team, &x)
+        place_in(&self.list, &self.starts, row, team, &x)
     }
 }

@@ -1,7 +1,5 @@
-use Rattle.std.proofs.Common.{◌<◌, List, arith, length, ap, subst}
+use Rattle.std.proofs.Common.{◌<◌, arith, length}
 use Rattle.std.proofs.lemmas.Result.{IfOk-from_err}
-use Rattle.lf_occupancy.specs.declared.strip.Strip.{Strip}
-use Rattle.lf_occupancy.specs.Strips.{AreNear}
 use Rattle.lf_occupancy.proofs.Changes.{kept_same, kept_along, kept_set, room_further, room_of_row}
 use Rattle.lf_occupancy.proofs.change.make_room_in_row.Goals as goal
 
@@ -14,8 +12,7 @@ loop-n-preserved c =
     let test = c.loop-n-test.true in
     let many = c.requires.many in
     let same = c.loop-n.invariant.kept.many in
-    let long = ap (λ (xs : List Strip). length xs) c.as_slice-list.ensures.value in
-    let within : c.loop-n.n < length c.loop-n.lanes.items = omega (arith, bound, test, many, same, long) in
+    let within : c.loop-n.n < length c.loop-n.lanes.items = omega (arith, bound, test, many, same) in
     record {
       kept = kept_along c.args.lanes.now.items c.loop-n.lanes.items _ c.loop-n.invariant.kept
           (kept_set c.loop-n.lanes.items c.loop-n.n c.index_mut.result.now c.make_room.new.lane within c.index_mut.ensures.value
@@ -30,8 +27,7 @@ returns-in_err-make_room c =
     let test = c.loop-n-test.true in
     let many = c.requires.many in
     let same = c.loop-n.invariant.kept.many in
-    let long = ap (λ (xs : List Strip). length xs) c.as_slice-list.ensures.value in
-    let within : c.loop-n.n < length c.loop-n.lanes.items = omega (arith, bound, test, many, same, long) in
+    let within : c.loop-n.n < length c.loop-n.lanes.items = omega (arith, bound, test, many, same) in
     record {
       kept = kept_along c.args.lanes.now.items c.loop-n.lanes.items _ c.loop-n.invariant.kept
           (kept_set c.loop-n.lanes.items c.loop-n.n c.index_mut.result.now c.make_room.new.lane within c.index_mut.ensures.value
@@ -47,7 +43,7 @@ returns c =
     let rect = c.args.rect.now in
     let start = c.near_strips-near.result.start in
     let end = c.near_strips-near.result.end in
-    let near = subst (λ (zs : List Strip). AreNear zs row team rect.x1 rect.x2 start end) c.as_slice-list.ensures.value c.near_strips-near.ensures in
+    let near = c.near_strips-near.ensures in
     record {
       kept = c.loop-n.invariant.kept;
       ok = room_of_row c.args.more xs row team start c.loop-n.n end rect c.loop-n.lanes.items near c.loop-n-test.false c.loop-n.invariant.room;

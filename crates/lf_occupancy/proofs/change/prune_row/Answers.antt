@@ -1,7 +1,5 @@
-use Rattle.std.proofs.Common.{List, arith, length, ap, subst}
-use Rattle.lf_occupancy.specs.declared.strip.Strip.{Strip}
+use Rattle.std.proofs.Common.{arith}
 use Rattle.lf_occupancy.specs.Lanes.{IsPruned}
-use Rattle.lf_occupancy.specs.Strips.{AreNear}
 use Rattle.lf_occupancy.proofs.Changes.{none_changed, changed_further, between_is_reached}
 use Rattle.lf_occupancy.proofs.change.prune_row.Goals as goal
 
@@ -14,9 +12,8 @@ loop-n-preserved c =
     let test = c.loop-n-test.true in
     let many = c.requires.many in
     let same = c.loop-n.invariant.many in
-    let long = ap (λ (xs : List Strip). length xs) c.as_slice-list.ensures.value in
     changed_further (λ n. IsPruned c.args.id.now.own) c.near_strips-near.result.start c.loop-n.n c.near_strips-near.result.end c.args.lanes.now.items
-    c.loop-n.lanes.items c.index_mut.result.now c.prune.new.lane c.loop-n.auto.n test (omega (arith, bound, test, many, same, long)) c.index_mut.ensures.value
+    c.loop-n.lanes.items c.index_mut.result.now c.prune.new.lane c.loop-n.auto.n test (omega (arith, bound, test, many, same)) c.index_mut.ensures.value
     c.prune.ensures c.loop-n.invariant
 
 pub returns : goal.returns
@@ -27,7 +24,7 @@ returns c =
     let rect = c.args.rect.now in
     let start = c.near_strips-near.result.start in
     let end = c.near_strips-near.result.end in
-    let near = subst (λ (zs : List Strip). AreNear zs row team rect.x1 rect.x2 start end) c.as_slice-list.ensures.value c.near_strips-near.ensures in
+    let near = c.near_strips-near.ensures in
     between_is_reached xs row team start c.loop-n.n end rect
     (λ n. IsPruned c.args.id.now.own) c.args.lanes.now.items c.loop-n.lanes.items near c.loop-n-test.false
     c.loop-n.invariant

@@ -1,7 +1,7 @@
 use Rattle.std.proofs.Common.{◌≡◌, ◌<◌, List, arith, get_or, length, ap, sym, subst, ◌∙◌}
 use Rattle.std.proofs.lemmas.List.{get_or_default}
 use Rattle.lf_occupancy.specs.declared.strip.Strip.{Strip}
-use Rattle.lf_occupancy.specs.Strips.{AreNear, IsPlaced, PutsIn}
+use Rattle.lf_occupancy.specs.Strips.{IsPlaced, PutsIn}
 use Rattle.lf_occupancy.specs.Lanes.{IsPutIn, TakesPart}
 use Rattle.lf_occupancy.proofs.Finds.{no_strip}
 use Rattle.lf_occupancy.proofs.Changes.{none_changed, changed_further, between_is_reached}
@@ -20,7 +20,7 @@ put_in-requires c =
     let start = c.near_strips-near.result.start in
     let end = c.near_strips-near.result.end in
     let lane = c.index_mut.result.now in
-    let near = subst (λ (zs : List Strip). AreNear zs row team rect.x1 rect.x2 start end) c.as_slice-list.ensures.value c.near_strips-near.ensures in
+    let near = c.near_strips-near.ensures in
     let bound = near.within in
     let test = c.loop-n-test.true in
     let many = c.requires.many in
@@ -44,8 +44,7 @@ loop-n-preserved c =
     let test = c.loop-n-test.true in
     let many = c.requires.many in
     let same = c.loop-n.invariant.many in
-    let long = ap (λ (zs : List Strip). length zs) list in
-    let inner : n < length xs = omega (arith, bound, test, long) in
+    let inner : n < length xs = omega (arith, bound, test) in
     let put : PutsIn xs c.args.id.now.own c.args.rect.now n c.index_mut.result.now c.put_in.new.lane =
     λ d.
     subst (λ (g : Strip). IsPutIn c.args.id.now.own c.args.rect.now g.area c.index_mut.result.now c.put_in.new.lane)
@@ -62,6 +61,6 @@ returns c =
     let rect = c.args.rect.now in
     let start = c.near_strips-near.result.start in
     let end = c.near_strips-near.result.end in
-    let near = subst (λ (zs : List Strip). AreNear zs row team rect.x1 rect.x2 start end) c.as_slice-list.ensures.value c.near_strips-near.ensures in
+    let near = c.near_strips-near.ensures in
     between_is_reached xs row team start c.loop-n.n end rect (PutsIn xs c.args.id.now.own rect) c.args.lanes.now.items c.loop-n.lanes.items near
     c.loop-n-test.false c.loop-n.invariant

@@ -4,7 +4,6 @@ use Rattle.lf_spans.specs.declared.span.Span.{Span}
 use Rattle.lf_spans.specs.Spans.{IsFreeIn}
 use Rattle.lf_occupancy.specs.declared.strip.Strip.{Strip}
 use Rattle.lf_occupancy.specs.Lanes.{others_in, spans_in, x_range}
-use Rattle.lf_occupancy.specs.Strips.{AreNear}
 use Rattle.lf_occupancy.proofs.Frees.{AreFreeBetween, none_free, free_further, free_of_row}
 use Rattle.lf_occupancy.proofs.Finds.{no_strip}
 use Rattle.lf_occupancy.proofs.find.free_in_strips.Goals as goal
@@ -34,7 +33,7 @@ loop-n-preserved c =
     let list = c.as_slice-list.ensures.value in
     let part = c.in_ok-part.part.items in
     let free = c.loop-n.free.items in
-    let near = subst (λ (zs : List Strip). AreNear zs row team window.lo window.hi start end) list c.near_strips-near.ensures in
+    let near = c.near_strips-near.ensures in
     let bound = near.within in
     let test = c.loop-n-test.true in
     let many = c.requires.lanes.many in
@@ -56,5 +55,5 @@ returns c =
     let row = c.args.row in
     let team = c.args.id.now.team in
     let window = c.args.window.now in
-    let near = subst (λ (zs : List Strip). AreNear zs row team window.lo window.hi start end) c.as_slice-list.ensures.value c.near_strips-near.ensures in
+    let near = c.near_strips-near.ensures in
     free_of_row xs c.args.lanes.now row team c.args.id.now.own start c.loop-n.n end window c.loop-n.free.items near c.loop-n-test.false c.loop-n.invariant

@@ -1,6 +1,4 @@
-use Rattle.std.proofs.Common.{List, arith, length, ap, subst}
-use Rattle.lf_occupancy.specs.declared.strip.Strip.{Strip}
-use Rattle.lf_occupancy.specs.Strips.{AreNear}
+use Rattle.std.proofs.Common.{arith}
 use Rattle.lf_occupancy.proofs.Leasts.{least_alike, least_of_none}
 use Rattle.lf_occupancy.proofs.Finds.{nothing_between, least_further, between_in_row, row_in_between}
 use Rattle.lf_occupancy.proofs.find.least_in_row.Goals as goal
@@ -12,10 +10,9 @@ pub loop-n-preserved : goal.loop-n-preserved
 loop-n-preserved c =
     let bound = c.near_strips-near.ensures.within in
     let many = c.requires.lanes.many in
-    let long = ap (λ (xs : List Strip). length xs) c.as_slice-list.ensures.value in
     least_further c.args.lanes.now c.near_strips-near.result.start c.loop-n.n c.near_strips-near.result.end c.args.rect.now c.args.id.now.own
     c.index-lanes-n.result c.args.so_far c.loop-n.least c.least_in_lane-least.result c.loop-n.auto.n c.loop-n-test.true
-    (let test = c.loop-n-test.true in omega (arith, bound, many, long, test)) c.index-lanes-n.is c.loop-n.invariant c.least_in_lane-least.ensures
+    (let test = c.loop-n-test.true in omega (arith, bound, many, test)) c.index-lanes-n.is c.loop-n.invariant c.least_in_lane-least.ensures
 
 pub returns : goal.returns
 returns c =
@@ -27,6 +24,6 @@ returns c =
     let but = c.args.id.now.own in
     let start = c.near_strips-near.result.start in
     let end = c.near_strips-near.result.end in
-    let near = subst (λ (zs : List Strip). AreNear zs row team rect.x1 rect.x2 start end) c.as_slice-list.ensures.value c.near_strips-near.ensures in
+    let near = c.near_strips-near.ensures in
     least_alike _ _ c.args.so_far c.loop-n.least (λ own m. between_in_row xs lanes row team start c.loop-n.n end rect but own near m)
     (λ own m. row_in_between xs lanes row team start c.loop-n.n end rect but own near c.requires.lanes c.loop-n-test.false m) c.loop-n.invariant

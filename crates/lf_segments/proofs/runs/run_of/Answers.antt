@@ -1,15 +1,12 @@
 use Rattle.std.proofs.Common.{◌≡◌}
 use Rattle.lf_segments.specs.Segments.{ComesBefore, IsOf}
-use Rattle.lf_segments.proofs.RunLemmas.{rows_rise, teams_rise, run_pairs, run_within}
+use Rattle.lf_segments.proofs.RunLemmas.{teams_rise, run_pairs, run_within}
 use Rattle.lf_segments.proofs.runs.run_of.Goals as goal
-
-pub run_of_row-in_row-requires : goal.run_of_row-in_row-requires
-run_of_row-in_row-requires c = rows_rise c.args.segments.now c.requires
 
 pub run_of_team-of_team-requires : goal.run_of_team-of_team-requires
 run_of_team-of_team-requires c =
     teams_rise c.run_of_row-in_row.result.segments.now c.args.row
-    (run_pairs ComesBefore (λ g. g.row ≡ c.args.row) c.args.segments.now c.run_of_row-in_row.result.segments.now c.run_of_row-in_row.result.start c.requires
+    (run_pairs ComesBefore (λ g. g.row ≡ c.args.row) c.args.segments.now c.run_of_row-in_row.result.segments.now c.run_of_row-in_row.result.start c.requires.order
     c.run_of_row-in_row.ensures)
     c.run_of_row-in_row.ensures.has
 

@@ -1,0 +1,26 @@
+-- Where the segments of each row begin.
+use Rattle.std.specs.Prelude.{◌≡◌, ℕ, ◌<◌, ◌≤◌, List, All, length, map, slice_index_or}
+use Rattle.lf_segments.specs.declared.segment.Segment.{Segment}
+
+-- the rows of segments
+abbrev pub rows_of : List Segment → List ℕ
+rows_of segments = map (λ g. g.row) segments
+
+-- so many of the rows stand before this one: those up to there are earlier, and the rest are not
+pub record IsStartOf (rows : List ℕ) (row n : ℕ) : Type 0 where
+  pub within : n ≤ length rows
+  pub earlier : (k d : ℕ) → k < n → slice_index_or rows k d < row
+  pub rest : (k d : ℕ) → n ≤ k → k < length rows → row ≤ slice_index_or rows k d
+
+-- for each row the number of those before it, up to one behind all that are there
+pub record AreRowStarts (rows starts : List ℕ) : Type 0 where
+  pub each : (r d : ℕ) → r < length starts → IsStartOf rows r (slice_index_or starts r d)
+  pub all : All (λ r. r < length starts) rows
+
+-- the numbers from start on and below end are just those at which this row stands
+pub record IsRangeOf (rows : List ℕ) (row start end : ℕ) : Type 0 where
+  pub order : start ≤ end
+  pub within : end ≤ length rows
+  pub before : (k d : ℕ) → k < start → slice_index_or rows k d < row
+  pub inside : (k d : ℕ) → start ≤ k → k < end → slice_index_or rows k d ≡ row
+  pub behind : (k d : ℕ) → end ≤ k → k < length rows → row < slice_index_or rows k d

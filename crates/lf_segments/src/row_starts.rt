@@ -1,0 +1,83 @@
+//! Where the segments of each row begin in the list of all.
+
+ghost use Rattle.std.specs.Prelude.{◌≡◌, ◌<◌, ℕ, All, IfOk, List, length, map};
+ghost use Rattle.std.specs.List.Sorted.{IsNonDecreasingBy};
+ghost use Rattle.lf_segments.specs.RowStarts.{AreRowStarts, IsRangeOf, IsStartOf, rows_of};
+
+use crate::segment::Segment;
+use std::alloc::{AllocError, Global};
+use std::marker::Model;
+
+/// The numbers of the segments of one row, which stand together: from `start` on and below `end`.
+#[derive(Clone, Copy, Debug, PartialEq, Eq)]
+pub struct RowRange {
+    pub start: usize,
+    pub end: usize,
+}
+
+/// For each row how many segments are of earlier rows, so that the segments of a row are found
+/// without a look at any. A contract sees the list of these numbers. Only `build` takes memory.
+#[derive(Drop)]
+pub struct RowStarts {
+    starts: Vec<usize>,
+}
+
+impl Model for RowStarts {
+    ghost use Rattle.std.specs.Prelude.{ℕ, List};
+
+    ghost Value = { List ℕ };
+
+    ghost view = { λ s. s.starts.items };
+}
+
+/// How many of the segments are of an earlier row. They stand by rows.
+fn count_earlier(segments: &[Segment], row: usize) -> usize
+    requires { IsNonDecreasingBy (λ g. g.row) segments.now }
+    ensures { IsStartOf (rows_of segments.now) row result }
+{
+    segments.partition_point(|segment| segment.row < row)
+}
+
+/// For so many rows how many segments are of an earlier one.
+fn starts_of(alloc: Global, segments: &[Segment], rows: usize) -> Result<Vec<usize>, AllocError>
+    requires order { IsNonDecreasingBy (λ g. g.row) segments.now }
+    requires known { All (λ g. g.row < rows) segments.now }
+    ensures { IfOk result (λ starts. AreRowStarts (rows_of segments.now) starts.items) }
+{
+    let mut starts = Vec::with_capacity(alloc, rows)?;
+    for row in 0..rows {
+        starts.push(count_earlier(segments, row))?;
+    }
+    Ok(starts)
+}
+
+impl RowStarts {
+    /// The starts for segments of so many rows, in the order of their rows. `Err` where memory is
+    /// refused.
+    pub fn build(alloc: Global, segments: &[Segment], rows: usize) -> Result<Self, AllocError>
+        requires order { IsNonDecreasingBy (λ g. g.row) segments.now }
+        requires known { All (λ g. g.row < rows) segments.now }
+        ensures { IfOk result (AreRowStarts (rows_of segments.now)) }
+    {
+        let starts = starts_of(alloc, segments, rows)?;
+        Ok(RowStarts { starts })
+    }
+
+    /// The numbers of the row's segments, of `count` segments in all; an empty range at the end of
+    /// the list where no row so far down has one. One look-up.
+    pub fn of_row(&self, row: usize, count: usize) -> RowRange
+        ensures { (rows : List ℕ) → AreRowStarts rows self.now → length rows ≡ count → IsRangeOf rows row result.start result.end }
+    {
+        let Some(start) = self.starts.get(row) else {
+            return RowRange {
+                start: count,
+                end: count,
+            };
+        };
+        let end = match self.starts.get(row + 1) {
+            Some(end) => *end,
+            None => count,
+        };
+        RowRange { start: *start, end }
+    }
+}
