@@ -3,9 +3,9 @@ use Rattle.std.proofs.Common.{◌≡◌, ℕ, suc, ◌+◌, ◌<◌, ◌≤◌, 
 use Rattle.std.proofs.lemmas.Bool.Decides.{nat_tests}
 use Rattle.std.proofs.lemmas.List.Splits.{slice_split-cons_yes, slice_split-cons_no}
 use Rattle.std.specs.List.{slice_split, onto_first, position_or_len}
-use Rattle.lf_proto.proofs.Fields.{with_front}
 use Rattle.lf_proto.specs.Stream.{limit, is_line_feed, within_limit, without_return, ended_line, last_line, lines_in, lines_of}
 use Rattle.lf_proto.specs.Framing.{Framing, with_more}
+use Rattle.lf_proto.specs.Pieces.{lines_from, pieces, with_front}
 use Rattle.lf_proto.specs.Feeds.{Ends, without_return_of, FeedsAt, Feeds, FinishesAt, given, Takes, none_left, next_piece, GivesTheLines}
 use Rattle.lf_proto.specs.declared.framer.Fed.{Fed}
 use Rattle.lf_proto.specs.declared.framer.Got.{Got}
@@ -13,10 +13,6 @@ use Rattle.lf_proto.specs.declared.framer.Got.{Got}
 -- how many bytes stand in front of the first line feed, with one byte more
 abbrev prefix_more : Bool → List ℕ → ℕ
 prefix_more visible bytes = cond visible (1 + position_or_len is_line_feed bytes) 0
-
--- the pieces between line feeds
-abbrev pieces : List ℕ → List (List ℕ)
-pieces bytes = slice_split is_line_feed bytes
 
 -- bytes and the pieces behind them are never none
 onto_first-with_front : (b : ℕ) (run : List ℕ) (parts : List (List ℕ)) → onto_first b (with_front run parts) ≡ with_front (b ∷ run) parts
@@ -31,7 +27,7 @@ with_front-cond : (b : ℕ) (rest : List ℕ) (ends : Bool) → with_front [] (c
 with_front-cond b rest true = refl
 with_front-cond b rest false = with_front-onto_first b (pieces rest)
 
-with_front-nil : (bytes : List ℕ) → with_front [] (pieces bytes) ≡ pieces bytes
+pub with_front-nil : (bytes : List ℕ) → with_front [] (pieces bytes) ≡ pieces bytes
 with_front-nil [] = refl
 with_front-nil (b ∷ rest) = with_front-cond b rest (is_line_feed b)
 
@@ -65,7 +61,7 @@ pieces-ended [] rest some = absurd (omega arith)
 pieces-ended (b ∷ bytes) rest some = ended_more b bytes rest (is_line_feed b) (position_or_len is_line_feed (b ∷ bytes)) refl refl some (pieces-ended bytes rest)
 
 -- there is always a first piece
-some_pieces : (P : List (List ℕ) → Type 0) (bytes : List ℕ) → ((piece : List ℕ) (more : List (List ℕ)) → P (piece ∷ more)) → P (pieces bytes)
+pub some_pieces : (P : List (List ℕ) → Type 0) (bytes : List ℕ) → ((piece : List ℕ) (more : List (List ℕ)) → P (piece ∷ more)) → P (pieces bytes)
 some_pieces P [] one = one [] []
 some_pieces P (b ∷ bytes) one = front (is_line_feed b)
   where
@@ -76,13 +72,6 @@ some_pieces P (b ∷ bytes) one = front (is_line_feed b)
     front : (ends : Bool) → P (cond ends ([] ∷ pieces bytes) (onto_first b (pieces bytes)))
     front true = one [] (pieces bytes)
     front false = added (pieces bytes)
-
--- the lines of what is held and the pieces that come: None is held where it is over the limit
-abbrev pub lines_from : Option (List ℕ) → List (List ℕ) → List (Option (List ℕ))
-lines_from (Some held) parts = lines_in (with_front held parts)
-lines_from None [] = None ∷ []
-lines_from None (p ∷ []) = None ∷ []
-lines_from None (p ∷ q ∷ parts) = None ∷ lines_in (q ∷ parts)
 
 lines_in-ended : (bytes rest : List ℕ) → lines_in (bytes ∷ pieces rest) ≡ ended_line bytes ∷ lines_in (pieces rest)
 lines_in-ended bytes rest = some_pieces (λ parts. lines_in (bytes ∷ parts) ≡ ended_line bytes ∷ lines_in parts) rest (λ p more. refl)
@@ -143,7 +132,7 @@ given-ended bytes got line = go (nat_le (length bytes) limit)
     go false ends = rw ends refl
 
 -- one feed gives the lines that it takes from the front
-abbrev Step : Framing → Framing → List ℕ → List ℕ → Fed → Type 0
+abbrev pub Step : Framing → Framing → List ℕ → List ℕ → Fed → Type 0
 Step old middle piece rest fed = lines_from old.pending (pieces (piece ++ rest)) ≡ given fed.got middle.line ++ lines_from middle.pending (pieces (drop fed.used piece ++ rest))
 
 held_step : (pending : Option (List ℕ)) (piece rest : List ℕ) → length piece ≤ position_or_len is_line_feed piece → lines_from pending (pieces (piece ++ rest)) ≡ lines_from (with_more pending piece) (pieces rest)
@@ -160,7 +149,7 @@ drop_whole : (bytes : List ℕ) → drop (length bytes) bytes ≡ []
 drop_whole [] = refl
 drop_whole (b ∷ bytes) = drop_whole bytes
 
-feed_step : (old middle : Framing) (piece rest : List ℕ) (fed : Fed) → Feeds old piece fed middle → Step old middle piece rest fed × IsBounded middle.pending
+pub feed_step : (old middle : Framing) (piece rest : List ℕ) (fed : Fed) → Feeds old piece fed middle → Step old middle piece rest fed × IsBounded middle.pending
 feed_step old middle piece rest fed = go (nat_lt (position_or_len is_line_feed piece) (length piece)) refl
   where
     go : (some : Bool) → nat_lt (position_or_len is_line_feed piece) (length piece) ≡ some → FeedsAt (cond some (Some (position_or_len is_line_feed piece)) None) old piece fed middle → Step old middle piece rest fed × IsBounded middle.pending
@@ -182,7 +171,7 @@ takes_lines (next_piece old middle new piece rest fed lines feeds takes) bounded
     (step.0 ∙ (ap (λ l. given fed.got middle.line ++ l) later.0 ∙ sym (append_assoc (given fed.got middle.line) lines (lines_from new.pending ([] ∷ [])))), later.1)
 
 -- what is given at the end is the line of what is held
-finish_gives : (pending : Option (List ℕ)) (got : Got) (line : List ℕ) → IsBounded pending → FinishesAt pending got line → lines_from pending ([] ∷ []) ≡ given got line
+pub finish_gives : (pending : Option (List ℕ)) (got : Got) (line : List ℕ) → IsBounded pending → FinishesAt pending got line → lines_from pending ([] ∷ []) ≡ given got line
 finish_gives None got line bounded ends = rw ends refl
 finish_gives (Some []) got line bounded ends = rw ends refl
 finish_gives (Some (b ∷ held)) got line bounded (is_line, is) =

@@ -11,6 +11,7 @@ use Rattle.bstr.specs.Text.{part}
 use Rattle.bstr.specs.Utf8.{decoded, good, or_replacement, pieces, spans_from}
 use Rattle.bstr.proofs.lemmas.FieldLemmas.{fields-skip, fields-start, fields-stop, fields-more, fields-nil, fields-last}
 use Rattle.bstr.proofs.lemmas.PieceLemmas.{pieces-nil, spans-first}
+use Rattle.lf_proto.specs.Pieces.{with_front}
 use Rattle.lf_proto.specs.Lines.{is_blank, is_line_byte, fields}
 
 -- among line bytes the white space is the blanks
@@ -24,11 +25,7 @@ line_byte_small b line = grind (arith, nat_tests)
 abbrev pub nonempty : List (List ℕ) → List (List ℕ)
 nonempty parts = filter (λ field. nat_lt 0 (length field)) parts
 
--- the parts with more bytes in front of the first
-abbrev pub with_front : List ℕ → List (List ℕ) → List (List ℕ)
-with_front run [] = run ∷ []
-with_front run (p ∷ parts) = (run ++ p) ∷ parts
-
+-- the parts with one byte more in front of the first
 pub with_front-one : (b : ℕ) (parts : List (List ℕ)) → onto_first b parts ≡ with_front (b ∷ []) parts
 with_front-one b [] = refl
 with_front-one b (p ∷ parts) = refl

@@ -9,3 +9,4 @@ pub mod Requests
 pub mod Stream
 pub mod Words
 pub mod ReportText
+pub mod Pieces

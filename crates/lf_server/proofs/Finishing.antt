@@ -14,9 +14,10 @@ use Rattle.lf_server.specs.Endings.{ActedOn, Answered, Comes, NoneIsBye, Serves,
 use Rattle.lf_server.specs.declared.serving.Ending.{Ending}
 use Rattle.lf_server.specs.declared.serving.Ending.TheVariants.{Done, Bye, ReadFault, WriteFault, TooManyLines, OutOfMemory}
 use Rattle.lf_server.specs.declared.serving.Served.{Served}
-use Rattle.lf_server.specs.Progress.{Finishes, Goes, Stops, StopsAt, lines_from, pieces, told_answered, with_front}
+use Rattle.lf_proto.specs.Pieces.{lines_from, pieces, with_front}
+use Rattle.lf_server.specs.Progress.{Finishes, Goes, Stops, StopsAt, told_answered}
 use Rattle.lf_server.proofs.Known.{Consumes-none, Consumes-more, Consumes-kept}
-use Rattle.lf_server.proofs.Cuttings.{some_pieces, with_front-nil}
+use Rattle.lf_proto.proofs.Cuttings.{some_pieces, with_front-nil}
 use Rattle.lf_server.proofs.Steps.{goes_join, goes_none, goes_stop}
 
 -- ---- the lines that have their line feed

@@ -1,5 +1,4 @@
 pub mod Known
-pub mod Cuttings
 pub mod Fitting
 pub mod Reporting
 pub mod Steps

@@ -20,9 +20,10 @@ use Rattle.lf_server.specs.Exchanges.{BreaksOff, Exchange, Exchanges, Line, aske
 use Rattle.lf_server.specs.Endings.{ActedOn, Comes, EndsAt, NoneIsBye, StopsShort}
 use Rattle.lf_server.specs.declared.serving.Ending.{Ending}
 use Rattle.lf_server.specs.declared.serving.Ending.TheVariants.{Done, Bye, ReadFault, WriteFault, TooManyLines, OutOfMemory}
-use Rattle.lf_server.specs.Progress.{ExchangeEnds, Given, Goes, IsAnswered, IsExchanged, Stops, StopsAt, lines_from, pieces}
+use Rattle.lf_proto.specs.Pieces.{lines_from, pieces}
+use Rattle.lf_server.specs.Progress.{ExchangeEnds, Given, Goes, IsAnswered, IsExchanged, Stops, StopsAt}
 use Rattle.lf_server.proofs.Known.{Appends-none, Appends-more, Appends-same}
-use Rattle.lf_server.proofs.Cuttings.{IsBounded, feed_step, finish_gives}
+use Rattle.lf_proto.proofs.Cuttings.{IsBounded, feed_step, finish_gives}
 
 -- ---- results
 

@@ -1,6 +1,5 @@
 -- How far serving has come, and how it stops: what the loops keep.
 use Rattle.std.specs.Prelude.{◌≡◌, ℕ, ◌+◌, ◌-◌, Bool, IfSome, true, false, List, [], ◌∷◌, ◌++◌, length, Option, Some, None, ◌⊎◌}
-use Rattle.std.specs.List.{slice_split}
 use Rattle.std.specs.Io.KnownBytes.{Consumes}
 use Rattle.lf_floorplan.specs.declared.place.Place.{Place}
 use Rattle.lf_rules.specs.Legalizer.{Legalizer}
@@ -8,29 +7,14 @@ use Rattle.lf_proto.specs.declared.reply.Reply.{Reply}
 use Rattle.lf_proto.specs.declared.framer.Got.{Got}
 use Rattle.lf_proto.specs.declared.framer.Got.TheVariants.{More, Line as IsLine, TooLong}
 use Rattle.lf_proto.specs.declared.request.Command.{Command}
-use Rattle.lf_proto.specs.Stream.{is_line_feed, lines_in, lines_of}
+use Rattle.lf_proto.specs.Stream.{lines_of}
+use Rattle.lf_proto.specs.Pieces.{lines_from, pieces}
 use Rattle.lf_teams.specs.States.{FloorState}
 use Rattle.lf_server.specs.Devices.{Writer, Sends, Breaks}
 use Rattle.lf_server.specs.Exchanges.{AnswersTo, Exchange, Exchanges, Line, asked_on, is_bye, lines}
 use Rattle.lf_server.specs.Endings.{ActedOn, Comes, NoneIsBye, ended_lines}
 use Rattle.lf_server.specs.declared.serving.Ending.{Ending}
 use Rattle.lf_server.specs.declared.serving.Ending.TheVariants.{Done, Bye, ReadFault, WriteFault, TooManyLines, OutOfMemory}
-
--- the pieces between line feeds
-abbrev pub pieces : List ℕ → List (List ℕ)
-pieces bytes = slice_split is_line_feed bytes
-
--- the pieces, with more bytes in front of the first
-abbrev pub with_front : List ℕ → List (List ℕ) → List (List ℕ)
-with_front run [] = run ∷ []
-with_front run (p ∷ parts) = (run ++ p) ∷ parts
-
--- the lines of what is held and the pieces that come: None is held where it is over the limit
-abbrev pub lines_from : Option (List ℕ) → List (List ℕ) → List (Option (List ℕ))
-lines_from (Some held) parts = lines_in (with_front held parts)
-lines_from None [] = None ∷ []
-lines_from None (p ∷ []) = None ∷ []
-lines_from None (p ∷ q ∷ parts) = None ∷ lines_in (q ∷ parts)
 
 -- what the framer gave
 abbrev pub Given : Got → List ℕ → Line → Type 0

@@ -6,7 +6,8 @@ ghost use Rattle.lf_rules.specs.Legalizer.{Legalizer};
 ghost use Rattle.lf_server.specs.Connections.{Stays};
 ghost use Rattle.lf_server.specs.Devices.{writer};
 ghost use Rattle.lf_server.specs.Endings.{Serves};
-ghost use Rattle.lf_server.specs.Progress.{Finishes, Given, Goes, IsExchanged, SinkAt, Stops, lines_from, pieces, told_answered};
+ghost use Rattle.lf_proto.specs.Pieces.{lines_from, pieces};
+ghost use Rattle.lf_server.specs.Progress.{Finishes, Given, Goes, IsExchanged, SinkAt, Stops, told_answered};
 
 use crate::device::{DeviceFault, Sink, Source};
 use crate::reply::{answer, is_end, request_in};
