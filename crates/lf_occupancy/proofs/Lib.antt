@@ -12,3 +12,4 @@ pub mod Views
 pub mod Covering
 pub mod Building
 pub mod Ranges
+pub mod Ones

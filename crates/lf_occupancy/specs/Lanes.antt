@@ -104,6 +104,21 @@ pub record IsLeast (P : ℕ → Type 0) (so_far least : Option ℕ) : Type 0 whe
   pub no_greater : IfSome so_far (IsUpTo least)
   pub each : (own : ℕ) → P own → IsUpTo least own
 
+-- in the lane, whose entries stand in order, the cell has one entry at most, and it begins at `left`
+pub record HasAtMostOne (own : ℕ) (left : ℤ) (l : Lane) : Type 0 where
+  pub order : AreInOrder l.entries.items
+  pub once : AllPairs (λ a b. a.own ≢ b.own) l.entries.items
+  pub begins : All (λ e. e.own ≡ own → e.area.x1 ≡ left) l.entries.items
+
+-- the entry of that position is the cell's
+pub record StandsAt (entries : List Entry) (own n : ℕ) : Type 0 where
+  pub within : n < length entries
+  pub is : (d : Entry) → (slice_index_or entries n d).own ≡ own
+
+-- none of the entries from that position on is the cell's
+abbrev pub StandsNotFrom : List Entry → ℕ → ℕ → Type 0
+StandsNotFrom entries own from = (k : ℕ) (d : Entry) → from ≤ k → k < length entries → (slice_index_or entries k d).own ≢ own
+
 -- the lane without the cell's entries
 pub record IsPruned (own : ℕ) (old new : Lane) : Type 0 where
   pub entries : new.entries.items ≡ others_in old.entries.items own

@@ -2,6 +2,7 @@
 use Rattle.std.specs.Prelude.{◌≡◌, ◌≢◌, ◌⊎◌, ◌↔◌, ◌==◌, if◌then◌else◌, nat_lt, Bool, ℕ, ◌<◌, ◌≤◌, ℤ, pos, negsuc, ◌+ℤ◌, ◌≤ℤ◌, ◌<ℤ◌, List}
 use Rattle.std.specs.Prelude.{length, All, AllPairs, Any, IfSome}
 use Rattle.std.specs.Prelude.{int_le, int_lt, Option, map, slice_index_or, slice_set, []}
+use Rattle.std.specs.Int.{int_max}
 use Rattle.std.specs.Vec.{vec_len, vec_capacity}
 use Rattle.lf_cells.specs.declared.cell.CellId.{CellId}
 use Rattle.lf_units.specs.declared.area.Rect.{Rect}
@@ -13,7 +14,7 @@ use Rattle.lf_segments.specs.RowsByY.{IsRunBetween}
 use Rattle.lf_occupancy.specs.declared.lane.Lane.{Lane}
 use Rattle.lf_occupancy.specs.declared.strip.Strip.{Strip}
 use Rattle.lf_occupancy.specs.declared.strips.Strips.{Strips}
-use Rattle.lf_occupancy.specs.Lanes.{HasRoomOf, TakesOne, TakesPart, cell_box, IsInside, IsKept, IsLane, IsOrderly, IsPutIn, MeetsOne, others_in, spans_in}
+use Rattle.lf_occupancy.specs.Lanes.{HasAtMostOne, HasRoomOf, TakesOne, TakesPart, cell_box, IsInside, IsKept, IsLane, IsOrderly, IsPutIn, MeetsOne, others_in, spans_in}
 use Rattle.lf_occupancy.specs.Occupied.{MeetsStrip, across}
 
 -- the order of strips: by row, then by team, then by x, without overlap
@@ -153,6 +154,20 @@ HaveRoom Chosen more lanes = (n : ℕ) (e : Lane) → Chosen n → HasRoomOf mor
 abbrev pub CanTake : List Strip → Rect → (ℕ → Type 0) → List Lane → Type 0
 CanTake strips rect Chosen lanes =
     (n : ℕ) (d : Strip) (e : Lane) → Chosen n → TakesPart (slice_index_or strips n d).area rect (slice_index_or lanes n e)
+
+-- in each of the chosen lanes the cell has one entry at most, which begins where the part of the rectangle in the strip does
+abbrev pub HaveAtMostOne : List Strip → ℕ → Rect → (ℕ → Type 0) → List Lane → Type 0
+HaveAtMostOne strips own rect Chosen lanes =
+    (n : ℕ) (d : Strip) (e : Lane) → Chosen n → HasAtMostOne own (int_max (slice_index_or strips n d).area.x1 rect.x1) (slice_index_or lanes n e)
+
+-- the strip of that number is of the team
+pub record IsOfTeam (strips : List Strip) (team n : ℕ) : Type 0 where
+  pub within : n < length strips
+  pub of_team : (d : Strip) → (slice_index_or strips n d).team ≡ team
+
+-- in the lanes of its team's strips a cell of this box, if it has one, has one entry each at most
+abbrev pub StandOnce : List Strip → CellId → Option Rect → List Lane → Type 0
+StandOnce strips id box lanes = IfSome box (λ rect. HaveAtMostOne strips id.own rect (IsOfTeam strips id.team) lanes)
 
 -- the cell's parts are put into the lanes of a row that its box reaches
 abbrev pub PutInRow : Strips → ℕ → CellId → Rect → List Lane → List Lane → Type 0

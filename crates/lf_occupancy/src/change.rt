@@ -4,7 +4,7 @@ ghost use Rattle.std.specs.Prelude.{All, AllPairs, IfSome, [], ◌≡◌, ◌≢
 ghost use Rattle.lf_occupancy.specs.declared.lane.Lane.{Lane};
 ghost use Rattle.lf_occupancy.specs.Lanes.{IsPruned, cell_box};
 ghost use Rattle.lf_occupancy.specs.Strips.{AreChanged, AreKept, AreLanes, HaveRoomForAll, AreOrderly, AreStrips, Follows, HasCell, IsReached};
-ghost use Rattle.lf_occupancy.specs.Strips.{IsReachedIn, CanTake, HaveRoom, KeepRoom, PutInRow, PutInRows, boxes_set, counts_in, rooms_in};
+ghost use Rattle.lf_occupancy.specs.Strips.{IsReachedIn, CanTake, HaveAtMostOne, HaveRoom, StandOnce, KeepRoom, PutInRow, PutInRows, boxes_set, counts_in, rooms_in};
 ghost use Rattle.lf_occupancy.specs.Occupied.{GrowAtMost, MeetsStrip, NoLess};
 
 use crate::boxes::{TeamBoxes, box_of_cell, has_cell, set_box};
@@ -57,15 +57,17 @@ fn make_room_in_rows(
     Ok(())
 }
 
-/// Takes the cell's entries out of the strips of a row and the cell's team that the rectangle reaches.
+/// Takes the cell's entries out of the strips of a row and the cell's team that its box reaches.
 fn prune_row(lanes: &mut Vec<Lane>, strips: &Strips, row: usize, id: &CellId, rect: &Rect)
     requires strips { AreStrips strips.now }
     requires many { length lanes.old.items ≡ length strips.now.list.items }
+    requires one { HaveAtMostOne strips.now.list.items id.now.own rect.now (IsReachedIn strips.now.list.items row id.now.team rect.now) lanes.old.items }
     ensures { AreChanged (IsReachedIn strips.now.list.items row id.now.team rect.now) (λ n. IsPruned id.now.own) lanes.old.items lanes.new.items }
 {
+    let list = strips.list.as_slice();
     let near = near_strips(strips, row, id.team as usize, &rect.x1, &rect.x2);
     for n in near.start..near.end {
-        prune(&mut lanes[n], id.own);
+        prune(&mut lanes[n], id.own, &list[n].area.x1.max(rect.x1));
     }
 }
 
@@ -74,6 +76,7 @@ fn prune_rows(lanes: &mut Vec<Lane>, strips: &Strips, rows: &[RowEntry], id: &Ce
     requires strips { AreStrips strips.now }
     requires many { length lanes.old.items ≡ length strips.now.list.items }
     requires once { AllPairs (λ a b. a.row ≢ b.row) rows.now }
+    requires one { HaveAtMostOne strips.now.list.items id.now.own rect.now (IsReached strips.now.list.items rows.now id.now.team rect.now) lanes.old.items }
     ensures { AreChanged (IsReached strips.now.list.items rows.now id.now.team rect.now) (λ n. IsPruned id.now.own) lanes.old.items lanes.new.items }
 {
     for entry in rows {
@@ -112,6 +115,7 @@ fn put_in_rows(lanes: &mut Vec<Lane>, strips: &Strips, rows: &[RowEntry], id: &C
 fn take_out(lanes: &mut Vec<Lane>, strips: &Strips, id: &CellId, old: &Option<Rect>)
     requires strips { AreStrips strips.now }
     requires many { length lanes.old.items ≡ length strips.now.list.items }
+    requires one { StandOnce strips.now.list.items id.now old.now lanes.old.items }
     ensures follows { Follows strips.now id.now old.now None lanes.old.items lanes.new.items }
     ensures room { KeepRoom lanes.old.items lanes.new.items }
     ensures rooms { rooms_in lanes.new.items ≡ rooms_in lanes.old.items }
@@ -133,6 +137,7 @@ fn replace_by(
 ) -> Result<(), AllocError>
     requires strips { AreStrips strips.now }
     requires lanes { AreOrderly strips.now.list.items lanes.old.items }
+    requires one { StandOnce strips.now.list.items id.now old.now lanes.old.items }
     ensures ok { OnOk result (Follows strips.now id.now old.now (Some rect.now) lanes.old.items lanes.new.items) }
     ensures err { OnErr result (AreKept lanes.old.items lanes.new.items) }
     ensures entries { OnErr result (counts_in lanes.new.items ≡ counts_in lanes.old.items) }
@@ -155,6 +160,7 @@ fn follow(
 ) -> Result<(), AllocError>
     requires strips { AreStrips strips.now }
     requires lanes { AreOrderly strips.now.list.items lanes.old.items }
+    requires one { StandOnce strips.now.list.items id.now old.now lanes.old.items }
     ensures ok { OnOk result (Follows strips.now id.now old.now new.now lanes.old.items lanes.new.items) }
     ensures err { OnErr result (AreKept lanes.old.items lanes.new.items) }
     ensures entries { OnErr result (counts_in lanes.new.items ≡ counts_in lanes.old.items) }

@@ -1,11 +1,11 @@
 //! What stands in one strip.
 
-ghost use Rattle.std.specs.Prelude.{All, ◌≡◌, ◌↔◌, ◌<◌, ◌≤◌, ◌≤ℤ◌, ◌<ℤ◌, ℕ, ◌++◌, ◌∷◌, [], IfOk, IsTrue, OnOk, OnErr, insert, length, negsuc, slice_index_or};
+ghost use Rattle.std.specs.Prelude.{All, ◌≡◌, ◌↔◌, ◌<◌, ◌≤◌, ◌≤ℤ◌, ◌<ℤ◌, ℕ, ◌++◌, ◌∷◌, [], IfOk, IsTrue, MatchOption, OnOk, OnErr, insert, length, negsuc, slice_index_or};
 ghost use Rattle.lf_spans.specs.Spans.{IsFreeIn};
 ghost use Rattle.lf_units.specs.declared.area.Rect.{Rect};
 ghost use Rattle.lf_occupancy.specs.declared.lane.Entry.{Entry};
-ghost use Rattle.lf_occupancy.specs.Lanes.{AreInOrder, HasRoom, HasRoomOf, IsKept, IsLeast, IsNearRun, IsOrderly, IsPart, IsPruned, IsWhole};
-ghost use Rattle.lf_occupancy.specs.Lanes.{IsJoined, IsPutIn, IsWithinDef, MeetsEntry, MeetsOne, entry_for, others_in, spans_in, x_range};
+ghost use Rattle.lf_occupancy.specs.Lanes.{AreInOrder, HasAtMostOne, HasRoom, HasRoomOf, IsKept, IsLeast, IsNearRun, IsOrderly, IsPart, IsPruned, IsWhole};
+ghost use Rattle.lf_occupancy.specs.Lanes.{IsJoined, IsPutIn, IsWithinDef, MeetsEntry, MeetsOne, StandsAt, StandsNotFrom, entry_for, others_in, spans_in, x_range};
 
 use lf_spans::{HasSpan, Span, free_in};
 use lf_units::Rect;
@@ -178,11 +178,28 @@ pub(crate) fn free_of_all(alloc: Global, lane: &Lane, strip: &Span) -> Result<Ve
     free_in(alloc, strip, lane.entries.as_slice(), lane.widest, strip)
 }
 
-/// Takes the cell's entries out.
-pub(crate) fn prune(lane: &mut Lane, own: u32)
+/// The position of the cell's entry among those from a position on; none where it has none there.
+fn place_from(entries: &[Entry], own: u32, from: usize) -> Option<usize>
+    requires { from ≤ length entries.now }
+    ensures { MatchOption result (StandsNotFrom entries.now own from) (StandsAt entries.now own) }
+{
+    for n in from..entries.len() {
+        if entries[n].own == own {
+            return Some(n);
+        }
+    }
+    None
+}
+
+/// Takes the cell's entry out, which begins at `left` where there is one. It is found by bisection.
+pub(crate) fn prune(lane: &mut Lane, own: u32, left: &i64)
+    requires { HasAtMostOne own left.now lane.old }
     ensures { IsPruned own lane.old lane.new }
 {
-    lane.entries.retain(|entry| entry.own != own);
+    let entries = lane.entries.as_slice();
+    if let Some(n) = place_from(entries, own, count_before(entries, left)) {
+        lane.entries.remove(n);
+    }
 }
 
 /// Makes room for so many more entries.

@@ -3,6 +3,7 @@ use Rattle.lf_units.specs.declared.area.Rect.{Rect}
 use Rattle.lf_occupancy.specs.Lanes.{cell_box}
 use Rattle.lf_occupancy.specs.Strips.{AreLanes, HasCell}
 use Rattle.lf_occupancy.proofs.Reaching.{lanes_kept, lanes_orderly}
+use Rattle.lf_occupancy.proofs.Ones.{lanes_have_one}
 use Rattle.lf_occupancy.proofs.change.move_box.Goals as goal
 
 pub follow-requires-clause-lanes : goal.follow-requires-clause-lanes
@@ -11,6 +12,13 @@ follow-requires-clause-lanes c = lanes_orderly c.args.strips.now.list.items c.ar
 pub returns-in_err-follow-clause-lanes : goal.returns-in_err-follow-clause-lanes
 returns-in_err-follow-clause-lanes c =
     lanes_kept c.args.strips.now.list.items c.args.boxes.now.items c.args.lanes.now.items c.follow.new.lanes.items c.in_err-follow.ensures.err c.requires.lanes
+
+pub follow-requires-clause-one : goal.follow-requires-clause-one
+follow-requires-clause-one c =
+    let boxes = c.args.boxes.now.items in
+    let id = c.args.id.now in
+    lanes_have_one c.args.strips.now.list.items boxes c.args.lanes.now.items id c.box_of_cell-old.result c.requires.lanes
+    (sym (c.box_of_cell-old.ensures ∙ ap (λ (bs : List (List (Option Rect))). cell_box (get_or bs id.team []) id.own) c.deref-2.ensures.value))
 
 pub returns-clause-lanes : goal.returns-clause-lanes
 returns-clause-lanes c =

@@ -1,10 +1,35 @@
-use Rattle.std.proofs.Common.{arith}
-use Rattle.lf_occupancy.specs.Lanes.{IsPruned}
+use Rattle.std.proofs.Common.{◌≡◌, ◌<◌, ℤ, List, arith, ap, get_or, length, of_z, subst, sym, to_z, w64, ◌∙◌}
+use Rattle.std.specs.Int.{int_max}
+use Rattle.std.proofs.lemmas.Int.{ints, clamps}
+use Rattle.lf_occupancy.specs.declared.strip.Strip.{Strip}
+use Rattle.lf_occupancy.specs.Lanes.{HasAtMostOne, IsPruned}
+use Rattle.lf_occupancy.proofs.Finds.{no_strip}
 use Rattle.lf_occupancy.proofs.Changes.{none_changed, changed_further, between_is_reached}
 use Rattle.lf_occupancy.proofs.change.prune_row.Goals as goal
 
 pub loop-n-init : goal.loop-n-init
 loop-n-init c = none_changed _ _ _ (λ n b. let f = b.from in let h = b.below in omega (arith, f, h))
+
+pub prune-requires : goal.prune-requires
+prune-requires c =
+    let xs = c.args.strips.now.list.items in
+    let rect = c.args.rect.now in
+    let own = c.args.id.now.own in
+    let n = c.loop-n.n in
+    let lane = c.index_mut.result.now in
+    let near = c.near_strips-near.ensures in
+    let bound = near.within in
+    let test = c.loop-n-test.true in
+    let many = c.requires.many in
+    let within : n < length xs = omega (arith, bound, test) in
+    let one = c.requires.one n no_strip lane (within, λ d. (near.exact n d within).0 (c.loop-n.auto.n, test)) in
+    let same : get_or c.loop-n.lanes.items n lane ≡ get_or c.args.lanes.now.items n lane =
+    c.loop-n.invariant.others n lane (omega (arith, within, many)) (λ b. let h = b.below in omega (arith, h)) in
+    let here = subst (HasAtMostOne own (int_max (get_or xs n no_strip).area.x1 rect.x1)) (sym same ∙ sym c.index_mut.ensures.value) one in
+    let at = ap (λ (zs : List Strip). (get_or zs n no_strip).area.x1) c.as_slice-list.ensures.value in
+    let is = c.max.ensures.value in
+    let left : to_z w64 (of_z w64 c.max.result) ≡ int_max (get_or xs n no_strip).area.x1 rect.x1 = omega (arith, ints, clamps, is, at) in
+    subst (λ (x : ℤ). HasAtMostOne own x lane) (sym left) here
 
 pub loop-n-preserved : goal.loop-n-preserved
 loop-n-preserved c =

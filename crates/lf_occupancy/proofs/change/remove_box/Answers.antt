@@ -2,7 +2,15 @@ use Rattle.std.proofs.Common.{◌≡◌, List, Option, get_or, [], sym, subst, r
 use Rattle.lf_units.specs.declared.area.Rect.{Rect}
 use Rattle.lf_occupancy.specs.Lanes.{cell_box}
 use Rattle.lf_occupancy.specs.Strips.{AreLanes, HasCell}
+use Rattle.lf_occupancy.proofs.Ones.{lanes_have_one}
 use Rattle.lf_occupancy.proofs.change.remove_box.Goals as goal
+
+pub take_out-requires-clause-one : goal.take_out-requires-clause-one
+take_out-requires-clause-one c =
+    let boxes = c.args.boxes.now.items in
+    let id = c.args.id.now in
+    lanes_have_one c.args.strips.now.list.items boxes c.args.lanes.now.items id c.box_of_cell-old.result c.requires.lanes
+    (sym (c.box_of_cell-old.ensures ∙ ap (λ (bs : List (List (Option Rect))). cell_box (get_or bs id.team []) id.own) c.deref-2.ensures.value))
 
 pub returns-clause-lanes : goal.returns-clause-lanes
 returns-clause-lanes c =

@@ -1,6 +1,7 @@
 use Rattle.std.proofs.Common.{ℕ, List, arith, rules, subst, sym, ◌∙◌}
 use Rattle.lf_occupancy.specs.Occupied.{NoLess}
 use Rattle.lf_occupancy.specs.Strips.{rooms_in}
+use Rattle.lf_occupancy.proofs.Ones.{ones_kept}
 use Rattle.lf_occupancy.proofs.Reaching.{counts_kept, lanes_replaced, once_in_run, rooms_kept, rooms_put, takes_after}
 use Rattle.lf_occupancy.proofs.change.replace_by.Goals as goal
 
@@ -14,6 +15,11 @@ put_in_rows-requires-clause-room c = λ n d e reached.
     (λ m l r. let h = c.in_ok-make_room_in_rows.ensures.ok m l r in omega (arith, h))
     c.take_out.ensures.room n e reached in
     record { order = takes.order; room = λ part is whole. takes.room }
+
+pub take_out-requires-clause-one : goal.take_out-requires-clause-one
+take_out-requires-clause-one c =
+    ones_kept c.args.strips.now.list.items c.args.id.now c.args.old.now c.args.lanes.now.items c.make_room_in_rows.new.lanes.items c.requires.lanes.many
+    c.in_ok-make_room_in_rows.ensures.kept c.requires.one
 
 pub returns-clause-ok : goal.returns-clause-ok
 returns-clause-ok c =

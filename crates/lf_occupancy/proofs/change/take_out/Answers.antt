@@ -1,9 +1,15 @@
 use Rattle.std.proofs.Common.{◌∙◌}
 use Rattle.lf_occupancy.proofs.Reaching.{lanes_out, lanes_without, once_in_run, room_out, room_same, rooms_out, counts_out, counts_same}
+use Rattle.lf_occupancy.proofs.Ones.{reached_has_one}
 use Rattle.lf_occupancy.proofs.change.take_out.Goals as goal
 
 pub prune_rows-requires-clause-once : goal.prune_rows-requires-clause-once
 prune_rows-requires-clause-once c = once_in_run c.args.strips.now c.in-Some.rect c.rows_near.result.now c.requires.strips.once c.rows_near.ensures
+
+pub prune_rows-requires-clause-one : goal.prune_rows-requires-clause-one
+prune_rows-requires-clause-one c =
+    reached_has_one c.args.strips.now.list.items c.args.id.now c.args.old.now c.in-Some.rect c.rows_near.result.now c.args.lanes.now.items c.in-Some.is
+    c.requires.one
 
 pub returns-in-Some-clause-follows : goal.returns-in-Some-clause-follows
 returns-in-Some-clause-follows c = λ boxes has from old.
