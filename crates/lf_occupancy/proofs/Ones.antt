@@ -1,6 +1,7 @@
 -- A lane in which a cell has one entry at most.
-use Rattle.std.proofs.Common.{◌≡◌, ◌≢◌, ◌⊎◌, inl, inr, ℕ, zero, suc, ◌<◌, ◌≤◌, ℤ, ◌≤ℤ◌, ◌<ℤ◌, Bool, true, false, cond, List, [], ◌∷◌, Option, Some, None, length, get_or, eqb, refl, sym, ap, subst, ◌∙◌, arith}
-use Rattle.std.specs.Prelude.{AllPairs, Contains, IfSome, filter, not, remove}
+use Rattle.std.proofs.Common.{◌≡◌, ◌≢◌, ◌⊎◌, inl, inr, ℕ, zero, suc, ◌<◌, ◌≤◌, ℤ, ◌≤ℤ◌, ◌<ℤ◌, Bool, cond, List, [], ◌∷◌, Option, Some, None, length}
+use Rattle.std.proofs.Common.{get_or, refl, sym, ap, subst, ◌∙◌, arith}
+use Rattle.std.specs.Prelude.{AllPairs, not, remove}
 use Rattle.std.specs.Int.{int_max}
 use Rattle.std.proofs.lemmas.Bool.Decides.{eqb_tells}
 use Rattle.std.proofs.lemmas.Int.{ints, clamps}
@@ -12,7 +13,7 @@ use Rattle.lf_segments.specs.declared.rows_by_y.RowEntry.{RowEntry}
 use Rattle.lf_occupancy.specs.declared.lane.Entry.{Entry}
 use Rattle.lf_occupancy.specs.declared.lane.Lane.{Lane}
 use Rattle.lf_occupancy.specs.declared.strip.Strip.{Strip}
-use Rattle.lf_occupancy.specs.Lanes.{HasAtMostOne, IsLane, LiesInBox, StandsAt, StandsNotFrom, cell_box, others_in}
+use Rattle.lf_occupancy.specs.Lanes.{HasAtMostOne, IsLane, StandsAt, StandsNotFrom, cell_box, others_in}
 use Rattle.lf_occupancy.specs.Strips.{AreKept, AreLanes, HaveAtMostOne, IsReached, StandOnce}
 
 kept_one : (e : Entry) (es : List Entry) (own : ℕ) → e.own ≢ own → others_in (e ∷ es) own ≡ e ∷ others_in es own
@@ -60,8 +61,8 @@ not_before l own left from one bound below none k d least within same = elim two
     two = grind arith
 
 -- a lane of its team's boxes has one entry of a cell at most, where the part of its box begins
-pub lane_has_one : (cells : List (Option Rect)) (own : ℕ) (rect : Rect) (g : Strip) (l : Lane) → cell_box cells own ≡ Some rect → IsLane cells g.area l →
-    HasAtMostOne own (int_max g.area.x1 rect.x1) l
+pub lane_has_one : (cells : List (Option Rect)) (own : ℕ) (rect : Rect) (g : Strip) (l : Lane) → cell_box cells own ≡ Some rect →
+    IsLane cells g.area l → HasAtMostOne own (int_max g.area.x1 rect.x1) l
 lane_has_one cells own rect g l is lane = record { order = lane.orderly.order; once = lane.once; begins = begins }
   where
     same_rect : (r : Rect) → ◌≡◌ {A = Option Rect} (Some rect) (Some r) → r ≡ rect
@@ -109,7 +110,8 @@ lane_has_one cells own rect g l is lane = record { order = lane.orderly.order; o
             let right = c.right in
             record { left = omega (arith, ints, clamps); right = omega (arith, ints, most, right); bottom = c.bottom; top = c.top }
 
-        found : (k : ℕ) × ((z : Entry) × ((k < length l.entries.items) × ((get_or l.entries.items k z ≡ z) × ((z.own ≡ own) × Covers z.area x e.area.y1))))
+        found : (m : ℕ) ×
+            ((z : Entry) × ((m < length l.entries.items) × ((get_or l.entries.items m z ≡ z) × ((z.own ≡ own) × Covers z.area x e.area.y1))))
         found =
             let f = lane.held own x e.area.y1 record { box = rect; is = is; in_area = in_area; in_box = in_rect } in
             (f.0, (f.1, (f.2, (f.3, (f.4.is, f.4.covers)))))

@@ -1,11 +1,11 @@
 -- The strips of one row, which stand together, and what a bisection among them tells of all.
-use Rattle.std.proofs.Common.{◌≡◌, ◌⊎◌, inl, inr, ℕ, ◌+◌, ◌-◌, ◌<◌, ◌≤◌, ℤ, Bool, true, false, List, length, get_or, take, drop, map, sym, ap, subst, ◌∙◌, arith, refl, int_le, int_lt}
+use Rattle.std.proofs.Common.{◌≡◌, ◌⊎◌, inl, inr, ℕ, ◌+◌, ◌-◌, ◌<◌, ◌≤◌, ℤ, Bool, true, false, List, length, get_or, take, drop, map, sym, ap, subst}
+use Rattle.std.proofs.Common.{◌∙◌, arith, int_le, int_lt}
 use Rattle.std.specs.Prelude.{All, AllPairs}
 use Rattle.std.proofs.lemmas.List.{get_or-map, get_or-take, get_or-drop, length-drop, length-map, length-take}
 use Rattle.lf_segments.specs.RowStarts.{AreRowStarts, IsRangeOf}
 use Rattle.lf_occupancy.specs.declared.strip.Strip.{Strip}
 use Rattle.lf_occupancy.specs.Strips.{AreNear, is_earlier}
-use Rattle.lf_occupancy.proofs.Finds.{no_strip}
 use Rattle.lf_occupancy.proofs.Order.{are_near, earlier_row, later_row}
 
 -- the strips from start on and below end
@@ -37,10 +37,12 @@ part_long xs start end order within =
 pub part_get : (xs : List Strip) (start end k : ℕ) (d : Strip) → k < end - start → get_or (part xs start end) k d ≡ get_or xs (start + k) d
 part_get xs start end k d less = get_or-take (end - start) (drop start xs) k d less ∙ get_or-drop start xs k d
 
-pub part_pairs : (R : Strip → Strip → Type 0) (xs : List Strip) (start end : ℕ) → start ≤ end → end ≤ length xs → AllPairs R xs → AllPairs R (part xs start end)
+pub part_pairs : (R : Strip → Strip → Type 0) (xs : List Strip) (start end : ℕ) → start ≤ end → end ≤ length xs → AllPairs R xs →
+    AllPairs R (part xs start end)
 part_pairs R xs start end order within pairs i j d less inside =
     let long = part_long xs start end order within in
-    let there : R (get_or xs (start + i) d) (get_or xs (start + j) d) = pairs (start + i) (start + j) d (omega (arith, less)) (omega (arith, long, inside, order, within)) in
+    let last : start + j < length xs = omega (arith, long, inside, order, within) in
+    let there : R (get_or xs (start + i) d) (get_or xs (start + j) d) = pairs (start + i) (start + j) d (omega (arith, less)) last in
     subst (λ (g : Strip). R g (get_or (part xs start end) j d)) (sym (part_get xs start end i d (omega (arith, long, less, inside))))
     (subst (λ (g : Strip). R (get_or xs (start + i) d) g) (sym (part_get xs start end j d (omega (arith, long, inside)))) there)
 

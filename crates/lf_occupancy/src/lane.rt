@@ -1,11 +1,12 @@
 //! What stands in one strip.
 
-ghost use Rattle.std.specs.Prelude.{All, ◌≡◌, ◌↔◌, ◌<◌, ◌≤◌, ◌≤ℤ◌, ◌<ℤ◌, ℕ, ◌++◌, ◌∷◌, [], IfOk, IsTrue, MatchOption, OnOk, OnErr, insert, length, negsuc, slice_index_or};
+ghost use Rattle.std.specs.Prelude.{All, ◌≡◌, ◌↔◌, ◌<◌, ◌≤◌, ◌≤ℤ◌, ◌<ℤ◌, ℕ, IfOk, IsTrue, MatchOption, OnOk, insert, length, negsuc, slice_index_or};
 ghost use Rattle.lf_spans.specs.Spans.{IsFreeIn};
 ghost use Rattle.lf_units.specs.declared.area.Rect.{Rect};
 ghost use Rattle.lf_occupancy.specs.declared.lane.Entry.{Entry};
 ghost use Rattle.lf_occupancy.specs.Lanes.{AreInOrder, HasAtMostOne, HasRoom, HasRoomOf, IsKept, IsLeast, IsNearRun, IsOrderly, IsPart, IsPruned, IsWhole};
-ghost use Rattle.lf_occupancy.specs.Lanes.{IsJoined, IsPutIn, IsWithinDef, MeetsEntry, MeetsOne, StandsAt, StandsNotFrom, entry_for, others_in, spans_in, x_range};
+ghost use Rattle.lf_occupancy.specs.Lanes.{IsJoined, IsPutIn, IsWithinDef, MeetsEntry, MeetsOne, StandsAt, StandsNotFrom, entry_for, others_in};
+ghost use Rattle.lf_occupancy.specs.Lanes.{spans_in, x_range};
 
 use lf_spans::{HasSpan, Span, free_in};
 use lf_units::Rect;

@@ -1,6 +1,6 @@
 //! The strips of a frame, and how they are found.
 
-ghost use Rattle.std.specs.Prelude.{◌≡◌, ◌<◌, ◌≤◌, ◌<ℤ◌, ℕ, All, AllPairs, length, slice_index_or, true, false, int_le, int_lt};
+ghost use Rattle.std.specs.Prelude.{◌≡◌, ◌<◌, ◌≤◌, ◌<ℤ◌, ℕ, All, AllPairs, length, true, false};
 ghost use Rattle.lf_occupancy.specs.declared.strip.Strip.{Strip};
 ghost use Rattle.lf_occupancy.specs.Strips.{AreNear, AreRowsNear, AreStrips, ComesBefore, is_begun, is_earlier, is_ended};
 

@@ -2,7 +2,7 @@
 use Rattle.std.proofs.Common.{◌≡◌, ℕ, suc, ◌+◌, ◌<◌, ◌≤◌, Bool, true, false, not, cond, nat_lt, nat_le, List, [], ◌∷◌, ◌++◌, length, take, drop, Option, None, Some, refl, sym, ap, ◌∙◌, arith, append_assoc, append-nil, length-append, IfSome}
 use Rattle.std.proofs.lemmas.Bool.Decides.{nat_tests}
 use Rattle.std.proofs.lemmas.List.Splits.{slice_split-cons_yes, slice_split-cons_no}
-use Rattle.std.specs.List.{slice_split, onto_first, position_or_len}
+use Rattle.std.specs.List.{onto_first, position_or_len}
 use Rattle.lf_proto.specs.Stream.{limit, is_line_feed, within_limit, without_return, ended_line, last_line, lines_in, lines_of}
 use Rattle.lf_proto.specs.Framing.{Framing, with_more}
 use Rattle.lf_proto.specs.Pieces.{lines_from, pieces, with_front}

@@ -1,13 +1,13 @@
 -- The rules on ground and obstacles, by what lies near the box.
-use Rattle.std.proofs.Common.{◌≡◌, inl, inr, ℕ, zero, suc, ℤ, ◌+◌, ◌<◌, Bool, true, false, IsTrue, List, [], ◌∷◌, length, map, get_or, slice_get, Some, None, refl, sym, ◌∙◌, ap, subst, arith, eqb}
+use Rattle.std.proofs.Common.{◌≡◌, ℕ, zero, suc, ℤ, ◌+◌, ◌<◌, Bool, true, false, IsTrue, List, [], ◌∷◌, length, get_or, slice_get, Some, None, refl}
+use Rattle.std.proofs.Common.{sym, ◌∙◌, ap, subst, arith, eqb}
 use Rattle.std.specs.Prelude.{All, Contains, MatchOption, Option, ◌↔◌, ◌≢◌}
 use Rattle.std.specs.Option.{is_none}
-use Rattle.std.proofs.Math.ListN.{get_or-map}
-use Rattle.std.proofs.lemmas.List.{length-map, get_or_default}
+use Rattle.std.proofs.lemmas.List.{get_or_default}
 use Rattle.std.proofs.lemmas.Bool.Decides.{nat_tests}
 use Rattle.std.proofs.lemmas.Option.{get_or_from_slice_get, slice_get_read, slice_get_within}
 use Rattle.std.proofs.lemmas.List.Sorted.{Contains-permutation, IsPermutation-sym}
-use Rattle.std.proofs.lemmas.List.Elements.{All-contains, Contains-get_or, Contains-append_left, Contains-append_right, Contains-append_cases}
+use Rattle.std.proofs.lemmas.List.Elements.{All-contains, Contains-get_or}
 use Rattle.lf_units.specs.declared.area.Rect.{Rect}
 use Rattle.lf_units.specs.Area.{Covers, CoveredBy, SharesPoint}
 use Rattle.lf_rtree.specs.declared.placed.Placed.{Placed}
@@ -17,23 +17,14 @@ use Rattle.lf_floorplan.specs.declared.frame.Frame.{Frame}
 use Rattle.lf_floorplan.specs.declared.parts.Team.{Team}
 use Rattle.lf_floorplan.specs.Ground.{StaysInGround, IsClear}
 use Rattle.lf_reports.specs.declared.frame_index.FrameIndex.{FrameIndex}
-use Rattle.lf_reports.specs.Nearby.{numbered, fence_boxes, obstacle_boxes, rects_of, IsIndexOf}
+use Rattle.lf_segments.specs.Boxes.{numbered, fence_boxes}
+use Rattle.lf_segments.proofs.TreeLemmas.{OfFence, fence_there, map_there, of_fence, of_map}
+use Rattle.lf_reports.specs.Nearby.{obstacle_boxes, rects_of, IsIndexOf}
 use Rattle.lf_reports.proofs.NearLemmas.{first_there, later_there}
 use Rattle.lf_rules.proofs.GroundLemmas as open_ground
 use Rattle.lf_units.proofs.Any.{has_item}
 
 -- ---- what lists hold
-
-map_there : {A B : Type 0} (g : A → B) (xs : List A) (x : A) → Contains xs x → Contains (map g xs) (g x)
-map_there g xs x there =
-    let long = length-map xs g in
-    let within = there.1 in
-    (there.0, omega (arith, long, within), get_or-map g xs there.0 x ∙ ap g there.2)
-
-of_map : {A B : Type 0} (g : A → B) (xs : List A) (y : B) → Contains (map g xs) y → (x : A) × Contains xs x × (g x ≡ y)
-of_map g [] y (k, within, is) = absurd (omega arith)
-of_map g (x ∷ xs) y (zero, within, is) = (x, first_there x xs, is)
-of_map g (x ∷ xs) y (suc k, within, is) = let deeper = of_map g xs y (k, omega arith, is) in (deeper.0, later_there x deeper.0 xs deeper.1, deeper.2)
 
 -- no box is met where none shares a point, and none bears the number that is passed over
 pub none_met : (boxes : List Placed) (box : Rect) (but : ℕ) (met : Option ℕ) → All (λ p. p.own ≢ but) boxes →
@@ -74,47 +65,11 @@ clear_met f i box index = (
 
 -- ---- fences
 
-fence_there : (n : ℕ) (teams : List Team) (t : ℕ) (team : Team) (r : Rect) → slice_get teams t ≡ Some team → Contains team.rects r →
-    Contains (fence_boxes n teams) (numbered (n + t) r)
-fence_there n [] t team r is there = absurd cc
-fence_there n (x ∷ teams) zero team r is there =
-    let same : x ≡ team = cc in
-    let at : n ≡ n + 0 = omega arith in
-    let here : Contains x.rects r = subst (λ (y : Team). Contains y.rects r) (sym same) there in
-    subst (λ (m : ℕ). Contains (fence_boxes n (x ∷ teams)) (numbered m r)) at
-    (Contains-append_left (map (numbered n) x.rects) (fence_boxes (n + 1) teams) (numbered n r) (map_there (numbered n) x.rects r here))
-fence_there n (x ∷ teams) (suc t) team r is there =
-    let at : (n + 1) + t ≡ n + suc t = omega arith in
-    subst (λ (m : ℕ). Contains (fence_boxes n (x ∷ teams)) (numbered m r)) at
-    (Contains-append_right (map (numbered n) x.rects) (fence_boxes (n + 1) teams) (numbered ((n + 1) + t) r) (fence_there (n + 1) teams t team r is there))
-
 fence_listed : (teams : List Team) (t : ℕ) (team : Team) (r : Rect) → slice_get teams t ≡ Some team → Contains team.rects r →
     Contains (fence_boxes 0 teams) (numbered t r)
 fence_listed teams t team r is there =
     let from : 0 + t ≡ t = omega arith in
     subst (λ (m : ℕ). Contains (fence_boxes 0 teams) (numbered m r)) from (fence_there 0 teams t team r is there)
-
--- a box of a fence: the fence's place, the fence, and the rectangle among its own
-record OfFence (n : ℕ) (teams : List Team) (p : Placed) : Type 0 where
-  place : ℕ
-  team : Team
-  number : p.own ≡ n + place
-  is : slice_get teams place ≡ Some team
-  there : Contains team.rects p.rect
-
-of_fence : (n : ℕ) (teams : List Team) (p : Placed) → Contains (fence_boxes n teams) p → OfFence n teams p
-of_fence n [] p (k, within, is) = absurd (omega arith)
-of_fence n (x ∷ teams) p there = elim (Contains-append_cases (map (numbered n) x.rects) (fence_boxes (n + 1) teams) p there) [
-  | inl here ↦
-      let from = of_map (numbered n) x.rects p here in
-      let same : from.0 ≡ p.rect = ap (λ (q : Placed). q.rect) from.2 in
-      let number : n ≡ p.own = ap (λ (q : Placed). q.own) from.2 in
-      record { place = 0; team = x; number = omega (arith, number); is = refl; there = subst (λ (r : Rect). Contains x.rects r) same from.1 }
-  | inr later ↦
-      let deeper = of_fence (n + 1) teams p later in
-      let number = deeper.number in
-      record { place = suc deeper.place; team = deeper.team; number = omega (arith, number); is = deeper.is; there = deeper.there }
-]
 
 -- a rectangle of those that bear the number
 in_rects : (near : List Placed) (t : ℕ) (p : Placed) → Contains near p → p.own ≡ t → Contains (rects_of near t) p.rect

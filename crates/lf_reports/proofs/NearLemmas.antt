@@ -23,7 +23,8 @@ use Rattle.lf_segments.specs.Laws.{LiesInSegments}
 use Rattle.lf_segments.specs.Segments.{LiesInSegment}
 use Rattle.lf_reports.specs.declared.frame_index.FrameIndex.{FrameIndex}
 use Rattle.lf_rules.specs.Solid.{IsSolid}
-use Rattle.lf_reports.specs.Nearby.{numbered, row_boxes, IsIndexOf, AreRowsNear}
+use Rattle.lf_segments.specs.Boxes.{numbered}
+use Rattle.lf_reports.specs.Nearby.{row_boxes, IsIndexOf, AreRowsNear}
 
 pub first_there : {X : Type 0} (x : X) (xs : List X) → Contains (x ∷ xs) x
 first_there x xs = (0, omega arith, refl)

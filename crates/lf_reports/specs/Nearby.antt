@@ -1,5 +1,5 @@
 -- What lies near a box: the rows, fences and obstacles of a frame and the placed cells, by where they lie.
-use Rattle.std.specs.Prelude.{◌≡◌, ◌==◌, filter, ℕ, ◌+◌, ◌<◌, ◌≤◌, ◌≤ℤ◌, ◌⊎◌, List, [], ◌∷◌, ◌++◌, map, length, slice_index_or, All, Any, IsPermutation, IfSome, Option, None, MatchOption}
+use Rattle.std.specs.Prelude.{◌≡◌, ◌==◌, filter, ℕ, ◌+◌, ◌<◌, ◌≤◌, ◌≤ℤ◌, ◌⊎◌, List, [], ◌∷◌, map, length, slice_index_or, All, Any, IsPermutation, IfSome, Option, None, MatchOption}
 use Rattle.lf_units.specs.declared.area.Point.{Point}
 use Rattle.lf_units.specs.declared.area.Rect.{Rect}
 use Rattle.lf_units.specs.Area.{SharesPoint}
@@ -7,9 +7,9 @@ use Rattle.lf_rtree.specs.declared.placed.Placed.{Placed}
 use Rattle.lf_rtree.specs.Near.{AreNear}
 use Rattle.lf_floorplan.specs.declared.frame.Frame.{Frame}
 use Rattle.lf_floorplan.specs.declared.parts.Row.{Row}
-use Rattle.lf_floorplan.specs.declared.parts.Team.{Team}
 use Rattle.lf_floorplan.specs.Rows.{row_area}
 use Rattle.lf_floorplan.specs.Ground.{StaysInGround, IsClear}
+use Rattle.lf_segments.specs.Boxes.{numbered, fence_boxes}
 use Rattle.lf_segments.specs.Segments.{IsCut}
 use Rattle.lf_rules.specs.declared.rule.Rule.{Rule}
 use Rattle.lf_rules.specs.declared.rule.Rule.TheVariants.{Fence, Obstacle}
@@ -20,19 +20,10 @@ use Rattle.lf_reports.specs.declared.search.Search.TheVariants.{Plain, Indexed}
 use Rattle.lf_rules.specs.Legality.{Trial, Holds, number_of, IsFirstBroken}
 use Rattle.lf_rules.specs.Team.{Member, boxes_from}
 
--- a rectangle that bears a number
-abbrev pub numbered : ℕ → Rect → Placed
-numbered own rect = record { own = own; rect = rect }
-
 -- the areas of rows, each with its row's number; the first of them has the number `own`
 abbrev pub row_boxes : Point → ℕ → List Row → List Placed
 row_boxes pitch own [] = []
 row_boxes pitch own (r ∷ rows) = numbered own (row_area pitch r) ∷ row_boxes pitch (own + 1) rows
-
--- the rectangles of fences, each with its fence's number; the first fence has the number `own`
-abbrev pub fence_boxes : ℕ → List Team → List Placed
-fence_boxes own [] = []
-fence_boxes own (t ∷ teams) = map (numbered own) t.rects ++ fence_boxes (own + 1) teams
 
 -- the obstacles; their numbers play no part
 abbrev pub obstacle_boxes : List Rect → List Placed

@@ -2,7 +2,8 @@
 
 ghost use Rattle.std.specs.Prelude.{◌≡◌, ◌≤◌, ◌++◌, IfOk, IfSome, OnOk, length, map};
 ghost use Rattle.lf_segments.specs.Segments.{IsCut};
-ghost use Rattle.lf_reports.specs.Nearby.{numbered, row_boxes, fence_boxes, obstacle_boxes, IsIndexOf};
+ghost use Rattle.lf_segments.specs.Boxes.{numbered, fence_boxes};
+ghost use Rattle.lf_reports.specs.Nearby.{row_boxes, obstacle_boxes, IsIndexOf};
 
 use lf_floorplan::{Frame, Team};
 use lf_rtree::{Placed, RTree};

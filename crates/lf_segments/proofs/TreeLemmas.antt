@@ -25,18 +25,18 @@ use Rattle.lf_segments.specs.Boxes.{numbered, fence_boxes, frame_boxes, IsMetAt,
 later_there : {X : Type 0} (y x : X) (xs : List X) → Contains xs x → Contains (y ∷ xs) x
 later_there y x xs (k, within, is) = (suc k, omega (arith, within), is)
 
-map_there : {A B : Type 0} (g : A → B) (xs : List A) (x : A) → Contains xs x → Contains (map g xs) (g x)
+pub map_there : {A B : Type 0} (g : A → B) (xs : List A) (x : A) → Contains xs x → Contains (map g xs) (g x)
 map_there g xs x there =
     let long = length-map xs g in
     let within = there.1 in
     (there.0, omega (arith, long, within), get_or-map g xs there.0 x ∙ ap g there.2)
 
-of_map : {A B : Type 0} (g : A → B) (xs : List A) (y : B) → Contains (map g xs) y → (x : A) × Contains xs x × (g x ≡ y)
+pub of_map : {A B : Type 0} (g : A → B) (xs : List A) (y : B) → Contains (map g xs) y → (x : A) × Contains xs x × (g x ≡ y)
 of_map g [] y (k, within, is) = absurd (omega arith)
 of_map g (x ∷ xs) y (zero, within, is) = (x, (0, omega arith, refl), is)
 of_map g (x ∷ xs) y (suc k, within, is) = let deeper = of_map g xs y (k, omega arith, is) in (deeper.0, later_there x deeper.0 xs deeper.1, deeper.2)
 
-fence_there : (n : ℕ) (teams : List Team) (t : ℕ) (team : Team) (r : Rect) → slice_get teams t ≡ Some team → Contains team.rects r →
+pub fence_there : (n : ℕ) (teams : List Team) (t : ℕ) (team : Team) (r : Rect) → slice_get teams t ≡ Some team → Contains team.rects r →
     Contains (fence_boxes n teams) (numbered (n + t) r)
 fence_there n [] t team r is there = absurd cc
 fence_there n (x ∷ teams) zero team r is there =
@@ -51,14 +51,14 @@ fence_there n (x ∷ teams) (suc t) team r is there =
     (Contains-append_right (map (numbered n) x.rects) (fence_boxes (n + 1) teams) (numbered ((n + 1) + t) r) (fence_there (n + 1) teams t team r is there))
 
 -- a box of a fence: the fence's place, the fence, and the rectangle among its own
-record OfFence (n : ℕ) (teams : List Team) (p : Placed) : Type 0 where
-  place : ℕ
-  team : Team
-  number : p.own ≡ n + place
-  is : slice_get teams place ≡ Some team
-  there : Contains team.rects p.rect
+pub record OfFence (n : ℕ) (teams : List Team) (p : Placed) : Type 0 where
+  pub place : ℕ
+  pub team : Team
+  pub number : p.own ≡ n + place
+  pub is : slice_get teams place ≡ Some team
+  pub there : Contains team.rects p.rect
 
-of_fence : (n : ℕ) (teams : List Team) (p : Placed) → Contains (fence_boxes n teams) p → OfFence n teams p
+pub of_fence : (n : ℕ) (teams : List Team) (p : Placed) → Contains (fence_boxes n teams) p → OfFence n teams p
 of_fence n [] p (k, within, is) = absurd (omega arith)
 of_fence n (x ∷ teams) p there = elim (Contains-append_cases (map (numbered n) x.rects) (fence_boxes (n + 1) teams) p there) [
   | inl here ↦

@@ -1,6 +1,6 @@
 //! Where the segments of each row begin in the list of all.
 
-ghost use Rattle.std.specs.Prelude.{◌≡◌, ◌<◌, ℕ, All, IfOk, List, length, map};
+ghost use Rattle.std.specs.Prelude.{◌≡◌, ◌<◌, ℕ, All, IfOk, List, length};
 ghost use Rattle.std.specs.List.Sorted.{IsNonDecreasingBy};
 ghost use Rattle.lf_segments.specs.RowStarts.{AreRowStarts, IsRangeOf, IsStartOf, rows_of};
 

@@ -1,20 +1,18 @@
 -- The input was served to an ending.
-use Rattle.std.proofs.Common.{◌≡◌, ◌≢◌, ℕ, suc, zero, ◌+◌, ◌-◌, ◌<◌, ◌≤◌, Bool, true, false, List, [], ◌∷◌, ◌++◌, length, take, drop, map, Option, Some, None, IfSome, ◌⊎◌, inl, inr, refl, sym, ap, ◌∙◌, subst, arith, append_assoc, append-nil, length-append}
-use Rattle.std.specs.Prelude.{All, MatchOption}
+use Rattle.std.proofs.Common.{◌≡◌, ℕ, ◌+◌, ◌-◌, Bool, true, false, List, [], ◌∷◌, ◌++◌, length, take, Option, Some, None, IfSome, refl, sym, ap, ◌∙◌, subst, arith, append_assoc, append-nil, length-append}
 use Rattle.std.specs.List.{onto_first}
-use Rattle.std.specs.Io.KnownBytes.{Appends, Consumes, IsAtEnd, Keeps}
+use Rattle.std.specs.Io.KnownBytes.{Consumes, IsAtEnd, Keeps}
 use Rattle.std.proofs.lemmas.List.Splits.{slice_split-cons_yes, slice_split-cons_no}
-use Rattle.std.proofs.lemmas.List.Elements.{All-nil}
 use Rattle.lf_rules.specs.Legalizer.{Legalizer}
 use Rattle.lf_proto.specs.Stream.{is_line_feed, ended_line, lines_in, lines_of}
 use Rattle.lf_teams.specs.States.{FloorState}
 use Rattle.lf_server.specs.Devices.{Writer}
-use Rattle.lf_server.specs.Exchanges.{BreaksOff, Exchange, Exchanges, Line, is_bye, lines}
-use Rattle.lf_server.specs.Endings.{ActedOn, Answered, Comes, NoneIsBye, Serves, ended_in, ended_lines}
+use Rattle.lf_server.specs.Exchanges.{Exchange, Line, lines}
+use Rattle.lf_server.specs.Endings.{ActedOn, Answered, Comes, Serves, ended_in, ended_lines}
 use Rattle.lf_server.specs.declared.serving.Ending.{Ending}
 use Rattle.lf_server.specs.declared.serving.Ending.TheVariants.{Done, Bye, ReadFault, WriteFault, TooManyLines, OutOfMemory}
 use Rattle.lf_server.specs.declared.serving.Served.{Served}
-use Rattle.lf_proto.specs.Pieces.{lines_from, pieces, with_front}
+use Rattle.lf_proto.specs.Pieces.{lines_from, pieces}
 use Rattle.lf_server.specs.Progress.{Finishes, Goes, Stops, StopsAt, told_answered}
 use Rattle.lf_server.proofs.Known.{Consumes-none, Consumes-more, Consumes-kept}
 use Rattle.lf_proto.proofs.Cuttings.{some_pieces, with_front-nil}

@@ -1,6 +1,6 @@
 -- Steps of serving, one after another.
-use Rattle.std.proofs.Common.{◌≡◌, ◌≢◌, ℕ, suc, zero, ◌+◌, ◌-◌, ◌<◌, ◌≤◌, Bool, true, false, List, [], ◌∷◌, ◌++◌, length, take, drop, map, Option, Some, None, inl, inr, refl, sym, ap, ◌∙◌, subst, arith, append_assoc, append-nil, length-append, Result, Ok, Err}
-use Rattle.std.specs.Prelude.{All, MatchOption, OnOk, OnErr, is_err}
+use Rattle.std.proofs.Common.{◌≡◌, ◌≢◌, ℕ, suc, ◌+◌, ◌-◌, ◌≤◌, Bool, true, false, List, [], ◌∷◌, ◌++◌, length, take, drop, Option, Some, None, inl, inr, refl, sym, ap, ◌∙◌, subst, arith, append_assoc, length-append, Result, Ok, Err}
+use Rattle.std.specs.Prelude.{MatchOption, OnOk, OnErr, is_err}
 use Rattle.std.proofs.lemmas.Bool.{false≢true}
 use Rattle.std.proofs.lemmas.List.{map-append, take_all, length-drop, drop-drop, drop_all}
 use Rattle.std.proofs.lemmas.List.Elements.{All-append, All-cons, All-nil}
@@ -9,7 +9,7 @@ use Rattle.lf_floorplan.specs.declared.place.Place.{Place}
 use Rattle.lf_rules.specs.Legalizer.{Legalizer}
 use Rattle.lf_proto.specs.declared.framer.Fed.{Fed}
 use Rattle.lf_proto.specs.declared.framer.Got.{Got}
-use Rattle.lf_proto.specs.declared.framer.Got.TheVariants.{More, Line as IsLine, TooLong}
+use Rattle.lf_proto.specs.declared.framer.Got.TheVariants.{More}
 use Rattle.lf_proto.specs.declared.request.Command.{Command}
 use Rattle.lf_proto.specs.Feeds.{Feeds, FinishesAt, given}
 use Rattle.lf_proto.specs.Framing.{Framing}
@@ -17,12 +17,12 @@ use Rattle.lf_teams.specs.States.{FloorState}
 use Rattle.lf_server.specs.Connections.{Stays}
 use Rattle.lf_server.specs.Devices.{Writer, writer, Sends, Breaks}
 use Rattle.lf_server.specs.Exchanges.{BreaksOff, Exchange, Exchanges, Line, asked_on, is_bye, lines}
-use Rattle.lf_server.specs.Endings.{ActedOn, Comes, EndsAt, NoneIsBye, StopsShort}
+use Rattle.lf_server.specs.Endings.{Comes, EndsAt, NoneIsBye}
 use Rattle.lf_server.specs.declared.serving.Ending.{Ending}
 use Rattle.lf_server.specs.declared.serving.Ending.TheVariants.{Done, Bye, ReadFault, WriteFault, TooManyLines, OutOfMemory}
 use Rattle.lf_proto.specs.Pieces.{lines_from, pieces}
 use Rattle.lf_server.specs.Progress.{ExchangeEnds, Given, Goes, IsAnswered, IsExchanged, Stops, StopsAt}
-use Rattle.lf_server.proofs.Known.{Appends-none, Appends-more, Appends-same}
+use Rattle.lf_server.proofs.Known.{Appends-same}
 use Rattle.lf_proto.proofs.Cuttings.{IsBounded, feed_step, finish_gives}
 
 -- ---- results

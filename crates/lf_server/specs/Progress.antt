@@ -1,11 +1,11 @@
 -- How far serving has come, and how it stops: what the loops keep.
-use Rattle.std.specs.Prelude.{◌≡◌, ℕ, ◌+◌, ◌-◌, Bool, IfSome, true, false, List, [], ◌∷◌, ◌++◌, length, Option, Some, None, ◌⊎◌}
+use Rattle.std.specs.Prelude.{◌≡◌, ℕ, ◌+◌, ◌-◌, Bool, IfSome, true, false, List, [], ◌++◌, length, Option, Some, None, ◌⊎◌}
 use Rattle.std.specs.Io.KnownBytes.{Consumes}
 use Rattle.lf_floorplan.specs.declared.place.Place.{Place}
 use Rattle.lf_rules.specs.Legalizer.{Legalizer}
 use Rattle.lf_proto.specs.declared.reply.Reply.{Reply}
 use Rattle.lf_proto.specs.declared.framer.Got.{Got}
-use Rattle.lf_proto.specs.declared.framer.Got.TheVariants.{More, Line as IsLine, TooLong}
+use Rattle.lf_proto.specs.declared.framer.Got.TheVariants.{Line as IsLine, TooLong}
 use Rattle.lf_proto.specs.declared.request.Command.{Command}
 use Rattle.lf_proto.specs.Stream.{lines_of}
 use Rattle.lf_proto.specs.Pieces.{lines_from, pieces}
@@ -14,7 +14,7 @@ use Rattle.lf_server.specs.Devices.{Writer, Sends, Breaks}
 use Rattle.lf_server.specs.Exchanges.{AnswersTo, Exchange, Exchanges, Line, asked_on, is_bye, lines}
 use Rattle.lf_server.specs.Endings.{ActedOn, Comes, NoneIsBye, ended_lines}
 use Rattle.lf_server.specs.declared.serving.Ending.{Ending}
-use Rattle.lf_server.specs.declared.serving.Ending.TheVariants.{Done, Bye, ReadFault, WriteFault, TooManyLines, OutOfMemory}
+use Rattle.lf_server.specs.declared.serving.Ending.TheVariants.{Bye, ReadFault, WriteFault, OutOfMemory}
 
 -- what the framer gave
 abbrev pub Given : Got → List ℕ → Line → Type 0

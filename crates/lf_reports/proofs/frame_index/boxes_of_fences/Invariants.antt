@@ -1,5 +1,5 @@
 use Rattle.std.proofs.Common.{◌≡◌, ◌++◌, drop}
-use Rattle.lf_reports.specs.Nearby.{fence_boxes}
+use Rattle.lf_segments.specs.Boxes.{fence_boxes}
 use Rattle.lf_reports.proofs.frame_index.boxes_of_fences.Given as goal
 
 -- the boxes so far, followed by those of the fences that are left, are all

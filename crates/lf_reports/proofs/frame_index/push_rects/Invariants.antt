@@ -1,5 +1,5 @@
 use Rattle.std.proofs.Common.{◌≡◌, ◌++◌, drop, map}
-use Rattle.lf_reports.specs.Nearby.{numbered}
+use Rattle.lf_segments.specs.Boxes.{numbered}
 use Rattle.lf_reports.proofs.frame_index.push_rects.Given as goal
 
 -- the boxes so far, followed by those of the rectangles that are left, are all

@@ -1,4 +1,4 @@
-use Rattle.std.proofs.Common.{◌≡◌, ◌<◌, ◌∙◌, ℕ, List, length, get_or, ap, subst, sym, arith}
+use Rattle.std.proofs.Common.{◌∙◌, ℕ, List, length, get_or, ap, subst, sym, arith}
 use Rattle.lf_segments.specs.RowStarts.{IsStartOf, rows_of}
 use Rattle.lf_segments.proofs.StartLemmas.{starts_all, starts_more}
 use Rattle.lf_segments.proofs.row_starts.starts_of.Goals as goal
