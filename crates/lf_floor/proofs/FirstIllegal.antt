@@ -31,7 +31,7 @@ members_listed number [] = refl
 members_listed number (c ∷ cells) = ap (λ (members : List Member). member_of c ∷ members) (members_listed number cells)
 
 -- the same rule is broken by the cell of a number, if there is one
-broken_listed : (t : Setting) (cells : List Cell) (own : ℕ) (o : Option Cell) →
+pub broken_listed : (t : Setting) (cells : List Cell) (own : ℕ) (o : Option Cell) →
     option_and_then (broken_among t.legalizer t.frame (map (listed_of t.number) cells) own) (option_map (listed_of t.number) o)
     ≡ option_and_then (λ place. broken_by o t cells own place) (option_and_then (λ c. c.working) o)
 broken_listed t cells own None = refl

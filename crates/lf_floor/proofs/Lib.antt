@@ -11,5 +11,6 @@ pub mod Unplaced
 pub mod Reverting
 pub mod Committing
 pub mod Sending
+pub mod Marking
 pub mod Ends
 pub mod Places

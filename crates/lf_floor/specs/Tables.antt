@@ -9,7 +9,6 @@ use Rattle.lf_cells.specs.Cells.{Cells, cells_of}
 use Rattle.lf_cells.specs.Openings.{opening_cells, opening_components}
 use Rattle.lf_legalize.specs.Members.{IsSizedCell}
 use Rattle.lf_reports.specs.Nearby.{IsIndexOf}
-use Rattle.lf_segments.specs.Segments.{IsCut}
 use Rattle.lf_occupancy.specs.Occupied.{Occupied}
 use Rattle.lf_occupancy.specs.Floorplans.{IsOccupancyOf}
 use Rattle.lf_sessions.specs.Slots.{seen_at, slots_of, with_slot}
@@ -79,10 +78,9 @@ pub record IsHeld (f : Frame) (number : ℕ) (cells : Cells) (occupancy : Option
 abbrev pub IsFollowed : Frame → Tables → Type 0
 IsFollowed f tables = Follows f tables.cells tables.occupancy
 
--- the index and the segments are the frame's
+-- the index is the frame's
 pub record IsReady {S : Type 0} (around : Surroundings S) : Type 0 where
   pub index : IsIndexOf around.frame.now around.index.now
-  pub cut : IsCut around.frame.now around.segments.now
 
 -- each table has a row for the team of that number
 pub record HasRows (number : ℕ) (tables : Tables) : Type 0 where

@@ -1,7 +1,6 @@
 //! A team's own cells in the table of all.
 
-ghost use Rattle.std.specs.Prelude.{◌≡◌, ◌≤◌, All, length, IfOk, IsSome, OnOk, Some, map, option_map, slice_get, is_none};
-ghost use Rattle.lf_floorplan.specs.Bounds.{IsName};
+ghost use Rattle.std.specs.Prelude.{◌≡◌, ◌≤◌, All, length, IfOk, IsSome, OnOk, Some, map, option_map, is_none};
 ghost use Rattle.lf_floorplan.specs.Boxes.{IsSized};
 ghost use Rattle.lf_rules.specs.declared.rule.Rule.TheVariants.{Overlap};
 ghost use Rattle.lf_rules.specs.Legality.{trial_of};
@@ -10,11 +9,9 @@ ghost use Rattle.lf_rules.specs.Team.{boxes_beside};
 ghost use Rattle.lf_cells.specs.Cells.{cells_of, working_at};
 ghost use Rattle.lf_rules.specs.Choice.{spot_of};
 ghost use Rattle.lf_legalize.specs.Members.{IsSizedCell, best_of, member_of};
-ghost use Rattle.lf_reports.specs.Reports.{named, report_of};
-ghost use Rattle.lf_proto.specs.ReportText.{report_text};
-ghost use Rattle.lf_teams.specs.Teams.{listed_of, broken_at};
+ghost use Rattle.lf_teams.specs.Teams.{broken_at};
 ghost use Rattle.lf_teams.specs.Looks.{best_at};
-ghost use Rattle.lf_teams.specs.Changes.{broken_cells, first_unplaced};
+ghost use Rattle.lf_teams.specs.Changes.{first_unplaced};
 ghost use Rattle.lf_floor.specs.Tables.{Follows, IsReady, setting_in};
 
 use crate::surroundings::Surroundings;
@@ -22,9 +19,8 @@ use lf_cells::{CellId, CellTable};
 use lf_floorplan::{Macro, Place};
 use lf_legalize::Seeker;
 use lf_occupancy::{Occupancy, strips_cover};
-use lf_proto::{Text, report_json};
-use lf_reports::{BrokenCell, broken_on_frame, first_illegal, report_on};
-use lf_rules::{Broken, Listed, Rule, box_of, verdict_is_one};
+use lf_reports::broken_on_frame;
+use lf_rules::{Broken, Rule, box_of, verdict_is_one};
 use lf_units::Point;
 use std::alloc::{AllocError, Global};
 
@@ -42,7 +38,12 @@ fn fill<S>(
     ensures follows { Follows around.now.frame.now cells.now occupancy.new }
 {
     if occupancy.is_none() {
-        *occupancy = Some(Occupancy::build(around.alloc, around.frame, around.segments, cells)?);
+        *occupancy = Some(Occupancy::build(
+            around.alloc,
+            around.frame,
+            &around.index.segments,
+            cells,
+        )?);
     }
     Ok(())
 }
@@ -157,56 +158,6 @@ pub(crate) fn best_place<S: Seeker>(
     }
 }
 
-/// The team's cell of that position, as its report lists it; none where the team has no such cell.
-fn listed(cells: &CellTable, number: usize, own: usize) -> Option<Listed<&[u8]>>
-    ensures { option_map named result ≡ option_map (listed_of number) (slice_get (cells_of cells.now number) own) }
-{
-    let id = cells.id_at(number, own)?;
-    let facts = cells.cell(id)?;
-    Some(Listed {
-        name: facts.name,
-        team: number,
-        mac: facts.mac,
-        place: cells.working(id),
-    })
-}
-
-/// The cells of the team of that number, as its report lists them.
-fn listed_cells(
-    alloc: Global,
-    number: usize,
-    cells: &CellTable,
-) -> Result<Vec<Listed<&[u8]>>, AllocError>
-    ensures { IfOk result (λ listed. map named listed.items ≡ map (listed_of number) (cells_of cells.now number)) }
-{
-    let mut all = Vec::new(alloc);
-    for own in 0..cells.count_of(number) {
-        let Some(cell) = listed(cells, number, own) else {
-            unreachable!();
-        };
-        all.push(cell)?;
-    }
-    Ok(all)
-}
-
-/// The text of the report of the team's cells at their working places.
-///
-/// `Err` where memory is refused.
-pub(crate) fn report_text<S>(
-    around: &Surroundings<'_, S>,
-    cells: &CellTable,
-) -> Result<Text, AllocError>
-    requires sized { All (IsSizedCell around.now.frame.now) (cells_of cells.now around.now.number) }
-    requires printed { All (λ c. IsName c.name) (cells_of cells.now around.now.number) }
-    requires few { length (cells_of cells.now around.now.number) ≤ 4000000 }
-    ensures { IfOk result (λ text. (l : Legalizer) → text ≡ report_text
-        (report_of l around.now.frame.now (map (listed_of around.now.number) (cells_of cells.now around.now.number)))) }
-{
-    let listed = listed_cells(around.alloc, around.number, cells)?;
-    let report = report_on(around.alloc, around.frame, &listed)?;
-    report_json(around.alloc, &report)
-}
-
 /// The position of the team's first unplaced cell, in loading order, found without memory; none
 /// where every cell is placed.
 pub(crate) fn first_unplaced(cells: &CellTable, number: usize) -> Option<u32>
@@ -229,21 +180,4 @@ fn is_unplaced(cells: &CellTable, number: usize, own: usize) -> bool
         Some(standing) => standing.working.is_none(),
         None => true,
     }
-}
-
-/// The team's first cell in loading order that breaks a rule where it stands; none where no cell
-/// does. What lies near each cell is looked at, not all others.
-///
-/// `Err` where memory is refused.
-pub(crate) fn first_broken_cell<S>(
-    around: &Surroundings<'_, S>,
-    cells: &CellTable,
-) -> Result<Option<BrokenCell>, AllocError>
-    requires sized { All (IsSizedCell around.now.frame.now) (cells_of cells.now around.now.number) }
-    requires printed { All (λ c. IsName c.name) (cells_of cells.now around.now.number) }
-    requires few { length (cells_of cells.now around.now.number) ≤ 4000000 }
-    ensures { (l : Legalizer) → IfOk result (λ first. first ≡ slice_get (broken_cells (setting_in l around.now) (cells_of cells.now around.now.number)) 0) }
-{
-    let listed = listed_cells(around.alloc, around.number, cells)?;
-    first_illegal(around.alloc, around.frame, &listed)
 }

@@ -29,7 +29,6 @@ use lf_legalize::Seeker;
 use lf_proto::{Command, Order, Refusal, Reply, Request, RequestList};
 use lf_reports::FrameIndex;
 use lf_rules::{legal_in_range, legalizer_is_there};
-use lf_segments::Segments;
 use std::alloc::{AllocError, Global};
 use std::marker::Model;
 
@@ -43,7 +42,6 @@ pub struct Floor<S: Seeker> {
     alloc: Global,
     frame: Frame,
     index: FrameIndex,
-    segments: Segments,
     seeker: S,
     tables: Tables,
 }
@@ -53,7 +51,6 @@ impl<S: Seeker> Model for Floor<S> {
     ghost use Rattle.lf_teams.specs.States.{FloorState};
     ghost use Rattle.lf_floor.specs.Tables.{AreTablesOf, IsFollowed, floor_in, teams_in};
     ghost use Rattle.lf_reports.specs.Nearby.{IsIndexOf};
-    ghost use Rattle.lf_segments.specs.Segments.{IsCut};
     ghost use Rattle.lf_teams.specs.Teams.{IsTeamOf};
 
     ghost Value = { FloorState };
@@ -61,7 +58,7 @@ impl<S: Seeker> Model for Floor<S> {
     ghost view = { λ f. floor_in f.frame f.tables };
 
     ghost invariant = { λ f. AreTablesOf f.frame f.tables × All (λ t. IsTeamOf f.frame t) (teams_in f.tables) × IsFollowed f.frame f.tables
-        × IsIndexOf f.frame f.index × IsCut f.frame f.segments × S.is_for f.seeker f.frame };
+        × IsIndexOf f.frame f.index × S.is_for f.seeker f.frame };
 }
 
 /// Whether this is the name of the team outside all fences.
@@ -152,14 +149,12 @@ impl<S: Seeker + Drop> Floor<S> {
         ensures legal { IfOk result (λ floor. IsCommittedLegal floor ↔ IsFullyLegal loaded.frame (loaded_design loaded)) }
     {
         let index = FrameIndex::build(alloc, &loaded.frame)?;
-        let segments = Segments::cut(alloc, &loaded.frame)?;
-        let tables = Tables::opening(alloc, &loaded, &segments)?;
+        let tables = Tables::opening(alloc, &loaded, &index.segments)?;
         let Loaded { frame, cells: _ } = loaded;
         Ok(Floor {
             alloc,
             frame,
             index,
-            segments,
             seeker,
             tables,
         })
@@ -222,7 +217,6 @@ impl<S: Seeker + Drop> Floor<S> {
                     alloc: self.alloc,
                     frame: &self.frame,
                     index: &self.index,
-                    segments: &self.segments,
                     seeker: &self.seeker,
                     number,
                 };

@@ -10,6 +10,7 @@ mod changes;
 mod committed;
 mod floor;
 mod keeping;
+mod legal;
 mod looks;
 mod moving;
 mod sessions;

@@ -7,7 +7,8 @@ ghost use Rattle.lf_floor.specs.Tables.{IsFollowed, IsReady, OthersStay, own_tea
 ghost use Rattle.lf_teams.specs.Outcomes.{Reaches, RunsOut};
 ghost use Rattle.lf_teams.specs.Looks.{checked, found, located, written};
 
-use crate::cell::{best_place, report_text};
+use crate::cell::best_place;
+use crate::legal::report_text;
 use crate::surroundings::Surroundings;
 use crate::tables::Tables;
 use lf_legalize::Seeker;
@@ -35,7 +36,8 @@ impl Tables {
     /// Tells the report of the team's cells at their working places.
     #[tactic(auto, unfolding(lf_teams::specs::Looks::checked))]
     pub(crate) fn check<S>(&self, around: &Surroundings<'_, S>) -> Result<Reply, AllocError>
-        requires { IsTeamOf around.now.frame.now (team_in around.now self.now) }
+        requires team { IsTeamOf around.now.frame.now (team_in around.now self.now) }
+        requires ready { IsReady around.now }
         ensures ok { (l : Legalizer) → IfOk result (λ reply. Reaches
             (checked (setting_in l around.now) (team_in around.now self.now))
             reply (team_in around.now self.now)) }

@@ -1,6 +1,7 @@
 //! What `tidy` does.
 
 ghost use Rattle.std.specs.Prelude.{◌≡◌, ◌≤◌, All, List, IfOk, OnErr, length};
+ghost use Rattle.lf_floorplan.specs.Bounds.{IsName};
 ghost use Rattle.lf_rules.specs.Legalizer.{Legalizer};
 ghost use Rattle.lf_cells.specs.declared.cell.Cell.{Cell};
 ghost use Rattle.lf_cells.specs.Cells.{cells_of};
@@ -9,9 +10,11 @@ ghost use Rattle.lf_teams.specs.Outcomes.{Reaches, RunsOut};
 ghost use Rattle.lf_teams.specs.Changes.{tidied_team};
 ghost use Rattle.lf_floor.specs.Tables.{CanChange, Follows, IsFollowed, IsHeld, IsReady};
 ghost use Rattle.lf_floor.specs.Tables.{HaveMoved, OtherCellsStay, OthersStay, SameButPlaces, setting_in, team_in};
+ghost use Rattle.lf_floor.specs.Marking.{AreMarked};
 ghost use Rattle.lf_floor.specs.Tidying.{Sends, Tidies, target_at};
 
 use crate::cell::{best_place, broken_at};
+use crate::legal::{is_marked, legal_marks};
 use crate::moving::{shift, take_back};
 use crate::surroundings::Surroundings;
 use crate::tables::Tables;
@@ -20,6 +23,7 @@ use lf_floorplan::Place;
 use lf_legalize::{Seeker, anchor};
 use lf_occupancy::Occupancy;
 use lf_proto::{Refusal, Reply};
+use lf_rules::{legalizer_is_there, tidy_keeps_legal, verdict_is_one};
 use lf_undo::Moves;
 use lf_units::Point;
 use std::alloc::AllocError;
@@ -55,20 +59,26 @@ fn corner(place: &Place) -> Point
 }
 
 /// Where the team's cell of that position is tidied to: the anchor where it is unplaced, its own
-/// corner where it breaks a rule; none where it stays.
+/// corner where it breaks a rule; none where it stays, as each marked cell does.
 fn target_of<S>(
     around: &Surroundings<'_, S>,
     cells: &CellTable,
     occupancy: &mut Option<Occupancy>,
+    marks: &[bool],
     own: usize,
 ) -> Result<Option<Point>, AllocError>
     requires sized { All (IsSizedCell around.now.frame.now) (cells_of cells.now around.now.number) }
     requires few { length (cells_of cells.now around.now.number) ≤ 4000000 }
+    requires marked { AreMarked around.now.frame.now around.now.number (cells_of cells.now around.now.number) marks.now }
     requires follows { Follows around.now.frame.now cells.now occupancy.old }
     requires ready { IsReady around.now }
     ensures is { (l : Legalizer) → IfOk result (λ target. target ≡ target_at (setting_in l around.now) (cells_of cells.now around.now.number) own) }
     ensures follows { Follows around.now.frame.now cells.now occupancy.new }
 {
+    verdict_is_one();
+    if is_marked(marks, own) {
+        return Ok(None);
+    }
     let Some(standing) = cells.standing(around.number, own) else {
         return Ok(None);
     };
@@ -87,10 +97,12 @@ fn send<S: Seeker>(
     cells: &mut CellTable,
     occupancy: &mut Option<Occupancy>,
     moves: &mut Moves,
+    marks: &[bool],
     own: usize,
 ) -> Result<Sent, AllocError>
     requires held { IsHeld around.now.frame.now around.now.number cells.old occupancy.old }
     requires few { length (cells_of cells.old around.now.number) ≤ 4000000 }
+    requires marked { AreMarked around.now.frame.now around.now.number (cells_of cells.old around.now.number) marks.now }
     requires ready { IsReady around.now }
     requires made { S.is_for around.now.seeker.now around.now.frame.now }
     ensures ok { (l : Legalizer) → IfOk result (λ sent. Sends (setting_in l around.now) own (cells_of cells.old around.now.number)
@@ -101,7 +113,7 @@ fn send<S: Seeker>(
     ensures others { OtherCellsStay around.now.number cells.old cells.new }
     ensures held { IsHeld around.now.frame.now around.now.number cells.new occupancy.new }
 {
-    let Some(target) = target_of(around, cells, occupancy, own)? else {
+    let Some(target) = target_of(around, cells, occupancy, marks, own)? else {
         return Ok(Sent::Stays);
     };
     let Some(id) = cells.id_at(around.number, own) else {
@@ -117,6 +129,8 @@ fn send<S: Seeker>(
 }
 
 /// Tidies the team's cells in loading order, up to the first that has no best place.
+///
+/// Those that stand legally are marked first: they stay so while others are sent, and are not tested again.
 fn send_all<S: Seeker>(
     around: &Surroundings<'_, S>,
     cells: &mut CellTable,
@@ -124,6 +138,7 @@ fn send_all<S: Seeker>(
     moves: &mut Moves,
 ) -> Result<Tidy, AllocError>
     requires held { IsHeld around.now.frame.now around.now.number cells.old occupancy.old }
+    requires printed { All (λ c. IsName c.name) (cells_of cells.old around.now.number) }
     requires few { length (cells_of cells.old around.now.number) ≤ 4000000 }
     requires ready { IsReady around.now }
     requires made { S.is_for around.now.seeker.now around.now.frame.now }
@@ -135,9 +150,12 @@ fn send_all<S: Seeker>(
     ensures others { OtherCellsStay around.now.number cells.old cells.new }
     ensures held { IsHeld around.now.frame.now around.now.number cells.new occupancy.new }
 {
+    legalizer_is_there();
+    tidy_keeps_legal();
+    let marks = legal_marks(around, cells)?;
     let mut moved = 0;
     for own in 0..cells.count_of(around.number) {
-        match send(around, cells, occupancy, moves, own)? {
+        match send(around, cells, occupancy, moves, &marks, own)? {
             Sent::Stays => {}
             Sent::Goes => moved += 1,
             Sent::Nowhere => return Ok(Tidy::Stopped(own as u32)),

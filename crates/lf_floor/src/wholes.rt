@@ -8,10 +8,11 @@ ghost use Rattle.lf_cells.specs.Cells.{as_committed, cells_of, committed_at, mov
 ghost use Rattle.lf_occupancy.specs.Occupied.{Occupied};
 ghost use Rattle.lf_teams.specs.Outcomes.{Reaches, RunsOut};
 ghost use Rattle.lf_teams.specs.Changes.{back_to_committed, committed, reverted, undone};
-ghost use Rattle.lf_floor.specs.Tables.{CanChange, Follows, HasRows, IsCurrent, IsFollowed, IsHeld};
+ghost use Rattle.lf_floor.specs.Tables.{CanChange, Follows, HasRows, IsCurrent, IsFollowed, IsHeld, IsReady};
 ghost use Rattle.lf_floor.specs.Tables.{HaveMoved, OtherCellsStay, OthersStay, own_team, setting_in, team_in};
 
-use crate::cell::{first_broken_cell, first_unplaced};
+use crate::cell::first_unplaced;
+use crate::legal::first_broken_cell;
 use crate::moving::{shift, take_back};
 use crate::surroundings::Surroundings;
 use crate::tables::Tables;
@@ -163,7 +164,8 @@ impl Tables {
         around: &Surroundings<'_, S>,
         session: u32,
     ) -> Result<Reply, AllocError>
-        requires { CanChange around.now.frame.now around.now.number session self.old }
+        requires change { CanChange around.now.frame.now around.now.number session self.old }
+        requires ready { IsReady around.now }
         ensures ok { (l : Legalizer) → IfOk result (λ reply. Reaches
             (committed (setting_in l around.now) session (team_in around.now self.old)) reply (team_in around.now self.new)) }
         ensures err { (l : Legalizer) → OnErr result (RunsOut

@@ -1,5 +1,5 @@
 -- What lies near a box: the rows, fences and obstacles of a frame and the placed cells, by where they lie.
-use Rattle.std.specs.Prelude.{◌≡◌, ◌==◌, filter, ℕ, ◌+◌, ◌<◌, ◌≤◌, ◌≤ℤ◌, ◌⊎◌, List, [], ◌∷◌, map, length, slice_index_or, All, Any, IsPermutation, IfSome, Option, None, MatchOption}
+use Rattle.std.specs.Prelude.{◌≡◌, ◌==◌, filter, ℕ, ◌+◌, ◌<◌, ◌≤◌, ◌≤ℤ◌, ◌⊎◌, List, [], ◌∷◌, map, length, slice_index_or, All, Any, IsPermutation, Option, None, MatchOption}
 use Rattle.lf_units.specs.declared.area.Point.{Point}
 use Rattle.lf_units.specs.declared.area.Rect.{Rect}
 use Rattle.lf_units.specs.Area.{SharesPoint}
@@ -33,12 +33,12 @@ obstacle_boxes rects = map (numbered 0) rects
 abbrev pub rects_of : List Placed → ℕ → List Rect
 rects_of boxes own = map (λ p. p.rect) (filter (λ p. p.own == own) boxes)
 
--- the index holds the frame's rows, fences and obstacles, and its segments, where they were cut
+-- the index holds the frame's rows, fences and obstacles, and its segments
 pub record IsIndexOf (f : Frame) (i : FrameIndex) : Type 0 where
   pub rows : IsPermutation (row_boxes f.pitch 0 f.rows) i.rows
   pub fences : IsPermutation (fence_boxes 0 f.teams) i.fences
   pub obstacles : IsPermutation (obstacle_boxes f.obstacles) i.obstacles
-  pub cut : IfSome i.segments (λ segments. IsCut f segments)
+  pub cut : IsCut f i.segments
 
 -- the inner rectangle reaches over no edge of the outer one
 pub record IsWithin (outer inner : Rect) : Type 0 where
@@ -75,4 +75,4 @@ IsFrameVerdict t verdict = MatchOption verdict ((r : Rule) → number_of r ≤ 7
 -- what a search looks cells up in is the frame's and theirs
 abbrev pub IsSearchOf : Frame → List Member → Search → Type 0
 IsSearchOf f cells Plain = Unit {0}
-IsSearchOf f cells (Indexed index boxes window) = IsIndexOf f index × IsPermutation (boxes_from f 0 cells) boxes × IsWindowOf f window
+IsSearchOf f cells (Indexed boxes window) = IsPermutation (boxes_from f 0 cells) boxes × IsWindowOf f window

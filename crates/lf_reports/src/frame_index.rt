@@ -1,7 +1,6 @@
 //! A frame's rows, fences, obstacles and segments, looked up by where they lie.
 
-ghost use Rattle.std.specs.Prelude.{◌≡◌, ◌≤◌, ◌++◌, IfOk, IfSome, OnOk, length, map};
-ghost use Rattle.lf_segments.specs.Segments.{IsCut};
+ghost use Rattle.std.specs.Prelude.{◌≡◌, ◌≤◌, ◌++◌, IfOk, OnOk, length, map};
 ghost use Rattle.lf_segments.specs.Boxes.{numbered, fence_boxes};
 ghost use Rattle.lf_reports.specs.Nearby.{row_boxes, obstacle_boxes, IsIndexOf};
 
@@ -21,8 +20,8 @@ pub struct FrameIndex {
     pub fences: RTree,
     /// The obstacles; their numbers play no part.
     pub obstacles: RTree,
-    /// What of each row each team may use, where they were cut: that is worth its time where many cells are tested.
-    pub segments: Option<Segments>,
+    /// What of each row each team may use.
+    pub segments: Segments,
 }
 
 /// The areas of the rows, numbered in their order.
@@ -71,21 +70,8 @@ fn boxes_of_obstacles(alloc: Global, obstacles: &[Rect]) -> Result<Vec<Placed>, 
 }
 
 impl FrameIndex {
-    /// The index of a frame, with its segments. `Err` where memory is refused.
+    /// The index of a frame. `Err` where memory is refused.
     pub fn build(alloc: Global, frame: &Frame) -> Result<Self, AllocError>
-        ensures { IfOk result (λ index. IsIndexOf frame.now index) }
-    {
-        let segments = Segments::cut(alloc, frame)?;
-        FrameIndex::with(alloc, frame, Some(segments))
-    }
-
-    /// The index of a frame, with these segments, where they were cut. `Err` where memory is refused.
-    pub(crate) fn with(
-        alloc: Global,
-        frame: &Frame,
-        segments: Option<Segments>,
-    ) -> Result<Self, AllocError>
-        requires { IfSome segments (λ cut. IsCut frame.now cut) }
         ensures { IfOk result (λ index. IsIndexOf frame.now index) }
     {
         let mut rows = boxes_of_rows(alloc, frame)?;
@@ -95,7 +81,7 @@ impl FrameIndex {
             rows: RTree::build(alloc, rows.as_mut_slice())?,
             fences: RTree::build(alloc, fences.as_mut_slice())?,
             obstacles: RTree::build(alloc, obstacles.as_mut_slice())?,
-            segments,
+            segments: Segments::cut(alloc, frame)?,
         })
     }
 }

@@ -15,4 +15,4 @@ pub use illegal::{BrokenCell, first_illegal};
 pub use laws::clean_is_legal;
 pub use lf_rules::{Listed, Report, Violation};
 pub use on_frame::broken_on_frame;
-pub use report::{check_all, check_all_pairs, report_on};
+pub use report::{check_all, check_all_pairs, report_by_verdicts, verdicts_on};

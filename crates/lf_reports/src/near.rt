@@ -278,9 +278,7 @@ pub(crate) fn broken_on_rows(
     ensures { IfOk result (λ verdict. IsAreaVerdict frame.now team rect.now verdict) }
 {
     lies_in_segments();
-    if let Some(segments) = &index.segments
-        && lies_in_each(segments, near, team, rect)
-    {
+    if lies_in_each(&index.segments, near, team, rect) {
         return Ok(None);
     }
     broken_by_areas(alloc, frame, index, team, rect)

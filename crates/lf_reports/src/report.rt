@@ -74,6 +74,7 @@ fn boxes_but(
 fn broken_at(
     alloc: Global,
     frame: &Frame,
+    index: &FrameIndex,
     search: &Search,
     cells: &[Listed<&[u8]>],
     own: usize,
@@ -84,6 +85,7 @@ fn broken_at(
     requires few { length cells.now ≤ 4000000 }
     requires this { IsListed frame.now (named cell.now) }
     requires within { own < length cells.now }
+    requires index { IsIndexOf frame.now index.now }
     requires search { IsSearchOf frame.now (map member_of (map named cells.now)) search.now }
     ensures { IfOk result (λ broken. IsVerdict (trial_among frame.now (map named cells.now) own (named cell.now) place.now) broken) }
 {
@@ -93,7 +95,7 @@ fn broken_at(
             let others = boxes_but(alloc, frame, cells, own)?;
             Ok(first_broken(frame, cell.team, mac, place, &others))
         }
-        Search::Indexed(index, boxes, window) => broken_beside(
+        Search::Indexed(boxes, window) => broken_beside(
             alloc, frame, index, boxes, window, cell.team, mac, place, own as u32,
         ),
     }
@@ -103,6 +105,7 @@ fn broken_at(
 fn broken_in(
     alloc: Global,
     frame: &Frame,
+    index: &FrameIndex,
     search: &Search,
     cells: &[Listed<&[u8]>],
     own: usize,
@@ -112,6 +115,7 @@ fn broken_in(
     requires few { length cells.now ≤ 4000000 }
     requires this { IsListed frame.now (named cell.now) }
     requires within { own < length cells.now }
+    requires index { IsIndexOf frame.now index.now }
     requires search { IsSearchOf frame.now (map member_of (map named cells.now)) search.now }
     ensures { IfOk result (λ broken. (l : Legalizer) → broken ≡ broken_among l frame.now (map named cells.now) own (named cell.now)) }
 {
@@ -119,7 +123,7 @@ fn broken_in(
     let Some(place) = cell.place else {
         return Ok(None);
     };
-    let broken = broken_at(alloc, frame, search, cells, own, cell, &place)?;
+    let broken = broken_at(alloc, frame, index, search, cells, own, cell, &place)?;
     Ok(broken)
 }
 
@@ -191,6 +195,7 @@ fn put(verdicts: &mut Vec<Option<Broken>>, own: usize, verdict: Option<Broken>)
 fn put_verdict(
     alloc: Global,
     frame: &Frame,
+    index: &FrameIndex,
     search: &Search,
     cells: &[Listed<&[u8]>],
     own: usize,
@@ -202,12 +207,13 @@ fn put_verdict(
     requires this { IsListed frame.now (named cell.now) }
     requires there { slice_get (map named cells.now) own ≡ Some (named cell.now) }
     requires within { own < length cells.now }
+    requires index { IsIndexOf frame.now index.now }
     requires search { IsSearchOf frame.now (map member_of (map named cells.now)) search.now }
     requires count { length verdicts.old.items ≡ length cells.now }
     ensures count { OnOk result (length verdicts.new.items ≡ length cells.now) }
     ensures put { (l : Legalizer) → OnOk result (AreSomeVerdicts l frame.now (map named cells.now) verdicts.old.items → PutsVerdict l frame.now (map named cells.now) own verdicts.old.items verdicts.new.items) }
 {
-    let verdict = broken_in(alloc, frame, search, cells, own, cell)?;
+    let verdict = broken_in(alloc, frame, index, search, cells, own, cell)?;
     put(verdicts, own, verdict);
     Ok(())
 }
@@ -231,15 +237,17 @@ fn fetch<'a>(
 
 /// The verdict of each cell, found in the order of these boxes of the placed cells: cells that lie side by side
 /// are looked at one after another.
-pub(crate) fn verdicts_in(
+fn verdicts_in(
     alloc: Global,
     frame: &Frame,
+    index: &FrameIndex,
     search: &mut Search,
     cells: &[Listed<&[u8]>],
     boxes: &[Placed],
 ) -> Result<Vec<Option<Broken>>, AllocError>
     requires listed { All (λ c. IsListed frame.now (named c)) cells.now }
     requires few { length cells.now ≤ 4000000 }
+    requires index { IsIndexOf frame.now index.now }
     requires search { IsSearchOf frame.now (map member_of (map named cells.now)) search.old }
     requires boxes { IsPermutation (boxes_from frame.now 0 (map member_of (map named cells.now))) boxes.now }
     ensures count { IfOk result (λ verdicts. length verdicts.items ≡ length cells.now) }
@@ -248,10 +256,10 @@ pub(crate) fn verdicts_in(
     let fetched = fetch(alloc, cells, boxes)?;
     let mut verdicts = no_verdicts(alloc, cells.len())?;
     for (number, placed) in boxes.iter().enumerate() {
-        search.move_to(boxes, number)?;
+        search.move_to(index, boxes, number)?;
         let own = placed.own as usize;
         let cell = &fetched[number];
-        put_verdict(alloc, frame, search, cells, own, cell, &mut verdicts)?;
+        put_verdict(alloc, frame, index, search, cells, own, cell, &mut verdicts)?;
     }
     Ok(verdicts)
 }
@@ -301,25 +309,20 @@ fn unplaced_in(cells: &[Listed<&[u8]>]) -> usize
     cells.iter().filter(|cell| cell.place.is_none()).count()
 }
 
-/// The report of these cells, by this search and in the order of these boxes.
-fn report_by(
+/// The report of a list of cells, by the verdict of each: the first rule that it breaks where it stands, or none.
+///
+/// `Err` where memory is refused.
+pub fn report_by_verdicts(
     alloc: Global,
-    frame: &Frame,
-    search: &mut Search,
     cells: &[Listed<&[u8]>],
-    boxes: &[Placed],
+    verdicts: &[Option<Broken>],
 ) -> Result<Report, AllocError>
-    requires listed { All (λ c. IsListed frame.now (named c)) cells.now }
-    requires few { length cells.now ≤ 4000000 }
-    requires search { IsSearchOf frame.now (map member_of (map named cells.now)) search.old }
-    requires boxes { IsPermutation (boxes_from frame.now 0 (map member_of (map named cells.now))) boxes.now }
-    ensures report { (l : Legalizer) → IfOk result (λ report. report ≡ report_of l frame.now (map named cells.now)) }
-    ensures legal { IfOk result (λ report. IsClean report ↔ IsFullyLegal frame.now (map standing_of (map named cells.now))) }
-    ensures told { IfOk result (λ report. All IsTold report.violations) }
+    requires { length verdicts.now ≡ length cells.now }
+    ensures report { (l : Legalizer) (f : Frame) → AreVerdicts l f (map named cells.now) verdicts.now → IfOk result (λ report. report ≡ report_of l f (map named cells.now)) }
+    ensures told { (l : Legalizer) (f : Frame) → AreVerdicts l f (map named cells.now) verdicts.now → All (λ c. IsListed f (named c)) cells.now →
+        IfOk result (λ report. All IsTold report.violations) }
 {
-    legalizer_is_there();
-    let verdicts = verdicts_in(alloc, frame, search, cells, boxes)?;
-    let violations = violations_in(alloc, cells, &verdicts)?;
+    let violations = violations_in(alloc, cells, verdicts)?;
     Ok(Report {
         cells: cells.len(),
         unplaced: unplaced_in(cells),
@@ -328,7 +331,7 @@ fn report_by(
 }
 
 /// The boxes of the placed cells, by the cells' numbers.
-pub(crate) fn boxes_in(
+fn boxes_in(
     alloc: Global,
     frame: &Frame,
     cells: &[Listed<&[u8]>],
@@ -346,41 +349,13 @@ pub(crate) fn boxes_in(
 
 /// The search that finds what lies near a cell without a look at all of the frame and of the cells, whose boxes are
 /// put into the order in which they lie.
-fn indexed(
-    alloc: Global,
-    frame: &Frame,
-    index: FrameIndex,
-    boxes: &mut [Placed],
-) -> Result<Search, AllocError>
-    requires { IsIndexOf frame.now index }
+fn indexed(alloc: Global, index: &FrameIndex, boxes: &mut [Placed]) -> Result<Search, AllocError>
     ensures same { IsPermutation boxes.old boxes.new }
-    ensures search { (cells : List Member) → IsPermutation (boxes_from frame.now 0 cells) boxes.old → IfOk result (λ search. IsSearchOf frame.now cells search) }
+    ensures search { (f : Frame) (cells : List Member) → IsIndexOf f index.now → IsPermutation (boxes_from f 0 cells) boxes.old → IfOk result (λ search. IsSearchOf f cells search) }
 {
     let boxes = RTree::build(alloc, boxes)?;
-    let window = Window::new(alloc, &index)?;
-    Ok(Search::Indexed(index, boxes, window))
-}
-
-/// The search that asks the frame's trees alone: segments are not cut for the few cells of a team.
-pub(crate) fn by_trees(
-    alloc: Global,
-    frame: &Frame,
-    boxes: &mut [Placed],
-) -> Result<Search, AllocError>
-    ensures same { IsPermutation boxes.old boxes.new }
-    ensures search { (cells : List Member) → IsPermutation (boxes_from frame.now 0 cells) boxes.old → IfOk result (λ search. IsSearchOf frame.now cells search) }
-{
-    let index = FrameIndex::with(alloc, frame, None)?;
-    indexed(alloc, frame, index, boxes)
-}
-
-/// The search that asks the frame's segments first, which are cut for it.
-fn by_segments(alloc: Global, frame: &Frame, boxes: &mut [Placed]) -> Result<Search, AllocError>
-    ensures same { IsPermutation boxes.old boxes.new }
-    ensures search { (cells : List Member) → IsPermutation (boxes_from frame.now 0 cells) boxes.old → IfOk result (λ search. IsSearchOf frame.now cells search) }
-{
-    let index = FrameIndex::build(alloc, frame)?;
-    indexed(alloc, frame, index, boxes)
+    let window = Window::new(alloc, index)?;
+    Ok(Search::Indexed(boxes, window))
 }
 
 /// What the rules are tested against for each cell.
@@ -390,8 +365,50 @@ enum Against {
     All,
     /// What lies near the cell.
     Near,
-    /// The segments that the cell lies in, and else what lies near it.
-    Segments,
+}
+
+/// The first rule that each of these cells breaks where it stands.
+fn verdicts_against(
+    alloc: Global,
+    frame: &Frame,
+    index: &FrameIndex,
+    cells: &[Listed<&[u8]>],
+    against: Against,
+) -> Result<Vec<Option<Broken>>, AllocError>
+    requires listed { All (λ c. IsListed frame.now (named c)) cells.now }
+    requires few { length cells.now ≤ 4000000 }
+    requires index { IsIndexOf frame.now index.now }
+    ensures count { IfOk result (λ verdicts. length verdicts.items ≡ length cells.now) }
+    ensures each { (l : Legalizer) → IfOk result (λ verdicts. AreVerdicts l frame.now (map named cells.now) verdicts.items) }
+{
+    let mut boxes = boxes_in(alloc, frame, cells)?;
+    match against {
+        Against::All => verdicts_in(alloc, frame, index, &mut Search::Plain, cells, &boxes),
+        Against::Near => {
+            let mut search = indexed(alloc, index, boxes.as_mut_slice())?;
+            verdicts_in(alloc, frame, index, &mut search, cells, &boxes)
+        }
+    }
+}
+
+/// For each of these cells the first rule that it breaks where it stands, and for Overlap the first other cell that it
+/// meets; none where it breaks no rule, or is unplaced.
+///
+/// Overlap is between any two cells of the list: those of a team, or of a whole design. A cell is compared only with
+/// what lies near it, which the frame's index tells. `Err` where memory is refused.
+pub fn verdicts_on(
+    alloc: Global,
+    frame: &Frame,
+    index: &FrameIndex,
+    cells: &[Listed<&[u8]>],
+) -> Result<Vec<Option<Broken>>, AllocError>
+    requires listed { All (λ c. IsListed frame.now (named c)) cells.now }
+    requires few { length cells.now ≤ 4000000 }
+    requires index { IsIndexOf frame.now index.now }
+    ensures count { IfOk result (λ verdicts. length verdicts.items ≡ length cells.now) }
+    ensures each { (l : Legalizer) → IfOk result (λ verdicts. AreVerdicts l frame.now (map named cells.now) verdicts.items) }
+{
+    verdicts_against(alloc, frame, index, cells, Against::Near)
 }
 
 /// The report of these cells, in which overlap is between any two of them.
@@ -407,36 +424,10 @@ fn report_against(
     ensures legal { IfOk result (λ report. IsClean report ↔ IsFullyLegal frame.now (map standing_of (map named cells.now))) }
     ensures told { IfOk result (λ report. All IsTold report.violations) }
 {
-    let mut boxes = boxes_in(alloc, frame, cells)?;
-    match against {
-        Against::All => report_by(alloc, frame, &mut Search::Plain, cells, &boxes),
-        Against::Near => {
-            let mut search = by_trees(alloc, frame, boxes.as_mut_slice())?;
-            report_by(alloc, frame, &mut search, cells, &boxes)
-        }
-        Against::Segments => {
-            let mut search = by_segments(alloc, frame, boxes.as_mut_slice())?;
-            report_by(alloc, frame, &mut search, cells, &boxes)
-        }
-    }
-}
-
-/// The report of these cells, in which overlap is between any two of them.
-///
-/// The report of a team is that of its own cells, and the report of a design that of the cells of all teams. A
-/// cell is compared only with what lies near it. `Err` where memory is refused.
-pub fn report_on(
-    alloc: Global,
-    frame: &Frame,
-    cells: &[Listed<&[u8]>],
-) -> Result<Report, AllocError>
-    requires listed { All (λ c. IsListed frame.now (named c)) cells.now }
-    requires few { length cells.now ≤ 4000000 }
-    ensures report { (l : Legalizer) → IfOk result (λ report. report ≡ report_of l frame.now (map named cells.now)) }
-    ensures legal { IfOk result (λ report. IsClean report ↔ IsFullyLegal frame.now (map standing_of (map named cells.now))) }
-    ensures told { IfOk result (λ report. All IsTold report.violations) }
-{
-    report_against(alloc, frame, cells, Against::Near)
+    legalizer_is_there();
+    let index = FrameIndex::build(alloc, frame)?;
+    let verdicts = verdicts_against(alloc, frame, &index, cells, against)?;
+    report_by_verdicts(alloc, cells, &verdicts)
 }
 
 /// The cells of a design at these places.
@@ -491,7 +482,7 @@ pub fn check_all(
     ensures legal { IfOk result (λ report. IsClean report ↔ IsFullyLegal loaded.now.frame (standing_at loaded.now.cells places.now)) }
     ensures told { IfOk result (λ report. All IsTold report.violations) }
 {
-    check_against(alloc, loaded, places, Against::Segments)
+    check_against(alloc, loaded, places, Against::Near)
 }
 
 /// The report of `check_all` by the plain search: each two cells are compared, and each cell with every row, fence

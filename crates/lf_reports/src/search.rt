@@ -24,21 +24,26 @@ use std::alloc::{AllocError, Global};
 pub enum Search {
     /// By a look at every row, fence, obstacle and other cell.
     Plain,
-    /// By a look at those near the cell: the frame's, and the boxes of the placed cells by the cells' numbers. The
-    /// window moves along with the cells.
-    Indexed(FrameIndex, RTree, Window),
+    /// By a look at those near the cell: the frame's, by its index, and the boxes of the placed cells by the cells'
+    /// numbers. The window moves along with the cells.
+    Indexed(RTree, Window),
 }
 
 impl Search {
     /// Moves the window to the box of that number, unless it was laid over it a few boxes ago: a window over boxes that
     /// lie far apart is not kept for long. Where memory is refused, the search is good for nothing.
-    pub(crate) fn move_to(&mut self, boxes: &[Placed], number: usize) -> Result<(), AllocError>
+    pub(crate) fn move_to(
+        &mut self,
+        index: &FrameIndex,
+        boxes: &[Placed],
+        number: usize,
+    ) -> Result<(), AllocError>
         requires { number < length boxes.now }
-        ensures { (f : Frame) (cells : List Member) → IsSearchOf f cells self.old → OnOk result (IsSearchOf f cells self.new) }
+        ensures { (f : Frame) (cells : List Member) → IsIndexOf f index.now → IsSearchOf f cells self.old → OnOk result (IsSearchOf f cells self.new) }
     {
         match self {
             Search::Plain => Ok(()),
-            Search::Indexed(index, _, window) => {
+            Search::Indexed(_, window) => {
                 if number % CELLS != 0 && window.holds(&boxes[number].rect) {
                     return Ok(());
                 }

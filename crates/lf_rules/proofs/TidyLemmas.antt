@@ -94,28 +94,37 @@ Done f team n cells = (own : ℕ) → own < n → StandsLegal f team cells own
 below_or_at : (own n : ℕ) → own < n + 1 → (own < n) ⊎ (own ≡ n)
 below_or_at own n less = grind arith
 
+-- a cell that goes to a place that is legal for it stands there legally
+went_legal : (f : Frame) (team n : ℕ) (cells : List Member) (m : Member) (p : Spot) →
+    IsLegalAt (lifted_from f team cells n m.mac) p → StandsLegal f team (slice_set cells n (placed_at m.mac p)) n
+went_legal f team n cells m p legal x here =
+    subst (λ (y : Member). MatchOption y.place ⊥ (λ s. IsLegalAt (lifted_from f team (slice_set cells n (placed_at m.mac p)) n y.mac) s)) (sym (get_set cells n x (placed_at m.mac p) here))
+    (legal_of_clear f team cells (slice_set cells n (placed_at m.mac p)) n m.mac p legal (new_clear f cells n m.mac p (box_in f m.mac p) (clear_of_legal f team cells n m.mac p legal)))
+
+-- and a cell that stands legally stays so where another one goes there
+others_stay : (f : Frame) (team n own : ℕ) (cells : List Member) (m : Member) (p : Spot) → slice_get cells n ≡ Some m →
+    IsLegalAt (lifted_from f team cells n m.mac) p → (own ≡ n → ⊥) → StandsLegal f team cells own →
+    StandsLegal f team (slice_set cells n (placed_at m.mac p)) own
+others_stay f team n own cells m p there legal other stands x here =
+    let was : slice_get cells own ≡ Some x = sym (get_other cells n own (placed_at m.mac p) other) ∙ here in
+    earlier x was x.place refl (stands x was)
+  where
+    earlier : (x : Member) → slice_get cells own ≡ Some x → (place : Option Spot) → x.place ≡ place →
+        MatchOption place ⊥ (λ s. IsLegalAt (lifted_from f team cells own x.mac) s) →
+        MatchOption place ⊥ (λ s. IsLegalAt (lifted_from f team (slice_set cells n (placed_at m.mac p)) own x.mac) s)
+    earlier x was None is stands = stands
+    earlier x was (Some q) is stands =
+        legal_of_clear f team cells (slice_set cells n (placed_at m.mac p)) own x.mac q stands
+        (old_clear f cells own n m.mac p (box_in f x.mac q) (clear_of_legal f team cells own x.mac q stands)
+        (λ meets. clear_of_legal f team cells n m.mac p legal own x q other was is (turn (box_in f x.mac q) (box_in f m.mac p) meets)))
+
 -- the cell of number n goes to a place that is legal for it
 gone : (f : Frame) (team n : ℕ) (cells : List Member) (m : Member) (p : Spot) → slice_get cells n ≡ Some m →
     IsLegalAt (lifted_from f team cells n m.mac) p → Done f team n cells → Done f team (n + 1) (slice_set cells n (placed_at m.mac p))
 gone f team n cells m p there legal done own less = elim (below_or_at own n less) [
-  | inr same ↦ subst (λ (j : ℕ). StandsLegal f team (slice_set cells n (placed_at m.mac p)) j) (sym same) (λ x here.
-      subst (λ (y : Member). MatchOption y.place ⊥ (λ s. IsLegalAt (lifted_from f team (slice_set cells n (placed_at m.mac p)) n y.mac) s)) (sym (get_set cells n x (placed_at m.mac p) here))
-      (legal_of_clear f team cells (slice_set cells n (placed_at m.mac p)) n m.mac p legal (new_clear f cells n m.mac p (box_in f m.mac p) (clear_of_legal f team cells n m.mac p legal))))
-  | inl before ↦
-      let other : own ≡ n → ⊥ = λ e. omega (arith, before, e) in
-      λ x here.
-      let was : slice_get cells own ≡ Some x = sym (get_other cells n own (placed_at m.mac p) other) ∙ here in
-      earlier other x was x.place refl (done own before x was)
+  | inr same ↦ subst (λ (j : ℕ). StandsLegal f team (slice_set cells n (placed_at m.mac p)) j) (sym same) (went_legal f team n cells m p legal)
+  | inl before ↦ others_stay f team n own cells m p there legal (λ e. omega (arith, before, e)) (done own before)
 ]
-  where
-    earlier : (own ≡ n → ⊥) → (x : Member) → slice_get cells own ≡ Some x → (place : Option Spot) → x.place ≡ place →
-        MatchOption place ⊥ (λ s. IsLegalAt (lifted_from f team cells own x.mac) s) →
-        MatchOption place ⊥ (λ s. IsLegalAt (lifted_from f team (slice_set cells n (placed_at m.mac p)) own x.mac) s)
-    earlier other x was None is stands = stands
-    earlier other x was (Some q) is stands =
-        legal_of_clear f team cells (slice_set cells n (placed_at m.mac p)) own x.mac q stands
-        (old_clear f cells own n m.mac p (box_in f x.mac q) (clear_of_legal f team cells own x.mac q stands)
-        (λ meets. clear_of_legal f team cells n m.mac p legal own x q other was is (turn (box_in f x.mac q) (box_in f m.mac p) meets)))
 
 -- the cell of number n stays, and its place is legal for it
 stayed : (f : Frame) (team n : ℕ) (cells : List Member) → StandsLegal f team cells n → Done f team n cells → Done f team (n + 1) cells
@@ -230,3 +239,39 @@ tidied_legal l f team cells new moved all is =
     let came : CameTo f team (0 + length cells) (length cells) (Going new moved) = subst (λ (t : Tidied). CameTo f team (0 + length cells) (length cells) t) is end in
     let upto : Came f team (length cells) (length cells) new = subst (λ (k : ℕ). Came f team k (length cells) new) (omega arith) came in
     every f team new (subst (λ (k : ℕ). Came f team k k new) (sym came.many) upto)
+
+-- ---- while one cell is tidied, the others stay legal
+
+same_cells : {a b : List Member} {i j : ℕ} → Going a i ≡ Going b j → a ≡ b
+same_cells e = cc
+
+-- the cell that is sent finds its choice
+legal_when_sent : (f : Frame) (team : ℕ) (cells new : List Member) (moved count own other : ℕ) (m : Member) (target : Point) (found : Option Spot) →
+    slice_get cells own ≡ Some m → IsChoice (lifted_from f team cells own m.mac) target found → sent_to found cells moved own m.mac ≡ Going new count →
+    StandsLegal f team cells other → StandsLegal f team new other
+legal_when_sent f team cells new moved count own other m target None there choice is stands = absurd cc
+legal_when_sent f team cells new moved count own other m target (Some p) there choice is stands =
+    subst (λ (ms : List Member). StandsLegal f team ms other) (same_cells is)
+    (elim (order_of other own) [
+      | inl same ↦ subst (λ (j : ℕ). StandsLegal f team (slice_set cells own (placed_at m.mac p)) j) (sym same) (went_legal f team own cells m p choice.legal)
+      | inr differ ↦ others_stay f team own other cells m p there choice.legal differ stands
+    ])
+
+legal_when_aimed : (l : Legalizer) (f : Frame) (team : ℕ) (cells new : List Member) (moved count own other : ℕ) (m : Member) (target : Option Point) →
+    slice_get cells own ≡ Some m → IsSized f (macro_of f m.mac) → tidied_to target l (lifted_from f team cells own m.mac) cells moved own m.mac ≡ Going new count →
+    StandsLegal f team cells other → StandsLegal f team new other
+legal_when_aimed l f team cells new moved count own other m None there sized is stands =
+    subst (λ (ms : List Member). StandsLegal f team ms other) (same_cells is) stands
+legal_when_aimed l f team cells new moved count own other m (Some target) there sized is stands =
+    legal_when_sent f team cells new moved count own other m target (l.best_place (lifted_from f team cells own m.mac) target) there
+    (l.finds_best_place (lifted_from f team cells own m.mac) target sized) is stands
+
+pub legal_when_tidied : (l : Legalizer) (f : Frame) (team : ℕ) (cells new : List Member) (moved count own other : ℕ) →
+    All (λ m. IsSized f (macro_of f m.mac)) cells → tidy_cell l f team (Going cells moved) own ≡ Going new count →
+    StandsLegal f team cells other → StandsLegal f team new other
+legal_when_tidied l f team cells new moved count own other all is stands = go (slice_get cells own) refl is where
+  go : (o : Option Member) → slice_get cells own ≡ o → tidied_own o l f team cells moved own ≡ Going new count → StandsLegal f team new other
+  go None there is = subst (λ (ms : List Member). StandsLegal f team ms other) (same_cells is) stands
+  go (Some m) there is =
+      legal_when_aimed l f team cells new moved count own other m (target_of l (lifted_from f team cells own m.mac) m.place) there
+      (sized_each f cells all own m there) is stands

@@ -64,3 +64,11 @@ abbrev pub TidiedKeepsCells : Type 0
 TidiedKeepsCells =
     (l : Legalizer) (f : Frame) (team : ℕ) (cells new : List Member) (moved : ℕ) →
     tidied l f team cells ≡ Going new moved → map (λ m. m.mac) new ≡ map (λ m. m.mac) cells
+
+-- a cell that is placed and team-legal stays so while a cell is tidied
+abbrev pub TidyKeepsLegal : Type 0
+TidyKeepsLegal =
+    (l : Legalizer) (f : Frame) (team : ℕ) (cells new : List Member) (moved count own other : ℕ) →
+    All (λ m. IsSized f (macro_of f m.mac)) cells →
+    tidy_cell l f team (Going cells moved) own ≡ Going new count →
+    StandsLegal f team cells other → StandsLegal f team new other

@@ -3,7 +3,7 @@
 ghost use Rattle.lf_rules.specs.Choice.{ChoiceIsOne, KeyOrders, KeysDiffer, LegalInRange, LegalIsUpright};
 ghost use Rattle.lf_rules.specs.FullyLegal.{TeamsMakeLegal};
 ghost use Rattle.lf_rules.specs.Legalizer.{Legalizer, VerdictIsOne, VerdictIsThere};
-ghost use Rattle.lf_rules.specs.Tidy.{TidiedIsLegal, TidiedKeepsCells};
+ghost use Rattle.lf_rules.specs.Tidy.{TidiedIsLegal, TidiedKeepsCells, TidyKeepsLegal};
 
 /// A trial has one verdict: one first broken rule with one other cell, or none.
 pub fn verdict_is_one()
@@ -53,6 +53,11 @@ pub fn tidied_is_legal()
 /// Tidying moves cells alone: their number, order and macros stay.
 pub fn tidied_keeps_cells()
     ensures { TidiedKeepsCells }
+{}
+
+/// A cell that is placed and team-legal stays so while a cell is tidied.
+pub fn tidy_keeps_legal()
+    ensures { TidyKeepsLegal }
 {}
 
 /// A design in which each team's cells are placed and team-legal is fully legal.

@@ -14,7 +14,8 @@ pub use cover::is_covered;
 pub use first::{first_broken, is_on_rail, is_oriented};
 pub use laws::{
     choice_is_one, key_is_total, keys_differ, legal_in_range, legal_is_upright, legalizer_is_there,
-    teams_make_legal, tidied_is_legal, tidied_keeps_cells, verdict_is_one, verdict_is_there,
+    teams_make_legal, tidied_is_legal, tidied_keeps_cells, tidy_keeps_legal, verdict_is_one,
+    verdict_is_there,
 };
 pub use lf_floorplan::Place;
 pub use lf_rtree::Placed;

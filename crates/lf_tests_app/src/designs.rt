@@ -1,14 +1,10 @@
 //! The built-in design, read and loaded, and what its reports tell.
 
-ghost use Rattle.std.specs.Prelude.{◌<◌, length};
-ghost use Rattle.lf_reports.specs.Reports.{IsListed, named};
-
 use lf_def::{W_DEF, read_def};
-use lf_floorplan::cell_is_sized;
 use lf_frame::{Limits, Loaded, Place, load};
 use lf_lef::{Library, W_LEF, read_lef};
 use lf_orient::Orient;
-use lf_reports::{BrokenCell, Listed, Report, check_all, check_all_pairs, first_illegal};
+use lf_reports::{BrokenCell, Report, check_all, check_all_pairs, first_illegal};
 use lf_rules::{Broken, Rule};
 use lf_units::Name;
 use std::alloc::{AllocError, Global};
@@ -120,68 +116,26 @@ fn both_searches_tell_the_same(rt: HostRuntime) -> Result<(), Fail> {
     Ok(())
 }
 
-/// The cell of that number, as a report lists it at this place.
-fn listed_at(design: &Loaded, own: usize, place: Option<Place>) -> Listed<&[u8]>
-    requires { own < length design.now.cells }
-    ensures { IsListed design.now.frame (named result) }
-{
-    cell_is_sized();
-    let cell = &design.cells.as_slice()[own];
-    Listed {
-        name: cell.name.as_bytes(),
-        team: cell.team,
-        mac: cell.mac,
-        place,
-    }
-}
-
-/// The first of the cells a2, a1 and b1, in this order, that breaks a rule at these places.
-fn first_of_three(
-    alloc: Global,
-    design: &Loaded,
-    places: [Option<Place>; 3],
-) -> Result<Option<BrokenCell>, AllocError>
-    requires { 3 < length design.now.cells }
-{
-    let cells = [
-        listed_at(design, 1, places[0]),
-        listed_at(design, 0, places[1]),
-        listed_at(design, 3, places[2]),
-    ];
-    first_illegal(alloc, &design.frame, &cells)
-}
-
 #[test]
-fn the_first_cell_that_breaks_a_rule(rt: HostRuntime) -> Result<(), Fail> {
-    let design = design_of(rt.alloc(), W_DEF, Limits::standard())?;
-    assert!(rt; design.cells.len() == 5);
-    let left = Some(Place::new(0, 0, Orient::N));
-    let met = Some(Place::new(200, 0, Orient::N));
-    let beside = Some(Place::new(400, 0, Orient::N));
-    let between_sites = Some(Place::new(6_100, 0, Orient::N));
-    let overlap = BrokenCell {
-        own: 0,
-        broken: Broken {
-            rule: Rule::Overlap,
-            other: Some(1),
-        },
+fn the_first_cell_that_breaks_a_rule(rt: HostRuntime) {
+    let overlap = Broken {
+        rule: Rule::Overlap,
+        other: Some(2),
     };
-    let off_its_row = BrokenCell {
-        own: 2,
-        broken: Broken {
-            rule: Rule::Row,
-            other: None,
-        },
+    let off_its_row = Broken {
+        rule: Rule::Row,
+        other: None,
     };
-    for (places, first) in [
-        ([left, met, between_sites], Some(overlap)),
-        ([left, beside, between_sites], Some(off_its_row)),
-        ([left, None, between_sites], Some(off_its_row)),
-        ([left, beside, None], None),
+    for (verdicts, first) in [
+        ([None, Some(overlap), Some(off_its_row)], Some((1, overlap))),
+        ([None, None, Some(off_its_row)], Some((2, off_its_row))),
+        ([Some(off_its_row), None, None], Some((0, off_its_row))),
         ([None, None, None], None),
     ] {
-        let found = first_of_three(rt.alloc(), &design, places)?;
-        assert_eq!(rt; found, first);
+        let found = first_illegal(&verdicts);
+        assert_eq!(rt;
+            found,
+            first.map(|(own, broken)| BrokenCell { own, broken })
+        );
     }
-    Ok(())
 }

@@ -4,10 +4,12 @@ use Rattle.lf_rules.specs.Tidy.{Going, tidied, tidied_from}
 use Rattle.lf_cells.specs.Cells.{cells_of}
 use Rattle.lf_legalize.specs.Members.{member_of}
 use Rattle.lf_cells.specs.declared.cell.Cell.{Cell}
+use Rattle.lf_floor.specs.Marking.{AreMarked}
 use Rattle.lf_floor.specs.Tables.{HaveMoved, IsHeld, OtherCellsStay, SameButPlaces}
 use Rattle.lf_floor.proofs.tidy.send_all.Given as goal
 
--- tidying goes on from the cells so far, which differ from the old ones in their working places alone
+-- tidying goes on from the cells so far, which differ from the old ones in their working places alone; the marked ones
+-- stand legally
 abbrev pub invariant-loop-own : goal.invariant-loop-own
 invariant-loop-own g l = record {
   going : (j : Legalizer)
@@ -18,5 +20,6 @@ invariant-loop-own g l = record {
       → HaveMoved before l.moves (cells_of l.cells l.around.number);
   others : OtherCellsStay l.around.number l.initial.cells l.cells;
   held : IsHeld l.around.frame.now l.around.number l.cells l.occupancy;
+  marked : AreMarked l.around.frame.now l.around.number (cells_of l.cells l.around.number) l.marks.items;
   few : l.moved ≤ l.own;
 }

@@ -1,9 +1,18 @@
-use Rattle.std.proofs.Common.{sym, subst, map}
-use Rattle.lf_reports.specs.Reports.{named, AreVerdicts}
+use Rattle.std.proofs.Common.{◌∙◌}
+use Rattle.lf_reports.proofs.IllegalLemmas.{from_first, passed_over, first_is, none_is}
 use Rattle.lf_reports.proofs.illegal.first_illegal.Goals as goal
 
+pub loop-own-init : goal.loop-own-init
+loop-own-init c = λ l f cells are. from_first l f cells
+
+pub loop-own-preserved : goal.loop-own-preserved
+loop-own-preserved c = λ l f cells are.
+    c.loop-own.invariant l f cells are
+    ∙ passed_over l f cells c.args.verdicts.now c.loop-own.own are c.loop-own-test.true c.in_default.is
+
+pub returns-in-Some : goal.returns-in-Some
+returns-in-Some c = λ l f cells are.
+    first_is l f cells c.args.verdicts.now c.loop-own.own c.in-Some.broken are c.loop-own-test.true c.in-Some.is (c.loop-own.invariant l f cells are)
+
 pub returns : goal.returns
-returns c = λ l.
-    let f = c.args.frame.now in
-    let cells = map named c.args.cells.now in
-    c.first_of.ensures l f cells (subst (AreVerdicts l f cells) (sym c.deref-2.ensures.value) (c.in_ok-verdicts.ensures.each l))
+returns c = λ l f cells are. none_is l f cells c.args.verdicts.now c.loop-own.own are c.loop-own-test.false (c.loop-own.invariant l f cells are)

@@ -44,7 +44,7 @@ pub put_verdict-requires-clause-there : goal.put_verdict-requires-clause-there
 put_verdict-requires-clause-there c = there c
 
 pub put_verdict-requires-clause-search : goal.put_verdict-requires-clause-search
-put_verdict-requires-clause-search c = c.in_ok-move_to.ensures c.args.frame.now (map member_of (map named c.args.cells.now)) c.loop-number.invariant.1
+put_verdict-requires-clause-search c = c.in_ok-move_to.ensures c.args.frame.now (map member_of (map named c.args.cells.now)) c.requires.index c.loop-number.invariant.1
 
 pub put_verdict-requires-clause-this : goal.put_verdict-requires-clause-this
 put_verdict-requires-clause-this c =
@@ -62,7 +62,7 @@ loop-number-init c =
 pub loop-number-preserved : goal.loop-number-preserved
 loop-number-preserved c = (
   c.in_ok-put_verdict.ensures.count,
-  c.in_ok-move_to.ensures c.args.frame.now (map member_of (map named c.args.cells.now)) c.loop-number.invariant.1,
+  c.in_ok-move_to.ensures c.args.frame.now (map member_of (map named c.args.cells.now)) c.requires.index c.loop-number.invariant.1,
   λ l. one_more l c.args.frame.now (map named c.args.cells.now) c.args.boxes.now c.loop-number.number _ c.loop-number.verdicts.items _ c.loop-number-test.true (c.loop-number.invariant.2 l)
       (c.in_ok-put_verdict.ensures.put l (c.loop-number.invariant.2 l).some),
 )

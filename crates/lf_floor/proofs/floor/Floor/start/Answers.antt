@@ -14,7 +14,6 @@ invariant_of-result g c =
       subst (λ (ts : List TeamState). All (λ t. IsTeamOf design.frame t) ts) (sym (opened_teams design c.in_ok-tables.tables opens)) (opening_whole design).1,
       (c.in_ok-tables.ensures {u = tt}).follows,
       c.in_ok-index.ensures {u = tt},
-      c.in_ok-segments.ensures {u = tt},
       c.requires.made,
     )
 

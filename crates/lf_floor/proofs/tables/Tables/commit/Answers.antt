@@ -23,5 +23,5 @@ returns-in-Some-2-clause-ok g c = λ l.
 pub returns-clause-ok : goal.returns-clause-ok
 returns-clause-ok g c = λ l.
     committed_reaches (setting_in l c.args.around.now) c.args.around.now.number c.args.session c.count_change.result c.args.self.now c.count_change.new.self
-    c.commit_cells.new.cells c.requires.served.rows (sym c.in_default.is ∙ c.first_unplaced.ensures)
+    c.commit_cells.new.cells c.requires.change.served.rows (sym c.in_default.is ∙ c.first_unplaced.ensures)
     (sym c.in_default-2.is ∙ c.in_ok-illegal.ensures {u = tt} l) c.commit_cells.ensures.own c.count_change.ensures.tables c.count_change.ensures.revision

@@ -6,7 +6,7 @@ use Rattle.lf_cells.specs.Cells.{cells_of}
 use Rattle.lf_reports.specs.Reports.{named}
 use Rattle.lf_teams.specs.Teams.{listed_of}
 use Rattle.lf_floor.proofs.Seeking.{one_more_told}
-use Rattle.lf_floor.proofs.cell.listed_cells.Goals as goal
+use Rattle.lf_floor.proofs.legal.listed_cells.Goals as goal
 
 pub loop-own-preserved : goal.loop-own-preserved
 loop-own-preserved c =

@@ -5,7 +5,7 @@ use Rattle.lf_rules.specs.Legalizer.{Legalizer}
 use Rattle.lf_reports.specs.Reports.{AreVerdicts}
 use Rattle.lf_reports.specs.Illegal.{illegal_in}
 use Rattle.lf_reports.proofs.IllegalLemmas.{illegal_from}
-use Rattle.lf_reports.proofs.illegal.first_of.Given as goal
+use Rattle.lf_reports.proofs.illegal.first_illegal.Given as goal
 
 -- the cells so far break no rule
 abbrev pub invariant-loop-own : goal.invariant-loop-own

@@ -1,0 +1,33 @@
+use Rattle.std.proofs.Common.{◌∙◌, ℕ, List, ap, length, subst, sym}
+use Rattle.std.proofs.Math.ListN.{length-map}
+use Rattle.std.proofs.lemmas.Result.{IfOk-weaker}
+use Rattle.lf_rules.specs.declared.report.Listed.{Listed}
+use Rattle.lf_reports.specs.Reports.{AreVerdicts, named}
+use Rattle.lf_cells.specs.Cells.{cells_of}
+use Rattle.lf_teams.specs.Teams.{listed_of}
+use Rattle.lf_floor.proofs.Listing.{lent_are, lent_listed}
+use Rattle.lf_floor.proofs.legal.team_verdicts.Goals as goal
+
+pub verdicts_on-requires-clause-listed : goal.verdicts_on-requires-clause-listed
+verdicts_on-requires-clause-listed g c =
+    let cells = cells_of c.args.cells.now c.args.around.now.number in
+    lent_listed c.args.around.now.frame.now c.args.around.now.number cells c.deref.result.now
+    (lent_are c.args.around.now.number cells c.deref.result.now c.in_ok-listed.listed.items c.deref.ensures.value (c.in_ok-listed.ensures {u = tt}))
+    c.requires.sized c.requires.printed
+
+pub returns-clause-count : goal.returns-clause-count
+returns-clause-count g c =
+    let cells = cells_of c.args.cells.now c.args.around.now.number in
+    let are = lent_are c.args.around.now.number cells c.deref.result.now c.in_ok-listed.listed.items c.deref.ensures.value (c.in_ok-listed.ensures {u = tt}) in
+    IfOk-weaker c.verdicts_on.result _ _
+    (λ verdicts count. count ∙ sym (length-map c.deref.result.now named) ∙ ap (λ (cs : List (Listed (List ℕ))). length cs) are ∙ length-map cells (listed_of c.args.around.now.number))
+    c.verdicts_on.ensures.count
+
+pub returns-clause-each : goal.returns-clause-each
+returns-clause-each g c = λ l.
+    let f = c.args.around.now.frame.now in
+    let cells = cells_of c.args.cells.now c.args.around.now.number in
+    let are = lent_are c.args.around.now.number cells c.deref.result.now c.in_ok-listed.listed.items c.deref.ensures.value (c.in_ok-listed.ensures {u = tt}) in
+    IfOk-weaker c.verdicts_on.result _ _
+    (λ verdicts each. subst (λ (cs : List (Listed (List ℕ))). AreVerdicts l f cs verdicts.items) are each)
+    (c.verdicts_on.ensures.each l)
