@@ -1,5 +1,5 @@
 -- The occupancy follows the cells of the table.
-use Rattle.std.proofs.Common.{◌≡◌, ◌≢◌, arith, ◌<◌, ℕ, zero, suc, List, [], ◌∷◌, map, set, get_or, Option, Some, None, ◌⊎◌, inl, inr, ⊎_elim, refl, ap, sym, subst, ◌∙◌}
+use Rattle.std.proofs.Common.{◌≡◌, ◌≢◌, arith, ℕ, zero, suc, List, [], ◌∷◌, map, set, get_or, Option, Some, None, ◌⊎◌, inl, inr, ⊎_elim, refl, ap, sym, subst, ◌∙◌}
 use Rattle.std.specs.Prelude.{All, IfSome, slice_get}
 use Rattle.std.proofs.lemmas.Bool.{cases_eq}
 use Rattle.std.proofs.lemmas.List.{get_or-set_other}

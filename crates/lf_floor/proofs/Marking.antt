@@ -7,7 +7,6 @@ use Rattle.lf_floorplan.specs.declared.frame.Frame.{Frame}
 use Rattle.lf_floorplan.specs.declared.place.Place.{Place}
 use Rattle.lf_floorplan.specs.Boxes.{IsSized, macro_of}
 use Rattle.lf_rules.specs.declared.rule.Broken.{Broken}
-use Rattle.lf_rules.specs.declared.report.Listed.{Listed}
 use Rattle.lf_rules.specs.Choice.{IsLegalAt, spot_of}
 use Rattle.lf_rules.specs.Legality.{IsTeamLegal}
 use Rattle.lf_rules.specs.Legalizer.{IsVerdict, VerdictIsOne}
@@ -15,7 +14,7 @@ use Rattle.lf_rules.specs.Team.{Member, StandsLegal, lifted_from}
 use Rattle.lf_rules.specs.Tidy.{Going, TidyKeepsLegal, point_of, target_of, tidy_cell}
 use Rattle.lf_cells.specs.declared.cell.Cell.{Cell}
 use Rattle.lf_legalize.specs.Members.{IsSizedCell, member_of}
-use Rattle.lf_reports.specs.Reports.{AreVerdicts, broken_among, verdict_at}
+use Rattle.lf_reports.specs.Reports.{AreVerdicts}
 use Rattle.lf_teams.specs.Teams.{Setting, broken_by, listed_of, trial_of_cell}
 use Rattle.lf_teams.specs.Looks.{lifted_cell}
 use Rattle.lf_teams.proofs.Standing.{some_one}

@@ -1,11 +1,11 @@
 //! The command line, and tasks over files in memory.
 
-use crate::designs::with_line;
 use crate::shelf::Shelf;
 use lf_app::{Exit, FileTexts, Task, UsageFault, command_of, perform, perform_over};
 use lf_def::W_DEF;
 use lf_files::{Exports, Unwritten};
 use lf_lef::W_LEF;
+use lf_tests_floor::with_line;
 use lf_units::Sequence;
 use std::alloc::{AllocError, Global};
 use std::io;

@@ -1,4 +1,4 @@
-use Rattle.std.proofs.Common.{◌∙◌, List, Option, sym, subst, map, ap, arith}
+use Rattle.std.proofs.Common.{◌∙◌, List, Option, sym, subst, map, ap}
 use Rattle.std.specs.Prelude.{slice_get}
 use Rattle.lf_rules.specs.declared.rule.Broken.{Broken}
 use Rattle.lf_reports.specs.declared.illegal.BrokenCell.{BrokenCell}

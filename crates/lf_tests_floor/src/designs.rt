@@ -7,29 +7,8 @@ use lf_orient::Orient;
 use lf_reports::{BrokenCell, Report, check_all, check_all_pairs, first_illegal};
 use lf_rules::{Broken, Rule};
 use lf_units::Name;
-use std::alloc::{AllocError, Global};
+use std::alloc::Global;
 use std::test::Fail;
-
-/// The text with one of its lines, numbered from 1, exchanged for another.
-pub fn with_line(
-    alloc: Global,
-    text: &[u8],
-    number: usize,
-    line: &[u8],
-) -> Result<Vec<u8>, AllocError> {
-    let mut new = Vec::new(alloc);
-    for (i, old) in text.split(|byte| *byte == b'\n').enumerate() {
-        if i > 0 {
-            new.push(b'\n')?;
-        }
-        if number.checked_sub(1) == Some(i) {
-            new.extend_from_slice(line)?;
-        } else {
-            new.extend_from_slice(old)?;
-        }
-    }
-    Ok(new)
-}
 
 /// The design of the built-in LEF text and this DEF text.
 pub fn design_of(alloc: Global, def: &[u8], limits: Limits) -> Result<Loaded, Fail> {

@@ -1,6 +1,7 @@
 //! The floor of all teams.
 
-use crate::designs::{design_of, with_line};
+use crate::designs::design_of;
+use crate::texts::with_line;
 use lf_def::W_DEF;
 use lf_floor::Floor;
 use lf_frame::{Limits, Place};

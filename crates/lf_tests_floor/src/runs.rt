@@ -1,7 +1,8 @@
 //! Runs of requests: what B has and asks plays no part in the replies to A.
 
-use crate::designs::{design_of, with_line};
+use crate::designs::design_of;
 use crate::lines::is_to;
+use crate::texts::with_line;
 use lf_def::W_DEF;
 use lf_floor::Floor;
 use lf_frame::Limits;
