@@ -1,5 +1,5 @@
 -- Work on a design, step by step: what the steps behind one give is what the whole gives.
-use Rattle.std.proofs.Common.{◌≡◌, ◌⊎◌, inl, inr, refl, subst, ℕ, List, None, Ok, Option, Some}
+use Rattle.std.proofs.Common.{◌≡◌, ◌⊎◌, inl, inr, subst, ℕ, List, None, Ok, Option, Some}
 use Rattle.std.proofs.lemmas.Bool.{false≢true}
 use Rattle.std.specs.Prelude.{IfErr, IfOk, IsSome, Result}
 use Rattle.std.proofs.lemmas.Result.{IfErr-weaker, IfOk-weaker}
@@ -12,10 +12,9 @@ use Rattle.lf_app.specs.declared.faults.Fault.{Fault}
 use Rattle.lf_app.specs.declared.faults.Fault.TheVariants.{Refused, File, ReadFault, WriteFault, TooManyLines, OutOfMemory, Output, Bind, Accept, Unwritten, NoRoom}
 use Rattle.lf_app.specs.Designs.{Gives, IsDefRefusal, IsDesignFault, IsDesignIn, IsDesignOf, IsFileDesign, IsFileFault, IsLibraryOf, IsLoadRefusal, IsLoadedIn, IsRefused, no_library}
 use Rattle.lf_app.specs.Exits.{Ends, IsEarly, Streams}
-use Rattle.lf_app.specs.Faults.{IsExportFault, no_memory}
+use Rattle.lf_app.specs.Faults.{IsExportFault}
 use Rattle.lf_app.specs.Work.{IsDone, IsFault, IsStopped}
 use Rattle.lf_app.specs.declared.work.Lines.{Lines}
-use Rattle.lf_app.specs.declared.work.Lines.TheVariants.{Stream, Port}
 use Rattle.lf_teams.specs.States.{FloorState}
 
 -- what holds of a status gives what is asked of it
@@ -87,13 +86,6 @@ pub files_fail : (gives : Gives) (path : List ℕ) (lefs : List (List ℕ)) (lib
     → IsDesignFault gives path lefs fault ⊎ ((loaded : Loaded) × IsDesignOf gives path lefs loaded × why loaded)
 files_fail gives path lefs library why fault is (inl file) = inl (inr (library, is, file))
 files_fail gives path lefs library why fault is (inr work) = inr (work.0, (library, is, work.1), work.2)
-
--- want of memory for the floor stops the work on a design
-pub start_stopped : (export : Option (List ℕ)) (lines : Lines) (loaded : Loaded) (io : Streams) → IsStopped export lines loaded no_memory io
-start_stopped None Stream loaded io = inl refl
-start_stopped None (Port port connections) loaded io = inl refl
-start_stopped (Some path) Stream loaded io = inl (inl refl)
-start_stopped (Some path) (Port port connections) loaded io = inl (inl refl)
 
 -- so does what stops its lines
 pub lines_stopped : (export : Option (List ℕ)) (lines : Lines) (loaded : Loaded) (io : Streams) (fault : Fault) → IsFault lines loaded fault io

@@ -1,7 +1,7 @@
 -- What the end of a change makes of the tables.
 use Rattle.std.proofs.Common.{◌≡◌, ℕ, ◌+◌, List, [], ◌∷◌, length, map, take, Option, Some, refl, ap, subst, ◌∙◌}
 use Rattle.std.specs.Prelude.{slice_set, slice_index_or}
-use Rattle.std.proofs.lemmas.List.{length-set, get_or-set_same, get_or-set_other}
+use Rattle.std.proofs.lemmas.List.{length-set, get_or-set_same}
 use Rattle.lf_floorplan.specs.declared.place.Place.{Place}
 use Rattle.lf_cells.specs.declared.cell.Cell.{Cell}
 use Rattle.lf_cells.specs.Cells.{Cells, cells_of}
@@ -17,7 +17,7 @@ use Rattle.lf_teams.specs.Outcomes.{Reaches, RunsOut, changed, places_of, record
 use Rattle.lf_teams.specs.Teams.{Setting}
 use Rattle.lf_teams.specs.States.{TeamState}
 use Rattle.lf_floor.specs.declared.tables.Tables.{Tables}
-use Rattle.lf_floor.specs.Tables.{Counts, HasRows, HaveMoved, OthersStay, SameButPlaces, kept, own_team, revision_of, team_with}
+use Rattle.lf_floor.specs.Tables.{Counts, HasRows, HaveMoved, SameButPlaces, kept, own_team, revision_of, team_with}
 use Rattle.lf_floor.specs.declared.tidy.Tidy.{Tidy}
 use Rattle.lf_floor.specs.declared.tidy.Tidy.TheVariants.{Done, Stopped}
 use Rattle.lf_floor.specs.Tidying.{Tidies}
@@ -58,40 +58,6 @@ counted_own k session old new rows counts =
 
 -- ---- a stack changes
 
--- only the team of that number may differ where its undo stack has changed
-pub others_by_undo : (k : ℕ) (old : Tables) (undo : Stacks (List Move)) (stack : List (List Move)) → undo.lists ≡ slice_set old.undo.lists k stack
-    → undo.limit ≡ old.undo.limit
-    → OthersStay k old (record old { undo = undo })
-others_by_undo k old undo stack lists limit = record {
-  teams = λ other differ.
-      ap (λ (xs : List (List Move)). team_of (cells_of old.cells other) (revision_of old other) (entries_of (places_of (cells_of old.cells other)) xs) (slots_of old.sessions other))
-      (ap (λ (xs : List (List (List Move))). slice_index_or xs other []) lists ∙ get_or-set_other old.undo.lists k other stack [] differ);
-  components = refl;
-  undo = ap (λ (xs : List (List (List Move))). length xs) lists ∙ length-set old.undo.lists k stack;
-  sessions = refl;
-  revisions = refl;
-  limit = limit;
-}
-
-pub others_by_count : (k session : ℕ) (old new : Tables) → Counts k session old new → OthersStay k old new
-others_by_count k session old new counts = record {
-  teams = λ other differ.
-      ap (λ (cs : Cells). team_with other (cells_of cs other) new) counts.cells
-      ∙ ap (λ (n : ℕ). team_of (cells_of old.cells other) n (entries_of (places_of (cells_of old.cells other)) (stack_of new.undo other)) (slots_of new.sessions other))
-      (ap (λ (xs : List ℕ). slice_index_or xs other 0) counts.revisions ∙ get_or-set_other old.revisions.items k other (revision_of old k + 1) 0 differ)
-      ∙ ap (λ (u : Stacks (List Move)). team_of (cells_of old.cells other) (revision_of old other) (entries_of (places_of (cells_of old.cells other)) (stack_of u other)) (slots_of new.sessions other)) counts.undo
-      ∙ ap (λ (ss : List (Option ℕ)). team_of (cells_of old.cells other) (revision_of old other) (entries_of (places_of (cells_of old.cells other)) (stack_of old.undo other)) ss)
-      (ap (λ (xs : List (List (Option ℕ))). slots_of xs other) counts.sessions
-      ∙ get_or-set_other old.sessions k other (slice_set (slots_of old.sessions k) session (Some (revision_of old k + 1))) [] differ);
-  components = ap (λ (cs : Cells). cs.components) counts.cells;
-  undo = ap (λ (u : Stacks (List Move)). length u.lists) counts.undo;
-  sessions =
-      ap (λ (xs : List (List (Option ℕ))). length xs) counts.sessions
-      ∙ length-set old.sessions k (slice_set (slots_of old.sessions k) session (Some (revision_of old k + 1)));
-  revisions = ap (λ (xs : List ℕ). length xs) counts.revisions ∙ length-set old.revisions.items k (revision_of old k + 1);
-  limit = ap (λ (u : Stacks (List Move)). u.limit) counts.undo;
-}
-
 -- ---- a change is kept
 
 -- the rows are there still, where only the undo stacks have changed
@@ -114,15 +80,6 @@ kept_team k session before moves old undo new rows lists counts have =
     (ap (λ (xs : List (List (List Move))). slice_index_or xs k []) lists ∙ get_or-set_same old.undo.lists k stack [] rows.undo)
     ∙ ap (λ (es : List (List (Option Place))). team_of now (revision_of old k + 1) es slots)
     (grow_entries (places_of before) (places_of now) moves (stack_of old.undo k) old.undo.limit have.places)
-
--- the team whose moves were taken back
-pub back_team : (k : ℕ) (before : List Cell) (old new : Tables) → cells_of new.cells k ≡ before → revision_of new k ≡ revision_of old k
-    → stack_of new.undo k ≡ stack_of old.undo k → slots_of new.sessions k ≡ slots_of old.sessions k → own_team k new ≡ team_with k before old
-back_team k before old new cells revision stack slots =
-    ap (λ (cs : List Cell). team_with k cs new) cells
-    ∙ ap (λ (n : ℕ). team_of before n (entries_of (places_of before) (stack_of new.undo k)) (slots_of new.sessions k)) revision
-    ∙ ap (λ (xs : List (List Move)). team_of before (revision_of old k) (entries_of (places_of before) xs) (slots_of new.sessions k)) stack
-    ∙ ap (λ (ss : List (Option ℕ)). team_of before (revision_of old k) (entries_of (places_of before) (stack_of old.undo k)) ss) slots
 
 -- ---- a change of a whole team
 

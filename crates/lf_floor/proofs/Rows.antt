@@ -14,7 +14,6 @@ use Rattle.lf_cells.specs.Openings.{own_cells, own_components}
 use Rattle.lf_undo.specs.Stacks.{stack_of}
 use Rattle.lf_undo.specs.Entries.{entries_of}
 use Rattle.lf_undo.specs.declared.moves.Move.{Move}
-use Rattle.lf_occupancy.specs.Occupied.{Occupied}
 use Rattle.lf_sessions.specs.Slots.{slots_of}
 use Rattle.lf_teams.specs.Outcomes.{places_of}
 use Rattle.lf_teams.specs.States.{TeamState, FloorState}
@@ -94,44 +93,12 @@ pub others_stay : (number : ℕ) (tables : Tables) → OthersStay number tables 
 others_stay number tables =
     record { teams = λ other differ. refl; components = refl; undo = refl; sessions = refl; revisions = refl; limit = refl }
 
-pub others_through : (number : ℕ) (a b c : Tables) → OthersStay number a b → OthersStay number b c → OthersStay number a c
-others_through number a b c ab bc = record {
-  teams = λ other differ. bc.teams other differ ∙ ab.teams other differ;
-  components = bc.components ∙ ab.components;
-  undo = bc.undo ∙ ab.undo;
-  sessions = bc.sessions ∙ ab.sessions;
-  revisions = bc.revisions ∙ ab.revisions;
-  limit = bc.limit ∙ ab.limit;
-}
-
--- where only cells have changed, and the occupancy with them
-pub others_by_cells : (number : ℕ) (tables : Tables) (cells : Cells) (occupancy : Option Occupied) → OtherCellsStay number tables.cells cells
-    → OthersStay number tables (record tables { cells = cells; occupancy = occupancy })
-others_by_cells number tables cells occupancy others = record {
-  teams = λ other differ. ap (λ (cs : List Cell). team_with other cs tables) (others.cells other differ);
-  components = others.components;
-  undo = refl;
-  sessions = refl;
-  revisions = refl;
-  limit = refl;
-}
-
 pub cells_stay : (number : ℕ) (cells : Cells) → OtherCellsStay number cells cells
 cells_stay number cells = record { cells = λ other differ. refl; components = refl }
 
 pub cells_through : (number : ℕ) (a b c : Cells) → OtherCellsStay number a b → OtherCellsStay number b c → OtherCellsStay number a c
 cells_through number a b c ab bc =
     record { cells = λ other differ. bc.cells other differ ∙ ab.cells other differ; components = bc.components ∙ ab.components }
-
--- the tables keep their rows
-pub tables_kept : (f : Frame) (number : ℕ) (old new : Tables) → OthersStay number old new → AreTablesOf f old → AreTablesOf f new
-tables_kept f number old new others of_frame = record {
-  components = ap (λ (cs : List (List ℕ)). length cs) others.components ∙ of_frame.components;
-  undo = others.undo ∙ of_frame.undo;
-  sessions = others.sessions ∙ of_frame.sessions;
-  revisions = others.revisions ∙ of_frame.revisions;
-  limit = others.limit ∙ of_frame.limit;
-}
 
 -- ---- the teams of a design as it is loaded
 

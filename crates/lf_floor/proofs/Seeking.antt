@@ -85,7 +85,3 @@ pub one_more_told : {X Y : Type 0} (f : X → Y) (xs : List X) (k : ℕ) (y : Y)
 one_more_told f [] k y is = absurd cc
 one_more_told f (x ∷ xs) zero y is = ap (λ r. r ∷ []) (sym (some_one is))
 one_more_told f (x ∷ xs) (suc k) y is = let at : suc k + 1 ≡ suc (k + 1) = omega arith in rw at (ap (λ r. f x ∷ r) (one_more_told f xs k y is))
-
-pub working_told : (o : Option Cell) (s : Standing) → Some s ≡ option_map standing_of o → Some s.working ≡ option_map (λ (c : Cell). c.working) o
-working_told None s is = absurd cc
-working_told (Some c) s is = ap (λ (x : Option Standing). option_map (λ (y : Standing). y.working) x) is

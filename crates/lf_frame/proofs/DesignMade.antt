@@ -1,8 +1,7 @@
 -- The cells of an accepted design make a design on its frame.
 use Rattle.std.proofs.Common.{◌≡◌, ◌≢◌, ℕ, zero, suc, ◌+◌, ◌<◌, ◌≤◌, ◌⊎◌, inl, inr, Bool, true, false, List, [], ◌∷◌, length, get_or, Option, None, Some, refl, sym, ap, ◌∙◌, arith}
-use Rattle.std.specs.Prelude.{All, AllPairs, Any, IsSome, IfSome, filter, not, ◌&&◌, nat_le, slice_get}
+use Rattle.std.specs.Prelude.{All, AllPairs, IsSome, IfSome, filter, not, nat_le, slice_get}
 use Rattle.std.specs.List.{AllZip, enumerate_from}
-use Rattle.std.specs.Option.{ForSome}
 use Rattle.std.proofs.lemmas.Bool.{false≢true, and_parts, leb-true}
 use Rattle.std.proofs.lemmas.Grind.{common_steps}
 use Rattle.std.proofs.lemmas.List.{get_or_default}
@@ -67,9 +66,6 @@ pairs_right {A} {B} {R} P Q d xs ys zip each pairs i j e below within =
 all_numbered : (P : Component → Type 0) (n : ℕ) (cs : List Component) → All P cs → All (λ e. P e.1) (enumerate_from n cs)
 all_numbered P n [] all = All-nil (λ e. P e.1)
 all_numbered P n (c ∷ cs) all = All-cons (λ e. P e.1) (n, c) (enumerate_from (n + 1) cs) (All-head P c cs all) (all_numbered P (n + 1) cs (All-tail P c cs all))
-
-all_both : {A : Type 0} (P Q : A → Type 0) (xs : List A) → All P xs → All Q xs → All (λ x. P x × Q x) xs
-all_both P Q xs p q k d within = (p k d within, q k d within)
 
 -- a movable component is not COVER
 uncovered : (c : Component) → is_movable c ≡ true → is_cover c ≡ false

@@ -1,7 +1,7 @@
 -- Rectangles that hold rows, and the nearest values of a range.
-use Rattle.std.proofs.Common.{◌≡◌, ◌⊎◌, inl, inr, ℕ, ℤ, pos, negsuc, ◌+◌, ◌≤◌, ◌<◌, ◌+ℤ◌, ◌-ℤ◌, ◌≤ℤ◌}
-use Rattle.std.proofs.Common.{◌<ℤ◌, arith, List, length, get_or, ◌*◌, ◌*ℤ◌, refl, sym, ap, ◌∙◌, subst, slice_get, Some}
-use Rattle.std.specs.Prelude.{All, unsigned_abs}
+use Rattle.std.proofs.Common.{◌≡◌, ◌⊎◌, inl, inr, ℕ, ℤ, pos, negsuc, ◌+◌, ◌≤◌, ◌<◌, ◌+ℤ◌, ◌≤ℤ◌}
+use Rattle.std.proofs.Common.{◌<ℤ◌, arith, List, length, get_or, ◌*◌, ◌*ℤ◌, sym, ap, ◌∙◌, subst, slice_get, Some}
+use Rattle.std.specs.Prelude.{All}
 use Rattle.std.proofs.lemmas.Int.{ints, clamps}
 use Rattle.std.proofs.lemmas.Option.{slice_get-get_or}
 use Rattle.lf_units.specs.declared.area.Point.{Point}
@@ -11,16 +11,6 @@ use Rattle.lf_floorplan.specs.Rows.{IsHeeded, row_area}
 use Rattle.lf_floorplan.specs.declared.parts.Row.{Row}
 use Rattle.lf_floorplan.proofs.SizeBounds.{IsSmall}
 use Rattle.lf_legalize.specs.Extents.{IsInside, IsNearestIn, hull}
-
--- a number that is not negative is its absolute value
-pub abs_pos : (v : ℤ) → pos 0 ≤ℤ v → pos (unsigned_abs v) ≡ v
-abs_pos (pos n) h = refl
-abs_pos (negsuc n) h = absurd (omega (arith, ints))
-
--- and a negative one is less than it
-pub abs_neg : (v : ℤ) → v ≤ℤ pos 0 → pos (unsigned_abs v) ≡ (pos 0 -ℤ v)
-abs_neg (pos n) h = omega (arith, ints)
-abs_neg (negsuc n) h = omega (arith, ints)
 
 -- a rectangle that holds two others, and is as near the coordinates of DEF as they are
 pub record IsHull (a b new : Rect) : Type 0 where

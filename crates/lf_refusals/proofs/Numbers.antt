@@ -40,33 +40,6 @@ one_number m n same = sym (number_back m) ∙ ap numbered same ∙ number_back n
 abbrev pub NoneBelow : Inputs → ℕ → Type 0
 NoneBelow i number = (n : FaultNumber) → number_of n < number → Finds i n None
 
--- readers' refusals find nothing
-pub readers_find_nothing : (i : Inputs) → NoneBelow i 7
-readers_find_nothing i BadToken below = refl
-readers_find_nothing i UnexpectedEnd below = refl
-readers_find_nothing i Unexpected below = refl
-readers_find_nothing i BadNumber below = refl
-readers_find_nothing i WrongEnd below = refl
-readers_find_nothing i UnknownStatement below = refl
-readers_find_nothing i NoUnits below = absurd (omega arith)
-readers_find_nothing i NoSite below = absurd (omega arith)
-readers_find_nothing i NoRows below = absurd (omega arith)
-readers_find_nothing i VerticalRow below = absurd (omega arith)
-readers_find_nothing i BadStep below = absurd (omega arith)
-readers_find_nothing i RowOrient below = absurd (omega arith)
-readers_find_nothing i RowsOverlap below = absurd (omega arith)
-readers_find_nothing i NoMacro below = absurd (omega arith)
-readers_find_nothing i NoSize below = absurd (omega arith)
-readers_find_nothing i NotWhole below = absurd (omega arith)
-readers_find_nothing i SecondName below = absurd (omega arith)
-readers_find_nothing i SecondRegion below = absurd (omega arith)
-readers_find_nothing i NoRegion below = absurd (omega arith)
-readers_find_nothing i TeamName below = absurd (omega arith)
-readers_find_nothing i FencesOverlap below = absurd (omega arith)
-readers_find_nothing i TwoFences below = absurd (omega arith)
-readers_find_nothing i TooMany below = absurd (omega arith)
-readers_find_nothing i OutOfMemory below = absurd (omega arith)
-
 pub none_at_all : (i : Inputs) → NoneBelow i 24 → IsAccepted i
 none_at_all i before BadToken = before BadToken (omega arith)
 none_at_all i before UnexpectedEnd = before UnexpectedEnd (omega arith)

@@ -1,18 +1,15 @@
 -- What the loops of a report gather.
-use Rattle.std.proofs.Common.{◌≡◌, ℕ, zero, suc, ◌+◌, List, [], ◌∷◌, ◌++◌, not, eqb, map, filter, Option, Some, None, refl, ap, subst, sym, ◌∙◌, arith}
+use Rattle.std.proofs.Common.{◌≡◌, ℕ, zero, suc, ◌+◌, List, [], ◌∷◌, ◌++◌, not, eqb, map, filter, Option, Some, None, refl, ap, sym, ◌∙◌, arith}
 use Rattle.std.specs.Prelude.{slice_get, filter_map, option_map, option_and_then}
 use Rattle.std.specs.List.{range_with_len, cons_option}
 use Rattle.std.specs.Borrow.{Bor}
 use Rattle.lf_floorplan.specs.declared.frame.Frame.{Frame}
-use Rattle.lf_floorplan.specs.declared.macros.Macro.{Macro}
 use Rattle.lf_floorplan.specs.declared.place.Place.{Place}
-use Rattle.lf_floorplan.specs.Boxes.{macro_of}
 use Rattle.lf_rules.specs.declared.rule.Broken.{Broken}
 use Rattle.lf_rtree.specs.declared.placed.Placed.{Placed}
 use Rattle.lf_rules.specs.declared.report.Listed.{Listed}
-use Rattle.lf_rules.specs.Legality.{trial_of}
 use Rattle.lf_rules.specs.Legalizer.{Legalizer, IsVerdict, VerdictIsOne}
-use Rattle.lf_rules.specs.Team.{boxes_from, boxes_beside}
+use Rattle.lf_rules.specs.Team.{boxes_from}
 use Rattle.lf_reports.specs.Reports.{IsListed, named, member_of, trial_among, broken_among, violation_of, violation_by, violation_at}
 
 -- the boxes of the cells from that number on, but for the cell `own`
@@ -24,12 +21,6 @@ pub broken_is : (l : Legalizer) (f : Frame) (cells : List (Listed (List ℕ))) (
     VerdictIsOne → IsListed f c → IsVerdict (trial_among f cells own c place) found → found ≡ l.first_broken (trial_among f cells own c place)
 broken_is l f cells own c place found one listed verdict =
     one (trial_among f cells own c place) found (l.first_broken (trial_among f cells own c place)) verdict (l.finds_first_broken (trial_among f cells own c place) listed.sized)
-
--- the trial of the macro and the boxes that the code has is the cell's
-pub trial_is : (f : Frame) (cells : List (Listed (List ℕ))) (own : ℕ) (c : Listed (List ℕ)) (mac : Macro) (place : Place) (others : List Placed) (found : Option Broken) → mac ≡ macro_of f c.mac →
-    others ≡ boxes_beside f (map member_of cells) own → IsVerdict (trial_of f c.team mac place others) found → IsVerdict (trial_among f cells own c place) found
-trial_is f cells own c mac place others found is beside verdict =
-    subst (λ (os : List Placed). IsVerdict (trial_of f c.team (macro_of f c.mac) place os) found) beside (subst (λ (m : Macro). IsVerdict (trial_of f c.team m place others) found) is verdict)
 
 -- what a number more adds to the list of what is found at each
 found_more : {Y : Type 0} (g : ℕ → Option Y) (a n : ℕ) →

@@ -1,12 +1,12 @@
 -- The least number of a list of boxes from those of its parts.
 use Rattle.std.proofs.Common.{◌≡◌, ◌≢◌, inl, inr, ℕ, List, [], ◌∷◌, ◌++◌, Option, Some, None, refl, sym, ap, subst, ◌∙◌, ◌+◌, ◌-◌, ◌<◌, length, get_or, take, drop, arith}
-use Rattle.std.specs.Prelude.{All, IfSome, IsSomeAnd, MatchOption, IsPermutation}
+use Rattle.std.specs.Prelude.{All, IfSome, IsSomeAnd, IsPermutation}
 use Rattle.std.proofs.lemmas.List.Elements.{All-append, All-weaker, Contains-append_left, Contains-append_right}
 use Rattle.std.proofs.lemmas.List.{map-append, take_more}
 use Rattle.std.proofs.lemmas.List.Sorted.{All-permutation, Contains-permutation, IsPermutation-append_comm, IsPermutation-sym, IsPermutation-middle}
 use Rattle.lf_units.specs.Area.{SharesPoint}
 use Rattle.lf_units.specs.declared.area.Rect.{Rect}
-use Rattle.lf_rtree.specs.Near.{IsMet, IsLeastMet, IsNoneMet}
+use Rattle.lf_rtree.specs.Near.{IsMet}
 use Rattle.lf_rtree.specs.Packed.{IsBound, IsUpTo, IsLeastOf, HoldsNoLess, boxes_of}
 use Rattle.lf_rtree.specs.declared.placed.Placed.{Placed}
 use Rattle.lf_rtree.specs.declared.bound.Bound.{Bound}
@@ -135,13 +135,4 @@ least_kept bound boxes rect but a within low = record {
   least_met =
       All-weaker (IsBound bound) (λ p. p.own ≢ but → SharesPoint rect p.rect → IsUpTo a p.own)
       (λ p held other shares. low p held shares) boxes within;
-}
-
--- the least of a whole list, with no number before it
-pub least_of_all : (boxes : List Placed) (rect : Rect) (but : ℕ) (least : Option ℕ) → IsLeastOf boxes rect but None least →
-    MatchOption least (IsNoneMet boxes rect but) (IsLeastMet boxes rect but)
-least_of_all boxes rect but None of = of.least_met
-least_of_all boxes rect but (Some own) of = record {
-  met = elim of.from [ inl none ↦ cc | inr m ↦ m ];
-  least = of.least_met;
 }

@@ -20,7 +20,7 @@ use Rattle.lf_teams.specs.Outcomes.{Outcome, is_short, may_be_short}
 use Rattle.lf_teams.specs.Verbs.{outcome_of, takes_memory}
 use Rattle.lf_teams.proofs.Answering.{some_short}
 use Rattle.lf_teams.proofs.Cases.{order_by}
-use Rattle.lf_server.specs.Exchanges.{RefusesLine, StandsIn, StepsOn, Tells, is_long, team_of, text_of}
+use Rattle.lf_server.specs.Exchanges.{StandsIn, Tells, is_long, team_of, text_of}
 use Rattle.lf_server.specs.Progress.{IsAnswered}
 
 -- an outcome that carries a long text leaves the team as it was, and the order takes memory
@@ -110,10 +110,6 @@ told_on l old new command reply text step tells = by tells.stands_in
 pub tells_short : (floor : FloorState) (team : List ℕ) (reply : Reply) (text : List ℕ) → is_long reply ≡ true
     → text ≡ text_of floor team (Refused OutOfMemory) → Tells floor team reply text
 tells_short floor team reply text long is = record { told = Refused OutOfMemory; stands_in = inr (long, refl); text_is = is }
-
--- the reply itself is told
-pub tells_itself : (floor : FloorState) (team : List ℕ) (reply : Reply) (text : List ℕ) → text ≡ text_of floor team reply → Tells floor team reply text
-tells_itself floor team reply text is = record { told = reply; stands_in = inl refl; text_is = is }
 
 -- a request is answered by its step
 pub answers_request : (l : Legalizer) (old new : FloorState) (asked : Option (Command (List ℕ) Place)) (command : Command (List ℕ) Place)

@@ -333,7 +333,3 @@ piece_stop l w v u p q r old mid new a b c piece at used (Some found) ending is 
 
 pub piece_done : (l : Legalizer) (w v : Writer) (p q : ℕ) (old mid : FloorState) (a b : Option (List ℕ)) (piece : List ℕ) (at : ℕ) → length piece ≤ at → Goes l w v p q old mid a b piece (drop at piece) → Goes l w v p q old mid a b piece []
 piece_done l w v p q old mid a b piece at past first = subst (Goes l w v p q old mid a b piece) (drop_all at piece past) first
-
--- what was counted
-pub counts_down : (l : Legalizer) (w v : Writer) (p q : ℕ) (old mid : FloorState) (a b : Option (List ℕ)) (x y : List ℕ) → Goes l w v p q old mid a b x y → q ≤ p
-counts_down l w v p q old mid a b x y first = omega (arith, first.counts)

@@ -1,5 +1,5 @@
 -- When the cells of a team stand at team-legal places.
-use Rattle.std.proofs.Common.{◌≡◌, ◌≢◌, ℕ, zero, suc, ◌+◌, ◌<◌, List, [], ◌∷◌, not, cond, eqb, length, map, filter, Option, Some, None, negsuc, ◌<ℤ◌, refl, ap, sym, ◌∙◌, subst, arith}
+use Rattle.std.proofs.Common.{◌≡◌, ◌≢◌, ℕ, zero, suc, ◌+◌, ◌<◌, List, [], ◌∷◌, not, cond, eqb, length, map, filter, Option, Some, None, refl, ap, sym, ◌∙◌, subst, arith}
 use Rattle.std.specs.Prelude.{All, slice_get, bytes_eq, option_map, option_and_then, MatchOption}
 use Rattle.std.specs.List.{position_from}
 use Rattle.std.proofs.lemmas.Bool.{eq-eqb}
@@ -14,7 +14,6 @@ use Rattle.lf_rtree.specs.declared.placed.Placed.{Placed}
 use Rattle.lf_rules.specs.Choice.{Spot, Lifted, spot_of, trial_at, IsLegalAt, LegalInRange}
 use Rattle.lf_rules.specs.Legalizer.{IsVerdict}
 use Rattle.lf_rules.specs.Team.{Member, with_box, boxes_from, boxes_beside, lifted_from, StandsLegal}
-use Rattle.lf_proto.specs.Requests.{in_def}
 use Rattle.lf_proto.proofs.Places.{place_at-some}
 use Rattle.lf_cells.specs.declared.cell.Cell.{Cell}
 use Rattle.lf_teams.specs.Teams.{Setting, trial_of_cell, broken_at, broken_by}
@@ -81,16 +80,6 @@ named_alike name old new same =
     ∙ sym (position_from-zero (λ (c : Cell). bytes_eq c.name name) old)
 
 -- ---- a place over whole numbers as one of the program
-
-spot_back : (p : Spot) (q : Place) (a : Option (negsuc 2147483647 <ℤ p.x)) (b : Option (negsuc 2147483647 <ℤ p.y))
-    → option_and_then (λ left. option_and_then (λ up. Some (record { x = p.x; y = p.y; orient = p.orient; x_in_def = left; y_in_def = up })) b) a ≡ Some q → spot_of q ≡ p
-spot_back p q None b e = absurd cc
-spot_back p q (Some left) None e = absurd cc
-spot_back p q (Some left) (Some up) e = sym (ap spot_of (some_one e))
-
--- it has that corner and orientation
-pub spot_is : (p : Spot) (q : Place) → place_of_spot p ≡ Some q → spot_of q ≡ p
-spot_is p q e = spot_back p q (in_def p.x) (in_def p.y) e
 
 -- a legal place is one of the program
 pub place_is : LegalInRange → (c : Lifted) (p : Spot) → IsSized c.frame c.mac → IsLegalAt c p → (q : Place) × (place_of_spot p ≡ Some q) × (spot_of q ≡ p)

@@ -5,7 +5,6 @@ use Rattle.lf_floorplan.specs.declared.place.Place.{Place}
 use Rattle.lf_rules.specs.Tidy.{Tidied, Stuck, tidied}
 use Rattle.lf_proto.specs.declared.request.Order.{Order}
 use Rattle.lf_proto.specs.declared.request.Order.TheVariants.{Open, Within}
-use Rattle.lf_proto.specs.declared.request.Action.{Action}
 use Rattle.lf_proto.specs.declared.request.Action.TheVariants.{Close, Sync, Check, Def, Where, Find, Change as Changing}
 use Rattle.lf_proto.specs.declared.request.Change.{Change}
 use Rattle.lf_proto.specs.declared.request.Change.TheVariants.{Tidy, Undo, Commit, Revert}
@@ -23,11 +22,6 @@ use Rattle.lf_legalize.specs.Members.{member_of}
 use Rattle.lf_teams.specs.VerbLaws.{MayChange, Leads, is_accepted, is_recorded, is_commit, outcome_of_asking}
 use Rattle.lf_teams.proofs.Cases.{verb_by, asking}
 use Rattle.lf_teams.proofs.Kept.{moved_part, restored_part, exchanged_part, back_part, same_length, false_true}
-
--- it is a change
-abbrev IsChange : Action (List ℕ) Place → Type 0
-IsChange (Changing change) = Unit {0}
-IsChange _ = ⊥
 
 -- ---- a session that may change
 

@@ -1,5 +1,5 @@
 -- Two rectangles share a point exactly where their edges say so.
-use Rattle.std.proofs.Common.{ℤ, ◌≤ℤ◌, ◌<ℤ◌, arith, ◌⊎◌, inl, inr}
+use Rattle.std.proofs.Common.{ℤ, ◌≤ℤ◌, ◌<ℤ◌, arith}
 use Rattle.std.proofs.lemmas.Int.{ints, by_lt_z}
 use Rattle.lf_units.specs.declared.area.Rect.{Rect}
 use Rattle.lf_units.specs.Area.{Covers, SharesPoint}
@@ -55,11 +55,5 @@ shared_of_edges a b e =
 -- a point lies in a rectangle by its edges
 pub covers_by_edges : (r : Rect) (x y : ℤ) → r.x1 ≤ℤ x → x <ℤ r.x2 → r.y1 ≤ℤ y → y <ℤ r.y2 → Covers r x y
 covers_by_edges r x y a b c d = record { left = a; right = b; bottom = c; top = d }
-
-pub empty_of_edges : (r : Rect) → ((r.x2 ≤ℤ r.x1) ⊎ (r.y2 ≤ℤ r.y1)) → (x y : ℤ) → Covers r x y → ⊥
-empty_of_edges r e x y c = elim e [ inl h ↦ omega (arith, ints) | inr h ↦ omega (arith, ints) ]
-
-pub corner_of_edges : (r : Rect) → r.x1 <ℤ r.x2 → r.y1 <ℤ r.y2 → Covers r r.x1 r.y1
-corner_of_edges r h v = record { left = omega (arith, ints); right = h; bottom = omega (arith, ints); top = v }
 
 pub ruleset edges = (ints, edges_of_shared, shared_of_edges, covers_by_edges)

@@ -2,5 +2,4 @@ pub mod Any
 pub mod Bounds
 pub mod Digits
 pub mod Edges
-pub mod Pairs
 pub mod Same
