@@ -104,7 +104,8 @@ fn best_within(
 
 /// The best place of the cell, where no legal one is farther from the target than `farthest`.
 ///
-/// It looks at the places near the target first, and at ones twice as far while there is none.
+/// It looks at places less than a row's height away first, which lie on the row of the target's y where there is one, and
+/// then at ones twice as far while there is none.
 pub(crate) fn nearest(
     alloc: Global,
     search: &RowSearch<'_>,
@@ -117,7 +118,7 @@ pub(crate) fn nearest(
     requires all { (p : Spot) → IsLegalAt (lifted_in search.now) p → IsWithin search.now.target.now farthest p }
     ensures { IfOk result (λ found. IsChoice (lifted_in search.now) search.now.target.now (option_map spot_of found)) }
 {
-    let mut reach = 2 * search.frame.pitch.y as u64;
+    let mut reach = (search.frame.pitch.y as u64).max(2) - 1;
     while reach < farthest {
         let best = best_within(alloc, search, reach)?;
         if best.is_some() {
