@@ -5,3 +5,5 @@
 mod shelf;
 #[cfg(test)]
 mod tasks;
+#[cfg(test)]
+mod words;
