@@ -1,5 +1,6 @@
 #!/usr/bin/env python3
-"""Asks a floor to look for places and to move cells, and prints microseconds per command, and seconds of whole teams' commands.
+"""Asks a floor to look for places and to move cells, and prints microseconds per command, and seconds of whole teams' commands: the
+best of three runs of each.
 
 usage: bench/place.py [COUNT ...]    (10000 100000 1000000; from the top; the program crates/lefence is proved and built first:
                                       rt run there)
@@ -18,6 +19,7 @@ import time
 
 from load import LEFENCE, need, write
 
+RUNS = 3
 ASKED = 500    # commands of a verb
 
 
@@ -87,6 +89,16 @@ class Program:
         self.child.wait()
 
 
+def best(asked, lef, def_, teams):
+    """Of each of these lists of commands the best time of all runs, in seconds times its factor; a run asks them one after another."""
+    found = [float("inf")] * len(asked)
+    for _ in range(RUNS):
+        program = Program(lef, def_, teams)
+        found = [min(time_, program.ask(lines) * factor) for time_, (lines, factor) in zip(found, asked)]
+        program.end()
+    return found
+
+
 def main():
     counts = [int(word) for word in sys.argv[1:]] or [10_000, 100_000, 1_000_000]
     need(LEFENCE)
@@ -101,16 +113,13 @@ def main():
                     write(def_, "packed", count, fences, percent)
                     teams = cells_of(def_)
                     told = verbs(teams)
-                    program = Program(lef, def_, teams)
-                    times = [program.ask(lines) / len(lines) * 1e6 for lines in told.values()]
-                    program.end()
+                    times = best([(lines, 1e6 / len(lines)) for lines in told.values()], lef, def_, teams)
                     write(def_, "packed", count, fences, percent, 10)
                     all_teams = [f"f{fence}" for fence in range(fences)] + ["-"]
-                    program = Program(lef, def_, all_teams)
-                    whole = [program.ask([f"{verb} {team} 0\n" for team in all_teams]) for verb in ("tidy", "commit", "check")]
-                    program.end()
+                    whole = [([f"{verb} {team} 0\n" for team in all_teams], 1) for verb in ("tidy", "commit", "check")]
+                    whole = best(whole, lef, def_, all_teams)
                     print(f"{count:>8} {fences:>6} {percent:>3}" + "".join(f" {t:{w}.1f}" for t, w in zip(times, (7, 7, 7, 7, 8, 7, 7)))
-                          + "    " + "".join(f" {t:7.2f}" for t in whole), flush=True)
+                          + "    " + "".join(f" {t:7.3f}" for t in whole), flush=True)
 
 
 if __name__ == "__main__":
