@@ -1,5 +1,6 @@
 //! The design of a row: the built-in texts with some of their lines exchanged.
 
+use crate::reading::{put_document, put_library};
 use lf_app::{Fault, answer_lines, write_fault};
 use lf_def::{DefDoc, W_DEF, read_def};
 use lf_floor::Floor;
@@ -16,6 +17,8 @@ use std::io::Write;
 /// What is asked of a design.
 #[derive(Clone, Copy)]
 pub struct Asked<'a> {
+    /// Whether it is asked what its texts say, and nothing else.
+    pub is_read: bool,
     /// Whether its report is asked for.
     pub is_checked: bool,
     /// Whether only the seeker by index answers, and not the plain one beside it.
@@ -119,8 +122,8 @@ impl Design {
         self.limits = limits;
     }
 
-    /// Writes what the design answers: its refusal, or `loaded`, its report where it is asked for, and the replies to the
-    /// lines; those of the plain seeker too, where they differ.
+    /// Writes what the design answers: its refusal, or what its texts say, where that is asked; or else `loaded`, its report
+    /// where it is asked for, and the replies to the lines; those of the plain seeker too, where they differ.
     pub fn answer<W: Write>(&self, asked: &Asked<'_>, writer: &mut W) -> io::Result<()> {
         let mut library = Library::new(self.alloc);
         match read_lef(&mut library, &self.lef) {
@@ -150,6 +153,10 @@ impl Design {
         asked: &Asked<'_>,
         writer: &mut W,
     ) -> io::Result<()> {
+        if asked.is_read {
+            put_library(writer, library)?;
+            return put_document(writer, document);
+        }
         match load(self.alloc, library, document, self.limits) {
             Ok(loaded) => {
                 put_head(self.alloc, &loaded, asked.is_checked, writer)?;

@@ -13,13 +13,15 @@
 //!
 //! `lef` and `def` exchange a line of the design's texts for another, or for several with `~` between them, and lines are
 //! numbered as they stand by then; `cut` keeps the first lines of a text alone; `limits` are those of rows, fences,
-//! components, sessions, undo entries and revisions; `check` asks for the report of the design. All other lines are
-//! requests, but empty ones, which part rows. What is written of a row is the refusal of its design; or `loaded`, the
-//! report if it is asked for, and the replies. Each row is answered twice, its places looked for by index and by a look at
-//! every site, and replies that differ are written too; `= index` leaves the second out.
+//! components, sessions, undo entries and revisions; `check` asks for the report of the design; `read` asks what the texts
+//! say and nothing else (`reading`). All other lines are requests, but empty ones, which part rows. What is written of a
+//! row is the refusal of its design; or what its texts say; or `loaded`, the report if it is asked for, and the replies.
+//! Each row is answered twice, its places looked for by index and by a look at every site, and replies that differ are
+//! written too; `= index` leaves the second out.
 #![tactic(auto)]
 
 mod design;
+mod reading;
 mod row;
 
 use row::{Row, is_heading};

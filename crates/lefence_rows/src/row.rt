@@ -11,6 +11,7 @@ use std::io::Write;
 #[derive(Drop)]
 pub struct Row {
     design: Design,
+    is_read: bool,
     is_checked: bool,
     is_by_index_alone: bool,
     is_begun: bool,
@@ -56,6 +57,7 @@ impl Row {
     pub fn new(alloc: Global) -> Result<Row, AllocError> {
         Ok(Row {
             design: Design::new(alloc)?,
+            is_read: false,
             is_checked: false,
             is_by_index_alone: false,
             is_begun: false,
@@ -69,37 +71,50 @@ impl Row {
             return Ok(());
         }
         self.is_begun = true;
-        if let Some(rest) = line.strip_prefix(b"= lef ") {
-            let (number, line) = split_number(rest);
-            return self.design.set_lef(number, line);
-        }
-        if let Some(rest) = line.strip_prefix(b"= def ") {
-            let (number, line) = split_number(rest);
-            return self.design.set_def(number, line);
-        }
-        if let Some(rest) = line.strip_prefix(b"= cut lef ") {
-            return self.design.cut_lef(number_of(rest) as usize);
-        }
-        if let Some(rest) = line.strip_prefix(b"= cut def ") {
-            return self.design.cut_def(number_of(rest) as usize);
-        }
-        if let Some(rest) = line.strip_prefix(b"= limits ") {
-            if let Some(limits) = limits_of(rest) {
-                self.design.set_limits(limits);
-            }
-            return Ok(());
-        }
-        if line == b"= check".as_slice() {
-            self.is_checked = true;
-            return Ok(());
-        }
-        if line == b"= index".as_slice() {
-            self.is_by_index_alone = true;
+        if let Some(setting) = line.strip_prefix(b"= ")
+            && self.set(setting)?
+        {
             return Ok(());
         }
         self.lines.extend_from_slice(line)?;
         self.lines.push(b'\n')?;
         Ok(())
+    }
+
+    /// Takes what a line says of the texts or asks of the design, and tells whether it does.
+    fn set(&mut self, setting: &[u8]) -> Result<bool, AllocError> {
+        if let Some(rest) = setting.strip_prefix(b"lef ") {
+            let (number, line) = split_number(rest);
+            self.design.set_lef(number, line)?;
+        } else if let Some(rest) = setting.strip_prefix(b"def ") {
+            let (number, line) = split_number(rest);
+            self.design.set_def(number, line)?;
+        } else if let Some(rest) = setting.strip_prefix(b"cut lef ") {
+            self.design.cut_lef(number_of(rest) as usize)?;
+        } else if let Some(rest) = setting.strip_prefix(b"cut def ") {
+            self.design.cut_def(number_of(rest) as usize)?;
+        } else {
+            return Ok(self.ask(setting));
+        }
+        Ok(true)
+    }
+
+    /// Takes limits, or what is asked of the design, and tells whether it is either.
+    fn ask(&mut self, setting: &[u8]) -> bool {
+        if let Some(rest) = setting.strip_prefix(b"limits ") {
+            if let Some(limits) = limits_of(rest) {
+                self.design.set_limits(limits);
+            }
+        } else if setting == b"read".as_slice() {
+            self.is_read = true;
+        } else if setting == b"check".as_slice() {
+            self.is_checked = true;
+        } else if setting == b"index".as_slice() {
+            self.is_by_index_alone = true;
+        } else {
+            return false;
+        }
+        true
     }
 
     /// Writes what the row answers.
@@ -108,6 +123,7 @@ impl Row {
             return Ok(());
         }
         let asked = Asked {
+            is_read: self.is_read,
             is_checked: self.is_checked,
             is_by_index_alone: self.is_by_index_alone,
             lines: &self.lines,
