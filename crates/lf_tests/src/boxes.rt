@@ -1,16 +1,12 @@
 //! Boxes in a row, each of which overlaps the next: what lies near one, and the least number met.
 
-ghost use Rattle.std.specs.Prelude.{◌<◌};
-
 use lf_rtree::{Placed, RTree};
 use lf_units::Rect;
 use std::alloc::{AllocError, Global};
 use std::test::Fail;
 
 /// A box 15 wide and 10 high whose left edge lies 10 to the right of the one before.
-fn box_of(own: u32) -> Placed
-    requires { own < 1000 }
-{
+fn box_of(own: u32) -> Placed {
     let x1 = i64::from(own) * 10;
     Placed {
         own,
@@ -34,11 +30,15 @@ fn row(alloc: Global) -> Result<RTree, AllocError> {
 #[test]
 fn neighbours_are_met(rt: HostRuntime) -> Result<(), Fail> {
     let tree = row(rt.alloc())?;
-    let rect = box_of(40).rect;
-    assert_eq!(rt; tree.least_met(&rect, 40), Some(39));
-    assert_eq!(rt; tree.least_met(&rect, 39), Some(40));
-    assert_eq!(rt; tree.least_met(&box_of(0).rect, 0), Some(1));
-    assert_eq!(rt; tree.least_met(&box_of(200).rect, 200), None);
+    let rows = [
+        (40, 40, Some(39)),
+        (40, 39, Some(40)),
+        (0, 0, Some(1)),
+        (200, 200, None),
+    ];
+    for (own, but, met) in rows {
+        assert_eq!(rt; tree.least_met(&box_of(own).rect, but), met);
+    }
     Ok(())
 }
 

@@ -1,4 +1,4 @@
-//! Texts of which lines are exchanged or cut.
+//! Texts of which a line is exchanged, and refusals at a line.
 
 use lf_lex::{FaultNumber, LoadFault};
 use std::alloc::{AllocError, Global};
@@ -19,18 +19,6 @@ pub fn with_line(
             new.extend_from_slice(line)?;
         } else {
             new.extend_from_slice(old)?;
-        }
-    }
-    Ok(new)
-}
-
-/// The first lines of the text, so many of them.
-pub fn first_lines(alloc: Global, text: &[u8], count: usize) -> Result<Vec<u8>, AllocError> {
-    let mut new = Vec::new(alloc);
-    for (i, line) in text.split(|byte| *byte == b'\n').enumerate() {
-        if i < count {
-            new.extend_from_slice(line)?;
-            new.push(b'\n')?;
         }
     }
     Ok(new)

@@ -3,23 +3,30 @@
 use crate::heaps::take_all;
 use lf_names::{Added, Match, NameParts, NameTable, Pattern};
 use linked_list_allocator::LocalHeap;
+use std::alloc::{AllocError, Allocator, Global};
 use std::test::Fail;
+
+/// Whether the table is the list of these names.
+fn holds<A: Allocator + Copy>(table: &NameTable<A>, names: &[&[u8]]) -> bool {
+    for (position, name) in names.iter().enumerate() {
+        if table.find(name) != Some(position) || table.name_at(position) != Some(name) {
+            return false;
+        }
+    }
+    table.len() == names.len() && table.name_at(names.len()).is_none()
+}
 
 #[test]
 fn gives_names_their_positions(rt: HostRuntime) -> Result<(), Fail> {
     let mut table = NameTable::new(rt.alloc());
     assert!(rt; table.is_empty());
-    assert_eq!(rt; table.add(b"a")?, Added::New(0));
-    assert_eq!(rt; table.add(b"b")?, Added::New(1));
-    assert_eq!(rt; table.add(b"a")?, Added::Present(0));
-    assert_eq!(rt; table.len(), 2);
-    assert!(rt; table.find(b"b") == Some(1));
-    assert!(rt; table.find(b"c").is_none());
-    assert!(rt; table.name_at(1) == Some(b"b".as_slice()));
-    assert!(rt; table.name_at(2).is_none());
+    let added = [table.add(b"a")?, table.add(b"b")?, table.add(b"a")?];
+    assert_eq!(rt; added, [Added::New(0), Added::New(1), Added::Present(0)]);
+    assert!(rt; holds(&table, &[b"a", b"b"]));
     table.truncate(1);
-    assert!(rt; table.find(b"b").is_none());
+    assert!(rt; holds(&table, &[b"a"]));
     assert_eq!(rt; table.add(b"c")?, Added::New(1));
+    assert!(rt; table.find(b"b").is_none());
     Ok(())
 }
 
@@ -65,34 +72,41 @@ fn stays_as_it_was_where_memory_is_refused(rt: HostRuntime) -> Result<(), Fail> 
     assert!(rt; Vec::<u8, &LocalHeap>::with_capacity(&heap, 1).is_err());
 
     assert!(rt; table.add(b"b").is_err());
-    assert_eq!(rt; table.len(), 1);
+    assert!(rt; holds(&table, &[b"a"]));
     assert!(rt; table.find(b"b").is_none());
-    assert!(rt; table.name_at(0) == Some(b"a".as_slice()));
-    assert_eq!(rt; table.add(b"a")?, Added::Present(0));
 
     drop(blocks);
     assert_eq!(rt; table.add(b"b")?, Added::New(1));
     Ok(())
 }
 
-/// Each growth refused in turn: in heaps of every size, the first name for which there is no
-/// memory leaves the names before it where they are.
+/// Whether the table has so many names, each a byte more than the one before, from 0 on.
+fn has_first(table: &NameTable<&LocalHeap>, count: u8) -> bool {
+    for name in 0..count {
+        if table.find(&[name]) != Some(usize::from(name)) {
+            return false;
+        }
+    }
+    table.len() == usize::from(count) && table.find(&[count]).is_none()
+}
+
+/// Whether in a heap of that size the first name for which there is no memory leaves the names before it where they are.
+fn keeps_its_names(alloc: Global, size: usize) -> Result<bool, AllocError> {
+    let heap = LocalHeap::new(alloc, size)?;
+    let mut table: NameTable<&LocalHeap> = NameTable::new(&heap);
+    for name in 0..200u8 {
+        if table.add(&[name]).is_err() {
+            return Ok(has_first(&table, name));
+        }
+    }
+    Ok(false)
+}
+
+/// Each growth refused in turn, in heaps of every size.
 #[test]
 fn keeps_its_names_at_every_refusal(rt: HostRuntime) -> Result<(), Fail> {
     for units in 4..200usize {
-        let heap = LocalHeap::new(rt.alloc(), units * 16)?;
-        let mut table: NameTable<&LocalHeap> = NameTable::new(&heap);
-        let mut names = 0..200u8;
-        let refused = names.find(|name| table.add(&[*name]).is_err());
-        let Some(refused) = refused else {
-            assert!(rt; false, "no growth was refused");
-            return Ok(());
-        };
-        assert_eq!(rt; table.len(), usize::from(refused));
-        assert!(rt; table.find(&[refused]).is_none());
-        for earlier in 0..refused {
-            assert!(rt; table.find(&[earlier]) == Some(usize::from(earlier)));
-        }
+        assert!(rt; keeps_its_names(rt.alloc(), units * 16)?);
     }
     Ok(())
 }

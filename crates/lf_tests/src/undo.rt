@@ -7,6 +7,7 @@ use lf_floorplan::Place;
 use lf_orient::Orient;
 use lf_undo::{Move, Moves, UndoStore};
 use linked_list_allocator::LocalHeap;
+use std::alloc::Global;
 use std::test::Fail;
 
 /// A move of a cell that stood at (3, 4).
@@ -29,6 +30,16 @@ fn is_of(moves: &Moves<&LocalHeap>, own: u32) -> bool {
     moves.as_slice() == [moved(own)].as_slice()
 }
 
+/// Whether the team has one entry, of a command that moved that cell alone.
+fn has_only(store: &UndoStore<&LocalHeap>, team: usize, own: u32) -> bool
+    requires { team < length store.now.lists }
+{
+    match store.front(team) {
+        Some(front) => store.depth(team) == 1 && is_of(front, own),
+        None => false,
+    }
+}
+
 /// Puts entries without moves on the first team's stack, until there is no room for one more.
 fn fill<'a>(store: &mut UndoStore<&'a LocalHeap>, heap: &'a LocalHeap)
     requires { 0 < length store.old.lists }
@@ -41,64 +52,69 @@ fn fill<'a>(store: &mut UndoStore<&'a LocalHeap>, heap: &'a LocalHeap)
     }
 }
 
-/// With every growth refused, the room that one team's entry had serves for another team's.
-#[test]
-fn room_of_an_entry_serves_any_team(rt: HostRuntime) -> Result<(), Fail> {
-    let heap = LocalHeap::new(rt.alloc(), 8192)?;
-    let mut store: UndoStore<&LocalHeap> = UndoStore::build(&heap, 2, 64)?;
-    let first = one_move(&heap, 1)?;
-    let second = one_move(&heap, 2)?;
-    assert!(rt; store.push(0, first).is_ok());
-    let _blocks = take_all(&heap)?;
-    fill(&mut store, &heap);
-
-    assert!(rt; store.pop(0).is_some());
-    assert!(rt; store.push(1, second).is_ok());
-    assert_eq!(rt; store.depth(1), 1);
-    let front = store.front(1).ok_or("an entry")?;
-    assert!(rt; is_of(front, 2));
-    Ok(())
+/// What is tried where no memory is left.
+#[derive(Clone, Copy)]
+enum Case {
+    /// The room that one team's entry had serves for another team's.
+    RoomOfAnother,
+    /// An entry that finds no room comes back, and the team's others stand as before.
+    NoRoom,
+    /// At the limit the team's oldest entry goes.
+    Limit,
 }
 
-/// With every growth refused, an entry that finds no room comes back, and the team's others stand
-/// as before.
-#[test]
-fn an_entry_without_room_comes_back(rt: HostRuntime) -> Result<(), Fail> {
-    let heap = LocalHeap::new(rt.alloc(), 8192)?;
-    let mut store: UndoStore<&LocalHeap> = UndoStore::build(&heap, 2, 64)?;
-    let first = one_move(&heap, 1)?;
-    let second = one_move(&heap, 2)?;
-    assert!(rt; store.push(1, first).is_ok());
-    let _blocks = take_all(&heap)?;
-    fill(&mut store, &heap);
-
-    let Err(back) = store.push(1, second) else {
-        return Err(Fail::from("no growth was refused"));
-    };
-    assert!(rt; is_of(&back, 2));
-    assert_eq!(rt; store.depth(1), 1);
-    let front = store.front(1).ok_or("an entry")?;
-    assert!(rt; is_of(front, 1));
-    let popped = store.pop(1).ok_or("an entry")?;
-    assert!(rt; is_of(&popped, 1));
-    assert!(rt; store.pop(1).is_none());
-    Ok(())
+fn serves_another<'a>(store: &mut UndoStore<&'a LocalHeap>, second: Moves<&'a LocalHeap>) -> bool
+    requires { length store.old.lists ≡ 2 }
+{
+    let popped = store.pop(0);
+    popped.is_some() && store.push(1, second).is_ok() && has_only(store, 1, 2)
 }
 
-/// At the limit the team's oldest entry goes, with every growth refused too.
-#[test]
-fn the_oldest_entry_goes_at_the_limit(rt: HostRuntime) -> Result<(), Fail> {
-    let heap = LocalHeap::new(rt.alloc(), 8192)?;
-    let mut store: UndoStore<&LocalHeap> = UndoStore::build(&heap, 2, 1)?;
-    let first = one_move(&heap, 1)?;
+fn comes_back<'a>(store: &mut UndoStore<&'a LocalHeap>, second: Moves<&'a LocalHeap>) -> bool
+    requires { length store.old.lists ≡ 2 }
+{
+    match store.push(1, second) {
+        Ok(()) => false,
+        Err(back) => is_of(&back, 2) && has_only(store, 1, 1),
+    }
+}
+
+fn takes_the_place<'a>(store: &mut UndoStore<&'a LocalHeap>, second: Moves<&'a LocalHeap>) -> bool
+    requires { length store.old.lists ≡ 2 }
+{
+    if store.push(1, second).is_err() || !has_only(store, 1, 2) {
+        return false;
+    }
+    match store.pop(1) {
+        Some(popped) => is_of(&popped, 2),
+        None => false,
+    }
+}
+
+/// Whether a store of two teams answers as the case asks: a first entry is there, and no memory is left for a second.
+fn holds(alloc: Global, limit: usize, team: usize, case: Case) -> Result<bool, Fail>
+    requires limit { 0 < limit }
+    requires team { team < 2 }
+{
+    let heap = LocalHeap::new(alloc, 8192)?;
+    let mut store: UndoStore<&LocalHeap> = UndoStore::build(&heap, 2, limit)?;
     let second = one_move(&heap, 2)?;
-    assert!(rt; store.push(1, first).is_ok());
+    if store.push(team, one_move(&heap, 1)?).is_err() {
+        return Ok(false);
+    }
     let _blocks = take_all(&heap)?;
     fill(&mut store, &heap);
+    Ok(match case {
+        Case::RoomOfAnother => serves_another(&mut store, second),
+        Case::NoRoom => comes_back(&mut store, second),
+        Case::Limit => takes_the_place(&mut store, second),
+    })
+}
 
-    assert!(rt; store.push(1, second).is_ok());
-    let popped = store.pop(1).ok_or("an entry")?;
-    assert!(rt; is_of(&popped, 2));
-    assert!(rt; store.pop(1).is_none());
+#[test]
+fn entries_where_no_memory_is_left(rt: HostRuntime) -> Result<(), Fail> {
+    assert!(rt; holds(rt.alloc(), 64, 0, Case::RoomOfAnother)?);
+    assert!(rt; holds(rt.alloc(), 64, 1, Case::NoRoom)?);
+    assert!(rt; holds(rt.alloc(), 1, 1, Case::Limit)?);
     Ok(())
 }

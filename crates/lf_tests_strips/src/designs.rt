@@ -1,6 +1,6 @@
 //! Designs like the built-in one, read and loaded.
 
-use lf_def::read_def;
+use lf_def::{DefDoc, read_def};
 use lf_frame::{Limits, Loaded, load};
 use lf_lef::{Library, W_LEF, read_lef};
 use std::alloc::{AllocError, Global};
@@ -27,17 +27,27 @@ pub fn with_line(
     Ok(new)
 }
 
+/// The design of a library and a document.
+fn load_on(alloc: Global, library: &Library, document: &DefDoc) -> Result<Loaded, Fail> {
+    match load(alloc, library, document, Limits::standard()) {
+        Ok(design) => Ok(design),
+        Err(_) => Err(Fail::from("a design")),
+    }
+}
+
+/// The design of a library and a DEF text.
+fn read_on(alloc: Global, library: &Library, def: &[u8]) -> Result<Loaded, Fail> {
+    match read_def(alloc, def) {
+        Ok(document) => load_on(alloc, library, &document),
+        Err(_) => Err(Fail::from("a DEF text")),
+    }
+}
+
 /// The design of the built-in LEF text and this DEF text.
 pub fn design_of(alloc: Global, def: &[u8]) -> Result<Loaded, Fail> {
     let mut library = Library::new(alloc);
-    if read_lef(&mut library, W_LEF).is_err() {
-        return Err(Fail::from("a LEF text"));
-    }
-    let Ok(document) = read_def(alloc, def) else {
-        return Err(Fail::from("a DEF text"));
-    };
-    match load(alloc, &library, &document, Limits::standard()) {
-        Ok(design) => Ok(design),
-        Err(_) => Err(Fail::from("a design")),
+    match read_lef(&mut library, W_LEF) {
+        Ok(()) => read_on(alloc, &library, def),
+        Err(_) => Err(Fail::from("a LEF text")),
     }
 }

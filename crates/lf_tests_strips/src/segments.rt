@@ -2,8 +2,10 @@
 
 use crate::designs::{design_of, with_line};
 use lf_def::W_DEF;
+use lf_frame::Frame;
 use lf_segments::{RowEntry, RowsByY, Segment, Segments};
 use lf_units::Span;
+use std::alloc::{AllocError, Global};
 use std::test::Fail;
 
 /// The row, the team and the span of each segment: of A and B, which are 0 and 1, and of the ground team, which is 2.
@@ -34,28 +36,26 @@ fn are(segments: &[Segment], wanted: &[(usize, usize, i64, i64)]) -> bool {
     true
 }
 
-#[test]
-fn segments_of_the_design(rt: HostRuntime) -> Result<(), Fail> {
-    let design = design_of(rt.alloc(), W_DEF)?;
-    let segments = Segments::cut(rt.alloc(), &design.frame)?;
-    assert!(rt; are(segments.as_slice(), &OF_DESIGN));
-    assert!(rt; are(segments.of_row(1, 2), &OF_DESIGN[5..6]));
-    assert!(rt; segments.of_row(2, 0).is_empty());
-    assert_eq!(rt; segments.segment_at(0, 2, 4400), Some(2));
-    assert_eq!(rt; segments.segment_at(0, 2, 4399), None);
-    Ok(())
+/// Whether the built-in frame has its segments, and they are found by their rows and by an x.
+fn has_segments(alloc: Global, frame: &Frame) -> Result<bool, AllocError> {
+    let segments = Segments::cut(alloc, frame)?;
+    Ok(
+        are(segments.as_slice(), &OF_DESIGN)
+            && are(segments.of_row(1, 2), &OF_DESIGN[5..6])
+            && segments.of_row(2, 0).is_empty()
+            && segments.segment_at(0, 2, 4400) == Some(2)
+            && segments.segment_at(0, 2, 4399).is_none(),
+    )
 }
 
-#[test]
-fn segments_of_two_rectangles_join(rt: HostRuntime) -> Result<(), Fail> {
-    let line = b"- A ( 0 0 ) ( 500 4000 ) ( 500 0 ) ( 4000 3000 ) + TYPE FENCE ;";
-    let def = with_line(rt.alloc(), W_DEF, 11, line)?;
-    let design = design_of(rt.alloc(), &def)?;
-    let segments = Segments::cut(rt.alloc(), &design.frame)?;
-    assert!(rt; are(segments.of_row(0, 0), &[(0, 0, 0, 4000)]));
-    assert!(rt; are(segments.of_row(1, 0), &[(1, 0, 0, 500)]));
-    assert!(rt; are(segments.of_row(1, 2), &[(1, 2, 4000, 6000)]));
-    Ok(())
+/// Whether the segments of a fence of two rectangles go on where these touch.
+fn has_joined_segments(alloc: Global, frame: &Frame) -> Result<bool, AllocError> {
+    let segments = Segments::cut(alloc, frame)?;
+    Ok(
+        are(segments.of_row(0, 0), &[(0, 0, 0, 4000)])
+            && are(segments.of_row(1, 0), &[(1, 0, 0, 500)])
+            && are(segments.of_row(1, 2), &[(1, 2, 4000, 6000)]),
+    )
 }
 
 /// Whether the entries are of these rows, in this order.
@@ -71,24 +71,59 @@ fn are_rows(entries: &[RowEntry], wanted: &[usize]) -> bool {
     true
 }
 
+/// Whether the rows of a frame, of which the first and the last lie at one y, are found by their y.
+fn has_rows(alloc: Global, frame: &Frame) -> Result<bool, AllocError> {
+    let rows = RowsByY::build(alloc, frame)?;
+    Ok(
+        are_rows(rows.at(8000), &[0, 3])
+            && are_rows(rows.between(2000, 4001), &[1, 2])
+            && rows.at(0).is_empty(),
+    )
+}
+
+/// What is asked of a frame.
+#[derive(Clone, Copy)]
+enum Case {
+    Segments,
+    JoinedSegments,
+    Rows,
+}
+
+/// Whether the frame answers as the case asks.
+fn answer(alloc: Global, frame: &Frame, case: Case) -> Result<bool, Fail> {
+    Ok(match case {
+        Case::Segments => has_segments(alloc, frame)?,
+        Case::JoinedSegments => has_joined_segments(alloc, frame)?,
+        Case::Rows => has_rows(alloc, frame)?,
+    })
+}
+
+/// The same of the design of this DEF text.
+fn holds(alloc: Global, def: &[u8], case: Case) -> Result<bool, Fail> {
+    let design = design_of(alloc, def)?;
+    answer(alloc, &design.frame, case)
+}
+
+#[test]
+fn segments_of_the_design(rt: HostRuntime) -> Result<(), Fail> {
+    assert!(rt; holds(rt.alloc(), W_DEF, Case::Segments)?);
+    Ok(())
+}
+
+#[test]
+fn segments_of_two_rectangles_join(rt: HostRuntime) -> Result<(), Fail> {
+    let line = b"- A ( 0 0 ) ( 500 4000 ) ( 500 0 ) ( 4000 3000 ) + TYPE FENCE ;";
+    let def = with_line(rt.alloc(), W_DEF, 11, line)?;
+    assert!(rt; holds(rt.alloc(), &def, Case::JoinedSegments)?);
+    Ok(())
+}
+
 #[test]
 fn rows_by_y(rt: HostRuntime) -> Result<(), Fail> {
-    let lower = with_line(
-        rt.alloc(),
-        W_DEF,
-        6,
-        b"ROW r0 core 400 8000 N DO 9 BY 1 STEP 200 0 ;",
-    )?;
-    let def = with_line(
-        rt.alloc(),
-        &lower,
-        9,
-        b"ROW r3 core 5000 8000 N DO 9 BY 1 STEP 200 0 ;",
-    )?;
-    let design = design_of(rt.alloc(), &def)?;
-    let rows = RowsByY::build(rt.alloc(), &design.frame)?;
-    assert!(rt; are_rows(rows.at(8000), &[0, 3]));
-    assert!(rt; are_rows(rows.between(2000, 4001), &[1, 2]));
-    assert!(rt; rows.at(0).is_empty());
+    let first = b"ROW r0 core 400 8000 N DO 9 BY 1 STEP 200 0 ;";
+    let last = b"ROW r3 core 5000 8000 N DO 9 BY 1 STEP 200 0 ;";
+    let lower = with_line(rt.alloc(), W_DEF, 6, first)?;
+    let def = with_line(rt.alloc(), &lower, 9, last)?;
+    assert!(rt; holds(rt.alloc(), &def, Case::Rows)?);
     Ok(())
 }

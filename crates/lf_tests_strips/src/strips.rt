@@ -114,56 +114,89 @@ fn put_both(
     Ok(())
 }
 
-/// Whether the strips show what a1 leaves free.
-fn shows_what_is_free(alloc: Global, design: &Loaded) -> Result<bool, AllocError> {
-    let cells = CellTable::build(alloc, design)?;
-    let occupancy = occupancy_of(alloc, design, &cells)?;
-    let (Some(a1), Some(a2)) = (cell_of(&cells, b"a1"), cell_of(&cells, b"a2")) else {
+/// Whether the strips show what a1 leaves free, and nothing where there is no strip.
+fn shows_what_is_free(
+    alloc: Global,
+    occupancy: &Occupancy,
+    a1: &CellId,
+    a2: &CellId,
+) -> Result<bool, Fail> {
+    if !is_left(alloc, occupancy, LOWEST, a2, &[(0, 400), (800, 4000)])? {
         return Ok(false);
-    };
+    }
+    if !is_left(alloc, occupancy, LOWEST, a1, &[(0, 4000)])? {
+        return Ok(false);
+    }
+    Ok(is_left(alloc, occupancy, 10, a1, &[])?)
+}
+
+/// Whether a window shows what a1 leaves free, and a box that overlaps a1 meets it.
+fn shows_what_is_near(
+    alloc: Global,
+    occupancy: &Occupancy,
+    a1: &CellId,
+    a2: &CellId,
+) -> Result<bool, Fail> {
     let window = Span { lo: 200, hi: 1000 };
-    let near = occupancy.free_in_row(alloc, 0, a2, &window)?;
-    let overlapping = inverter(600, 0);
-    Ok(
-        is_left(alloc, &occupancy, LOWEST, &a2, &[(0, 400), (800, 4000)])?
-            && is_left(alloc, &occupancy, LOWEST, &a1, &[(0, 4000)])?
-            && is_left(alloc, &occupancy, 10, &a1, &[])?
-            && are(&near, &[(200, 400), (800, 1000)])
-            && occupancy.first_met(a2, &overlapping) == Some(a1.own)
-            && occupancy.first_met(a1, &overlapping).is_none(),
-    )
-}
-
-#[test]
-fn strips_show_what_is_free(rt: HostRuntime) -> Result<(), Fail> {
-    let design = design(rt.alloc())?;
-    assert!(rt; shows_what_is_free(rt.alloc(), &design)?);
-    Ok(())
-}
-
-/// Whether a cell leaves one strip for another, and stands nowhere in the end.
-fn follows_a_cell(alloc: Global, design: &Loaded) -> Result<bool, AllocError> {
-    let cells = CellTable::build(alloc, design)?;
-    let mut occupancy = occupancy_of(alloc, design, &cells)?;
-    let (Some(a1), Some(a2)) = (cell_of(&cells, b"a1"), cell_of(&cells, b"a2")) else {
+    let near = occupancy.free_in_row(alloc, 0, *a2, &window)?;
+    if !are(&near, &[(200, 400), (800, 1000)]) {
         return Ok(false);
-    };
-    occupancy.move_to(a1, Some(inverter(0, 2000)))?;
-    let moved = is_left(alloc, &occupancy, LOWEST, &a2, &[(0, 4000)])?
-        && is_left(alloc, &occupancy, ABOVE, &a2, &[(400, 4000)])?;
-    occupancy.move_to(a1, None)?;
-    Ok(moved && is_left(alloc, &occupancy, ABOVE, &a2, &[(0, 4000)])?)
+    }
+    let overlapping = inverter(600, 0);
+    let other = occupancy.first_met(*a2, &overlapping);
+    let itself = occupancy.first_met(*a1, &overlapping);
+    Ok(other == Some(a1.own) && itself.is_none())
 }
 
-#[test]
-fn strips_follow_a_cell(rt: HostRuntime) -> Result<(), Fail> {
-    let design = design(rt.alloc())?;
-    assert!(rt; follows_a_cell(rt.alloc(), &design)?);
-    Ok(())
+/// Whether a1 leaves its strip for another, and stands nowhere in the end.
+fn follows_a_cell(
+    alloc: Global,
+    occupancy: &mut Occupancy,
+    a1: &CellId,
+    a2: &CellId,
+) -> Result<bool, Fail> {
+    occupancy.move_to(*a1, Some(inverter(0, 2000)))?;
+    if !is_left(alloc, occupancy, LOWEST, a2, &[(0, 4000)])? {
+        return Ok(false);
+    }
+    if !is_left(alloc, occupancy, ABOVE, a2, &[(400, 4000)])? {
+        return Ok(false);
+    }
+    occupancy.move_to(*a1, None)?;
+    Ok(is_left(alloc, occupancy, ABOVE, a2, &[(0, 4000)])?)
 }
 
 /// Whether two cells stand side by side after room was made for both, and one is taken away.
-fn makes_both_moves(alloc: Global, design: &Loaded) -> Result<bool, AllocError> {
+fn makes_both_moves(
+    alloc: Global,
+    occupancy: &mut Occupancy,
+    a1: &CellId,
+    a2: &CellId,
+) -> Result<bool, Fail>
+    requires first { HasCell occupancy.old.boxes a1.now }
+    requires second { HasCell occupancy.old.boxes a2.now }
+{
+    put_both(occupancy, a1, a2, &inverter(800, 0), &inverter(400, 0))?;
+    let nobody = CellId { team: 1, own: 0 };
+    if !is_left(alloc, occupancy, LOWEST, &nobody, &[(0, 400), (1200, 4000)])? {
+        return Ok(false);
+    }
+    occupancy.remove(*a2);
+    occupancy.remove(*a2);
+    Ok(is_left(alloc, occupancy, LOWEST, &nobody, &[(0, 800), (1200, 4000)])?)
+}
+
+/// What is asked of the strips.
+#[derive(Clone, Copy)]
+enum Case {
+    WhatIsFree,
+    WhatIsNear,
+    OneMove,
+    ReservedMoves,
+}
+
+/// Whether the strips of the design answer as the case asks.
+fn answer(alloc: Global, design: &Loaded, case: Case) -> Result<bool, Fail> {
     let cells = CellTable::build(alloc, design)?;
     let mut occupancy = occupancy_of(alloc, design, &cells)?;
     let Some(a1) = cell_of(&cells, b"a1") else {
@@ -172,37 +205,35 @@ fn makes_both_moves(alloc: Global, design: &Loaded) -> Result<bool, AllocError> 
     let Some(a2) = cell_of(&cells, b"a2") else {
         return Ok(false);
     };
-    put_both(
-        &mut occupancy,
-        &a1,
-        &a2,
-        &inverter(800, 0),
-        &inverter(400, 0),
-    )?;
-    let nobody = CellId { team: 1, own: 0 };
-    let both = is_left(
-        alloc,
-        &occupancy,
-        LOWEST,
-        &nobody,
-        &[(0, 400), (1200, 4000)],
-    )?;
-    occupancy.remove(a2);
-    occupancy.remove(a2);
-    Ok(
-        both && is_left(
-            alloc,
-            &occupancy,
-            LOWEST,
-            &nobody,
-            &[(0, 800), (1200, 4000)],
-        )?,
-    )
+    match case {
+        Case::WhatIsFree => shows_what_is_free(alloc, &occupancy, &a1, &a2),
+        Case::WhatIsNear => shows_what_is_near(alloc, &occupancy, &a1, &a2),
+        Case::OneMove => follows_a_cell(alloc, &mut occupancy, &a1, &a2),
+        Case::ReservedMoves => makes_both_moves(alloc, &mut occupancy, &a1, &a2),
+    }
+}
+
+/// The same of the design of these tests.
+fn holds(alloc: Global, case: Case) -> Result<bool, Fail> {
+    let design = design(alloc)?;
+    answer(alloc, &design, case)
+}
+
+#[test]
+fn strips_show_what_is_free(rt: HostRuntime) -> Result<(), Fail> {
+    assert!(rt; holds(rt.alloc(), Case::WhatIsFree)?);
+    assert!(rt; holds(rt.alloc(), Case::WhatIsNear)?);
+    Ok(())
+}
+
+#[test]
+fn strips_follow_a_cell(rt: HostRuntime) -> Result<(), Fail> {
+    assert!(rt; holds(rt.alloc(), Case::OneMove)?);
+    Ok(())
 }
 
 #[test]
 fn reserved_moves_take_no_memory(rt: HostRuntime) -> Result<(), Fail> {
-    let design = design(rt.alloc())?;
-    assert!(rt; makes_both_moves(rt.alloc(), &design)?);
+    assert!(rt; holds(rt.alloc(), Case::ReservedMoves)?);
     Ok(())
 }
