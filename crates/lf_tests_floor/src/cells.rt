@@ -3,11 +3,12 @@
 use crate::designs::design_of;
 use lf_cells::CellTable;
 use lf_def::W_DEF;
-use lf_frame::{Frame, Limits, Macro, Place, is_sized};
+use lf_frame::{Frame, Limits, Loaded, Macro, Place, is_sized};
 use lf_legalize::best_place;
 use lf_orient::Orient;
 use lf_rules::{Placed, box_of};
 use lf_units::Point;
+use std::alloc::Global;
 use std::test::Fail;
 
 /// Whether the best place for the target is this corner, facing north.
@@ -111,10 +112,20 @@ fn keeps_places(table: &mut CellTable) -> bool {
     table.committed(second) == Some(place)
 }
 
+/// Whether the table of the design's cells does both.
+fn serves(alloc: Global, design: &Loaded) -> Result<bool, Fail> {
+    let mut table = CellTable::build(alloc, design)?;
+    Ok(finds_cells(&table) && keeps_places(&mut table))
+}
+
+/// The same of the built-in design.
+fn holds(alloc: Global) -> Result<bool, Fail> {
+    let design = design_of(alloc, W_DEF, Limits::standard())?;
+    serves(alloc, &design)
+}
+
 #[test]
 fn a_table_of_cells(rt: HostRuntime) -> Result<(), Fail> {
-    let design = design_of(rt.alloc(), W_DEF, Limits::standard())?;
-    let mut table = CellTable::build(rt.alloc(), &design)?;
-    assert!(rt; finds_cells(&table) && keeps_places(&mut table));
+    assert!(rt; holds(rt.alloc())?);
     Ok(())
 }

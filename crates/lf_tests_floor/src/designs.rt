@@ -1,7 +1,9 @@
 //! The built-in design, read and loaded, and what its reports tell.
 
-use lf_def::{W_DEF, read_def};
-use lf_frame::{Limits, Loaded, Place, load};
+ghost use Rattle.std.specs.Prelude.{◌<◌};
+
+use lf_def::{DefDoc, W_DEF, read_def};
+use lf_frame::{Cell, Frame, Limits, Loaded, Place, load};
 use lf_lef::{Library, W_LEF, read_lef};
 use lf_orient::Orient;
 use lf_reports::{BrokenCell, Report, check_all, check_all_pairs, first_illegal};
@@ -10,32 +12,58 @@ use lf_units::Name;
 use std::alloc::Global;
 use std::test::Fail;
 
+/// The design of a library and a document.
+fn load_on(
+    alloc: Global,
+    library: &Library,
+    document: &DefDoc,
+    limits: Limits,
+) -> Result<Loaded, Fail> {
+    match load(alloc, library, document, limits) {
+        Ok(design) => Ok(design),
+        Err(_) => Err(Fail::from("a design")),
+    }
+}
+
+/// The design of a library and a DEF text.
+fn read_on(alloc: Global, library: &Library, def: &[u8], limits: Limits) -> Result<Loaded, Fail> {
+    match read_def(alloc, def) {
+        Ok(document) => load_on(alloc, library, &document, limits),
+        Err(_) => Err(Fail::from("a DEF text")),
+    }
+}
+
 /// The design of the built-in LEF text and this DEF text.
 pub fn design_of(alloc: Global, def: &[u8], limits: Limits) -> Result<Loaded, Fail> {
     let mut library = Library::new(alloc);
-    if read_lef(&mut library, W_LEF).is_err() {
-        return Err(Fail::from("a LEF text"));
+    match read_lef(&mut library, W_LEF) {
+        Ok(()) => read_on(alloc, &library, def, limits),
+        Err(_) => Err(Fail::from("a LEF text")),
     }
-    let Ok(document) = read_def(alloc, def) else {
-        return Err(Fail::from("a DEF text"));
-    };
-    match load(alloc, &library, &document, limits) {
-        Ok(design) => Ok(design),
-        Err(_) => Err(Fail::from("a design")),
+}
+
+/// Whether the frame has the rows, fences, obstacles and macros of the built-in design.
+fn is_built_in(frame: &Frame) -> bool {
+    frame.rows.len() == 4
+        && frame.teams.len() == 2
+        && frame.obstacles.len() == 1
+        && frame.macros.len() == 2
+}
+
+/// Whether the cells are of the teams of the built-in design.
+fn are_built_in(cells: &[Cell]) -> bool {
+    match cells {
+        [a1, a2, a3, b1, g1] => {
+            (a1.team, a2.team, a3.team) == (0, 0, 0) && (b1.team, g1.team) == (1, 2)
+        }
+        _ => false,
     }
 }
 
 #[test]
 fn the_built_in_design(rt: HostRuntime) -> Result<(), Fail> {
     let design = design_of(rt.alloc(), W_DEF, Limits::standard())?;
-    assert_eq!(rt; design.frame.rows.len(), 4);
-    assert_eq!(rt; design.frame.teams.len(), 2);
-    assert_eq!(rt; design.frame.obstacles.len(), 1);
-    assert_eq!(rt; design.frame.macros.len(), 2);
-    let cells = design.cells.as_slice();
-    for (number, team) in [(0, 0), (1, 0), (2, 0), (3, 1), (4, 2)] {
-        assert_eq!(rt; cells.get(number).map(|cell| cell.team), Some(team));
-    }
+    assert!(rt; is_built_in(&design.frame) && are_built_in(design.cells.as_slice()));
     Ok(())
 }
 
@@ -74,24 +102,50 @@ fn tell_the_same(left: &Report, right: &Report) -> bool {
         })
 }
 
+/// Places of the five cells of the built-in design, another for each step.
+fn places_at(step: u16) -> [Option<Place>; 5]
+    requires { step < 30 }
+{
+    let along = i32::from(step) * 200;
+    let row = i32::from(step % 4) * 2_000;
+    [
+        Some(Place::new(along, 0, Orient::N)),
+        Some(Place::new(4_200 - along, row, Orient::FS)),
+        Some(Place::new(along, 2_000, Orient::FS)),
+        Some(Place::new(along + 200, 0, Orient::N)),
+        Some(Place::new(3_000 + along, 0, Orient::S)),
+    ]
+}
+
+/// Whether both searches tell the same of the design at these places; true where there are not as many as it has cells.
+fn search_alike(alloc: Global, design: &Loaded, places: &[Option<Place>]) -> Result<bool, Fail> {
+    if design.cells.len() != places.len() {
+        return Ok(true);
+    }
+    let near = check_all(alloc, design, places)?;
+    let plain = check_all_pairs(alloc, design, places)?;
+    Ok(tell_the_same(&near, &plain))
+}
+
+/// Whether they do at all places of the built-in design.
+fn search_alike_everywhere(alloc: Global, design: &Loaded) -> Result<bool, Fail> {
+    for step in 0..30u16 {
+        if !search_alike(alloc, design, &places_at(step))? {
+            return Ok(false);
+        }
+    }
+    Ok(design.cells.len() == 5)
+}
+
+/// The same of the built-in design.
+fn holds(alloc: Global) -> Result<bool, Fail> {
+    let design = design_of(alloc, W_DEF, Limits::standard())?;
+    search_alike_everywhere(alloc, &design)
+}
+
 #[test]
 fn both_searches_tell_the_same(rt: HostRuntime) -> Result<(), Fail> {
-    let design = design_of(rt.alloc(), W_DEF, Limits::standard())?;
-    assert!(rt; design.cells.len() == 5);
-    for step in 0..30u16 {
-        let along = i32::from(step) * 200;
-        let row = i32::from(step % 4) * 2_000;
-        let places = [
-            Some(Place::new(along, 0, Orient::N)),
-            Some(Place::new(4_200 - along, row, Orient::FS)),
-            Some(Place::new(along, 2_000, Orient::FS)),
-            Some(Place::new(along + 200, 0, Orient::N)),
-            Some(Place::new(3_000 + along, 0, Orient::S)),
-        ];
-        let near = check_all(rt.alloc(), &design, &places)?;
-        let plain = check_all_pairs(rt.alloc(), &design, &places)?;
-        assert!(rt; tell_the_same(&near, &plain));
-    }
+    assert!(rt; holds(rt.alloc())?);
     Ok(())
 }
 

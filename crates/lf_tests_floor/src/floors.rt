@@ -76,11 +76,20 @@ fn ran(alloc: Global, floor: &mut Floor<PlainSeeker>) -> Result<Vec<u8>, AllocEr
 }
 
 /// Whether the requests are answered by these replies, and then b1 alone has left its place.
-fn runs(alloc: Global, mut floor: Floor<PlainSeeker>, replies: &[u8]) -> Result<bool, AllocError> {
-    if ran(alloc, &mut floor)?.as_slice() != replies {
+fn answers(
+    alloc: Global,
+    floor: &mut Floor<PlainSeeker>,
+    replies: &[u8],
+) -> Result<bool, AllocError> {
+    if ran(alloc, floor)?.as_slice() != replies {
         return Ok(false);
     }
-    Ok(is_b1_gone(&floor) && are_cells_named(&floor))
+    Ok(is_b1_gone(floor) && are_cells_named(floor))
+}
+
+/// The same of a floor that is let go then.
+fn runs(alloc: Global, mut floor: Floor<PlainSeeker>, replies: &[u8]) -> Result<bool, AllocError> {
+    answers(alloc, &mut floor, replies)
 }
 
 #[test]

@@ -150,34 +150,79 @@ pub fn is_to(request: &Request<'_>, name: &[u8]) -> bool {
     }
 }
 
+/// Whether the list has a request to A and one to B.
+fn is_to_both(list: &RequestList) -> bool {
+    match (list.request(0), list.request(1), list.request(2)) {
+        (Some(first), Some(second), None) => {
+            list.len() == 2 && is_to(&first, b"A") && is_to(&second, b"B")
+        }
+        _ => false,
+    }
+}
+
+/// Puts the request of a line behind the others.
+fn push_line(list: &mut RequestList, line: &[u8]) -> Result<(), Fail> {
+    match parse_line(line) {
+        Ok(request) => Ok(list.push(&request)?),
+        Err(_) => Err(Fail::from("a request")),
+    }
+}
+
 #[test]
 fn lists_requests(rt: HostRuntime) -> Result<(), Fail> {
     let mut list = RequestList::new(rt.alloc());
     assert!(rt; list.is_empty());
-    for line in [b"open A".as_slice(), b"place B 3 b1 5 6 E".as_slice()] {
-        let request = parse_line(line).ok().ok_or("a request")?;
-        list.push(&request)?;
-    }
-    assert_eq!(rt; list.len(), 2);
-    assert!(rt; list.request(2).is_none());
-    assert!(rt; is_to(&list.request(0).ok_or("the first request")?, b"A"));
-    assert!(rt; is_to(&list.request(1).ok_or("the second request")?, b"B"));
+    push_line(&mut list, b"open A")?;
+    push_line(&mut list, b"place B 3 b1 5 6 E")?;
+    assert!(rt; is_to_both(&list));
     Ok(())
+}
+
+/// Whether the framer takes so many bytes of the piece and has a line then, which is this one.
+fn takes_line(framer: &mut LineFramer, piece: &[u8], used: usize, line: &[u8]) -> bool {
+    let fed = framer.feed(piece);
+    fed.used == used && fed.got == Got::Line && framer.line() == line
+}
+
+/// Whether the framer takes the piece whole and waits for more.
+fn takes_all(framer: &mut LineFramer, piece: &[u8]) -> bool {
+    let fed = framer.feed(piece);
+    fed.used == piece.len() && fed.got == Got::More
+}
+
+/// Whether lines end at line feeds, one carriage return before these is dropped, and a last line needs none.
+fn parts_lines(framer: &mut LineFramer) -> bool {
+    takes_line(framer, b"open A\r\n\nopen B\r", 8, b"open A")
+        && takes_line(framer, b"\nopen B\r", 1, b"")
+        && takes_all(framer, b"open B\r")
+        && framer.finish() == Got::Line
+        && framer.line() == b"open B\r".as_slice()
+        && framer.finish() == Got::More
 }
 
 #[test]
 fn frames_lines(rt: HostRuntime) -> Result<(), Fail> {
     let mut framer = LineFramer::new(rt.alloc())?;
-    let stream = b"open A\r\n\nopen B\r";
-    let fed = framer.feed(stream);
-    assert!(rt; fed.used == 8 && fed.got == Got::Line && framer.line() == b"open A".as_slice());
-    let fed = framer.feed(b"\nopen B\r");
-    assert!(rt; fed.used == 1 && fed.got == Got::Line && framer.line().is_empty());
-    let fed = framer.feed(b"open B\r");
-    assert!(rt; fed.used == 7 && fed.got == Got::More);
-    assert!(rt; framer.finish() == Got::Line && framer.line() == b"open B\r".as_slice());
-    assert!(rt; framer.finish() == Got::More);
+    assert!(rt; parts_lines(&mut framer));
     Ok(())
+}
+
+/// Whether the framer takes so many bytes of the piece and has a line that was too long then.
+fn refuses_line(framer: &mut LineFramer, piece: &[u8], used: usize) -> bool {
+    let fed = framer.feed(piece);
+    fed.used == used && fed.got == Got::TooLong
+}
+
+/// Whether the framer takes a line of 4,096 bytes, and none of one byte more, its carriage return counted.
+fn bounds_length(framer: &mut LineFramer, longest: &[u8]) -> bool {
+    takes_all(framer, longest)
+        && takes_line(framer, b"\n", 1, longest)
+        && takes_all(framer, longest)
+        && refuses_line(framer, b"\r\nopen B\n", 2)
+        && takes_line(framer, b"open B\n", 7, b"open B")
+        && takes_all(framer, longest)
+        && takes_all(framer, b" ")
+        && framer.finish() == Got::TooLong
 }
 
 #[test]
@@ -185,15 +230,8 @@ fn bounds_lines(rt: HostRuntime) -> Result<(), Fail> {
     let mut line = Vec::from_slice(rt.alloc(), b"open A")?;
     line.resize(4096, b' ')?;
     let mut framer = LineFramer::new(rt.alloc())?;
-    assert!(rt; framer.feed(&line).got == Got::More);
-    assert!(rt; framer.feed(b"\n").got == Got::Line);
-    assert!(rt; framer.line().len() == 4096 && parse_line(framer.line()).is_ok());
-    assert!(rt; framer.feed(&line).got == Got::More);
-    assert!(rt; framer.feed(b"\r\nopen B\n").used == 2);
-    assert!(rt; framer.feed(b"open B\n").got == Got::Line);
-    assert!(rt; framer.feed(&line).got == Got::More);
-    assert!(rt; framer.feed(b" ").got == Got::More);
-    assert!(rt; framer.finish() == Got::TooLong);
+    assert!(rt; bounds_length(&mut framer, &line));
+    assert!(rt; parse_line(&line).is_ok());
     Ok(())
 }
 

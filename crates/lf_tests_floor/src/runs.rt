@@ -129,12 +129,21 @@ fn ran(
 }
 
 /// Whether the replies to A are the ones expected, where the requests are run on the floor.
+fn answers(
+    alloc: Global,
+    floor: &mut Floor<PlainSeeker>,
+    requests: &RequestList,
+) -> Result<bool, AllocError> {
+    Ok(ran(alloc, floor, requests)?.as_slice() == REPLIES_TO_A)
+}
+
+/// The same of a floor that is let go then.
 fn runs(
     alloc: Global,
     mut floor: Floor<PlainSeeker>,
     requests: &RequestList,
 ) -> Result<bool, AllocError> {
-    Ok(ran(alloc, &mut floor, requests)?.as_slice() == REPLIES_TO_A)
+    answers(alloc, &mut floor, requests)
 }
 
 /// Whether the replies to A are the ones expected, where the lines are run over the design of this DEF text.
