@@ -92,21 +92,41 @@ pub fn counted(lines: u64, answered: u64, ending: Ending) -> Served {
     }
 }
 
-/// A connection to the floor of the built-in design.
-pub fn fresh(alloc: Global, bytes: &[u8], plan: &Plan) -> Result<Told, Fail> {
-    let mut floor = floor(alloc)?;
-    Ok(serve_bytes(alloc, &mut floor, bytes, plan))
+/// Whether a connection over these bytes is served so on the floor, with this log.
+pub fn tells_on(
+    alloc: Global,
+    floor: &mut Floor<PlainSeeker>,
+    bytes: &[u8],
+    plan: &Plan,
+    served: Served,
+    log: &[u8],
+) -> bool
+    ensures { floor.new.components ≡ floor.old.components }
+{
+    let told = serve_bytes(alloc, floor, bytes, plan);
+    told.served == served && told.log.as_slice() == log
+}
+
+/// The same of the floor of the built-in design.
+pub fn tells(
+    alloc: Global,
+    bytes: &[u8],
+    plan: &Plan,
+    served: Served,
+    log: &[u8],
+) -> Result<bool, Fail> {
+    match floor(alloc) {
+        Ok(mut floor) => Ok(tells_on(alloc, &mut floor, bytes, plan, served, log)),
+        Err(fail) => Err(fail),
+    }
 }
 
 #[test]
 fn a_last_line_needs_no_line_feed(rt: HostRuntime) -> Result<(), Fail> {
     let plan = Plan { piece: 1, ..SOUND };
-    let told = fresh(rt.alloc(), b"open A\nwhere A 0 a1", &plan)?;
-    assert_eq!(rt; told.served, counted(2, 2, Ending::Done));
-    assert_eq!(rt;
-        told.log.as_slice(),
-        b"ok 0 0\n|no 6 Unplaced a1\n|".as_slice()
-    );
+    let served = counted(2, 2, Ending::Done);
+    let log = b"ok 0 0\n|no 6 Unplaced a1\n|";
+    assert!(rt; tells(rt.alloc(), b"open A\nwhere A 0 a1", &plan, served, log)?);
     Ok(())
 }
 
@@ -117,9 +137,8 @@ fn a_reply_that_breaks_off_is_not_answered(rt: HostRuntime) -> Result<(), Fail> 
         good_writes: 1,
         ..SOUND
     };
-    let told = fresh(rt.alloc(), b"open A\nopen A\n", &plan)?;
-    assert_eq!(rt; told.served, counted(1, 0, Ending::WriteFault));
-    assert_eq!(rt; told.log.as_slice(), b"ok ".as_slice());
+    let served = counted(1, 0, Ending::WriteFault);
+    assert!(rt; tells(rt.alloc(), b"open A\nopen A\n", &plan, served, b"ok ")?);
     Ok(())
 }
 
@@ -129,115 +148,138 @@ fn a_reader_that_fails_ends_it(rt: HostRuntime) -> Result<(), Fail> {
         good_reads: 1,
         ..SOUND
     };
-    let told = fresh(rt.alloc(), b"open A\n", &plan)?;
-    assert_eq!(rt; told.served, counted(1, 1, Ending::ReadFault));
-    assert_eq!(rt; told.log.as_slice(), b"ok 0 0\n|".as_slice());
+    let served = counted(1, 1, Ending::ReadFault);
+    assert!(rt; tells(rt.alloc(), b"open A\n", &plan, served, b"ok 0 0\n|")?);
     Ok(())
 }
 
 #[test]
 fn no_line_behind_bye_is_acted_on(rt: HostRuntime) -> Result<(), Fail> {
-    let told = fresh(rt.alloc(), b"bye\nopen A\n", &SOUND)?;
-    assert_eq!(rt; told.served, counted(1, 1, Ending::Bye));
-    assert_eq!(rt; told.log.as_slice(), b"ok\n|".as_slice());
+    let served = counted(1, 1, Ending::Bye);
+    assert!(rt; tells(rt.alloc(), b"bye\nopen A\n", &SOUND, served, b"ok\n|")?);
     Ok(())
+}
+
+/// Whether a session of one connection is still open in the next connection to the floor.
+fn keeps_sessions(alloc: Global, floor: &mut Floor<PlainSeeker>) -> bool {
+    let first = counted(2, 2, Ending::Bye);
+    let next = counted(1, 1, Ending::Done);
+    tells_on(
+        alloc,
+        floor,
+        b"open A\n bye\t\r\n",
+        &SOUND,
+        first,
+        b"ok 0 0\n|ok\n|",
+    ) && tells_on(alloc, floor, b"open A\n", &SOUND, next, b"ok 1 0\n|")
+}
+
+/// The same of the floor of the built-in design.
+fn sessions_outlive(alloc: Global) -> Result<bool, Fail> {
+    match floor(alloc) {
+        Ok(mut floor) => Ok(keeps_sessions(alloc, &mut floor)),
+        Err(fail) => Err(fail),
+    }
 }
 
 #[test]
 fn sessions_outlive_connections(rt: HostRuntime) -> Result<(), Fail> {
-    let mut floor = floor(rt.alloc())?;
-    let first = serve_bytes(rt.alloc(), &mut floor, b"open A\n bye\t\r\n", &SOUND);
-    assert_eq!(rt; first.served, counted(2, 2, Ending::Bye));
-    assert_eq!(rt; first.log.as_slice(), b"ok 0 0\n|ok\n|".as_slice());
-    let second = serve_bytes(rt.alloc(), &mut floor, b"open A\n", &SOUND);
-    assert_eq!(rt; second.served, counted(1, 1, Ending::Done));
-    assert_eq!(rt; second.log.as_slice(), b"ok 1 0\n|".as_slice());
+    assert!(rt; sessions_outlive(rt.alloc())?);
     Ok(())
-}
-
-/// What two lines come to where so many lines are allowed.
-fn two_lines(alloc: Global, lines: u64) -> Result<Told, Fail> {
-    let limits = ServeLimits {
-        lines,
-        ..SOUND.limits
-    };
-    fresh(alloc, b"open A\nopen A\n", &Plan { limits, ..SOUND })
 }
 
 #[test]
 fn lines_are_limited(rt: HostRuntime) -> Result<(), Fail> {
-    let none = two_lines(rt.alloc(), 0)?;
-    assert_eq!(rt; none.served, counted(0, 0, Ending::TooManyLines));
-    assert_eq!(rt; none.log.as_slice(), b"".as_slice());
-    let one = two_lines(rt.alloc(), 1)?;
-    assert_eq!(rt; one.served, counted(1, 1, Ending::TooManyLines));
-    assert_eq!(rt; one.log.as_slice(), b"ok 0 0\n|".as_slice());
-    let both = two_lines(rt.alloc(), 2)?;
-    assert_eq!(rt; both.served, counted(2, 2, Ending::Done));
-    assert_eq!(rt; both.log.as_slice(), b"ok 0 0\n|ok 1 0\n|".as_slice());
+    let cases = [
+        (0, counted(0, 0, Ending::TooManyLines), b"".as_slice()),
+        (
+            1,
+            counted(1, 1, Ending::TooManyLines),
+            b"ok 0 0\n|".as_slice(),
+        ),
+        (
+            2,
+            counted(2, 2, Ending::Done),
+            b"ok 0 0\n|ok 1 0\n|".as_slice(),
+        ),
+    ];
+    for (lines, served, log) in cases {
+        let limits = ServeLimits {
+            lines,
+            ..SOUND.limits
+        };
+        let plan = Plan { limits, ..SOUND };
+        assert!(rt;
+            tells(rt.alloc(), b"open A\nopen A\n", &plan, served, log)?,
+            "{lines} lines"
+        );
+    }
     Ok(())
-}
-
-/// What a line read byte by byte comes to where so many reads are allowed.
-fn byte_by_byte(alloc: Global, reads: u64) -> Result<Told, Fail> {
-    let limits = ServeLimits {
-        reads,
-        ..SOUND.limits
-    };
-    let plan = Plan {
-        piece: 1,
-        limits,
-        ..SOUND
-    };
-    fresh(alloc, b"open A\n", &plan)
 }
 
 #[test]
 fn reads_are_limited(rt: HostRuntime) -> Result<(), Fail> {
-    let few = byte_by_byte(rt.alloc(), 3)?;
-    assert_eq!(rt; few.served, counted(0, 0, Ending::ReadFault));
-    assert_eq!(rt; few.log.as_slice(), b"".as_slice());
-    let line = byte_by_byte(rt.alloc(), 7)?;
-    assert_eq!(rt; line.served, counted(1, 1, Ending::ReadFault));
-    let all = byte_by_byte(rt.alloc(), 8)?;
-    assert_eq!(rt; all.served, counted(1, 1, Ending::Done));
-    assert_eq!(rt; all.log.as_slice(), b"ok 0 0\n|".as_slice());
+    let cases = [
+        (3, counted(0, 0, Ending::ReadFault), b"".as_slice()),
+        (7, counted(1, 1, Ending::ReadFault), b"ok 0 0\n|".as_slice()),
+        (8, counted(1, 1, Ending::Done), b"ok 0 0\n|".as_slice()),
+    ];
+    for (reads, served, log) in cases {
+        let limits = ServeLimits {
+            reads,
+            ..SOUND.limits
+        };
+        let plan = Plan {
+            piece: 1,
+            limits,
+            ..SOUND
+        };
+        assert!(rt;
+            tells(rt.alloc(), b"open A\n", &plan, served, log)?,
+            "{reads} reads"
+        );
+    }
     Ok(())
 }
 
 #[test]
 fn a_writer_that_takes_no_byte_has_failed(rt: HostRuntime) -> Result<(), Fail> {
-    let told = fresh(rt.alloc(), b"open A\n", &Plan { most: 0, ..SOUND })?;
-    assert_eq!(rt; told.served, counted(1, 0, Ending::WriteFault));
-    assert_eq!(rt; told.log.as_slice(), b"".as_slice());
+    let plan = Plan { most: 0, ..SOUND };
+    let served = counted(1, 0, Ending::WriteFault);
+    assert!(rt; tells(rt.alloc(), b"open A\n", &plan, served, b"")?);
     Ok(())
 }
 
-/// `open A` and blanks, so many bytes in all, and a line feed.
-fn long_line(alloc: Global, length: usize) -> Result<Vec<u8>, AllocError> {
-    let mut line = Vec::from_slice(alloc, b"open A")?;
-    line.resize(length, b' ')?;
-    line.push(b'\n')?;
-    Ok(line)
+/// Puts behind the lines one of `open A` and blanks, so many bytes in all, and a line feed.
+fn push_long_line(lines: &mut Vec<u8>, length: usize) -> Result<(), AllocError> {
+    let end = lines.len().saturating_add(length);
+    lines.extend_from_slice(b"open A")?;
+    lines.resize(end, b' ')?;
+    lines.push(b'\n')?;
+    Ok(())
 }
 
-/// The lines that are no requests, and around them two that are.
-fn odd_lines(alloc: Global) -> Result<Vec<u8>, AllocError> {
-    let mut lines = Vec::from_slice(alloc, b"open A\n\nwhere A 0\nplace A 0 a1 2147483648 0 N\n")?;
-    lines.extend_from_slice(&long_line(alloc, 4097)?)?;
-    lines.extend_from_slice(&long_line(alloc, 4096)?)?;
-    Ok(lines)
+/// Puts behind the lines some that are no requests, and around them two that are.
+fn push_odd_lines(lines: &mut Vec<u8>) -> Result<(), AllocError> {
+    lines.extend_from_slice(b"open A\n\nwhere A 0\nplace A 0 a1 2147483648 0 N\n")?;
+    push_long_line(lines, 4097)?;
+    push_long_line(lines, 4096)
 }
+
+/// What those lines are told.
+const REFUSED: &[u8] = b"ok 0 0
+|no 1 BadRequest
+|no 1 BadRequest
+|no 1 BadRequest
+|no 1 BadRequest
+|ok 1 0
+|";
 
 #[test]
 fn lines_that_are_no_requests_are_refused(rt: HostRuntime) -> Result<(), Fail> {
-    let lines = odd_lines(rt.alloc())?;
-    let told = fresh(rt.alloc(), &lines, &SOUND)?;
-    assert_eq!(rt; told.served, counted(6, 6, Ending::Done));
-    let refused = "no 1 BadRequest\n|no 1 BadRequest\n|no 1 BadRequest\n|no 1 BadRequest\n|";
-    let log = told.log.as_slice();
-    let log = log.strip_prefix(b"ok 0 0\n|").ok_or("the first reply")?;
-    let log = log.strip_prefix(refused.as_bytes()).ok_or("four refusals")?;
-    assert_eq!(rt; log, b"ok 1 0\n|".as_slice());
+    let mut lines = Vec::new(rt.alloc());
+    push_odd_lines(&mut lines)?;
+    let served = counted(6, 6, Ending::Done);
+    assert!(rt; tells(rt.alloc(), &lines, &SOUND, served, REFUSED)?);
     Ok(())
 }

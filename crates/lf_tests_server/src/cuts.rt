@@ -1,7 +1,10 @@
 //! One script, in pieces of each size and with each call failing in turn.
 
-use crate::connections::{Plan, SOUND, Told, counted, fresh};
-use lf_server::Ending;
+use crate::connections::{Plan, SOUND, counted, serve_bytes, tells};
+use crate::designs::floor;
+use lf_floor::Floor;
+use lf_legalize::PlainSeeker;
+use lf_server::{Ending, Served};
 use std::alloc::Global;
 use std::test::Fail;
 
@@ -28,13 +31,12 @@ const LOG: &[u8] = b"ok 0 0
 #[test]
 fn a_script_in_pieces_of_each_size_is_told_the_same(rt: HostRuntime) -> Result<(), Fail> {
     for piece in 1..=SCRIPT.len() {
-        let told = fresh(rt.alloc(), SCRIPT, &Plan { piece, ..SOUND })?;
-        assert_eq!(rt;
-            told.served,
-            counted(7, 7, Ending::Done),
+        let plan = Plan { piece, ..SOUND };
+        let served = counted(7, 7, Ending::Done);
+        assert!(rt;
+            tells(rt.alloc(), SCRIPT, &plan, served, LOG)?,
             "{piece} bytes a read"
         );
-        assert_eq!(rt; told.log.as_slice(), LOG, "{piece} bytes a read");
     }
     Ok(())
 }
@@ -50,18 +52,17 @@ fn bars(log: &[u8]) -> u64 {
     count
 }
 
-/// Whether a front of the log was written, and the counts are those of the log.
-fn is_front(told: &Told) -> bool {
-    if !LOG.starts_with(&told.log) {
-        return false;
+/// Whether this is a front of the log.
+fn is_front(log: &[u8]) -> bool {
+    LOG.starts_with(log)
+}
+
+/// What is told where so many replies were written whole and flushed: the line whose reply was not is acted on too.
+fn broken_off(answered: u64, ending: Ending) -> Served {
+    match ending {
+        Ending::WriteFault => counted(answered.saturating_add(1), answered, ending),
+        _ => counted(answered, answered, ending),
     }
-    let answered = bars(&told.log);
-    let lines = if told.served.ending == Ending::WriteFault {
-        answered.saturating_add(1)
-    } else {
-        answered
-    };
-    told.served.lines == lines && told.served.answered == answered
 }
 
 /// Reads of 7 bytes and writes of 3.
@@ -71,10 +72,23 @@ const SMALL: Plan = Plan {
     ..SOUND
 };
 
-/// Whether the script over these devices ends so, with a front of the log.
+/// Whether the script over these devices ends so on the floor, with a front of the log, and the counts of that front.
+fn breaks_off_on(
+    alloc: Global,
+    floor: &mut Floor<PlainSeeker>,
+    plan: &Plan,
+    ending: Ending,
+) -> bool {
+    let told = serve_bytes(alloc, floor, SCRIPT, plan);
+    is_front(&told.log) && told.served == broken_off(bars(&told.log), ending)
+}
+
+/// The same of the floor of the built-in design.
 fn breaks_off(alloc: Global, plan: &Plan, ending: Ending) -> Result<bool, Fail> {
-    let told = fresh(alloc, SCRIPT, plan)?;
-    Ok(told.served.ending == ending && is_front(&told))
+    match floor(alloc) {
+        Ok(mut floor) => Ok(breaks_off_on(alloc, &mut floor, plan, ending)),
+        Err(fail) => Err(fail),
+    }
 }
 
 #[test]

@@ -10,11 +10,12 @@ ghost use Rattle.lf_write.specs.Export.{CanBeGiven};
 ghost use Rattle.lf_teams.specs.Places.{AreCommittedPlaces};
 
 use crate::connections::{SOUND, serve_bytes};
-use crate::designs::{library, started};
+use crate::designs::started;
 use lf_def::{DefDoc, W_DEF, read_def};
 use lf_floor::Floor;
 use lf_floorplan::Loaded;
 use lf_frame::{Limits, load};
+use lf_lef::{Library, W_LEF, read_lef};
 use lf_legalize::PlainSeeker;
 use lf_reread::loaded_cells_can_be_given;
 use lf_teams::places_follow_design;
@@ -22,11 +23,12 @@ use lf_write::export;
 use std::alloc::{AllocError, Global};
 use std::test::Fail;
 
-/// What work on a design comes to: what its lines were told, with a bar for each flush, and the exported text.
-#[derive(Drop)]
-struct Worked {
-    log: Vec<u8>,
-    text: Vec<u8>,
+/// Work on a design: lines, what they are told, with a bar for each flush, and the text that is exported then.
+#[derive(Clone, Copy)]
+struct Work<'a> {
+    lines: &'a [u8],
+    log: &'a [u8],
+    text: &'a [u8],
 }
 
 /// The text of the document, with the committed places of the floor in it.
@@ -41,38 +43,78 @@ fn exported(
     export(alloc, document, &places)
 }
 
-/// Serves the lines on the floor of the document's design, and exports it.
-fn work_on(
+/// Whether the text of the document, with the committed places of the floor in it, is this.
+fn is_exported(
+    alloc: Global,
+    floor: &Floor<PlainSeeker>,
+    document: &DefDoc<'_>,
+    text: &[u8],
+) -> Result<bool, Fail>
+    requires fits { (places : List (ℕ × Option Place)) → AreCommittedPlaces floor.now places → CanBeGiven document.now.components places }
+{
+    match exported(alloc, floor, document) {
+        Ok(exported) => Ok(exported.as_slice() == text),
+        Err(error) => Err(Fail::from(error)),
+    }
+}
+
+/// Whether the lines of the work are told its log on the floor.
+fn is_told(alloc: Global, floor: &mut Floor<PlainSeeker>, work: &Work<'_>) -> bool
+    ensures { floor.new.components ≡ floor.old.components }
+{
+    serve_bytes(alloc, floor, work.lines, &SOUND).log.as_slice() == work.log
+}
+
+/// Whether the work comes out so on the floor of the document's design.
+fn works_loaded(
     alloc: Global,
     document: &DefDoc<'_>,
     loaded: Loaded,
-    lines: &[u8],
-) -> Result<Worked, Fail>
+    work: &Work<'_>,
+) -> Result<bool, Fail>
     requires loads { (library : Contents) × (limits : TheLimits) × IsLoadedFrom (inputs library document.now limits) loaded }
 {
     loaded_cells_can_be_given();
     places_follow_design();
     let mut floor = started(alloc, loaded)?;
-    let log = serve_bytes(alloc, &mut floor, lines, &SOUND).log;
-    let text = exported(alloc, &floor, document)?;
-    Ok(Worked { log, text })
+    if !is_told(alloc, &mut floor, work) {
+        return Ok(false);
+    }
+    is_exported(alloc, &floor, document, work.text)
 }
 
-/// Serves the lines on the design of a DEF text over the built-in LEF text, and exports it.
-fn work(alloc: Global, def: &[u8], lines: &[u8]) -> Result<Worked, Fail> {
-    let library = library(alloc)?;
-    let Ok(document) = read_def(alloc, def) else {
-        return Err(Fail::from("a DEF text"));
-    };
-    let Ok(loaded) = load(alloc, &library, &document, Limits::standard()) else {
-        return Err(Fail::from("a design"));
-    };
-    work_on(alloc, &document, loaded, lines)
+/// Whether the work comes out so on the design of a library and a document.
+fn works_read(
+    alloc: Global,
+    library: &Library,
+    document: &DefDoc<'_>,
+    work: &Work<'_>,
+) -> Result<bool, Fail> {
+    match load(alloc, library, document, Limits::standard()) {
+        Ok(loaded) => works_loaded(alloc, document, loaded, work),
+        Err(_) => Err(Fail::from("a design")),
+    }
 }
 
-/// The built-in DEF text with these lines in the place of its five of COMPONENTS; they end in no line feed.
-fn text_of(alloc: Global, components: &[u8]) -> Result<Vec<u8>, AllocError> {
-    let mut text = Vec::new(alloc);
+/// Whether the work comes out so on the design of a library and a DEF text.
+fn works_on(alloc: Global, library: &Library, def: &[u8], work: &Work<'_>) -> Result<bool, Fail> {
+    match read_def(alloc, def) {
+        Ok(document) => works_read(alloc, library, &document, work),
+        Err(_) => Err(Fail::from("a DEF text")),
+    }
+}
+
+/// Whether the work comes out so on the design of a DEF text over the built-in LEF text.
+fn works(alloc: Global, def: &[u8], work: &Work<'_>) -> Result<bool, Fail> {
+    let mut library = Library::new(alloc);
+    match read_lef(&mut library, W_LEF) {
+        Ok(()) => works_on(alloc, &library, def, work),
+        Err(_) => Err(Fail::from("a LEF text")),
+    }
+}
+
+/// Puts behind a text the built-in DEF text, with these lines in the place of its five of COMPONENTS.
+fn fill(text: &mut Vec<u8>, components: &[u8]) -> Result<(), AllocError> {
     for (i, line) in W_DEF.split(|byte| *byte == b'\n').enumerate() {
         if 14 < i && i < 19 {
             continue;
@@ -82,7 +124,16 @@ fn text_of(alloc: Global, components: &[u8]) -> Result<Vec<u8>, AllocError> {
         }
         text.extend_from_slice(if i == 14 { components } else { line })?;
     }
-    Ok(text)
+    Ok(())
+}
+
+/// The built-in DEF text with these lines in the place of its five of COMPONENTS; they end in no line feed.
+fn text_of(alloc: Global, components: &[u8]) -> Result<Vec<u8>, AllocError> {
+    let mut text = Vec::new(alloc);
+    match fill(&mut text, components) {
+        Ok(()) => Ok(text),
+        Err(error) => Err(error),
+    }
 }
 
 /// The three cells of A are placed and committed.
@@ -96,59 +147,83 @@ commit A 0
 /// What these lines are told.
 const MOVED: &[u8] = b"ok 0 0\n|ok 1\n|ok 2\n|ok 3\n|ok 4\n|";
 
+/// Whether a text is exported as it is where nothing is asked.
+fn is_kept(alloc: Global, def: &[u8]) -> Result<bool, Fail> {
+    let work = Work {
+        lines: b"",
+        log: b"",
+        text: def,
+    };
+    works(alloc, def, &work)
+}
+
+/// Whether the work on the design of a text comes out so, and the text of the work is exported as it is.
+fn lasts(alloc: Global, old: &[u8], work: &Work<'_>) -> Result<bool, Fail> {
+    if !works(alloc, old, work)? {
+        return Ok(false);
+    }
+    is_kept(alloc, work.text)
+}
+
+/// Whether one text is exported as the other once A has moved its cells, and that one as it is.
+fn becomes(alloc: Global, old: &[u8], new: &[u8]) -> Result<bool, Fail> {
+    let work = Work {
+        lines: MOVES,
+        log: MOVED,
+        text: new,
+    };
+    lasts(alloc, old, &work)
+}
+
+/// Whether the text is exported as the one with the components once A has moved its cells, and that one as it is.
+fn becomes_one_with(alloc: Global, old: &[u8], components: &[u8]) -> Result<bool, Fail> {
+    match text_of(alloc, components) {
+        Ok(new) => becomes(alloc, old, &new),
+        Err(error) => Err(Fail::from(error)),
+    }
+}
+
 /// Whether the design with these components is exported with those once A has moved its cells, and that text is
 /// exported as it is.
 fn exports(alloc: Global, old: &[u8], new: &[u8]) -> Result<bool, Fail> {
-    let work = work(alloc, &text_of(alloc, old)?, MOVES)?;
-    if work.log.as_slice() != MOVED || work.text.as_slice() != text_of(alloc, new)?.as_slice() {
-        return Ok(false);
+    match text_of(alloc, old) {
+        Ok(old) => becomes_one_with(alloc, &old, new),
+        Err(error) => Err(Fail::from(error)),
     }
-    is_kept(alloc, &work.text)
-}
-
-/// Whether a text is exported as it is where nothing is asked.
-fn is_kept(alloc: Global, def: &[u8]) -> Result<bool, Fail> {
-    Ok(work(alloc, def, b"")?.text.as_slice() == def)
 }
 
 #[test]
-fn a_design_of_which_nothing_is_committed_keeps_its_text(rt: HostRuntime) -> Result<(), Fail> {
+fn what_is_not_committed_is_not_written(rt: HostRuntime) -> Result<(), Fail> {
     assert!(rt; is_kept(rt.alloc(), W_DEF)?);
+    let placed = Work {
+        lines: b"open A\nplace A 0 a1 0 0 N\n",
+        log: b"ok 0 0\n|ok 1\n|",
+        text: W_DEF,
+    };
+    assert!(rt; works(rt.alloc(), W_DEF, &placed)?);
     Ok(())
 }
 
+/// Whether a text loads with the three cells of A where they are put, and is exported as it is.
+fn has_moved_cells(alloc: Global, def: &[u8]) -> Result<bool, Fail> {
+    let work = Work {
+        lines: b"open A\nwhere A 0 a1\nwhere A 0 a2\nwhere A 0 a3\n",
+        log: b"ok 0 0\n|ok 0 0 N\n|ok 400 0 N\n|ok 800 0 N\n|",
+        text: def,
+    };
+    works(alloc, def, &work)
+}
+
 #[test]
-fn cells_that_moved_are_written_anew(rt: HostRuntime) -> Result<(), Fail> {
+fn cells_that_moved_are_written_anew_and_load_there(rt: HostRuntime) -> Result<(), Fail> {
     let new = b"- a1 INV + SOURCE DIST + PLACED ( 0 0 ) N ;
 - a2 INV + PLACED ( 400 0 ) N ;
 - a3 DBL + WEIGHT 3 + PLACED ( 800 0 ) N ;
 - b1 INV ;
 - g1 INV ;";
     let text = text_of(rt.alloc(), new)?;
-    let work = work(rt.alloc(), W_DEF, MOVES)?;
-    assert_eq!(rt; work.log.as_slice(), MOVED);
-    assert_eq!(rt; work.text.as_slice(), text.as_slice());
-    assert!(rt; is_kept(rt.alloc(), &text)?);
-    Ok(())
-}
-
-#[test]
-fn an_exported_text_loads_with_the_cells_where_they_were_put(rt: HostRuntime) -> Result<(), Fail> {
-    let moved = work(rt.alloc(), W_DEF, MOVES)?;
-    let lines = b"open A\nwhere A 0 a1\nwhere A 0 a2\nwhere A 0 a3\n";
-    let again = work(rt.alloc(), &moved.text, lines)?;
-    assert_eq!(rt;
-        again.log.as_slice(),
-        b"ok 0 0\n|ok 0 0 N\n|ok 400 0 N\n|ok 800 0 N\n|".as_slice()
-    );
-    Ok(())
-}
-
-#[test]
-fn what_is_placed_and_not_committed_is_not_written(rt: HostRuntime) -> Result<(), Fail> {
-    let work = work(rt.alloc(), W_DEF, b"open A\nplace A 0 a1 0 0 N\n")?;
-    assert_eq!(rt; work.log.as_slice(), b"ok 0 0\n|ok 1\n|".as_slice());
-    assert_eq!(rt; work.text.as_slice(), W_DEF);
+    assert!(rt; becomes(rt.alloc(), W_DEF, &text)?);
+    assert!(rt; has_moved_cells(rt.alloc(), &text)?);
     Ok(())
 }
 
@@ -226,10 +301,13 @@ fn a_semicolon_may_end_a_name(rt: HostRuntime) -> Result<(), Fail> {
 - a3 DBL + PLACED ( 800 0 ) N ;
 - b1 INV ;
 - g1 INV ;";
-    let lines = b"open A\nplace A 0 a1; 0 0 N\ncommit A 0\n";
-    let work = work(rt.alloc(), &text_of(rt.alloc(), old)?, lines)?;
-    assert_eq!(rt; work.log.as_slice(), b"ok 0 0\n|ok 1\n|ok 2\n|".as_slice());
-    assert_eq!(rt; work.text.as_slice(), text_of(rt.alloc(), new)?.as_slice());
-    assert!(rt; is_kept(rt.alloc(), &work.text)?);
+    let old = text_of(rt.alloc(), old)?;
+    let new = text_of(rt.alloc(), new)?;
+    let work = Work {
+        lines: b"open A\nplace A 0 a1; 0 0 N\ncommit A 0\n",
+        log: b"ok 0 0\n|ok 1\n|ok 2\n|",
+        text: &new,
+    };
+    assert!(rt; lasts(rt.alloc(), &old, &work)?);
     Ok(())
 }
