@@ -8,6 +8,7 @@ ghost use Rattle.lf_frame.specs.Loads.{IsLoadedFrom};
 ghost use Rattle.lf_refusals.specs.Findings.{inputs};
 ghost use Rattle.lf_write.specs.Export.{CanBeGiven};
 ghost use Rattle.lf_teams.specs.Places.{AreCommittedPlaces};
+ghost use Rattle.lf_teams.specs.States.{FloorState};
 
 use crate::connections::{SOUND, serve_bytes};
 use crate::designs::started;
@@ -66,6 +67,22 @@ fn is_told(alloc: Global, floor: &mut Floor<PlainSeeker>, work: &Work<'_>) -> bo
 }
 
 /// Whether the work comes out so on the floor of the document's design.
+fn comes_out(
+    alloc: Global,
+    floor: &mut Floor<PlainSeeker>,
+    document: &DefDoc<'_>,
+    work: &Work<'_>,
+) -> Result<bool, Fail>
+    requires fits { (s : FloorState) (places : List (ℕ × Option Place)) → s.components ≡ floor.old.components → AreCommittedPlaces s places
+        → CanBeGiven document.now.components places }
+{
+    if !is_told(alloc, floor, work) {
+        return Ok(false);
+    }
+    is_exported(alloc, floor, document, work.text)
+}
+
+/// Whether the work comes out so on the document's design.
 fn works_loaded(
     alloc: Global,
     document: &DefDoc<'_>,
@@ -76,11 +93,10 @@ fn works_loaded(
 {
     loaded_cells_can_be_given();
     places_follow_design();
-    let mut floor = started(alloc, loaded)?;
-    if !is_told(alloc, &mut floor, work) {
-        return Ok(false);
+    match started(alloc, loaded) {
+        Ok(mut floor) => comes_out(alloc, &mut floor, document, work),
+        Err(fail) => Err(fail),
     }
-    is_exported(alloc, &floor, document, work.text)
 }
 
 /// Whether the work comes out so on the design of a library and a document.
