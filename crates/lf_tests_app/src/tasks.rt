@@ -30,6 +30,14 @@ impl<'a> Kept<'a> {
             alloc,
         }
     }
+
+    /// Whether a text was put, and the last one is this.
+    fn holds(&self, text: &[u8]) -> bool {
+        match &self.text {
+            Some(kept) => kept.as_slice() == text,
+            None => false,
+        }
+    }
 }
 
 impl<'a> Exports for Kept<'a> {
@@ -68,28 +76,59 @@ fn told(status: u8) -> Exit {
     }
 }
 
-#[test]
-fn a_line_that_is_no_request_is_refused(rt: HostRuntime) -> Result<(), Fail> {
-    let mut input = Vec::from_slice(
-        rt.alloc(),
-        b"open A\n\nwhere A 0\nplace A 0 a1 2147483648 0 N\ndef A\n\xff\x00\nopen A\r\n",
-    )?;
-    input.extend_from_slice(b"open A")?;
-    for _ in 0..4091 {
-        input.push(b' ')?;
+/// What a task does: how it ends, what it writes and what it tells of faults.
+#[derive(Drop)]
+struct Run {
+    exit: Exit,
+    written: Vec<u8>,
+    faults: Vec<u8>,
+}
+
+impl Run {
+    /// Whether it ends with this status, of which all was told, writes this and tells this of faults.
+    fn is(&self, status: u8, written: &str, faults: &str) -> bool {
+        self.exit == told(status)
+            && self.written.as_slice() == written.as_bytes()
+            && self.faults.as_slice() == faults.as_bytes()
     }
-    input.extend_from_slice(b"\nopen A")?;
-    for _ in 0..4090 {
-        input.push(b' ')?;
-    }
-    let mut reader = input.as_slice();
+}
+
+/// Does the demo over a reader.
+fn demo_of<R: Read>(rt: &HostRuntime, reader: &mut R) -> Run {
     let mut written = Vec::new(rt.alloc());
     let mut faults = Vec::new(rt.alloc());
-    let exit = demo(&rt, &mut reader, &mut written, &mut faults);
-    assert_eq!(rt; exit, told(0));
-    let expected = "ok 0 0\nno 1 BadRequest\nno 1 BadRequest\nno 1 BadRequest\nno 1 BadRequest\n\
+    let exit = demo(rt, reader, &mut written, &mut faults);
+    Run {
+        exit,
+        written,
+        faults,
+    }
+}
+
+/// The bytes of these parts, one behind the other.
+fn joined(alloc: Global, parts: &[&[u8]]) -> Result<Vec<u8>, AllocError> {
+    let mut bytes = Vec::new(alloc);
+    for part in parts {
+        bytes.extend_from_slice(part)?;
+    }
+    Ok(bytes)
+}
+
+/// Of the last two lines, one is a byte longer than the longest that is read, and one as long as this.
+#[test]
+fn a_line_that_is_no_request_is_refused(rt: HostRuntime) -> Result<(), Fail> {
+    let parts: [&[u8]; 6] = [
+        b"open A\n\nwhere A 0\nplace A 0 a1 2147483648 0 N\ndef A\n\xff\x00\nopen A\r\n",
+        b"open A",
+        &[b' '; 4091],
+        b"\n",
+        b"open A",
+        &[b' '; 4090],
+    ];
+    let input = joined(rt.alloc(), parts.as_slice())?;
+    let replies = "ok 0 0\nno 1 BadRequest\nno 1 BadRequest\nno 1 BadRequest\nno 1 BadRequest\n\
         no 1 BadRequest\nok 1 0\nno 1 BadRequest\nok 2 0\n";
-    assert_eq!(rt; written.as_slice(), expected.as_bytes());
+    assert!(rt; demo_of(&rt, &mut input.as_slice()).is(0, replies, ""));
     Ok(())
 }
 
@@ -113,19 +152,19 @@ impl Write for Failing {
     }
 }
 
+/// Whether the demo over these ends with status 3 and this line of a fault.
+fn fails<R: Read, W: Write>(rt: &HostRuntime, reader: &mut R, writer: &mut W, fault: &str) -> bool {
+    let mut faults = Vec::new(rt.alloc());
+    let exit = demo(rt, reader, writer, &mut faults);
+    exit == told(3) && faults.as_slice() == fault.as_bytes()
+}
+
 #[test]
-fn a_device_that_fails_ends_the_demo(rt: HostRuntime) -> Result<(), Fail> {
+fn a_device_that_fails_ends_the_demo(rt: HostRuntime) {
     let mut written = Vec::new(rt.alloc());
-    let mut faults = Vec::new(rt.alloc());
-    let exit = demo(&rt, &mut Failing, &mut written, &mut faults);
-    assert_eq!(rt; exit, told(3));
-    assert_eq!(rt; faults.as_slice(), b"lefence: ReadFault\n".as_slice());
-    let mut faults = Vec::new(rt.alloc());
+    assert!(rt; fails(&rt, &mut Failing, &mut written, "lefence: ReadFault\n"));
     let mut reader = b"open A\n".as_slice();
-    let exit = demo(&rt, &mut reader, &mut Failing, &mut faults);
-    assert_eq!(rt; exit, told(3));
-    assert_eq!(rt; faults.as_slice(), b"lefence: WriteFault\n".as_slice());
-    Ok(())
+    assert!(rt; fails(&rt, &mut reader, &mut Failing, "lefence: WriteFault\n"));
 }
 
 #[test]
@@ -139,37 +178,35 @@ fn a_fault_that_cannot_be_told_is_no_further_fault(rt: HostRuntime) {
     assert_eq!(rt; exit, untold);
 }
 
-/// What a task does: how it ends, what it writes and what it tells of faults.
-#[derive(Drop)]
-struct Run {
-    exit: Exit,
-    written: Vec<u8>,
-    faults: Vec<u8>,
-}
-
-/// Does the task over the files on the shelf, with exported texts kept in memory.
-fn exporting(
+/// Does the task over the files on the shelf, with these devices and exported texts kept in memory.
+fn with_devices<R: Read, W: Write, F: Write>(
     rt: &HostRuntime,
     files: &[(&str, Option<&[u8]>)],
     exports: &mut Kept<'_>,
     task: &Task<'_>,
-    input: &str,
-) -> Run {
-    let alloc = rt.alloc();
-    let shelf = Shelf { alloc, files };
-    let mut reader = input.as_bytes();
-    let mut written = Vec::new(alloc);
-    let mut faults = Vec::new(alloc);
+    reader: &mut R,
+    writer: &mut W,
+    faults: &mut F,
+) -> Exit {
+    let shelf = Shelf {
+        alloc: rt.alloc(),
+        files,
+    };
     let texts = FileTexts::new(&shelf);
-    let exit = perform_over(
-        rt,
-        &texts,
-        exports,
-        task,
-        &mut reader,
-        &mut written,
-        &mut faults,
-    );
+    perform_over(rt, &texts, exports, task, reader, writer, faults)
+}
+
+/// Does the task over the files on the shelf, with exported texts kept in memory.
+fn exporting<R: Read>(
+    rt: &HostRuntime,
+    files: &[(&str, Option<&[u8]>)],
+    exports: &mut Kept<'_>,
+    task: &Task<'_>,
+    reader: &mut R,
+) -> Run {
+    let mut written = Vec::new(rt.alloc());
+    let mut faults = Vec::new(rt.alloc());
+    let exit = with_devices(rt, files, exports, task, reader, &mut written, &mut faults);
     Run {
         exit,
         written,
@@ -180,8 +217,11 @@ fn exporting(
 /// Does the task over the files on the shelf, where no text can be exported.
 fn done(rt: &HostRuntime, files: &[(&str, Option<&[u8]>)], task: &Task<'_>, input: &str) -> Run {
     let mut exports = Kept::at(rt.alloc(), None);
-    exporting(rt, files, &mut exports, task, input)
+    exporting(rt, files, &mut exports, task, &mut input.as_bytes())
 }
+
+/// The path of the LEF file that the sample is loaded over, as the only one.
+const LEFS: &[&str] = &["w.lef"];
 
 /// Replays `w.def` over the LEF files of these paths, of the files on the shelf.
 fn replayed(
@@ -198,31 +238,38 @@ fn replayed(
     Ok(done(rt, files, &task, input))
 }
 
+/// The path of the only LEF file, as a task holds it.
+fn only_lef<'a>(alloc: Global) -> Result<Sequence<&'a str>, AllocError> {
+    let paths: &'a [&'a str] = LEFS;
+    match Vec::from_slice(alloc, paths) {
+        Ok(lefs) => Ok(Sequence::from_vec(lefs)),
+        Err(error) => Err(error),
+    }
+}
+
 /// The check of `w.def` over `w.lef`.
 fn check_of_w<'a>(alloc: Global) -> Result<Task<'a>, AllocError> {
-    let mut lefs = Vec::new(alloc);
-    lefs.push("w.lef")?;
     Ok(Task::Check {
         def: "w.def",
-        lefs: Sequence::from_vec(lefs),
+        lefs: only_lef(alloc)?,
     })
 }
 
-/// Checks this DEF text over the sample LEF text.
-fn checked(rt: &HostRuntime, def: &[u8]) -> Result<Run, AllocError> {
-    let files = [("w.lef", Some(W_LEF)), ("w.def", Some(def))];
-    let task = check_of_w(rt.alloc())?;
-    Ok(done(rt, files.as_slice(), &task, "open A\n"))
+/// The sample LEF text as `w.lef`, and this DEF text as `w.def`.
+fn files_of<'a>(def: &'a [u8]) -> [(&'a str, Option<&'a [u8]>); 2] {
+    [("w.lef", Some(W_LEF)), ("w.def", Some(def))]
 }
 
-/// Whether the check of this DEF text ends with this status and writes this report.
-fn reports(rt: &HostRuntime, def: &[u8], status: u8, report: &str) -> Result<bool, AllocError> {
-    let run = checked(rt, def)?;
-    Ok(
-        run.exit == told(status)
-            && run.faults.is_empty()
-            && run.written.as_slice() == report.as_bytes(),
-    )
+/// Whether the check over these files ends with this status, writes this report and tells this of faults.
+fn checks(
+    rt: &HostRuntime,
+    files: &[(&str, Option<&[u8]>)],
+    status: u8,
+    report: &str,
+    faults: &str,
+) -> Result<bool, AllocError> {
+    let task = check_of_w(rt.alloc())?;
+    Ok(done(rt, files, &task, "open A\n").is(status, report, faults))
 }
 
 /// Whether a replay over these files ends with this status and this line of a fault, and writes nothing.
@@ -234,43 +281,33 @@ fn ends(
     fault: &str,
 ) -> Result<bool, AllocError> {
     let run = replayed(rt, files, lefs, "open A\n")?;
-    Ok(
-        run.exit == told(status)
-            && run.written.is_empty()
-            && run.faults.as_slice() == fault.as_bytes(),
-    )
+    Ok(run.is(status, "", fault))
 }
 
 #[test]
 fn a_design_of_files_is_replayed(rt: HostRuntime) -> Result<(), Fail> {
-    let files = [("w.lef", Some(W_LEF)), ("w.def", Some(W_DEF))];
     let input = "open A\nplace A 0 a1 0 0 N\nwhere A 0 a1\n";
-    let run = replayed(&rt, files.as_slice(), ["w.lef"].as_slice(), input)?;
-    assert_eq!(rt; run.exit, told(0));
-    assert_eq!(rt; run.faults.as_slice(), b"".as_slice());
-    assert_eq!(rt;
-        run.written.as_slice(),
-        b"ok 0 0\nok 1\nok 0 0 N\n".as_slice()
-    );
+    let run = replayed(&rt, &files_of(W_DEF), LEFS, input)?;
+    assert!(rt; run.is(0, "ok 0 0\nok 1\nok 0 0 N\n", ""));
     Ok(())
 }
 
+/// The fence of B is a unit too wide, for a replay as for a check.
 #[test]
 fn fences_that_overlap_are_refused(rt: HostRuntime) -> Result<(), Fail> {
     let fence = b"- B ( 3999 0 ) ( 10000 8000 ) + TYPE FENCE ;";
     let def = with_line(rt.alloc(), W_DEF, 12, fence)?;
-    let files = [("w.lef", Some(W_LEF)), ("w.def", Some(def.as_slice()))];
     let fault = "lefence: 21 FencesOverlap B\n";
-    assert!(rt; ends(&rt, files.as_slice(), ["w.lef"].as_slice(), 1, fault)?);
+    assert!(rt; ends(&rt, &files_of(&def), LEFS, 1, fault)?);
+    assert!(rt; checks(&rt, &files_of(&def), 1, "", fault)?);
     Ok(())
 }
 
 #[test]
 fn a_text_that_is_none_is_refused_with_its_line(rt: HostRuntime) -> Result<(), Fail> {
     let def = with_line(rt.alloc(), W_DEF, 20, b"END REGIONS")?;
-    let files = [("w.lef", Some(W_LEF)), ("w.def", Some(def.as_slice()))];
     let fault = "lefence: 5 WrongEnd line 20\n";
-    assert!(rt; ends(&rt, files.as_slice(), ["w.lef"].as_slice(), 1, fault)?);
+    assert!(rt; ends(&rt, &files_of(&def), LEFS, 1, fault)?);
     Ok(())
 }
 
@@ -303,49 +340,72 @@ fn a_replay_reads_its_own_lef_files_alone(rt: HostRuntime) -> Result<(), Fail> {
 fn a_file_that_cannot_be_read_is_a_fault(rt: HostRuntime) -> Result<(), Fail> {
     let files = [("w.lef", Some(W_LEF)), ("folder", None)];
     let fault = "lefence: File\n";
-    assert!(rt; ends(&rt, files.as_slice(), ["w.lef"].as_slice(), 3, fault)?);
+    assert!(rt; ends(&rt, files.as_slice(), LEFS, 3, fault)?);
     assert!(rt; ends(&rt, files.as_slice(), ["x.lef"].as_slice(), 3, fault)?);
     assert!(rt; ends(&rt, files.as_slice(), ["folder"].as_slice(), 3, fault)?);
     Ok(())
 }
 
-/// The sample DEF text with a legal place for each cell but the second, whose entry is this.
-fn placed(alloc: Global, second: &[u8]) -> Result<Vec<u8>, AllocError> {
-    let text = with_line(alloc, W_DEF, 15, b"- a1 INV + PLACED ( 0 0 ) N ;")?;
-    let text = with_line(alloc, &text, 16, second)?;
-    let text = with_line(alloc, &text, 17, b"- a3 DBL + PLACED ( 800 0 ) N ;")?;
-    let text = with_line(alloc, &text, 18, b"- b1 INV + PLACED ( 6000 0 ) N ;")?;
-    with_line(alloc, &text, 19, b"- g1 INV + PLACED ( 4400 0 ) N ;")
+/// The entry that takes the place of the line of that number from 0: the first component of the sample stands in 14.
+fn entry_at<'a>(entries: &[&'a [u8]], number: usize) -> Option<&'a [u8]> {
+    match number.checked_sub(14) {
+        Some(place) => match entries.get(place) {
+            Some(entry) => Some(*entry),
+            None => None,
+        },
+        None => None,
+    }
+}
+
+/// The sample DEF text, whose first components have these entries.
+fn with_entries(alloc: Global, entries: &[&[u8]]) -> Result<Vec<u8>, AllocError> {
+    let mut text = Vec::new(alloc);
+    for (i, line) in W_DEF.split(|byte| *byte == b'\n').enumerate() {
+        if i > 0 {
+            text.push(b'\n')?;
+        }
+        match entry_at(entries, i) {
+            Some(entry) => text.extend_from_slice(entry)?,
+            None => text.extend_from_slice(line)?,
+        }
+    }
+    Ok(text)
+}
+
+/// Whether the check of the sample with a place for each cell, for the second this entry, ends so.
+fn checks_placed(
+    rt: &HostRuntime,
+    second: &[u8],
+    status: u8,
+    report: &str,
+) -> Result<bool, AllocError> {
+    let entries: [&[u8]; 5] = [
+        b"- a1 INV + PLACED ( 0 0 ) N ;",
+        second,
+        b"- a3 DBL + PLACED ( 800 0 ) N ;",
+        b"- b1 INV + PLACED ( 6000 0 ) N ;",
+        b"- g1 INV + PLACED ( 4400 0 ) N ;",
+    ];
+    let def = with_entries(rt.alloc(), entries.as_slice())?;
+    checks(rt, &files_of(&def), status, report, "")
 }
 
 #[test]
 fn a_design_is_checked(rt: HostRuntime) -> Result<(), Fail> {
     let report = "{\"cells\":5,\"unplaced\":5,\"violations\":[]}\n";
-    assert!(rt; reports(&rt, W_DEF, 4, report)?);
-    let def = placed(rt.alloc(), b"- a2 INV + PLACED ( 400 0 ) N ;")?;
+    assert!(rt; checks(&rt, &files_of(W_DEF), 4, report, "")?);
     let report = "{\"cells\":5,\"unplaced\":0,\"violations\":[]}\n";
-    assert!(rt; reports(&rt, &def, 0, report)?);
-    let def = placed(rt.alloc(), b"- a2 INV + PLACED ( 200 0 ) N ;")?;
+    assert!(rt; checks_placed(&rt, b"- a2 INV + PLACED ( 400 0 ) N ;", 0, report)?);
     let report = "{\"cells\":5,\"unplaced\":0,\"violations\":\
         [{\"cell\":\"a1\",\"other\":\"a2\",\"rule\":8},{\"cell\":\"a2\",\"other\":\"a1\",\"rule\":8}]}\n";
-    assert!(rt; reports(&rt, &def, 4, report)?);
+    assert!(rt; checks_placed(&rt, b"- a2 INV + PLACED ( 200 0 ) N ;", 4, report)?);
     Ok(())
 }
 
 #[test]
-fn a_check_that_cannot_be_made_is_a_fault(rt: HostRuntime) -> Result<(), Fail> {
-    let fence = b"- B ( 3999 0 ) ( 10000 8000 ) + TYPE FENCE ;";
-    let def = with_line(rt.alloc(), W_DEF, 12, fence)?;
-    let run = checked(&rt, &def)?;
-    assert_eq!(rt; (run.exit.status, run.written.is_empty()), (1, true));
-    assert_eq!(rt;
-        run.faults.as_slice(),
-        b"lefence: 21 FencesOverlap B\n".as_slice()
-    );
+fn a_check_without_its_file_is_a_fault(rt: HostRuntime) -> Result<(), Fail> {
     let files = [("w.lef", Some(W_LEF))];
-    let run = done(&rt, files.as_slice(), &check_of_w(rt.alloc())?, "");
-    assert_eq!(rt; (run.exit.status, run.written.is_empty()), (3, true));
-    assert_eq!(rt; run.faults.as_slice(), b"lefence: File\n".as_slice());
+    assert!(rt; checks(&rt, files.as_slice(), 3, "", "lefence: File\n")?);
     Ok(())
 }
 
@@ -396,75 +456,56 @@ impl<'a> Read for Cut<'a> {
     }
 }
 
-#[test]
-fn each_reply_is_flushed(rt: HostRuntime) -> Result<(), Fail> {
+/// Whether the demo over this reader ends with this status, and writes these bytes, with a bar for each flush.
+fn logs<R: Read>(rt: &HostRuntime, reader: &mut R, status: u8, taken: &str) -> bool {
     let mut faults = Vec::new(rt.alloc());
     let mut log = Log {
         taken: Vec::new(rt.alloc()),
     };
+    let exit = demo(rt, reader, &mut log, &mut faults);
+    exit == told(status) && log.taken.as_slice() == taken.as_bytes()
+}
+
+#[test]
+fn each_reply_is_flushed(rt: HostRuntime) {
     let mut reader = b"open A\nopen A\nopen A".as_slice();
-    let exit = demo(&rt, &mut reader, &mut log, &mut faults);
-    assert_eq!(rt; exit, told(0));
-    assert_eq!(rt;
-        log.taken.as_slice(),
-        b"ok 0 0\n|ok 1 0\n|ok 2 0\n|".as_slice()
-    );
-    let mut log = Log {
-        taken: Vec::new(rt.alloc()),
-    };
+    assert!(rt; logs(&rt, &mut reader, 0, "ok 0 0\n|ok 1 0\n|ok 2 0\n|"));
     let mut reader = Cut {
         bytes: b"open A\nopen A",
     };
-    let exit = demo(&rt, &mut reader, &mut log, &mut faults);
-    assert_eq!(rt; exit, told(3));
-    assert_eq!(rt; log.taken.as_slice(), b"ok 0 0\n|".as_slice());
-    Ok(())
+    assert!(rt; logs(&rt, &mut reader, 3, "ok 0 0\n|"));
+}
+
+/// Whether the task over the sample, which reads nothing and writes to this, ends with a fault of its output.
+fn is_output_fault<W: Write>(rt: &HostRuntime, task: &Task<'_>, writer: &mut W) -> bool {
+    let files = files_of(W_DEF);
+    let mut exports = Kept::at(rt.alloc(), None);
+    let mut faults = Vec::new(rt.alloc());
+    let exit = with_devices(
+        rt,
+        files.as_slice(),
+        &mut exports,
+        task,
+        &mut Failing,
+        writer,
+        &mut faults,
+    );
+    exit == told(3) && faults.as_slice() == b"lefence: Output\n".as_slice()
 }
 
 #[test]
 fn a_report_that_cannot_be_written_is_a_fault(rt: HostRuntime) -> Result<(), Fail> {
-    let files = [("w.lef", Some(W_LEF)), ("w.def", Some(W_DEF))];
-    let shelf = Shelf {
-        alloc: rt.alloc(),
-        files: files.as_slice(),
-    };
-    let texts = FileTexts::new(&shelf);
     let task = check_of_w(rt.alloc())?;
-    let mut faults = Vec::new(rt.alloc());
-    let mut exports = Kept::at(rt.alloc(), None);
-    let exit = perform_over(
-        &rt,
-        &texts,
-        &mut exports,
-        &task,
-        &mut Failing,
-        &mut Failing,
-        &mut faults,
-    );
-    assert_eq!(rt; exit, told(3));
-    assert_eq!(rt; faults.as_slice(), b"lefence: Output\n".as_slice());
-    let mut faults = Vec::new(rt.alloc());
-    let exit = perform_over(
-        &rt,
-        &texts,
-        &mut exports,
-        &task,
-        &mut Failing,
-        &mut Unflushed,
-        &mut faults,
-    );
-    assert_eq!(rt; exit, told(3));
-    assert_eq!(rt; faults.as_slice(), b"lefence: Output\n".as_slice());
+    assert!(rt; is_output_fault(&rt, &task, &mut Failing));
+    assert!(rt; is_output_fault(&rt, &task, &mut Unflushed));
     Ok(())
 }
 
 /// The replay of `w.def` over `w.lef` whose text is exported to `new.def`.
 fn exporting_replay<'a>(alloc: Global) -> Result<Task<'a>, AllocError> {
-    let mut lefs = Vec::new(alloc);
-    lefs.push("w.lef")?;
     Ok(Task::Replay {
         def: "w.def",
-        lefs: Sequence::from_vec(lefs),
+        lefs: only_lef(alloc)?,
         export: Some("new.def"),
     })
 }
@@ -473,110 +514,89 @@ fn exporting_replay<'a>(alloc: Global) -> Result<Task<'a>, AllocError> {
 const COMMITTED: &str =
     "open A\nplace A 0 a1 0 0 N\nplace A 0 a2 400 0 N\nplace A 0 a3 800 0 N\ncommit A 0\n";
 
-#[test]
-fn what_is_committed_is_exported(rt: HostRuntime) -> Result<(), Fail> {
-    let files = [("w.lef", Some(W_LEF)), ("w.def", Some(W_DEF))];
+/// Whether the replay of these lines that exports to `new.def` writes these replies, and exports this text.
+fn exports_text(
+    rt: &HostRuntime,
+    lines: &str,
+    replies: &str,
+    text: &[u8],
+) -> Result<bool, AllocError> {
     let task = exporting_replay(rt.alloc())?;
     let mut exports = Kept::at(rt.alloc(), Some("new.def"));
-    let run = exporting(&rt, files.as_slice(), &mut exports, &task, COMMITTED);
-    assert_eq!(rt; run.exit, told(0));
-    assert_eq!(rt;
-        run.written.as_slice(),
-        b"ok 0 0\nok 1\nok 2\nok 3\nok 4\n".as_slice()
-    );
-    let text = with_line(
-        rt.alloc(),
-        W_DEF,
-        15,
+    let mut reader = lines.as_bytes();
+    let run = exporting(rt, &files_of(W_DEF), &mut exports, &task, &mut reader);
+    Ok(run.is(0, replies, "") && exports.holds(text))
+}
+
+#[test]
+fn what_is_committed_is_exported(rt: HostRuntime) -> Result<(), Fail> {
+    let entries: [&[u8]; 3] = [
         b"- a1 INV + SOURCE DIST + PLACED ( 0 0 ) N ;",
-    )?;
-    let text = with_line(rt.alloc(), &text, 16, b"- a2 INV + PLACED ( 400 0 ) N ;")?;
-    let text = with_line(
-        rt.alloc(),
-        &text,
-        17,
+        b"- a2 INV + PLACED ( 400 0 ) N ;",
         b"- a3 DBL + WEIGHT 3 + PLACED ( 800 0 ) N ;",
-    )?;
-    assert!(rt; exports.text == Some(text));
+    ];
+    let text = with_entries(rt.alloc(), entries.as_slice())?;
+    let replies = "ok 0 0\nok 1\nok 2\nok 3\nok 4\n";
+    assert!(rt; exports_text(&rt, COMMITTED, replies, &text)?);
     Ok(())
 }
 
 #[test]
 fn what_works_alone_is_not_exported(rt: HostRuntime) -> Result<(), Fail> {
-    let files = [("w.lef", Some(W_LEF)), ("w.def", Some(W_DEF))];
-    let task = exporting_replay(rt.alloc())?;
-    let mut exports = Kept::at(rt.alloc(), Some("new.def"));
     let lines = "open A\nplace A 0 a1 0 0 N\nbye\nplace A 0 a2 400 0 N\n";
-    let run = exporting(&rt, files.as_slice(), &mut exports, &task, lines);
-    assert_eq!(rt; run.exit, told(0));
-    assert_eq!(rt; run.written.as_slice(), b"ok 0 0\nok 1\nok\n".as_slice());
-    assert!(rt; exports.text == Some(Vec::from_slice(rt.alloc(), W_DEF)?));
+    assert!(rt; exports_text(&rt, lines, "ok 0 0\nok 1\nok\n", W_DEF)?);
     Ok(())
 }
 
 #[test]
 fn an_export_that_cannot_be_written_is_a_fault(rt: HostRuntime) -> Result<(), Fail> {
-    let files = [("w.lef", Some(W_LEF)), ("w.def", Some(W_DEF))];
     let task = exporting_replay(rt.alloc())?;
-    let run = done(&rt, files.as_slice(), &task, "open A\n");
-    assert_eq!(rt; run.exit, told(3));
-    assert_eq!(rt; run.written.as_slice(), b"ok 0 0\n".as_slice());
-    assert_eq!(rt; run.faults.as_slice(), b"lefence: File\n".as_slice());
+    let run = done(&rt, &files_of(W_DEF), &task, "open A\n");
+    assert!(rt; run.is(3, "ok 0 0\n", "lefence: File\n"));
     Ok(())
 }
 
-#[test]
-fn nothing_is_exported_after_a_fault(rt: HostRuntime) -> Result<(), Fail> {
-    let files = [("w.lef", Some(W_LEF)), ("w.def", Some(W_DEF))];
-    let shelf = Shelf {
-        alloc: rt.alloc(),
-        files: files.as_slice(),
-    };
-    let texts = FileTexts::new(&shelf);
-    let task = exporting_replay(rt.alloc())?;
+/// Whether the task over the sample, whose reader fails behind the committed lines, tells that and exports nothing.
+fn exports_nothing(rt: &HostRuntime, task: &Task<'_>) -> bool {
     let mut exports = Kept::at(rt.alloc(), Some("new.def"));
     let mut reader = Cut {
         bytes: COMMITTED.as_bytes(),
     };
-    let mut written = Vec::new(rt.alloc());
-    let mut faults = Vec::new(rt.alloc());
-    let exit = perform_over(
-        &rt,
-        &texts,
-        &mut exports,
-        &task,
-        &mut reader,
-        &mut written,
-        &mut faults,
-    );
-    assert_eq!(rt; exit, told(3));
-    assert_eq!(rt; faults.as_slice(), b"lefence: ReadFault\n".as_slice());
-    assert!(rt; exports.text.is_none());
+    let run = exporting(rt, &files_of(W_DEF), &mut exports, task, &mut reader);
+    run.exit == told(3)
+        && run.faults.as_slice() == b"lefence: ReadFault\n".as_slice()
+        && exports.text.is_none()
+}
+
+#[test]
+fn nothing_is_exported_after_a_fault(rt: HostRuntime) -> Result<(), Fail> {
+    let task = exporting_replay(rt.alloc())?;
+    assert!(rt; exports_nothing(&rt, &task));
     Ok(())
 }
 
 /// The service of `w.def` over `w.lef` to this port, for one connection.
 fn service<'a>(alloc: Global, port: u16) -> Result<Task<'a>, AllocError> {
-    let mut lefs = Vec::new(alloc);
-    lefs.push("w.lef")?;
     Ok(Task::Serve {
         def: "w.def",
-        lefs: Sequence::from_vec(lefs),
+        lefs: only_lef(alloc)?,
         port,
         connections: 1,
         export: None,
     })
 }
 
+/// Whether the service of the sample to this port ends with the fault that it cannot be listened on.
+fn is_taken(rt: &HostRuntime, port: u16) -> Result<bool, AllocError> {
+    let task = service(rt.alloc(), port)?;
+    Ok(done(rt, &files_of(W_DEF), &task, "").is(3, "", "lefence: Bind\n"))
+}
+
 #[test]
 fn a_port_that_is_taken_is_a_fault(rt: HostRuntime) -> Result<(), Fail> {
     let taken = rt.bind(SocketAddr::from((Ipv4Addr::LOCALHOST, 0)))?;
-    let files = [("w.lef", Some(W_LEF)), ("w.def", Some(W_DEF))];
-    let task = service(rt.alloc(), taken.local_addr()?.port())?;
-    let run = done(&rt, files.as_slice(), &task, "");
-    assert_eq!(rt; run.exit, told(3));
-    assert!(rt; run.written.is_empty());
-    assert_eq!(rt; run.faults.as_slice(), b"lefence: Bind\n".as_slice());
+    let port = taken.local_addr()?.port();
+    assert!(rt; is_taken(&rt, port)?);
     Ok(())
 }
 
@@ -586,7 +606,6 @@ fn a_task_is_done_over_the_files_of_a_runtime(rt: HostRuntime) {
     let mut written = Vec::new(rt.alloc());
     let mut faults = Vec::new(rt.alloc());
     let status = perform(&rt, &Task::Demo, &mut reader, &mut written, &mut faults);
-    assert_eq!(rt; status, 0);
-    assert_eq!(rt; written.as_slice(), b"ok 0 0\nok\n".as_slice());
-    assert!(rt; faults.is_empty());
+    let is_done = written.as_slice() == b"ok 0 0\nok\n".as_slice() && faults.is_empty();
+    assert!(rt; status == 0 && is_done);
 }

@@ -4,64 +4,119 @@ use lf_app::{Task, UsageFault, command_of};
 use std::alloc::{AllocError, Global};
 use std::test::Fail;
 
+/// What words name: a task, whose LEF files are a slice here, or why they name none.
+#[derive(Clone, Copy, PartialEq, Eq)]
+enum Named<'a> {
+    Demo,
+    Replay {
+        def: &'a str,
+        lefs: &'a [&'a str],
+        export: Option<&'a str>,
+    },
+    Serve {
+        def: &'a str,
+        lefs: &'a [&'a str],
+        port: u16,
+        connections: u32,
+        export: Option<&'a str>,
+    },
+    Check {
+        def: &'a str,
+        lefs: &'a [&'a str],
+    },
+    Nothing(UsageFault),
+}
+
+/// The task, as words name it.
+fn as_named<'a>(task: &'a Task<'a>) -> Named<'a> {
+    match task {
+        Task::Demo => Named::Demo,
+        Task::Replay { def, lefs, export } => Named::Replay {
+            def: *def,
+            lefs: lefs.as_slice(),
+            export: *export,
+        },
+        Task::Serve {
+            def,
+            lefs,
+            port,
+            connections,
+            export,
+        } => Named::Serve {
+            def: *def,
+            lefs: lefs.as_slice(),
+            port: *port,
+            connections: *connections,
+            export: *export,
+        },
+        Task::Check { def, lefs } => Named::Check {
+            def: *def,
+            lefs: lefs.as_slice(),
+        },
+    }
+}
+
+/// Whether this was named.
+fn is_named(task: &Result<Task<'_>, UsageFault>, named: &Named<'_>) -> bool {
+    match task {
+        Ok(task) => as_named(task) == *named,
+        Err(fault) => Named::Nothing(*fault) == *named,
+    }
+}
+
 /// The words of a line.
 fn words_of<'a>(alloc: Global, line: &'a str) -> Result<Vec<&'a str>, AllocError> {
-    let mut words = Vec::new(alloc);
-    for word in line.split_whitespace() {
-        words.push(word)?;
-    }
-    Ok(words)
+    line.split_whitespace().collect(alloc)
 }
 
-/// Whether the words of the line are refused.
-fn is_usage(alloc: Global, line: &str) -> Result<bool, AllocError> {
+/// Whether the words of the line name this.
+fn names(alloc: Global, line: &str, named: &Named<'_>) -> Result<bool, AllocError> {
     let words = words_of(alloc, line)?;
-    let task = command_of(alloc, words.as_slice());
-    Ok(matches!(task, Err(UsageFault::Usage)))
+    Ok(is_named(&command_of(alloc, words.as_slice()), named))
 }
 
-/// Whether the words of the line name a replay of `a` over `b` with this path for the exported text.
-fn exports_to(alloc: Global, line: &str, path: &str) -> Result<bool, AllocError> {
-    let words = words_of(alloc, line)?;
-    match command_of(alloc, words.as_slice()) {
-        Ok(Task::Replay { def, lefs, export }) => {
-            Ok(def == "a" && lefs.as_slice() == ["b"].as_slice() && export == Some(path))
+/// Whether the words of each of the lines name this.
+fn all_name(alloc: Global, lines: &[&str], named: &Named<'_>) -> Result<bool, AllocError> {
+    for line in lines {
+        if !names(alloc, line, named)? {
+            return Ok(false);
         }
-        _ => Ok(false),
     }
+    Ok(true)
 }
 
 #[test]
-fn words_name_the_demo(rt: HostRuntime) -> Result<(), Fail> {
-    for line in ["lefence", "lefence demo"] {
-        let words = words_of(rt.alloc(), line)?;
-        let task = command_of(rt.alloc(), words.as_slice());
-        assert!(rt; matches!(task, Ok(Task::Demo)));
-    }
+fn words_name_the_demo_and_a_check(rt: HostRuntime) -> Result<(), Fail> {
+    let lines = ["lefence", "lefence demo"];
+    assert!(rt; all_name(rt.alloc(), lines.as_slice(), &Named::Demo)?);
+    let check = Named::Check {
+        def: "x.def",
+        lefs: &["x.lef"],
+    };
+    assert!(rt; names(rt.alloc(), "lefence check x.def x.lef", &check)?);
     Ok(())
 }
 
+/// Behind two hyphens, paths may begin with a hyphen.
 #[test]
 fn words_name_a_replay(rt: HostRuntime) -> Result<(), Fail> {
-    for line in [
+    let lines = [
         "lefence replay w.def w.lef x.lef",
         "lefence replay -- w.def w.lef x.lef",
         "lefence replay w.def -- w.lef x.lef",
-    ] {
-        let words = words_of(rt.alloc(), line)?;
-        let Ok(
-            Task::Replay {
-                def,
-                lefs,
-                export: None,
-            },
-        ) = command_of(rt.alloc(), words.as_slice())
-        else {
-            return Err(Fail::from("no replay"));
-        };
-        assert!(rt; def == "w.def");
-        assert!(rt; lefs.as_slice() == ["w.lef", "x.lef"].as_slice());
-    }
+    ];
+    let replay = Named::Replay {
+        def: "w.def",
+        lefs: &["w.lef", "x.lef"],
+        export: None,
+    };
+    assert!(rt; all_name(rt.alloc(), lines.as_slice(), &replay)?);
+    let replay = Named::Replay {
+        def: "-w.def",
+        lefs: &["--"],
+        export: None,
+    };
+    assert!(rt; names(rt.alloc(), "lefence replay -- -w.def --", &replay)?);
     Ok(())
 }
 
@@ -72,69 +127,37 @@ fn words_name_the_file_of_an_export(rt: HostRuntime) -> Result<(), Fail> {
         ("lefence replay a b --export=x=y", "x=y"),
         ("lefence replay a b --export=", ""),
     ] {
-        assert!(rt; exports_to(rt.alloc(), line, path)?);
+        let replay = Named::Replay {
+            def: "a",
+            lefs: &["b"],
+            export: Some(path),
+        };
+        assert!(rt; names(rt.alloc(), line, &replay)?);
     }
     Ok(())
 }
 
 #[test]
 fn words_name_a_service(rt: HostRuntime) -> Result<(), Fail> {
-    for (line, number) in [
+    for (line, port) in [
         ("lefence serve a b --port 80 --connections 3", 80),
         ("lefence serve --connections=3 a b --port +065535", 65535),
     ] {
-        let words = words_of(rt.alloc(), line)?;
-        let Ok(
-            Task::Serve {
-                def,
-                lefs,
-                port,
-                connections,
-                export: None,
-            },
-        ) = command_of(rt.alloc(), words.as_slice())
-        else {
-            return Err(Fail::from("no service"));
+        let service = Named::Serve {
+            def: "a",
+            lefs: &["b"],
+            port,
+            connections: 3,
+            export: None,
         };
-        assert!(rt; def == "a");
-        assert!(rt; lefs.as_slice() == ["b"].as_slice());
-        assert_eq!(rt; (port, connections), (number, 3));
+        assert!(rt; names(rt.alloc(), line, &service)?);
     }
     Ok(())
 }
 
 #[test]
-fn words_name_a_check(rt: HostRuntime) -> Result<(), Fail> {
-    let words = words_of(rt.alloc(), "lefence check x.def x.lef")?;
-    let Ok(Task::Check { def, lefs }) = command_of(rt.alloc(), words.as_slice()) else {
-        return Err(Fail::from("no check"));
-    };
-    assert!(rt; def == "x.def");
-    assert!(rt; lefs.as_slice() == ["x.lef"].as_slice());
-    Ok(())
-}
-
-#[test]
-fn paths_may_begin_with_a_hyphen_behind_two(rt: HostRuntime) -> Result<(), Fail> {
-    let words = words_of(rt.alloc(), "lefence replay -- -w.def --")?;
-    let Ok(
-        Task::Replay {
-            def,
-            lefs,
-            export: None,
-        },
-    ) = command_of(rt.alloc(), words.as_slice())
-    else {
-        return Err(Fail::from("no replay"));
-    };
-    assert!(rt; def == "-w.def");
-    assert!(rt; lefs.as_slice() == ["--"].as_slice());
-    Ok(())
-}
-
-#[test]
 fn other_words_are_refused(rt: HostRuntime) -> Result<(), Fail> {
-    for line in [
+    let lines = [
         "lefence verify",
         "lefence help",
         "lefence --help",
@@ -155,15 +178,15 @@ fn other_words_are_refused(rt: HostRuntime) -> Result<(), Fail> {
         "lefence replay w.def w.lef --export=x --export=y",
         "lefence replay w.def w.lef --exp x",
         "lefence replay w.def w.lef --port 80",
-    ] {
-        assert!(rt; is_usage(rt.alloc(), line)?);
-    }
+    ];
+    let nothing = Named::Nothing(UsageFault::Usage);
+    assert!(rt; all_name(rt.alloc(), lines.as_slice(), &nothing)?);
     Ok(())
 }
 
 #[test]
 fn other_services_are_refused(rt: HostRuntime) -> Result<(), Fail> {
-    for line in [
+    let lines = [
         "lefence serve w.def w.lef",
         "lefence serve a b --port 0 --connections 3",
         "lefence serve a b --port 65536 --connections 3",
@@ -174,8 +197,8 @@ fn other_services_are_refused(rt: HostRuntime) -> Result<(), Fail> {
         "lefence serve a b --port 80",
         "lefence serve a b --connections 3",
         "lefence serve a --port 80 --connections 3",
-    ] {
-        assert!(rt; is_usage(rt.alloc(), line)?);
-    }
+    ];
+    let nothing = Named::Nothing(UsageFault::Usage);
+    assert!(rt; all_name(rt.alloc(), lines.as_slice(), &nothing)?);
     Ok(())
 }
