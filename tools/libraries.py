@@ -1,0 +1,66 @@
+#!/usr/bin/env python3
+"""Compares crates.txt with the sources: each crate's line names exactly the libraries that its files name.
+
+usage: tools/libraries.py            (from the top) prints each line that differs; status 1 where one does
+       tools/libraries.py --write    writes the lines anew, in the order in which they stand
+"""
+
+from __future__ import annotations
+
+import re
+import sys
+from pathlib import Path
+
+# A path that begins with a library, in a .rt file and in a .antt file or a ghost import.
+RUST = re.compile(r"(?<![\w:.])([a-z][a-z0-9_]*)::")
+ANTT = re.compile(r"\bRattle\.([a-z][a-z0-9_]*)\.")
+COMMENT = {".rt": re.compile(r"//.*"), ".antt": re.compile(r"--.*")}
+KIT = Path("/opt/rattle/rlibs")
+
+
+def lines_of(listing: str) -> dict[str, list[str]]:
+    """The crates of crates.txt in their order, each with the libraries that its line names."""
+    found: dict[str, list[str]] = {}
+    for line in listing.splitlines():
+        name, colon, libraries = line.split("#")[0].partition(":")
+        if colon:
+            found[name.strip()] = libraries.split()
+    return found
+
+
+def named_by(crate: str) -> set[str]:
+    """The first words of all paths in the files of a crate, comments apart."""
+    words: set[str] = set()
+    for folder in ("src", "specs", "proofs"):
+        for path in sorted(Path(f"crates/{crate}/{folder}").rglob("*")):
+            if path.suffix in COMMENT:
+                text = COMMENT[path.suffix].sub("", path.read_text(encoding="utf-8"))
+                words |= set(ANTT.findall(text))
+                if path.suffix == ".rt":
+                    words |= set(RUST.findall(text))
+    return words - {crate}
+
+
+def main(words: list[str]) -> int:
+    if words not in ([], ["--write"]):
+        print(__doc__, file=sys.stderr)
+        return 2
+    path = Path("crates.txt")
+    text = path.read_text(encoding="utf-8")
+    listed = lines_of(text)
+    libraries = [*listed, *sorted({it for found in listed.values() for it in found} - set(listed))]
+    differing = 0
+    for crate, told in listed.items():
+        wanted = [it for it in libraries if it in named_by(crate)]
+        if set(told) != set(wanted):
+            differing += 1
+            print(f"crates.txt: {crate} names {' '.join(told)}; its sources name {' '.join(wanted)}")
+            text = re.sub(rf"^{crate}:.*$", f"{crate}: {' '.join(wanted)}".rstrip(), text, flags=re.M)
+    if words:
+        path.write_text(text, encoding="utf-8")
+        return 0
+    return 1 if differing else 0
+
+
+if __name__ == "__main__":
+    sys.exit(main(sys.argv[1:]))
