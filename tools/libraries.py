@@ -28,6 +28,21 @@ def lines_of(listing: str) -> dict[str, list[str]]:
     return found
 
 
+def below(crates: list[str], listing: str) -> list[str]:
+    """These crates and all crates of the repository that they are made of, each behind those that it names."""
+    listed, found = lines_of(listing), []
+
+    def visit(crate: str) -> None:
+        if crate in listed and crate not in found:
+            for library in listed[crate]:
+                visit(library)
+            found.append(crate)
+
+    for crate in crates:
+        visit(crate)
+    return found
+
+
 def named_by(crate: str) -> set[str]:
     """The first words of all paths in the files of a crate, comments apart."""
     words: set[str] = set()
