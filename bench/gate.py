@@ -1,0 +1,68 @@
+#!/usr/bin/env python3
+"""Prints what a command takes of the processors, crate by crate: the table of docs/GATE.md.
+
+usage: bench/gate.py ./test        (from the top; any command that runs rattle will do)
+
+Each second the times of all running checks are read from /proc: a check with --test proves a crate's tests, one in a folder
+rt-edit-* tries an edit, one that keeps its work in a folder rt-edits-* is that with which edits begin, any other proves the crate.
+"""
+
+from __future__ import annotations
+
+import os
+import subprocess
+import sys
+import time
+from collections import defaultdict
+from pathlib import Path
+
+TICKS = os.sysconf("SC_CLK_TCK")
+KINDS = ("proof", "tests", "edits")
+
+
+def kind_of(process: Path, words: list[str]) -> str:
+    if "--test" in words:
+        return "tests"
+    is_edit = "rt-edit" in os.readlink(process / "cwd") or any("rt-edits-" in it for it in words)
+    return "edits" if is_edit else "proof"
+
+
+def running() -> dict[tuple[int, str], tuple[str, str, float]]:
+    """Each check that runs, by its number and start: its crate, its kind, and the seconds that it and its ended children took."""
+    found = {}
+    for process in Path("/proc").glob("[0-9]*"):
+        try:
+            words = (process / "cmdline").read_bytes().decode(errors="replace").split("\0")
+            if not words[0].endswith("/rattle") or "--crate-name" not in words:
+                continue
+            fields = (process / "stat").read_text().rpartition(")")[2].split()
+            seconds = sum(map(int, fields[11:15])) / TICKS
+            crate = words[words.index("--crate-name") + 1]
+            found[int(process.name), fields[19]] = (crate, kind_of(process, words), seconds)
+        except (OSError, IndexError, ValueError):
+            continue
+    return found
+
+
+def main(words: list[str]) -> int:
+    if not words:
+        print(__doc__, file=sys.stderr)
+        return 2
+    start, checks = time.monotonic(), {}
+    command = subprocess.Popen(words)
+    while command.poll() is None:
+        checks |= running()
+        time.sleep(1)
+    taken: dict[str, dict[str, float]] = defaultdict(lambda: dict.fromkeys(KINDS, 0.0))
+    for crate, kind, seconds in checks.values():
+        taken[crate][kind] += seconds / 60
+    print("| crate | proof | tests | edits |\n|---|---|---|---|")
+    for crate, kinds in taken.items():
+        print(f"| {crate} |", " | ".join(f"{kinds[it]:.1f}" for it in KINDS), "|")
+    whole = [sum(it[kind] for it in taken.values()) for kind in KINDS]
+    print(f"{time.monotonic() - start:.0f} s; processor minutes:", ", ".join(f"{it} {sum_of:.1f}" for it, sum_of in zip(KINDS, whole)))
+    return command.returncode
+
+
+if __name__ == "__main__":
+    sys.exit(main(sys.argv[1:]))
