@@ -1,9 +1,9 @@
 #!/usr/bin/env python3
-"""Prints docs/DEFINITIONS.md: each definition of the crates' specs/ with the comment above it, crate by crate and file by file;
+"""Prints each definition of the crates' specs/ with the comment above it, as Markdown, crate by crate and file by file;
 first those that the public clauses of the crate or of a crate above reach, and behind them those that only a crate's inside uses.
 
-usage: tools/definitions.py > docs/DEFINITIONS.md        (from the top)
-       tools/definitions.py --unused                     (definitions that no clause reaches, and lemmas that nothing names)
+usage: tools/definitions.py             (from the top) to standard output
+       tools/definitions.py --unused    definitions that no clause reaches, and lemmas that nothing names
 """
 import os
 import re
@@ -15,7 +15,7 @@ Each definition that contracts cite, by its name, with what it says, file by fil
 the LEF/DEF 5.8 Language Reference that it follows, where there is one. A name with a capital is a fact, one without is a
 value. Definitions without a line of their own are the cases of the one that stands before or after them. Of each crate there
 stands first what the clauses of public functions and types reach, and behind it, under 'inside', what only clauses of its
-inside use. `tools/definitions.py` prints this page from the files.
+inside use.
 """
 START = re.compile(r"^(?:abbrev pub|unfoldable pub|pub record|pub data|pub|abbrev|unfoldable|record|data) +([^\s:({]+)")
 WORD = re.compile(r"[^\s(){}\[\],;:.`]+")

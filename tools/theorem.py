@@ -1,0 +1,158 @@
+#!/usr/bin/env python3
+"""Compares the quotes of docs/THEOREM.md with the sources that they name.
+
+usage: tools/theorem.py            (from the top) prints each quote that differs; status 1 where one does
+       tools/theorem.py --write    writes the texts of the sources into the quotes
+
+A quote is a comment that names what is quoted, and the fenced block behind it:
+
+    <!-- crates/lf_floor/src/floor.rt: pub fn step -->                  the signature and all clauses
+    <!-- crates/lf_floor/src/floor.rt: pub fn step: step, others -->    the signature and these clauses
+    <!-- crates/lf_cells/src/cell.rt: pub struct Cell -->               a type, or likewise some of its fields
+    <!-- crates/lf_teams/specs/Runs.antt: own_replies, own_state -->    definitions, with the comments above them
+"""
+
+from __future__ import annotations
+
+import re
+import sys
+from dataclasses import dataclass
+from pathlib import Path
+
+PAGE = Path("docs/THEOREM.md")
+QUOTE = re.compile(r"<!-- (crates/\S+?):? (.*?) ?-->")
+FENCE = "```"
+# The head of a definition in a .antt file, and a comment that belongs to one; a line of dashes begins a part of the file.
+HEAD = re.compile(r"(?:(?:abbrev|unfoldable)(?: pub)?|(?:pub )?(?:record|data)|pub) +([^\s:({]+)")
+SAID = re.compile(r"--(?! ----)")
+# The first line of a clause of a function, and of a field of a type.
+CLAUSE = re.compile(r"\s*(?:requires|ensures)\b *(\w*)")
+FIELD = re.compile(r"\s*pub (?:ghost )?(\w+):")
+
+
+class NotThere(Exception):
+    """The source has nothing of that name, or more than one thing."""
+
+
+@dataclass(frozen=True)
+class Quote:
+    """A quote of the page: the number of its comment's line, what it names, and the lines of its block, which may be none."""
+
+    number: int
+    file: str
+    name: str
+    start: int
+    stop: int
+
+
+def quotes_in(page: list[str]) -> list[Quote]:
+    """The quotes of the page, in order. The block of one begins on the line behind its comment."""
+    found: list[Quote] = []
+    for at, line in enumerate(page, start=1):
+        named = QUOTE.match(line)
+        if named:
+            stop = at
+            if at < len(page) and page[at].startswith(FENCE):
+                stop = page.index(FENCE, at + 1) + 1 if FENCE in page[at + 1 :] else len(page)
+            found.append(Quote(at, named[1], named[2], at, stop))
+    return found
+
+
+def only(places: list[int]) -> int:
+    """The one of these places that there is."""
+    if len(places) != 1:
+        raise NotThere
+    return places[0]
+
+
+def definition(lines: list[str], name: str) -> list[str]:
+    """A definition of a .antt file: the comment directly above it, its head and its clauses, up to an empty line."""
+    heads = {at: head[1] for at, line in enumerate(lines) if (head := HEAD.match(line))}
+    first = only([at for at, found in heads.items() if found == name])
+    stop = first + 1
+    while stop < len(lines) and lines[stop] and stop not in heads and not SAID.match(lines[stop]):
+        stop += 1
+    while first > 0 and SAID.match(lines[first - 1]):
+        first -= 1
+    return lines[first:stop]
+
+
+def item(lines: list[str], head: str) -> list[str]:
+    """A function of a .rt file without its body, or a type; moved to the left edge."""
+    is_function = re.search(r"\bfn ", head) is not None
+    begins = re.compile(rf"( *){re.escape(head)}\b")
+    edges = {at: found[1] for at, line in enumerate(lines) if (found := begins.match(line))}
+    first = only([*edges])
+    stop = next((at for at in range(first, len(lines)) if not lines[at]), len(lines))
+    text = [line.removeprefix(edges[first]) for line in lines[first:stop]]
+    for end in ("{", "{}"):
+        if is_function and end in text:
+            return text[: text.index(end)]
+    if is_function or "}" not in text:
+        raise NotThere
+    return text[: text.index("}") + 1]
+
+
+def some_of(text: list[str], wanted: list[str]) -> list[str]:
+    """The text of an item with these clauses or fields alone, and a line that names the others."""
+    is_type = text[-1] == "}"
+    begins = FIELD if is_type else CLAUSE
+    names = {at: found[1] for at, line in enumerate(text) if (found := begins.match(line))}
+    if not set(wanted) <= set(names.values()):
+        raise NotThere
+    starts = [*names]
+    parts: dict[str, list[str]] = {}
+    for at, stop in zip(starts, [*starts[1:], len(text) - is_type]):
+        parts[names[at]] = [line for line in text[at:stop] if not line.lstrip().startswith("///")]
+    others = [name for name in parts if name and name not in wanted]
+    signature = [line for line in text[: starts[0]] if not line.lstrip().startswith("///")]
+    kept = [line for name, part in parts.items() if name in wanted for line in part]
+    left = [f"    // further {'fields' if is_type else 'clauses'}: {', '.join(others)}"] if others else []
+    return [*signature, *kept, *left, *(["}"] if is_type else [])]
+
+
+def source_of(quote: Quote) -> list[str]:
+    """The lines that the quote is to have, as they are in the source."""
+    try:
+        lines = Path(quote.file).read_text(encoding="utf-8").split("\n")
+    except OSError as error:
+        raise NotThere from error
+    if quote.file.endswith(".rt"):
+        head, _, clauses = quote.name.partition(": ")
+        text = item(lines, head)
+        return some_of(text, clauses.split(", ")) if clauses else text
+    texts = [definition(lines, name) for name in quote.name.split(", ")]
+    return [line for text in texts for line in ["", *text]][1:]
+
+
+def main(words: list[str]) -> int:
+    if words not in ([], ["--write"]):
+        print(__doc__, file=sys.stderr)
+        return 2
+    page = PAGE.read_text(encoding="utf-8").split("\n")
+    written: list[str] = []
+    done = agree = differ = 0
+    for quote in quotes_in(page):
+        had = page[quote.start : quote.stop]
+        written += page[done : quote.start]
+        done = quote.stop
+        try:
+            block = [FENCE + ("rust" if quote.file.endswith(".rt") else ""), *source_of(quote), FENCE]
+        except NotThere:
+            block, said = had, "names nothing of"
+        else:
+            said = "" if words or had == block else "differs from"
+        written += block
+        if said:
+            differ += 1
+            print(f"{PAGE}:{quote.number}: {said} {quote.file}: {quote.name}")
+        else:
+            agree += 1
+    if words:
+        PAGE.write_text("\n".join([*written, *page[done:]]), encoding="utf-8")
+    print(f"{agree} quotes agree, {differ} differ")
+    return 1 if differ else 0
+
+
+if __name__ == "__main__":
+    sys.exit(main(sys.argv[1:]))
