@@ -17,7 +17,7 @@ use std::alloc::AllocError;
 
 impl Tables {
     /// Puts a cell at a place: `NoCell` where the team has none of that name, else `Illegal` where
-    /// the place breaks a rule.
+    /// it breaks a rule there.
     #[tactic(auto, unfolding(lf_teams::specs::Changes::placed))]
     pub(crate) fn place<S>(
         &mut self,
@@ -90,7 +90,7 @@ impl Tables {
     }
 
     /// Takes a cell from its place: `NoCell` where the team has none of that name, else `Unplaced`
-    /// where it stands nowhere.
+    /// if it has no place.
     #[tactic(auto, unfolding(lf_teams::specs::Changes::unplaced))]
     pub(crate) fn unplace<S>(
         &mut self,
