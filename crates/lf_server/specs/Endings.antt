@@ -60,7 +60,7 @@ abbrev pub Comes : Ending → Legalizer → FloorState → Writer → List Excha
 Comes WriteFault l old before done new after = BreaksOff l old before done new after
 Comes _ l old before done new after = Exchanges l old before done new after
 
--- the replies that were written and flushed, of so many lines acted on
+-- the replies that were written and flushed, of this many lines acted on
 abbrev pub Answered : Ending → ℕ → ℕ → Type 0
 Answered WriteFault acted answered = acted ≡ answered + 1
 Answered _ acted answered = answered ≡ acted
