@@ -86,8 +86,8 @@ AnswersTo l old asked reply text new = MatchOption asked (RefusesLine old reply 
 
 -- ---- many lines
 
--- line after line: each is answered, and its reply's text is written whole and flushed before the next line is acted on; so the floor
--- and the writer go from old to new
+-- line after line: each is answered, and its reply's text is written whole and flushed before the next line is acted on; so the
+-- floor and the writer go from old to new
 abbrev pub Exchanges : Legalizer → FloorState → Writer → List Exchange → FloorState → Writer → Type 0
 Exchanges l old before [] new after = (new ≡ old) × (after ≡ before)
 Exchanges l old before (e ∷ later) new after =
