@@ -77,7 +77,7 @@ IsTextDesign text lef_text loaded = (library : Contents) × (lef.library_after n
 abbrev pub IsLefRefusal : Contents → List ℕ → LoadFault → Type 0
 IsLefRefusal library text refusal = lef.Refuses refusal (lef.library_after library text)
 
--- why there is no design of a DEF text over the library: its first fault with its line, a fault of loading, or a failed allocation
+-- why there is no design of a DEF text over the library: its first fault with its line, a fault of loading, or memory ran out
 abbrev pub IsDefRefusal : Contents → List ℕ → LoadFault → Type 0
 IsDefRefusal library text refusal =
     def.Refuses refusal (def.document_of text) ⊎ ((document : def.Document) × (def.document_of text ≡ Ok document) × IsFaultIn library document refusal)

@@ -123,7 +123,7 @@ IsEarly (Refused refusal) = Unit {0}
 IsEarly File = Unit {0}
 IsEarly _ = ⊥
 
--- why the work on a design is not done: it fails itself, or it is finished and the exported text that was asked for is not written
+-- why the work on a design is not done: it fails itself, or it is finished and the text to export is not written
 abbrev pub IsWorkFault : Option (List ℕ) → (Fault → Streams → Type 0) → (FloorState → Streams → Type 0) → Fault → Streams → Type 0
 IsWorkFault None why Work fault io = why fault io
 IsWorkFault (Some path) why Work fault io = why fault io ⊎ (IsExportFault fault × ((floor : FloorState) × Work floor io))

@@ -111,6 +111,6 @@ IsReportFault fault = (fault ≡ no_memory) ⊎ (fault ≡ Output)
 abbrev pub IsExportFault : Fault → Type 0
 IsExportFault fault = (fault ≡ NoRoom) ⊎ (fault ≡ Unwritten)
 
--- why a service ends early: the port cannot be listened on, the line that it is cannot be written, or no connection can be accepted
+-- why a service ends early: the port cannot be listened on, the line of that cannot be written, or no connection is accepted
 abbrev pub IsServiceFault : Fault → Type 0
 IsServiceFault fault = (fault ≡ Bind) ⊎ ((fault ≡ Output) ⊎ (fault ≡ Accept))

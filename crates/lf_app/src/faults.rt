@@ -140,7 +140,7 @@ pub fn write_fault<W: Write>(writer: &mut W, fault: &Fault<'_>) -> io::Result<()
     writer.write_all(b"\n")
 }
 
-/// The exit status of a fault: 1 where a text, the design or memory for them was refused, else 3.
+/// The exit status of a fault: 1 for `Refused` and `NoRoom`, else 3.
 pub fn status_of(fault: &Fault<'_>) -> u8
     ensures { result ≡ status_of fault.now }
 {
