@@ -146,7 +146,7 @@ fn try_exchange<S>(
 }
 
 impl Tables {
-    /// Exchanges the places of two placed cells of the team; `Illegal` where one of them breaks a
+    /// Exchanges the places of two placed cells of the team; `Illegal` if one of them breaks a
     /// rule then.
     fn swap_placed<S>(
         &mut self,
@@ -201,7 +201,7 @@ impl Tables {
         }
     }
 
-    /// Exchanges the places of two cells: `NoCell` where the team has none of a name, else
+    /// Exchanges the places of two cells: `NoCell` if the team has none of a name, else
     /// `Unplaced` if one has no place, else `Illegal` if one breaks a rule at its new
     /// place; each for the first cell before the second.
     #[tactic(auto, unfolding(lf_teams::specs::Changes::swapped))]

@@ -49,7 +49,7 @@ impl Tables {
         }
     }
 
-    /// Makes a change; `Stale` where the session has not seen the team's revision, else
+    /// Makes a change; `Stale` if the session has not seen the team's revision, else
     /// `RevisionsSpent` if the team has made as many changes as it may, before any other
     /// refusal.
     fn change<S: Seeker>(

@@ -139,7 +139,7 @@ impl Tables {
     }
 
     /// Takes the moves of the team's newest undo entry back, unchecked, and that entry away;
-    /// `NothingToUndo` where there is none.
+    /// `NothingToUndo` if there is none.
     pub(crate) fn undo(&mut self, frame: &Frame, number: usize, session: u32) -> Reply
         requires rows { HasRows number self.old }
         requires current { IsCurrent number session self.old }
