@@ -149,8 +149,8 @@ fn outcome<T: Texts, N: Net + AllocGlobal, E: Exports, R: Read, W: Write, F: Wri
 }
 
 /// Does the task and returns how it ended: with status 0 if it is done, 1 if a text or the design was refused, or an
-/// allocation failed before the first line, for the report or for the exported text, 3 if a file, the reader, the writer,
-/// the port or a connection failed, too many lines came, or an allocation for the lines failed; 4 if a check is done and
+/// allocation failed before the first line, for the report or for the exported text, 3 if a file, the reader, the writer, the
+/// port or a connection failed, too many lines came, or an allocation for the lines failed; 4 if a check is done and the
 /// design is not fully legal. A fault is written to `faults` as a line of its own.
 ///
 /// The LEF files are read in the order of the words, then the DEF file, then the design is loaded, then the port is

@@ -230,8 +230,8 @@ impl<S: Seeker + Drop> Floor<S> {
     ///
     /// `NoTeam` comes before any refusal of a team. `OutOfMemory` only replaces the reply to an accepted
     /// change, a broken rule, a best place, the lack of one, a report or a DEF text, and never that to
-    /// an undo; the floor is then unchanged. A refusal leaves
-    /// the whole floor unchanged; after an accepted place or legalize the cell is team-legal, after
+    /// an undo; the floor is then unchanged. A refusal leaves the whole floor unchanged; after an
+    /// accepted place or legalize the cell is team-legal, after
     /// a swap both cells are, and after a tidy or a commit every cell of the team. A committed design
     /// that is fully legal stays so after any command.
     pub fn step(&mut self, request: &Request) -> Reply

@@ -193,7 +193,7 @@ fn ids_of(alloc: Global, list: &[Waiting]) -> Result<Vec<CellId>, AllocError>
     Ok(ids)
 }
 
-/// These ids in the order of the cells' working places, from row to row and from left to right: strips are
+/// These ids in the order of the cells' working places, from row to row and from left to right: strips
 /// are filled one after another, each from its left end on.
 fn by_place(alloc: Global, cells: &CellTable, ids: &[CellId]) -> Result<Vec<CellId>, AllocError>
     ensures { IfOk result (λ order. IsPermutation ids.now order.items) }

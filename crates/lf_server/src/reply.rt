@@ -155,8 +155,8 @@ fn put_short<K: Seeker + Drop>(floor: &Floor<K>, team: &[u8], reply: &Reply, tex
     }
 }
 
-/// Puts the text of a reply into the empty buffer; a report or a DEF text for which memory runs out is replaced by that
-/// refusal, for which the buffer has room.
+/// Puts the text of a reply into the empty buffer; a report or a DEF text for which memory runs out is replaced by
+/// `OutOfMemory`, for which the buffer has room.
 fn put_told<K: Seeker + Drop>(floor: &Floor<K>, team: &[u8], reply: &Reply, text: &mut Vec<u8>)
     requires empty { text.old.items ≡ [] }
     requires room { 4096 ≤ vec_capacity text.old }

@@ -20,7 +20,7 @@ pub record IsCommittedAt (floor : FloorState) (number own : ℕ) (entry : ℕ ×
   pub position : entry_in floor number own ≡ Some entry.0
   pub place : option_map (λ c. c.committed) (cell_in floor number own) ≡ Some entry.1
 
--- all movable components: the positions of their entries, rising, each with the committed place of its cell. Each entry is of a
+-- all movable components: the positions of their entries, rising, each with the committed place of its cell. Each entry is of
 -- a team's cell, each cell of each team is in the list, and so is each entry
 pub record AreCommittedPlaces (floor : FloorState) (places : List (ℕ × Option Place)) : Type 0 where
   pub rise : AllPairs (λ entry later. entry.0 < later.0) places
