@@ -54,7 +54,7 @@ pub enum Reply {
     Opened { session: u32, revision: u32 },
     /// The team's revision.
     Revision(u32),
-    /// The working place of a cell, or its best place.
+    /// The working place of a cell, or its best place, in database units.
     At(Place),
     /// The team's revision after a change, and the place to which the cell went.
     Legalized { revision: u32, place: Place },

@@ -8,7 +8,7 @@ use lf_units::{Name, Point};
 use std::alloc::{AllocError, Global};
 
 /// One command of a session. Its names are of the type `N`: slices of a line in a `Request`, lists of
-/// bytes in a contract. Its places are of the type `P`, which is `Place`.
+/// bytes in a contract. Its places are of the type `P`, which is `Place`; places and targets are in database units.
 #[derive(Drop)]
 pub enum Command<N, P = Place> {
     /// The end of a connection; its sessions stay open.
