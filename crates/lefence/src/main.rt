@@ -1,4 +1,4 @@
-//! The program `lefence`: it hands its words and the standard streams to `lf_app`.
+//! The program `lefence`: it passes its words and the standard streams to `lf_app`.
 #![tactic(auto)]
 
 use lf_app::UsageFault;
@@ -6,7 +6,7 @@ use std::alloc::{AllocError, Global};
 use std::io;
 use std::process::ExitCode;
 
-/// What the program can be asked, told behind the line of a usage fault.
+/// What the program can be asked, printed after the line of a usage fault.
 const USAGE: &str =
     "  lefence [demo]                answers the lines of standard input over the built-in design
   lefence check DEF LEF...      writes a report of the design
@@ -18,7 +18,7 @@ const USAGE: &str =
   (a path that begins with '-' stands behind '--'; docs/PROTOCOL.md says more)
 ";
 
-/// The exit status where the words name no task, or memory for them was refused.
+/// The exit status if the words name no task, or an allocation for them failed.
 fn usage_status(fault: &UsageFault) -> u8 {
     match fault {
         UsageFault::Usage => 2,
@@ -51,7 +51,7 @@ fn lent(alloc: Global, words: &[String]) -> Result<Vec<&str>, UsageFault> {
     Ok(texts)
 }
 
-/// Does the task that the words name, and gives the exit status.
+/// Does the task that the words name, and returns the exit status.
 fn run(rt: &HostRuntime) -> Result<u8, UsageFault> {
     let words = words(rt)?;
     let texts = lent(rt.alloc(), words.as_slice())?;
@@ -62,7 +62,7 @@ fn run(rt: &HostRuntime) -> Result<u8, UsageFault> {
     Ok(lf_app::perform(rt, &task, &mut reader, &mut writer, &mut faults))
 }
 
-/// Tells a usage fault, and what the program can be asked; that it cannot be written is no further fault.
+/// Prints a usage fault, and what the program can be asked; a failure to write it is no further fault.
 fn tell(rt: &HostRuntime, fault: &UsageFault) {
     let _ = eprintln!(rt; "lefence: {fault}");
     if matches!(fault, UsageFault::Usage) {

@@ -1,7 +1,7 @@
 //! Reads one LEF or DEF text: `lex FILE`, `lef FILE` or `def FILE`; or loads a design: `load LEF DEF`. What was read is
-//! counted on standard output, and the nanoseconds that it took, the files' own reading apart, go to standard error.
+//! counted on standard output, and the nanoseconds that it took, without reading the files, go to standard error.
 //!
-//! No function owns more than one of the library, the document and the design: what a function must let go at each of
+//! No function owns more than one of the library, the document and the design: what a function must drop at each of
 //! its ends is proved end by end.
 #![tactic(auto)]
 
@@ -14,18 +14,18 @@ use std::rt::{Clock, Files};
 use std::time::Instant;
 use std::{fs, io};
 
-/// Tells how long it took since then.
+/// Prints how long it took since then.
 fn tell_time<R: Clock + Eprint>(rt: &R, start: &Instant) -> io::Result<()> {
     let taken = start.elapsed(rt)?;
     eprintln!(rt; "{} ns", taken.as_nanos())
 }
 
-/// Tells why a text or a design was refused.
+/// Prints why a text or a design was refused.
 fn tell_fault<R: Print>(rt: &R, fault: &LoadFault<'_>) -> io::Result<()> {
     println!(rt; "{fault:?}")
 }
 
-/// Tells which words the program takes.
+/// Prints which words the program takes.
 fn tell_usage<R: Eprint>(rt: &R) -> io::Result<()> {
     eprintln!(rt; "lex FILE, lef FILE, def FILE or load LEF DEF")
 }

@@ -1,4 +1,4 @@
--- Designs of files, step by step: what a fault is told as, and LEF files one after the other.
+-- Designs of files, step by step: which fault a refusal becomes, and LEF files one after the other.
 use Rattle.std.proofs.Common.{◌≡◌, ◌⊎◌, inl, inr, ℕ, ◌+◌, ◌<◌, List, ◌∷◌, length, map, drop, slice_index_or, ap, subst, ◌∙◌}
 use Rattle.std.specs.Borrow.{Bor}
 use Rattle.std.proofs.Math.Numerals.{suc-eq-add-one}
@@ -31,11 +31,11 @@ pub record GoesOn (gives : Gives) (first now : Contents) (all left : List (List 
   pub library : (new : Contents) → IsLibraryOf gives now left new → IsLibraryOf gives first all new
   pub fault : (fault : Fault) → IsLibraryFault gives now left fault → IsLibraryFault gives first all fault
 
--- the paths from one on are that one and those behind it
+-- the paths from one on are that one and those after it
 ahead : (paths : List Path) (i : ℕ) (d : Path) → i < length paths → written (drop i paths) ≡ (slice_index_or paths i d).now ∷ written (drop (i + 1) paths)
 ahead paths i d lt = ap written (drop-cons paths i d lt ∙ ap (λ n. slice_index_or paths i d ∷ drop n paths) (suc-eq-add-one i))
 
--- and so they do behind one more of them
+-- and so they do after one more of them
 pub one_more : (gives : Gives) (first now next : Contents) (paths : List Path) (i : ℕ) (d : Path) → i < length paths
     → GoesOn gives first now (written paths) (written (drop i paths)) → Adds gives (slice_index_or paths i d).now now next
     → GoesOn gives first next (written paths) (written (drop (i + 1) paths))

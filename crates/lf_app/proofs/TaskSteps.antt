@@ -13,12 +13,12 @@ use Rattle.lf_app.specs.Designs.{Gives}
 use Rattle.lf_app.specs.Exits.{Ends, IsOutcome, Streams}
 use Rattle.lf_app.specs.Faults.{IsDone, IsFailure}
 
--- what comes behind loading is what comes of a task over a design
+-- what follows loading is the outcome of a task over a design
 module _ (IsDesign : Loaded → Type 0) (loaded : Loaded) (design : IsDesign loaded) (r : Result ℕ Exit) where
   pub comes_of : (Comes : Loaded → ℕ → Type 0) → IfOk r (Comes loaded) → IfOk r (λ status. (l : Loaded) × IsDesign l × Comes l status)
   comes_of Comes = IfOk-weaker r (Comes loaded) (λ status. (l : Loaded) × IsDesign l × Comes l status) (λ status is. (loaded, design, is))
 
-  -- and a fault behind loading is one of the whole task
+  -- and a fault after loading is one of the whole task
   pub fails : (no_design early : Fault → Type 0) (why : Loaded → Fault → Type 0) (kept : Type 0) (old new : Option (List ℕ))
       → IfErr r (Ends (λ fault. why loaded fault × (early fault → kept)) old new)
       → IfErr r (Ends (λ fault. (no_design fault ⊎ ((l : Loaded) × IsDesign l × why l fault)) × (early fault → kept)) old new)
@@ -47,7 +47,7 @@ not_both status (inl is) (inr fails) = omega (arith, is, fails)
 not_both status (inr is) (inl fails) = omega (arith, is, fails)
 not_both status (inr is) (inr fails) = omega (arith, is, fails)
 
--- the status of what a job has come to is one of a task that was done
+-- the status of the outcome of a job is one of a task that was done
 pub succeeds : (gives : Gives) (job : Job) (io : Streams) (status : ℕ) → IsOutcome gives job io status → IsDone status
 succeeds gives demo io status is = inl is.3
 succeeds gives (replay def lefs export) io status is = inl is.1

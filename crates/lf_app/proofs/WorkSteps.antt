@@ -1,4 +1,4 @@
--- Work on a design, step by step: what the steps behind one give is what the whole gives.
+-- Work on a design, step by step: what the steps after one give is what the whole gives.
 use Rattle.std.proofs.Common.{◌≡◌, ◌⊎◌, inl, inr, subst, ℕ, List, None, Ok, Option, Some}
 use Rattle.std.proofs.lemmas.Bool.{false≢true}
 use Rattle.std.specs.Prelude.{IfErr, IfOk, IsSome, Result}
@@ -93,13 +93,13 @@ pub lines_stopped : (export : Option (List ℕ)) (lines : Lines) (loaded : Loade
 lines_stopped None lines loaded io fault is = is
 lines_stopped (Some path) lines loaded io fault is = inl is
 
--- and a fault of the export that was asked for, where the lines are done
+-- and a fault of the export that was asked for, if the lines are done
 pub export_stopped : (export : Option (List ℕ)) (lines : Lines) (loaded : Loaded) (floor : FloorState) (io : Streams) (fault : Fault) → IsSome export
     → IsExportFault fault → IsDone lines loaded floor io → IsStopped export lines loaded fault io
 export_stopped None lines loaded floor io fault asked is done = absurd (false≢true asked)
 export_stopped (Some path) lines loaded floor io fault asked is done = inr (is, (floor, done))
 
--- a fault of one kind is told as one of another
+-- a fault of one kind is written as one of another
 pub ends_as : (why all early : Fault → Type 0) (kept : Type 0) (old new : Option (List ℕ)) (exit : Exit)
     → Ends (λ fault. why fault × (early fault → kept)) old new exit → ((fault : Fault) → why fault → all fault)
     → Ends (λ fault. all fault × (early fault → kept)) old new exit
@@ -109,7 +109,7 @@ not_early : (fault : Fault) → IsExportFault fault → IsEarly fault → ⊥
 not_early fault (inl is) early = subst IsEarly is early
 not_early fault (inr is) early = subst IsEarly is early
 
--- a fault of the export, where the lines are done, stops the work on a design
+-- a fault of the export, if the lines are done, stops the work on a design
 pub export_ends : (export : Option (List ℕ)) (lines : Lines) (loaded : Loaded) (floor : FloorState) (io : Streams) (kept : Type 0) (old new : Option (List ℕ))
     (exit : Exit) → IsSome export → IsDone lines loaded floor io → Ends IsExportFault old new exit
     → Ends (λ fault. IsStopped export lines loaded fault io × (IsEarly fault → kept)) old new exit

@@ -1,4 +1,4 @@
--- What a check of a design tells.
+-- What a check of a design writes.
 use Rattle.std.specs.Prelude.{ℕ, List, [], ◌∷◌, ◌++◌, Option, map}
 use Rattle.lf_floorplan.specs.declared.loaded.Cell.{Cell}
 use Rattle.lf_floorplan.specs.declared.loaded.Loaded.{Loaded}
@@ -9,7 +9,7 @@ use Rattle.lf_rules.specs.Legalizer.{Legalizer}
 use Rattle.lf_reports.specs.Reports.{listed_at, report_of}
 use Rattle.lf_proto.specs.ReportText.{report_text}
 
--- where the cells stand in the DEF text, in loading order; None where one is unplaced there
+-- the cells' places in the DEF text, in loading order; None if a cell is unplaced there
 abbrev pub def_places : List Cell → List (Option Place)
 def_places cells = map (λ cell. cell.place) cells
 
@@ -21,6 +21,6 @@ design_report l loaded = report_of l loaded.frame (listed_at loaded.cells (def_p
 abbrev pub report_line : Legalizer → Loaded → List ℕ
 report_line l loaded = report_text (design_report l loaded) ++ 10 ∷ []
 
--- the design is fully legal as its DEF text has it
+-- the design is fully legal at the places of its DEF text
 abbrev pub IsLegalDesign : Loaded → Type 0
 IsLegalDesign loaded = IsFullyLegal loaded.frame (standing_at loaded.cells (def_places loaded.cells))

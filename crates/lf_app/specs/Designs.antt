@@ -13,7 +13,7 @@ use Rattle.lf_frame.specs.Loads.{IsLoadedFrom}
 use Rattle.lf_app.specs.declared.faults.Fault.{Fault}
 use Rattle.lf_app.specs.declared.faults.Fault.TheVariants.{Refused, File}
 
--- what reading the file of a path may come to: its text, or None where it cannot be read
+-- what reading the file of a path may return: its text, or None if it cannot be read
 abbrev pub Gives : Type 1
 Gives = List ℕ → Option (List ℕ) → Type 0
 
@@ -32,7 +32,7 @@ abbrev pub IsLibraryOf : Gives → Contents → List (List ℕ) → Contents →
 IsLibraryOf gives old [] new = new ≡ old
 IsLibraryOf gives old (path ∷ paths) new = (next : Contents) × Adds gives path old next × IsLibraryOf gives next paths new
 
--- the limits where none are given
+-- the limits if none are given
 pub record AreStandard (limits : Limits) : Type 0 where
   pub rows : limits.rows ≡ 65535
   pub fences : limits.fences ≡ 1024
@@ -51,7 +51,7 @@ abbrev pub IsFaultIn : Contents → def.Document → LoadFault → Type 0
 IsFaultIn library document refusal =
     (limits : Limits) × AreStandard limits × IsFault (record { library = library; document = document; limits = limits }) refusal
 
--- why loading them is refused: what it finds, or want of memory
+-- why loading them is refused: a fault that it finds, or an allocation that fails
 abbrev pub IsLoadRefusal : Contents → def.Document → LoadFault → Type 0
 IsLoadRefusal library document refusal = (refusal ≡ load_fault_of Memory) ⊎ IsFaultIn library document refusal
 
@@ -73,11 +73,11 @@ IsDesignOf gives path lefs loaded = (library : Contents) × IsLibraryOf gives no
 abbrev pub IsTextDesign : List ℕ → List ℕ → Loaded → Type 0
 IsTextDesign text lef_text loaded = (library : Contents) × (lef.library_after no_library lef_text ≡ Ok library) × IsDesignIn library text loaded
 
--- why a LEF text is refused over the library: its first fault with its line, or want of memory
+-- why a LEF text is refused over the library: its first fault with its line, or an allocation that fails
 abbrev pub IsLefRefusal : Contents → List ℕ → LoadFault → Type 0
 IsLefRefusal library text refusal = lef.Refuses refusal (lef.library_after library text)
 
--- why there is no design of a DEF text over the library: its first fault with its line, what loading finds, or want of memory
+-- why there is no design of a DEF text over the library: its first fault with its line, a fault of loading, or memory ran out
 abbrev pub IsDefRefusal : Contents → List ℕ → LoadFault → Type 0
 IsDefRefusal library text refusal =
     def.Refuses refusal (def.document_of text) ⊎ ((document : def.Document) × (def.document_of text ≡ Ok document) × IsFaultIn library document refusal)
@@ -87,13 +87,13 @@ abbrev pub IsRefused : (LoadFault → Type 0) → Fault → Type 0
 IsRefused why (Refused refusal) = why refusal
 IsRefused why _ = ⊥
 
--- why there is no text of a file: it cannot be read, or want of memory
+-- why the text of a file was not read: the file cannot be read, or an allocation fails
 abbrev pub IsUnread : Gives → List ℕ → Fault → Type 0
 IsUnread gives path (Refused refusal) = refusal ≡ load_fault_of Memory
 IsUnread gives path File = gives path None
 IsUnread gives path _ = ⊥
 
--- why a file does not serve: there is no text of it, or its text is refused for this reason
+-- why a file cannot be used: its text was not read, or is refused for this reason
 abbrev pub IsFileFault : Gives → List ℕ → (List ℕ → LoadFault → Type 0) → Fault → Type 0
 IsFileFault gives path why fault = IsUnread gives path fault ⊎ ((text : List ℕ) × gives path (Some text) × IsRefused (why text) fault)
 
@@ -103,13 +103,13 @@ IsLibraryFault gives old [] fault = ⊥
 IsLibraryFault gives old (path ∷ paths) fault =
     IsFileFault gives path (IsLefRefusal old) fault ⊎ ((next : Contents) × Adds gives path old next × IsLibraryFault gives next paths fault)
 
--- why there is no design of a DEF file over LEF files: the fault of the LEF files, and where they have none, that of the DEF file
+-- why there is no design of a DEF file over LEF files: the fault of the LEF files or, if they have none, that of the DEF file
 abbrev pub IsDesignFault : Gives → List ℕ → List (List ℕ) → Fault → Type 0
 IsDesignFault gives path lefs fault =
     IsLibraryFault gives no_library lefs fault
     ⊎ ((library : Contents) × IsLibraryOf gives no_library lefs library × IsFileFault gives path (IsDefRefusal library) fault)
 
--- why there is no design of a DEF text over a LEF text: the refusal of the LEF text, and where it has none, that of the DEF text
+-- why there is no design of a DEF text over a LEF text: the refusal of the LEF text or, if it has none, that of the DEF text
 abbrev pub IsTextFault : List ℕ → List ℕ → Fault → Type 0
 IsTextFault text lef_text fault =
     IsRefused (IsLefRefusal no_library lef_text) fault

@@ -24,7 +24,7 @@ use Rattle.lf_app.specs.Designs.{Gives, IsDesignFault, IsDesignOf, IsLibraryOf, 
 use Rattle.lf_app.specs.Faults.{IsDone, IsExportFault, IsReportFault, IsServiceFault, ending_fault, fault_line, no_memory, status_of}
 use Rattle.lf_app.specs.Lines.{IsServed}
 
--- a task ends with the fault: with its status, and its line is put behind what was told, unless it could not be written
+-- a task ends with the fault: with its status, and its line is appended to the faults, unless it could not be written
 pub record EndsWith (fault : Fault) (old new : Option (List ℕ)) (exit : Exit) : Type 0 where
   pub status : exit.status ≡ status_of fault
   pub told : IsTrue exit.is_told → Appends old new (fault_line fault)
@@ -35,7 +35,7 @@ Ends why old new exit = (fault : Fault) × why fault × EndsWith fault old new e
 
 -- ---- what a task leaves
 
--- what a task was given and what it left: the input before and after, the output before and after, and the texts that were put into files
+-- what a task was given and what it left: the input and the output, each before and after, and the texts that were put into files
 pub record Streams : Type 0 where
   pub input : Option (List ℕ)
   pub left : Option (List ℕ)
@@ -48,7 +48,7 @@ abbrev pub streams : Option (List ℕ) → Option (List ℕ) → Option (List �
 streams input left before after old_puts new_puts =
     record { input = input; left = left; before = before; after = after; old_puts = old_puts; new_puts = new_puts }
 
--- a report of the design is put behind what was written, with a line feed, and the status tells whether it is fully legal
+-- a report of the design and a line feed are appended to the output, and the status says whether the design is fully legal
 pub record IsReported (loaded : Loaded) (old new : Option (List ℕ)) (status : ℕ) : Type 0 where
   pub done : IsDone status
   pub text : (l : Legalizer) → Appends old new (report_line l loaded)
@@ -61,12 +61,12 @@ pub record IsAnswered (loaded : Loaded) (floor : FloorState) (input left before 
   pub well : ending_fault ending ≡ None
   pub served : (l : Legalizer) → IsServed l (opening loaded) floor input left before after ending
 
--- so many connections were served on the floor of the design, after 'listening' was written
+-- this many connections were served on the floor of the design, after 'listening' was written
 pub record IsOffered (loaded : Loaded) (floor : FloorState) (connections : ℕ) (before after : Option (List ℕ)) : Type 0 where
   pub told : Appends before after (codes "listening" ++ 10 ∷ [])
   pub connects : (l : Legalizer) → Connects l connections (opening loaded) floor
 
--- the text of the document, with the committed places of the floor in it, is put into the file of that path; no path, and no file is written
+-- the document's text with the committed places of the floor is put into the file of that path; without a path no file is written
 abbrev pub IsExported : Option (List ℕ) → List ℕ → Document → FloorState → Option (List Put) → Option (List Put) → Type 0
 IsExported None text document floor old new = new ≡ old
 IsExported (Some path) text document floor old new =
@@ -80,7 +80,7 @@ pub record IsOpened (gives : Gives) (def : List ℕ) (lefs : List (List ℕ)) (t
   pub read : document_of text ≡ Ok document
   pub loads : IsLoadedIn library document loaded
 
--- the floor came to its state by this work, and the exported text of the document was written where one was asked for
+-- this work led to the state of the floor, and the exported text of the document was written if one was asked for
 pub record IsFinished (Work : FloorState → Streams → Type 0) (export : Option (List ℕ)) (text : List ℕ) (document : Document) (io : Streams) : Type 0 where
   pub floor : FloorState
   pub work : Work floor io
@@ -94,7 +94,7 @@ pub record IsWorked (gives : Gives) (def : List ℕ) (lefs : List (List ℕ)) (e
   pub opened : IsOpened gives def lefs text document loaded
   pub finished : IsFinished (Work loaded) export text document io
 
--- what a job that is done has come to, of which this is the status
+-- the outcome of a job that is done, with this status
 abbrev pub IsOutcome : Gives → Job → Streams → ℕ → Type 0
 IsOutcome gives demo io status =
     (loaded : Loaded) × IsTextDesign W_DEF.now W_LEF.now loaded × ((floor : FloorState) × IsAnswered loaded floor io.input io.left io.before io.after) × (status ≡ 0)
@@ -113,7 +113,7 @@ pub record IsBrokenOff (loaded : Loaded) (fault : Fault) (input left before afte
   pub is : ending_fault ending ≡ Some fault
   pub served : (l : Legalizer) → IsServed l (opening loaded) floor input left before after ending
 
--- why lines are not answered up to their end: there is no memory for the floor, or serving them ended so
+-- why lines are not answered up to their end: an allocation for the floor failed, or serving them ended so
 abbrev pub IsLinesFault : Loaded → Fault → Option (List ℕ) → Option (List ℕ) → Option (List ℕ) → Option (List ℕ) → Type 0
 IsLinesFault loaded fault input left before after = (fault ≡ no_memory) ⊎ IsBrokenOff loaded fault input left before after
 
@@ -123,7 +123,7 @@ IsEarly (Refused refusal) = Unit {0}
 IsEarly File = Unit {0}
 IsEarly _ = ⊥
 
--- why the work on a design is not done: it fails itself, or it is finished and the exported text that was asked for is not written
+-- why the work on a design is not done: it fails itself, or it is finished and the text to export is not written
 abbrev pub IsWorkFault : Option (List ℕ) → (Fault → Streams → Type 0) → (FloorState → Streams → Type 0) → Fault → Streams → Type 0
 IsWorkFault None why Work fault io = why fault io
 IsWorkFault (Some path) why Work fault io = why fault io ⊎ (IsExportFault fault × ((floor : FloorState) × Work floor io))

@@ -1,4 +1,4 @@
--- What is said of a task that was not done, and its exit status.
+-- The message and the exit status of a task that was not done.
 use Rattle.std.specs.Prelude.{◌≡◌, ◌⊎◌, ℕ, List, [], ◌∷◌, ◌++◌, Option, Some, None, option_map, codes, decimal}
 use Rattle.lf_lex.specs.declared.fault.FaultNumber.{FaultNumber}
 use Rattle.lf_lex.specs.declared.fault.FaultNumber.TheVariants as number
@@ -39,17 +39,17 @@ numbered number.TwoFences = codes "22 TwoFences"
 numbered number.TooMany = codes "23 TooMany"
 numbered number.OutOfMemory = codes "24 OutOfMemory"
 
--- the line that a refusal speaks of
+-- the line that a refusal is about
 abbrev pub line_words : Option ℕ → List ℕ
 line_words None = []
 line_words (Some line) = codes " line " ++ decimal line
 
--- the name that a refusal speaks of
+-- the name that a refusal is about
 abbrev pub name_words : Option (List ℕ) → List ℕ
 name_words None = []
 name_words (Some name) = codes " " ++ name
 
--- the text of a refusal: its number, its name, and what it speaks of
+-- the text of a refusal: its number, its name, and what it is about
 abbrev pub refusal_text : LoadFault → List ℕ
 refusal_text fault = numbered fault.number ++ line_words fault.line ++ name_words (option_map (λ name. name.now) fault.name)
 
@@ -77,7 +77,7 @@ status_of (Refused fault) = 1
 status_of NoRoom = 1
 status_of _ = 3
 
--- the fault of lines that ended neither with the input nor with a bye; none where they did
+-- the fault of lines that ended neither with the input nor with a bye; None if they did
 abbrev pub ending_fault : Ending → Option Fault
 ending_fault ending.Done = None
 ending_fault ending.Bye = None
@@ -94,23 +94,23 @@ IsFailure status = (status ≡ 1) ⊎ (status ≡ 3)
 abbrev pub IsDone : ℕ → Type 0
 IsDone status = (status ≡ 0) ⊎ (status ≡ 4)
 
--- want of memory before the first line, or for a report
+-- an allocation failed before the first line, or for a report
 abbrev pub no_memory : Fault
 no_memory = Refused (load_fault_of Memory)
 
--- the fault of a file of which there is no text
+-- the fault of a file whose text was not read
 abbrev pub unread_fault : Unread → Fault
 unread_fault unread.File = File
 unread_fault unread.OutOfMemory = no_memory
 
--- a report was not written: its text found no memory, or the writer failed
+-- a report was not written: an allocation for its text failed, or the writer did
 abbrev pub IsReportFault : Fault → Type 0
 IsReportFault fault = (fault ≡ no_memory) ⊎ (fault ≡ Output)
 
--- why an exported text is not put into its file: it found no memory, or the file cannot be written
+-- why an exported text is not put into its file: an allocation for it failed, or the file cannot be written
 abbrev pub IsExportFault : Fault → Type 0
 IsExportFault fault = (fault ≡ NoRoom) ⊎ (fault ≡ Unwritten)
 
--- why a service does not come to its end: the port cannot be listened on, that it is cannot be told, or a connection cannot be accepted
+-- why a service ends early: the port cannot be listened on, the line of that cannot be written, or no connection is accepted
 abbrev pub IsServiceFault : Fault → Type 0
 IsServiceFault fault = (fault ≡ Bind) ⊎ ((fault ≡ Output) ⊎ (fault ≡ Accept))

@@ -1,4 +1,4 @@
-//! What is told of a task that was not done, and its exit status.
+//! The message and the exit status of a task that was not done.
 
 ghost use Rattle.std.specs.Prelude.{◌≡◌, IsTrue, OnOk, option_map};
 ghost use Rattle.std.specs.Io.KnownBytes.{Appends};
@@ -15,7 +15,7 @@ use std::io::Write;
 /// Why a task was not done.
 #[derive(Clone, Copy, Debug, PartialEq, Eq)]
 pub enum Fault<'a> {
-    /// A text or the design was refused, or memory was before the first line.
+    /// A text or the design was refused, or an allocation failed before the first line.
     Refused(LoadFault<'a>),
     /// A file could not be read.
     File,
@@ -25,9 +25,9 @@ pub enum Fault<'a> {
     WriteFault,
     /// A line followed the last one that is answered.
     TooManyLines,
-    /// There was no memory for the lines.
+    /// An allocation for the lines failed.
     OutOfMemory,
-    /// A report, or that the port is listened on, could not be written.
+    /// A report, or the line that the port is listened on, could not be written.
     Output,
     /// The port could not be listened on.
     Bind,
@@ -35,7 +35,7 @@ pub enum Fault<'a> {
     Accept,
     /// The file of the exported text could not be written.
     Unwritten,
-    /// There was no memory for the exported text.
+    /// An allocation for the exported text failed.
     NoRoom,
 }
 
@@ -44,7 +44,7 @@ pub enum Fault<'a> {
 pub struct Exit {
     /// The exit status.
     pub status: u8,
-    /// Whether the line of the fault was written whole; true where there was no fault.
+    /// Whether the line of the fault was written whole; true if there was no fault.
     pub is_told: bool,
 }
 
@@ -80,7 +80,7 @@ fn numbered(number: FaultNumber) -> &'static [u8]
     }
 }
 
-/// Writes the line that a refusal speaks of.
+/// Writes the number of the line that a refusal is about.
 fn put_line<W: Write>(writer: &mut W, line: Option<usize>) -> io::Result<()>
     ensures { OnOk result (Appends (W.contents writer.old) (W.contents writer.new) (line_words line)) }
 {
@@ -91,7 +91,7 @@ fn put_line<W: Write>(writer: &mut W, line: Option<usize>) -> io::Result<()>
     writer.write_all(Buffer::new().format(line).as_bytes())
 }
 
-/// Writes the name that a refusal speaks of.
+/// Writes the name that a refusal is about.
 fn put_name<W: Write>(writer: &mut W, name: Option<&[u8]>) -> io::Result<()>
     ensures { OnOk result (Appends (W.contents writer.old) (W.contents writer.new)
         (name_words (option_map (λ bytes. bytes.now) name.entry))) }
@@ -131,7 +131,7 @@ fn put_fault<W: Write>(writer: &mut W, fault: &Fault<'_>) -> io::Result<()>
     }
 }
 
-/// Writes the line of a fault, which takes no memory.
+/// Writes the line of a fault, without allocating.
 pub fn write_fault<W: Write>(writer: &mut W, fault: &Fault<'_>) -> io::Result<()>
     ensures { OnOk result (Appends (W.contents writer.old) (W.contents writer.new) (fault_line fault.now)) }
 {
@@ -140,7 +140,7 @@ pub fn write_fault<W: Write>(writer: &mut W, fault: &Fault<'_>) -> io::Result<()
     writer.write_all(b"\n")
 }
 
-/// The exit status of a fault: 1 where a text, the design or memory for them was refused, else 3.
+/// The exit status of a fault: 1 for `Refused` and `NoRoom`, else 3.
 pub fn status_of(fault: &Fault<'_>) -> u8
     ensures { result ≡ status_of fault.now }
 {
@@ -151,7 +151,7 @@ pub fn status_of(fault: &Fault<'_>) -> u8
     }
 }
 
-/// How a task that is done ends, with this status.
+/// The end of a task that is done, with this status.
 pub(crate) fn done(status: u8) -> Exit
     ensures status { result.status ≡ status }
     ensures told { IsTrue result.is_told }
@@ -162,7 +162,7 @@ pub(crate) fn done(status: u8) -> Exit
     }
 }
 
-/// Tells a fault, and gives how the task ends with it; that it cannot be written is no further fault.
+/// Writes the line of a fault, and returns how the task ends; a failure to write it is no further fault.
 pub(crate) fn tell<F: Write>(faults: &mut F, fault: &Fault<'_>) -> Exit
     ensures { EndsWith fault.now (F.contents faults.old) (F.contents faults.new) result }
 {
@@ -173,7 +173,7 @@ pub(crate) fn tell<F: Write>(faults: &mut F, fault: &Fault<'_>) -> Exit
     }
 }
 
-/// The fault of want of memory before the first line, or for a report.
+/// The fault of an allocation that fails before the first line, or for a report.
 pub(crate) fn memory_fault<'a>() -> Fault<'a>
     ensures { result ≡ no_memory }
 {
@@ -184,7 +184,7 @@ pub(crate) fn memory_fault<'a>() -> Fault<'a>
     })
 }
 
-/// The fault of a file of which there is no text.
+/// The fault of a file whose text was not read.
 pub(crate) fn unread_fault<'a>(unread: Unread) -> Fault<'a>
     ensures { result ≡ unread_fault unread }
 {
@@ -194,7 +194,7 @@ pub(crate) fn unread_fault<'a>(unread: Unread) -> Fault<'a>
     }
 }
 
-/// The fault of lines that ended neither with the input nor with a bye; none where they did.
+/// The fault of lines that ended neither with the input nor with a bye; none if they did.
 pub(crate) fn ending_fault<'a>(ending: Ending) -> Option<Fault<'a>>
     ensures { result ≡ ending_fault ending }
 {

@@ -1,4 +1,4 @@
-//! The program: its commands, what it tells of faults, and the loop that answers lines.
+//! The program: its commands, its messages of faults, and the loop that answers lines.
 #![tactic(auto)]
 
 mod designs;

@@ -16,7 +16,7 @@ pub(crate) const LIMITS: ServeLimits = ServeLimits {
     reads: 4_200_000_000,
 };
 
-/// Answers the lines of the reader on the floor, one reply to each, as `serve` does, and says how that ended.
+/// Answers the lines of the reader on the floor, one reply to each, as `serve` does, and returns how that ended.
 pub fn answer_lines<S: Seeker + Drop, R: Read, W: Write>(
     alloc: Global,
     floor: &mut Floor<S>,

@@ -16,7 +16,7 @@ use lf_rules::Report;
 use std::alloc::{AllocError, Global};
 use std::io::Write;
 
-/// Where the cells stand in the DEF text, in loading order.
+/// The cells' places in the DEF text, in loading order.
 fn def_places(alloc: Global, cells: &[Cell]) -> Result<Vec<Option<Place>>, AllocError>
     ensures { IfOk result (λ places. places.items ≡ def_places cells.now) }
 {
@@ -57,10 +57,10 @@ fn put_line<'f, W: Write>(writer: &mut W, text: &[u8]) -> Result<(), Fault<'f>>
     Ok(())
 }
 
-/// Writes the report of the design, each cell at its place in the DEF text, and a line feed: whether the design is
-/// fully legal.
+/// Writes the report of the design, each cell at its place in the DEF text, and a line feed; returns whether the design
+/// is fully legal.
 ///
-/// `Err` where memory is refused or the writer fails; of the text a front may be written then.
+/// `Err` if an allocation or the writer fails; a front of the text may then be written.
 pub(crate) fn report_design<'f, W: Write>(
     alloc: Global,
     loaded: &Loaded,

@@ -26,10 +26,10 @@ use std::rt::Files;
 /// The exit status of a task that was done.
 const DONE: u8 = 0;
 
-/// The exit status of a check that was done, of a design that is not fully legal.
+/// The exit status of a check that was done and found the design not fully legal.
 const ILLEGAL: u8 = 4;
 
-/// Writes the report of the design, and gives the exit status.
+/// Writes the report of the design, and returns the exit status.
 fn check_design<W: Write, F: Write>(
     alloc: Global,
     loaded: &Loaded,
@@ -88,7 +88,7 @@ fn check<T: Texts, W: Write, F: Write>(
     check_design(alloc, &loaded, writer, faults)
 }
 
-/// Does the task, and gives its exit status.
+/// Does the task, and returns its exit status.
 fn outcome<T: Texts, N: Net + AllocGlobal, E: Exports, R: Read, W: Write, F: Write>(
     rt: &N,
     texts: &T,
@@ -148,14 +148,14 @@ fn outcome<T: Texts, N: Net + AllocGlobal, E: Exports, R: Read, W: Write, F: Wri
     }
 }
 
-/// Does the task and gives how it ended: with status 0 where it is done, 1 where a text or the design was refused, or
-/// memory was before the first line, for the report or for the exported text, 3 where a file, the reader, the writer, the
-/// port or a connection failed, too many lines came, or memory for the lines was refused; 4 where a check is done and the
+/// Does the task and returns how it ended: with status 0 if it is done, 1 if a text or the design was refused, or an
+/// allocation failed before the first line, for the report or for the exported text, 3 if a file, the reader, the writer, the
+/// port or a connection failed, too many lines came, or an allocation for the lines failed; 4 if a check is done and the
 /// design is not fully legal. A fault is written to `faults` as a line of its own.
 ///
 /// The LEF files are read in the order of the words, then the DEF file, then the design is loaded, then the port is
-/// listened on, up to the first fault; only then is the first line read, or the report made. A check reads no line. The
-/// exported text is written where all that came to its end, and goes to `exports`.
+/// listened on, up to the first fault; only then is the first line read, or the report made. A check reads no line. After
+/// all that has ended without a fault the exported text is written, to `exports`.
 pub fn perform_over<T: Texts, N: Net + AllocGlobal, E: Exports, R: Read, W: Write, F: Write>(
     rt: &N,
     texts: &T,
@@ -183,7 +183,7 @@ pub fn perform_over<T: Texts, N: Net + AllocGlobal, E: Exports, R: Read, W: Writ
     }
 }
 
-/// Does the task over the files and the network of a runtime, as `perform_over` does, and gives the exit status alone.
+/// Does the task over the files and the network of a runtime, as `perform_over` does, and returns the exit status alone.
 pub fn perform<T: Files + Net + AllocGlobal, R: Read, W: Write, F: Write>(
     rt: &T,
     task: &Task<'_>,

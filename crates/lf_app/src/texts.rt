@@ -5,18 +5,18 @@ ghost use Rattle.std.specs.Prelude.{◌≡◌, ℕ, List, Option, Some, None, �
 use std::rt::Files;
 use std::{fs, io};
 
-/// Why there is no text of a file.
+/// Why the text of a file was not read.
 #[derive(Clone, Copy, Debug, PartialEq, Eq)]
 pub enum Unread {
     /// The file cannot be read.
     File,
-    /// A growth of memory was refused.
+    /// An allocation failed.
     OutOfMemory,
 }
 
 /// Where texts are read from, by the paths of their files.
 pub trait Texts {
-    // What reading the file of a path may come to: its text, or None where it cannot be read.
+    // What reading the file of a path may return: its text, or None if it cannot be read.
     ghost gives: { Self → List ℕ → Option (List ℕ) → Type 0 } = { λ _ _ _. ⊤ };
 
     /// The whole text of the file of that path.
@@ -38,7 +38,7 @@ impl<'a, T> FileTexts<'a, T> {
     }
 }
 
-/// Why there is no text of a file that was not read: a folder is no file that can be read.
+/// Why a file was not read: a folder is no file that can be read.
 fn unread_of(error: &io::Error) -> Unread {
     if error.kind() == io::ErrorKind::OutOfMemory {
         return Unread::OutOfMemory;

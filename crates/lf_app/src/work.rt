@@ -1,5 +1,5 @@
 //! Work on a design: its lines are answered or its connections served, and then the text with its committed places is
-//! written where one is asked for.
+//! written if one is asked for.
 
 ghost use Rattle.std.specs.Prelude.{Some, ◌≡◌, ◌⊎◌, ◌++◌, ◌∷◌, [], ℕ, List, Option, Ok, IfErr, IfOk, IsSome, OnErr, OnOk, codes, map, option_map};
 ghost use Rattle.std.specs.Io.KnownBytes.{Appends};
@@ -38,16 +38,16 @@ use std::io;
 use std::io::{Read, Write};
 use std::net::{Ipv4Addr, Net, SocketAddr};
 
-/// How the lines of a design come.
+/// Where the lines of a design come from.
 #[derive(Clone, Copy, Debug, PartialEq, Eq)]
 pub(crate) enum Lines {
     /// From the reader, and the replies go to the writer.
     Stream,
-    /// From so many connections to this port, one after the other.
+    /// From this many connections to this port, one after the other.
     Port { port: u16, connections: u32 },
 }
 
-/// The floor of the design, on which places are looked for by an index of its rows.
+/// The floor of the design, with an index of its rows for the search for best places.
 fn floor_of(alloc: Global, loaded: Loaded) -> Result<Floor<IndexSeeker>, AllocError>
     ensures { IfOk result (λ floor. floor ≡ opening loaded) }
 {
@@ -78,7 +78,7 @@ fn answer_on<R: Read, W: Write, F: Write>(
     }
 }
 
-/// Tells that the port is listened on.
+/// Writes that the port is listened on.
 fn put_listening<W: Write>(writer: &mut W) -> io::Result<()>
     ensures { OnOk result (Appends (W.contents writer.old) (W.contents writer.new) (codes "listening" ++ 10 ∷ [])) }
 {
@@ -86,7 +86,7 @@ fn put_listening<W: Write>(writer: &mut W) -> io::Result<()>
     writer.flush()
 }
 
-/// Serves so many connections to the port of this machine, one after the other.
+/// Serves this many connections to the port of this machine, one after the other.
 fn offer<N: Net + AllocGlobal, W: Write, F: Write>(
     rt: &N,
     floor: &mut Floor<IndexSeeker>,
@@ -114,7 +114,7 @@ fn offer<N: Net + AllocGlobal, W: Write, F: Write>(
     Ok(())
 }
 
-/// Answers the lines on the floor, however they come.
+/// Answers the lines on the floor, wherever they come from.
 fn answer<N: Net + AllocGlobal, R: Read, W: Write, F: Write>(
     rt: &N,
     floor: &mut Floor<IndexSeeker>,
@@ -152,7 +152,7 @@ fn exported_text(
     export(alloc, document, &places)
 }
 
-/// Writes the exported text to the file of that path, where one is given.
+/// Writes the exported text to the file of that path, if one is given.
 fn export_to<E: Exports, F: Write>(
     alloc: Global,
     floor: &Floor<IndexSeeker>,
@@ -244,7 +244,7 @@ fn work_on_document<N: Net + AllocGlobal, E: Exports, R: Read, W: Write, F: Writ
     }
 }
 
-/// The design of the document over the library, which is then let go.
+/// The design of the document over the library, which is then dropped.
 fn loaded_of<F: Write>(
     alloc: Global,
     library: Library,
@@ -406,7 +406,7 @@ pub(crate) fn work_on_files<
     }
 }
 
-/// Answers the lines of the reader on the floor, of which no text is exported.
+/// Answers the lines of the reader on the floor; no text is exported.
 fn answer_all<R: Read, W: Write, F: Write>(
     alloc: Global,
     floor: &mut Floor<IndexSeeker>,
@@ -428,7 +428,7 @@ fn answer_all<R: Read, W: Write, F: Write>(
     }
 }
 
-/// Answers the lines of the reader over the design, of which no text is exported.
+/// Answers the lines of the reader over the design; no text is exported.
 pub(crate) fn answer_over<R: Read, W: Write, F: Write>(
     alloc: Global,
     loaded: Loaded,

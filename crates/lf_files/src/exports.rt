@@ -7,11 +7,11 @@ use crate::replacing::{is_special, replace, write_through};
 use std::io;
 use std::rt::Files;
 
-/// A text was not put into its file, which is as it was.
+/// A text was not put into its file, which is unchanged.
 #[derive(Clone, Copy, Debug, PartialEq, Eq)]
 pub struct Unwritten;
 
-/// What is told of a text that was written, or was not.
+/// The result for a text that was written, or was not.
 fn told(written: io::Result<()>) -> Result<(), Unwritten>
     ensures { IsOk result ↔ IsOk written }
 {
@@ -23,10 +23,10 @@ fn told(written: io::Result<()>) -> Result<(), Unwritten>
 
 /// Where exported texts go, by the paths of their files.
 pub trait Exports {
-    // The texts that were put, the last one in front, where they are known.
+    // The texts that were put, the last one first, if they are known.
     ghost puts: { Self → Option (List Put) } = { λ _. None };
 
-    /// Puts the text into the file of that path, in the place of what stood there.
+    /// Puts the text into the file of that path, in place of what was there.
     fn put(&mut self, path: &str, text: &[u8]) -> Result<(), Unwritten>
         ensures ok { OnOk result (Puts (puts self.old) (puts self.new) path.now text.now) }
         ensures err { OnErr result (puts self.new ≡ puts self.old) };

@@ -1,4 +1,4 @@
-//! Files that are written: a text takes the place of a file whole, or the file stays as it was.
+//! Files that are written: a text replaces a file as a whole, or the file is unchanged.
 #![tactic(auto)]
 
 mod exports;

@@ -13,7 +13,7 @@ use std::{fs, io};
 /// How many names are tried for the new file.
 const TRIES: u32 = 1_000;
 
-/// Whether something other than a regular file bears the path: a pipe or a device, which is written to as it is.
+/// Whether something other than a regular file has the path: a pipe or a device, which is written to as it is.
 pub(crate) fn is_special<T: Files>(files: &T, path: &str) -> bool {
     match fs::metadata(files, path) {
         Ok(found) => !found.is_file(),
@@ -21,13 +21,13 @@ pub(crate) fn is_special<T: Files>(files: &T, path: &str) -> bool {
     }
 }
 
-/// Writes the text to what bears the path.
+/// Writes the text to what has the path.
 pub(crate) fn write_through<T: Files>(files: &T, path: &str, text: &[u8]) -> io::Result<()> {
     let mut file = OpenOptions::new().write(true).open(files, path)?;
     file.write_all(text)
 }
 
-/// The path itself, or the one that it leads to by links, where there is a file.
+/// The path itself, or the one that it leads to by links, if there is a file.
 fn target_of<T: Files + AllocGlobal>(rt: &T, path: &str) -> io::Result<String> {
     match fs::canonicalize(rt, path) {
         Ok(target) => Ok(String::from_str(rt.alloc(), target.as_str())?),
@@ -43,7 +43,7 @@ fn name_beside(alloc: Global, target: &str, number: u32) -> io::Result<String> {
     Ok(name)
 }
 
-/// Writes the text to the new file, sees to it that it is stored, and gives the file the older one's permissions.
+/// Writes the text to the new file, makes sure that it is stored, and gives the file the older one's permissions.
 fn fill<T: Files>(files: &T, target: &str, file: &mut T::File, text: &[u8]) -> io::Result<()>
     ensures { OnOk result (Appends (⟦<T::File as Write>⟧.contents file.old) (⟦<T::File as Write>⟧.contents file.new) text.now) }
 {
@@ -54,7 +54,7 @@ fn fill<T: Files>(files: &T, target: &str, file: &mut T::File, text: &[u8]) -> i
     file.sync_all()
 }
 
-/// Fills the new file of that name and renames it; where that fails, the new file goes.
+/// Fills the new file of that name and renames it; if that fails, the new file is removed.
 fn fill_and_rename<T: Files>(
     files: &T,
     name: &str,
@@ -75,8 +75,8 @@ fn fill_and_rename<T: Files>(
     renamed
 }
 
-/// Writes the text to a new file beside the target, and gives it the target's name: what bore that name before is gone
-/// at once, and stays as it was where anything fails.
+/// Writes the text to a new file beside the target, and gives it the target's name: what had that name before is replaced
+/// at once, and unchanged if anything fails.
 pub(crate) fn replace<T: Files + AllocGlobal>(rt: &T, path: &str, text: &[u8]) -> io::Result<()> {
     let target = target_of(rt, path)?;
     for number in 0..TRIES {

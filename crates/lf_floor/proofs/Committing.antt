@@ -1,4 +1,4 @@
--- What a commit comes to.
+-- The outcome of a commit.
 use Rattle.std.proofs.Common.{◌≡◌, ℕ, ◌+◌, List, [], ◌∷◌, map, Option, Some, None, true, refl, ap, sym, ◌∙◌}
 use Rattle.std.specs.Prelude.{slice_get, slice_set}
 use Rattle.lf_floorplan.specs.declared.place.Place.{Place}

@@ -60,7 +60,7 @@ counted_own k session old new rows counts =
 
 -- ---- a change is kept
 
--- the rows are there still, where only the undo stacks have changed
+-- the rows are still there if only the undo stacks have changed
 pub rows_by_undo : (k : ℕ) (old : Tables) (undo : Stacks (List Move)) → length undo.lists ≡ length old.undo.lists → HasRows k old
     → HasRows k (record old { undo = undo })
 rows_by_undo k old undo same rows = record { undo = rw same rows.undo; sessions = rows.sessions; revisions = rows.revisions }

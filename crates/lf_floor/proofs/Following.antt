@@ -28,7 +28,7 @@ boxes_moved f [] own place = refl
 boxes_moved f (c ∷ cs) zero place = refl
 boxes_moved f (c ∷ cs) (suc own) place = ap (λ (r : List (Option Rect)). box_of f c ∷ r) (boxes_moved f cs own place)
 
--- what is written to the list of one number stands there; a number past the end has no list
+-- what is written to the list of one number is there; a number past the end has no list
 set_here : (rows : List (List (Option Rect))) (k own : ℕ) (x : Option Rect)
     → get_or (set rows k (set (get_or rows k []) own x)) k [] ≡ set (get_or rows k []) own x
 set_here [] zero own x = refl
@@ -36,7 +36,7 @@ set_here [] (suc k) own x = refl
 set_here (r ∷ rows) zero own x = refl
 set_here (r ∷ rows) (suc k) own x = set_here rows k own x
 
--- the occupancy that was told of a move holds the cells after it
+-- the occupancy after a move holds the cells after it
 told : (f : Frame) (id : CellId) (place : Option Place) (rect : Option Rect) (old new : Cells) (was now : Option Occupied)
     → cells_of new id.team ≡ moved (cells_of old id.team) id.own place → OtherCellsStay id.team old new → rect ≡ box_moved f (cell_at old id) place
     → Tells was id rect now → Follows f old was → IfSome now (λ o. IsOccupancyOf f new o)

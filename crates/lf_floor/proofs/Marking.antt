@@ -55,7 +55,7 @@ judged_stands t cells verdicts own all are judged = go (slice_get cells own) ref
       subst (λ (x : Member). MatchOption x.place ⊥ (λ p. IsLegalAt (lifted_from t.frame t.number (map member_of cells) own x.mac) p)) same
       (legal_trial t cells own c c.working (sized_there t.frame cells own c all there) placed (told_none t cells verdicts own c there are judged.kept))
 
--- ---- marks, one behind the other
+-- ---- marks, one after the other
 
 get_end : {X : Type 0} (xs : List X) (x y : X) (k : ℕ) → slice_get (xs ++ x ∷ []) k ≡ Some y → (slice_get xs k ≡ Some y) ⊎ ((k ≡ length xs) × (x ≡ y))
 get_end [] x y zero e = inr (refl, some_one e)
@@ -81,7 +81,7 @@ length_end (y ∷ xs) x = let rest = length_end xs x in omega (arith, rest)
 pub one_longer : (own : ℕ) (old new : List Bool) (mark : Bool) → new ≡ old ++ mark ∷ [] → length old ≡ own → length new ≡ own + 1
 one_longer own old new mark is long = ap (λ (ms : List Bool). length ms) is ∙ length_end old mark ∙ ap (λ (n : ℕ). n + 1) long
 
--- ---- a cell that stands legally is tidied nowhere
+-- ---- a cell that stands legally is not tidied
 
 no_rule : (t : Setting) (cells : List Cell) (own : ℕ) (c : Cell) (place : Place) → VerdictIsOne → IsSizedCell t.frame c →
     IsTeamLegal (trial_of_cell t cells own c place) → t.legalizer.first_broken (trial_of_cell t cells own c place) ≡ None

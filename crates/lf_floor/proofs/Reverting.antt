@@ -4,7 +4,7 @@ use Rattle.lf_cells.specs.declared.cell.Cell.{Cell}
 use Rattle.lf_cells.specs.Cells.{committed_at, moved}
 use Rattle.lf_teams.specs.Changes.{back_to_committed}
 
--- the first so many cells are at their committed places
+-- the first cells, this many of them, are at their committed places
 abbrev pub back_first : ℕ → List Cell → List Cell
 back_first zero cells = cells
 back_first (suc n) [] = []

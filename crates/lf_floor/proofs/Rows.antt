@@ -1,4 +1,4 @@
--- The teams of a floor, whose parts stand in tables of all teams.
+-- The teams of a floor, whose parts are in tables of all teams.
 use Rattle.std.proofs.Common.{◌≡◌, ◌≢◌, ◌<◌, ℕ, ◌+◌, List, [], length, map, set, get_or, Option, Some, None, ⊎_elim, refl, ap, sym, ◌∙◌, zero-add, subst}
 use Rattle.std.specs.Prelude.{◌↔◌, slice_get, slice_set, slice_index_or, replicate, option_and_then, All}
 use Rattle.std.specs.List.{range_with_len}
@@ -35,7 +35,7 @@ count_teams tables = length-map-range_with_len (λ (number : ℕ). own_team numb
 pub team_at : (tables : Tables) (k : ℕ) (d : TeamState) → k < length tables.revisions.items → get_or (teams_in tables) k d ≡ own_team k tables
 team_at tables k d within = get_or-map-range_with_len (λ (number : ℕ). own_team number tables) 0 (length tables.revisions.items) k k d within (zero-add k)
 
--- the team of that number stands at its position
+-- the team of that number is at its position
 pub team_there : (tables : Tables) (k : ℕ) → k < length tables.revisions.items → slice_get (teams_in tables) k ≡ Some (own_team k tables)
 team_there tables k within =
     slice_get_read (teams_in tables) (length tables.revisions.items) k (own_team k tables) (sym (count_teams tables)) within
@@ -47,7 +47,7 @@ each_team P tables k all within =
     let t = own_team k tables in
     subst P (team_at tables k t within) (all k t (rw (count_teams tables) within))
 
--- where the other teams stay, one team alone has changed
+-- if the other teams stay, one team alone has changed
 pub one_changed : (old new : Tables) (k : ℕ) → OthersStay k old new → teams_in new ≡ slice_set (teams_in old) k (own_team k new)
 one_changed old new k others =
     let here : TeamState = own_team k new in

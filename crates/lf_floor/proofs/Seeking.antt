@@ -60,7 +60,7 @@ id_there cells number own id is = go (slice_get cells own) is where
   go None e = absurd cc
   go (Some c) e = sym (some_one e)
 
--- a name that is told is that of a cell that is there
+-- a name that is returned is that of an existing cell
 pub name_printed : (cells : List Cell) (own : ℕ) (name : List ℕ) → All (λ c. IsName c.name) cells → Some name ≡ name_at cells own → IsName name
 name_printed cells own name printed is = go (slice_get cells own) refl is where
   go : (o : Option Cell) → slice_get cells own ≡ o → Some name ≡ option_map (λ (c : Cell). c.name) o → IsName name
@@ -70,7 +70,7 @@ name_printed cells own name printed is = go (slice_get cells own) refl is where
       let same : name ≡ c.name = some_one e in
       subst IsName (ap (λ (x : Cell). x.name) at ∙ sym same) (printed own c (slice_get_within cells own c there))
 
--- the name that is told of the cell of this id
+-- the name that is returned of the cell of this id
 pub name_told : (table : Cells) (number own : ℕ) (id : CellId) (facts : CellFacts) → id_in (cells_of table number) number own ≡ Some id
     → option_map (λ (f : CellFacts). f.name.now) (Some facts) ≡ option_map (λ (c : Cell). c.name) (cell_at table id)
     → Some facts.name.now ≡ name_at (cells_of table number) own
@@ -79,7 +79,7 @@ name_told table number own id facts is told =
 
 -- ---- one cell after the other
 
--- what is told of one more cell comes behind what is told of those before it
+-- what is listed of one more cell is appended to what is listed of those before it
 pub one_more_told : {X Y : Type 0} (f : X → Y) (xs : List X) (k : ℕ) (y : Y) → Some y ≡ option_map f (slice_get xs k)
     → map f (take (k + 1) xs) ≡ map f (take k xs) ++ y ∷ []
 one_more_told f [] k y is = absurd cc

@@ -133,7 +133,7 @@ all_to_go l f team last cells is =
     let count : last - 0 ≡ length (map member_of cells) = omega (arith, is, length-map cells member_of) in
     rw count refl
 
--- tidying goes on behind a cell as it would have gone on from it
+-- tidying goes on after a cell as it would have gone on from it
 pub on_going : (t : Setting) (own last moved : ℕ) (first old new : List Cell) (sent : Sent) (now : Tidied) → own < last → Sends t own old new sent
     → sent_as sent new moved own ≡ now
     → tidied_from t.legalizer t.frame t.number own (last - own) (Going (map member_of old) moved) ≡ tidied t.legalizer t.frame t.number (map member_of first)

@@ -1,4 +1,4 @@
--- What the swap of two cells comes to where one of them breaks a rule.
+-- The outcome of the swap of two cells if one of them breaks a rule.
 use Rattle.std.proofs.Common.{◌≡◌, ℕ, List, Option, Some, None, true, refl, ap, sym, ◌∙◌}
 use Rattle.std.specs.Option.{is_some}
 use Rattle.lf_floorplan.specs.declared.place.Place.{Place}

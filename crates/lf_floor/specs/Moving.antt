@@ -10,17 +10,17 @@ use Rattle.lf_cells.specs.declared.cell.Cell.{Cell}
 use Rattle.lf_cells.specs.declared.cell.CellId.{CellId}
 use Rattle.lf_occupancy.specs.Occupied.{Occupied, boxes_with}
 
--- the box of a cell at a place; None where there is no such cell, or it stands nowhere
+-- the box of a cell at a place; None if there is no such cell, or it is unplaced
 abbrev pub box_moved : Frame → Option Cell → Option Place → Option Rect
 box_moved f cell place = option_and_then (λ c. option_map (λ p. box_in f c.mac (spot_of p)) place) cell
 
--- the occupancy was told that the cell has this box
+-- the new occupancy is the old one with this box for the cell
 pub record IsTold (old : Option Occupied) (id : CellId) (rect : Option Rect) (new : Occupied) : Type 0 where
   pub was : Occupied
   pub there : old ≡ Some was
   pub boxes : new.boxes ≡ boxes_with was id rect
   pub strips : new.strips ≡ was.strips
 
--- the same, unless there is no occupancy any more
+-- the same, unless the occupancy was dropped
 abbrev pub Tells : Option Occupied → CellId → Option Rect → Option Occupied → Type 0
 Tells old id rect new = IfSome new (λ o. IsTold old id rect o)

@@ -9,7 +9,7 @@ use Rattle.lf_teams.specs.Teams.{Setting}
 use Rattle.lf_teams.specs.Outcomes.{Outcome}
 use Rattle.lf_teams.specs.Changes.{broken_where, exchanged, swapped_to}
 
--- why a cell is refused that breaks this rule
+-- why a cell that breaks this rule is refused
 abbrev pub illegal_by : Option Broken → ℕ → Option Refusal
 illegal_by broken own = option_map (λ b. Illegal b.rule own b.other) broken
 

@@ -1,4 +1,4 @@
--- The teams of a floor, of which cells, undo entries, session slots and revisions stand in one table of each kind for all teams.
+-- The teams of a floor, whose cells, undo entries, session slots and revisions are in one table of each kind for all teams.
 use Rattle.std.specs.Prelude.{◌≡◌, ◌≢◌, ℕ, ◌+◌, ◌<◌, All, IfSome, List, [], length, map, replicate, take, ◌∷◌, Option, None, Some, slice_index_or, slice_set}
 use Rattle.std.specs.List.{range_with_len}
 use Rattle.lf_floorplan.specs.declared.frame.Frame.{Frame}
@@ -28,7 +28,7 @@ use Rattle.lf_floor.specs.declared.tables.Tables.{Tables}
 abbrev pub revision_of : Tables → ℕ → ℕ
 revision_of tables number = slice_index_or tables.revisions.items number 0
 
--- the team of that number, with these cells: an undo entry stands for the places before its moves, the newest taken back first
+-- the team of that number, with these cells; an undo entry gives the places before its moves, the newest taken back first
 abbrev pub team_with : ℕ → List Cell → Tables → TeamState
 team_with number cells tables =
     record {
@@ -64,7 +64,7 @@ floor_in f tables = floor_of f tables.cells.components (teams_in tables)
 abbrev pub AreSized : Frame → Cells → Type 0
 AreSized f cells = (team : ℕ) → All (IsSizedCell f) (cells_of cells team)
 
--- so are the cells, and the occupancy, where there is one, is of this frame, and holds the working places of this table's cells
+-- the cells are so, and the occupancy, if there is one, is of this frame, and holds the working places of this table's cells
 pub record Follows (f : Frame) (cells : Cells) (occupancy : Option Occupied) : Type 0 where
   pub sized : AreSized f cells
   pub holds : IfSome occupancy (λ o. IsOccupancyOf f cells o)
@@ -96,20 +96,20 @@ pub record AreTablesOf (f : Frame) (tables : Tables) : Type 0 where
   pub revisions : length tables.revisions.items ≡ length f.teams + 1
   pub limit : tables.undo.limit ≡ f.limits.undo
 
--- the session has seen the team's revision, and the next revision is a number
+-- the session has seen the team's revision, and the next revision fits into 32 bits
 pub record IsCurrent (number session : ℕ) (tables : Tables) : Type 0 where
   pub seen : seen_at (slots_of tables.sessions number) session ≡ Some (revision_of tables number)
   pub left : revision_of tables number < 4294967295
 
--- the tables have a row for the team of that number, which is one of the frame, an undo stack takes as many entries as the limits allow, and
--- the occupancy follows the cells
+-- the tables have a row for the team of that number, which is one of the frame, an undo stack takes as many entries as the limits
+-- allow, and the occupancy follows the cells
 pub record IsServed (f : Frame) (number : ℕ) (tables : Tables) : Type 0 where
   pub rows : HasRows number tables
   pub limit : tables.undo.limit ≡ f.limits.undo
   pub team : IsTeamOf f (own_team number tables)
   pub follows : IsFollowed f tables
 
--- and the session may change the team
+-- the same, and the session may change the team
 pub record CanChange (f : Frame) (number session : ℕ) (tables : Tables) : Type 0 where
   pub served : IsServed f number tables
   pub current : IsCurrent number session tables
@@ -146,7 +146,7 @@ taken_up c = record c { working = None }
 abbrev pub SameButPlaces : List Cell → List Cell → Type 0
 SameButPlaces old new = map taken_up new ≡ map taken_up old
 
--- the moves have led from the cells before to those now: taken back they give the places before, and nothing but places differs
+-- the moves lead from the cells before to those now: taken back they give the places before, and only places differ
 pub record HaveMoved (before : List Cell) (moves : List Move) (now : List Cell) : Type 0 where
   pub places : taken_back moves (places_of now) ≡ places_of before
   pub same : SameButPlaces before now

@@ -13,7 +13,7 @@ use Rattle.lf_floor.specs.declared.tidy.Tidy.TheVariants.{Done, Stopped}
 use Rattle.lf_teams.specs.Teams.{Setting}
 use Rattle.lf_teams.specs.Looks.{lifted_cell}
 
--- where the cell of that position is tidied to; None where it stays
+-- the target to which the cell of that position is tidied; None if it stays
 abbrev pub target_at : Setting → List Cell → ℕ → Option Point
 target_at t cells own =
     option_and_then (λ c. target_of t.legalizer (lifted_cell t cells own c) (option_map spot_of c.working)) (slice_get cells own)

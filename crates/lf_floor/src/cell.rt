@@ -24,9 +24,9 @@ use lf_rules::{Broken, Rule, box_of, verdict_is_one};
 use lf_units::Point;
 use std::alloc::{AllocError, Global};
 
-/// Builds the occupancy of the cells, where there is none.
+/// Builds the occupancy of the cells if there is none.
 ///
-/// `Err` where memory is refused.
+/// `Err` if an allocation fails.
 fn fill<S>(
     around: &Surroundings<'_, S>,
     cells: &CellTable,
@@ -48,7 +48,7 @@ fn fill<S>(
     Ok(())
 }
 
-/// Overlap with the first of the team's other cells that the box meets; none where it meets none.
+/// Overlap with the first of the team's other cells that the box meets; none if it meets none.
 fn overlap(met: Option<u32>) -> Option<Broken>
     ensures { result ≡ option_map (λ own. record { rule = Overlap; other = Some own }) met }
 {
@@ -64,7 +64,7 @@ fn overlap(met: Option<u32>) -> Option<Broken>
 /// The first rule that the macro of the cell of that id breaks at the place, beside the other cells of
 /// its team.
 ///
-/// `Err` where memory is refused.
+/// `Err` if an allocation fails.
 fn broken_by<S>(
     around: &Surroundings<'_, S>,
     cells: &CellTable,
@@ -98,9 +98,9 @@ fn broken_by<S>(
 }
 
 /// The first rule that the team's cell of that position breaks at the place, beside the others of
-/// its team; none where the team has no such cell.
+/// its team; none if the team has no such cell.
 ///
-/// `Err` where memory is refused.
+/// `Err` if an allocation fails.
 pub(crate) fn broken_at<S>(
     around: &Surroundings<'_, S>,
     cells: &CellTable,
@@ -126,9 +126,9 @@ pub(crate) fn broken_at<S>(
     broken_by(around, cells, occupancy, id, mac, place)
 }
 
-/// The best place for a target of the team's cell of that id; none where it has none.
+/// The best place of the team's cell of that id for a target; none if it has none.
 ///
-/// `Err` where memory is refused.
+/// `Err` if an allocation fails.
 pub(crate) fn best_place<S: Seeker>(
     around: &Surroundings<'_, S>,
     cells: &CellTable,
@@ -158,8 +158,8 @@ pub(crate) fn best_place<S: Seeker>(
     }
 }
 
-/// The position of the team's first unplaced cell, in loading order, found without memory; none
-/// where every cell is placed.
+/// The position of the team's first unplaced cell, in loading order, found without allocating; none
+/// if every cell is placed.
 pub(crate) fn first_unplaced(cells: &CellTable, number: usize) -> Option<u32>
     requires { length (cells_of cells.now number) ≤ 4000000 }
     ensures { result ≡ first_unplaced (cells_of cells.now number) }
@@ -172,7 +172,7 @@ pub(crate) fn first_unplaced(cells: &CellTable, number: usize) -> Option<u32>
     None
 }
 
-/// Whether the team's cell of that position stands nowhere.
+/// Whether the team's cell of that position is unplaced.
 fn is_unplaced(cells: &CellTable, number: usize, own: usize) -> bool
     ensures { result ≡ is_none (working_at (cells_of cells.now number) own) }
 {

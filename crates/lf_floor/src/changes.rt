@@ -16,8 +16,8 @@ use lf_units::Point;
 use std::alloc::AllocError;
 
 impl Tables {
-    /// Puts a cell at a place: `NoCell` where the team has none of that name, else `Illegal` where
-    /// the place breaks a rule.
+    /// Puts a cell at a place: `NoCell` if the team has none of that name, else `Illegal` if
+    /// it breaks a rule there.
     #[tactic(auto, unfolding(lf_teams::specs::Changes::placed))]
     pub(crate) fn place<S>(
         &mut self,
@@ -57,8 +57,8 @@ impl Tables {
         Ok(Reply::Revision(revision))
     }
 
-    /// Puts a cell at its best place for a target: `NoCell` where the team has none of that name,
-    /// else `NoPlace` where no place is team-legal.
+    /// Puts a cell at its best place for a target: `NoCell` if the team has none of that name,
+    /// else `NoPlace` if no place is team-legal.
     #[tactic(auto, unfolding(lf_teams::specs::Changes::legalized))]
     pub(crate) fn legalize<S: Seeker>(
         &mut self,
@@ -89,8 +89,8 @@ impl Tables {
         Ok(Reply::Legalized { revision, place })
     }
 
-    /// Takes a cell from its place: `NoCell` where the team has none of that name, else `Unplaced`
-    /// where it stands nowhere.
+    /// Takes a cell from its place: `NoCell` if the team has none of that name, else `Unplaced`
+    /// if it has no place.
     #[tactic(auto, unfolding(lf_teams::specs::Changes::unplaced))]
     pub(crate) fn unplace<S>(
         &mut self,

@@ -1,4 +1,4 @@
-//! Where all cells are committed.
+//! The committed places of all cells.
 
 ghost use Rattle.std.specs.Prelude.{◌≡◌, IfOk, IsSome, List, map};
 ghost use Rattle.lf_cells.specs.declared.cell.CellId.{CellId};

@@ -32,11 +32,11 @@ use lf_rules::{legal_in_range, legalizer_is_there};
 use std::alloc::{AllocError, Global};
 use std::marker::Model;
 
-/// The teams of a design in their common frame: the fence teams in the frame's order, and last `-`,
+/// The teams of a design in their common frame: the fence teams in the frame's order, then `-`,
 /// the team of the ground outside all fences.
 ///
-/// Contracts see the frame, each team's state and where the cells' entries stand among all COMPONENTS:
-/// who seeks best places plays no part in what is answered.
+/// Contracts see the frame, each team's state and the positions of the cells' entries among all
+/// COMPONENTS: the search for best places plays no part in the replies.
 #[derive(Drop)]
 pub struct Floor<S: Seeker> {
     alloc: Global,
@@ -68,7 +68,7 @@ fn is_outside(name: &[u8]) -> bool
     matches!(name, [b'-'])
 }
 
-/// The number of the team of that name: the fence teams in the frame's order, and last the one
+/// The number of the team of that name: the fence teams in the frame's order, then the one
 /// named `-`.
 fn team_named(frame: &Frame, name: &[u8]) -> Option<usize>
     ensures found { result ≡ team_number frame.now name.now }
@@ -97,7 +97,7 @@ fn fence_named(frame: &Frame, name: &[u8]) -> Option<usize>
         .position(|team| team.name.is(name))
 }
 
-/// Answers an order to the team of these surroundings, where memory serves.
+/// Answers an order to the team of these surroundings, unless an allocation fails.
 fn serve_at<S: Seeker>(
     around: &Surroundings<'_, S>,
     tables: &mut Tables,
@@ -124,7 +124,7 @@ fn serve_at<S: Seeker>(
     tables.serve(around, order)
 }
 
-/// Puts a reply behind the others, where there is room.
+/// Appends a reply, if there is room.
 fn push_within(replies: &mut Vec<Reply>, reply: Reply)
     requires { vec_len replies.old < vec_capacity replies.old }
     ensures items { replies.new.items ≡ replies.old.items ++ reply ∷ [] }
@@ -138,10 +138,10 @@ fn push_within(replies: &mut Vec<Reply>, reply: Reply)
 
 impl<S: Seeker + Drop> Floor<S> {
     /// The floor of a design as it is loaded: each team has its own cells at their places in the
-    /// DEF text, at revision 0, with nothing to undo and no session open. `seeker` will look for
+    /// DEF text, at revision 0, with nothing to undo and no session open. `seeker` is the search for
     /// best places.
     ///
-    /// `Err` where memory is refused; the design and the seeker are then gone.
+    /// `Err` if an allocation fails; the design and the seeker are then dropped.
     pub fn start(alloc: Global, loaded: Loaded, seeker: S) -> Result<Floor<S>, AllocError>
         requires made { S.is_for seeker loaded.frame }
         ensures opens { IfOk result (λ floor. floor ≡ opening loaded) }
@@ -162,7 +162,7 @@ impl<S: Seeker + Drop> Floor<S> {
 
     /// The working place of the team's cell of that position in loading order, the first at 0.
     ///
-    /// None where the cell is unplaced, the team has no such cell, or there is no such team.
+    /// None if the cell is unplaced, the team has no such cell, or there is no such team.
     pub fn place_of(&self, team: &[u8], own: usize) -> Option<Place>
         ensures { result ≡ option_and_then (λ s. working_at s.cells own) (state_of self.now team.now) }
     {
@@ -170,10 +170,10 @@ impl<S: Seeker + Drop> Floor<S> {
         self.tables.cells.standing(number, own)?.working
     }
 
-    /// The name of the team's cell of that position in loading order, the first at 0: replies name
-    /// cells by it.
+    /// The name of the team's cell of that position in loading order, the first at 0. Replies name
+    /// cells by their positions.
     ///
-    /// None where the team has no such cell, or there is no such team.
+    /// None if the team has no such cell, or there is no such team.
     pub fn name_of(&self, team: &[u8], own: usize) -> Option<&[u8]>
         ensures name { option_map (λ name. name.now) result ≡ option_and_then (λ s. name_at s.cells own) (state_of self.now team.now) }
         ensures printed { IfSome result (λ name. IsName name.now) }
@@ -183,17 +183,17 @@ impl<S: Seeker + Drop> Floor<S> {
         Some(self.tables.cells.cell(id)?.name)
     }
 
-    /// All movable components, by the positions of their entries among all COMPONENTS of the DEF text,
-    /// which rise, each with the committed place of its cell; none where that is unplaced.
+    /// All movable components: the positions of their entries among all COMPONENTS of the DEF text,
+    /// in rising order, each with the committed place of its cell; none if that is unplaced.
     ///
-    /// `Err` where memory is refused.
+    /// `Err` if an allocation fails.
     pub fn committed_places(&self) -> Result<Vec<(usize, Option<Place>)>, AllocError>
         ensures { IfOk result (λ places. AreCommittedPlaces self.now places.items) }
     {
         all_committed(self.alloc, &self.tables.cells)
     }
 
-    /// Each team is one of the frame: what the floor keeps in its type.
+    /// The invariant of the type: each team is one of the frame.
     fn teams_are_of_the_frame(&self)
         ensures { All (λ s. IsTeamOf self.now.frame s) self.now.teams }
     {
@@ -202,7 +202,7 @@ impl<S: Seeker + Drop> Floor<S> {
 }
 
 impl<S: Seeker + Drop> Floor<S> {
-    /// Answers one command, where memory serves.
+    /// Answers one command, unless an allocation fails.
     fn try_step(&mut self, request: &Request) -> Result<Reply, AllocError>
         ensures ok { (l : Legalizer) → IfOk result (λ reply. Answers l self.old (command_of request.now) reply self.new) }
         ensures err { (l : Legalizer) → OnErr result (RunsShort l self.old (command_of request.now) self.new) }
@@ -228,12 +228,12 @@ impl<S: Seeker + Drop> Floor<S> {
     /// Answers one command: the team that it names answers by its own state alone, and no other
     /// team changes.
     ///
-    /// `NoTeam` comes before any refusal of a team. `OutOfMemory` stands only in the place of an
-    /// accepted change, a broken rule, a best place, the want of one, or a report, and never in that of
-    /// an undo. A refusal leaves
-    /// the whole floor as it was; after an accepted place or legalize the cell is team-legal, after
+    /// `NoTeam` comes before any refusal of a team. `OutOfMemory` only replaces the reply to an accepted
+    /// change, a broken rule, a best place, the lack of one, a report or a DEF text, and never that to
+    /// an undo; the floor is then unchanged. A refusal leaves the whole floor unchanged; after an
+    /// accepted place or legalize the cell is team-legal, after
     /// a swap both cells are, and after a tidy or a commit every cell of the team. A committed design
-    /// that is fully legal stays so, whatever is asked.
+    /// that is fully legal stays so after any command.
     pub fn step(&mut self, request: &Request) -> Reply
         ensures step { (l : Legalizer) → Step l self.old (command_of request.now) result self.new }
         ensures others { (team : List ℕ) → ¬ IsTo team (command_of request.now) → state_of self.new team ≡ state_of self.old team }
@@ -258,11 +258,11 @@ impl<S: Seeker + Drop> Floor<S> {
 
     /// Answers requests in order, each as `step` does, with one reply to each.
     ///
-    /// A committed design that is fully legal is so after each of them, and one that was not is fully
-    /// legal at the end where each team that has a cell had a commit accepted. A commit that is a
+    /// A committed design that is fully legal is so after each of them; one that was not is fully
+    /// legal at the end if of each team that has a cell a commit was accepted. A commit that is a
     /// team's next accepted change after a tidy is never refused for a cell.
     ///
-    /// Memory for all replies is taken first: `Err` where it is refused, and then no request was
+    /// Memory for all replies is allocated first: `Err` if that fails, and then no request was
     /// answered.
     pub fn run(&mut self, requests: &RequestList) -> Result<Vec<Reply>, AllocError>
         ensures run { (l : Legalizer) → IfOk result (λ replies. Run l self.old requests.now replies.items self.new) }

@@ -13,10 +13,10 @@ use lf_undo::Moves;
 use std::alloc::{AllocError, Global};
 
 impl Tables {
-    /// Keeps the moves of a change as the team's newest undo entry, counts the change, and tells the
+    /// Keeps the moves of a change as the team's newest undo entry, counts the change, and returns the
     /// revision.
     ///
-    /// `Err` where memory for the entry is refused; then the moves are taken back.
+    /// `Err` if the entry cannot be allocated; then the moves are taken back.
     pub(crate) fn keep(
         &mut self,
         frame: &Frame,
@@ -45,9 +45,9 @@ impl Tables {
     }
 
     /// Moves one cell of the team, as a change that the session makes and that can be undone, and
-    /// tells the revision.
+    /// returns the revision.
     ///
-    /// `Err` where memory is refused; then nothing has changed.
+    /// `Err` if an allocation fails; then nothing has changed.
     pub(crate) fn change_place(
         &mut self,
         alloc: Global,

@@ -19,7 +19,7 @@ use lf_reports::{BrokenCell, first_illegal, report_by_verdicts, verdicts_on};
 use lf_rules::{Broken, Listed, legalizer_is_there};
 use std::alloc::{AllocError, Global};
 
-/// The team's cell of that position, as its report lists it; none where the team has no such cell.
+/// The team's cell of that position, as its report lists it; none if the team has no such cell.
 fn listed(cells: &CellTable, number: usize, own: usize) -> Option<Listed<&[u8]>>
     ensures { option_map named result ≡ option_map (listed_of number) (slice_get (cells_of cells.now number) own) }
 {
@@ -53,7 +53,7 @@ fn listed_cells(
 
 /// The text of the report of the team's cells at their working places.
 ///
-/// `Err` where memory is refused.
+/// `Err` if an allocation fails.
 pub(crate) fn report_text<S>(
     around: &Surroundings<'_, S>,
     cells: &CellTable,
@@ -72,10 +72,10 @@ pub(crate) fn report_text<S>(
     report_json(around.alloc, &report)
 }
 
-/// For each of the team's cells, in loading order, the first rule that it breaks where it stands; none where
+/// For each of the team's cells, in loading order, the first rule that it breaks where it stands; none if
 /// it breaks no rule, or is unplaced.
 ///
-/// `Err` where memory is refused.
+/// `Err` if an allocation fails.
 fn team_verdicts<S>(
     around: &Surroundings<'_, S>,
     cells: &CellTable,
@@ -92,10 +92,10 @@ fn team_verdicts<S>(
     verdicts_on(around.alloc, around.frame, around.index, &listed)
 }
 
-/// The team's first cell in loading order that breaks a rule where it stands; none where no cell
+/// The team's first cell in loading order that breaks a rule where it stands; none if no cell
 /// does.
 ///
-/// `Err` where memory is refused.
+/// `Err` if an allocation fails.
 pub(crate) fn first_broken_cell<S>(
     around: &Surroundings<'_, S>,
     cells: &CellTable,
@@ -128,7 +128,7 @@ fn stands_legal(cells: &CellTable, number: usize, verdicts: &[Option<Broken>], o
 
 /// For each of the team's cells whether it is placed, and team-legal where it stands.
 ///
-/// `Err` where memory is refused.
+/// `Err` if an allocation fails.
 pub(crate) fn legal_marks<S>(
     around: &Surroundings<'_, S>,
     cells: &CellTable,

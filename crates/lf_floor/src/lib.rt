@@ -1,8 +1,8 @@
-//! The floor of all teams: a step for each command, and runs of many. What other teams have and ask plays no part in
+//! The floor of all teams: a step for each command, and runs of many. What other teams have and send plays no part in
 //! a team's replies.
 #![tactic(auto)]
 
-/// Requests and replies, which the floor's calls take and give.
+/// Requests and replies, which the floor's calls take and return.
 pub use lf_proto as proto;
 
 mod cell;

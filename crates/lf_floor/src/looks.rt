@@ -1,4 +1,4 @@
-//! Questions, which change nothing of a team: what `where`, `check`, `def` and `find` tell.
+//! Questions, which change nothing of a team: `where`, `check`, `def` and `find`.
 
 ghost use Rattle.std.specs.Prelude.{IfOk, OnErr};
 ghost use Rattle.lf_rules.specs.Legalizer.{Legalizer};
@@ -18,8 +18,8 @@ use lf_units::Point;
 use std::alloc::AllocError;
 
 impl Tables {
-    /// Tells where a cell stands: `NoCell` where the team has none of that name, else `Unplaced`
-    /// where it stands nowhere.
+    /// Answers where a cell stands: `NoCell` if the team has none of that name, else `Unplaced`
+    /// if it has no place.
     #[tactic(auto, unfolding(lf_teams::specs::Looks::located))]
     pub(crate) fn locate(&self, number: usize, name: &[u8]) -> Reply
         ensures { Reaches (located name.now (own_team number self.now)) result (own_team number self.now) }
@@ -33,7 +33,7 @@ impl Tables {
         }
     }
 
-    /// Tells the report of the team's cells at their working places.
+    /// Answers the report of the team's cells at their working places.
     #[tactic(auto, unfolding(lf_teams::specs::Looks::checked))]
     pub(crate) fn check<S>(&self, around: &Surroundings<'_, S>) -> Result<Reply, AllocError>
         requires team { IsTeamOf around.now.frame.now (team_in around.now self.now) }
@@ -49,7 +49,7 @@ impl Tables {
         Ok(Reply::Report(text))
     }
 
-    /// Tells the team's DEF text, its cells at their working places.
+    /// Answers the team's DEF text, its cells at their working places.
     #[tactic(auto, unfolding(lf_teams::specs::Looks::written))]
     pub(crate) fn write_def<S>(&self, around: &Surroundings<'_, S>) -> Result<Reply, AllocError>
         ensures ok { (l : Legalizer) → IfOk result (λ reply. Reaches
@@ -63,8 +63,8 @@ impl Tables {
         Ok(Reply::Def(Text::from_bytes(text)))
     }
 
-    /// Tells the best place of a cell: `NoCell` where the team has none of that name, else `NoPlace`
-    /// where no place is team-legal.
+    /// Answers the best place of a cell: `NoCell` if the team has none of that name, else `NoPlace`
+    /// if no place is team-legal.
     #[tactic(auto, unfolding(lf_teams::specs::Looks::found))]
     pub(crate) fn find<S: Seeker>(
         &mut self,

@@ -16,7 +16,7 @@ use lf_undo::{Move, Moves};
 use lf_units::Rect;
 use std::alloc::AllocError;
 
-/// The box of a cell at a place; none where there is no such cell, or no place.
+/// The box of a cell at a place; none if there is no such cell, or no place.
 fn box_at(frame: &Frame, cells: &CellTable, id: CellId, place: Option<Place>) -> Option<Rect>
     requires { All (IsSizedCell frame.now) (cells_of cells.now id.team) }
     ensures { result ≡ box_moved frame.now (cell_at cells.now id) place }
@@ -27,7 +27,7 @@ fn box_at(frame: &Frame, cells: &CellTable, id: CellId, place: Option<Place>) ->
     Some(box_of(frame, mac, &place))
 }
 
-/// Tells the occupancy which box a cell has; where memory for it is refused, there is none any more.
+/// Gives a cell this box in the occupancy; if an allocation fails, the occupancy is dropped.
 fn tell(occupancy: &mut Option<Occupancy>, id: CellId, rect: Option<Rect>)
     ensures { Tells occupancy.old id rect occupancy.new }
 {
@@ -64,7 +64,7 @@ fn put(
     set_place(cells, id, place);
 }
 
-/// Changes the working place of the team's cell of that position, where there is one.
+/// Changes the working place of the team's cell of that position, if there is one.
 fn put_at(
     frame: &Frame,
     cells: &mut CellTable,
@@ -85,7 +85,7 @@ fn put_at(
 
 /// Moves one cell, and notes the place that it had.
 ///
-/// `Err` where memory for the note is refused; then nothing moves.
+/// `Err` if the note cannot be allocated; then nothing moves.
 pub(crate) fn shift(
     frame: &Frame,
     cells: &mut CellTable,
@@ -110,7 +110,7 @@ pub(crate) fn shift(
     Ok(())
 }
 
-/// Takes moves of the team's cells back, the last one first, without memory.
+/// Takes moves of the team's cells back, the last one first, without allocating.
 pub(crate) fn take_back(
     frame: &Frame,
     cells: &mut CellTable,

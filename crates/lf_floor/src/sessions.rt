@@ -11,7 +11,7 @@ use crate::tables::Tables;
 use lf_proto::{Refusal, Reply};
 
 impl Tables {
-    /// Takes the team's least free session slot; `SessionsFull` where there is none.
+    /// Takes the team's least free session slot; `SessionsFull` if there is none.
     #[tactic(auto, unfolding(lf_teams::specs::Sessions::opened))]
     pub(crate) fn open(&mut self, number: usize) -> Reply
         ensures team { Reaches (opened (own_team number self.old)) result (own_team number self.new) }

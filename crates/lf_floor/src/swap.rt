@@ -71,7 +71,7 @@ fn exchange(
     shift(frame, cells, occupancy, moves, second, to_first)
 }
 
-/// Why the team's cell of that position is refused where it stands; none where it breaks no rule.
+/// Why the team's cell of that position is refused where it stands; none if it breaks no rule.
 fn refusal_at<S>(
     around: &Surroundings<'_, S>,
     cells: &CellTable,
@@ -96,7 +96,7 @@ fn refusal_at<S>(
     }
 }
 
-/// Why two cells of the team are refused where they stand, the first before the second; none where
+/// Why two cells of the team are refused where they stand, the first before the second; none if
 /// neither breaks a rule.
 fn refusal_of<S>(
     around: &Surroundings<'_, S>,
@@ -119,7 +119,7 @@ fn refusal_of<S>(
     }
 }
 
-/// Exchanges the places of two cells of the team, and tells why they are refused there, if they
+/// Exchanges the places of two cells of the team, and returns why they are refused there, if they
 /// are.
 fn try_exchange<S>(
     around: &Surroundings<'_, S>,
@@ -146,7 +146,7 @@ fn try_exchange<S>(
 }
 
 impl Tables {
-    /// Exchanges the places of two placed cells of the team; `Illegal` where one of them breaks a
+    /// Exchanges the places of two placed cells of the team; `Illegal` if one of them breaks a
     /// rule then.
     fn swap_placed<S>(
         &mut self,
@@ -201,9 +201,9 @@ impl Tables {
         }
     }
 
-    /// Exchanges the places of two cells: `NoCell` where the team has none of a name, else
-    /// `Unplaced` where one stands nowhere, else `Illegal` where one breaks a rule at its new
-    /// place; in each the first before the second.
+    /// Exchanges the places of two cells: `NoCell` if the team has none of a name, else
+    /// `Unplaced` if one has no place, else `Illegal` if one breaks a rule at its new
+    /// place; each for the first cell before the second.
     #[tactic(auto, unfolding(lf_teams::specs::Changes::swapped))]
     pub(crate) fn swap<S>(
         &mut self,

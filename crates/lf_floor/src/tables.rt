@@ -1,4 +1,4 @@
-//! What stands of all teams, in one table of each kind.
+//! The state of all teams, in one table of each kind.
 
 ghost use Rattle.std.specs.Prelude.{◌≡◌, ◌+◌, IfOk};
 ghost use Rattle.lf_segments.specs.Segments.{IsCut};
@@ -13,12 +13,12 @@ use lf_undo::UndoStore;
 use std::alloc::{AllocError, Global};
 
 /// The cells, the undo entries, the session slots and the revisions of all teams: each table has a
-/// row for each team of the frame. And the occupancy that the cells give.
+/// row for each team of the frame. And the occupancy by the cells.
 #[derive(Drop)]
 pub(crate) struct Tables {
     pub(crate) cells: CellTable,
-    /// What stands in the frame's strips; none where memory for it was refused, and then it is built
-    /// anew before the next look at it.
+    /// The cells in the frame's strips; none after an allocation for it failed, until it is built
+    /// anew for its next use.
     pub(crate) occupancy: Option<Occupancy>,
     pub(crate) undo: UndoStore,
     pub(crate) sessions: SessionTable,
@@ -26,7 +26,7 @@ pub(crate) struct Tables {
     pub(crate) revisions: Vec<u32>,
 }
 
-/// The occupancy of the cells; none where memory for it is refused.
+/// The occupancy of the cells; none if an allocation for it fails.
 fn occupancy_of(
     alloc: Global,
     frame: &Frame,
@@ -41,7 +41,7 @@ fn occupancy_of(
 }
 
 impl Tables {
-    /// Those of a design as it is loaded: no change is made, nothing can be undone, and no session
+    /// The tables of a design as it is loaded: no change is made, nothing can be undone, and no session
     /// is open.
     pub(crate) fn opening(
         alloc: Global,
@@ -75,7 +75,7 @@ impl Tables {
         }
     }
 
-    /// Counts one more change of the team, which the session has then seen, and tells the revision.
+    /// Counts one more change of the team, which the session has then seen, and returns the revision.
     pub(crate) fn count_change(&mut self, number: usize, session: u32) -> u32
         requires rows { HasRows number self.old }
         requires current { IsCurrent number session self.old }

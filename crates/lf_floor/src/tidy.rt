@@ -42,9 +42,9 @@ enum Sent {
 /// What became of all cells of a team.
 #[derive(Clone, Copy)]
 enum Tidy {
-    /// So many went to their best place.
+    /// This many went to their best place.
     Done(u32),
-    /// The cell of that position has none.
+    /// The cell of that position has no best place.
     Stopped(u32),
 }
 
@@ -58,8 +58,8 @@ fn corner(place: &Place) -> Point
     }
 }
 
-/// Where the team's cell of that position is tidied to: the anchor where it is unplaced, its own
-/// corner where it breaks a rule; none where it stays, as each marked cell does.
+/// The target to which the team's cell of that position is tidied: the anchor if it is unplaced, its own
+/// corner if it breaks a rule; none if it stays, as each marked cell does.
 fn target_of<S>(
     around: &Surroundings<'_, S>,
     cells: &CellTable,
@@ -91,7 +91,7 @@ fn target_of<S>(
     }
 }
 
-/// Sends the team's cell of that position to its best place, where it does not stay.
+/// Sends the team's cell of that position to its best place, unless it stays.
 fn send<S: Seeker>(
     around: &Surroundings<'_, S>,
     cells: &mut CellTable,
@@ -166,9 +166,9 @@ fn send_all<S: Seeker>(
 
 impl Tables {
     /// Goes through the team's cells in loading order and sends each that is unplaced or breaks a
-    /// rule to its best place: `NoPlace`, and no cell is moved, where one has none.
+    /// rule to its best place: `NoPlace`, and no cell is moved, if one has none.
     ///
-    /// A tidy that is refused on its way is taken back without memory.
+    /// A tidy that is refused on its way is taken back without allocating.
     pub(crate) fn tidy<S: Seeker>(
         &mut self,
         around: &Surroundings<'_, S>,

@@ -49,8 +49,8 @@ impl Tables {
         }
     }
 
-    /// Makes a change; `Stale` where the session has not seen the team's revision, else
-    /// `RevisionsSpent` where the team has made as many changes as it may, before any other
+    /// Makes a change; `Stale` if the session has not seen the team's revision, else
+    /// `RevisionsSpent` if the team has made as many changes as it may, before any other
     /// refusal.
     fn change<S: Seeker>(
         &mut self,
@@ -83,7 +83,7 @@ impl Tables {
         self.apply(around, session, change)
     }
 
-    /// Answers what a session asks that is open and has seen this revision.
+    /// Answers an action of an open session that has seen this revision.
     fn ask<S: Seeker>(
         &mut self,
         around: &Surroundings<'_, S>,
@@ -117,9 +117,9 @@ impl Tables {
     }
 
     /// Answers an order to the team of these surroundings; `NoSession`, before any other refusal,
-    /// where it names a session that is not open.
+    /// if it names a session that is not open.
     ///
-    /// `Err` where memory is refused, and then the team is unchanged.
+    /// `Err` if an allocation fails, and then the team is unchanged.
     pub(crate) fn serve<S: Seeker>(
         &mut self,
         around: &Surroundings<'_, S>,

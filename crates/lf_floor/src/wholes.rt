@@ -30,7 +30,7 @@ fn is_one_place(a: &Place, b: &Place) -> bool
     a.x == b.x && a.y == b.y && a.orient == b.orient
 }
 
-/// Whether both stand at one place, or both nowhere.
+/// Whether both are one place, or both unplaced.
 fn stand_alike(a: Option<Place>, b: Option<Place>) -> bool
     ensures { IsTrue result ↔ a ≡ b }
 {
@@ -41,7 +41,7 @@ fn stand_alike(a: Option<Place>, b: Option<Place>) -> bool
     }
 }
 
-/// Moves the team's cell of that position to its committed place, where it stands elsewhere, and
+/// Moves the team's cell of that position to its committed place, if it is elsewhere, and
 /// notes the move.
 fn move_one_back(
     frame: &Frame,
@@ -67,7 +67,7 @@ fn move_one_back(
     shift(frame, cells, occupancy, moves, id, committed)
 }
 
-/// Moves each of the team's cells to its committed place, where it stands elsewhere, and notes the
+/// Moves each of the team's cells to its committed place, if it is elsewhere, and notes the
 /// moves.
 fn move_back(
     frame: &Frame,
@@ -139,7 +139,7 @@ impl Tables {
     }
 
     /// Takes the moves of the team's newest undo entry back, unchecked, and that entry away;
-    /// `NothingToUndo` where there is none.
+    /// `NothingToUndo` if there is none.
     pub(crate) fn undo(&mut self, frame: &Frame, number: usize, session: u32) -> Reply
         requires rows { HasRows number self.old }
         requires current { IsCurrent number session self.old }
@@ -157,8 +157,8 @@ impl Tables {
         }
     }
 
-    /// Commits the team's working places: `Unplaced` where a cell stands nowhere, else `Illegal`
-    /// where one breaks a rule, the first in loading order each.
+    /// Commits the team's working places: `Unplaced` if a cell has no place, else `Illegal`
+    /// if one breaks a rule, each for the first such cell in loading order.
     pub(crate) fn commit<S>(
         &mut self,
         around: &Surroundings<'_, S>,

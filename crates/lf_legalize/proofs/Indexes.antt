@@ -1,4 +1,5 @@
--- Legal places lie in the extent of a frame's rows, and those are as far from a target as from the nearest point of the extent, and farther by the same.
+-- Legal places lie in the extent of a frame's rows; their distances from a target and from the extent's point nearest to it
+-- differ by one number for all.
 use Rattle.std.proofs.Common.{◌≡◌, inl, inr, ℕ, ℤ, pos, negsuc, ◌+◌, ◌≤◌, ◌+ℤ◌, ◌-ℤ◌, ◌≤ℤ◌, ◌<ℤ◌, arith, sym, ap, ◌∙◌, subst, Option, Some, None, get_or}
 use Rattle.std.specs.Prelude.{unsigned_abs}
 use Rattle.std.proofs.lemmas.Int.{ints}

@@ -30,7 +30,7 @@ pub record IsExtentOf (f : Frame) (extent : Rect) : Type 0 where
 abbrev pub hull : Rect → Rect → Rect
 hull a b = record { x1 = int_min a.x1 b.x1; y1 = int_min a.y1 b.y1; x2 = int_max a.x2 b.x2; y2 = int_max a.y2 b.y2 }
 
--- the value of a range that is nearest to another: what lies in the range is farther from that other one by the same
+-- the value of a range that is nearest to another value: each value of the range is at least as far from it
 pub record IsNearestIn (lo hi value nearest : ℤ) : Type 0 where
   pub low : lo ≤ℤ nearest
   pub high : nearest ≤ℤ hi
@@ -55,7 +55,7 @@ pub record IsNearDefPoint (p : Point) : Type 0 where
 abbrev pub IsWithin : Point → ℕ → Spot → Type 0
 IsWithin target reach p = distance target p ≤ reach
 
--- how far a place may be from the target that is better than the best one so far, or as good
+-- how far from the target a place may be that is better than the best one so far, or as good
 abbrev pub limit : Point → ℕ → Option Spot → ℕ
 limit target reach best = option_map_or (λ b. min (distance target b) reach) best reach
 
@@ -65,11 +65,11 @@ pub record IsOnRow (f : Frame) (size : Point) (number : ℕ) (p : Spot) : Type 0
   pub there : slice_get f.rows number ≡ Some row
   pub bottom : IsBottomRow f (box_at size p.x p.y) row
 
--- from the best place so far to the one after these were looked at too, all of them no farther from the target than that
+-- from the best place so far to the one after looking also at these, all of them no farther from the target than that
 pub record LooksNear (Seen : Spot → Type 0) (cell : Lifted) (target : Point) (reach : ℕ) (old new : Option Spot) : Type 0 where
   pub looked : LooksAt (λ p. IsWithin target reach p × Seen p) cell target old new
   pub near : IfSome old (IsWithin target reach) → IfSome new (IsWithin target reach)
 
--- the better of the best place so far and this one: this one where it precedes, or there is none so far
+-- the better of the best place so far and this one: this one if it precedes, or there is none so far
 abbrev pub IsBetter : Point → Option Spot → Spot → Option Spot → Type 0
 IsBetter target best p new = ((new ≡ Some p) × IfSome best (λ b. Precedes target p b)) ⊎ ((new ≡ best) × IsAsGood target best p)

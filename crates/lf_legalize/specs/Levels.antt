@@ -46,12 +46,13 @@ pub record IsFreeOnOne (Rows : ℕ → Type 0) (o : Occupied) (id : CellId) (win
   pub among : Rows number
   pub free : IsFreeOnRow o id window number s
 
--- what is free in the window on one of these rows: a span that holds a number lies in one of the free ones exactly where it is free on such a row
+-- the free spans in the window on one of these rows: a span that holds a number lies in one of them if and only if it is free on
+-- such a row
 pub record AreFreeOn (Rows : ℕ → Type 0) (o : Occupied) (id : CellId) (window : Span) (free : List Span) : Type 0 where
   pub rising : IsRising free
   pub exact : (s : Span) → IsFilled s → (LiesInOne free s ↔ IsFreeOnOne Rows o id window s)
 
--- what is free on the row of this number stands behind the other spans, where its rail is the bottom row's, changed j times
+-- what is free on the row of this number is appended to the other spans, if its rail is the bottom row's, changed j times
 pub record AddsRow (s : RowSearch) (bottom : Row) (j n : ℕ) (window : Span) (old new : List Span) : Type 0 where
   pub added : List Span
   pub is : new ≡ old ++ added
@@ -72,7 +73,7 @@ pub record HasBareLevel (s : RowSearch) (own : ℕ) (bottom : Row) (window : Spa
   pub within : level < s.height
   pub bare : IsLevel s own bottom window level []
 
--- so a cell of the search may stand on this bottom row, as far as orientations and rails go
+-- a cell of the search may have this orientation on this bottom row, as far as orientations and rails go
 pub record MayStand (s : RowSearch) (bottom : Row) (o : Orient) : Type 0 where
   pub allowed : IsTrue (is_allowed (macro_of s.frame.now s.mac).symmetry o)
   pub equal : s.height % 2 ≡ 1 → EqualUnder s.frame.now.site.symmetry o bottom.orient
@@ -83,11 +84,11 @@ pub record IsFirstOrient (s : RowSearch) (bottom : Row) (o : Orient) : Type 0 wh
   pub may : MayStand s bottom o
   pub least : (p : Orient) → MayStand s bottom p → rank o ≤ rank p
 
--- that orientation, and nothing only where it may not stand in any
+-- that orientation, or nothing only if the cell may have none
 abbrev pub FindsOrient : RowSearch → Row → Option Orient → Type 0
 FindsOrient s bottom found = MatchOption found ((o : Orient) → MayStand s bottom o → ⊥) (λ o. IsFirstOrient s bottom o)
 
--- a number by which coordinates of a DEF text are as near as they are to this target
+-- a number near the coordinates of a DEF text: of two such coordinates, the one no farther from it is no farther from the target
 pub record IsStandIn (target near : ℤ) : Type 0 where
   pub bounded : IsBounded near
   pub same : (x y : ℤ) → IsDefNumber x → IsDefNumber y → IsNoFarther near x y → IsNoFarther target x y

@@ -17,7 +17,7 @@ member_of c = record { mac = c.mac; place = option_map spot_of c.working }
 abbrev pub IsSizedCell : Frame → Cell → Type 0
 IsSizedCell f c = HasSize f c
 
--- the best place for a target of the cell of that position, taken away from its place among its team's cells; None where no
+-- the best place for a target of the cell of that position, taken from its place among its team's cells; None if no
 -- place is team-legal, or there is no such cell
 abbrev pub best_of : Legalizer → Frame → ℕ → List Cell → ℕ → Point → Option Spot
 best_of l f team cells own target =

@@ -12,7 +12,7 @@ use Rattle.lf_cells.specs.Cells.{cells_of}
 use Rattle.lf_legalize.specs.Members.{member_of}
 use Rattle.lf_legalize.specs.declared.row_search.RowSearch.{RowSearch}
 
--- the cell whose best place is looked for, taken away from its place among its team's cells
+-- the cell whose best place is looked for, taken from its place among its team's cells
 abbrev pub lifted_in : RowSearch → Lifted
 lifted_in s = lifted_from s.frame.now s.id.team (map member_of (cells_of s.cells.now s.id.team)) s.id.own s.mac
 
@@ -28,6 +28,6 @@ pub record IsBestAmong (Seen : Spot → Type 0) (c : Lifted) (target : Point) (b
   pub legal : IsLegalAt c best
   pub least : (p : Spot) → Seen p → IsLegalAt c p → (p ≡ best) ⊎ Precedes target best p
 
--- what a look at some places finds: the best of them, and nothing only where none of them is legal
+-- the result of looking at some places: the best of them, or nothing only if none of them is legal
 abbrev pub IsChoiceAmong : (Spot → Type 0) → Lifted → Point → Option Spot → Type 0
 IsChoiceAmong Seen c target found = MatchOption found ((p : Spot) → Seen p → IsLegalAt c p → ⊥) (λ best. IsBestAmong Seen c target best)

@@ -11,6 +11,6 @@ use Rattle.lf_legalize.specs.declared.search.Search.{Search}
 abbrev pub cell_of : Search → Lifted
 cell_of s = lifted s.frame.now s.team s.mac.now s.others.now
 
--- from the best place so far to the one after these places were looked at too
+-- from the best place so far to the one after looking also at these places
 abbrev pub LooksAt : (Spot → Type 0) → Search → Option Place → Option Place → Type 0
 LooksAt Seen s old new = LooksAtSpots Seen (cell_of s) s.target.now (option_map spot_of old) (option_map spot_of new)

@@ -26,8 +26,8 @@ use lf_segments::RowsByY;
 use lf_units::{Point, Rect};
 use std::alloc::{AllocError, Global};
 
-/// Looks on the rows around the target, found by bisection, and there only as far as a better place
-/// may lie: at no site, and at no cell that is far off.
+/// Looks at the rows around the target, found by bisection, and there only as far as a better place
+/// may lie: at no single site, and at no cell that is far off.
 #[derive(Drop)]
 pub struct IndexSeeker {
     rows: RowsByY,
@@ -36,7 +36,7 @@ pub struct IndexSeeker {
 }
 
 impl IndexSeeker {
-    /// The seeker for this frame. `Err` where memory is refused.
+    /// The seeker for this frame. `Err` if an allocation fails.
     pub fn build(alloc: Global, frame: &Frame) -> Result<Self, AllocError>
         ensures { IfOk result (λ seeker. IsIndexOf frame.now seeker) }
     {
@@ -55,7 +55,7 @@ fn size_of(frame: &Frame, mac: &Macro) -> Point
     size_in_units(&mac.size, frame.header.units)
 }
 
-/// How many core sites the macro is high, where that is from 1 to 8.
+/// How many core sites high the macro is, if that is a whole number from 1 to 8.
 fn height_of(frame: &Frame, mac: &Macro) -> Option<u32>
     requires { IsSized frame.now mac.now }
     ensures { MatchOption result ((k : ℕ) → IsHeightOf frame.now mac.now k → ⊥) (λ k. IsHeightOf frame.now mac.now k) }

@@ -9,14 +9,14 @@ use lf_floorplan::Place;
 use lf_orient::Orient;
 use lf_units::Point;
 
-/// How far the two numbers are apart.
+/// The distance between the two numbers.
 pub(crate) fn gap(a: &i64, b: &i64) -> u64
     ensures { result ≡ unsigned_abs (a.now -ℤ b.now) }
 {
     a.abs_diff(*b)
 }
 
-/// How far the place is from the target, along x and y together.
+/// The distance of the place from the target along x plus that along y.
 pub(crate) fn distance(target: &Point, place: &Place) -> u128
     ensures { result ≡ distance_of target.now (spot_of place.now) }
 {
@@ -25,7 +25,7 @@ pub(crate) fn distance(target: &Point, place: &Place) -> u128
     u128::from(across) + u128::from(along)
 }
 
-/// Which of the places that differ in their orientation only comes first: the lesser number.
+/// The rank of the orientation: of places that differ only in it, the one of lesser rank comes first.
 fn rank(orient: Orient) -> u32
     ensures { result ≡ rank_of orient }
 {

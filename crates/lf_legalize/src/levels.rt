@@ -22,11 +22,11 @@ pub(crate) struct BottomRow<'a> {
     pub row: &'a Row,
     /// The position of the row in the frame.
     pub number: usize,
-    /// The x range that the cell's box is to lie over, in database units.
+    /// The x range over which the cell's box has to lie, in database units.
     pub window: &'a Span,
 }
 
-/// The rail of a row so many levels above the bottom row.
+/// The rail of a row this many levels above the bottom row.
 fn rail_at(bottom: &Row, level: u32) -> Option<Rail>
     ensures { result ≡ option_map (changed level) (rail_below bottom.now.orient) }
 {
@@ -37,7 +37,7 @@ fn rail_at(bottom: &Row, level: u32) -> Option<Rail>
     rail
 }
 
-/// The y of the rows so many levels above the bottom row.
+/// The y of the rows this many levels above the bottom row.
 fn y_at(bottom: &Row, pitch: &Point, level: u32) -> i64
     requires high { pos 0 <ℤ pitch.now.y }
     requires low { pitch.now.y ≤ℤ pos 20000000000 }
@@ -47,7 +47,7 @@ fn y_at(bottom: &Row, pitch: &Point, level: u32) -> i64
     i64::from(bottom.y) + i64::from(level) * pitch.y
 }
 
-/// The rows so many levels above the bottom row, in the order of their x.
+/// The rows this many levels above the bottom row, in the order of their x.
 fn rows_above<'a>(search: &RowSearch<'a>, bottom: &Row, level: u32) -> &'a [RowEntry]
     requires { level ≤ 8 }
     ensures { IsRunAt search.now.rows.now (bottom.now.y +ℤ (pos level *ℤ search.now.frame.now.pitch.y)) result.now }
@@ -55,15 +55,15 @@ fn rows_above<'a>(search: &RowSearch<'a>, bottom: &Row, level: u32) -> &'a [RowE
     search.rows.at(y_at(bottom, &search.frame.pitch, level))
 }
 
-/// Whether the row has the rail of a row so many levels above the bottom row.
+/// Whether the row has the rail of a row this many levels above the bottom row.
 fn is_railed(bottom: &Row, level: u32, row: &Row) -> bool
     ensures { IsTrue result ↔ (rail_below row.now.orient ≡ option_map (changed level) (rail_below bottom.now.orient)) }
 {
     row_rail(row.orient) == rail_at(bottom, level)
 }
 
-/// Puts what is free on the row of that number behind the other spans, where its rail is that of a
-/// row so many levels above the bottom row.
+/// Appends what is free on the row of that number, if its rail is that of a
+/// row this many levels above the bottom row.
 fn push_row(
     alloc: Global,
     search: &RowSearch<'_>,
@@ -87,7 +87,7 @@ fn push_row(
     Ok(())
 }
 
-/// What is free in the window on the rows so many levels above the bottom row. No two rows share a
+/// What is free in the window on the rows this many levels above the bottom row. No two rows share a
 /// point, so the spans of one row lie left of those of the next.
 fn free_above(
     alloc: Global,
@@ -130,7 +130,7 @@ fn free_at(
     free_above(alloc, search, bottom, level)
 }
 
-/// What is free in the window at each level of the cell, from the bottom row on; none where nothing is
+/// What is free in the window at each level of the cell, from the bottom row on; none if nothing is
 /// free at one of them.
 pub(crate) fn free_by_level(
     alloc: Global,

@@ -27,7 +27,7 @@ fn is_beside(pitch: &Point, row: &Row, window: &Span) -> bool
     row.right_edge(pitch) <= window.lo || window.hi <= i64::from(row.x)
 }
 
-/// The best place on the row over the window. A row beside the window takes no look at what it holds.
+/// The best place on the row over the window. Of a row beside the window nothing is looked at.
 fn best_in_window(
     alloc: Global,
     search: &RowSearch<'_>,
@@ -48,7 +48,7 @@ fn best_in_window(
     best_on_row(alloc, search, number, window)
 }
 
-/// The best place so far, after those of this row were looked at too that are at most `reach` away.
+/// The best place so far, after looking also at those of this row that are at most `reach` away.
 fn with_row(
     alloc: Global,
     search: &RowSearch<'_>,
@@ -77,7 +77,7 @@ fn with_row(
     }
 }
 
-/// The best of the places that are at most `reach` away from the target; none where none of them is
+/// The best of the places that are at most `reach` away from the target; none if none of them is
 /// legal.
 fn best_within(
     alloc: Global,
@@ -102,10 +102,10 @@ fn best_within(
     Ok(best)
 }
 
-/// The best place of the cell, where no legal one is farther from the target than `farthest`.
+/// The best place of the cell, if no legal one is farther from the target than `farthest`.
 ///
-/// It looks at places less than a row's height away first, which lie on the row of the target's y where there is one, and
-/// then at ones twice as far while there is none.
+/// It first looks at places less than a row's height away, which lie on the row of the target's y if there is one, and
+/// then at ones up to twice as far, until there is one.
 pub(crate) fn nearest(
     alloc: Global,
     search: &RowSearch<'_>,

@@ -30,7 +30,7 @@ fn row_at(frame: &Frame, number: usize) -> &Row
     &frame.rows.as_slice()[number]
 }
 
-/// Whether the cell may stand in this orientation on the bottom row, as far as rails and
+/// Whether the cell may have this orientation on the bottom row, as far as rails and
 /// orientations go.
 fn may_stand(search: &RowSearch<'_>, bottom: &Row, orient: Orient) -> bool
     ensures { IsTrue result ↔ MayStand search.now bottom.now orient }
@@ -71,8 +71,8 @@ fn grid_on(bottom: &Row, pitch: &Point) -> Grid
     }
 }
 
-/// The target, drawn near to the coordinates that there are: what is nearest to the one is nearest
-/// to the other.
+/// A number for the target that is near the coordinates of a DEF text: what is nearest to the one is
+/// nearest to the other.
 fn stand_in(target: &i64) -> i64
     ensures { IsStandIn target.now result }
 {
@@ -85,7 +85,7 @@ fn stand_in(target: &i64) -> i64
     *target
 }
 
-/// The number of the grid nearest to the target from which on the width lies in one span of each list,
+/// The number of the grid nearest to the target at which the width lies in one span of each list,
 /// the lesser of two.
 fn nearest_fit(
     alloc: Global,
@@ -134,8 +134,8 @@ fn place_on(bottom: &Row, x: &i64, orient: Orient) -> Place
     Place::new(*x as i32, bottom.y, orient)
 }
 
-/// The best place in this orientation of the cell on the bottom row, where what is free at each of
-/// its levels is known.
+/// The best place in this orientation of the cell on the bottom row, given what is free at each of
+/// its levels.
 fn best_at(
     alloc: Global,
     search: &RowSearch<'_>,
@@ -157,8 +157,8 @@ fn best_at(
     Ok(Some(place_on(bottom.row, &x, orient)))
 }
 
-/// The best place of the cell on this row as its bottom row, of the places where its box lies over
-/// the window; none where none of them is legal. `Err` where memory is refused.
+/// The best place of the cell on this row as its bottom row, of the places at which its box lies over
+/// the window; none if none of them is legal. `Err` if an allocation fails.
 pub(crate) fn best_on_row(
     alloc: Global,
     search: &RowSearch<'_>,

@@ -13,7 +13,7 @@ use lf_floorplan::Frame;
 use lf_rules::{Placed, box_of};
 use std::alloc::{AllocError, Global};
 
-/// Puts the box of a cell behind the others, where it is placed; `own` is the cell's position.
+/// Appends the box of a cell, if it is placed; `own` is the cell's position.
 fn push_box(
     others: &mut Vec<Placed>,
     frame: &Frame,
@@ -34,7 +34,7 @@ fn push_box(
     Ok(())
 }
 
-/// Puts the box of the team's cell of the position `other` behind the others, unless it is `own`'s.
+/// Appends the box of the team's cell of the position `other`, unless it is `own`'s.
 fn push_other(
     others: &mut Vec<Placed>,
     frame: &Frame,
@@ -58,7 +58,7 @@ fn push_other(
 
 /// The boxes of the team's placed cells but the one of that position, in loading order.
 ///
-/// `Err` where memory is refused.
+/// `Err` if an allocation fails.
 pub fn boxes_beside(
     alloc: Global,
     frame: &Frame,

@@ -24,7 +24,7 @@ fn is_legal(search: &Search<'_>, place: &Place) -> bool
     first_broken(search.frame, search.team, search.mac, place, search.others).is_none()
 }
 
-/// The best place so far, after this one was looked at too.
+/// The best place so far, after looking also at this one.
 fn with_place(search: &Search<'_>, best: Option<Place>, place: Place) -> Option<Place>
     ensures { LooksAt (λ p. p ≡ spot_of place) search.now best result }
 {
@@ -57,7 +57,7 @@ fn place_at(row: &Row, pitch: &Point, site: u32, orient: Orient) -> Place
     Place::new(x as i32, row.y, orient)
 }
 
-/// The best place so far, after those on this site of the row were looked at too.
+/// The best place so far, after looking also at those on this site of the row.
 fn with_site(search: &Search<'_>, best: Option<Place>, row: &Row, site: u32) -> Option<Place>
     requires heeded { IsHeeded search.now.frame.now.pitch row.now }
     requires within { site < row.now.sites }
@@ -70,7 +70,7 @@ fn with_site(search: &Search<'_>, best: Option<Place>, row: &Row, site: u32) -> 
     with_place(search, mirrored, place_at(row, pitch, site, Orient::FS))
 }
 
-/// The best place so far, after those of this row were looked at too.
+/// The best place so far, after looking also at those of this row.
 fn with_row(search: &Search<'_>, best: Option<Place>, row: &Row) -> Option<Place>
     requires { IsHeeded search.now.frame.now.pitch row.now }
     ensures { LooksAt (IsOnSites search.now.frame.now.pitch row.now row.now.sites) search.now best result }
@@ -83,14 +83,14 @@ fn with_row(search: &Search<'_>, best: Option<Place>, row: &Row) -> Option<Place
 }
 
 /// The best place of a cell for a target: of all places that are legal for it beside the team's other
-/// placed cells, the one of least key; none where no place is legal.
+/// placed cells, the one of least key; none if no place is legal.
 ///
 /// `team` is a fence's position in the frame, or the number of fences for the ground team. `others`
-/// are the team's other placed cells. The key is that of `precedes`; no two legal places have one
-/// key, so the best place is one. The target may be any point. It takes no memory.
+/// are the team's other placed cells. The key is that of `precedes`; no two legal places have the same
+/// key, so there is one best place at most. The target may be any point. It allocates nothing.
 ///
 /// It tries each orientation on every site of every row: the time grows as the number of sites times
-/// that of the rows, obstacles and other cells. It is what faster searches are held against.
+/// that of the rows, obstacles and other cells. Faster searches are compared with it.
 pub fn best_place(
     frame: &Frame,
     team: usize,

@@ -20,7 +20,7 @@ fn lesser(far: u128, reach: u64) -> u64
     }
 }
 
-/// How far a place may be from the target that is better than the best one so far, or as good.
+/// How far from the target a place may be that is better than the best one so far, or as good.
 pub(crate) fn limit(target: &Point, reach: u64, best: &Option<Place>) -> u64
     ensures { result ≡ limit_of target.now reach (option_map spot_of best.now) }
 {
@@ -30,7 +30,7 @@ pub(crate) fn limit(target: &Point, reach: u64, best: &Option<Place>) -> u64
     }
 }
 
-/// Where the box of a cell lies that is so far right or left of the target at most.
+/// The x range for the box of a cell that is at most this far right or left of the target.
 pub(crate) fn window(search: &RowSearch<'_>, slack: u64) -> Span
     requires near { IsNearDefPoint search.now.target.now }
     requires small { slack ≤ 68719476736 }

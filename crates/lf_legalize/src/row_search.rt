@@ -1,4 +1,4 @@
-//! What is looked for on rows.
+//! The search for the best place on rows.
 
 ghost use Rattle.std.specs.Prelude.{◌≡◌, ◌<◌, ◌≤◌, ◌*ℤ◌, length, pos};
 ghost use Rattle.lf_floorplan.specs.Boxes.{IsSized, macro_of, size_of};
@@ -9,7 +9,7 @@ use lf_occupancy::Occupancy;
 use lf_segments::RowsByY;
 use lf_units::Point;
 
-/// A cell that was taken away from its place, and the target that its best place is looked for.
+/// A cell taken from its place, and the target for its best place.
 #[derive(Clone, Copy)]
 pub(crate) struct RowSearch<'a> {
     pub frame: &'a Frame,

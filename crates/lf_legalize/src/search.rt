@@ -1,4 +1,4 @@
-//! What is looked for.
+//! The search for the best place.
 
 ghost use Rattle.lf_floorplan.specs.Boxes.{IsSized};
 
@@ -6,7 +6,7 @@ use lf_floorplan::{Frame, Macro};
 use lf_rules::Placed;
 use lf_units::Point;
 
-/// A cell that was taken away from its place, and the target that its best place is looked for.
+/// A cell taken from its place, and the target for its best place.
 #[derive(Clone, Copy)]
 pub(crate) struct Search<'a> {
     pub frame: &'a Frame,

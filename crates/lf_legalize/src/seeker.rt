@@ -1,4 +1,4 @@
-//! Who looks for the best place of a cell of a table.
+//! The search for the best place of a cell of a table.
 
 ghost use Rattle.std.specs.Prelude.{◌≡◌, ◌≤◌, All, IfOk, length, ⊤};
 ghost use Rattle.std.specs.Option.{option_map};
@@ -17,16 +17,16 @@ use lf_occupancy::Occupancy;
 use lf_units::Point;
 use std::alloc::{AllocError, Global};
 
-/// Finds best places. All seekers give the same answers: they differ in what they look at and in how
-/// long it takes them.
+/// Finds best places. All seekers give the same answers: they differ in what they look at and in
+/// how long they take.
 pub trait Seeker {
-    /// Whether the seeker is made for this frame.
+    /// Whether the seeker was built for this frame.
     ghost is_for: { Self → Frame → Type 0 } = { λ _ _. ⊤ };
 
     /// The best place of a cell for a target: the cell is taken away from its place, and of all
     /// places that are team-legal beside the team's other placed cells it is the one of least key.
     ///
-    /// None where no place is team-legal, or there is no such cell. `Err` where memory is refused.
+    /// None if no place is team-legal, or there is no such cell. `Err` if an allocation fails.
     /// The target may be any point, in database units.
     fn seek(
         &self,
@@ -44,8 +44,8 @@ pub trait Seeker {
         ensures best { (l : Legalizer) → IfOk result (λ found. option_map spot_of found ≡ best_of l frame.now cell.team (cells_of cells.now cell.team) cell.own target.now) };
 }
 
-/// Tries each orientation on every site of every row, without tricks: it is what the definition of
-/// the best place describes, and what faster seekers are held against.
+/// Tries each orientation on every site of every row, as the definition of the best place has it;
+/// faster seekers are compared with it.
 #[derive(Clone, Copy, Debug)]
 pub struct PlainSeeker;
 

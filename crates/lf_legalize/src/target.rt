@@ -1,4 +1,4 @@
-//! Where a team's unplaced cells are tidied to.
+//! The target of a team's unplaced cells.
 
 ghost use Rattle.std.specs.Prelude.{◌≡◌};
 ghost use Rattle.lf_rules.specs.Choice.{anchor, first_corner, first_origin};

@@ -118,7 +118,7 @@ laid_out f segments s list height cut starts by_y = record {
     rows_alike [] = refl
     rows_alike (g ∷ gs) = ap (λ (rows : List ℕ). g.row ∷ rows) (rows_alike gs)
 
--- where cells stand nowhere, their lanes are bare
+-- if no cell has a box, the lanes are bare
 nowhere : (count own : ℕ) (box : Rect) → cell_box (replicate count None) own ≡ Some box → ⊥
 nowhere zero own box is = cc
 nowhere (suc count) zero box is = cc

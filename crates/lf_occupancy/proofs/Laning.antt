@@ -88,7 +88,7 @@ other_test a b apart = grind (arith, nat_tests, apart)
 test_other : (a b : ℕ) → not (eqb a b) ≡ true → a ≡ b → ⊥
 test_other a b t same = grind (arith, nat_tests)
 
--- a lane without the cell's entries is that of the boxes where the cell stands nowhere
+-- a lane without the cell's entries is that of the boxes with none for the cell
 pub lane_pruned : (cells : List (Option Rect)) (area : Rect) (own : ℕ) (old new : Lane) → own < length cells → IsLane cells area old → IsPruned own old new →
     IsLane (set cells own None) area new
 lane_pruned cells area own old new has lane pruned = record {

@@ -55,7 +55,7 @@ least_more P xs i x a b c within is first second =
     least_alike (λ n. Any (P n) (take i xs) ⊎ P n x) (λ n. Any (P n) (take (i + 1) xs)) a c (λ n either. any_more (P n) xs i x within is either)
     (λ n any. any_less (P n) xs i x within is any) (least_of_both (λ n. Any (P n) (take i xs)) (λ n. P n x) a b c first second)
 
--- from nothing the least number with the property, or none where there is none
+-- from nothing the least number with the property, or none if there is none
 pub least_from_none : (P : ℕ → Type 0) (b : Option ℕ) → IsLeast P None b → MatchOption b ((n : ℕ) → P n → ⊥) (λ n. P n × ((m : ℕ) → P m → n ≤ m))
 least_from_none P None l = λ n p. l.each n p
 least_from_none P (Some n) l = elim l.from [ inl same ↦ absurd cc | inr met ↦ (met, λ m p. l.each m p) ]

@@ -1,4 +1,4 @@
--- The strips of one row, which stand together, and what a bisection among them tells of all.
+-- The strips of one row, which are adjacent, and what a bisection among them shows of all.
 use Rattle.std.proofs.Common.{◌≡◌, ◌⊎◌, inl, inr, ℕ, ◌+◌, ◌-◌, ◌<◌, ◌≤◌, ℤ, Bool, true, false, List, length, get_or, take, drop, map, sym, ap, subst}
 use Rattle.std.proofs.Common.{◌∙◌, arith, int_le, int_lt}
 use Rattle.std.specs.Prelude.{All, AllPairs}
@@ -51,7 +51,7 @@ part_all P xs start end order within all k d inside =
     let long = part_long xs start end order within in
     subst P (sym (part_get xs start end k d (omega (arith, long, inside)))) (all (start + k) d (omega (arith, long, inside, order, within)))
 
--- what is earlier among the strips of a row, and what is not, tells it of all strips
+-- what is earlier among the strips of a row, and what is not, decides it for all strips
 earlier_in_all : (left : Strip → Bool) (xs : List Strip) (row team start end n : ℕ) → IsRangeOf (rows_in xs) row start end →
     n ≤ end - start →
     ((k : ℕ) (d : Strip) → k < n → is_earlier row team (left (get_or (part xs start end) k d)) (get_or (part xs start end) k d) ≡ true) →

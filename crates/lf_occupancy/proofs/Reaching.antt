@@ -190,7 +190,7 @@ lanes_out s boxes team own rect run lanes new strips rows has_team has is old ch
         nothing : (r : Rect) → ◌≡◌ {A = Option Rect} None (Some r) → ⊥
         nothing r same = cc
 
--- a cell that stands nowhere is taken out of no lane
+-- a cell without a box is taken out of no lane
 pub lanes_without : (xs : List Strip) (boxes : List (List (Option Rect))) (team own : ℕ) (lanes : List Lane) → team < length boxes →
     own < length (get_or boxes team []) → cell_box (get_or boxes team []) own ≡ None → AreLanes xs boxes lanes →
     AreLanes xs (set boxes team (set (get_or boxes team []) own None)) lanes

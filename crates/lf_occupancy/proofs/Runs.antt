@@ -110,7 +110,7 @@ other_test a b apart = grind (arith, nat_tests, apart)
 test_other : (a b : ℕ) → not (eqb a b) ≡ true → a ≡ b → ⊥
 test_other a b t same = grind (arith, nat_tests)
 
--- the other cells' entries share no number with the span exactly where each of them does not
+-- the other cells' entries share no number with the span if and only if each of them does not
 pub apart_each : (xs : List Entry) (own : ℕ) (s : Span) → IsApart (spans_in (others_in xs own)) s → (e : Entry) → Contains xs e → (e.own ≡ own → ⊥) →
     AreApart s (x_range e.area)
 apart_each xs own s apart e there other =
@@ -222,7 +222,7 @@ pub spans_narrow : (xs : List Entry) (widest : ℤ) → All (λ e. (e.area.x2 -�
     All (λ s. (s.hi -ℤ s.lo) ≤ℤ widest) (map (λ (e : Entry). x_range e.area) xs)
 spans_narrow xs widest wide = All-map (λ s. (s.hi -ℤ s.lo) ≤ℤ widest) (λ (e : Entry). x_range e.area) xs wide
 
--- all entries share no number with the span exactly where each of them does not
+-- all entries share no number with the span if and only if each of them does not
 pub all_apart_each : (xs : List Entry) (s : Span) → IsApart (spans_in xs) s → (e : Entry) → Contains xs e → AreApart s (x_range e.area)
 all_apart_each xs s apart e (k, within, is) =
     let long = length-map xs (λ z. x_range z.area) in

@@ -1,4 +1,4 @@
--- What lanes tell of the boxes of teams' cells.
+-- What lanes show of the boxes of teams' cells.
 use Rattle.std.proofs.Common.{refl, ◌≡◌, ◌⊎◌, inl, inr, ℕ, ◌<◌, ◌≤◌, ℤ, ◌<ℤ◌, List, [], Option, Some, None, length, get_or, sym, ap, subst, ◌∙◌, arith}
 use Rattle.std.specs.Prelude.{Any, Contains, IsSomeAnd, map, slice_get}
 use Rattle.std.specs.Vec.{vec_len}

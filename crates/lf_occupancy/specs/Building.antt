@@ -17,17 +17,17 @@ pub record AreLaidOut (f : Frame) (segments : List Segment) (s : Strips) : Type 
   pub list : s.list.items ≡ map (strip_of f) segments
   pub strips : AreStrips s
 
--- nothing stands in the lane
+-- the lane has no entry
 pub record IsBare (l : Lane) : Type 0 where
   pub entries : l.entries.items ≡ []
   pub widest : l.widest ≡ pos 0
 
--- so many lanes in which nothing stands
+-- this many empty lanes
 pub record AreBare (count : ℕ) (lanes : List Lane) : Type 0 where
   pub many : length lanes ≡ count
   pub each : All IsBare lanes
 
--- each team has a box for each of its cells, and each is none
+-- each team has a box for each of its cells, and each is None
 abbrev pub AreNowhere : Cells → List (List (Option Rect)) → Type 0
 AreNowhere cells boxes = (team : ℕ) → slice_index_or boxes team [] ≡ replicate (length (cells_of cells team)) None
 

@@ -39,7 +39,7 @@ pub record HasSize (f : Frame) (c : Cell) : Type 0 where
   pub known : c.mac < length f.macros
   pub sized : IsSized f (macro_of f c.mac)
 
--- the box of a cell at its working place; None where it is unplaced
+-- the box of a cell at its working place; None if it is unplaced
 abbrev pub box_of : Frame → Cell → Option Rect
 box_of f c = option_map (λ p. box_in f c.mac (spot_of p)) c.working
 

@@ -1,4 +1,4 @@
--- What stands in one strip: an entry for the part of each cell's box that lies in it.
+-- The entries of one strip: one for the part of each cell's box that lies in it.
 use Rattle.std.specs.Prelude.{◌≡◌, ◌≢◌, ◌⊎◌, ◌↔◌, ◌==◌, ℕ, ◌+◌, ◌<◌, ◌≤◌, ℤ, pos, negsuc}
 use Rattle.std.specs.Prelude.{◌-ℤ◌, ◌≤ℤ◌, ◌<ℤ◌, List, ◌++◌, map, filter, not, length, All, AllPairs, Any}
 use Rattle.std.specs.Prelude.{Option, Some, IfSome, insert, IsSomeAnd, option_and_then, slice_get, slice_index_or}
@@ -45,7 +45,7 @@ pub record LiesInBox (cells : List (Option Rect)) (area : Rect) (own : ℕ) (x y
 abbrev pub AreInOrder : List Entry → Type 0
 AreInOrder entries = AllPairs (λ a b. a.area.x1 ≤ℤ b.area.x1) entries
 
--- the entries stand in order, and none is wider than the widest
+-- the entries are in order, and none is wider than the widest
 pub record IsOrderly (l : Lane) : Type 0 where
   pub order : AreInOrder l.entries.items
   pub wide : All (λ e. (e.area.x2 -ℤ e.area.x1) ≤ℤ l.widest) l.entries.items
@@ -59,7 +59,7 @@ pub record IsInside (area : Rect) (e : Entry) : Type 0 where
   pub right : e.area.x2 ≤ℤ area.x2
   pub top : e.area.y2 ≤ℤ area.y2
 
--- each point of the area that lies in a cell's box is held by an entry of the cell, the entries hold no other point, and no cell has two
+-- each point of the area that lies in a cell's box is in an entry of the cell, entries hold no other point, and no cell has two
 pub record IsLane (cells : List (Option Rect)) (area : Rect) (l : Lane) : Type 0 where
   pub orderly : IsOrderly l
   pub whole : All (λ e. IsWhole e.area) l.entries.items
@@ -68,7 +68,7 @@ pub record IsLane (cells : List (Option Rect)) (area : Rect) (l : Lane) : Type 0
   pub told : All (λ e. (x y : ℤ) → Covers e.area x y → LiesInBox cells area e.own x y) l.entries.items
   pub once : AllPairs (λ a b. a.own ≢ b.own) l.entries.items
 
--- the run of entries near a range: what stands before them ends before the range, and what stands behind them begins behind it
+-- the run of entries near a range: the entries before the run end before the range, and those after it begin after the range
 pub record IsNearRun (entries : List Entry) (lo hi : ℤ) (near : List Entry) : Type 0 where
   pub before : List Entry
   pub behind : List Entry
@@ -104,7 +104,7 @@ pub record IsLeast (P : ℕ → Type 0) (so_far least : Option ℕ) : Type 0 whe
   pub no_greater : IfSome so_far (IsUpTo least)
   pub each : (own : ℕ) → P own → IsUpTo least own
 
--- in the lane, whose entries stand in order, the cell has one entry at most, and it begins at `left`
+-- in the lane, whose entries are in order, the cell has one entry at most, and it begins at `left`
 pub record HasAtMostOne (own : ℕ) (left : ℤ) (l : Lane) : Type 0 where
   pub order : AreInOrder l.entries.items
   pub once : AllPairs (λ a b. a.own ≢ b.own) l.entries.items
@@ -133,25 +133,25 @@ pub record IsKept (old new : Lane) : Type 0 where
   pub many : vec_len new.entries ≡ vec_len old.entries
   pub room : vec_capacity old.entries ≤ vec_capacity new.entries
 
--- one more entry finds room
+-- the lane has room for one more entry
 abbrev pub HasRoom : Lane → Type 0
 HasRoom l = vec_len l.entries < vec_capacity l.entries
 
--- so many more entries find room
+-- the lane has room for this many more entries
 abbrev pub HasRoomOf : ℕ → Lane → Type 0
 HasRoomOf more l = (vec_len l.entries + more) ≤ vec_capacity l.entries
 
--- the lane's entries stand in order, and it has room for one more
+-- the lane's entries are in order, and it has room for one more
 pub record TakesOne (l : Lane) : Type 0 where
   pub order : AreInOrder l.entries.items
   pub room : HasRoom l
 
--- the lane's entries stand in order, and it has room for the part of the rectangle that lies in the area, where there is one
+-- the lane's entries are in order, and it has room for the part of the rectangle that lies in the area, if there is one
 pub record TakesPart (area rect : Rect) (l : Lane) : Type 0 where
   pub order : AreInOrder l.entries.items
   pub room : (part : Rect) → IsPart area rect part → IsWhole part → HasRoom l
 
--- the entry stands in the lane too, at its place in the order
+-- the entry is added to the lane, at its place in the order
 pub record IsJoined (e : Entry) (old new : Lane) : Type 0 where
   pub at : ℕ
   pub bound : at ≤ length old.entries.items
@@ -166,7 +166,7 @@ pub record IsJoined (e : Entry) (old new : Lane) : Type 0 where
 abbrev pub entry_for : ℕ → Rect → Entry
 entry_for own area = record { own = own; area = area }
 
--- the part of the cell's box that lies in the area stands in the lane too; where there is none, the lane is the same
+-- the part of the cell's box that lies in the area is added to the lane; if there is none, the lane is the same
 pub record IsPutIn (own : ℕ) (rect area : Rect) (old new : Lane) : Type 0 where
   pub part : Rect
   pub is : IsPart area rect part

@@ -1,4 +1,4 @@
--- What stands in strips: the boxes of teams' cells, and what they leave free.
+-- What strips hold: the boxes of teams' cells, and what they leave free.
 use Rattle.std.specs.Prelude.{◌≡◌, ◌≢◌, ◌↔◌, ℕ, ◌+◌, ℤ, ◌≤◌, length, List}
 use Rattle.std.specs.Prelude.{◌<◌, AllPairs, Contains, [], Option, Some, Any, IsSomeAnd, MatchOption, option_and_then, slice_get, slice_index_or, slice_set}
 use Rattle.lf_units.specs.declared.area.Rect.{Rect}
@@ -8,22 +8,22 @@ use Rattle.lf_spans.specs.Spans.{IsFilled, IsRising, LiesIn, LiesInOne}
 use Rattle.lf_cells.specs.declared.cell.CellId.{CellId}
 use Rattle.lf_occupancy.specs.declared.strip.Strip.{Strip}
 
--- the strips, for each team the boxes of its cells in loading order, and for each strip how many entries stand in it and for how many it has room
+-- the strips, for each team its cells' boxes in loading order, and for each strip how many entries it has and has room for
 pub record Occupied : Type 0 where
   pub strips : List Strip
   pub boxes : List (List (Option Rect))
   pub entries : List ℕ
   pub rooms : List ℕ
 
--- the boxes of a team's cells; a team that is none has none
+-- the boxes of a team's cells; none if there is no such team
 abbrev pub boxes_of : Occupied → ℕ → List (Option Rect)
 boxes_of o team = slice_index_or o.boxes team []
 
--- the box of the team's cell of that position; None where it stands nowhere, or there is no such cell
+-- the box of the team's cell of that position; None if it has none, or there is no such cell
 abbrev pub box_at : Occupied → ℕ → ℕ → Option Rect
 box_at o team own = option_and_then (λ box. box) (slice_get (boxes_of o team) own)
 
--- the boxes, where the cell has another one
+-- the boxes, with this one for the cell
 abbrev pub boxes_with : Occupied → CellId → Option Rect → List (List (Option Rect))
 boxes_with o id box = slice_set o.boxes id.team (slice_set (boxes_of o id.team) id.own box)
 
@@ -35,7 +35,7 @@ across g = record { lo = g.area.x1; hi = g.area.x2 }
 abbrev pub over : Strip → Span → Rect
 over g s = record { x1 = s.lo; y1 = g.area.y1; x2 = s.hi; y2 = g.area.y2 }
 
--- another cell of the cell's team stands at this box
+-- another cell of the cell's team has this box
 pub record IsOther (o : Occupied) (id : CellId) (own : ℕ) (box : Rect) : Type 0 where
   pub other : own ≢ id.own
   pub stands : box_at o id.team own ≡ Some box
@@ -49,29 +49,29 @@ pub record IsStripOf (row team : ℕ) (g : Strip) : Type 0 where
   pub in_row : g.row ≡ row
   pub of_team : g.team ≡ team
 
--- the span lies in the strip, and over it stands no other cell of the team
+-- the span lies in the strip, and no other cell of the team is over it
 pub record IsFreeOver (o : Occupied) (id : CellId) (g : Strip) (s : Span) : Type 0 where
   pub within : LiesIn s (across g)
   pub clear : IsClearOfOthers o id (over g s)
 
--- what a window shows of the spans of a row that are free for a cell, which is taken away first: a span that holds a number lies in one of
--- them exactly where it lies in the window and is free in one strip of the row and the cell's team
+-- within a window, the spans of a row that are free for a cell, which is taken away first: a span that holds a number lies in one
+-- of them if and only if it lies in the window and is free in one strip of the row and the cell's team
 pub record IsFreeInRow (o : Occupied) (row : ℕ) (id : CellId) (window : Span) (free : List Span) : Type 0 where
   pub rising : IsRising free
   pub exact : (s : Span) → IsFilled s → (LiesInOne free s ↔ (LiesIn s window × Any (λ g. IsStripOf row id.team g × IsFreeOver o id g s) o.strips))
 
--- the team's cell of that position, which is not the one that is left out, stands at this box
+-- the team's cell of that position, which is not the one that is left out, has this box
 pub record StandsBut (o : Occupied) (without : CellId) (team own : ℕ) (box : Rect) : Type 0 where
   pub other : team ≡ without.team → own ≢ without.own
   pub stands : box_at o team own ≡ Some box
 
--- the span lies in the strip, and over it stands no cell of the strip's team but the one that is left out
+-- the span lies in the strip, and no cell of the strip's team is over it but the one that is left out
 pub record IsLeftOver (o : Occupied) (without : CellId) (g : Strip) (s : Span) : Type 0 where
   pub within : LiesIn s (across g)
   pub clear : (own : ℕ) (box : Rect) → StandsBut o without g.team own box → SharesPoint (over g s) box → ⊥
 
--- the free spans of one strip, a cell left out: a span that holds a number lies in one of them exactly where it lies in the strip, and over it
--- stands no other cell of the strip's team; there are none where there is no such strip
+-- the free spans of one strip, a cell left out: a span that holds a number lies in one of them if and only if it lies in the
+-- strip and no other cell of the strip's team is over it; there are none if there is no such strip
 pub record AreFreeSpans (o : Occupied) (segment : ℕ) (without : CellId) (free : List Span) : Type 0 where
   pub rising : IsRising free
   pub exact : (s : Span) → IsFilled s → (LiesInOne free s ↔ IsSomeAnd (slice_get o.strips segment) (λ g. IsLeftOver o without g s))
@@ -86,7 +86,7 @@ pub record MeetsInStrips (o : Occupied) (id : CellId) (rect : Rect) (own : ℕ) 
   pub in_rect : Covers rect x y
   pub in_box : Covers box x y
 
--- the first of the cells that it meets so; None where it meets none
+-- the first of the cells that it meets so; None if it meets none
 abbrev pub IsFirstMet : Occupied → CellId → Rect → Option ℕ → Type 0
 IsFirstMet o id rect met =
     MatchOption met ((own : ℕ) → MeetsInStrips o id rect own → ⊥)
@@ -96,7 +96,7 @@ IsFirstMet o id rect met =
 abbrev pub MeetsStrip : List Strip → ℕ → Rect → ℕ → Type 0
 MeetsStrip strips team rect n = IsSomeAnd (slice_get strips n) (λ g. (g.team ≡ team) × SharesPoint g.area rect)
 
--- each strip of the team that shares a point with the rectangle has room for so many more entries
+-- each strip of the team that shares a point with the rectangle has room for this many more entries
 abbrev pub HasRoomFor : Occupied → ℕ → Rect → ℕ → Type 0
 HasRoomFor o team rect more = (n : ℕ) → MeetsStrip o.strips team rect n → (slice_index_or o.entries n 0 + more) ≤ slice_index_or o.rooms n 0
 
@@ -114,7 +114,7 @@ pub record AreCellsIn (o : Occupied) (g : Strip) (cells : List ℕ) : Type 0 whe
   pub once : AllPairs (λ a b. a ≢ b) cells
   pub exact : (own : ℕ) → Contains cells own ↔ IsSomeAnd (box_at o g.team own) (λ box. SharesPoint g.area box)
 
--- there are so many of those cells
+-- there are this many of those cells
 abbrev pub IsCountIn : Occupied → Strip → ℕ → Type 0
 IsCountIn o g count = (cells : List ℕ) × (AreCellsIn o g cells × (length cells ≡ count))
 

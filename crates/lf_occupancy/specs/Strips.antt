@@ -1,4 +1,4 @@
--- Where strips stand, and how they are found.
+-- The order of strips, and how they are found.
 use Rattle.std.specs.Prelude.{◌≡◌, ◌≢◌, ◌⊎◌, ◌↔◌, ◌==◌, if◌then◌else◌, nat_lt, Bool, ℕ, ◌<◌, ◌≤◌, ℤ, pos, negsuc, ◌+ℤ◌, ◌≤ℤ◌, ◌<ℤ◌, List}
 use Rattle.std.specs.Prelude.{length, All, AllPairs, Any, IfSome}
 use Rattle.std.specs.Prelude.{int_le, int_lt, Option, map, slice_index_or, slice_set, []}
@@ -31,7 +31,7 @@ pub record IsPlaced (rows : List RowEntry) (height : ℤ) (g : Strip) : Type 0 w
   pub high : g.area.y2 ≡ g.area.y1 +ℤ height
   pub found : Any (λ e. (e.row ≡ g.row) × (e.y ≡ g.area.y1)) rows
 
--- the strips stand in order, each is placed, their rows' starts are known, and the rows' entries are of different rows
+-- the strips are in order, each is placed, their rows' starts are known, and the rows' entries are of different rows
 pub record AreStrips (s : Strips) : Type 0 where
   pub in_order : AllPairs ComesBefore s.list.items
   pub starts : AreRowStarts (map (λ g. g.row) s.list.items) s.starts
@@ -44,14 +44,14 @@ pub record AreStrips (s : Strips) : Type 0 where
 abbrev pub is_earlier : ℕ → ℕ → Bool → Strip → Bool
 is_earlier row team left g = if g.row == row then (if g.team == team then left else nat_lt g.team team) else nat_lt g.row row
 
--- the strip is of the row and the team, ends behind the one number and begins before the other
+-- the strip is of the row and the team, ends after the one number and begins before the other
 pub record IsNear (row team : ℕ) (lo hi : ℤ) (g : Strip) : Type 0 where
   pub in_row : g.row ≡ row
   pub of_team : g.team ≡ team
   pub right : lo <ℤ g.area.x2
   pub left : g.area.x1 <ℤ hi
 
--- the numbers from start on and below end are just those of the near strips
+-- the numbers from start on and below end are those of the near strips
 pub record AreNear (strips : List Strip) (row team : ℕ) (lo hi : ℤ) (start end : ℕ) : Type 0 where
   pub within : end ≤ length strips
   pub exact : (n : ℕ) (d : Strip) → n < length strips → (((start ≤ n) × (n < end)) ↔ IsNear row team lo hi (slice_index_or strips n d))
@@ -71,7 +71,7 @@ MeetsInRow strips lanes row team rect but own =
 abbrev pub MeetsInOne : List Strip → List Lane → ℕ → Rect → ℕ → ℕ → Type 0
 MeetsInOne strips lanes team rect but own = (n : ℕ) × MeetsAt strips lanes team rect but own n
 
--- each strip has a lane, whose entries stand in order and lie in the strip
+-- each strip has a lane, whose entries are in order and lie in the strip
 pub record AreOrderly (strips : List Strip) (lanes : List Lane) : Type 0 where
   pub many : length lanes ≡ length strips
   pub each : (n : ℕ) (e : Lane) → n < length strips → IsOrderly (slice_index_or lanes n e)
@@ -92,7 +92,7 @@ pub record LiesFree (strips : List Strip) (lanes : List Lane) (row team own : �
   pub inside : (d : Strip) → LiesIn s (across (slice_index_or strips n d))
   pub apart : (d : Lane) → IsApart (spans_in (others_in (slice_index_or lanes n d).entries.items own)) s
 
--- a span that holds a number lies in one of the free ones exactly where it lies in the window and free in a strip whose number is below the limit
+-- a span that holds a number lies in a free one if and only if it lies in the window and free in a strip numbered below the limit
 pub record AreFreeTo (strips : List Strip) (lanes : List Lane) (row team own : ℕ) (window : Span) (limit : ℕ) (free : List Span) : Type 0 where
   pub rising : IsRising free
   pub exact : (s : Span) → IsFilled s → (LiesInOne free s ↔ (LiesIn s window × ((n : ℕ) × ((n < limit) × LiesFree strips lanes row team own s n))))
@@ -126,7 +126,7 @@ pub record AreKept (old new : List Lane) : Type 0 where
 abbrev pub PutsIn : List Strip → ℕ → Rect → ℕ → Lane → Lane → Type 0
 PutsIn strips own rect n old new = (d : Strip) → IsPutIn own rect (slice_index_or strips n d).area old new
 
--- a lane that could take one entry more still can
+-- a lane that had room for one more entry still has it
 pub record KeepRoom (old new : List Lane) : Type 0 where
   pub many : length new ≡ length old
   pub each : (n : ℕ) (e : Lane) → n < length old → TakesOne (slice_index_or old n e) → TakesOne (slice_index_or new n e)
@@ -136,21 +136,21 @@ pub record HasCell (boxes : List (List (Option Rect))) (id : CellId) : Type 0 wh
   pub team : id.team < length boxes
   pub own : id.own < length (slice_index_or boxes id.team [])
 
--- the boxes of all teams, where the cell has another one
+-- the boxes of all teams, with this one for the cell
 abbrev pub boxes_set : List (List (Option Rect)) → CellId → Option Rect → List (List (Option Rect))
 boxes_set boxes id box = slice_set boxes id.team (slice_set (slice_index_or boxes id.team []) id.own box)
 
--- the lanes that follow the boxes of teams' cells follow them where the cell's box is replaced
+-- lanes of the boxes of teams' cells become those of the boxes with the cell's box replaced
 abbrev pub Follows : Strips → CellId → Option Rect → Option Rect → List Lane → List Lane → Type 0
 Follows s id from to old new =
     (boxes : List (List (Option Rect))) → HasCell boxes id → cell_box (slice_index_or boxes id.team []) id.own ≡ from → AreLanes s.list.items boxes old →
     AreLanes s.list.items (boxes_set boxes id to) new
 
--- the chosen lanes have room for so many more entries
+-- the chosen lanes have room for this many more entries
 abbrev pub HaveRoom : (ℕ → Type 0) → ℕ → List Lane → Type 0
 HaveRoom Chosen more lanes = (n : ℕ) (e : Lane) → Chosen n → HasRoomOf more (slice_index_or lanes n e)
 
--- the chosen lanes can take the parts of the rectangle that lie in their strips
+-- the chosen lanes have room for the parts of the rectangle that lie in their strips
 abbrev pub CanTake : List Strip → Rect → (ℕ → Type 0) → List Lane → Type 0
 CanTake strips rect Chosen lanes =
     (n : ℕ) (d : Strip) (e : Lane) → Chosen n → TakesPart (slice_index_or strips n d).area rect (slice_index_or lanes n e)
@@ -165,7 +165,7 @@ pub record IsOfTeam (strips : List Strip) (team n : ℕ) : Type 0 where
   pub within : n < length strips
   pub of_team : (d : Strip) → (slice_index_or strips n d).team ≡ team
 
--- in the lanes of its team's strips a cell of this box, if it has one, has one entry each at most
+-- in each lane of its team's strips a cell of this box, if it has one, has one entry at most
 abbrev pub StandOnce : List Strip → CellId → Option Rect → List Lane → Type 0
 StandOnce strips id box lanes = IfSome box (λ rect. HaveAtMostOne strips id.own rect (IsOfTeam strips id.team) lanes)
 
@@ -181,7 +181,7 @@ PutInRows s rows id rect old new = AreChanged (IsReached s.list.items rows id.te
 abbrev pub is_ended : List Strip → ℕ → ℕ → ℤ → ℕ → Strip → Bool
 is_ended strips row team x k d = is_earlier row team (int_le (slice_index_or strips k d).area.x2 x) (slice_index_or strips k d)
 
--- the same, where it begins before x
+-- the same, but it begins before x
 abbrev pub is_begun : List Strip → ℕ → ℕ → ℤ → ℕ → Strip → Bool
 is_begun strips row team x k d = is_earlier row team (int_lt (slice_index_or strips k d).area.x1 x) (slice_index_or strips k d)
 
@@ -189,7 +189,7 @@ is_begun strips row team x k d = is_earlier row team (int_lt (slice_index_or str
 abbrev pub rooms_in : List Lane → List ℕ
 rooms_in lanes = map (λ l. vec_capacity l.entries) lanes
 
--- the span lies in the strip of that number, and shares no number with an entry there, those of a cell of the strip's team left out
+-- the span lies in the strip of that number, and shares no number with an entry there, leaving out a cell of the strip's team
 pub record LiesLeft (strips : List Strip) (lanes : List Lane) (without : CellId) (n : ℕ) (s : Span) : Type 0 where
   pub within : n < length strips
   pub inside : (d : Strip) → LiesIn s (across (slice_index_or strips n d))
@@ -197,15 +197,15 @@ pub record LiesLeft (strips : List Strip) (lanes : List Lane) (without : CellId)
       IsApart (spans_in (others_in (slice_index_or lanes n e).entries.items without.own)) s
   pub foreign : (d : Strip) (e : Lane) → (slice_index_or strips n d).team ≢ without.team → IsApart (spans_in (slice_index_or lanes n e).entries.items) s
 
--- a span that holds a number lies in one of the free ones exactly where it lies so in the strip of that number
+-- a span that holds a number lies in one of the free ones if and only if it lies so in the strip of that number
 pub record AreLeft (strips : List Strip) (lanes : List Lane) (without : CellId) (n : ℕ) (free : List Span) : Type 0 where
   pub rising : IsRising free
   pub exact : (s : Span) → IsFilled s → (LiesInOne free s ↔ LiesLeft strips lanes without n s)
 
--- how many entries stand in each lane
+-- how many entries each lane has
 abbrev pub counts_in : List Lane → List ℕ
 counts_in lanes = map (λ l. vec_len l.entries) lanes
 
--- for the box of each of the moves, the strips of the cell's team that it meets have room for so many more entries
+-- for the box of each of the moves, the strips of the cell's team that it meets have room for this many more entries
 abbrev pub HaveRoomForAll : List Strip → List (CellId × Option Rect) → ℕ → List Lane → Type 0
 HaveRoomForAll strips moves more lanes = All (λ m. IfSome m.1 (λ rect. HaveRoom (MeetsStrip strips m.0.team rect) more lanes)) moves

@@ -9,7 +9,7 @@ use lf_units::Rect;
 use std::alloc::{AllocError, Global};
 use std::marker::Model;
 
-/// For each cell of a team its box, in database units; none where it stands nowhere.
+/// The box of each cell of a team, in database units; none for a cell that has no box.
 #[derive(Drop)]
 pub(crate) struct TeamBoxes {
     list: Vec<Option<Rect>>,
@@ -24,7 +24,7 @@ impl Model for TeamBoxes {
     ghost view = { λ b. b.list.items };
 }
 
-/// So many boxes, each none.
+/// This many boxes, each none.
 fn no_boxes(alloc: Global, count: usize) -> Result<Vec<Option<Rect>>, AllocError>
     ensures { IfOk result (λ list. list.items ≡ replicate count None) }
 {
@@ -44,7 +44,7 @@ fn put(list: &mut Vec<Option<Rect>>, own: usize, rect: &Option<Rect>)
 }
 
 impl TeamBoxes {
-    /// The boxes of so many cells that stand nowhere.
+    /// The boxes of this many cells, none of which has one.
     pub(crate) fn empty(alloc: Global, count: usize) -> Result<Self, AllocError>
         ensures { IfOk result (λ boxes. boxes ≡ replicate count None) }
     {
@@ -59,7 +59,7 @@ impl TeamBoxes {
         self.list.len()
     }
 
-    /// The box of the cell of that position; none where it stands nowhere, or there is no such cell.
+    /// The box of the cell of that position; none if it has none, or there is no such cell.
     pub(crate) fn get(&self, own: usize) -> Option<Rect>
         ensures { result ≡ cell_box self.now own }
     {
@@ -78,7 +78,7 @@ impl TeamBoxes {
     }
 }
 
-/// The box of the cell; none where it stands nowhere, or there is no such cell.
+/// The box of the cell; none if it has none, or there is no such cell.
 pub(crate) fn box_of_cell(boxes: &[TeamBoxes], id: &CellId) -> Option<Rect>
     ensures { result ≡ cell_box (slice_index_or boxes.now id.now.team []) id.now.own }
 {

@@ -1,4 +1,4 @@
-//! How an occupancy is made.
+//! How an occupancy is built.
 
 ghost use Rattle.std.specs.Prelude.{◌≡◌, ◌≤◌, ◌≤ℤ◌, ◌<ℤ◌, negsuc, pos, ◌<◌, ℕ, All, IfOk, IsPermutation, OnOk, Some, [], length, map, slice_index_or};
 ghost use Rattle.lf_segments.specs.Segments.{IsCut};
@@ -80,7 +80,7 @@ pub(crate) fn lay_out(
     })
 }
 
-/// So many lanes in which nothing stands.
+/// This many empty lanes.
 pub(crate) fn bare_lanes(alloc: Global, count: usize) -> Result<Vec<Lane>, AllocError>
     ensures { IfOk result (λ lanes. AreBare count lanes.items) }
 {
@@ -127,7 +127,7 @@ pub(crate) fn no_boxes_of(alloc: Global, cells: &CellTable) -> Result<Vec<TeamBo
     Ok(boxes)
 }
 
-/// The box of a cell at its working place; none where it is unplaced.
+/// The box of a cell at its working place; none if it is unplaced.
 fn box_at_work(frame: &Frame, cells: &CellTable, id: &CellId) -> Option<Rect>
     requires { (team : ℕ) → All (HasSize frame.now) (cells_of cells.now team) }
     ensures { (c : Cell) → cell_at cells.now id.now ≡ Some c → result ≡ box_of frame.now c }
@@ -137,7 +137,7 @@ fn box_at_work(frame: &Frame, cells: &CellTable, id: &CellId) -> Option<Rect>
     Some(solid_box(frame, &frame.macros.as_slice()[standing.mac], &place))
 }
 
-/// A cell that waits for its box, and its working place, in database units; 0 where it has none.
+/// A cell that has no box yet, and its working place, in database units; 0 if it has none.
 #[derive(Clone, Copy)]
 pub(crate) struct Waiting {
     id: CellId,
@@ -175,14 +175,14 @@ fn all_waiting(alloc: Global, cells: &CellTable, ids: &[CellId]) -> Result<Vec<W
     Ok(list)
 }
 
-/// Brings them into the order of their y, and of one y into that of their x.
+/// Sorts the cells by y, and those of one y by x.
 fn sort_by_place(list: &mut Vec<Waiting>)
     ensures { IsPermutation list.old.items list.new.items }
 {
     list.sort_unstable_by_key(|waiting| (waiting.y, waiting.x));
 }
 
-/// The ids of those that wait.
+/// The ids of these cells.
 fn ids_of(alloc: Global, list: &[Waiting]) -> Result<Vec<CellId>, AllocError>
     ensures { IfOk result (λ ids. ids.items ≡ map (λ w. w.id) list.now) }
 {
@@ -193,7 +193,7 @@ fn ids_of(alloc: Global, list: &[Waiting]) -> Result<Vec<CellId>, AllocError>
     Ok(ids)
 }
 
-/// These ids in the order of the cells' working places, from row to row and from left to right: so strips
+/// These ids in the order of the cells' working places, from row to row and from left to right: strips
 /// are filled one after another, each from its left end on.
 fn by_place(alloc: Global, cells: &CellTable, ids: &[CellId]) -> Result<Vec<CellId>, AllocError>
     ensures { IfOk result (λ order. IsPermutation ids.now order.items) }

@@ -1,4 +1,4 @@
-//! How what stands in strips is changed.
+//! How the entries of strips are changed.
 
 ghost use Rattle.std.specs.Prelude.{AllPairs, IfSome, [], ◌≡◌, ◌≢◌, None, OnErr, OnOk, Some, length, slice_index_or};
 ghost use Rattle.lf_occupancy.specs.declared.lane.Lane.{Lane};
@@ -16,7 +16,7 @@ use lf_segments::RowEntry;
 use lf_units::Rect;
 use std::alloc::AllocError;
 
-/// Makes room for so many more entries in the strips of a row and the cell's team that the rectangle
+/// Makes room for this many more entries in the strips of a row and the cell's team that the rectangle
 /// reaches. Also on `Err` each strip holds what it held.
 fn make_room_in_row(
     lanes: &mut Vec<Lane>,
@@ -127,7 +127,7 @@ fn take_out(lanes: &mut Vec<Lane>, strips: &Strips, id: &CellId, old: &Option<Re
     }
 }
 
-/// Puts the cell into all strips that its new box reaches, after room was made there, in place of its
+/// Puts the cell into all strips that its new box reaches, after making room there, in place of its
 /// old box.
 fn replace_by(
     lanes: &mut Vec<Lane>,
@@ -151,7 +151,7 @@ fn replace_by(
     Ok(())
 }
 
-/// Lets the lanes follow where the cell's old box is replaced. On `Err` they hold what they held.
+/// Updates the lanes when the cell's old box is replaced. On `Err` they hold what they held.
 fn follow(
     lanes: &mut Vec<Lane>,
     strips: &Strips,
@@ -174,8 +174,8 @@ fn follow(
     Ok(())
 }
 
-/// Gives the cell its new box, or none, and lets the lanes follow. On `Err` nothing is changed; where
-/// there is no such cell, nothing is either.
+/// Gives the cell its new box, or none, and updates the lanes. On `Err`, or if there is no such cell,
+/// nothing is changed.
 pub(crate) fn move_box(
     lanes: &mut Vec<Lane>,
     boxes: &mut Vec<TeamBoxes>,
@@ -200,7 +200,7 @@ pub(crate) fn move_box(
     Ok(())
 }
 
-/// Takes the cell away, so that it stands nowhere, and lets the lanes follow; where there is no such
+/// Takes the cell's box away, and updates the lanes; if there is no such
 /// cell, nothing changes.
 pub(crate) fn remove_box(
     lanes: &mut Vec<Lane>,
@@ -223,7 +223,7 @@ pub(crate) fn remove_box(
     set_box(boxes, id, &None);
 }
 
-/// Gives a cell that stands nowhere a box, and lets the lanes follow. No memory is taken.
+/// Gives a cell without a box this one, and updates the lanes. It allocates nothing.
 pub(crate) fn insert_box(
     lanes: &mut Vec<Lane>,
     boxes: &mut Vec<TeamBoxes>,
@@ -245,8 +245,8 @@ pub(crate) fn insert_box(
     set_box(boxes, id, &Some(*rect));
 }
 
-/// Makes room for so many more entries in the strips of the cell's team that share a point with its
-/// box, where it has one. Also on `Err` each strip holds what it held.
+/// Makes room for this many more entries in the strips of the cell's team that share a point with its
+/// box, if it has one. Also on `Err` each strip holds what it held.
 fn reserve_box(
     lanes: &mut Vec<Lane>,
     strips: &Strips,

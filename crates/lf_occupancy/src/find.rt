@@ -12,7 +12,7 @@ use lf_units::{Rect, Span};
 use std::alloc::{AllocError, Global};
 
 /// The least number of a cell, other than this one, of which an entry in a strip of the row and the
-/// cell's team shares a point with the rectangle; the number so far where that is less, or none is met.
+/// cell's team shares a point with the rectangle; the number so far if that is less, or none is met.
 fn least_in_row(
     strips: &Strips,
     lanes: &[Lane],
@@ -34,7 +34,7 @@ fn least_in_row(
     least
 }
 
-/// The same in the strips of all rows: none where none is met.
+/// The same in the strips of all rows: none if none is met.
 pub(crate) fn least_met(strips: &Strips, lanes: &[Lane], id: &CellId, rect: &Rect) -> Option<u32>
     requires strips { AreStrips strips.now }
     requires lanes { AreOrderly strips.now.list.items lanes.now }
@@ -47,8 +47,8 @@ pub(crate) fn least_met(strips: &Strips, lanes: &[Lane], id: &CellId, rect: &Rec
     least
 }
 
-/// What a window shows of the spans of a row's strips that other cells of the cell's team than this
-/// one leave free.
+/// Within a window, the spans of a row's strips that are left free by the cells of the cell's team
+/// other than this one.
 pub(crate) fn free_in_strips(
     alloc: Global,
     strips: &Strips,
@@ -73,7 +73,7 @@ pub(crate) fn free_in_strips(
 }
 
 /// The spans of the strip of that number that the cells of its team leave free, but for one that is
-/// left out; none where there is no such strip.
+/// left out; none if there is no such strip.
 pub(crate) fn free_in_one(
     alloc: Global,
     strips: &Strips,

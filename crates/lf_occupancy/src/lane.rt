@@ -1,4 +1,4 @@
-//! What stands in one strip.
+//! The entries of one strip.
 
 ghost use Rattle.std.specs.Prelude.{All, ◌≡◌, ◌↔◌, ◌<◌, ◌≤◌, ◌≤ℤ◌, ◌<ℤ◌, ℕ, IfOk, IsTrue, MatchOption, OnOk, insert, length, negsuc, slice_index_or};
 ghost use Rattle.lf_spans.specs.Spans.{IsFreeIn};
@@ -90,7 +90,7 @@ pub(crate) fn near_entries<'a>(lane: &'a Lane, lo: &i64, hi: &i64) -> &'a [Entry
     &rest[..count_before(rest, hi)]
 }
 
-/// The number of the cell where it is the lesser one, is not `but`, and the entry shares a point with
+/// The number of the cell if it is the lesser one, is not `but`, and the entry shares a point with
 /// the rectangle; else the number so far.
 fn lesser(entry: &Entry, rect: &Rect, but: u32, so_far: Option<u32>) -> Option<u32>
     ensures { IsLeast (λ own. MeetsEntry rect.now but own entry.now) so_far result }
@@ -152,8 +152,8 @@ fn others_of(alloc: Global, entries: &[Entry], own: u32) -> Result<Vec<Entry>, A
     Ok(others)
 }
 
-/// What a window shows of the spans of a strip that other cells than this one leave free. Only what
-/// lies near the window is looked at.
+/// Within a window, the spans of a strip that other cells than this one leave free. Only entries near
+/// the window are looked at.
 pub(crate) fn free_in_lane(
     alloc: Global,
     lane: &Lane,
@@ -179,7 +179,7 @@ pub(crate) fn free_of_all(alloc: Global, lane: &Lane, strip: &Span) -> Result<Ve
     free_in(alloc, strip, lane.entries.as_slice(), lane.widest, strip)
 }
 
-/// The position of the cell's entry among those from a position on; none where it has none there.
+/// The position of the cell's entry among those from a position on; none if it has none there.
 fn place_from(entries: &[Entry], own: u32, from: usize) -> Option<usize>
     requires { from ≤ length entries.now }
     ensures { MatchOption result (StandsNotFrom entries.now own from) (StandsAt entries.now own) }
@@ -192,7 +192,7 @@ fn place_from(entries: &[Entry], own: u32, from: usize) -> Option<usize>
     None
 }
 
-/// Takes the cell's entry out, which begins at `left` where there is one. It is found by bisection.
+/// Takes the cell's entry out, which begins at `left` if there is one. It is found by bisection.
 pub(crate) fn prune(lane: &mut Lane, own: u32, left: &i64)
     requires { HasAtMostOne own left.now lane.old }
     ensures { IsPruned own lane.old lane.new }
@@ -203,7 +203,7 @@ pub(crate) fn prune(lane: &mut Lane, own: u32, left: &i64)
     }
 }
 
-/// Makes room for so many more entries.
+/// Makes room for this many more entries.
 pub(crate) fn make_room(lane: &mut Lane, more: usize) -> Result<(), AllocError>
     ensures kept { IsKept lane.old lane.new }
     ensures ok { OnOk result (HasRoomOf more lane.new) }
@@ -211,7 +211,7 @@ pub(crate) fn make_room(lane: &mut Lane, more: usize) -> Result<(), AllocError>
     lane.entries.reserve(more)
 }
 
-/// Puts an entry at its place in the order. No memory is taken.
+/// Inserts an entry at its place in the order. It allocates nothing.
 fn join(lane: &mut Lane, entry: &Entry)
     requires order { AreInOrder lane.old.entries.items }
     requires within { IsWithinDef entry.now.area }
@@ -233,8 +233,8 @@ fn entry_of(own: u32, area: &Rect) -> Entry
     Entry { own, area: *area }
 }
 
-/// Puts in the part of the cell's box that lies in the strip's area, where there is one. No memory is
-/// taken.
+/// Inserts the part of the cell's box that lies in the strip's area, if there is one. It allocates
+/// nothing.
 pub(crate) fn put_in(lane: &mut Lane, area: &Rect, own: u32, rect: &Rect)
     requires order { AreInOrder lane.old.entries.items }
     requires within { IsWithinDef area.now }

@@ -1,4 +1,4 @@
-//! What stands in the segments of a frame: the boxes of each team's cells, and what they leave free.
+//! The cells in the segments of a frame: the boxes of each team's cells, and what they leave free.
 #![tactic(auto)]
 
 mod boxes;

@@ -1,4 +1,4 @@
-//! What stands in the strips of a frame.
+//! The cells in the strips of a frame.
 
 ghost use Rattle.std.specs.Prelude.{ℕ, ◌≡◌, ◌≤ℤ◌, All, IfOk, IfSome, None, OnErr, OnOk, Some, length, negsuc};
 ghost use Rattle.lf_floorplan.specs.declared.frame.Frame.{Frame};
@@ -21,9 +21,9 @@ use lf_units::{Rect, Span};
 use std::alloc::{AllocError, Global};
 use std::marker::Model;
 
-/// What stands in the strips of a frame: for each team the boxes of its cells, and for each strip the
+/// The cells in the strips of a frame: for each team the boxes of its cells, and for each strip the
 /// parts of those boxes that lie in it, in the order of their left edges. A strip is the area of a
-/// segment. A contract sees the strips, the boxes, and for each strip how many parts stand in it and
+/// segment. A contract sees the strips, the boxes, and for each strip how many parts it has and
 /// for how many it has room.
 #[derive(Drop)]
 pub struct Occupancy {
@@ -50,9 +50,9 @@ impl Model for Occupancy {
 }
 
 impl Occupancy {
-    /// The occupancy of the frame's strips by the cells at their working places, where each cell's
-    /// macro is one of the frame's and has a whole size. `Err` where memory is
-    /// refused.
+    /// The occupancy of the frame's strips by the cells at their working places; each cell's
+    /// macro is one of the frame's and has a whole size. `Err` if an allocation
+    /// fails.
     pub fn build(
         alloc: Global,
         frame: &Frame,
@@ -74,10 +74,10 @@ impl Occupancy {
         })
     }
 
-    /// What a window shows of the spans of a row that are free for a cell, which is taken away first:
+    /// Within a window, the spans of a row that are free for a cell, which is taken away first:
     /// of the strips of the row and the cell's team, what the team's other cells leave. All lengths
-    /// are in database units. Only what lies near the window is looked at. `Err` where memory is
-    /// refused.
+    /// are in database units. Only what lies near the window is looked at. `Err` if an allocation
+    /// fails.
     pub fn free_in_row(
         &self,
         alloc: Global,
@@ -91,10 +91,10 @@ impl Occupancy {
         free_in_strips(alloc, &self.strips, &self.lanes, row, &id, window)
     }
 
-    /// The free spans of one strip, the segment's of that number, in database units: what the cells of
-    /// its team leave of it, where one cell may be left out. A cell of another team is not looked at,
-    /// so with such a cell none is left out. None where there is no such segment. `Err` where memory
-    /// is refused.
+    /// The free spans of one strip, that of the segment of that number, in database units: what the
+    /// cells of its team leave of it, one cell left out. A cell of another team plays no part, so with
+    /// such a cell none is left out. None if there is no such segment. `Err` if an allocation
+    /// fails.
     pub fn free_spans(
         &self,
         alloc: Global,
@@ -107,15 +107,15 @@ impl Occupancy {
     }
 
     /// The first of the other cells of the cell's team, by their positions, that shares with the
-    /// rectangle a point of one of the team's strips; none where none does. No memory is taken.
+    /// rectangle a point of one of the team's strips; none if none does. It allocates nothing.
     pub fn first_met(&self, id: CellId, rect: &Rect) -> Option<u32>
         ensures { IsFirstMet self.now id rect.now result }
     {
         least_met(&self.strips, &self.lanes, &id, rect)
     }
 
-    /// Gives the cell another box, or none; where there is no such cell, nothing changes. No strip loses
-    /// room. `Err` where memory is refused: then some room may have been made, and nothing else is
+    /// Gives the cell another box, or none; if there is no such cell, nothing changes. No strip loses
+    /// room. `Err` if an allocation fails: then strips may have gained room, and nothing else is
     /// changed.
     pub fn move_to(&mut self, id: CellId, rect: Option<Rect>) -> Result<(), AllocError>
         ensures ok { OnOk result (self.new.boxes ≡ boxes_with self.old id rect) }
@@ -127,8 +127,8 @@ impl Occupancy {
         move_box(&mut self.lanes, &mut self.boxes, &self.strips, &id, &rect)
     }
 
-    /// Takes the cell away, so that it stands nowhere; where it does already, or there is no such cell,
-    /// nothing changes. No memory is taken, and each strip keeps the room that it has.
+    /// Takes the cell's box away; if it has none, or there is no such cell,
+    /// nothing changes. It allocates nothing, and each strip keeps the room that it has.
     pub fn remove(&mut self, id: CellId)
         ensures boxes { self.new.boxes ≡ boxes_with self.old id None }
         ensures strips { self.new.strips ≡ self.old.strips }
@@ -138,8 +138,8 @@ impl Occupancy {
         remove_box(&mut self.lanes, &mut self.boxes, &self.strips, &id);
     }
 
-    /// Gives a cell that stands nowhere a box. No memory is taken: each strip of its team that shares a
-    /// point with the box has room for one entry more. Each strip keeps the room that it has, and gets
+    /// Gives a cell without a box this one. It allocates nothing: each strip of its team that shares a
+    /// point with the box has room for one more entry. Each strip keeps the room that it has, and gets
     /// at most one entry.
     pub fn insert(&mut self, id: CellId, rect: &Rect)
         requires known { HasCell self.old.boxes id }
@@ -153,10 +153,10 @@ impl Occupancy {
         insert_box(&mut self.lanes, &mut self.boxes, &self.strips, &id, rect);
     }
 
-    /// Makes the room that `insert` asks where the moves are made in their order, each by taking the
-    /// cell away and giving it its box, if it has one: for as many entries as there are moves, in each
-    /// strip of a cell's team that shares a point with its box. What stands there stays. `Err` where
-    /// memory is refused: then some room may have been made, and nothing else is changed.
+    /// Makes the room that `insert` needs if the moves are made in their order, each by taking the
+    /// cell's box away and inserting its new one, if it has one: for as many entries as there are moves, in each
+    /// strip of a cell's team that shares a point with its box. Boxes and entries are unchanged. `Err`
+    /// if an allocation fails: then strips may have gained room, and nothing else is changed.
     pub fn reserve_for(&mut self, moves: &[(CellId, Option<Rect>)]) -> Result<(), AllocError>
         ensures ok { OnOk result (All (λ m. IfSome m.1 (λ rect. HasRoomFor self.new m.0.team rect (length moves.now))) moves.now) }
         ensures boxes { self.new.boxes ≡ self.old.boxes }
@@ -167,7 +167,7 @@ impl Occupancy {
         reserve_moves(&mut self.lanes, &self.strips, moves)
     }
 
-    /// The entries of each strip are as many as its team has cells whose boxes share a point with it.
+    /// Each strip has as many entries as its team has cells whose boxes share a point with it.
     pub fn entries_are_counted(&self)
         ensures { AreCounted self.now }
     {

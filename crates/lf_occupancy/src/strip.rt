@@ -9,6 +9,6 @@ pub struct Strip {
     pub row: usize,
     /// The number of the team: a fence's position in the frame, or the number of fences for `-`.
     pub team: usize,
-    /// In database units.
+    /// Its rectangle, in database units.
     pub area: Rect,
 }

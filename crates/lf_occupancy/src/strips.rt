@@ -21,7 +21,7 @@ pub(crate) struct Strips {
     pub(crate) height: i64,
 }
 
-/// The numbers of strips that stand together, from `start` on and below `end`.
+/// A run of numbers of strips, from `start` on and below `end`.
 #[derive(Clone, Copy)]
 pub(crate) struct Near {
     pub(crate) start: usize,

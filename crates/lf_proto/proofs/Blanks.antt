@@ -36,7 +36,7 @@ parts-blank : (front : List ℕ) (a : ℕ) (rest : List ℕ) → is_blank a ≡ 
 parts-blank [] a rest blank = slice_split-cons_yes is_blank a rest blank
 parts-blank (x ∷ front) a rest blank = parts_more x a front rest (parts-blank front a rest blank) (is_blank x) refl
 
--- a blank parts the fields in front of it and behind it
+-- a blank separates the fields before it and after it
 pub fields-blank : (front : List ℕ) (a : ℕ) (rest : List ℕ) → is_blank a ≡ true → fields (front ++ a ∷ rest) ≡ fields front ++ fields rest
 fields-blank front a rest blank =
     ap (filter (λ field. nat_lt 0 (length field))) (parts-blank front a rest blank) ∙ filter-append (λ field. nat_lt 0 (length field)) (parts_of front) (parts_of rest)

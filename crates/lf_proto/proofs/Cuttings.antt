@@ -10,11 +10,11 @@ use Rattle.lf_proto.specs.Feeds.{Ends, without_return_of, FeedsAt, Feeds, Finish
 use Rattle.lf_proto.specs.declared.framer.Fed.{Fed}
 use Rattle.lf_proto.specs.declared.framer.Got.{Got}
 
--- how many bytes stand in front of the first line feed, with one byte more
+-- how many bytes there are before the first line feed, with one byte more
 abbrev prefix_more : Bool → List ℕ → ℕ
 prefix_more visible bytes = cond visible (1 + position_or_len is_line_feed bytes) 0
 
--- bytes and the pieces behind them are never none
+-- bytes and the pieces after them are never none
 onto_first-with_front : (b : ℕ) (run : List ℕ) (parts : List (List ℕ)) → onto_first b (with_front run parts) ≡ with_front (b ∷ run) parts
 onto_first-with_front b run [] = refl
 onto_first-with_front b run (p ∷ parts) = refl
@@ -50,7 +50,7 @@ module _ (b : ℕ) (bytes rest : List ℕ) where
       let behind : k + 1 ≡ suc (position_or_len is_line_feed bytes + 1) = omega arith in
       rw (behind, front) (slice_split-cons_no is_line_feed b (bytes ++ rest) is ∙ ap (onto_first b) (ih (omega arith)))
 
--- bytes without a line feed stand in front of the first piece
+-- bytes without a line feed are in front of the first piece
 pieces-held : (bytes rest : List ℕ) → length bytes ≤ position_or_len is_line_feed bytes → pieces (bytes ++ rest) ≡ with_front bytes (pieces rest)
 pieces-held [] rest none = sym (with_front-nil rest)
 pieces-held (b ∷ bytes) rest none = held_more b bytes rest (is_line_feed b) refl none (pieces-held bytes rest)

@@ -97,7 +97,7 @@ target_of-printed t range =
     (coordinate-signed_decimal t.x range.x_in_range.low range.x_in_range.high)
     (coordinate-signed_decimal t.y range.y_in_range.low range.y_in_range.high)
 
--- the fields of what a session asks, behind the verb's name
+-- the fields of a session's action, after the verb's name
 abbrev ReadsWithin : List ℕ → ℕ → Action (List ℕ) Place → Type 0
 ReadsWithin team session action = command_in (printed_fields (To team (Within session action))) ≡ Some (To team (Within session action))
 

@@ -1,4 +1,4 @@
--- A request as a command: its names are lists of bytes, and no parts of a line.
+-- A request as a command: its names are lists of bytes, not slices of a line.
 use Rattle.std.specs.Prelude.{ℕ, List}
 use denote.Ref.{Bor}
 use Rattle.lf_floorplan.specs.declared.place.Place.{Place}
@@ -22,7 +22,7 @@ change_of Undo = Undo
 change_of Commit = Commit
 change_of Revert = Revert
 
--- what a session asks, its cells named by lists of bytes
+-- a session's action, its cells named by lists of bytes
 abbrev pub action_of : Action (Bor (List ℕ)) Place → Action (List ℕ) Place
 action_of Close = Close
 action_of Sync = Sync
@@ -32,7 +32,7 @@ action_of (Where cell) = Where cell.now
 action_of (Find cell target) = Find cell.now target
 action_of (Changing change) = Changing (change_of change)
 
--- what is asked of a team, its cells named by lists of bytes
+-- an order to a team, its cells named by lists of bytes
 abbrev pub order_of : Order (Bor (List ℕ)) Place → Order (List ℕ) Place
 order_of Open = Open
 order_of (Within session action) = Within session (action_of action)

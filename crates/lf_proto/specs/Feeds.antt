@@ -34,7 +34,7 @@ given More line = []
 given Line line = Some line ∷ []
 given TooLong line = None ∷ []
 
--- feeding a stream: of what is left of it any front is the next piece, and what that feed used is gone
+-- feeding a stream: any front of what is left of it is the next piece, and the bytes that the feed used are removed
 pub data Takes : Framing → List ℕ → List (Option (List ℕ)) → Framing → Type 0 where
   none_left : (framing : Framing) → Takes framing [] [] framing
   next_piece : (old middle new : Framing) (piece rest : List ℕ) (fed : Fed) (lines : List (Option (List ℕ))) → Feeds old piece fed middle → Takes middle (drop fed.used piece ++ rest) lines new → Takes old (piece ++ rest) (given fed.got middle.line ++ lines) new

@@ -2,7 +2,7 @@
 use Rattle.std.specs.Prelude.{ℕ, Bool, cond, List, ◌++◌, Option, Some, None}
 use Rattle.lf_proto.specs.Stream.{within_limit}
 
--- the bytes that came since the last line feed, or None where they are over the limit; and the line that came last
+-- the bytes since the last line feed, or None if they are over the limit; and the last line
 pub record Framing : Type 0 where
   pub pending : Option (List ℕ)
   pub line : List ℕ

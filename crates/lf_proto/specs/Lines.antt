@@ -6,7 +6,7 @@ use Rattle.std.specs.List.{slice_split, list_all}
 abbrev pub is_blank : ℕ → Bool
 is_blank b = b == 32 || b == 9
 
--- what may stand in a line: blanks and visible characters
+-- what may occur in a line: blanks and visible characters
 abbrev pub is_line_byte : ℕ → Bool
 is_line_byte b = is_blank b || (nat_lt 32 b && nat_lt b 127)
 

@@ -12,7 +12,7 @@ abbrev pub with_front : List ℕ → List (List ℕ) → List (List ℕ)
 with_front run [] = run ∷ []
 with_front run (p ∷ parts) = (run ++ p) ∷ parts
 
--- the lines of what is held and the pieces that come: None is held where it is over the limit
+-- the lines of what is held and the pieces that follow: None is held if it is over the limit
 abbrev pub lines_from : Option (List ℕ) → List (List ℕ) → List (Option (List ℕ))
 lines_from (Some held) parts = lines_in (with_front held parts)
 lines_from None [] = None ∷ []

@@ -30,7 +30,7 @@ change_words Undo = (codes "undo", [])
 change_words Commit = (codes "commit", [])
 change_words Revert = (codes "revert", [])
 
--- the verb of what a session asks, and its own fields
+-- the verb of a session's action, and its own fields
 abbrev pub action_words : Action (List ℕ) Place → List ℕ × List (List ℕ)
 action_words Close = (codes "close", [])
 action_words Sync = (codes "sync", [])
@@ -50,11 +50,11 @@ printed_fields (To team (Within session action)) = (action_words action).0 ∷ t
 abbrev pub printed : Command (List ℕ) Place → List ℕ
 printed command = join_with_byte 32 (printed_fields command)
 
--- the line that prints a request is that request
+-- the line that prints a request reads as that request
 abbrev pub ReadsBack : Type 0
 ReadsBack = (command : Command (List ℕ) Place) → IsPlain command → command_on (printed command) ≡ Some command
 
--- a blank in front of a line, or behind it, changes nothing
+-- a blank before or after a line changes nothing
 abbrev pub PassesBlanksAround : Type 0
 PassesBlanksAround = (blank : ℕ) (line : List ℕ) → is_blank blank ≡ true → (command_on (blank ∷ line) ≡ command_on line) × (command_on (line ++ blank ∷ []) ≡ command_on line)
 

@@ -19,12 +19,12 @@ line_text words = join_with_byte 32 words ++ 10 ∷ []
 abbrev pub place_words : Place → List (List ℕ)
 place_words place = signed_decimal place.x ∷ signed_decimal place.y ∷ orient_word place.orient ∷ []
 
--- the other cell's name, where there is another cell
+-- the other cell's name, if there is another cell
 abbrev pub other_words : Option ℕ → List ℕ → List (List ℕ)
 other_words None other_name = []
 other_words (Some other) other_name = other_name ∷ []
 
--- a broken rule, the cell, and the other cell where there is one
+-- a broken rule, the cell, and the other cell if there is one
 abbrev pub illegal_words : Rule → Option ℕ → List ℕ → List ℕ → List (List ℕ)
 illegal_words rule other cell_name other_name = codes "7" ∷ codes "Illegal" ∷ decimal (number_of rule) ∷ cell_name ∷ other_words other other_name
 
@@ -55,7 +55,7 @@ reply_words (Report text) cell_name other_name = codes "ok" ∷ text ∷ []
 reply_words (Def text) cell_name other_name = codes "ok" ∷ decimal (length text) ∷ []
 reply_words (Refused refusal) cell_name other_name = codes "no" ∷ refusal_words refusal cell_name other_name
 
--- the text that follows the line of a reply: of a DEF text, whose length the line tells, all its bytes
+-- the text that follows the line of a reply: all bytes of a DEF text, whose length is in the line
 abbrev pub text_behind : Reply → List ℕ
 text_behind (Def text) = text
 text_behind _ = []
@@ -64,6 +64,6 @@ text_behind _ = []
 abbrev pub reply_line : Reply → List ℕ → List ℕ → List ℕ
 reply_line reply cell_name other_name = line_text (reply_words reply cell_name other_name)
 
--- the text of a reply: its line, and the text behind
+-- the text of a reply: its line, and the text after it
 abbrev pub reply_text : Reply → List ℕ → List ℕ → List ℕ
 reply_text reply cell_name other_name = reply_line reply cell_name other_name ++ text_behind reply

@@ -8,7 +8,7 @@ use Rattle.lf_rules.specs.declared.report.Violation.{Violation}
 use Rattle.lf_rules.specs.declared.report.Report.{Report}
 use Rattle.lf_rules.specs.Legality.{number_of}
 
--- the cell, the other cell where there is one, and the number of the rule
+-- the cell, the other cell if there is one, and the number of the rule
 abbrev pub violation_by : List ℕ → Option (List ℕ) → Rule → Data
 violation_by cell None rule = object (member (codes "cell") (string cell) (member (codes "rule") (number (unsigned (number_of rule))) no_members))
 violation_by cell (Some other) rule =

@@ -37,7 +37,7 @@ orient_named text =
     (cond (bytes_eq text (codes "FE")) (Some FE)
     None)))))))
 
--- what a test shows, where it succeeds
+-- what a test shows, if it succeeds
 abbrev pub shown : {Fact : Type 0} (test : Bool) → (T test → Fact) → Option Fact
 shown true fact = Some (fact tt)
 shown false fact = None
@@ -97,48 +97,48 @@ verb_named text =
     (cond (bytes_eq text (codes "revert")) (Some (OfSession Reverts))
     None)))))))))))))))
 
--- VERB TEAM N, behind N: what the verb asks has no fields of its own
+-- VERB TEAM N, after N: the action of a verb without fields of its own
 abbrev pub alone_of : Action (List ℕ) Place → List (List ℕ) → Option (Action (List ℕ) Place)
 alone_of action [] = Some action
 alone_of action _ = None
 
--- where TEAM N CELL, behind N
+-- where TEAM N CELL, after N
 abbrev pub where_of : List (List ℕ) → Option (Action (List ℕ) Place)
 where_of (cell ∷ []) = Some (Where cell)
 where_of _ = None
 
--- find TEAM N CELL X Y, behind N
+-- find TEAM N CELL X Y, after N
 abbrev pub find_of : List (List ℕ) → Option (Action (List ℕ) Place)
 find_of (cell ∷ fields) = do
   target ← target_of fields
   Some (Find cell target)
 find_of _ = None
 
--- place TEAM N CELL X Y O, behind N
+-- place TEAM N CELL X Y O, after N
 abbrev pub placing_of : List (List ℕ) → Option (Action (List ℕ) Place)
 placing_of (cell ∷ fields) = do
   place ← place_of fields
   Some (Changing (Placing cell place))
 placing_of _ = None
 
--- legalize TEAM N CELL X Y, behind N
+-- legalize TEAM N CELL X Y, after N
 abbrev pub legalize_of : List (List ℕ) → Option (Action (List ℕ) Place)
 legalize_of (cell ∷ fields) = do
   target ← target_of fields
   Some (Changing (Legalize cell target))
 legalize_of _ = None
 
--- unplace TEAM N CELL, behind N
+-- unplace TEAM N CELL, after N
 abbrev pub unplace_of : List (List ℕ) → Option (Action (List ℕ) Place)
 unplace_of (cell ∷ []) = Some (Changing (Unplace cell))
 unplace_of _ = None
 
--- swap TEAM N CELL CELL, behind N
+-- swap TEAM N CELL CELL, after N
 abbrev pub swap_of : List (List ℕ) → Option (Action (List ℕ) Place)
 swap_of (first ∷ second ∷ []) = Some (Changing (Swap first second))
 swap_of _ = None
 
--- what a session asks by a verb and the fields behind its number
+-- a session's action, from its verb and the fields after its number
 abbrev pub action_by : SessionVerb → List (List ℕ) → Option (Action (List ℕ) Place)
 action_by Closes = alone_of Close
 action_by Syncs = alone_of Sync
@@ -162,12 +162,12 @@ abbrev pub bye_of : List (List ℕ) → Option (Command (List ℕ) Place)
 bye_of [] = Some Bye
 bye_of _ = None
 
--- open TEAM, behind the verb
+-- open TEAM, after the verb
 abbrev pub open_of : List (List ℕ) → Option (Command (List ℕ) Place)
 open_of (team ∷ []) = Some (To team Open)
 open_of _ = None
 
--- TEAM N and the verb's own fields: what the session of that number asks of that team
+-- TEAM N and the verb's own fields: an action of the session of that number of that team
 abbrev pub within_of : SessionVerb → List (List ℕ) → Option (Command (List ℕ) Place)
 within_of verb (team ∷ number ∷ own) = do
   session ← session_number number
@@ -175,13 +175,13 @@ within_of verb (team ∷ number ∷ own) = do
   Some (To team (Within session action))
 within_of verb _ = None
 
--- what a verb asks, by the fields behind it
+-- the command of a verb, from the fields after it
 abbrev pub asked_by : Verb → List (List ℕ) → Option (Command (List ℕ) Place)
 asked_by Byes = bye_of
 asked_by Opens = open_of
 asked_by (OfSession verb) = within_of verb
 
--- the command of a line's fields: the verb, and what it asks
+-- the command of a line's fields: the verb, then its fields
 abbrev pub command_in : List (List ℕ) → Option (Command (List ℕ) Place)
 command_in [] = None
 command_in (word ∷ arguments) = do

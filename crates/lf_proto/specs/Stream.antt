@@ -17,7 +17,7 @@ without_return bytes = cond (slice_index bytes (length bytes - 1) == 13) (take (
 abbrev pub within_limit : List ℕ → Option (List ℕ)
 within_limit bytes = cond (nat_le (length bytes) limit) (Some bytes) None
 
--- the line of a piece that a line feed ends, or None where it is over the limit
+-- the line of a piece that a line feed ends, or None if it is over the limit
 abbrev pub ended_line : List ℕ → Option (List ℕ)
 ended_line bytes = cond (nat_le (length bytes) limit) (Some (without_return bytes)) None
 

@@ -29,7 +29,7 @@ pub struct Fed {
     pub got: Got,
 }
 
-/// The lines of a stream whose pieces are fed one after the other. Only `new` takes memory.
+/// The lines of a stream whose pieces are fed one after the other. Only `new` allocates.
 #[derive(Drop)]
 pub struct LineFramer {
     buffer: Vec<u8>,
@@ -49,7 +49,7 @@ impl Model for LineFramer {
     ghost invariant = { λ f. (limit ≤ vec_capacity f.buffer) × (vec_len f.buffer ≤ limit) };
 }
 
-/// Adds the bytes where they fit, and says whether the line is over the limit now.
+/// Adds the bytes if they fit, and returns whether the line is over the limit.
 fn take_in(buffer: &mut Vec<u8>, too_long: bool, bytes: &[u8]) -> bool
     requires room { limit ≤ vec_capacity buffer.old }
     requires within { vec_len buffer.old ≤ limit }
@@ -63,7 +63,7 @@ fn take_in(buffer: &mut Vec<u8>, too_long: bool, bytes: &[u8]) -> bool
     buffer.extend_from_slice(bytes).is_err()
 }
 
-/// Where the first line feed is.
+/// The position of the first line feed.
 fn first_line_feed(piece: &[u8]) -> Option<usize>
     ensures at { result ≡ position is_line_feed piece.now }
     ensures below { IfSome result (λ at. at < length piece.now) }
@@ -96,8 +96,8 @@ impl LineFramer {
         })
     }
 
-    /// Takes the bytes of a piece up to its first line feed, or all of them; what it did not use is the caller's
-    /// to feed again.
+    /// Takes the bytes of a piece up to and with its first line feed, or all of them; the caller feeds the
+    /// rest again.
     pub fn feed(&mut self, piece: &[u8]) -> Fed
         ensures { Feeds self.old piece.now result self.new }
     {
@@ -155,7 +155,7 @@ impl LineFramer {
     }
 }
 
-/// However a stream is cut into pieces, feeding them to a new framer and finishing gives the stream's lines.
+/// However a stream is cut into pieces, feeding them to a new framer and then finishing gives the stream's lines.
 pub(crate) fn gives_the_lines()
     ensures { GivesTheLines }
 {}

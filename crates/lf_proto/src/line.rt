@@ -27,7 +27,7 @@ enum Verb {
     OfSession(SessionVerb),
 }
 
-/// The first word of what a session asks.
+/// The first word of a session's request.
 #[derive(Clone, Copy)]
 enum SessionVerb {
     Close,
@@ -128,7 +128,7 @@ fn last_target(mut fields: Fields<'_>) -> Option<Point>
     })
 }
 
-/// What a verb without fields of its own asks, by the fields behind N.
+/// The action of a verb without fields of its own, from the fields after N.
 fn alone<'a>(action: Action<&'a [u8]>, mut fields: Fields<'a>) -> Option<Action<&'a [u8]>>
     ensures { option_map action_of result ≡ alone_of (action_of action.entry) fields.entry }
 {
@@ -138,7 +138,7 @@ fn alone<'a>(action: Action<&'a [u8]>, mut fields: Fields<'a>) -> Option<Action<
     Some(action)
 }
 
-/// What `where TEAM N CELL` asks, by the fields behind N.
+/// The action of `where TEAM N CELL`, from the fields after N.
 fn where_action<'a>(mut fields: Fields<'a>) -> Option<Action<&'a [u8]>>
     ensures { option_map action_of result ≡ where_of fields.entry }
 {
@@ -149,7 +149,7 @@ fn where_action<'a>(mut fields: Fields<'a>) -> Option<Action<&'a [u8]>>
     Some(Action::Where { cell })
 }
 
-/// What `find TEAM N CELL X Y` asks, by the fields behind N.
+/// The action of `find TEAM N CELL X Y`, from the fields after N.
 fn find_action<'a>(mut fields: Fields<'a>) -> Option<Action<&'a [u8]>>
     ensures { option_map action_of result ≡ find_of fields.entry }
 {
@@ -158,7 +158,7 @@ fn find_action<'a>(mut fields: Fields<'a>) -> Option<Action<&'a [u8]>>
     Some(Action::Find { cell, target })
 }
 
-/// What `place TEAM N CELL X Y O` asks, by the fields behind N.
+/// The action of `place TEAM N CELL X Y O`, from the fields after N.
 fn place_action<'a>(mut fields: Fields<'a>) -> Option<Action<&'a [u8]>>
     ensures { option_map action_of result ≡ placing_of fields.entry }
 {
@@ -167,7 +167,7 @@ fn place_action<'a>(mut fields: Fields<'a>) -> Option<Action<&'a [u8]>>
     Some(Action::Change(Change::Place { cell, place }))
 }
 
-/// What `legalize TEAM N CELL X Y` asks, by the fields behind N.
+/// The action of `legalize TEAM N CELL X Y`, from the fields after N.
 fn legalize_action<'a>(mut fields: Fields<'a>) -> Option<Action<&'a [u8]>>
     ensures { option_map action_of result ≡ legalize_of fields.entry }
 {
@@ -176,7 +176,7 @@ fn legalize_action<'a>(mut fields: Fields<'a>) -> Option<Action<&'a [u8]>>
     Some(Action::Change(Change::Legalize { cell, target }))
 }
 
-/// What `unplace TEAM N CELL` asks, by the fields behind N.
+/// The action of `unplace TEAM N CELL`, from the fields after N.
 fn unplace_action<'a>(mut fields: Fields<'a>) -> Option<Action<&'a [u8]>>
     ensures { option_map action_of result ≡ unplace_of fields.entry }
 {
@@ -187,7 +187,7 @@ fn unplace_action<'a>(mut fields: Fields<'a>) -> Option<Action<&'a [u8]>>
     Some(Action::Change(Change::Unplace { cell }))
 }
 
-/// What `swap TEAM N CELL CELL` asks, by the fields behind N.
+/// The action of `swap TEAM N CELL CELL`, from the fields after N.
 fn swap_action<'a>(mut fields: Fields<'a>) -> Option<Action<&'a [u8]>>
     ensures { option_map action_of result ≡ swap_of fields.entry }
 {
@@ -199,7 +199,7 @@ fn swap_action<'a>(mut fields: Fields<'a>) -> Option<Action<&'a [u8]>>
     Some(Action::Change(Change::Swap { first, second }))
 }
 
-/// What a session asks by a verb and the fields behind its number.
+/// A session's action, from its verb and the fields after its number.
 fn action_in<'a>(verb: SessionVerb, fields: Fields<'a>) -> Option<Action<&'a [u8]>>
     ensures { option_map action_of result ≡ action_by verb fields.entry }
 {
@@ -269,7 +269,7 @@ fn request_in<'a>(mut fields: Fields<'a>) -> Option<Request<'a>>
     }
 }
 
-/// Whether each byte may stand in a line.
+/// Whether each byte may occur in a line.
 fn is_line(line: &[u8]) -> bool
     ensures { result ≡ list_all is_line_byte line.now }
 {
@@ -285,9 +285,9 @@ fn fields_of<'a>(line: &'a [u8]) -> Fields<'a>
     line.fields()
 }
 
-/// The request that a line is; the line comes without its line feed and the carriage return before it.
+/// The request that a line is; the line is given without its line feed and the carriage return before it.
 ///
-/// Names are parts of the line, and no memory is taken.
+/// Names are slices of the line, and nothing is allocated.
 pub fn parse_line<'a>(line: &'a [u8]) -> Result<Request<'a>, BadRequest>
     ensures { MatchResult result (λ request. command_on line.now ≡ Some (command_of request)) (λ _. command_on line.now ≡ None) }
 {
@@ -297,18 +297,18 @@ pub fn parse_line<'a>(line: &'a [u8]) -> Result<Request<'a>, BadRequest>
     request_in(fields_of(line)).ok_or(BadRequest)
 }
 
-/// The line that prints a request, one space between each two fields, is that request: for every request with
+/// The line that prints a request, one space between each two fields, reads as that request: for every request with
 /// names of visible bytes and numbers of 32 bits.
 pub(crate) fn printed_reads_back()
     ensures { ReadsBack }
 {}
 
-/// Blanks in front of a line and behind it play no part.
+/// Blanks before and after a line play no part.
 pub(crate) fn blanks_around_pass()
     ensures { PassesBlanksAround }
 {}
 
-/// A run of blanks parts two fields as one blank does, be it a space or a tab.
+/// A run of blanks separates two fields as one blank does, be it a space or a tab.
 pub(crate) fn blanks_between_pass()
     ensures { PassesBlanksBetween }
 {}

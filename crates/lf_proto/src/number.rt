@@ -36,14 +36,14 @@ fn digits_of(word: &[u8]) -> Option<u64>
     Some(value_of(word))
 }
 
-/// The number of a session, where the word writes one.
+/// The session number that the word writes, if it writes one.
 pub(crate) fn session_of(word: &[u8]) -> Option<u32>
     ensures { result ≡ session_number word.now }
 {
     u32::try_from(digits_of(word)?).ok()
 }
 
-/// The coordinate in database units, where the word writes one.
+/// The coordinate in database units that the word writes, if it writes one.
 pub(crate) fn coordinate_of(word: &[u8]) -> Option<i32>
     ensures value { result ≡ coordinate word.now }
     ensures in_def { IfSome result (λ z. negsuc 2147483647 <ℤ z) }

@@ -1,4 +1,4 @@
-//! What a session is told.
+//! Replies to a session.
 
 ghost use Rattle.std.specs.Prelude.{◌≡◌, string_bytes};
 
@@ -48,15 +48,15 @@ impl Text {
 /// The reply to one command. A cell is named by its position among its team's cells, in loading order.
 #[derive(Drop)]
 pub enum Reply {
-    /// It is done, and there is nothing to tell.
+    /// It is done, and there is no value to return.
     Done,
     /// The session that was opened, and the team's revision, which it has seen.
     Opened { session: u32, revision: u32 },
     /// The team's revision.
     Revision(u32),
-    /// Where a cell stands, or would stand best.
+    /// The working place of a cell, or its best place, in database units.
     At(Place),
-    /// The team's revision after a change, and where the cell has gone.
+    /// The team's revision after a change, and the place to which the cell went.
     Legalized { revision: u32, place: Place },
     /// The team's revision after a tidy, and how many cells went to their best place.
     Tidied { revision: u32, moved: u32 },
@@ -75,13 +75,13 @@ pub enum Refusal {
     BadRequest,
     /// No team has that name.
     NoTeam,
-    /// The number is that of no open session of the team.
+    /// No open session of the team has that number.
     NoSession,
     /// The session has not seen the team's revision, which is this one.
     Stale {
         revision: u32,
     },
-    /// The cell is none of the team's.
+    /// The team has no cell of that name.
     NoCell,
     /// The cell has no working place.
     Unplaced {
@@ -103,6 +103,6 @@ pub enum Refusal {
     SessionsFull,
     /// The team has made as many changes as its revision limit allows.
     RevisionsSpent,
-    /// A growth of memory was refused during the command.
+    /// An allocation failed during the command, and nothing has changed.
     OutOfMemory,
 }

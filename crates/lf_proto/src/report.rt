@@ -75,7 +75,7 @@ fn report_string(alloc: Global, report: &Report) -> Result<String, AllocError>
 /// The text of a report: compact JSON with the keys `cells`, `unplaced` and `violations`, and in each violation
 /// `cell`, for Overlap `other`, and `rule`.
 ///
-/// `Err` where memory is refused.
+/// `Err` if an allocation fails.
 #[tactic(auto, unfolding(crate::specs::ReportText::report_text))]
 pub fn report_json(alloc: Global, report: &Report) -> Result<Text, AllocError>
     requires { All IsTold report.now.violations }

@@ -1,4 +1,4 @@
-//! What a session may ask.
+//! Commands.
 
 ghost use Rattle.std.specs.Prelude.{◌≡◌, IfOk};
 ghost use Rattle.lf_proto.specs.Commands.{action_of, change_of, command_of, order_of};
@@ -8,30 +8,30 @@ use lf_units::{Name, Point};
 use std::alloc::{AllocError, Global};
 
 /// One command of a session. Its names are of the type `N`: slices of a line in a `Request`, lists of
-/// bytes in a contract. Its places are of the type `P`, which is `Place`.
+/// bytes in a contract. Its places are of the type `P`, which is `Place`; places and targets are in database units.
 #[derive(Drop)]
 pub enum Command<N, P = Place> {
-    /// The end of a connection; its sessions stay.
+    /// The end of a connection; its sessions stay open.
     Bye,
     /// A command to the team of that name; `-` is the team of the ground outside all fences.
     To { team: N, order: Order<N, P> },
 }
 
-/// What is asked of one team.
+/// An order to one team.
 #[derive(Drop)]
 pub enum Order<N, P = Place> {
     /// Takes a session slot.
     Open,
-    /// What the session of that number asks.
+    /// An action of the session of that number.
     Within { session: u32, action: Action<N, P> },
 }
 
-/// What one session of a team asks.
+/// An action of one session of a team.
 #[derive(Drop)]
 pub enum Action<N, P = Place> {
     /// Frees the session's slot.
     Close,
-    /// The session has then seen the present revision.
+    /// The session has then seen the team's present revision.
     Sync,
     /// The report of the team's cells.
     Check,
@@ -45,10 +45,10 @@ pub enum Action<N, P = Place> {
     Change(Change<N, P>),
 }
 
-/// What changes a team's places.
+/// A change of a team's places.
 #[derive(Drop)]
 pub enum Change<N, P = Place> {
-    /// The cell's working place becomes this one, where it is team-legal.
+    /// The cell's working place becomes this one, if it is team-legal.
     Place { cell: N, place: P },
     /// The cell goes to its best place for the target.
     Legalize { cell: N, target: Point },
@@ -58,7 +58,7 @@ pub enum Change<N, P = Place> {
     Unplace { cell: N },
     /// The two cells exchange their whole places.
     Swap { first: N, second: N },
-    /// The working places before the newest change that is kept come back.
+    /// The places of the newest undo entry become the working places, and the entry is dropped.
     Undo,
     /// The working places become the committed ones.
     Commit,

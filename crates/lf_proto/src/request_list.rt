@@ -8,7 +8,7 @@ use lf_units::Name;
 use std::alloc::{AllocError, Global};
 use std::marker::Model;
 
-/// Requests in order, each a copy of one that was pushed. Only `push` takes memory.
+/// Requests in order, each a copy of one that was pushed. Only `push` allocates.
 #[derive(Drop)]
 pub struct RequestList {
     alloc: Global,
@@ -36,7 +36,7 @@ impl RequestList {
         }
     }
 
-    /// Puts a copy of the request behind the others; where memory is refused, the list is unchanged.
+    /// Appends a copy of the request; if an allocation fails, the list is unchanged.
     pub fn push(&mut self, request: &Request) -> Result<(), AllocError>
         ensures ok { OnOk result (self.new ≡ self.old ++ command_of request.now ∷ []) }
         ensures err { OnErr result (self.new ≡ self.old) }

@@ -46,7 +46,7 @@ fn put_word(out: &mut Vec<u8>, word: &Word<'_>) -> Result<(), AllocError>
     }
 }
 
-/// Appends a space and the word; an `Err` leaves a front of it.
+/// Appends a space and the word; an `Err` may leave a front of it appended.
 fn put_spaced(out: &mut Vec<u8>, word: &Word<'_>) -> Result<(), AllocError>
     ensures ok { OnOk result (out.new.items ≡ out.old.items ++ spaced word.now) }
     ensures kept { take (vec_len out.old) out.new.items ≡ out.old.items }
@@ -57,7 +57,7 @@ fn put_spaced(out: &mut Vec<u8>, word: &Word<'_>) -> Result<(), AllocError>
     put_word(out, word)
 }
 
-/// Appends the words, a space before each; an `Err` leaves a front of them.
+/// Appends the words, a space before each; an `Err` may leave a front of them appended.
 fn put_words(out: &mut Vec<u8>, words: &[Word<'_>]) -> Result<(), AllocError>
     ensures ok { OnOk result (out.new.items ≡ out.old.items ++ flat_map spaced words.now) }
     ensures len { OnOk result (vec_len out.new ≡ vec_len out.old + length (flat_map spaced words.now)) }
@@ -71,7 +71,7 @@ fn put_words(out: &mut Vec<u8>, words: &[Word<'_>]) -> Result<(), AllocError>
     Ok(())
 }
 
-/// Appends a line of words, the first of them given apart; an `Err` leaves a front of it.
+/// Appends a line of words, the first of them given apart; an `Err` may leave a front of it appended.
 #[tactic(auto, using(crate::proofs::Fronts::line_is))]
 fn put_line(out: &mut Vec<u8>, first: &[u8], words: &[Word<'_>]) -> Result<(), AllocError>
     ensures ok { OnOk result (out.new.items ≡ out.old.items ++ line_text (first.now ∷ map word_text words.now)) }
@@ -94,7 +94,7 @@ fn put_plain<'x>(out: &mut Vec<u8>, number: &'x [u8], name: &'x [u8]) -> Result<
     put_line(out, b"no", &[Word::Text(number), Word::Text(name)])
 }
 
-/// Appends the line of a place that breaks a rule; the second name follows where there is another cell.
+/// Appends the line of a place that breaks a rule; the second name follows if there is another cell.
 fn put_illegal<'x>(
     rule: Rule,
     other: Option<u32>,
@@ -133,7 +133,7 @@ fn put_illegal<'x>(
     }
 }
 
-/// Appends the line of a refusal; an `Err` leaves a front of it.
+/// Appends the line of a refusal; an `Err` may leave a front of it appended.
 fn put_refusal<'x>(
     refusal: &Refusal,
     cell_name: &'x [u8],
@@ -187,7 +187,7 @@ fn put_refusal<'x>(
     }
 }
 
-/// Appends the line of a reply; an `Err` leaves a front of it.
+/// Appends the line of a reply; an `Err` may leave a front of it appended.
 fn put_reply_line(
     reply: &Reply,
     cell_name: &[u8],
@@ -240,7 +240,7 @@ fn put_reply_line(
     }
 }
 
-/// The text behind the line of a reply.
+/// The text after the line of a reply.
 fn text_behind(reply: &Reply) -> &[u8]
     ensures { result.now ≡ text_behind reply.now }
 {
@@ -250,7 +250,7 @@ fn text_behind(reply: &Reply) -> &[u8]
     }
 }
 
-/// Appends the line of a reply and the text behind it; an `Err` leaves a front of it.
+/// Appends the line of a reply and the text after it; an `Err` may leave a front of it appended.
 fn put_reply(
     reply: &Reply,
     cell_name: &[u8],
@@ -269,7 +269,7 @@ fn put_reply(
 /// Appends the text of a reply, its line with the line feed and what follows it, given the names of the cells that it is about.
 ///
 /// `cell_name` is the name of the reply's cell and `other_name` that of the other cell of an overlap; a reply
-/// without them leaves them out. Where memory is refused, `out` is as it was.
+/// without them leaves them out. If an allocation fails, `out` is unchanged.
 pub fn reply_text(
     reply: &Reply,
     cell_name: &[u8],

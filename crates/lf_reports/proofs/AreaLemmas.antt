@@ -26,7 +26,7 @@ use Rattle.lf_units.proofs.Any.{has_item}
 
 -- ---- what lists hold
 
--- no box is met where none shares a point, and none bears the number that is passed over
+-- no box is met if none shares a point, and none has the number that is left out
 pub none_met : (boxes : List Placed) (box : Rect) (but : ℕ) (met : Option ℕ) → All (λ p. p.own ≢ but) boxes →
     MatchOption met (IsNoneMet boxes box but) (IsLeastMet boxes box but) → IsTrue (is_none met) ↔ All (λ p. SharesPoint box p.rect → ⊥) boxes
 none_met boxes box but None others none = (λ t k d within shares. none k d within (others k d within) shares, λ clear. refl)
@@ -71,7 +71,7 @@ fence_listed teams t team r is there =
     let from : 0 + t ≡ t = omega arith in
     subst (λ (m : ℕ). Contains (fence_boxes 0 teams) (numbered m r)) from (fence_there 0 teams t team r is there)
 
--- a rectangle of those that bear the number
+-- a rectangle of those of the number
 in_rects : (near : List Placed) (t : ℕ) (p : Placed) → Contains near p → p.own ≡ t → Contains (rects_of near t) p.rect
 in_rects [] t p (k, within, is) own = absurd (omega arith)
 in_rects (q ∷ near) t p (zero, within, is) own = by (eqb q.own t) refl

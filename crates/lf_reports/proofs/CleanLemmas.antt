@@ -1,4 +1,4 @@
--- A report is clean exactly where its cells make a fully legal design, and the names that it tells are those of cells.
+-- A report is clean if and only if its cells make a fully legal design, and its names are those of cells.
 use Rattle.std.proofs.Common.{◌≡◌, ◌⊎◌, ℕ, zero, suc, ◌+◌, ◌<◌, List, [], ◌∷◌, length, map, Option, Some, None, inl, inr, refl, sym, ◌∙◌, ap, subst, arith, slice_get, get_or}
 use Rattle.std.specs.Prelude.{All, AllPairs, IsSome, is_none, count_by, filter, filter_map, option_map, option_and_then, ◌↔◌}
 use Rattle.std.specs.List.{range_with_len, cons_option}
@@ -258,7 +258,7 @@ pub clean_is_legal : (l : Legalizer) (f : Frame) (cells : Cells) → All (IsList
     IsClean (report_of l f cells) ↔ IsFullyLegal f (map standing_of cells)
 clean_is_legal l f cells all = (λ clean. to_legal l f cells all clean, λ legal. to_clean l f cells all legal)
 
--- ---- the names that are told
+-- ---- the names in a report
 
 found_hold : {Y : Type 0} (P : Y → Type 0) (g : ℕ → Option Y) (a n : ℕ) → ((k : ℕ) (y : Y) → g k ≡ Some y → P y) → All P (filter_map g (range_with_len a n))
 found_hold {Y = Y} P g a zero each = All-nil P

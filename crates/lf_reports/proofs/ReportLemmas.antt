@@ -47,7 +47,7 @@ pub told_at : (l : Legalizer) (f : Frame) (cells : List (Listed (List ℕ))) (ow
     o ≡ broken_among l f cells own c → violation_at l f cells own ≡ option_map (violation_of cells c) o
 told_at l f cells own c o there is = ap (option_and_then (violation_by l f cells own)) there ∙ ap (option_map (violation_of cells c)) (sym is)
 
--- where nothing is told nothing is added
+-- if nothing is reported nothing is added
 pub told_none : {Y : Type 0} (xs : List Y) (o : Option Y) → o ≡ None → xs ≡ xs ++ cons_option o []
 told_none {Y = Y} [] o e = sym (ap (λ (p : Option Y). cons_option p []) e)
 told_none {Y = Y} (x ∷ xs) o e = ap (λ (ys : List Y). x ∷ ys) (told_none xs o e)

@@ -29,7 +29,7 @@ row_boxes pitch own (r ∷ rows) = numbered own (row_area pitch r) ∷ row_boxes
 abbrev pub obstacle_boxes : List Rect → List Placed
 obstacle_boxes rects = map (numbered 0) rects
 
--- the rectangles of the boxes that bear this number
+-- the rectangles of the boxes of this number
 abbrev pub rects_of : List Placed → ℕ → List Rect
 rects_of boxes own = map (λ p. p.rect) (filter (λ p. p.own == own) boxes)
 
@@ -72,7 +72,7 @@ IsAreaVerdict f team box verdict =
 abbrev pub IsFrameVerdict : Trial → Option Rule → Type 0
 IsFrameVerdict t verdict = MatchOption verdict ((r : Rule) → number_of r ≤ 7 → Holds t r) (λ rule. IsFirstBroken t record { rule = rule; other = None })
 
--- what a search looks cells up in is the frame's and theirs
+-- the index and the boxes of the search are the frame's and the cells'
 abbrev pub IsSearchOf : Frame → List Member → Search → Type 0
 IsSearchOf f cells Plain = Unit {0}
 IsSearchOf f cells (Indexed boxes window) = IsPermutation (boxes_from f 0 cells) boxes × IsWindowOf f window

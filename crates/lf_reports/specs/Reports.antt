@@ -1,4 +1,4 @@
--- What a check tells: how many cells there are, how many of them are unplaced, and which break a rule where they stand.
+-- What a check reports: how many cells there are, how many of them are unplaced, and which break a rule where they stand.
 use Rattle.std.specs.Prelude.{◌≡◌, ◌↔◌, ℕ, ◌<◌, List, [], ◌∷◌, Option, None, All, is_none, count_by, map, filter_map, length, set, slice_get, slice_index_or, ◌⊎◌, Some, option_map, option_and_then}
 use Rattle.std.specs.List.{range_with_len}
 use Rattle.std.specs.Borrow.{Bor}
@@ -53,11 +53,11 @@ pub record AreSomeVerdicts (l : Legalizer) (f : Frame) (cells : List (Listed (Li
   pub each : (own : ℕ) (c : Listed (List ℕ)) → slice_get cells own ≡ Some c →
       (verdict_at verdicts own ≡ None) ⊎ (verdict_at verdicts own ≡ broken_among l f cells own c)
 
--- the verdict stands at its number, where it says that a rule is broken; else nothing was changed
+-- the verdict is set at its number, if it says that a rule is broken; else nothing is changed
 abbrev pub IsPut : ℕ → Option Broken → List (Option Broken) → List (Option Broken) → Type 0
 IsPut own verdict old new = ((verdict ≡ None) × (new ≡ old)) ⊎ (new ≡ set old own verdict)
 
--- the cell of this number has its verdict now, and so has each cell that had it
+-- the cell of this number has its verdict, and so has each cell that had it
 pub record PutsVerdict (l : Legalizer) (f : Frame) (cells : List (Listed (List ℕ))) (own : ℕ) (old new : List (Option Broken)) : Type 0 where
   pub some : AreSomeVerdicts l f cells new
   pub put : (c : Listed (List ℕ)) → slice_get cells own ≡ Some c → verdict_at new own ≡ broken_among l f cells own c
@@ -72,7 +72,7 @@ name_among cells own = option_map (λ c. c.name) (slice_get cells own)
 abbrev pub violation_of : List (Listed (List ℕ)) → Listed (List ℕ) → Broken → Violation
 violation_of cells c b = record { cell = c.name; rule = b.rule; other = option_and_then (name_among cells) b.other }
 
--- the violation of this cell, where it is placed and breaks a rule
+-- the violation of this cell, if it is placed and breaks a rule
 abbrev pub violation_by : Legalizer → Frame → List (Listed (List ℕ)) → ℕ → Listed (List ℕ) → Option Violation
 violation_by l f cells own c = option_map (violation_of cells c) (broken_among l f cells own c)
 
@@ -89,13 +89,13 @@ violations_in l f cells = filter_map (violation_at l f cells) (range_with_len 0 
 abbrev pub report_of : Legalizer → Frame → List (Listed (List ℕ)) → Report
 report_of l f cells = record { cells = length cells; unplaced = count_by (λ c. is_none c.place) cells; violations = violations_in l f cells }
 
--- the cell's macro is one of the frame's, of whole size, and its name is one
+-- the cell's macro is one of the frame's, of whole size, and its name is a name
 pub record IsListed (f : Frame) (c : Listed (List ℕ)) : Type 0 where
   pub known : c.mac < length f.macros
   pub sized : IsSized f (macro_of f c.mac)
   pub printed : IsName c.name
 
--- a report is clean exactly where its cells make a fully legal design
+-- a report is clean if and only if its cells make a fully legal design
 abbrev pub CleanIsLegal : Type 0
 CleanIsLegal =
     (l : Legalizer) (f : Frame) (cells : List (Listed (List ℕ))) → All (IsListed f) cells →

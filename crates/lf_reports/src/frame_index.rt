@@ -10,7 +10,7 @@ use lf_segments::Segments;
 use lf_units::Rect;
 use std::alloc::{AllocError, Global};
 
-/// A frame's rows, fences and obstacles in trees, and its segments: what lies near a box is found without a look at all
+/// A frame's rows, fences and obstacles in trees, and its segments: what lies near a box is found without looking at all
 /// of them.
 #[derive(Drop)]
 pub struct FrameIndex {
@@ -20,7 +20,7 @@ pub struct FrameIndex {
     pub fences: RTree,
     /// The obstacles; their numbers play no part.
     pub obstacles: RTree,
-    /// What of each row each team may use.
+    /// The part of each row that each team may use.
     pub segments: Segments,
 }
 
@@ -38,7 +38,7 @@ fn boxes_of_rows(alloc: Global, frame: &Frame) -> Result<Vec<Placed>, AllocError
     Ok(boxes)
 }
 
-/// Puts rectangles behind the others, each with this number.
+/// Appends rectangles, each with this number.
 fn push_rects(boxes: &mut Vec<Placed>, own: u32, rects: &[Rect]) -> Result<(), AllocError>
     ensures { OnOk result (boxes.new.items ≡ boxes.old.items ++ map (numbered own) rects.now) }
 {
@@ -70,7 +70,7 @@ fn boxes_of_obstacles(alloc: Global, obstacles: &[Rect]) -> Result<Vec<Placed>, 
 }
 
 impl FrameIndex {
-    /// The index of a frame. `Err` where memory is refused.
+    /// The index of a frame. `Err` if an allocation fails.
     pub fn build(alloc: Global, frame: &Frame) -> Result<Self, AllocError>
         ensures { IfOk result (λ index. IsIndexOf frame.now index) }
     {

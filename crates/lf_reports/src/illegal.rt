@@ -19,7 +19,7 @@ pub struct BrokenCell {
 }
 
 /// The first cell of a list that breaks a rule where it stands, by the verdict of each: its number, and the first rule that
-/// it breaks. None where no cell breaks one.
+/// it breaks. None if no cell breaks one.
 pub fn first_illegal(verdicts: &[Option<Broken>]) -> Option<BrokenCell>
     requires few { length verdicts.now ≤ 4000000 }
     ensures { (l : Legalizer) (f : Frame) (cells : List (Listed (List ℕ))) → AreVerdicts l f cells verdicts.now → result ≡ slice_get (illegal_in l f cells) 0 }

@@ -2,7 +2,7 @@
 
 ghost use Rattle.lf_reports.specs.Reports.{CleanIsLegal};
 
-/// A report tells nothing against its cells exactly where they make a fully legal design.
+/// A report finds no fault in its cells if and only if they make a fully legal design.
 pub fn clean_is_legal()
     ensures { CleanIsLegal }
 {}

@@ -53,7 +53,7 @@ pub(crate) fn rows_near(
     Ok(found)
 }
 
-/// The row that bears the number.
+/// The row of that number.
 fn row_of<'a>(frame: &'a Frame, placed: &Placed) -> &'a Row
     requires { placed.now.own < length frame.now.rows }
     ensures row { slice_get frame.now.rows placed.now.own ≡ Some result.now }
@@ -78,7 +78,7 @@ fn bottom_row_near<'a>(frame: &'a Frame, rect: &Rect, near: &[Placed]) -> Option
     None
 }
 
-/// Whether one of the rows near the box carries it so many site heights above its bottom row.
+/// Whether one of the rows near the box carries it this many site heights above its bottom row.
 fn is_carried_near(
     frame: &Frame,
     rect: &Rect,
@@ -117,7 +117,7 @@ fn is_standing_near(frame: &Frame, rect: &Rect, near: &[Placed], bottom: &Row, h
     true
 }
 
-/// The first of the rules on rows that the macro's box breaks at the place, beside which these rows lie; none where it
+/// The first of the rules on rows that the macro's box breaks at the place, beside which these rows lie; none if it
 /// keeps them all.
 pub(crate) fn broken_by_rows(
     frame: &Frame,
@@ -150,7 +150,7 @@ pub(crate) fn broken_by_rows(
     None
 }
 
-/// The rectangles of the boxes that bear the number.
+/// The rectangles of the boxes of that number.
 fn rects_of(alloc: Global, boxes: &[Placed], own: u32) -> Result<Vec<Rect>, AllocError>
     ensures { IfOk result (λ rects. rects.items ≡ rects_of boxes.now own) }
 {
@@ -163,8 +163,8 @@ fn rects_of(alloc: Global, boxes: &[Placed], own: u32) -> Result<Vec<Rect>, Allo
     Ok(rects)
 }
 
-/// Whether no box of the tree shares a point with the rectangle, where none bears the number `but`. The first one that is met
-/// decides. It takes no memory.
+/// Whether no box of the tree shares a point with the rectangle; none of them has the number `but`. The first one that is met
+/// decides. It allocates nothing.
 fn meets_none(tree: &RTree, rect: &Rect, but: u32) -> bool
     requires { All (λ p. p.own ≢ but) tree.now }
     ensures { IsTrue result ↔ All (λ p. SharesPoint rect.now p.rect → ⊥) tree.now }
@@ -203,7 +203,7 @@ fn stays_in_ground(
     }
 }
 
-/// Whether the box meets no obstacle. The obstacles of an index bear the number 0.
+/// Whether the box meets no obstacle. The obstacles of an index have the number 0.
 fn is_clear(frame: &Frame, index: &FrameIndex, rect: &Rect) -> bool
     requires { IsIndexOf frame.now index.now }
     ensures { IsTrue result ↔ IsClear frame.now rect.now }
@@ -211,7 +211,7 @@ fn is_clear(frame: &Frame, index: &FrameIndex, rect: &Rect) -> bool
     meets_none(&index.obstacles, rect, 1)
 }
 
-/// The first of the rules on ground and obstacles that the box of a cell of the team breaks; none where it keeps
+/// The first of the rules on ground and obstacles that the box of a cell of the team breaks; none if it keeps
 /// both.
 fn broken_by_areas(
     alloc: Global,
@@ -259,10 +259,10 @@ fn lies_in_each(segments: &Segments, rows: &[Placed], team: usize, rect: &Rect) 
     true
 }
 
-/// The first of the rules on ground and obstacles that the box of a cell of the team breaks, which stands on rows; none
-/// where it keeps both.
+/// The first of the rules on ground and obstacles that the box of a cell of the team, which is on rows, breaks; none
+/// if it keeps both.
 ///
-/// Where the box lies in the team's segments it keeps both, and neither fences nor obstacles are looked at.
+/// If the box lies in the team's segments it keeps both, and neither fences nor obstacles are looked at.
 pub(crate) fn broken_on_rows(
     alloc: Global,
     frame: &Frame,

@@ -15,7 +15,7 @@ use lf_rules::{Rule, solid_box};
 use lf_units::Rect;
 use std::alloc::{AllocError, Global};
 
-/// The first of the rules but overlap that the macro's box breaks, where it is the window's.
+/// The first of the rules but overlap that the macro's box breaks, which lies in the window.
 pub(crate) fn broken_in_window(
     alloc: Global,
     frame: &Frame,
@@ -41,11 +41,11 @@ pub(crate) fn broken_in_window(
     broken_on_rows(alloc, frame, index, &near, team, rect)
 }
 
-/// The first of the rules but overlap that a cell of the team breaks at the place; none where it keeps
+/// The first of the rules but overlap that a cell of the team breaks at the place; none if it keeps
 /// them all.
 ///
-/// `team` is a fence's position in the frame, or the number of fences for the ground team. What lies
-/// near the cell is looked at, found by the index. `Err` where memory is refused.
+/// `team` is a fence's position in the frame, or the number of fences for the ground team. Only what lies
+/// near the cell is looked at, found by the index. `Err` if an allocation fails.
 pub fn broken_on_frame(
     alloc: Global,
     frame: &Frame,

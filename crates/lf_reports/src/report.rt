@@ -31,7 +31,7 @@ fn macro_in<'a>(frame: &'a Frame, cell: &Listed<&[u8]>) -> &'a Macro
     &frame.macros.as_slice()[cell.mac]
 }
 
-/// Puts the box of the cell behind the others, where it is placed; `own` is the cell's number.
+/// Appends the box of the cell, if it is placed; `own` is the cell's number.
 fn push_box(
     others: &mut Vec<Placed>,
     frame: &Frame,
@@ -137,7 +137,7 @@ fn name_in(alloc: Global, cells: &[Listed<&[u8]>], own: u32) -> Result<Option<Na
     }
 }
 
-/// A copy of the name of the other cell, where there is another.
+/// A copy of the name of the other cell, if there is another.
 fn other_name(
     alloc: Global,
     cells: &[Listed<&[u8]>],
@@ -168,7 +168,7 @@ fn violation_of(
     })
 }
 
-/// No verdict yet for each of so many cells.
+/// No verdict yet for each of this many cells.
 fn no_verdicts(alloc: Global, count: usize) -> Result<Vec<Option<Broken>>, AllocError>
     ensures count { IfOk result (λ verdicts. length verdicts.items ≡ count) }
     ensures none { IfOk result (λ verdicts. (own : ℕ) → verdict_at verdicts.items own ≡ None) }
@@ -180,7 +180,7 @@ fn no_verdicts(alloc: Global, count: usize) -> Result<Vec<Option<Broken>>, Alloc
     Ok(verdicts)
 }
 
-/// Sets the verdict of that number, where it says that a rule is broken.
+/// Sets the verdict of that number, if it says that a rule is broken.
 fn put(verdicts: &mut Vec<Option<Broken>>, own: usize, verdict: Option<Broken>)
     requires { own < length verdicts.old.items }
     ensures { IsPut own verdict verdicts.old.items verdicts.new.items }
@@ -218,8 +218,8 @@ fn put_verdict(
     Ok(())
 }
 
-/// The cells of these boxes, in the boxes' order. They are fetched in a pass of their own, in which one waits for
-/// the memory while the next are on their way.
+/// The cells of these boxes, in the boxes' order. They are fetched in a pass of their own, so that the waits for
+/// memory overlap.
 fn fetch<'a>(
     alloc: Global,
     cells: &[Listed<&'a [u8]>],
@@ -264,7 +264,7 @@ fn verdicts_in(
     Ok(verdicts)
 }
 
-/// Puts the violation of the cell of that number behind the others, where it breaks a rule.
+/// Appends the violation of the cell of that number, if it breaks a rule.
 fn push_violation(
     alloc: Global,
     cells: &[Listed<&[u8]>],
@@ -311,7 +311,7 @@ fn unplaced_in(cells: &[Listed<&[u8]>]) -> usize
 
 /// The report of a list of cells, by the verdict of each: the first rule that it breaks where it stands, or none.
 ///
-/// `Err` where memory is refused.
+/// `Err` if an allocation fails.
 pub fn report_by_verdicts(
     alloc: Global,
     cells: &[Listed<&[u8]>],
@@ -347,7 +347,7 @@ fn boxes_in(
     Ok(boxes)
 }
 
-/// The search that finds what lies near a cell without a look at all of the frame and of the cells, whose boxes are
+/// The search that finds what lies near a cell without looking at all of the frame and of the cells, whose boxes are
 /// put into the order in which they lie.
 fn indexed(alloc: Global, index: &FrameIndex, boxes: &mut [Placed]) -> Result<Search, AllocError>
     ensures same { IsPermutation boxes.old boxes.new }
@@ -392,10 +392,10 @@ fn verdicts_against(
 }
 
 /// For each of these cells the first rule that it breaks where it stands, and for Overlap the first other cell that it
-/// meets; none where it breaks no rule, or is unplaced.
+/// meets; none if it breaks no rule, or is unplaced.
 ///
-/// Overlap is between any two cells of the list: those of a team, or of a whole design. A cell is compared only with
-/// what lies near it, which the frame's index tells. `Err` where memory is refused.
+/// Overlap is between any two cells of the list: those of a team, or of a whole design. A cell is only compared with
+/// what lies near it, found by the frame's index. `Err` if an allocation fails.
 pub fn verdicts_on(
     alloc: Global,
     frame: &Frame,
@@ -471,7 +471,7 @@ fn check_against(
 /// The report of a design whose movable cells stand at these places, one for each cell in loading order; overlap
 /// is between cells of any teams.
 ///
-/// A cell is compared only with what lies near it. `Err` where memory is refused.
+/// A cell is only compared with what lies near it. `Err` if an allocation fails.
 pub fn check_all(
     alloc: Global,
     loaded: &Loaded,
@@ -486,7 +486,7 @@ pub fn check_all(
 }
 
 /// The report of `check_all` by the plain search: each two cells are compared, and each cell with every row, fence
-/// and obstacle. `Err` where memory is refused.
+/// and obstacle. `Err` if an allocation fails.
 pub fn check_all_pairs(
     alloc: Global,
     loaded: &Loaded,

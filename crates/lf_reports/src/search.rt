@@ -22,16 +22,16 @@ use std::alloc::{AllocError, Global};
 /// How the first broken rule of a cell is found.
 #[derive(Drop)]
 pub enum Search {
-    /// By a look at every row, fence, obstacle and other cell.
+    /// By looking at every row, fence, obstacle and other cell.
     Plain,
-    /// By a look at those near the cell: the frame's, by its index, and the boxes of the placed cells by the cells'
+    /// By looking at those near the cell: the frame's, by its index, and the boxes of the placed cells by the cells'
     /// numbers. The window moves along with the cells.
     Indexed(RTree, Window),
 }
 
 impl Search {
     /// Moves the window to the box of that number, unless it was laid over it a few boxes ago: a window over boxes that
-    /// lie far apart is not kept for long. Where memory is refused, the search is good for nothing.
+    /// lie far apart is not kept for long. After a failed allocation the search cannot be used.
     pub(crate) fn move_to(
         &mut self,
         index: &FrameIndex,
@@ -53,7 +53,7 @@ impl Search {
     }
 }
 
-/// Overlap with the first of the other cells that is met; none where none is.
+/// Overlap with the first of the other cells that is met; none if none is.
 fn overlap(met: Option<u32>) -> Option<Broken>
     ensures { result ≡ option_map (λ own. record { rule = Overlap; other = Some own }) met }
 {
@@ -66,7 +66,7 @@ fn overlap(met: Option<u32>) -> Option<Broken>
     }
 }
 
-/// The first rule that a cell of the team breaks at the place, where its box lies within the window.
+/// The first rule that a cell of the team breaks at the place, if its box lies within the window.
 fn broken_within(
     alloc: Global,
     frame: &Frame,
@@ -94,8 +94,8 @@ fn broken_within(
     Ok(overlap(boxes.least_met(rect, own)))
 }
 
-/// The first rule that a cell of the team breaks at the place, beside the boxes that bear other numbers than its own.
-/// The frame is looked up through the window where it holds the cell's box.
+/// The first rule that a cell of the team breaks at the place, beside the boxes of other numbers than its own.
+/// The frame is looked up through the window if that holds the cell's box.
 pub(crate) fn broken_beside(
     alloc: Global,
     frame: &Frame,

@@ -1,4 +1,4 @@
-//! What of a frame lies near cells that are looked at one after another.
+//! The part of a frame near cells that are looked at one after another.
 
 ghost use Rattle.std.specs.Prelude.{◌≡◌, ◌↔◌, IfOk, IsTrue, OnOk};
 ghost use Rattle.lf_floorplan.specs.declared.frame.Frame.{Frame};
@@ -22,7 +22,7 @@ const NOWHERE: Rect = Rect {
 };
 
 /// The rows of a frame that share a point with a rectangle. Cells that lie side by side are tested against the rows of one
-/// window, and the tree of rows is asked once for all of them.
+/// window, and the tree of rows is searched once for all of them.
 #[derive(Drop)]
 pub struct Window {
     pub rect: Rect,
@@ -80,8 +80,8 @@ impl Window {
         })
     }
 
-    /// Lays the window over the boxes of the next cells. What it held is lost, where memory is
-    /// refused.
+    /// Lays the window over the boxes of the next cells. If an allocation fails, what it held is
+    /// lost.
     pub(crate) fn lay_over(
         &mut self,
         index: &FrameIndex,

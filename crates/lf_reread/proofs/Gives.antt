@@ -1,4 +1,4 @@
--- What a reader gives, where the tokens are spelled as a text has them: values of which something is true, and such tokens behind.
+-- What a reader gives if the tokens are spelled as a text has them: values with some property, and such tokens after them.
 use Rattle.std.proofs.Common.{◌≡◌, ℕ, zero, suc, Bool, true, false, cond, List, [], ◌∷◌, ◌++◌, length, Result, Ok, Err, refl, subst}
 use Rattle.std.specs.Prelude.{All}
 use Rattle.std.proofs.lemmas.List.Elements.{All-head, All-tail}

@@ -18,17 +18,18 @@ abbrev pub LoadedCanBeGiven : Type 0
 LoadedCanBeGiven = (i : Inputs) (l : Loaded) (places : List (ℕ × Option Place)) → IsLoadedFrom i l → AreForCells l places
     → CanBeGiven i.document.components places
 
--- the inputs, with this document in the place of theirs
+-- the inputs, with this document in place of theirs
 abbrev pub with_document : Inputs → Document → Inputs
 with_document i d = record i { document = d }
 
--- the design has the other's frame and its cells, and these stand at the places
+-- the design has the other's frame and its cells, which are at the places
 pub record IsAtPlaces (l m : Loaded) (places : List (Option Place)) : Type 0 where
   pub frame : m.frame ≡ l.frame
   pub cells : map unplaced m.cells ≡ map unplaced l.cells
   pub at_places : map (λ c. c.place) m.cells ≡ places
 
--- the text reads; what it says is accepted with the same library and limits, and each design that is loaded from that is the other at the places
+-- the text reads; what it says is accepted with the same library and limits, and each design loaded from it is the other one
+-- at the places
 pub record LoadsAtPlaces (i : Inputs) (l : Loaded) (places : List (Option Place)) (text : List ℕ) : Type 0 where
   pub again : Document
   pub read : document_of text ≡ Ok again

@@ -1,4 +1,4 @@
--- The cells of a team of a loaded design, wherever they stand now, and that the team's text reads back.
+-- The cells of a team of a loaded design, wherever they stand, and that the team's text reads back.
 use Rattle.std.specs.Prelude.{◌≡◌, ◌≢◌, ℕ, ◌≤◌, List, All, Contains, IfSome, IsSome, Ok, codes, length, map, slice_get}
 use Rattle.lf_def.specs.Document.{document_of}
 use Rattle.lf_def.specs.PrintedTexts.{SaysPlacesApart}
@@ -21,7 +21,7 @@ pub record IsCellOfTeam (l : Loaded) (number : ℕ) (c : Cell) : Type 0 where
   pub mac : c.mac ≡ loaded.mac
   pub place : IfSome c.working (λ p. IsLocation (as_location p))
 
--- cells of the team of that number; where it has a fence none is named `+`, which no pattern of a group can be
+-- cells of the team of that number; if it has a fence none is named `+`, which no pattern of a group can be
 pub record AreTeamCells (l : Loaded) (number : ℕ) (cells : List Cell) : Type 0 where
   pub few : length cells ≤ 4000000
   pub own : All (IsCellOfTeam l number) cells

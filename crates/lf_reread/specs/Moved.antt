@@ -14,13 +14,13 @@ use Rattle.lf_frame.specs.Alike.{settled}
 abbrev pub settled_document : Document → Document
 settled_document d = record d { components = map settled d.components }
 
--- they differ in the placement of movable components alone, which stay movable, and in where components stand in the text
+-- they differ only in the placement of movable components, which stay movable, and in the positions of components in the text
 pub record DifferInPlaces (i j : Inputs) : Type 0 where
   pub library : i.library ≡ j.library
   pub document : settled_document i.document ≡ settled_document j.document
   pub limits : i.limits ≡ j.limits
 
--- where the movable components of a document stand, in their order; an unplaced one stands nowhere
+-- the locations of the movable components of a document, in their order; None for an unplaced one
 abbrev pub movable_locations : Document → List (Option Location)
 movable_locations d = map (λ e. location e.1) (movables d.components)
 
@@ -28,24 +28,24 @@ movable_locations d = map (λ e. location e.1) (movables d.components)
 abbrev pub unplaced : Cell → Cell
 unplaced c = record c { place = None }
 
--- the frame is the same, and the cells differ from the others in their places alone, which are these
+-- the frame is the same, and the cells differ from the others only in their places, which are these
 pub record IsElsewhere (l m : Loaded) (places : List (Option Location)) : Type 0 where
   pub frame : m.frame ≡ l.frame
   pub cells : map unplaced m.cells ≡ map unplaced l.cells
   pub at_places : map (λ c. option_map as_location c.place) m.cells ≡ places
 
--- Documents that differ in byte positions alone differ in nothing that teams cannot change.
+-- Documents that differ only in byte positions agree in what teams cannot change.
 abbrev pub PositionsAreNotSettled : Type 0
 PositionsAreNotSettled = (a b : Document) → document_without_places a ≡ document_without_places b → settled_document a ≡ settled_document b
 
--- Of inputs that differ in places alone, where one is accepted the other is.
+-- Of inputs that differ only in places, if one is accepted so is the other.
 abbrev pub AcceptedElsewhere : Type 0
 AcceptedElsewhere = (i j : Inputs) → DifferInPlaces i j → IsAccepted i → IsAccepted j
 
--- Of inputs that differ in places alone, the frame of one is the frame of the other.
+-- Of inputs that differ only in places, the frame of one is the frame of the other.
 abbrev pub FrameStays : Type 0
 FrameStays = (i j : Inputs) → DifferInPlaces i j → (f : Frame) → IsFrameOf i f → IsFrameOf j f
 
--- Of inputs that differ in places alone, the designs have one frame, and cells that differ in their places alone; these are the document's.
+-- Of inputs that differ only in places, the designs have one frame, and cells that differ only in their places, the document's.
 abbrev pub LoadedElsewhere : Type 0
 LoadedElsewhere = (i j : Inputs) → DifferInPlaces i j → (l m : Loaded) → IsLoadedFrom i l → IsLoadedFrom j m → IsElsewhere l m (movable_locations j.document)

@@ -40,7 +40,7 @@ pub record IsSpelledCell (f : Frame) (c : Cell) : Type 0 where
   pub mac : IsSpelledName (macro_of f c.mac).name
   pub place : IfSome c.working (λ p. IsLocation (as_location p))
 
--- a team's cells whose group a text can bind to the region of that name: a pattern is no plus, and a region to which a group is bound is no parenthesis
+-- a team's cells whose group a text can bind to the region of that name: no pattern is a plus, and the region is no parenthesis
 pub record CanBeBound (name : List ℕ) (cells : List Cell) : Type 0 where
   pub patterns : All (λ c. c.name ≢ codes "+") cells
   pub region : All (λ c. name ≢ codes "(") cells

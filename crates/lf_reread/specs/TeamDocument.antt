@@ -17,7 +17,7 @@ use Rattle.lf_frame.specs.Loads.{as_location}
 use Rattle.lf_texts.specs.TeamText.{team_text}
 use Rattle.lf_reread.specs.Spelled.{IsSpelledTeam}
 
--- a placement clause for a place, or for none; where it stands in a text is left out
+-- a placement clause for a place, or for none; its position in a text is left out
 abbrev pub placement_of : Option Place → Placement
 placement_of None = record { kind = Unplaced; place = None; start = 0; stop = 0 }
 placement_of (Some p) = record { kind = Placed; place = Some (as_location p); start = 0; stop = 0 }
@@ -62,7 +62,7 @@ team_document f number cells = record {
   blockages = [];
 }
 
--- The text of a team says this, but for where its components stand.
+-- The text of a team says this, except for the positions of its components.
 abbrev pub TeamTextReadsBack : Type 0
 TeamTextReadsBack = (f : Frame) (number : ℕ) (cells : List Cell) → IsSpelledTeam f number cells
     → SaysPlacesApart (team_text f number cells) (team_document f number cells)

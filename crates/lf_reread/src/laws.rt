@@ -1,4 +1,4 @@
-//! What is true of written texts.
+//! Laws on written texts.
 
 ghost use Rattle.lf_reread.specs.Exports.{ExportsLoadAgain, LoadedCanBeGiven};
 ghost use Rattle.lf_reread.specs.LoadedTeams.{LoadedTeamsReadBack, OwnCellsAreTeamCells};
@@ -10,14 +10,14 @@ ghost use Rattle.lf_reread.specs.TeamDocument.{TeamTextReadsBack};
 /// team's cells to it by their names, and the cells at their working places, in loading order. It has no rows
 /// and no blockages.
 ///
-/// A group's pattern cannot be `+`, so where the team has a fence, none of its cells may bear that name.
+/// A group's pattern cannot be `+`, so if the team has a fence, none of its cells may have that name.
 pub fn team_text_reads_back()
     ensures { TeamTextReadsBack }
 {}
 
 /// A design may be loaded again with its movable components elsewhere: a document that differs from an accepted
-/// one in their placements alone, and in where components stand in the text, is accepted; the design has the same
-/// frame, and cells that differ in their places alone, which are those of the document.
+/// one only in their placements, and in the positions of components in the text, is accepted; the design has the
+/// same frame, and cells that differ only in their places, which are those of the document.
 pub fn moved_designs_load_alike()
     ensures positions { PositionsAreNotSettled }
     ensures accepted { AcceptedElsewhere }
@@ -32,7 +32,7 @@ pub fn read_documents_are_spelled()
 {}
 
 /// Of a design that is loaded from a text that was read, the DEF text of a team with its cells, wherever they
-/// stand now, reads back.
+/// stand, reads back.
 ///
 /// In a team with a fence no cell may be named `+`, which no pattern of a group can be. Cells with the names and
 /// the macros of the team's cells as they were loaded are cells of the team.
@@ -49,7 +49,7 @@ pub fn loaded_cells_can_be_given()
 
 /// An export of a loaded design, in which each cell is given a place, loads again: the exported text reads, what
 /// it says is accepted with the same library and limits, and the design that is loaded from it has the same frame
-/// and the same cells at the given places. The places have to be some that a DEF text can hold.
+/// and the same cells at the given places. A DEF text must be able to hold the places.
 pub fn exported_designs_load_alike()
     ensures { ExportsLoadAgain }
 {}

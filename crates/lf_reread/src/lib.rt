@@ -1,4 +1,4 @@
-//! What written texts say when they are read again, and what a design is that is loaded from them.
+//! What written texts say when they are read again, and the designs that are loaded from them.
 #![tactic(auto)]
 
 mod laws;

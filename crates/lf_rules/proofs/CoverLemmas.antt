@@ -1,4 +1,4 @@
--- Rectangles cover a box where they cover its points at its low edges and at their own high edges.
+-- Rectangles cover a box if they cover its points at its low edges and at their own high edges.
 use Rattle.std.proofs.Common.{◌≡◌, ℕ, zero, suc, ℤ, pos, negsuc, ◌+ℤ◌, ◌-ℤ◌, ◌<◌, ◌≤ℤ◌, List, length, get_or, refl, arith}
 use Rattle.std.proofs.lemmas.Int.{ints, by_lt_z}
 use Rattle.lf_units.specs.declared.area.Rect.{Rect}

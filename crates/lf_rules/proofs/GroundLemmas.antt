@@ -1,4 +1,4 @@
--- A box is in open ground exactly where it shares no point with a fence's rectangle, and only the ground team has open ground.
+-- A box is in open ground if and only if it shares no point with a fence's rectangle, and only the ground team has open ground.
 use Rattle.std.proofs.Common.{◌≡◌, ℕ, ℤ, ◌<ℤ◌, List, length, None, get_or, slice_get, arith}
 use Rattle.std.proofs.lemmas.Int.{ints}
 use Rattle.std.specs.Prelude.{All}

@@ -178,7 +178,7 @@ obstacle_broken t f g not_so = record {
   other = λ e. cc;
 }
 
--- where a cell is met, not all are clear
+-- if a cell is met, not all are clear
 met_is_met : (t : Trial) (own : ℕ) → IsFirstMet (box_of t) t.others own → Holds t Overlap → ⊥
 met_is_met t own met clear =
     let within : met.place < length t.others = slice_get_within t.others met.place met.cell met.there in

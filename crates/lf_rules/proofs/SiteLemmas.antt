@@ -1,4 +1,4 @@
--- Every legal place stands on a site of a heeded row, in one of four orientations.
+-- Every legal place is on a site of a row of the frame, in one of four orientations.
 use Rattle.std.proofs.Common.{◌≡◌, ◌⊎◌, ℕ, ℤ, pos, negsuc, ◌+◌, ◌*◌, ◌<◌, ◌+ℤ◌, ◌-ℤ◌, ◌*ℤ◌, ◌≤ℤ◌, ◌<ℤ◌, List, length, Option, Some, None, inl, inr, refl, sym, ◌∙◌, ap, subst, arith, IsTrue, get_or, slice_get}
 use Rattle.std.proofs.lemmas.Int.{ints}
 use Rattle.std.proofs.lemmas.Option.{slice_get_read, get_or_from_slice_get}
@@ -121,7 +121,7 @@ site_within (pos n) x left width site sites positive wide on_grid ends =
     lt_of_mul-lt-mul_right n less
 site_within (negsuc n) x left width site sites positive wide on_grid ends = absurd (omega (arith, ints))
 
--- a legal place stands on a site of a heeded row
+-- a legal place is on a site of a row of the frame
 pub stands : (cell : Lifted) (p : Spot) → IsSized cell.frame cell.mac → IsLegalAt cell p → IsOnRows cell.frame.pitch cell.frame.rows (length cell.frame.rows) p
 stands cell p sized legal =
     let held : Holds (trial_at cell p) RowRule = legal RowRule in

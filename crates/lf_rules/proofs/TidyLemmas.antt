@@ -41,7 +41,7 @@ Clear f cells own box = (k : ℕ) (m : Member) (p : Spot) → (k ≡ own → ⊥
 pub clear_of_legal : (f : Frame) (team : ℕ) (cells : List Member) (own mac : ℕ) (p : Spot) → IsLegalAt (lifted_from f team cells own mac) p → Clear f cells own (box_in f mac p)
 clear_of_legal f team cells own mac p legal = beside_each (λ rect. SharesPoint (box_in f mac p) rect → ⊥) f cells own (legal Overlap)
 
--- a place that was legal among other cells is so among these where it meets none
+-- a place that was legal among other cells is so among these if it meets none
 legal_of_clear : (f : Frame) (team : ℕ) (old new : List Member) (own mac : ℕ) (p : Spot) → IsLegalAt (lifted_from f team old own mac) p →
     Clear f new own (box_in f mac p) → IsLegalAt (lifted_from f team new own mac) p
 legal_of_clear f team old new own mac p legal clear =
@@ -72,7 +72,7 @@ order_of k n = elim cases [ inl less ↦ inr (λ e. omega arith) | inr rest ↦ 
     cases : (k < n) ⊎ ((k ≡ n) ⊎ (n < k))
     cases = grind arith
 
--- a box that was clear stays clear where a cell comes that does not meet it
+-- a box that was clear stays clear if a cell comes that does not meet it
 old_clear : (f : Frame) (cells : List Member) (own n mac : ℕ) (p : Spot) (box : Rect) → Clear f cells own box → (SharesPoint box (box_in f mac p) → ⊥) →
     Clear f (slice_set cells n (placed_at mac p)) own box
 old_clear f cells own n mac p box clear apart k m q differ there is meets = elim (order_of k n) [

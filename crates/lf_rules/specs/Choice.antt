@@ -26,7 +26,7 @@ pub record Spot : Type 0 where
 abbrev pub spot_of : Place → Spot
 spot_of p = record { x = p.x; y = p.y; orient = p.orient }
 
--- a cell that is taken away from its place: its team and its macro, and the team's other placed cells
+-- a cell taken from its place: its team and its macro, and the team's other placed cells
 pub record Lifted : Type 0 where
   pub frame : Frame
   pub team : ℕ
@@ -55,7 +55,7 @@ rank FN = 2
 rank FS = 3
 rank _ = 4
 
--- how far the place is from the target, along x and y together
+-- the distance of the place from the target along x plus that along y
 abbrev pub distance : Point → Spot → ℕ
 distance target p = unsigned_abs (p.x -ℤ target.x) + unsigned_abs (p.y -ℤ target.y)
 
@@ -73,7 +73,7 @@ pub record SameKey (target : Point) (p q : Spot) : Type 0 where
   pub x_is : p.x ≡ q.x
   pub rank_is : rank p.orient ≡ rank q.orient
 
--- the orientation is N, S, FN or FS, as that of each legal place
+-- the orientation is N, S, FN or FS; that of each legal place is
 abbrev pub IsUpright : Orient → Type 0
 IsUpright o = IsSome (rail_below o)
 
@@ -81,8 +81,8 @@ IsUpright o = IsSome (rail_below o)
 abbrev pub KeysDiffer : Type 0
 KeysDiffer = (target : Point) (p q : Spot) → IsUpright p.orient → IsUpright q.orient → SameKey target p q → p ≡ q
 
--- the keys order the upright places: none precedes itself, what precedes goes on, and of two places
--- one precedes the other
+-- the keys order the upright places: none precedes itself, the order is transitive, and of two different
+-- places one precedes the other
 pub record KeyOrders : Type 0 where
   pub not_itself : (target : Point) (p : Spot) → Precedes target p p → ⊥
   pub through : (target : Point) (p q r : Spot) → Precedes target p q → Precedes target q r → Precedes target p r
@@ -97,7 +97,7 @@ pub record IsBest (c : Lifted) (target : Point) (best : Spot) : Type 0 where
   pub legal : IsLegalAt c best
   pub least : (p : Spot) → IsLegalAt c p → (p ≡ best) ⊎ Precedes target best p
 
--- what a search for the best place finds: that place, and nothing only where no place is team-legal
+-- what a search for the best place finds: that place, or nothing only if no place is team-legal
 abbrev pub IsChoice : Lifted → Point → Option Spot → Type 0
 IsChoice c target found = MatchOption found ((p : Spot) → IsLegalAt c p → ⊥) (λ best. IsBest c target best)
 
@@ -117,7 +117,7 @@ abbrev pub first_origin : List Row → Point
 first_origin [] = record { x = pos 0; y = pos 0 }
 first_origin (r ∷ _) = record { x = r.x; y = r.y }
 
--- the target of a team's unplaced cells: the lower left corner of its first rectangle, and for the
--- ground team the origin of the first heeded row
+-- the target of a team's unplaced cells: the lower left corner of its fence's first rectangle, and for the
+-- ground team the origin of the frame's first row
 abbrev pub anchor : Frame → ℕ → Point
 anchor f team = option_map_or (λ fence. first_corner fence.rects) (slice_get f.teams team) (first_origin f.rows)

@@ -11,7 +11,7 @@ use Rattle.lf_rules.specs.Legality.{Trial, Holds, number_of}
 use Rattle.lf_rules.specs.Choice.{Spot, spot_of}
 use Rattle.lf_rules.specs.Team.{Member, box_in, StandsLegal}
 
--- a movable cell of a design: its team, the number of its macro, and its place where it has one
+-- a movable cell of a design: its team, the number of its macro, and its place if it has one
 pub record Standing : Type 0 where
   pub team : ℕ
   pub mac : ℕ
@@ -25,11 +25,11 @@ alone_at f c p = record { frame = f; team = c.team; mac = macro_of f c.mac; x = 
 abbrev pub KeepsRules : Frame → Standing → Spot → Type 0
 KeepsRules f c p = (r : Rule) → number_of r ≤ 7 → Holds (alone_at f c p) r
 
--- where both cells are placed, their boxes share no point
+-- if both cells are placed, their boxes share no point
 abbrev pub StandApart : Frame → Standing → Standing → Type 0
 StandApart f a b = ForSome a.place (λ p. ForSome b.place (λ q. SharesPoint (box_in f a.mac p) (box_in f b.mac q) → ⊥))
 
--- every movable cell is placed, rules 1 to 7 hold for each, and no two of any teams share a point
+-- every movable cell is placed, rules 1 to 7 hold for each, and the boxes of no two share a point
 pub record IsFullyLegal (f : Frame) (cells : List Standing) : Type 0 where
   pub placed : All (λ c. IsSome c.place) cells
   pub kept : All (λ c. ForSome c.place (λ p. KeepsRules f c p)) cells
@@ -55,8 +55,8 @@ abbrev pub standing_from : ℕ → List (List Member) → List Standing
 standing_from team [] = []
 standing_from team (cells ∷ teams) = with_team team cells (standing_from (team + 1) teams)
 
--- a design in which each team's cells are placed and team-legal is fully legal: what the teams have
--- tested apart from each other holds of all together
+-- a design in which each team's cells are placed and team-legal is fully legal: what each team tests on
+-- its own holds for all together
 abbrev pub TeamsMakeLegal : Type 0
 TeamsMakeLegal =
     (f : Frame) (teams : List (List Member)) →

@@ -35,14 +35,14 @@ trial_of f team m p others = record { frame = f; team = team; mac = m; x = p.x; 
 abbrev pub box_of : Trial → Rect
 box_of t = box_at (turned (size_of t.frame t.mac) t.orient) t.x t.y
 
--- the orientation fits the macro, and where the height is odd also the bottom row (LEF SYMMETRY of MACRO and SITE)
+-- the orientation fits the macro and, if the height is odd, also the bottom row (LEF SYMMETRY of MACRO and SITE)
 abbrev pub IsOriented : Trial → Type 0
 IsOriented t =
     IsTrue (is_allowed t.mac.symmetry t.orient)
     × ((k : ℕ) (r : Row) → IsSitesHigh t.frame (box_of t) k → IsBottomRow t.frame (box_of t) r →
     k % 2 ≡ 1 → EqualUnder t.frame.site.symmetry t.orient r.orient)
 
--- where the height is even the macro's bottom rail is the bottom row's
+-- if the height is even, the macro's bottom rail is the bottom row's
 abbrev pub IsOnRail : Trial → Type 0
 IsOnRail t =
     (k : ℕ) (r : Row) → IsSitesHigh t.frame (box_of t) k → IsBottomRow t.frame (box_of t) r →
@@ -52,9 +52,9 @@ IsOnRail t =
 abbrev pub IsApart : Trial → Type 0
 IsApart t = All (λ other. SharesPoint (box_of t) other.rect → ⊥) t.others
 
--- The rule holds. What speaks of the height and the bottom row speaks of every one there is, and a box
--- has one of each at most. So where rule 1 or 2 fails, rules 3 and 5 say nothing, and rule 4 asks for
--- an orientation of the macro alone; the first broken rule is the lesser one in any case.
+-- The rule holds. A rule on the height or the bottom row speaks of every one there is, and a box has one
+-- of each at most. So if rule 1 or 2 fails, rules 3 and 5 hold trivially, and rule 4 only asks for an
+-- orientation of the macro; the first broken rule is the lesser one in any case.
 abbrev pub Holds : Trial → Rule → Type 0
 Holds t Height = HasHeight t.frame (box_of t)
 Holds t RowRule = HasBottomRow t.frame (box_of t)
@@ -80,7 +80,7 @@ number_of Fence = 6
 number_of Obstacle = 7
 number_of Overlap = 8
 
--- the first of the placed cells whose box shares a point with this one bears this number
+-- the first of the placed cells whose box shares a point with this one has this number
 pub record IsFirstMet (box : Rect) (others : List Placed) (own : ℕ) : Type 0 where
   pub place : ℕ
   pub cell : Placed

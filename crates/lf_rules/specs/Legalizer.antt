@@ -6,12 +6,12 @@ use Rattle.lf_rules.specs.declared.rule.Broken.{Broken}
 use Rattle.lf_rules.specs.Legality.{Trial, IsTeamLegal, IsFirstBroken}
 use Rattle.lf_rules.specs.Choice.{Spot, Lifted, IsChoice}
 
--- the answer for a trial: the first broken rule, and none exactly where the place is team-legal
+-- the answer for a trial: the first broken rule, and none if and only if the place is team-legal
 abbrev pub IsVerdict : Trial → Option Broken → Type 0
 IsVerdict t verdict = MatchOption verdict (IsTeamLegal t) (λ b. IsFirstBroken t b)
 
--- a legalizer finds the first broken rule of each trial, and the best place of each cell, where the
--- macro is whole in database units; by the laws of this crate there is one, and each answer is one only
+-- a legalizer gives the first broken rule of each trial and the best place of each cell, if the macro
+-- is whole in database units; by the laws of this crate there is one, and each answer is unique
 pub record Legalizer : Type 0 where
   pub first_broken : Trial → Option Broken
   pub best_place : Lifted → Point → Option Spot

@@ -1,16 +1,16 @@
--- What a report tells of a design: that nothing is told against its cells, and by which names cells are told.
+-- What a report says of a design: when it finds no fault in the cells, and the names that it gives cells.
 use Rattle.std.specs.Prelude.{◌≡◌, []}
 use Rattle.std.specs.Option.{ForSome}
 use Rattle.lf_floorplan.specs.Bounds.{IsName}
 use Rattle.lf_rules.specs.declared.report.Violation.{Violation}
 use Rattle.lf_rules.specs.declared.report.Report.{Report}
 
--- the names that the violation tells are names of a text
+-- the names in the violation are names of a text
 pub record IsTold (v : Violation) : Type 0 where
   pub cell_printed : IsName v.cell
   pub other_printed : ForSome v.other IsName
 
--- nothing is told against the cells: none is unplaced, and none breaks a rule
+-- the report finds no fault in the cells: none is unplaced, and none breaks a rule
 pub record IsClean (r : Report) : Type 0 where
   pub all_placed : r.unplaced ≡ 0
   pub none_broken : r.violations ≡ []

@@ -7,7 +7,7 @@ use Rattle.lf_floorplan.specs.Sizes.{turned, box_at}
 use Rattle.lf_rtree.specs.declared.placed.Placed.{Placed}
 use Rattle.lf_rules.specs.Choice.{Spot, Lifted, IsLegalAt}
 
--- a cell of a team: the number of its macro, and its place where it has one
+-- a cell of a team: the number of its macro, and its place if it has one
 pub record Member : Type 0 where
   pub mac : ℕ
   pub place : Option Spot
@@ -16,7 +16,7 @@ pub record Member : Type 0 where
 abbrev pub box_in : Frame → ℕ → Spot → Rect
 box_in f mac p = box_at (turned (size_of f (macro_of f mac)) p.orient) p.x p.y
 
--- a cell's box, bearing its number, in front of the others; an unplaced cell has none
+-- a cell's box with its number, in front of the others; an unplaced cell has none
 abbrev pub with_box : Frame → ℕ → ℕ → Option Spot → List Placed → List Placed
 with_box f own mac None rest = rest
 with_box f own mac (Some p) rest = record { own = own; rect = box_in f mac p } ∷ rest
@@ -30,7 +30,7 @@ boxes_from f own (m ∷ cells) = with_box f own m.mac m.place (boxes_from f (own
 abbrev pub boxes_beside : Frame → List Member → ℕ → List Placed
 boxes_beside f cells own = filter (λ box. not (box.own == own)) (boxes_from f 0 cells)
 
--- the cell of this number and macro, taken away from its place among the team's cells
+-- the cell of this number and macro, taken from its place among the team's cells
 abbrev pub lifted_from : Frame → ℕ → List Member → ℕ → ℕ → Lifted
 lifted_from f team cells own mac = record { frame = f; team = team; mac = macro_of f mac; others = boxes_beside f cells own }
 

@@ -8,8 +8,8 @@ use Rattle.lf_rules.specs.Choice.{Spot, Lifted, trial_at, anchor}
 use Rattle.lf_rules.specs.Legalizer.{Legalizer}
 use Rattle.lf_rules.specs.Team.{Member, lifted_from, StandsLegal}
 
--- how far tidying has come: the cells, and how many of them went to their best place; or the number of
--- a cell that has none
+-- the state of tidying: the cells, and how many of them went to their best place; or the number of a cell
+-- that has none
 pub data Tidied : Type 0 where
   Going : List Member → ℕ → Tidied
   Stuck : ℕ → Tidied
@@ -17,18 +17,18 @@ pub data Tidied : Type 0 where
 abbrev pub point_of : Spot → Point
 point_of p = record { x = p.x; y = p.y }
 
--- where an unplaced cell is tidied to: its team's anchor; a placed one stays where it breaks no rule,
--- and else is tidied to its own corner
+-- the target to which a cell is tidied: its team's anchor if it is unplaced, its own corner if it breaks
+-- a rule; None if it stays
 abbrev pub target_of : Legalizer → Lifted → Option Spot → Option Point
 target_of l c None = Some (anchor c.frame c.team)
 target_of l c (Some p) = option_map (λ broken. point_of p) (l.first_broken (trial_at c p))
 
--- the cell goes to its best place, where it has one
+-- the cell goes to its best place; stuck if it has none
 abbrev pub sent_to : Option Spot → List Member → ℕ → ℕ → ℕ → Tidied
 sent_to None cells moved own mac = Stuck own
 sent_to (Some p) cells moved own mac = Going (slice_set cells own record { mac = mac; place = Some p }) (moved + 1)
 
--- the cell stays without a target, and else goes to its best place for it
+-- the cell stays if it has no target, else it goes to its best place for it
 abbrev pub tidied_to : Option Point → Legalizer → Lifted → List Member → ℕ → ℕ → ℕ → Tidied
 tidied_to None l c cells moved own mac = Going cells moved
 tidied_to (Some target) l c cells moved own mac = sent_to (l.best_place c target) cells moved own mac
@@ -43,7 +43,7 @@ abbrev pub tidy_cell : Legalizer → Frame → ℕ → Tidied → ℕ → Tidied
 tidy_cell l f team (Stuck stuck) own = Stuck stuck
 tidy_cell l f team (Going cells moved) own = tidied_own (slice_get cells own) l f team cells moved own
 
--- so many cells are tidied one after the other, from the number `own` on
+-- this many cells are tidied one after the other, from the number `own` on
 abbrev pub tidied_from : Legalizer → Frame → ℕ → ℕ → ℕ → Tidied → Tidied
 tidied_from l f team own zero t = t
 tidied_from l f team own (suc count) t = tidied_from l f team (own + 1) count (tidy_cell l f team t own)
@@ -59,7 +59,7 @@ TidiedIsLegal =
     All (λ m. IsSized f (macro_of f m.mac)) cells →
     tidied l f team cells ≡ Going new moved → (own : ℕ) → StandsLegal f team new own
 
--- tidying moves cells alone: their number, order and macros stay
+-- tidying only moves cells: their number, order and macros stay
 abbrev pub TidiedKeepsCells : Type 0
 TidiedKeepsCells =
     (l : Legalizer) (f : Frame) (team : ℕ) (cells new : List Member) (moved : ℕ) →

@@ -34,7 +34,7 @@ fn is_in_ground(frame: &Frame, team: usize, rect: &Rect) -> bool
     }
 }
 
-/// Whether a cell of the macro may stand so on this bottom row.
+/// Whether a cell of the macro may have this orientation on this bottom row.
 pub fn is_oriented(frame: &Frame, mac: &Macro, orient: Orient, height: u32, bottom: &Row) -> bool
     ensures { IsTrue result ↔ (IsTrue (is_allowed mac.now.symmetry orient) × (height % 2 ≡ 1 → EqualUnder frame.now.site.symmetry orient bottom.now.orient)) }
 {
@@ -44,14 +44,14 @@ pub fn is_oriented(frame: &Frame, mac: &Macro, orient: Orient, height: u32, bott
     height % 2 == 0 || equal_under(frame.site.symmetry, orient, bottom.orient)
 }
 
-/// Whether a cell of even height has the bottom row's rail along its lower edge.
+/// Whether the macro's bottom rail is the bottom row's, if the height is even.
 pub fn is_on_rail(mac: &Macro, height: u32, bottom: &Row) -> bool
     ensures { IsTrue result ↔ (height % 2 ≡ 0 → rail_below bottom.now.orient ≡ Some mac.now.rail) }
 {
     height % 2 == 1 || row_rail(bottom.orient) == Some(mac.rail)
 }
 
-/// The rule as the first that is broken, with no other cell.
+/// This rule as the first that is broken, with no other cell.
 fn broken(rule: Rule) -> Option<Broken>
     ensures { result ≡ Some record { rule = rule; other = None } }
 {
@@ -59,10 +59,10 @@ fn broken(rule: Rule) -> Option<Broken>
 }
 
 /// The first rule that a cell of the team breaks at the place, beside the team's other placed cells;
-/// none where the place is team-legal.
+/// none if the place is team-legal.
 ///
 /// `team` is a fence's position in the frame, or the number of fences for the ground team. `others`
-/// are the team's other placed cells in loading order. It takes no memory.
+/// are the team's other placed cells in loading order. It allocates nothing.
 pub fn first_broken(
     frame: &Frame,
     team: usize,

@@ -15,17 +15,17 @@ pub fn verdict_is_there()
     ensures { VerdictIsThere }
 {}
 
-/// A legal place stands upright: N, S, FN or FS.
+/// A legal place is upright: N, S, FN or FS.
 pub fn legal_is_upright()
     ensures { LegalIsUpright }
 {}
 
-/// Two different upright places never have one key for a target.
+/// Two different upright places have different keys for a target.
 pub fn keys_differ()
     ensures { KeysDiffer }
 {}
 
-/// The keys for a target order the upright places, and each two of them.
+/// The keys for a target order the upright places totally.
 pub fn key_is_total()
     ensures { KeyOrders }
 {}
@@ -50,7 +50,7 @@ pub fn tidied_is_legal()
     ensures { TidiedIsLegal }
 {}
 
-/// Tidying moves cells alone: their number, order and macros stay.
+/// Tidying only moves cells: their number, order and macros stay.
 pub fn tidied_keeps_cells()
     ensures { TidiedKeepsCells }
 {}

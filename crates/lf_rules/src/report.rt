@@ -1,19 +1,19 @@
-//! What a report tells: how many cells there are, how many of them are unplaced, and which break a rule where they stand.
+//! What a report says: how many cells there are, how many of them are unplaced, and which break a rule where they stand.
 
 use crate::rule::Rule;
 use lf_floorplan::Place;
 use lf_units::{Name, Sequence};
 
-/// A movable cell of which a report tells. Its name is of the type `N`: a slice in the program, a list of bytes
+/// A movable cell as a report lists it. Its name is of the type `N`: a slice in the program, a list of bytes
 /// in a contract.
 #[derive(Clone, Copy)]
 pub struct Listed<N> {
     pub name: N,
-    /// The number of its team.
+    /// The number of its team: the position of a fence in the frame, or the number of fences for the ground team.
     pub team: usize,
     /// The position of its macro in the frame.
     pub mac: usize,
-    /// Where it stands; none where it is unplaced.
+    /// Its place, in database units; none if it is unplaced.
     pub place: Option<Place>,
 }
 

@@ -23,7 +23,7 @@ fn level(pitch: &Point, rect: &Rect, sites: u32) -> i64
     rect.y1 + i64::from(sites) * pitch.y
 }
 
-/// How many core sites the box is high, where that is from 1 to 8.
+/// How many core sites high the box is, if that is a whole number from 1 to 8.
 pub fn height_in_sites(frame: &Frame, rect: &Rect) -> Option<u32>
     requires { IsSolid rect.now }
     ensures { MatchOption result ((k : ℕ) → IsSitesHigh frame.now rect.now k → ⊥) (λ k. IsSitesHigh frame.now rect.now k) }
@@ -47,7 +47,7 @@ fn is_on_grid(pitch: &Point, rect: &Rect, row: &Row) -> bool
     offset % pitch.x == 0
 }
 
-/// Whether the row lies so many site heights above the box's lower edge, under all of its width.
+/// Whether the row lies this many site heights above the box's lower edge, under all of its width.
 fn is_row_of_box(frame: &Frame, rect: &Rect, sites: u32, row: &Row) -> bool
     requires solid { IsSolid rect.now }
     requires few { sites ≤ 8 }
@@ -92,7 +92,7 @@ pub(crate) fn bottom_row<'a>(frame: &'a Frame, rect: &Rect) -> Option<&'a Row>
     None
 }
 
-/// The rail of a row of this orientation, changed so many times.
+/// The rail of a row of this orientation, changed this many times.
 fn changed_rail(orient: Orient, times: u32) -> Option<Rail>
     ensures { result ≡ option_map (changed times) (rail_below orient) }
 {
@@ -103,7 +103,7 @@ fn changed_rail(orient: Orient, times: u32) -> Option<Rail>
     rail
 }
 
-/// Whether the row carries the box so many site heights above its bottom row.
+/// Whether the row carries the box this many site heights above its bottom row.
 pub fn carries(frame: &Frame, rect: &Rect, bottom: &Row, sites: u32, row: &Row) -> bool
     requires solid { IsSolid rect.now }
     requires few { sites ≤ 8 }
@@ -117,7 +117,7 @@ pub fn carries(frame: &Frame, rect: &Rect, bottom: &Row, sites: u32, row: &Row) 
     row_rail(row.orient) == changed_rail(bottom.orient, sites)
 }
 
-/// Whether a heeded row carries the box so many site heights above its bottom row.
+/// Whether a row of the frame carries the box this many site heights above its bottom row.
 fn is_carried(frame: &Frame, rect: &Rect, bottom: &Row, sites: u32) -> bool
     requires solid { IsSolid rect.now }
     requires few { sites ≤ 8 }
@@ -131,7 +131,7 @@ fn is_carried(frame: &Frame, rect: &Rect, bottom: &Row, sites: u32) -> bool
     false
 }
 
-/// Whether heeded rows carry the box over all of its height.
+/// Whether rows of the frame carry the box over all of its height.
 pub(crate) fn is_standing(frame: &Frame, rect: &Rect, bottom: &Row, height: u32) -> bool
     requires solid { IsSolid rect.now }
     requires few { height ≤ 8 }

@@ -11,9 +11,9 @@ pub enum Rule {
     Row,
     /// Rows of alternating rails carry it over all of its height.
     Stand,
-    /// Its orientation fits the macro, and where its height is odd the bottom row.
+    /// Its orientation fits the macro and, if its height is odd, the bottom row.
     Orient,
-    /// Where its height is even, its bottom rail is the bottom row's.
+    /// If its height is even, its bottom rail is the bottom row's.
     Rail,
     /// It stays in its team's ground.
     Fence,

@@ -78,7 +78,7 @@ acted_is WriteFault limit all whole acted stops = stops
 acted_is ReadFault limit all whole acted stops = absurd stops
 acted_is OutOfMemory limit all whole acted stops = absurd stops
 
--- the lines of the input, where it is known, are those of what was read and of what is left
+-- the lines of the input, if it is known, are those of what was read and of what is left
 abbrev IsInput : Option (List ℕ) → List ℕ → List ℕ → Type 0
 IsInput input read rest = IfSome input (λ bytes. bytes ≡ read ++ rest)
 
@@ -166,7 +166,7 @@ keeps_itself (Some x) = refl
 pub goes_start : (l : Legalizer) (w : Writer) (left : ℕ) (floor : FloorState) (held : Option (List ℕ)) → held ≡ Some [] → Goes l w w left left floor floor (Some []) held [] []
 goes_start l w left floor held fresh = subst (λ (h : Option (List ℕ)). Goes l w w left left floor floor (Some []) h [] []) (sym fresh) (goes_none l w left floor (Some []) [])
 
--- ---- what is told
+-- ---- what is written
 
 pub finishes_none : (l : Legalizer) (a : Option (List ℕ)) (w : Writer) (limit : ℕ) (floor : FloorState) → Finishes l OutOfMemory a a w w limit limit floor floor
 finishes_none l a w limit floor = record {

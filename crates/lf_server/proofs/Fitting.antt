@@ -23,7 +23,7 @@ joined_within [] = omega arith
 joined_within (w ∷ []) = omega arith
 joined_within (w ∷ v ∷ ws) = omega (arith, length-append w (32 ∷ join_with_byte 32 (v ∷ ws)), joined_within (v ∷ ws))
 
--- a line is no longer than its words with one byte for each, and its line feed; nothing stands behind it
+-- a line is no longer than its words with one byte for each, and its line feed; nothing follows it
 pub line_within : (words : List (List ℕ)) → length (line_text words ++ []) ≤ total words + 1
 line_within words =
     omega (arith, length-append (line_text words) [], length-append (join_with_byte 32 words) (10 ∷ []), joined_within words)

@@ -1,4 +1,4 @@
--- A report or a DEF text changes nothing, so that OutOfMemory may be told in its place.
+-- A report or a DEF text changes nothing, so that OutOfMemory may replace it.
 use Rattle.std.proofs.Common.{◌≡◌, ◌∙◌, ℕ, List, [], Option, Some, None, Bool, true, false, refl, sym, ap, subst, inl, inr}
 use Rattle.std.specs.Prelude.{IsOk, MatchBool, Result, Ok, Err, is_err, slice_get, slice_set}
 use Rattle.std.proofs.lemmas.Bool.{false≢true}
@@ -23,7 +23,7 @@ use Rattle.lf_teams.proofs.Cases.{order_by}
 use Rattle.lf_server.specs.Exchanges.{StandsIn, Tells, is_long, team_of, text_of}
 use Rattle.lf_server.specs.Progress.{IsAnswered}
 
--- an outcome that carries a long text leaves the team as it was, and the order takes memory
+-- an outcome that carries a long text leaves the team unchanged, and the order may allocate
 pub record LooksOnly (s : TeamState) (order : Order (List ℕ) Place) (o : Outcome) : Type 0 where
   pub kept : o.team ≡ s
   pub takes : takes_memory order ≡ true
@@ -79,13 +79,13 @@ at_short l old new name order reply is (Some number) named gives =
       may = may_long _ told;
     })
 
--- where a step tells a long text, one that runs short of memory may stand in its place
+-- if a step answers a long text, one that runs short of memory may replace it
 long_short : (l : Legalizer) (old new : FloorState) (command : Command (List ℕ) Place) (reply : Reply) → is_long reply ≡ true → Answers l old command reply new → RunsShort l old command new
 unfolding answer_of
 long_short l old new Bye reply is gives = absurd (false≢true (sym (ap is_long gives.reply_is) ∙ is))
 long_short l old new (To name order) reply is gives = at_short l old new name order reply is (team_number old.frame name) refl gives
 
--- a step that tells its reply, or OutOfMemory in the place of a long text, answers the request
+-- a step whose reply is written, or OutOfMemory in place of a long text, answers the request
 told_on : (l : Legalizer) (old new : FloorState) (command : Command (List ℕ) Place) (reply : Reply) (text : List ℕ) → Step l old command reply new
     → Tells new (team_of command) reply text → IsAnswered l old (Some command) text new
 told_on l old new command reply text step tells = by tells.stands_in
@@ -106,7 +106,7 @@ told_on l old new command reply text step tells = by tells.stands_in
           };
         }
 
--- OutOfMemory is told in the place of a long text
+-- OutOfMemory is written in place of a long text
 pub tells_short : (floor : FloorState) (team : List ℕ) (reply : Reply) (text : List ℕ) → is_long reply ≡ true
     → text ≡ text_of floor team (Refused OutOfMemory) → Tells floor team reply text
 tells_short floor team reply text long is = record { told = Refused OutOfMemory; stands_in = inr (long, refl); text_is = is }

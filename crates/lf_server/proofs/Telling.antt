@@ -1,4 +1,4 @@
--- What a connection tells a team is what its own orders come to.
+-- A connection gives a team the replies to its own orders.
 use Rattle.std.proofs.Common.{◌≡◌, ℕ, List, [], ◌∷◌, ◌++◌, Bool, true, false, ◌&&◌, not, cond, Option, Some, None, refl, ap, sym, ◌∙◌, subst, append-nil}
 use Rattle.std.specs.Prelude.{MatchBool, MatchOption, bytes_eq, option_and_then, unwrap_or}
 use Rattle.std.proofs.lemmas.Slice.Eq.{bytes_eq-Decides}
@@ -87,7 +87,7 @@ text_for_is floor team s there reply =
     ap (λ (n : List ℕ). reply_text reply n (name_in floor team (cells_in reply).1)) (name_for_is floor team s there (cells_in reply).0)
     ∙ ap (λ (n : List ℕ). reply_text reply (name_for s (cells_in reply).0) n) (name_for_is floor team s there (cells_in reply).1)
 
--- the texts that a team's own orders come to
+-- the texts of the replies to a team's own orders
 abbrev pub own_texts : Legalizer → Frame → ℕ → List (Order (List ℕ) Place) → TeamState → List (List ℕ)
 own_texts l f number [] s = []
 own_texts l f number (order ∷ orders) s =
@@ -100,15 +100,15 @@ and_false : (b : Bool) → (b && false) ≡ false
 and_false true = refl
 and_false false = refl
 
--- the orders of a line and of those behind it
+-- the orders of a line and of those after it
 abbrev orders_with : List ℕ → Option (Command (List ℕ) Place) → Reply → List (Command (List ℕ) Place) → List Reply → List (Order (List ℕ) Place)
 orders_with team asked_now reply cs rs = asked team (with_command asked_now cs) (with_reply asked_now reply rs)
 
--- one line, and those behind it, to which the team was told what its own orders come to
+-- one line, and those after it, to which the team got the replies to its own orders
 module _ (l : Legalizer) (frame : Frame) (team : List ℕ) (number : ℕ) (named : team_number frame team ≡ Some number) (old mid : FloorState)
     (same_frame : old.frame ≡ frame) (e : Exchange) (cs : List (Command (List ℕ) Place)) (rs : List Reply) (texts : List (List ℕ))
     (later : (s : TeamState) → state_of mid team ≡ Some s → texts ≡ own_texts l frame number (asked team cs rs) s) where
-  -- the team is told what the line and those behind it come to
+  -- the team gets the replies to the line and those after it
   abbrev Told : Option (Command (List ℕ) Place) → TeamState → Type 0
   Told now s = told_before team now e texts ≡ own_texts l frame number (orders_with team now e.reply cs rs) s
 
@@ -191,7 +191,7 @@ answered_frame : (l : Legalizer) (old mid : FloorState) (now : Option (Command (
 answered_frame l old mid None reply text refuses = ap (λ (f : FloorState). f.frame) refuses.kept
 answered_frame l old mid (Some command) reply text steps = step_frame l old mid command reply (is_short reply) steps.step
 
--- the team is told what its own orders come to, byte for byte
+-- the team gets the replies to its own orders, byte for byte
 pub told_own : (l : Legalizer) (frame : Frame) (team : List ℕ) (number : ℕ) → team_number frame team ≡ Some number
     → (done : List Exchange) (old new : FloorState) → old.frame ≡ frame → Acts l old done new → (s : TeamState) → state_of old team ≡ Some s
     → texts_told team done ≡ own_texts l frame number (asked team (commands done) (replies done)) s

@@ -8,13 +8,13 @@ use Rattle.lf_server.specs.Exchanges.{Exchange}
 use Rattle.lf_server.specs.Endings.{Comes}
 use Rattle.lf_server.specs.declared.serving.Ending.{Ending}
 
--- what no serving changes: the frame, the positions of entries, and that the committed design is fully legal where it was
+-- what no serving changes: the frame, the positions of entries, and that the committed design is fully legal if it was
 pub record Stays (old new : FloorState) : Type 0 where
   pub frame : new.frame ≡ old.frame
   pub components : new.components ≡ old.components
   pub legal : IsCommittedLegal old → IsCommittedLegal new
 
--- a connection was served to its end, whatever end it came to: the floor has answered its lines one by one
+-- a connection was served to its end, whichever it was: the floor has answered its lines one by one
 pub record HasServed (l : Legalizer) (old new : FloorState) : Type 0 where
   pub ending : Ending
   pub before : Writer
@@ -22,7 +22,7 @@ pub record HasServed (l : Legalizer) (old new : FloorState) : Type 0 where
   pub done : List Exchange
   pub comes : Comes ending l old before done new after
 
--- so many connections were served, one after the other
+-- this many connections were served, one after the other
 abbrev pub Connects : Legalizer → ℕ → FloorState → FloorState → Type 0
 Connects l zero old new = new ≡ old
 Connects l (suc more) old new = (mid : FloorState) × Connects l more old mid × HasServed l mid new

@@ -2,7 +2,7 @@
 use Rattle.std.specs.Prelude.{◌≡◌, ℕ, Bool, true, List, take, Option}
 use Rattle.std.specs.Io.KnownBytes.{Appends}
 
--- the bytes where they are known, whether everything written is flushed, and whether a call has failed
+-- the bytes if they are known, whether everything written is flushed, and whether a call has failed
 pub record Writer : Type 0 where
   pub contents : Option (List ℕ)
   pub flushed : Bool
@@ -11,7 +11,7 @@ pub record Writer : Type 0 where
 abbrev pub writer : Option (List ℕ) → Bool → Bool → Writer
 writer contents flushed failed = record { contents = contents; flushed = flushed; failed = failed }
 
--- the text was written whole, behind what stood there, and everything is flushed; no call failed
+-- the text was written whole, after what was there, and everything is flushed; no call failed
 pub record Sends (old new : Writer) (text : List ℕ) : Type 0 where
   pub written : Appends old.contents new.contents text
   pub flushed : new.flushed ≡ true

@@ -43,8 +43,8 @@ pub record StopsShort (limit : ℕ) (all acted : List Line) : Type 0 where
   pub full : length acted ≡ limit
   pub none : NoneIsBye acted
 
--- The lines acted on, of all lines of the input, of which `whole` were read with their line feed: all lines; those up to the first bye;
--- those that were read whole; those up to one whose reply was not written; as many as are allowed; or none.
+-- The lines acted on, of all lines of the input, of which `whole` were read with their line feed: all lines; those up to the
+-- first bye; those that were read whole; those up to one whose reply was not written; as many as are allowed; or none.
 abbrev pub ActedOn : Ending → ℕ → List Line → List Line → List Line → Type 0
 ActedOn Done limit all whole acted = (acted ≡ all) × NoneIsBye acted
 ActedOn Bye limit all whole acted = (e : EndsAt all acted) × (is_bye e.last ≡ true)
@@ -60,7 +60,7 @@ abbrev pub Comes : Ending → Legalizer → FloorState → Writer → List Excha
 Comes WriteFault l old before done new after = BreaksOff l old before done new after
 Comes _ l old before done new after = Exchanges l old before done new after
 
--- the replies that were written and flushed, of so many lines acted on
+-- the replies that were written and flushed, of this many lines acted on
 abbrev pub Answered : Ending → ℕ → ℕ → Type 0
 Answered WriteFault acted answered = acted ≡ answered + 1
 Answered _ acted answered = answered ≡ acted

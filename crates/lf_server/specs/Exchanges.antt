@@ -1,4 +1,4 @@
--- What the lines of a connection ask, and what is answered to each.
+-- The requests of a connection's lines, and the answer to each.
 use Rattle.std.specs.Prelude.{◌≡◌, ◌⊎◌, ℕ, Bool, true, false, List, [], ◌∷◌, ◌++◌, map, Option, Some, None, option_and_then, unwrap_or, MatchOption}
 use Rattle.lf_floorplan.specs.declared.place.Place.{Place}
 use Rattle.lf_rules.specs.Legalizer.{Legalizer}
@@ -15,11 +15,11 @@ use Rattle.lf_teams.specs.Outcomes.{name_at}
 use Rattle.lf_teams.specs.Steps.{Step}
 use Rattle.lf_server.specs.Devices.{Writer, Sends, Breaks}
 
--- a line without its line end, or None where it is over the limit
+-- a line without its line end, or None if it is over the limit
 abbrev pub Line : Type 0
 Line = Option (List ℕ)
 
--- the request of a line; one over the limit asks nothing
+-- the request of a line; one over the limit has none
 abbrev pub asked_on : Line → Option (Command (List ℕ) Place)
 asked_on line = option_and_then command_on line
 
@@ -41,7 +41,7 @@ cells_in (Refused (NoPlace cell)) = (Some cell, None)
 cells_in (Refused (Illegal rule cell other)) = (Some cell, other)
 cells_in _ = (None, None)
 
--- the name of the team's cell of that position, and no byte where there is none
+-- the name of the team's cell of that position, and no byte if there is none
 abbrev pub name_in : FloorState → List ℕ → Option ℕ → List ℕ
 name_in floor team None = []
 name_in floor team (Some own) = unwrap_or (option_and_then (λ s. name_at s.cells own) (state_of floor team)) []
@@ -69,7 +69,7 @@ pub record Exchange : Type 0 where
   pub reply : Reply
   pub text : List ℕ
 
--- what is no request is answered BadRequest, and the floor stays
+-- a line that is no request is answered BadRequest, and the floor is unchanged
 pub record RefusesLine (old : FloorState) (reply : Reply) (text : List ℕ) (new : FloorState) : Type 0 where
   pub reply_is : reply ≡ Refused BadRequest
   pub text_is : text ≡ reply_text reply [] []
@@ -80,14 +80,14 @@ pub record StepsOn (l : Legalizer) (old : FloorState) (command : Command (List �
   pub step : Step l old command reply new
   pub text_is : text ≡ text_of new (team_of command) reply
 
--- what was asked is answered with this reply and text, and the floor goes from old to new
+-- the line's request is answered with this reply and text, and the floor goes from old to new
 abbrev pub AnswersTo : Legalizer → FloorState → Option (Command (List ℕ) Place) → Reply → List ℕ → FloorState → Type 0
 AnswersTo l old asked reply text new = MatchOption asked (RefusesLine old reply text new) (λ command. StepsOn l old command reply text new)
 
 -- ---- many lines
 
--- line after line: each is answered, and its reply's text is written whole and flushed before the next line is acted on; so the floor
--- and the writer go from old to new
+-- line after line: each is answered, and its reply's text is written whole and flushed before the next line is acted on; so the
+-- floor and the writer go from old to new
 abbrev pub Exchanges : Legalizer → FloorState → Writer → List Exchange → FloorState → Writer → Type 0
 Exchanges l old before [] new after = (new ≡ old) × (after ≡ before)
 Exchanges l old before (e ∷ later) new after =
@@ -108,13 +108,13 @@ pub record BreaksOff (l : Legalizer) (old : FloorState) (before : Writer) (done 
 abbrev pub lines : List Exchange → List Line
 lines done = map (λ e. e.line) done
 
--- ---- what is told in the place of a long text
+-- ---- what replaces a long text
 
--- what is told of a reply: the reply, or OutOfMemory in the place of a long text
+-- what is written of a reply: the reply, or OutOfMemory in place of a long text
 abbrev pub StandsIn : Reply → Reply → Type 0
 StandsIn reply told = (told ≡ reply) ⊎ ((is_long reply ≡ true) × (told ≡ Refused OutOfMemory))
 
--- the text of what is told of the reply
+-- the text of what is written of the reply
 pub record Tells (floor : FloorState) (team : List ℕ) (reply : Reply) (text : List ℕ) : Type 0 where
   pub told : Reply
   pub stands_in : StandsIn reply told

@@ -1,4 +1,4 @@
--- What serving does to the teams: the lines are commands, and each team is told what its own orders come to.
+-- What serving does to the teams: the lines are commands, and each team gets the replies to its own orders.
 use Rattle.std.specs.Prelude.{◌≡◌, ℕ, List, [], ◌∷◌, Option, Some, None, ◌&&◌, not, bytes_eq, if◌then◌else◌}
 use Rattle.lf_floorplan.specs.declared.loaded.Loaded.{Loaded}
 use Rattle.lf_floorplan.specs.declared.place.Place.{Place}
@@ -22,7 +22,7 @@ abbrev pub with_command : Option (Command (List ℕ) Place) → List (Command (L
 with_command None later = later
 with_command (Some command) later = command ∷ later
 
--- the commands of the lines, in their order; a line that is no request is none
+-- the commands of the lines, in their order; a line that is no request has none
 abbrev pub commands : List Exchange → List (Command (List ℕ) Place)
 commands [] = []
 commands (e ∷ later) = with_command (asked_on e.line) (commands later)
@@ -42,7 +42,7 @@ ServingRuns =
     (l : Legalizer) (ending : Ending) (old new : FloorState) (before after : Writer) (done : List Exchange)
     → Comes ending l old before done new after → Run l old (commands done) (replies done) new
 
--- ---- what a team is told, byte for byte
+-- ---- what a team gets, byte for byte
 
 -- the text of a reply to the team of that name, other than OutOfMemory, in front of the later ones
 abbrev pub told_before : List ℕ → Option (Command (List ℕ) Place) → Exchange → List (List ℕ) → List (List ℕ)
@@ -55,8 +55,8 @@ abbrev pub texts_told : List ℕ → List Exchange → List (List ℕ)
 texts_told team [] = []
 texts_told team (e ∷ later) = told_before team (asked_on e.line) e (texts_told team later)
 
--- in two servings of floors of one frame, a team that begins in the same state and asks the same is told the same texts, byte for
--- byte, whatever the other teams have and ask; what was answered OutOfMemory counts as not asked
+-- in two servings of floors of one frame, a team that begins in the same state and sends the same commands gets the same texts,
+-- byte for byte, whatever the other teams have and send; commands answered OutOfMemory are left out
 abbrev pub TextsAreOwn : Type 0
 TextsAreOwn =
     (l : Legalizer) (team : List ℕ) (end end' : Ending) (a a' b b' : FloorState) (v v' w w' : Writer) (done others : List Exchange) (s : TeamState)

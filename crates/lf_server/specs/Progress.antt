@@ -22,7 +22,7 @@ Given got bytes line = ((got ≡ IsLine) × (line ≡ Some bytes)) ⊎ ((got ≡
 
 -- ---- one line
 
--- what was asked was answered with this text
+-- the request was answered with this text
 pub record IsAnswered (l : Legalizer) (old : FloorState) (asked : Option (Command (List ℕ) Place)) (text : List ℕ) (new : FloorState) : Type 0 where
   pub reply : Reply
   pub answers : AnswersTo l old asked reply text new
@@ -43,7 +43,7 @@ pub record IsExchanged (l : Legalizer) (stop : Option Ending) (w w' : Writer) (o
 
 -- ---- many
 
--- bytes on hand became these, lines were acted on, and serving goes on
+-- the bytes held became these, lines were acted on, and serving goes on
 pub record Goes (l : Legalizer) (w w' : Writer) (left left' : ℕ) (old new : FloorState) (held held' : Option (List ℕ)) (from to : List ℕ) : Type 0 where
   pub done : List Exchange
   pub exchanged : Exchanges l old w done new w'
@@ -51,7 +51,7 @@ pub record Goes (l : Legalizer) (w w' : Writer) (left left' : ℕ) (old new : Fl
   pub no_bye : NoneIsBye (lines done)
   pub goes_on : (rest : List ℕ) → lines_from held (pieces (from ++ rest)) ≡ lines done ++ lines_from held' (pieces (to ++ rest))
 
--- the lines acted on where serving stops in the midst of the input, or at its end
+-- the lines acted on if serving stops in the middle of the input, or at its end
 abbrev pub StopsAt : Ending → ℕ → List Line → List Line → Type 0
 StopsAt ReadFault limit all acted = ⊥
 StopsAt OutOfMemory limit all acted = ⊥
@@ -73,12 +73,12 @@ pub record Finishes (l : Legalizer) (ending : Ending) (input rest : Option (List
   pub counts : left ≡ length done + left'
   pub acted_on : IfSome input (λ bytes. ActedOn ending left (lines_of bytes) (ended_lines read) (lines done))
 
--- the replies told as answered
+-- the replies counted as answered
 abbrev pub told_answered : Ending → ℕ → ℕ
 told_answered WriteFault lines = lines - 1
 told_answered _ lines = lines
 
--- whether a call of the writer has failed, by how serving ends: it has at a fault of the writer alone
+-- whether a call of the writer has failed, by how serving ends: only at a fault of the writer has one
 abbrev pub SinkAt : Ending → Bool → Bool → Type 0
 SinkAt WriteFault old new = new ≡ true
 SinkAt _ old new = new ≡ old

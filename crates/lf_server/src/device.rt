@@ -10,7 +10,7 @@ pub struct DeviceFault;
 
 /// Where bytes come from.
 pub trait Source {
-    /// The bytes that reads will give from here on, where they are known.
+    /// The bytes that reads will return from here on, if they are known.
     ghost remaining: { Self → Option (List ℕ) };
 
     /// How many reads were made.
@@ -19,10 +19,10 @@ pub trait Source {
     /// Whether a call has failed.
     ghost has_failed: { Self → Bool };
 
-    /// Which reader the source holds, where it holds one by a reference.
+    /// Which reader the source holds, if it holds one by a reference.
     ghost holds: { Self → ℕ } = { λ _. 0 };
 
-    /// Reads into the front of the buffer; 0 bytes are the end of the input.
+    /// Reads into the front of the buffer and returns how many bytes; 0 is the end of the input.
     fn read(&mut self, buffer: &mut [u8]) -> Result<usize, DeviceFault>
         requires countable { reads self.old < 18446744073709551615 }
         ensures bound { ReadsAtMost result buffer.new }
@@ -34,7 +34,7 @@ pub trait Source {
 
 /// Where bytes go.
 pub trait Sink {
-    /// The bytes that the sink holds, where they are known.
+    /// The bytes that the sink holds, if they are known.
     ghost contents: { Self → Option (List ℕ) };
 
     /// Whether everything written is flushed.
@@ -43,7 +43,7 @@ pub trait Sink {
     /// Whether a call has failed.
     ghost has_failed: { Self → Bool };
 
-    /// Which writer the sink holds, where it holds one by a reference.
+    /// Which writer the sink holds, if it holds one by a reference.
     ghost holds: { Self → ℕ } = { λ _. 0 };
 
     /// Takes a front of the bytes, at least one.
@@ -56,7 +56,7 @@ pub trait Sink {
         ensures failed { has_failed self.new ≡ (has_failed self.old || is_err result) }
         ensures held { holds self.new ≡ holds self.old };
 
-    /// Sees to it that everything written has gone out.
+    /// Makes sure that everything written has gone out.
     fn flush(&mut self) -> Result<(), DeviceFault>
         ensures bytes { Keeps (contents self.old) (contents self.new) }
         ensures flushed { OnOk result (is_flushed self.new ≡ true) }

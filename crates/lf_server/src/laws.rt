@@ -8,8 +8,8 @@ pub fn serving_runs()
     ensures { ServingRuns }
 {}
 
-/// A team that begins in the same state and asks the same is told the same texts, byte for byte, whatever the other
-/// teams have and ask, and however the two connections end.
+/// A team that begins in the same state and sends the same commands gets the same texts, byte for byte, whatever the other
+/// teams have and send, and however the two connections end.
 pub fn texts_are_own()
     ensures { TextsAreOwn }
 {}

@@ -17,7 +17,7 @@ use lf_legalize::Seeker;
 use lf_proto::{Command, Refusal, Reply, Request, parse_line, reply_text};
 use std::alloc::AllocError;
 
-/// The request of a line; one over the limit asks nothing.
+/// The request of a line; one over the limit has none.
 pub(crate) fn request_in<'a>(line: Option<&'a [u8]>) -> Option<Request<'a>>
     ensures { option_map command_of result ≡ asked_on (option_map (λ bytes. bytes.now) line.entry) }
 {
@@ -93,7 +93,7 @@ fn refusal_fits(refusal: &Refusal, cell_name: &[u8], other_name: &[u8])
     }
 }
 
-/// The text of a reply that carries no long one fits the buffer.
+/// The text of a reply that is neither a report nor a DEF text fits the buffer.
 fn text_fits(reply: &Reply, cell_name: &[u8], other_name: &[u8])
     requires cell { length cell_name.now ≤ 1024 }
     requires other { length other_name.now ≤ 1024 }
@@ -121,7 +121,7 @@ fn text_fits(reply: &Reply, cell_name: &[u8], other_name: &[u8])
     }
 }
 
-/// Puts the text of a reply to a command of the team into the empty buffer; a text that is no long one fits.
+/// Puts the text of a reply to a command of the team into the empty buffer; it fits unless it is a report or a DEF text.
 fn put_reply<K: Seeker + Drop>(
     floor: &Floor<K>,
     team: &[u8],
@@ -142,7 +142,7 @@ fn put_reply<K: Seeker + Drop>(
     reply_text(reply, cell_name, other_name, text)
 }
 
-/// Puts the text of a reply that is no long one into the empty buffer.
+/// Puts the text of a reply that is neither a report nor a DEF text into the empty buffer.
 fn put_short<K: Seeker + Drop>(floor: &Floor<K>, team: &[u8], reply: &Reply, text: &mut Vec<u8>)
     requires empty { text.old.items ≡ [] }
     requires room { 4096 ≤ vec_capacity text.old }
@@ -155,8 +155,8 @@ fn put_short<K: Seeker + Drop>(floor: &Floor<K>, team: &[u8], reply: &Reply, tex
     }
 }
 
-/// Puts the text of a reply into the empty buffer; a report or a DEF text that finds no memory is answered by that
-/// refusal, for which the buffer has room.
+/// Puts the text of a reply into the empty buffer; a report or a DEF text for which memory runs out is replaced by
+/// `OutOfMemory`, for which the buffer has room.
 fn put_told<K: Seeker + Drop>(floor: &Floor<K>, team: &[u8], reply: &Reply, text: &mut Vec<u8>)
     requires empty { text.old.items ≡ [] }
     requires room { 4096 ≤ vec_capacity text.old }
@@ -178,7 +178,7 @@ fn team_of<'a>(request: &Request<'a>) -> &'a [u8]
     }
 }
 
-/// Answers what a line asks, and puts the reply's text in the place of what stood in the buffer.
+/// Answers a line, and replaces what is in the buffer by the reply's text.
 pub(crate) fn answer<K: Seeker + Drop>(
     floor: &mut Floor<K>,
     request: &Option<Request>,

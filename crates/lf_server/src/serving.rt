@@ -16,23 +16,23 @@ use lf_legalize::Seeker;
 use lf_proto::{Got, LineFramer};
 use std::alloc::Global;
 
-/// The most bytes of a line, and of a reply that is no report.
+/// The most bytes of a line, and of a reply that is neither a report nor a DEF text.
 const LINE: usize = 4096;
 
 /// How serving a connection ended.
 #[derive(Clone, Copy, Debug, PartialEq, Eq)]
 pub enum Ending {
-    /// The input came to its end.
+    /// The input ended.
     Done,
     /// A line said `bye`.
     Bye,
-    /// The reader failed, or the bound on reads was met.
+    /// The reader failed, or the limit on reads was reached.
     ReadFault,
     /// The writer failed, or took no byte.
     WriteFault,
     /// A line followed the last one allowed.
     TooManyLines,
-    /// There was no memory for the buffers, and nothing was read.
+    /// An allocation for the buffers failed, and nothing was read.
     OutOfMemory,
 }
 
@@ -67,7 +67,7 @@ fn write_all<W: Sink>(sink: &mut W, bytes: &[u8]) -> Result<(), DeviceFault>
     sink.flush()
 }
 
-/// The line that the framer gave, or nothing where it wants more; the inner nothing is a line over the limit.
+/// The line that the framer gave, or None if it needs more bytes; the inner None is a line over the limit.
 fn line_given(framer: &LineFramer, got: Got) -> Option<Option<&[u8]>>
     ensures { MatchOption result (got ≡ Got.More) (λ line. Given got framer.now.line (option_map (λ bytes. bytes.now) line)) }
 {
@@ -78,7 +78,7 @@ fn line_given(framer: &LineFramer, got: Got) -> Option<Option<&[u8]>>
     }
 }
 
-/// Answers one line and writes the reply; says how the connection ends, if it does.
+/// Answers one line and writes the reply; returns how the connection ends, if it does.
 fn exchange<K: Seeker + Drop, W: Sink>(
     floor: &mut Floor<K>,
     sink: &mut W,
@@ -195,7 +195,7 @@ fn finish<K: Seeker + Drop, W: Sink>(
     }
 }
 
-/// Reads the input piece by piece and answers its lines, in at most so many reads.
+/// Reads the input piece by piece and answers its lines, in at most this many reads.
 fn serve_lines<K: Seeker + Drop, S: Source, W: Sink>(
     floor: &mut Floor<K>,
     source: &mut S,
@@ -237,7 +237,7 @@ fn serve_lines<K: Seeker + Drop, S: Source, W: Sink>(
     Ending::ReadFault
 }
 
-/// What is told of a connection: where the last reply was not written, it is not counted as answered.
+/// What is returned of a connection: a last reply that was not written is not counted as answered.
 fn told(lines: u64, ending: Ending) -> Served
     ensures lines { result.lines ≡ lines }
     ensures ending { result.ending ≡ ending }

@@ -46,8 +46,8 @@ fn serve_stream<S: Read + Write + OpenStream + Drop, K: Seeker + Drop>(
     serve(alloc, floor, &mut source, &mut sink, limits);
 }
 
-/// Accepts so many connections and serves each to its end before the next: sessions, places and commits of one stand in
-/// the next. How a connection ends plays no part; the first fault of accept ends the service.
+/// Accepts this many connections and serves each to its end before the next: sessions, places and commits of one remain
+/// for the next. How a connection ends plays no part; the first fault of accept ends the service.
 pub fn serve_tcp<T: Net + AllocGlobal, K: Seeker + Drop>(
     rt: &T,
     floor: &mut Floor<K>,

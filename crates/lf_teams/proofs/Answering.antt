@@ -48,7 +48,7 @@ some_answers l old new name order number reply some given =
     let P : Answer → Type 0 = λ a. Gives a reply new in
     subst P (sym (answer_some l old name order number some)) given
 
--- ---- each answer is plain, and one that is short is to an order that takes memory
+-- ---- each answer is plain, and one that is short is to an order that allocates
 
 by_plain : (l : Legalizer) (floor : FloorState) (number : ℕ) (order : Order (List ℕ) Place) (o : Option TeamState)
     → is_short (answer_by o l floor number order).reply ≡ false

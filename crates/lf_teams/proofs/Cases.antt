@@ -1,4 +1,4 @@
--- One case analysis of what an order comes to, for every law about it.
+-- One case analysis of the outcomes of an order, for every law about them.
 use Rattle.std.proofs.Common.{◌≡◌, ℕ, ◌+◌, ◌<◌, List, [], ◌∷◌, Bool, true, false, cond, eqb, ltb, Option, Some, None, map, refl, ap}
 use Rattle.std.specs.Prelude.{position, is_none}
 use Rattle.std.proofs.lemmas.Bool.{eqb-true, ltb-true}
@@ -36,7 +36,7 @@ IsLeft t s = s.revision < t.frame.limits.revisions
 abbrev pub asking : ℕ → Change (List ℕ) Place → Order (List ℕ) Place
 asking session change = Within session (Changing change)
 
--- what holds of each outcome that an order can come to, in a team of that setting and state; of a session that changes it is known
+-- what holds of each outcome of an order, in a team of that setting and state; of a session that changes it is known
 -- that it may
 pub record Leaves (t : Setting) (s : TeamState) (May : ℕ → Type 0) (P : Order (List ℕ) Place → Outcome → Type 0) : Type 1 where
   pub refusal : (verb : Order (List ℕ) Place) (r : Refusal) → is_short (Refused r) ≡ false → P verb (refused r s)
@@ -231,7 +231,7 @@ module _ (t : Setting) (s : TeamState) (May : ℕ → Type 0) (P : Order (List �
   slot_by session action None may = leaves.refusal _ NoSession refl
   slot_by session action (Some seen) may = session_by session seen action (λ same. may (ap (λ (n : ℕ). Some n) same))
 
-  -- what holds of each of these holds of what a verb comes to
+  -- what holds of each of these holds of the outcome of a verb
   pub verb_so : ((session : ℕ) → MayChange t session s → May session) → (order : Order (List ℕ) Place) → P order (outcome_of t order s)
   verb_so may Open = opened_by
   verb_so may (Within session action) = slot_by session action (seen_at s.slots session)

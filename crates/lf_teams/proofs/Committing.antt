@@ -70,7 +70,7 @@ module _ (t : Setting) (s : TeamState) (known : IsTeamOf t.frame s) where
     reverts = λ session left. alike t s _ (back_part committed_member (λ c p. refl) s.cells) before;
   }
 
-  -- legal committed places stay legal, whatever is asked
+  -- legal committed places stay legal after any order
   pub order_keeps : (order : Order (List ℕ) Place) → AreCommittedLegal t.frame t.number s → AreCommittedLegal t.frame t.number (outcome_of t order s).team
   order_keeps order before = order_by t s (λ v o. AreCommittedLegal t.frame t.number o.team) (keeps before) order
 

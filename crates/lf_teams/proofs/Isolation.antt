@@ -54,7 +54,7 @@ and_false : (b : Bool) → (b && false) ≡ false
 and_false true = refl
 and_false false = refl
 
--- a step of a floor of that frame and the run behind it, on which the team of that name and number was served as if alone
+-- a step of a floor of that frame and the run after it, on which the team of that name and number was served as if alone
 module _ (l : Legalizer) (frame : Frame) (team : List ℕ) (number : ℕ) (named : team_number frame team ≡ Some number) (cs : List (Command (List ℕ) Place)) (rs : List Reply) (old mid new : FloorState) (same_frame : old.frame ≡ frame) (later : (s : TeamState) → state_of mid team ≡ Some s → IsOwnRun l frame number team s cs rs new) where
   -- a command that leaves the team alone
   skip : (c : Command (List ℕ) Place) (r : Reply) → told_before team c r (told team cs rs) ≡ told team cs rs

@@ -324,7 +324,7 @@ alike_back cells = record {
   names = back_part (λ c. c.name) (λ c p. refl) cells;
 }
 
--- the entries behind the newest one are whole and few
+-- the entries after the newest one are whole and few
 older : (t : Setting) (s : TeamState) (old : List (Option Place)) (entries : List (List (Option Place))) → s.entries ≡ old ∷ entries → IsTeamOf t.frame s
     → All (λ places. length places ≡ length s.cells) entries × (length entries ≤ t.frame.limits.undo)
 older t s old entries is h =
@@ -354,7 +354,7 @@ stays_one t s h = record {
   reverts = λ session left. recorded_team t s session _ h left (alike_back s.cells);
 }
 
--- a team of the frame stays one, whatever is asked of it
+-- after any order a team of the frame is still one
 pub verb_keeps : (t : Setting) (verb : Order (List ℕ) Place) (s : TeamState) → IsTeamOf t.frame s → IsTeamOf t.frame (outcome_of t verb s).team
 verb_keeps t verb s h = order_by t s (λ v o. IsTeamOf t.frame o.team) (stays_one t s h) verb
 

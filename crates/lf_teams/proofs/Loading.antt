@@ -82,7 +82,7 @@ same_designs design team =
     ∙ ap (λ (ms : List Member). with_team team ms []) (opening_part design team)
     ∙ sym (loaded_part team design.cells)
 
--- a floor begins fully legal exactly where the loaded design is
+-- a floor begins fully legal if and only if the loaded design is
 pub loaded_committed : LoadedIsCommitted
 loaded_committed design = (
   λ legal. same_parts design.frame (committed_design (opening design)) (loaded_design design) (same_designs design) legal,

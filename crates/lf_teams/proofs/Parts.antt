@@ -169,7 +169,7 @@ legal_teams f teams legal team cells there own =
 
 -- ---- a design from its parts
 
--- what holds of each team's cells behind the first holds of those behind it
+-- what holds of each team's cells after the first holds of those after it
 part_tail : (P : Standing → Type 0) (c : Standing) (cs : List Standing) (team : ℕ) → All P (part_of team (c ∷ cs)) → All P (part_of team cs)
 part_tail P c cs team = by (eqb c.team team) where
   by : (b : Bool) → All P (cond b (c ∷ part_of team cs) (part_of team cs)) → All P (part_of team cs)

@@ -83,7 +83,7 @@ comes_from f (x ∷ xs) y (suc k, within, is) =
     let found = comes_from f xs y (k, omega (arith, within), is) in
     (found.0, (suc found.1.0, omega (arith, found.1.1), found.1.2), found.2)
 
--- what passes a test stands among what is kept
+-- what passes a test is among what is kept
 kept_at : {X : Type 0} (p : X → Bool) (xs : List X) (x : X) → Contains xs x → p x ≡ true → (own : ℕ) × (slice_get (filter p xs) own ≡ Some x)
 kept_at p [] x (k, within, is) passes = absurd (omega (arith, within))
 kept_at {X} p (y ∷ ys) x (zero, within, is) passes =

@@ -139,7 +139,7 @@ none_stand l floor k s there none t here own m at =
     let cells : committed_members t ≡ [] = ap committed_members same ∙ ap (λ (cs : List Cell). map committed_member cs) none in
     absurd (none_some (sym (ap (λ (ms : List Member). slice_get ms own) cells) ∙ at))
 
--- where of each team that has a cell a commit was accepted, the committed design is fully legal
+-- if of each team that has a cell a commit was accepted, the committed design is fully legal
 pub commits_legal : (l : Legalizer) (commands : List (Command (List ℕ) Place)) (replies : List Reply) (old new : FloorState) → HasFrameTeams old
     → Run l old commands replies new → CommitsMakeLegal old commands replies new
 commits_legal l commands replies old new known run all =

@@ -13,7 +13,7 @@ use Rattle.lf_proto.specs.declared.reply.Reply.{Reply}
 use Rattle.lf_teams.specs.States.{TeamState}
 use Rattle.lf_teams.specs.Steps.{ruled, answer_by, Gives, StaysShort, floor_of}
 
--- whatever holds of the team before and of its outcome holds of the team afterwards
+-- what holds of the team before and of its outcome holds of the team afterwards
 pub kept_by : (P : TeamState → Type 0) (o : Outcome) (old new : TeamState) (result : Result Reply AllocError) → IfOk result (λ reply. Reaches o reply new)
     → OnErr result (RunsOut o old new) → P old → P o.team → P new
 kept_by P o old new (Ok reply) ok err before after = subst P (sym ok.team_is) after
@@ -47,7 +47,7 @@ stays_short l f components teams number order s new there out =
       may = out.may;
     }
 
--- two things that hold where memory is refused hold together
+-- two facts that hold if an allocation fails hold together
 pub on_err_both : {T E A B C : Type 0} (result : Result T E) → (A → B → C) → OnErr result A → OnErr result B → OnErr result C
 on_err_both (Ok x) both a b = tt
 on_err_both (Err e) both a b = both a b

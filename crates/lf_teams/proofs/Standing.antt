@@ -157,7 +157,7 @@ beside_from f (c ∷ cs) n (suc k) place =
     let at : n + suc k ≡ n + 1 + k = omega arith in
     rw at (kept_beside f (n + 1 + k) n c.mac (option_map spot_of c.working) (boxes_from f (n + 1) (map member_of (moved cs k place))) (boxes_from f (n + 1) (map member_of cs)) (beside_from f cs (n + 1) k place))
 
--- the boxes beside a cell do not ask where it stands
+-- the boxes beside a cell do not depend on where it stands
 pub beside_moved : (f : Frame) (cells : List Cell) (own : ℕ) (place : Option Place)
     → boxes_beside f (map member_of (moved cells own place)) own ≡ boxes_beside f (map member_of cells) own
 beside_moved f cells own place =

@@ -136,7 +136,7 @@ module _ (t : Setting) (cells : List Cell) (sized : All (λ c. IsSizedCell t.fra
       let at : (k : ℕ) (m : Member) → slice_get new k ≡ Some m → IsPlacedAt m = λ k m there. placed_legal new k m (mac_there new k m same there) m.place refl (legal k m there) in
       subst (λ (ms : List Member). StandsLegal t.frame t.number ms own) (sym (restored_members new cells same at)) (legal own)
 
-  -- the place that is found for a cell is its best place, and none is found only where none is team-legal
+  -- the place that is found for a cell is its best place; none is found only if none is team-legal
   pub best_choice : (own : ℕ) (c : Cell) (target : Point) → slice_get cells own ≡ Some c
       → IsChoice (lifted_cell t cells own c) target (option_map spot_of (best_at t cells own target))
   best_choice own c target there =
@@ -179,7 +179,7 @@ none_first i (d ∷ ds) none k c there = go (is_none d.working) refl none (λ re
   go false is e rest zero c there = subst (λ (x : Cell). is_none x.working ≡ false) (some_one there) is
   go false is e rest (suc k) c there = rest e k c there
 
--- where no cell is the first unplaced one, each is placed
+-- if no cell is the first unplaced one, each is placed
 each_placed : (cells : List Cell) → first_unplaced cells ≡ None → (k : ℕ) (c : Cell) → slice_get cells k ≡ Some c → (place : Place) × (c.working ≡ Some place)
 each_placed cells none k c there =
     go c.working refl (none_first 0 cells (sym (position_from-zero (λ (c : Cell). is_none c.working) cells) ∙ none) k c there) where
@@ -203,7 +203,7 @@ no_filtered h a (suc n) none (suc k) within =
 abbrev cell_at : ℕ → Broken → BrokenCell
 cell_at own broken = record { own = own; broken = broken }
 
--- where no cell breaks a rule where it stands, each breaks none
+-- if no cell breaks a rule where it stands, each breaks none
 each_unbroken : (t : Setting) (cells : List Cell) → broken_cells t cells ≡ [] → (k : ℕ) → k < length cells → broken_where t cells k ≡ None
 each_unbroken t cells none k within =
     let at : 0 + k ≡ k = omega arith in

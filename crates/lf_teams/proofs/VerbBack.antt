@@ -37,7 +37,7 @@ slot_is t session change s (Some n) seen left =
     some_one : {a b : ℕ} → Some a ≡ Some b → a ≡ b
     some_one e = cc
 
--- what a change comes to that a session asks which may
+-- the outcome of a change that a session asks for and may make
 pub may_is : (t : Setting) (session : ℕ) (change : Change (List ℕ) Place) (s : TeamState) → MayChange t session s
     → outcome_of_asking t session change s ≡ outcome_of_change t session change s
 may_is t session change s may = slot_is t session change s (seen_at s.slots session) may.seen may.left

@@ -20,7 +20,7 @@ left t n room = more_left t n room.revisions
 newest : (t : Setting) → HasRoom t → (x : List (Option Place)) (xs : List (List (Option Place))) → take t.frame.limits.undo (x ∷ xs) ≡ x ∷ take 63 xs
 newest t room x xs = ap (λ (n : ℕ). take n (x ∷ xs)) room.undo
 
--- where two changes can be undone, the two newest entries are kept
+-- if two changes can be undone, the two newest entries are kept
 two_kept : (t : Setting) → t.frame.limits.undo ≡ 2 → (entries : List (List (Option Place))) → take t.frame.limits.undo entries ≡ take 2 entries
 two_kept t is entries = ap (λ (n : ℕ). take n entries) is
 

@@ -1,4 +1,4 @@
--- Changes: what place, unplace, legalize, tidy, swap, revert, undo and commit come to.
+-- Changes: the outcomes of place, unplace, legalize, tidy, swap, revert, undo and commit.
 use Rattle.std.specs.Prelude.{ℕ, ◌+◌, List, [], ◌∷◌, Option, Some, None, position, is_none, map, filter_map, length, option_map, option_and_then}
 use Rattle.std.specs.List.{range_with_len}
 use Rattle.lf_units.specs.declared.area.Point.{Point}
@@ -21,26 +21,26 @@ use Rattle.lf_teams.specs.Looks.{place_of_spot, best_at}
 
 -- ---- changes that can be undone
 
--- the cell stands at the place, unless this rule is broken first
+-- the cell is refused for the rule that it breaks at the place; if it breaks none, it goes there
 abbrev pub placed_unless : Option Broken → ℕ → Limits → ℕ → Place → TeamState → Outcome
 placed_unless (Some broken) own limits session place s = refused (Illegal broken.rule own broken.other) s
 placed_unless None own limits session place s = changed session (moved s.cells own (Some place)) (with_entry limits s) s
 
--- the cell is the one of this position, or none of the team's
+-- by the position of the cell; None: the team has no such cell
 abbrev pub placed_own : Option ℕ → Setting → ℕ → Place → TeamState → Outcome
 placed_own None t session place s = refused NoCell s
 placed_own (Some own) t session place s = placed_unless (broken_at t s.cells own place) own t.frame.limits session place s
 
--- place: the team's cell of that name stands there, where no rule is broken
+-- place: the team's cell of that name goes to the place, if it breaks no rule there
 unfoldable pub placed : Setting → ℕ → List ℕ → Place → TeamState → Outcome
 placed t session name place s = placed_own (cell_named name s.cells) t session place s
 
--- the cell is taken from this place, or stands nowhere
+-- by the cell's working place; None: it is unplaced, and the command is refused
 abbrev pub unplaced_from : Option Place → ℕ → Limits → ℕ → TeamState → Outcome
 unplaced_from None own limits session s = refused (Unplaced own) s
 unplaced_from (Some place) own limits session s = changed session (moved s.cells own None) (with_entry limits s) s
 
--- the cell is the one of this position, or none of the team's
+-- by the position of the cell; None: the team has no such cell
 abbrev pub unplaced_own : Option ℕ → Limits → ℕ → TeamState → Outcome
 unplaced_own None limits session s = refused NoCell s
 unplaced_own (Some own) limits session s = unplaced_from (working_at s.cells own) own limits session s
@@ -49,13 +49,13 @@ unplaced_own (Some own) limits session s = unplaced_from (working_at s.cells own
 unfoldable pub unplaced : Limits → ℕ → List ℕ → TeamState → Outcome
 unplaced limits session name s = unplaced_own (cell_named name s.cells) limits session s
 
--- the cell goes to this place, and the reply tells it; or the cell has no place
+-- the cell goes to this place, which the reply gives; or it has no best place
 abbrev pub legalized_at : Option Place → Setting → ℕ → ℕ → TeamState → Outcome
 legalized_at None t session own s = refused (NoPlace own) s
 legalized_at (Some place) t session own s =
     telling (Legalized (s.revision + 1) place) (recorded t session (moved s.cells own (Some place)) s)
 
--- the cell is the one of this position, or none of the team's
+-- by the position of the cell; None: the team has no such cell
 abbrev pub legalized_own : Option ℕ → Setting → ℕ → Point → TeamState → Outcome
 legalized_own None t session target s = refused NoCell s
 legalized_own (Some own) t session target s = legalized_at (best_at t s.cells own target) t session own s
@@ -70,11 +70,11 @@ restored [] cells = cells
 restored (place ∷ places) [] = []
 restored (place ∷ places) (c ∷ cells) = record c { working = place } ∷ restored places cells
 
--- where the cells of a tidied team stand
+-- the places of the cells of a tidied team
 abbrev pub places_in : List Member → List (Option Place)
 places_in members = map (λ m. option_and_then place_of_spot m.place) members
 
--- the cells stand where tidying has them, and the reply tells how many went to their best place; or one has none
+-- the cells go where tidying puts them, and the reply counts those that went to their best place; or one has none
 abbrev pub tidied_by : Tidied → Setting → ℕ → TeamState → Outcome
 tidied_by (Stuck own) t session s = refused (NoPlace own) s
 tidied_by (Going members count) t session s =
@@ -94,7 +94,7 @@ broken_where t cells own = do
 abbrev pub exchanged : List Cell → ℕ → ℕ → List Cell
 exchanged cells first second = moved (moved cells first (working_at cells second)) second (working_at cells first)
 
--- the first cell's broken rule, else the second's, else the cells exchanged
+-- refused for the first cell's broken rule, else for the second's; else the cells are exchanged
 abbrev pub swapped_unless : Option Broken → Option Broken → Setting → ℕ → ℕ → ℕ → List Cell → TeamState → Outcome
 swapped_unless (Some broken) other t session first second cells s = refused (Illegal broken.rule first broken.other) s
 swapped_unless None (Some broken) t session first second cells s = refused (Illegal broken.rule second broken.other) s
@@ -105,13 +105,13 @@ abbrev pub swapped_to : List Cell → Setting → ℕ → ℕ → ℕ → TeamSt
 swapped_to cells t session first second s =
     swapped_unless (broken_where t cells first) (broken_where t cells second) t session first second cells s
 
--- both cells are placed, or the first unplaced one of them is named
+-- refused if a cell is unplaced, the first before the second
 abbrev pub swapped_from : Option Place → Option Place → Setting → ℕ → ℕ → ℕ → TeamState → Outcome
 swapped_from None place t session first second s = refused (Unplaced first) s
 swapped_from (Some place) None t session first second s = refused (Unplaced second) s
 swapped_from (Some place) (Some other) t session first second s = swapped_to (exchanged s.cells first second) t session first second s
 
--- both cells are the team's, or one is not
+-- refused if one of the cells is not the team's
 abbrev pub swapped_own : Option ℕ → Option ℕ → Setting → ℕ → TeamState → Outcome
 swapped_own None other t session s = refused NoCell s
 swapped_own (Some first) None t session s = refused NoCell s
@@ -132,12 +132,12 @@ reverted t session s = recorded t session (map back_to_committed s.cells) s
 
 -- ---- changes that cannot be undone
 
--- the newest entry's places are the working places, and the later entries are left; or there is none
+-- the newest entry's places become the working places, and the other entries stay; or there is no entry
 abbrev pub undone_by : List (List (Option Place)) → ℕ → TeamState → Outcome
 undone_by [] session s = refused NothingToUndo s
 undone_by (places ∷ entries) session s = changed session (restored places s.cells) entries s
 
--- undo: the places of the newest entry come back, unchecked, and that entry goes
+-- undo: the places of the newest entry come back, unchecked, and the entry is dropped
 unfoldable pub undone : ℕ → TeamState → Outcome
 undone session s = undone_by s.entries session s
 
@@ -150,12 +150,12 @@ abbrev pub broken_cells : Setting → List Cell → List BrokenCell
 broken_cells t cells =
     filter_map (λ own. option_map (λ broken. record { own = own; broken = broken }) (broken_where t cells own)) (range_with_len 0 (length cells))
 
--- the first unplaced cell, else the first that breaks a rule, else the places are committed
+-- refused for the first unplaced cell, else for the first that breaks a rule; else the places are committed
 abbrev pub committed_unless : Option ℕ → List BrokenCell → ℕ → TeamState → Outcome
 committed_unless (Some own) illegal session s = refused (Unplaced own) s
 committed_unless None (first ∷ others) session s = refused (Illegal first.broken.rule first.own first.broken.other) s
 committed_unless None [] session s = changed session (map as_committed s.cells) s.entries s
 
--- commit: where every cell is placed and none breaks a rule, the working places are committed
+-- commit: if every cell is placed and none breaks a rule, the working places are committed
 unfoldable pub committed : Setting → ℕ → TeamState → Outcome
 committed t session s = committed_unless (first_unplaced s.cells) (broken_cells t s.cells) session s

@@ -36,7 +36,7 @@ IsCommittedLegal floor = IsFullyLegal floor.frame (committed_design floor)
 abbrev pub KeepsCommittedLegal : FloorState → FloorState → Type 0
 KeepsCommittedLegal old new = IsCommittedLegal old → IsCommittedLegal new
 
--- every cell of the team is committed at a place, which is team-legal among the team's other committed places
+-- every cell of the team has a committed place, which is team-legal among the team's other committed places
 abbrev pub AreCommittedLegal : Frame → ℕ → TeamState → Type 0
 AreCommittedLegal f team s = (own : ℕ) → StandsLegal f team (committed_members s) own
 
@@ -46,7 +46,7 @@ LegalMakesTeams =
     (f : Frame) (teams : List (List Member)) → IsFullyLegal f (standing_from 0 teams) →
     (team : ℕ) (cells : List Member) → slice_get teams team ≡ Some cells → (own : ℕ) → StandsLegal f team cells own
 
--- the committed design is fully legal exactly where each team's committed places are team-legal
+-- the committed design is fully legal if and only if each team's committed places are team-legal
 abbrev pub CommittedByTeams : Type 0
 CommittedByTeams =
     (floor : FloorState) → IsCommittedLegal floor ↔
@@ -58,7 +58,7 @@ CommittedByTeams =
 abbrev pub loaded_design : Loaded → List Standing
 loaded_design design = standing_at design.cells (map (λ c. c.place) design.cells)
 
--- a floor begins with a fully legal committed design exactly where the loaded design is fully legal
+-- a floor begins with a fully legal committed design if and only if the loaded design is fully legal
 abbrev pub LoadedIsCommitted : Type 0
 LoadedIsCommitted = (design : Loaded) → IsCommittedLegal (opening design) ↔ IsFullyLegal design.frame (loaded_design design)
 
@@ -73,13 +73,13 @@ StandAsLoaded design floor =
     (team : List ℕ) (number : ℕ) (s : TeamState) → team_number design.frame team ≡ Some number → state_of floor team ≡ Some s →
     StandAt s (map (λ c. c.place) (filter (λ c. c.team == number) design.cells))
 
--- so they begin
+-- this holds when a floor begins
 abbrev pub LoadedPlacesAreCommitted : Type 0
 LoadedPlacesAreCommitted = (design : Loaded) → StandAsLoaded design (opening design)
 
 -- ---- orders
 
--- a team whose committed places are legal keeps that, whatever is asked of it
+-- no order makes a team's legal committed places illegal
 abbrev pub OrderKeepsCommitted : Type 0
 OrderKeepsCommitted =
     (t : Setting) (order : Order (List ℕ) Place) (s : TeamState) → IsTeamOf t.frame s

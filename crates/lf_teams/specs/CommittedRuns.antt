@@ -43,20 +43,20 @@ LegalRun l old (command ∷ commands) (reply ∷ replies) new =
 LegalRun l old [] (reply ∷ replies) new = ⊥
 LegalRun l old (command ∷ commands) [] new = ⊥
 
--- a run from a fully legal committed design has one all along
+-- in a run from a fully legal committed design, it is fully legal after each command
 abbrev pub RunStaysLegal : Type 0
 RunStaysLegal =
     (l : Legalizer) (old new : FloorState) (commands : List (Command (List ℕ) Place)) (replies : List Reply) → HasFrameTeams old
     → Run l old commands replies new → IsCommittedLegal old → LegalRun l old commands replies new
 
--- so has each run on a floor that begins with a fully legal loaded design
+-- the same for each run on a floor that begins with a fully legal loaded design
 abbrev pub LoadedRunStaysLegal : Type 0
 LoadedRunStaysLegal =
     (l : Legalizer) (design : Loaded) (new : FloorState) (commands : List (Command (List ℕ) Place)) (replies : List Reply)
     → IsFullyLegal design.frame (loaded_design design)
     → Run l (opening design) commands replies new → LegalRun l (opening design) commands replies new
 
--- ---- where each team has committed
+-- ---- if each team has committed
 
 -- a commit of the team was accepted
 pub record HasCommitted (team : List ℕ) (commands : List (Command (List ℕ) Place)) (replies : List Reply) : Type 0 where
@@ -67,8 +67,8 @@ pub record HasCommitted (team : List ℕ) (commands : List (Command (List ℕ) P
   pub answer : slice_get replies at ≡ Some reply
   pub accepted : is_granted reply ≡ true
 
--- after a run in which a commit of a team was accepted, the team's committed places are legal, whatever stood before, and whatever
--- was asked of it afterwards and of the others
+-- once a commit of a team was accepted in a run, the team's committed places are legal at its end, whatever they were before and
+-- whatever commands came later
 abbrev pub CommitLasts : Type 0
 CommitLasts =
     (l : Legalizer) (old new : FloorState) (commands : List (Command (List ℕ) Place)) (replies : List Reply) → HasFrameTeams old
@@ -81,17 +81,17 @@ pub record NumberHasCommitted (f : Frame) (number : ℕ) (commands : List (Comma
   pub named : team_number f team ≡ Some number
   pub committed : HasCommitted team commands replies
 
--- of each team that has a cell a commit was accepted
+-- a commit was accepted of each team that has a cell
 abbrev pub AllHaveCommitted : FloorState → List (Command (List ℕ) Place) → List Reply → Type 0
 AllHaveCommitted floor commands replies =
     (number : ℕ) (s : TeamState) → slice_get floor.teams number ≡ Some s → 0 < length s.cells
     → NumberHasCommitted floor.frame number commands replies
 
--- where of each team that has a cell a commit was accepted, the committed design is fully legal at the end, whatever stood before
+-- if a commit was accepted of each team that has a cell, the committed design is fully legal at the end, whatever it was before
 abbrev pub CommitsMakeLegal : FloorState → List (Command (List ℕ) Place) → List Reply → FloorState → Type 0
 CommitsMakeLegal old commands replies new = AllHaveCommitted old commands replies → IsCommittedLegal new
 
--- so it is in each run
+-- this holds for each run
 abbrev pub RunCommitsMakeLegal : Type 0
 RunCommitsMakeLegal =
     (l : Legalizer) (old new : FloorState) (commands : List (Command (List ℕ) Place)) (replies : List Reply) → HasFrameTeams old
@@ -99,14 +99,14 @@ RunCommitsMakeLegal =
 
 -- ---- a commit after a tidy
 
--- the refusal is for the session that asks or for the team's revision, whatever the cells are
+-- the refusal is for the session or for the team's revision, whatever the cells are
 abbrev pub is_for_session : Refusal → Bool
 is_for_session NoSession = true
 is_for_session (Stale revision) = true
 is_for_session RevisionsSpent = true
 is_for_session _ = false
 
--- no fault is found in the cells: what was asked is accepted, or refused for its session or the revision alone
+-- no fault is found in the cells: the command is accepted, or refused only for its session or the revision
 abbrev pub finds_no_fault : Reply → Bool
 finds_no_fault (Refused refusal) = is_for_session refusal
 finds_no_fault _ = true
@@ -117,7 +117,7 @@ LegalCommits =
     (t : Setting) (session : ℕ) (s : TeamState) → IsTeamOf t.frame s → AreLegal t s
     → finds_no_fault (outcome_of_asking t session Commit s).reply ≡ true
 
--- among a team's orders and the replies to them: a tidy at i was accepted, a commit at j is asked later, and each change between
+-- among a team's orders and the replies to them: a tidy at i was accepted, a commit at j comes later, and each change between
 -- them was refused
 pub record TidyThenCommit (orders : List (Order (List ℕ) Place)) (replies : List Reply) (i j : ℕ) : Type 0 where
   pub first : ℕ
@@ -137,12 +137,12 @@ abbrev pub TidiedCommits : List (Order (List ℕ) Place) → List Reply → Type
 TidiedCommits orders replies =
     (i j : ℕ) (reply : Reply) → TidyThenCommit orders replies i j → slice_get replies j ≡ Some reply → finds_no_fault reply ≡ true
 
--- so it is with each team's orders among these commands; what was answered OutOfMemory is left out
+-- this holds for each team's orders among these commands, without those answered OutOfMemory
 abbrev pub EachTidiedCommits : FloorState → List (Command (List ℕ) Place) → List Reply → Type 0
 EachTidiedCommits old commands replies =
     (team : List ℕ) (s : TeamState) → state_of old team ≡ Some s → TidiedCommits (asked team commands replies) (told team commands replies)
 
--- and in each run
+-- this holds for each run
 abbrev pub RunTidiedCommits : Type 0
 RunTidiedCommits =
     (l : Legalizer) (old new : FloorState) (commands : List (Command (List ℕ) Place)) (replies : List Reply) → HasFrameTeams old

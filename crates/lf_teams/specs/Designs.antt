@@ -5,16 +5,16 @@ use Rattle.lf_cells.specs.Openings.{own_cells, opening_components}
 use Rattle.lf_teams.specs.States.{TeamState, FloorState}
 use Rattle.lf_teams.specs.Teams.{team_number}
 
--- a team that nobody has asked anything: no change, no undo entry, and every slot free
+-- a team at loading: no change, no undo entry, and every slot free
 abbrev pub opening_team : Loaded → ℕ → TeamState
 opening_team design number = record { cells = own_cells number design.cells; revision = 0; entries = []; slots = replicate design.frame.limits.sessions None }
 
--- so many teams, from that number on
+-- this many teams, from that number on
 abbrev pub opening_teams : Loaded → ℕ → ℕ → List TeamState
 opening_teams design number zero = []
 opening_teams design number (suc more) = opening_team design number ∷ opening_teams design (number + 1) more
 
--- the floor as it is loaded: the fence teams in the frame's order, and last the team of the ground
+-- the floor as it is loaded: the fence teams in the frame's order, then the ground team
 abbrev pub opening : Loaded → FloorState
 opening design =
     record { frame = design.frame; teams = opening_teams design 0 (length design.frame.teams + 1); components = opening_components design }

@@ -1,4 +1,4 @@
--- Laws over runs: what other teams have and ask plays no part.
+-- Laws over runs: what other teams have and send plays no part.
 use Rattle.std.specs.Prelude.{◌≡◌, ℕ, List, Some}
 use Rattle.lf_floorplan.specs.declared.loaded.Loaded.{Loaded}
 use Rattle.lf_floorplan.specs.declared.place.Place.{Place}
@@ -10,8 +10,8 @@ use Rattle.lf_teams.specs.Teams.{state_of}
 use Rattle.lf_teams.specs.Designs.{AgreeFor, opening}
 use Rattle.lf_teams.specs.Runs.{Run, asked, told}
 
--- in two runs on floors of one frame, a team that begins in the same state and asks the same is told the same and ends in
--- the same state, whatever the other teams have and ask; what was answered OutOfMemory counts as not asked
+-- in two runs on floors of one frame, a team that begins in the same state and sends the same commands gets the same replies and
+-- ends in the same state, whatever the other teams have and send; commands answered OutOfMemory are left out
 abbrev pub OthersDoNotMatter : Type 0
 OthersDoNotMatter =
     (l : Legalizer) (team : List ℕ) (a a' b b' : FloorState) (commands others : List (Command (List ℕ) Place)) (replies answers : List Reply) (s : TeamState)
@@ -20,7 +20,7 @@ OthersDoNotMatter =
     → asked team commands replies ≡ asked team others answers
     → (told team commands replies ≡ told team others answers) × (state_of a' team ≡ state_of b' team)
 
--- the same from two loaded designs that agree for the team: what they have of other teams' cells plays no part
+-- the same from two loaded designs that agree for the team: their other teams' cells play no part
 abbrev pub OtherDesignsDoNotMatter : Type 0
 OtherDesignsDoNotMatter =
     (l : Legalizer) (team : List ℕ) (a b : Loaded) (a' b' : FloorState) (commands others : List (Command (List ℕ) Place)) (replies answers : List Reply)

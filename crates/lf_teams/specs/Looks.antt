@@ -1,4 +1,4 @@
--- Questions, which change nothing: what where, check, def and find come to.
+-- Questions, which change nothing: the outcomes of where, check, def and find.
 use Rattle.std.specs.Prelude.{ℕ, List, Option, Some, None, map, slice_get}
 use Rattle.lf_units.specs.declared.area.Point.{Point}
 use Rattle.lf_floorplan.specs.declared.place.Place.{Place}
@@ -18,12 +18,12 @@ use Rattle.lf_cells.specs.Cells.{cell_named, working_at}
 use Rattle.lf_legalize.specs.Members.{member_of}
 use Rattle.lf_teams.specs.Outcomes.{Outcome, refused}
 
--- the cell stands at this place, or nowhere
+-- by the cell's working place; None: it is unplaced
 abbrev pub located_at : Option Place → ℕ → TeamState → Outcome
 located_at None own s = refused (Unplaced own) s
 located_at (Some place) own s = record { reply = At place; team = s }
 
--- the cell is the one of this position, or none of the team's
+-- by the position of the cell; None: the team has no such cell
 abbrev pub located_own : Option ℕ → TeamState → Outcome
 located_own None s = refused NoCell s
 located_own (Some own) s = located_at (working_at s.cells own) own s
@@ -42,11 +42,11 @@ written t s = record { reply = Def (team_text t.frame t.number s.cells); team = 
 
 -- ---- the best place of a cell
 
--- a place over whole numbers as one of the program, where a DEF text can hold its corner; it can hold that of a legal place
+-- a place over whole numbers as one of the program, if a DEF text can hold its corner, as it can for each legal place
 abbrev pub place_of_spot : Spot → Option Place
 place_of_spot p = place_at p.x p.y p.orient
 
--- the cell of that position, taken away from its place among its team's cells
+-- the cell of that position, taken from its place among its team's cells
 abbrev pub lifted_cell : Setting → List Cell → ℕ → Cell → Lifted
 lifted_cell t cells own c = lifted_from t.frame t.number (map member_of cells) own c.mac
 
@@ -57,12 +57,12 @@ best_at t cells own target = do
   best ← t.legalizer.best_place (lifted_cell t cells own c) target
   place_of_spot best
 
--- the cell has this best place, or none
+-- by the cell's best place; None: it has none
 abbrev pub found_at : Option Place → ℕ → TeamState → Outcome
 found_at None own s = refused (NoPlace own) s
 found_at (Some place) own s = record { reply = At place; team = s }
 
--- the cell is the one of this position, or none of the team's
+-- by the position of the cell; None: the team has no such cell
 abbrev pub found_own : Option ℕ → Setting → Point → TeamState → Outcome
 found_own None t target s = refused NoCell s
 found_own (Some own) t target s = found_at (best_at t s.cells own target) own s

@@ -1,4 +1,4 @@
--- What an order to a team comes to: the reply, and the team afterwards; and what a change makes of a team.
+-- The outcome of an order to a team: the reply, and the team afterwards; and what a change does to a team.
 use Rattle.std.specs.Prelude.{◌≡◌, ℕ, ◌+◌, List, ◌∷◌, Option, Some, Bool, true, false, map, take, slice_set, slice_get, option_map}
 use Rattle.lf_floorplan.specs.declared.place.Place.{Place}
 use Rattle.lf_floorplan.specs.declared.limits.Limits.{Limits}
@@ -20,20 +20,20 @@ pub record Reaches (outcome : Outcome) (reply : Reply) (team : TeamState) : Type
   pub reply_is : reply ≡ outcome.reply
   pub team_is : team ≡ outcome.team
 
--- a refusal leaves the team as it was
+-- a refusal leaves the team unchanged
 abbrev pub refused : Refusal → TeamState → Outcome
 refused refusal s = record { reply = Refused refusal; team = s }
 
--- ---- where memory runs out
+-- ---- if memory runs out
 
 -- the reply is OutOfMemory
 abbrev pub is_short : Reply → Bool
 is_short (Refused OutOfMemory) = true
 is_short _ = false
 
--- the replies that OutOfMemory may stand in for: those to an accepted change, which keeps what it needs for undo, a broken rule
--- and a best place, for which the boxes of the other cells are collected, that a cell has none, a report and a DEF text. Sync and where
--- have such replies too, and take no memory
+-- the replies that OutOfMemory may replace: to an accepted change, which allocates its undo entry; a broken rule, a best place
+-- or the lack of one, for which the boxes of the other cells are collected; a report and a DEF text. Sync and where have such
+-- replies too, but allocate nothing
 abbrev pub may_be_short : Reply → Bool
 may_be_short (Revision revision) = true
 may_be_short (Legalized revision place) = true
@@ -45,7 +45,7 @@ may_be_short (Refused (Illegal rule cell other)) = true
 may_be_short (Refused (NoPlace cell)) = true
 may_be_short _ = false
 
--- memory ran out: the outcome is one that OutOfMemory may stand in for, and the team is as it was
+-- memory ran out: the outcome is one that OutOfMemory may replace, and the team is unchanged
 pub record RunsOut (outcome : Outcome) (old new : TeamState) : Type 0 where
   pub kept : new ≡ old
   pub may : may_be_short outcome.reply ≡ true
@@ -56,7 +56,7 @@ pub record RunsOut (outcome : Outcome) (old new : TeamState) : Type 0 where
 abbrev pub places_of : List Cell → List (Option Place)
 places_of cells = map (λ c. c.working) cells
 
--- the name of the cell of that position; None where there is no such cell
+-- the name of the cell of that position; None if there is no such cell
 abbrev pub name_at : List Cell → ℕ → Option (List ℕ)
 name_at cells own = option_map (λ c. c.name) (slice_get cells own)
 
@@ -78,6 +78,6 @@ with_entry limits s = take limits.undo (places_of s.cells ∷ s.entries)
 abbrev pub recorded : Setting → ℕ → List Cell → TeamState → Outcome
 recorded t session cells s = changed session cells (with_entry t.frame.limits s) s
 
--- the same outcome, told by another reply
+-- the same outcome with another reply
 abbrev pub telling : Reply → Outcome → Outcome
 telling reply o = record o { reply = reply }

@@ -1,4 +1,4 @@
--- Where all movable components are committed (LEF/DEF 5.8, DEF COMPONENTS).
+-- The committed places of all movable components (LEF/DEF 5.8, DEF COMPONENTS).
 use Rattle.std.specs.Prelude.{◌≡◌, ℕ, ◌<◌, List, [], All, AllPairs, Contains, map, Option, Some, option_and_then, option_map, slice_get, slice_index_or}
 use Rattle.lf_floorplan.specs.declared.loaded.Loaded.{Loaded}
 use Rattle.lf_floorplan.specs.declared.place.Place.{Place}
@@ -7,7 +7,7 @@ use Rattle.lf_cells.specs.Openings.{opening_components}
 use Rattle.lf_teams.specs.States.{FloorState}
 use Rattle.lf_teams.specs.Designs.{opening}
 
--- the cell of that position in the team of that number; None where there is no such cell
+-- the cell of that position in the team of that number; None if there is no such cell
 abbrev pub cell_in : FloorState → ℕ → ℕ → Option Cell
 cell_in floor number own = option_and_then (λ s. slice_get s.cells own) (slice_get floor.teams number)
 
@@ -20,8 +20,8 @@ pub record IsCommittedAt (floor : FloorState) (number own : ℕ) (entry : ℕ ×
   pub position : entry_in floor number own ≡ Some entry.0
   pub place : option_map (λ c. c.committed) (cell_in floor number own) ≡ Some entry.1
 
--- all movable components: the positions of their entries, which rise, each with the committed place of its cell. Each is that of a
--- team's cell, each cell of each team is there, and so is each entry
+-- all movable components: the positions of their entries, rising, each with the committed place of its cell. Each entry is of
+-- a team's cell, each cell of each team is in the list, and so is each entry
 pub record AreCommittedPlaces (floor : FloorState) (places : List (ℕ × Option Place)) : Type 0 where
   pub rise : AllPairs (λ entry later. entry.0 < later.0) places
   pub theirs : All (λ entry. (number : ℕ) × (own : ℕ) × IsCommittedAt floor number own entry) places
@@ -32,13 +32,14 @@ pub record AreCommittedPlaces (floor : FloorState) (places : List (ℕ × Option
 
 -- ---- laws
 
--- on a floor with the entries of a loaded design, whatever was asked since, they are the components of its cells, in loading order
+-- on a floor with the entries of a loaded design, the list has the entries of its cells, in loading order, whatever commands came
+-- before
 abbrev pub PlacesFollowDesign : Type 0
 PlacesFollowDesign =
     (design : Loaded) (floor : FloorState) (places : List (ℕ × Option Place)) → floor.components ≡ opening_components design
     → AreCommittedPlaces floor places → map (λ entry. entry.0) places ≡ map (λ c. c.component) design.cells
 
--- when a floor begins they are its cells' places in the DEF text
+-- when a floor begins, the list has its cells' places in the DEF text
 abbrev pub PlacesBeginAsLoaded : Type 0
 PlacesBeginAsLoaded =
     (design : Loaded) (places : List (ℕ × Option Place)) → AreCommittedPlaces (opening design) places

@@ -31,7 +31,7 @@ abbrev pub own_state : Legalizer → Frame → ℕ → List (Order (List ℕ) Pl
 own_state l f number [] s = s
 own_state l f number (order ∷ orders) s = own_state l f number orders (ruled l f number order s).team
 
--- an order to the team, not answered OutOfMemory, is put in front of the later ones
+-- an order to the team that was not answered OutOfMemory is put before the later ones
 abbrev pub asked_before : List ℕ → Command (List ℕ) Place → Reply → List (Order (List ℕ) Place) → List (Order (List ℕ) Place)
 asked_before team Bye reply later = later
 asked_before team (To name order) reply later = if bytes_eq name team && not (is_short reply) then order ∷ later else later
@@ -42,7 +42,7 @@ asked team [] replies = []
 asked team (command ∷ commands) [] = []
 asked team (command ∷ commands) (reply ∷ replies) = asked_before team command reply (asked team commands replies)
 
--- the reply to an order of the team, where it is not OutOfMemory, is put in front of the later ones
+-- the reply to an order of the team, if it is not OutOfMemory, is put before the later ones
 abbrev pub told_before : List ℕ → Command (List ℕ) Place → Reply → List Reply → List Reply
 told_before team Bye reply later = later
 told_before team (To name order) reply later = if bytes_eq name team && not (is_short reply) then reply ∷ later else later
@@ -53,12 +53,12 @@ told team [] replies = []
 told team (command ∷ commands) [] = []
 told team (command ∷ commands) (reply ∷ replies) = told_before team command reply (told team commands replies)
 
--- the team was told, and has become, what its own orders alone come to from its state at the start
+-- the team's replies and its state are those of its own orders alone from its state at the start
 pub record IsOwnRun (l : Legalizer) (frame : Frame) (number : ℕ) (team : List ℕ) (s : TeamState) (commands : List (Command (List ℕ) Place)) (replies : List Reply) (new : FloorState) : Type 0 where
   pub replies_are : told team commands replies ≡ own_replies l frame number (asked team commands replies) s
   pub state_is : state_of new team ≡ Some (own_state l frame number (asked team commands replies) s)
 
--- every team was told, and has become, what its own orders alone come to
+-- each team's replies and state are those of its own orders alone
 abbrev pub IsIsolated : Legalizer → FloorState → List (Command (List ℕ) Place) → List Reply → FloorState → Type 0
 IsIsolated l old commands replies new =
     (team : List ℕ) (number : ℕ) (s : TeamState) → team_number old.frame team ≡ Some number → state_of old team ≡ Some s

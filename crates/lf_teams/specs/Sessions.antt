@@ -1,4 +1,4 @@
--- Sessions: the slots of a team, and what open, close and sync come to.
+-- Sessions: the slots of a team, and the outcomes of open, close and sync.
 use Rattle.std.specs.Prelude.{ℕ, Option, Some, None, position, is_none, slice_set}
 pub use Rattle.lf_sessions.specs.Slots.{seen_at}
 use Rattle.lf_proto.specs.declared.reply.Reply.TheVariants.{Done, Opened, Revision}
@@ -10,7 +10,7 @@ use Rattle.lf_teams.specs.Outcomes.{Outcome, refused}
 abbrev pub with_slot : ℕ → Option ℕ → TeamState → TeamState
 with_slot session seen s = record s { slots = slice_set s.slots session seen }
 
--- the session takes this slot, or all slots are taken
+-- the session takes this slot; None: all slots are taken
 abbrev pub opened_at : Option ℕ → TeamState → Outcome
 opened_at None s = refused SessionsFull s
 opened_at (Some session) s = record { reply = Opened session s.revision; team = with_slot session (Some s.revision) s }

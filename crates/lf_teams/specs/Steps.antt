@@ -28,29 +28,29 @@ pub record Answer : Type 0 where
   pub reply : Reply
   pub floor : FloorState
 
--- what an order to the team of that number comes to, in this state of the team
+-- the outcome of an order to the team of that number, in this state of the team
 abbrev pub ruled : Legalizer → Frame → ℕ → Order (List ℕ) Place → TeamState → Outcome
 ruled l f number order s = outcome_of (setting l f number) order s
 
--- the team's outcome on the floor: the team of that number is the outcome's, and the others stay
+-- the team's outcome on the floor: this team gets the outcome's state, the others are unchanged
 abbrev pub settled : FloorState → ℕ → Outcome → Answer
 settled floor number o = record { reply = o.reply; floor = record floor { teams = slice_set floor.teams number o.team } }
 
--- no team has the name
+-- the answer if no team has the name
 abbrev pub no_team : FloorState → Answer
 no_team floor = record { reply = Refused NoTeam; floor = floor }
 
--- the answer of the team in this state; no team, no state
+-- the answer of the team in this state; None: there is no such team
 abbrev pub answer_by : Option TeamState → Legalizer → FloorState → ℕ → Order (List ℕ) Place → Answer
 answer_by None l floor number order = no_team floor
 answer_by (Some s) l floor number order = settled floor number (ruled l floor.frame number order s)
 
--- the answer of the team of that number
+-- the answer of the team of that number; None: there is no such team
 abbrev pub answer_at : Option ℕ → Legalizer → FloorState → Order (List ℕ) Place → Answer
 answer_at None l floor order = no_team floor
 answer_at (Some number) l floor order = answer_by (slice_get floor.teams number) l floor number order
 
--- the end of a connection: its sessions stay
+-- the answer to bye, the end of a connection: its sessions stay open
 abbrev pub parted : FloorState → Answer
 parted floor = record { reply = Done; floor = floor }
 
@@ -61,7 +61,7 @@ answer_of l floor (To team order) = answer_at (team_number floor.frame team) l f
 
 -- ---- a step
 
--- the commands that take no memory, so that OutOfMemory is never told: bye, open, close, sync, where and undo
+-- the commands that allocate nothing, so that they are never answered OutOfMemory: bye, open, close, sync, where and undo
 abbrev pub TakesNone : Command (List ℕ) Place → Type 0
 TakesNone Bye = Unit {0}
 TakesNone (To team order) = takes_memory order ≡ false
@@ -75,12 +75,12 @@ pub record Gives (answer : Answer) (reply : Reply) (floor : FloorState) : Type 0
 abbrev pub Answers : Legalizer → FloorState → Command (List ℕ) Place → Reply → FloorState → Type 0
 Answers l old command reply new = Gives (answer_of l old command) reply new
 
--- memory ran out: the answer is one that OutOfMemory may stand in for, and the floor is as it was
+-- memory ran out: the answer is one that OutOfMemory may replace, and the floor is unchanged
 pub record StaysShort (answer : Answer) (old new : FloorState) : Type 0 where
   pub kept : new ≡ old
   pub may : may_be_short answer.reply ≡ true
 
--- the same, and the command is one that takes memory
+-- the same, and the command is one that may allocate
 pub record RunsShort (l : Legalizer) (old : FloorState) (command : Command (List ℕ) Place) (new : FloorState) : Type 0 where
   pub short : StaysShort (answer_of l old command) old new
   pub takes : TakesNone command → ⊥
@@ -146,7 +146,7 @@ abbrev pub CommitsLegally : Legalizer → Command (List ℕ) Place → Reply →
 CommitsLegally l command reply new =
     (team : List ℕ) (session : ℕ) → command ≡ To team (Within session (Changing Commit)) → is_granted reply ≡ true → AllCommittedIn l new team
 
--- a refusal leaves the whole floor as it was
+-- a refusal leaves the whole floor unchanged
 abbrev pub KeepsIfRefused : Reply → FloorState → FloorState → Type 0
 KeepsIfRefused reply old new = is_granted reply ≡ false → new ≡ old
 

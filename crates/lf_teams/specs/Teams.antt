@@ -18,7 +18,7 @@ use Rattle.lf_teams.specs.States.{FloorState, TeamState}
 abbrev pub team_names : Frame → List (List ℕ)
 team_names f = map (λ t. t.name) f.teams ++ ground_name ∷ []
 
--- the number of the team of that name: its position among all teams; None where no team has the name
+-- the number of the team of that name: its position among all teams; None if no team has the name
 abbrev pub team_number : Frame → List ℕ → Option ℕ
 team_number f name = position (λ n. bytes_eq n name) (team_names f)
 
@@ -27,7 +27,7 @@ abbrev pub state_at : List TeamState → Option ℕ → Option TeamState
 state_at teams None = None
 state_at teams (Some number) = slice_get teams number
 
--- the state of the team of that name; None where no team has the name
+-- the state of the team of that name; None if no team has the name
 abbrev pub state_of : FloorState → List ℕ → Option TeamState
 state_of floor name = state_at floor.teams (team_number floor.frame name)
 
@@ -35,9 +35,9 @@ state_of floor name = state_at floor.teams (team_number floor.frame name)
 abbrev pub listed_of : ℕ → Cell → Listed (List ℕ)
 listed_of number c = record { name = c.name; team = number; mac = c.mac; place = c.working }
 
--- a team of the frame: the macros of its cells are the frame's, of whole size, their names are names of a text and differ, and
--- cells, slots, undo entries and revisions are no more than a design may have; an undo entry has a place for each cell, and no
--- session has seen a revision that is still to come
+-- a team of the frame: the macros of its cells are the frame's, of whole size, their names can be written in a text and differ;
+-- the numbers of cells, slots, undo entries and revisions are bounded; an undo entry has a place for each cell, and no session
+-- has seen a revision above the team's
 pub record IsTeamOf (f : Frame) (s : TeamState) : Type 0 where
   pub sized : All (λ c. IsSizedCell f c) s.cells
   pub printed : All (λ c. IsName c.name) s.cells
@@ -49,7 +49,7 @@ pub record IsTeamOf (f : Frame) (s : TeamState) : Type 0 where
   pub few_revisions : s.revision ≤ f.limits.revisions
   pub seen_past : All (λ slot. IfSome slot (λ seen. seen ≤ s.revision)) s.slots
 
--- where a team works: the frame, the team's number there, and the legalizer of its places
+-- what the rules use besides the team: the frame, the team's number in it, and the legalizer of its places
 pub record Setting : Type 0 where
   pub legalizer : Legalizer
   pub frame : Frame
@@ -64,7 +64,7 @@ abbrev pub trial_of_cell : Setting → List Cell → ℕ → Cell → Place → 
 trial_of_cell t cells own c place =
     trial_of t.frame t.number (macro_of t.frame c.mac) place (boxes_beside t.frame (map member_of cells) own)
 
--- the first rule that this cell breaks; no cell breaks none
+-- the first rule that this cell breaks; None if there is no cell
 abbrev pub broken_by : Option Cell → Setting → List Cell → ℕ → Place → Option Broken
 broken_by None t cells own place = None
 broken_by (Some c) t cells own place = t.legalizer.first_broken (trial_of_cell t cells own c place)

@@ -1,4 +1,4 @@
--- Laws on what the verbs of the command table come to.
+-- Laws on the outcomes of the verbs of the command table.
 use Rattle.std.specs.Prelude.{◌≡◌, ◌≢◌, ℕ, ◌+◌, ◌<◌, List, Option, Some, None, Bool, true, false, map, slice_get, option_map}
 use Rattle.lf_units.specs.declared.area.Point.{Point}
 use Rattle.lf_floorplan.specs.declared.place.Place.{Place}
@@ -24,7 +24,7 @@ use Rattle.lf_teams.specs.Sessions.{seen_at}
 use Rattle.lf_teams.specs.Looks.{lifted_cell, best_at}
 use Rattle.lf_teams.specs.Verbs.{outcome_of}
 
--- what a change comes to that a session asks
+-- the outcome of a change that a session asks for
 abbrev pub outcome_of_asking : Setting → ℕ → Change (List ℕ) Place → TeamState → Outcome
 outcome_of_asking t session change s = outcome_of t (Within session (Changing change)) s
 
@@ -44,17 +44,17 @@ pub record MayChange (t : Setting) (session : ℕ) (s : TeamState) : Type 0 wher
 
 -- ---- refusals
 
--- no verb comes to OutOfMemory: memory plays no part in the rules
+-- no verb's outcome is OutOfMemory: memory plays no part in the rules
 abbrev pub NeverOutOfMemory : Type 0
 NeverOutOfMemory = (t : Setting) (verb : Order (List ℕ) Place) (s : TeamState) → is_short (outcome_of t verb s).reply ≡ false
 
--- a refusal leaves the team as it was
+-- a refusal leaves the team unchanged
 abbrev pub RefusalKeeps : Type 0
 RefusalKeeps =
     (t : Setting) (verb : Order (List ℕ) Place) (s : TeamState) (refusal : Refusal)
     → (outcome_of t verb s).reply ≡ Refused refusal → (outcome_of t verb s).team ≡ s
 
--- a tidy in which a cell has no place names that cell, and leaves the team as it was
+-- a tidy in which a cell has no best place names that cell, and leaves the team unchanged
 abbrev pub StuckTidyKeeps : Type 0
 StuckTidyKeeps =
     (t : Setting) (session stuck : ℕ) (s : TeamState) → MayChange t session s
@@ -63,21 +63,21 @@ StuckTidyKeeps =
 
 -- ---- revisions
 
--- the revision that the reply to a change tells
+-- the revision that the reply to a change gives
 abbrev pub told_revision : Reply → Option ℕ
 told_revision (Revision revision) = Some revision
 told_revision (Legalized revision place) = Some revision
 told_revision (TidyDone revision count) = Some revision
 told_revision _ = None
 
--- one more revision, which the reply tells, and which this session has seen and no other
+-- one more revision, which the reply gives, and which this session has seen and no other
 pub record IsCounted (session : ℕ) (old : TeamState) (o : Outcome) : Type 0 where
   pub counted : o.team.revision ≡ old.revision + 1
   pub told : told_revision o.reply ≡ Some (old.revision + 1)
   pub seen : seen_at o.team.slots session ≡ Some (old.revision + 1)
   pub others : (other : ℕ) → other ≢ session → seen_at o.team.slots other ≡ seen_at old.slots other
 
--- an accepted change was asked by a session that had seen the revision, while one was left, and counts one more
+-- an accepted change came from a session that had seen the revision, while one was left, and counts one more
 pub record CountsOne (t : Setting) (session : ℕ) (old : TeamState) (o : Outcome) : Type 0 where
   pub allowed : MayChange t session old
   pub counts : IsCounted session old o
@@ -99,7 +99,7 @@ pub record KeepsCells (old new : TeamState) : Type 0 where
   pub revision : new.revision ≡ old.revision
   pub entries : new.entries ≡ old.entries
 
--- a verb that is no change leaves cells, revision and undo entries
+-- a verb that is no change leaves cells, revision and undo entries unchanged
 abbrev pub LookKeeps : Type 0
 LookKeeps = (t : Setting) (verb : Order (List ℕ) Place) (s : TeamState) → is_change verb ≡ false → KeepsCells s (outcome_of t verb s).team
 
@@ -148,7 +148,7 @@ OnlyCommitCommits =
 
 -- ---- legal places
 
--- the place that find and legalize take is the best place, and there is none only where no place is team-legal for the cell
+-- the place that find and legalize take is the best place; they find none only if no place is team-legal for the cell
 abbrev pub BestIsFound : Type 0
 BestIsFound =
     (t : Setting) (s : TeamState) (own : ℕ) (c : Cell) (target : Point) → IsTeamOf t.frame s → slice_get s.cells own ≡ Some c
@@ -197,6 +197,6 @@ SwapMakesLegal =
     let after = outcome_of_asking t session (Swap first second) s in
     is_accepted after ≡ true → HasLegal t first after.team × HasLegal t second after.team
 
--- a team of the frame stays one
+-- after any verb a team of the frame is still one
 abbrev pub VerbKeepsTeam : Type 0
 VerbKeepsTeam = (t : Setting) (verb : Order (List ℕ) Place) (s : TeamState) → IsTeamOf t.frame s → IsTeamOf t.frame (outcome_of t verb s).team

@@ -1,4 +1,4 @@
--- Worked rows: what verbs come to on a team of three cells, by what the legalizer finds.
+-- Worked rows: the outcomes of verbs on a team of three cells, given what the legalizer finds.
 use Rattle.std.specs.Prelude.{◌≡◌, ℕ, ◌<◌, List, [], ◌∷◌, Option, Some, None, map, replicate, codes}
 use Rattle.lf_units.specs.declared.area.Point.{Point}
 use Rattle.lf_floorplan.specs.declared.place.Place.{Place}
@@ -33,19 +33,19 @@ cell_at name mac place = record { name = name; mac = mac; working = place; commi
 abbrev pub three : Option Place → Option Place → Option Place → List Cell
 three p q r = cell_at (codes "a1") 0 p ∷ cell_at (codes "a2") 0 q ∷ cell_at (codes "a3") 1 r ∷ []
 
--- a team that has made so many changes, the last of which its one session has seen
+-- a team that has made this many changes, the last of which its one session has seen
 abbrev pub team_after : ℕ → List (List (Option Place)) → List Cell → TeamState
 team_after revision entries cells = record { cells = cells; revision = revision; entries = entries; slots = Some revision ∷ [] }
 
--- what that session asks
+-- that session's question for a cell's place
 abbrev pub where_is : List ℕ → Order (List ℕ) Place
 where_is name = Within 0 (Where name)
 
--- the change that it asks
+-- that session's change
 abbrev pub change_to : Change (List ℕ) Place → Order (List ℕ) Place
 change_to change = Within 0 (Changing change)
 
--- revisions and undo entries enough for each row
+-- enough revisions and undo entries for each row
 pub record HasRoom (t : Setting) : Type 0 where
   pub revisions : 9 < t.frame.limits.revisions
   pub undo : t.frame.limits.undo ≡ 64
@@ -69,7 +69,7 @@ StaleRow =
     (record { cells = three (Some p) None None; revision = 1; entries = (None ∷ None ∷ None ∷ []) ∷ []; slots = Some 1 ∷ Some 0 ∷ [] })
     ≡ (Refused (Stale 1) ∷ Revision 1 ∷ Revision 2 ∷ At q ∷ [])
 
--- where two changes can be undone, three are made, and a third undo finds no entry
+-- with two undo entries allowed, three changes are made, and a third undo finds no entry
 abbrev pub UndoRow : Type 0
 UndoRow =
     (t : Setting) (p q r : Place) → 9 < t.frame.limits.revisions → t.frame.limits.undo ≡ 2 →
@@ -86,7 +86,7 @@ SpentRow =
     (t : Setting) (change : Change (List ℕ) Place) (entries : List (List (Option Place))) (cells : List Cell) → t.frame.limits.revisions ≡ 3 →
     replies_to t (change_to change ∷ []) (team_after 3 entries cells) ≡ (Refused RevisionsSpent ∷ [])
 
--- find changes nothing, and legalize puts the cell where find has told
+-- find changes nothing, and legalize puts the cell where find says
 abbrev pub BestRow : Type 0
 BestRow =
     (t : Setting) (target : Point) (best : Place) → HasRoom t → best_at t (three None None None) 0 target ≡ Some best →
@@ -95,7 +95,7 @@ BestRow =
     (team_after 0 [] (three None None None))
     ≡ (At best ∷ Refused (Unplaced 0) ∷ Legalized 1 best ∷ At best ∷ [])
 
--- a cell without a place stops find, legalize and tidy, which had found places for the two before it, and nothing is changed
+-- a cell without a best place stops find, legalize and tidy, which found places for the two before it, and nothing is changed
 abbrev pub NoPlaceRow : Type 0
 NoPlaceRow =
     (t : Setting) (target : Point) → HasRoom t → best_at t (three None None None) 2 target ≡ None →
@@ -105,7 +105,7 @@ NoPlaceRow =
     (team_after 0 [] (three None None None))
     ≡ (Refused (NoPlace 2) ∷ Refused (NoPlace 2) ∷ Refused (NoPlace 2) ∷ Refused (Unplaced 0) ∷ Refused NothingToUndo ∷ [])
 
--- a tidy tells how many cells went to their best place
+-- the reply to a tidy counts the cells that went to their best place
 abbrev pub TidyRow : Type 0
 TidyRow =
     (t : Setting) (p q r : Place) → HasRoom t →
@@ -132,7 +132,7 @@ CommitRow =
     (team_after 1 [] (three (Some p) (Some q) (Some r)))
     ≡ (Revision 2 ∷ Revision 3 ∷ Refused (Unplaced 0) ∷ Revision 4 ∷ At p ∷ [])
 
--- a team with an unplaced cell is not committed, and a cell of another team is none of this one's
+-- a commit with an unplaced cell is refused, and a cell of another team is answered NoCell
 abbrev pub RefusedRow : Type 0
 RefusedRow =
     (t : Setting) (p q : Place) → HasRoom t →

@@ -1,4 +1,4 @@
--- What each verb of the command table comes to: the reply, and the team afterwards.
+-- The outcome of each verb of the command table: the reply, and the team afterwards.
 --
 -- A verb is refused by the first of these that holds: no session slot is free (open), or the session is not open (any
 -- other verb); for a change, the session has not seen the team's revision, and then no revision is left; the team has no
@@ -21,9 +21,9 @@ use Rattle.lf_teams.specs.Sessions.{seen_at, opened, closed, synced}
 use Rattle.lf_teams.specs.Looks.{checked, written, located, found}
 use Rattle.lf_teams.specs.Changes.{placed, legalized, tidied_team, unplaced, swapped, undone, committed, reverted}
 
--- ---- what each verb comes to
+-- ---- the outcome of each verb
 
--- which change is asked
+-- by the change
 abbrev pub outcome_of_change : Setting → ℕ → Change (List ℕ) Place → TeamState → Outcome
 outcome_of_change t session (PlaceAt name place) s = placed t session name place s
 outcome_of_change t session (Legalize name target) s = legalized t session name target s
@@ -39,11 +39,11 @@ abbrev pub unless_spent : Setting → ℕ → Change (List ℕ) Place → TeamSt
 unless_spent t session change s =
     if nat_lt s.revision t.frame.limits.revisions then outcome_of_change t session change s else refused RevisionsSpent s
 
--- a change is asked by a session that has seen the present revision
+-- a change needs a session that has seen the present revision
 abbrev pub unless_stale : ℕ → Setting → ℕ → Change (List ℕ) Place → TeamState → Outcome
 unless_stale seen t session change s = if seen == s.revision then unless_spent t session change s else refused (Stale s.revision) s
 
--- what is asked by a session that has seen this revision
+-- the outcome of an action of a session that has seen this revision
 abbrev pub outcome_within : ℕ → Setting → ℕ → Action (List ℕ) Place → TeamState → Outcome
 outcome_within seen t session Close s = closed session s
 outcome_within seen t session Sync s = synced session s
@@ -53,19 +53,19 @@ outcome_within seen t session (Where name) s = located name s
 outcome_within seen t session (Find name target) s = found t name target s
 outcome_within seen t session (Changing change) s = unless_stale seen t session change s
 
--- the session is open, and has seen this revision, or it is not
+-- by the revision that the session has seen; None: it is not open
 abbrev pub outcome_by_slot : Option ℕ → Setting → ℕ → Action (List ℕ) Place → TeamState → Outcome
 outcome_by_slot None t session verb s = refused NoSession s
 outcome_by_slot (Some seen) t session verb s = outcome_within seen t session verb s
 
--- what an order comes to, in a team of that setting
+-- the outcome of an order, in a team of that setting
 abbrev pub outcome_of : Setting → Order (List ℕ) Place → TeamState → Outcome
 outcome_of t Open s = opened s
 outcome_of t (Within session verb) s = outcome_by_slot (seen_at s.slots session) t session verb s
 
 -- ---- memory
 
--- the orders that may take memory: all but open, close, sync, where and undo
+-- the orders that may allocate: all but open, close, sync, where and undo
 abbrev pub takes_memory : Order (List ℕ) Place → Bool
 takes_memory Open = false
 takes_memory (Within session Close) = false

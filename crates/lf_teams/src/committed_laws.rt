@@ -11,12 +11,12 @@ pub fn legal_makes_teams()
     ensures { LegalMakesTeams }
 {}
 
-/// The committed design is fully legal exactly where each team's committed places are team-legal.
+/// The committed design is fully legal if and only if each team's committed places are team-legal.
 pub fn committed_by_teams()
     ensures { CommittedByTeams }
 {}
 
-/// A floor begins with a fully legal committed design exactly where the loaded design is fully legal.
+/// A floor begins with a fully legal committed design if and only if the loaded design is fully legal.
 pub fn loaded_is_committed()
     ensures { LoadedIsCommitted }
 {}
@@ -27,8 +27,8 @@ pub fn loaded_places_are_committed()
     ensures { LoadedPlacesAreCommitted }
 {}
 
-/// On a floor with the entries of a loaded design, whatever was asked since, the committed places are
-/// those of the design's cells, in loading order.
+/// On a floor with the entries of a loaded design, the entries in the list of committed places are
+/// those of the design's cells, in loading order, whatever commands came before.
 pub fn places_follow_design()
     ensures { PlacesFollowDesign }
 {}
@@ -38,7 +38,7 @@ pub fn places_begin_as_loaded()
     ensures { PlacesBeginAsLoaded }
 {}
 
-/// A team whose committed places are legal keeps that, whatever is asked of it.
+/// No order to a team makes its legal committed places illegal.
 pub fn order_keeps_committed()
     ensures { OrderKeepsCommitted }
 {}
@@ -54,30 +54,30 @@ pub fn step_keeps_committed()
     ensures { StepKeepsCommitted }
 {}
 
-/// A run from a fully legal committed design has one after each command.
+/// In a run from a fully legal committed design, it is fully legal after each command.
 pub fn run_stays_legal()
     ensures { RunStaysLegal }
 {}
 
-/// So has each run on a floor that begins with a fully legal loaded design.
+/// The same holds for each run on a floor that begins with a fully legal loaded design.
 pub fn loaded_run_stays_legal()
     ensures { LoadedRunStaysLegal }
 {}
 
-/// After a run in which a commit of a team was accepted, the team's committed places are legal,
-/// whatever was asked of it afterwards and of the others.
+/// Once a commit of a team was accepted in a run, the team's committed places are legal at its end,
+/// whatever commands came later, to this team or others.
 pub fn commit_lasts()
     ensures { CommitLasts }
 {}
 
-/// After a run in which of each team that has a cell a commit was accepted, the committed design is
-/// fully legal, whatever stood before.
+/// If in a run a commit was accepted of each team that has a cell, the committed design is fully legal
+/// at the end, whatever it was before.
 pub fn run_commits_make_legal()
     ensures { RunCommitsMakeLegal }
 {}
 
-/// A commit of a team whose cells are all placed and team-legal finds no fault: it is accepted, or
-/// refused for its session or the revision alone.
+/// A commit of a team whose cells are all placed and team-legal finds no fault in them: it is accepted, or
+/// refused only for its session or the revision.
 pub fn legal_commits()
     ensures { LegalCommits }
 {}

@@ -2,8 +2,8 @@
 
 ghost use Rattle.lf_teams.specs.Laws.{OthersDoNotMatter, OtherDesignsDoNotMatter};
 
-/// A team that begins in the same state and asks the same is told the same and ends in the same
-/// state, whatever the other teams have and ask.
+/// A team that begins in the same state and sends the same commands gets the same replies and ends in
+/// the same state, whatever the other teams have and send.
 pub fn others_do_not_matter()
     ensures { OthersDoNotMatter }
 {}

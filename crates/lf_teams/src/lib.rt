@@ -1,5 +1,5 @@
-//! The teams of a floor: what each command comes to by the written rules, for one team and for all, and the laws that
-//! follow. Nothing runs here; a floor is proved to do what these definitions say.
+//! The teams of a floor: the outcome of each command by the written rules, for one team and for all, and the laws that
+//! follow. No code runs here; a floor is proved to do what these definitions say.
 #![tactic(auto)]
 
 mod committed_laws;

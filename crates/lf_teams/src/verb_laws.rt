@@ -1,31 +1,31 @@
-//! Laws on what the verbs of the command table come to.
+//! Laws on the outcomes of the verbs of the command table.
 
 ghost use Rattle.lf_teams.specs.VerbLaws.{NeverOutOfMemory, RefusalKeeps, StuckTidyKeeps, ChangeCounts, LookKeeps, UndoBringsBack, RevertAfterCommitKeeps, OnlyCommitCommits, BestIsFound, TidyMakesLegal, CommitFindsLegal, PlaceMakesLegal, LegalizeMakesLegal, SwapMakesLegal, VerbKeepsTeam};
 ghost use Rattle.lf_teams.specs.VerbRows.{VerbRows};
 
 use lf_rules::legal_in_range;
 
-/// No verb ever comes to `OutOfMemory`: only a growth that was really refused is answered so.
+/// By the rules no verb's outcome is `OutOfMemory`: that reply comes only from an allocation that fails.
 pub fn never_out_of_memory()
     ensures { NeverOutOfMemory }
 {}
 
-/// A refusal leaves the team as it was.
+/// A refusal leaves the team unchanged.
 pub fn refusal_keeps()
     ensures { RefusalKeeps }
 {}
 
-/// A tidy in which a cell has no place names that cell, and leaves the team as it was.
+/// A tidy in which a cell has no best place names that cell, and leaves the team unchanged.
 pub fn stuck_tidy_keeps()
     ensures { StuckTidyKeeps }
 {}
 
-/// An accepted change adds one to the team's revision, which then this session has seen and no other.
+/// An accepted change adds one to the team's revision; this session, and no other, has seen the new one.
 pub fn change_counts()
     ensures { ChangeCounts }
 {}
 
-/// A verb that is no change leaves the team's cells, revision and undo entries.
+/// A verb that is no change leaves the team's cells, revision and undo entries unchanged.
 pub fn look_keeps()
     ensures { LookKeeps }
 {}
@@ -45,7 +45,7 @@ pub fn only_commit_commits()
     ensures { OnlyCommitCommits }
 {}
 
-/// The place that find and legalize take is the best place, and there is none only where no place is team-legal.
+/// The place that find and legalize take is the best place; they find none only if no place is team-legal.
 pub fn best_is_found()
     ensures { BestIsFound }
 {
@@ -87,12 +87,12 @@ pub fn swap_makes_legal()
     legal_in_range();
 }
 
-/// A team of the frame stays one, whatever is asked of it.
+/// After any verb a team of the frame is still one.
 pub fn verb_keeps_team()
     ensures { VerbKeepsTeam }
 {}
 
-/// What verbs come to on a team of three cells, by what the legalizer finds.
+/// The outcomes of verbs on a team of three cells, given what the legalizer finds.
 pub fn verb_rows()
     ensures { VerbRows }
 {}

@@ -10,12 +10,12 @@ use Rattle.lf_texts.specs.TeamText.{line_of, component_words}
 abbrev pub placed_words : List ℕ → List ℕ → Option Place → List (List ℕ)
 placed_words name macro place = codes "-" ∷ name ∷ macro ∷ (clause_words place ++ codes ";" ∷ [])
 
--- the line of a cell's component; nothing where there is no cell
+-- the line of a cell's component; nothing if there is no cell
 abbrev pub component_line : Frame → Option Cell → List ℕ
 component_line f None = []
 component_line f (Some c) = line_of (component_words f c)
 
--- a space and the cell's name; nothing where there is no cell
+-- a space and the cell's name; nothing if there is no cell
 abbrev pub spaced_name : Option Cell → List ℕ
 spaced_name None = []
 spaced_name (Some c) = 32 ∷ c.name

@@ -65,7 +65,7 @@ group_lines None cells = []
 group_lines (Some t) [] = []
 group_lines (Some t) (c ∷ cs) = section_lines (codes "GROUPS") (group_words t (c ∷ cs) ∷ [])
 
--- the lines of the team's text: its fence is that of its number in the frame, and its cells stand in loading order
+-- the lines of the team's text: its fence is that of its number in the frame, and its cells are in loading order
 abbrev pub team_lines : Frame → Option Team → List Cell → List (List (List ℕ))
 team_lines f fence cells =
     header_lines f.header

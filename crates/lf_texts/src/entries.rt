@@ -63,7 +63,7 @@ pub(crate) fn put_region(out: &mut Vec<u8>, fence: &Team) -> Result<(), AllocErr
     put(out, b"\n")
 }
 
-/// The name of the macro of that number; no byte where the frame has no such macro.
+/// The name of the macro of that number; no byte if the frame has no such macro.
 fn macro_name(frame: &Frame, number: usize) -> &[u8]
     ensures { result.now ≡ (macro_of frame.now number).name }
 {

@@ -38,7 +38,7 @@ fn put_statement(out: &mut Vec<u8>, keyword: &[u8], word: &[u8]) -> Result<(), A
     put_line(out, keyword, &[Word::Text(word), Word::Text(b";")])
 }
 
-/// Appends the line that begins a section of so many entries.
+/// Appends the line that begins a section of this many entries.
 fn put_begin(out: &mut Vec<u8>, keyword: &[u8], count: usize) -> Result<(), AllocError>
     ensures { OnOk result (out.new.items ≡ out.old.items ++ line_of (keyword.now ∷ decimal count ∷ codes ";" ∷ [])) }
 {
@@ -104,8 +104,8 @@ fn put_groups(
 /// The DEF text of the team of that number: the header, its fence, its cells at their working places in loading
 /// order, and the group that binds them to the fence (LEF/DEF 5.8, DEF REGIONS, COMPONENTS and GROUPS).
 ///
-/// The ground team has no REGIONS and no GROUPS section, a team without cells no GROUPS section. `Err` where
-/// memory is refused.
+/// The ground team has no REGIONS and no GROUPS section, a team without cells no GROUPS section. `Err` if
+/// an allocation fails.
 pub fn team_def(
     alloc: Global,
     frame: &Frame,

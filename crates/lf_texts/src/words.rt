@@ -1,4 +1,4 @@
-//! Words and lines, written behind what a buffer holds.
+//! Words and lines, appended to a buffer.
 
 ghost use Rattle.std.specs.Prelude.{◌≡◌, ◌++◌, ◌∷◌, OnOk, map};
 ghost use Rattle.lf_lex.specs.Splices.{spaced};

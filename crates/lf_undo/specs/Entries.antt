@@ -1,4 +1,4 @@
--- The working places that a team's undo entries stand for.
+-- The working places that a team's undo entries give.
 use Rattle.std.specs.Prelude.{ℕ, List, [], ◌∷◌, ◌++◌, Option, None, slice_index_or, slice_set}
 use Rattle.lf_floorplan.specs.declared.place.Place.{Place}
 use Rattle.lf_undo.specs.declared.moves.Move.{Move}
@@ -7,7 +7,7 @@ use Rattle.lf_undo.specs.declared.moves.Move.{Move}
 abbrev pub Places : Type 0
 Places = List (Option Place)
 
--- The places before the moves, from those behind them: the last move is taken back first, so that
+-- The places before the moves, from those after them: the last move is taken back first, so that
 -- a cell that moved twice gets its first place.
 abbrev pub taken_back : List Move → Places → Places
 taken_back [] places = places
@@ -22,7 +22,7 @@ entries_of places (ms ∷ entries) = taken_back ms places ∷ entries_of (taken_
 abbrev pub moves_with : List Move → Places → ℕ → List Move
 moves_with moves places own = moves ++ record { own = own; old = slice_index_or places own None } ∷ []
 
--- The places behind settings of cells, one after another.
+-- The places after settings of cells, one after another.
 abbrev pub places_set : Places → List (ℕ × Option Place) → Places
 places_set places [] = places
 places_set places (s ∷ settings) = places_set (slice_set places s.0 s.1) settings

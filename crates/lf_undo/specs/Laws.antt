@@ -1,14 +1,14 @@
--- Laws of the places that undo entries stand for.
+-- Laws of the places that undo entries give.
 use Rattle.std.specs.Prelude.{◌≡◌, ℕ, List, [], ◌∷◌, Some, None, All, length, take, drop, slice_get, slice_set, Option}
 use Rattle.lf_floorplan.specs.declared.place.Place.{Place}
 use Rattle.lf_undo.specs.declared.moves.Move.{Move}
 use Rattle.lf_undo.specs.Entries.{Places, taken_back, entries_of, moves_with, places_set, moves_of}
 
--- The moves of settings, taken back from behind them, give the places before them.
+-- The moves of settings, taken back from the places after them, give the places before them.
 abbrev pub MovesUndoSettings : Type 0
 MovesUndoSettings = (places : Places) (settings : List (ℕ × Option Place)) → taken_back (moves_of places settings) (places_set places settings) ≡ places
 
--- The same one setting at a time: a cell gets a place, and its old one stands behind the moves so far.
+-- The same one setting at a time: a cell gets a place, and its old one is appended to the moves so far.
 abbrev pub MovesUndoOneMore : Type 0
 MovesUndoOneMore = (before now : Places) (moves : List Move) (cell : ℕ) (to : Option Place) →
     taken_back moves now ≡ before → taken_back (moves_with moves now cell) (slice_set now cell to) ≡ before
@@ -27,7 +27,7 @@ EntriesShrink = (now : Places) (moves : List Move) (entries : List (List Move)) 
 abbrev pub EntriesKeep : Type 0
 EntriesKeep = (now : Places) (entries : List (List Move)) → slice_get entries 0 ≡ None → entries_of now entries ≡ []
 
--- Entries cut at a limit stand for the same lists of places, cut there.
+-- Entries cut at a limit give the same lists of places, cut there.
 abbrev pub EntriesTake : Type 0
 EntriesTake = (now : Places) (entries : List (List Move)) (limit : ℕ) → entries_of now (take limit entries) ≡ take limit (entries_of now entries)
 

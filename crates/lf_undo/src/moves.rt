@@ -8,14 +8,14 @@ use std::alloc::{AllocError, Allocator, Global};
 use std::marker::Model;
 
 /// A cell of a team, by its position among the team's cells, with the place that it had before a
-/// command: none where it was unplaced.
+/// command: none if it was unplaced.
 #[derive(Clone, Copy, Debug, PartialEq, Eq)]
 pub struct Move {
     pub own: u32,
     pub old: Option<Place>,
 }
 
-/// The moves of one command, in their order. A cell that the command moved twice stands there
+/// The moves of one command, in their order. A cell that the command moved twice is there
 /// twice.
 #[derive(Drop)]
 pub struct Moves<A: Allocator = Global> {
@@ -32,7 +32,7 @@ impl<A: Allocator> Model for Moves<A> {
 }
 
 impl<A: Allocator> Moves<A> {
-    /// No move; this takes no memory.
+    /// No move; this allocates nothing.
     pub fn new(alloc: A) -> Self
         ensures { result ≡ [] }
     {
@@ -41,9 +41,9 @@ impl<A: Allocator> Moves<A> {
         }
     }
 
-    /// Puts a move behind the others.
+    /// Appends a move.
     ///
-    /// `Err` where memory is refused.
+    /// `Err` if an allocation fails.
     pub fn push(&mut self, moved: Move) -> Result<(), AllocError>
         ensures ok { OnOk result (self.new ≡ self.old ++ moved ∷ []) }
         ensures err { OnErr result (self.new ≡ self.old) }

@@ -31,9 +31,9 @@ pub record CanBeGiven (components : List Component) (places : List (ℕ × Optio
   pub rise : Rise 0 (length components) places
   pub movable : All (λ g. IfSome (slice_get components g.0) (λ c. IsMovable c)) places
 
--- Whether a component stands at a place already.
+-- Whether a component is at a place already.
 
--- where a component stands; one without a clause, or UNPLACED, stands nowhere
+-- where a component is; None for one without a clause, or UNPLACED
 abbrev pub location : Component → Option Location
 location c = option_and_then (λ p. p.place) c.placement
 
@@ -48,7 +48,7 @@ stands_at c given = is_at (location c) given
 
 -- What is written.
 
--- the new clause in the place of the old one; where there is none, the new clause and a space directly before the semicolon
+-- the new clause in place of the old one; if there is none, the new clause and a space directly before the semicolon
 abbrev pub clause_splice : Option Placement → ℕ → Option Place → Splice
 clause_splice None semicolon given = record { start = semicolon; stop = semicolon; new = joined (clause_words given) ++ codes " " }
 clause_splice (Some old) semicolon given = record { start = old.start; stop = old.stop; new = joined (clause_words given) }
@@ -57,15 +57,15 @@ clause_splice (Some old) semicolon given = record { start = old.start; stop = ol
 abbrev pub splice_of : Component → Option Place → Splice
 splice_of c given = clause_splice c.placement c.semicolon given
 
--- what is replaced where the component is given this place: nothing, where it stands there
+-- what is replaced if the component is given this place: nothing, if it is there
 abbrev pub change : Component → Option Place → Option Splice
 change c given = if stands_at c given then None else Some (splice_of c given)
 
--- what is replaced where the component of that position is given that place
+-- what is replaced if the component of that position is given that place
 abbrev pub change_at : List Component → ℕ × Option Place → Option Splice
 change_at components g = option_and_then (λ c. change c g.1) (slice_get components g.0)
 
--- what is replaced, one change behind the other
+-- what is replaced, one change after the other
 abbrev pub changes : List Component → List (ℕ × Option Place) → List Splice
 changes components places = filter_map (change_at components) places
 

@@ -1,4 +1,4 @@
--- What is true of exported texts.
+-- Laws on exported texts.
 use Rattle.std.specs.Prelude.{◌≡◌, ◌↔◌, ℕ, true, List, length, All, IfSome, IsTrue, Option, option_map, Ok, slice_get}
 use Rattle.lf_floorplan.specs.declared.place.Place.{Place}
 use Rattle.lf_def.specs.declared.components.Component.{Component}
@@ -11,26 +11,26 @@ use Rattle.lf_write.specs.Export.{Rise, location, as_location, stands_at, with_p
 abbrev pub FitsText : Option Place → Type 0
 FitsText given = IfSome given (λ p. IsLocation (as_location p))
 
--- Reading the text gives the document with these places in it, but for where its components stand in the text.
+-- Reading the text gives the document with these places in it, except for the positions of its components in the text.
 abbrev pub ReadsBack : List ℕ → List (ℕ × Option Place) → Document → Type 0
 ReadsBack text places d =
     (again : Document) × (document_of text ≡ Ok again) × (document_without_places again ≡ document_without_places (given_places places d))
 
--- Whatever a text says, the exported text reads back.
+-- For any document, the exported text reads back.
 abbrev pub ExportReadsBack : Type 0
 ExportReadsBack = (text : List ℕ) (d : Document) (places : List (ℕ × Option Place)) → document_of text ≡ Ok d → Rise 0 (length d.components) places
     → All (λ g. FitsText g.1) places → ReadsBack (exported text d.components places) places d
 
--- Where each listed component stands at its place already, the exported text is the text.
+-- If each listed component is at its place already, the exported text is the text.
 abbrev pub NothingChanges : Type 0
 NothingChanges = (text : List ℕ) (components : List Component) (places : List (ℕ × Option Place))
     → All (λ g. IfSome (slice_get components g.0) (λ c. stands_at c g.1 ≡ true)) places → exported text components places ≡ text
 
--- A component stands at a place where its location is that place, and at none where it has none.
+-- A component is at a place if and only if its location is that place; without a location it is at none.
 abbrev pub StandsThere : Type 0
 StandsThere = (c : Component) (given : Option Place) → IsTrue (stands_at c given) ↔ (location c ≡ option_map as_location given)
 
--- A component that is given a place stands there, and is what it was besides.
+-- A component that is given a place is there, with the same name and macro.
 abbrev pub GivenStands : Type 0
 GivenStands = (c : Component) (given : Option Place) → (location (with_place given c) ≡ option_map as_location given)
     × ((with_place given c).name ≡ c.name) × ((with_place given c).mac ≡ c.mac)

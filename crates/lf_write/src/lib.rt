@@ -1,4 +1,4 @@
-//! Writes a DEF text with components at the places that they are given; every other byte stays.
+//! Writes a DEF text with components at the places that they are given; every other byte is unchanged.
 #![tactic(auto)]
 
 mod clause;

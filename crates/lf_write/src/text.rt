@@ -14,7 +14,7 @@ use lf_floorplan::Place;
 use lf_orient::orient_word;
 use std::alloc::{AllocError, Global};
 
-/// Whether a component at this location stands at the place.
+/// Whether a component at this location is at the place.
 fn is_at(location: &Option<Location>, place: &Option<Place>) -> bool
     ensures { result ≡ spec.is_at location.now place.now }
 {
@@ -29,7 +29,7 @@ fn is_at(location: &Option<Location>, place: &Option<Place>) -> bool
     }
 }
 
-/// Whether the component stands at the place; one without a clause, or UNPLACED, stands nowhere.
+/// Whether the component is at the place; one without a clause, or UNPLACED, has none.
 fn stands_at(component: &Component, place: &Option<Place>) -> bool
     ensures { result ≡ spec.stands_at component.now place.now }
 {
@@ -56,7 +56,7 @@ fn put_rest(out: &mut Vec<u8>, text: &[u8], from: usize) -> Result<(), AllocErro
     out.extend_from_slice(&text[from..])
 }
 
-/// Appends the text from an offset up to the change of a component, and the change; the offset behind what it
+/// Appends the text from an offset up to the change of a component, and the change; returns the offset after what it
 /// replaces.
 fn put_change(
     out: &mut Vec<u8>,
@@ -121,14 +121,14 @@ fn text_with(
     Ok(out)
 }
 
-/// The document's text, in which the placement clause of each listed component that is given another place than
-/// the document's is written anew, from its `+` to the end of its last token: `+ PLACED ( x y ) orient`, or
-/// `+ UNPLACED`. Where it has no clause, the new one and a space stand directly before its `;`. Every other byte
-/// stays, and so does each component that stands at its place already.
+/// The document's text with the placement clause of each listed component that is given another place than
+/// the document's written anew, from its `+` to the end of its last token: `+ PLACED ( x y ) orient`, or
+/// `+ UNPLACED`. If it has no clause, the new one and a space are put directly before its `;`. Every other byte
+/// is unchanged, and so is each component that is at its place already.
 ///
 /// A component is listed by its position among all components of the text; positions rise, and no listed component
-/// is FIXED or COVER. Reading the text again gives the document with these places in it, but for where its
-/// components stand in the text. `Err` where memory is refused.
+/// is FIXED or COVER. Reading the text again gives the document with these places in it, except for the positions
+/// of its components in the text. `Err` if an allocation fails.
 pub fn export(
     alloc: Global,
     document: &DefDoc<'_>,

@@ -2,7 +2,7 @@ use Rattle.std.proofs.Common.{◌≡◌, drop, map}
 use Rattle.lf_app.proofs.DesignSteps.{GoesOn}
 use Rattle.lf_app.proofs.designs.add_files.Given as goal
 
--- as long as no text is refused no fault is told, and what is left of the paths goes on with the library
+-- as long as no text is refused there is no fault, and what is left of the paths goes on with the library
 abbrev pub invariant-loop-path : goal.invariant-loop-path
 invariant-loop-path g l = record {
   untold : l.faults ≡ l.fn.faults;

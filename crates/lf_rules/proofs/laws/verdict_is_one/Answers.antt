@@ -46,7 +46,7 @@ back Overlap = refl
 rule_same : (a b : Rule) → number_of a ≡ number_of b → a ≡ b
 rule_same a b e = sym (back a) ∙ ap rule_at e ∙ back b
 
--- a cell that is met stands not before the first that is met
+-- no cell that is met is before the first that is met
 earlier : (box : Rect) (others : List Placed) (own i : ℕ) (cell : Placed) (b : IsFirstMet box others own) → i < b.place →
     slice_get others i ≡ Some cell → SharesPoint box cell.rect → ⊥
 earlier box others own i cell b less there meets =
