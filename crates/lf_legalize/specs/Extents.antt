@@ -30,7 +30,7 @@ pub record IsExtentOf (f : Frame) (extent : Rect) : Type 0 where
 abbrev pub hull : Rect → Rect → Rect
 hull a b = record { x1 = int_min a.x1 b.x1; y1 = int_min a.y1 b.y1; x2 = int_max a.x2 b.x2; y2 = int_max a.y2 b.y2 }
 
--- the value of a range that is nearest to another value: each value of the range is at least as far from it
+-- the value of a range that is nearest to another value: each value of the range is farther from the other by the same, their distance
 pub record IsNearestIn (lo hi value nearest : ℤ) : Type 0 where
   pub low : lo ≤ℤ nearest
   pub high : nearest ≤ℤ hi
