@@ -67,7 +67,7 @@ slot_at teams id = slice_get (slice_index_or teams id.team []) id.own
 abbrev pub label_at : List (List ℕ) → CellId → Option ℕ
 label_at labels id = slice_get (slice_index_or labels id.team []) id.own
 
--- the position of the entry of an id's cell; 0 where there is no such cell
+-- the position of the entry of an id's cell; 0 if there is no such cell
 abbrev pub position_in : List (List ℕ) → CellId → ℕ
 position_in components id = slice_index (slice_index_or components id.team []) id.own
 

@@ -9,9 +9,9 @@ pub struct Cell {
     pub name: Name,
     /// The position of its macro in the frame.
     pub mac: usize,
-    /// Where the team has it now; none where it is unplaced.
+    /// Where the team has it now; none if it is unplaced.
     pub working: Option<Place>,
-    /// Where the committed design has it; none where it is unplaced.
+    /// Where the committed design has it; none if it is unplaced.
     pub committed: Option<Place>,
 }
 
@@ -27,7 +27,7 @@ pub struct CellId {
 pub struct Standing {
     /// The position of its macro in the frame.
     pub mac: usize,
-    /// Its working place; none where it is unplaced.
+    /// Its working place; none if it is unplaced.
     pub working: Option<Place>,
 }
 

@@ -31,7 +31,7 @@ impl Ids {
         }
     }
 
-    /// Puts an id behind the others.
+    /// Appends an id.
     pub(crate) fn push(&mut self, id: CellId) -> Result<(), AllocError>
         ensures { OnOk result (self.new ≡ self.old ++ id ∷ []) }
     {

@@ -18,7 +18,7 @@ use std::alloc::{AllocError, Global};
 pub(crate) struct Parts {
     /// The names of all cells, in loading order.
     pub(crate) names: NameTable,
-    /// The cells that bear them.
+    /// The cells that have them.
     pub(crate) owners: Vec<CellId>,
     /// Each team's cells without their names.
     pub(crate) teams: Vec<Slots>,
@@ -49,7 +49,7 @@ fn add_new(names: &mut NameTable, name: &[u8]) -> Result<(), AllocError>
     }
 }
 
-/// Puts a cell behind the others of its team.
+/// Appends a cell to its team.
 fn push_cell(teams: &mut Vec<Slots>, team: usize, slot: Slot) -> Result<(), AllocError>
     requires { team < length teams.old.items }
     ensures { OnOk result (teams.new.items ≡ slice_set teams.old.items team (slice_index_or teams.old.items team [] ++ slot ∷ [])) }
@@ -57,7 +57,7 @@ fn push_cell(teams: &mut Vec<Slots>, team: usize, slot: Slot) -> Result<(), Allo
     teams[team].push(slot)
 }
 
-/// Puts an id behind the others of its team.
+/// Appends an id to its team.
 fn push_id(ids: &mut Vec<Ids>, team: usize, id: CellId) -> Result<(), AllocError>
     requires { team < length ids.old.items }
     ensures { OnOk result (ids.new.items ≡ slice_set ids.old.items team (slice_index_or ids.old.items team [] ++ id ∷ [])) }
@@ -104,7 +104,7 @@ fn empty_ids(alloc: Global, count: usize) -> Result<Vec<Ids>, AllocError>
 }
 
 impl Parts {
-    /// Puts the cell behind the others of its team.
+    /// Appends the cell to its team.
     fn take_in(&mut self, cell: &LoadedCell) -> Result<(), AllocError>
         requires team { cell.now.team < length self.old.teams.items }
         requires ids { length self.old.ids.items ≡ length self.old.teams.items }
@@ -153,7 +153,7 @@ impl Parts {
         self.teams.get(team)?.get(own)
     }
 
-    /// The ids of the team's cells; none where there is no such team.
+    /// The ids of the team's cells; none if there is no such team.
     pub(crate) fn ids_of(&self, team: usize) -> &[CellId]
         ensures { result.now ≡ slice_index_or self.now.ids.items team [] }
     {

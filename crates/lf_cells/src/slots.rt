@@ -71,7 +71,7 @@ impl Slots {
         }
     }
 
-    /// Puts a cell behind the others.
+    /// Appends a cell.
     pub(crate) fn push(&mut self, slot: Slot) -> Result<(), AllocError>
         ensures { OnOk result (self.new ≡ self.old ++ slot ∷ []) }
     {

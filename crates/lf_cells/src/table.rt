@@ -14,8 +14,8 @@ use std::marker::Model;
 /// The cells of all teams of a loaded design. A team's number is its position among the fences of
 /// the frame, and last comes the ground team `-`.
 ///
-/// Contracts see for each team the list of its cells in loading order, and the positions of their
-/// entries among all COMPONENTS of the DEF text. Only `build` takes memory.
+/// Contracts see for each team the list of its cells in loading order, and the positions of their entries among all
+/// COMPONENTS of the DEF text. Only `build` allocates.
 #[derive(Drop)]
 pub struct CellTable {
     parts: Parts,
@@ -37,7 +37,7 @@ impl CellTable {
     /// The table of a design as it is loaded: each team has its own cells, in loading order, each
     /// with its place in the DEF text as its working place and its committed place.
     ///
-    /// `Err` where memory is refused.
+    /// `Err` if an allocation fails.
     pub fn build(alloc: Global, loaded: &Loaded) -> Result<CellTable, AllocError>
         ensures cells { IfOk result (λ table. table.cells ≡ opening_cells loaded.now) }
         ensures components { IfOk result (λ table. table.components ≡ opening_components loaded.now) }
@@ -61,7 +61,7 @@ impl CellTable {
         None
     }
 
-    /// How many cells the team has; none where there is no such team.
+    /// How many cells the team has; none if there is no such team.
     pub fn count_of(&self, team: usize) -> usize
         ensures { result ≡ length (cells_of self.now team) }
     {
@@ -71,7 +71,7 @@ impl CellTable {
         }
     }
 
-    /// The ids of the team's cells, in loading order; none where there is no such team.
+    /// The ids of the team's cells, in loading order; none if there is no such team.
     pub fn cells_of(&self, team: usize) -> &[CellId]
         ensures { result.now ≡ ids_of team (cells_of self.now team) }
     {
@@ -86,8 +86,8 @@ impl CellTable {
         self.parts.owners.as_slice()
     }
 
-    /// The id of the team's cell of that position, the first at 0; none where the team has no such
-    /// cell, or there is no such team.
+    /// The id of the team's cell of that position, the first at 0; none if the team has no such cell, or there is no
+    /// such team.
     pub fn id_at(&self, team: usize, own: usize) -> Option<CellId>
         ensures { result ≡ id_in (cells_of self.now team) team own }
     {
@@ -95,7 +95,7 @@ impl CellTable {
         Some(self.parts.owners[slot.label as usize])
     }
 
-    /// What no command changes of a cell; none where there is no such cell.
+    /// What no command changes of a cell; none if there is no such cell.
     pub fn cell(&self, id: CellId) -> Option<CellFacts<'_>>
         ensures name { option_map (λ facts. facts.name.now) result ≡ option_map (λ c. c.name) (cell_at self.now id) }
         ensures mac { option_map (λ facts. facts.mac) result ≡ option_map (λ c. c.mac) (cell_at self.now id) }
@@ -109,8 +109,8 @@ impl CellTable {
         })
     }
 
-    /// How the team's cell of that position stands, the first at 0; none where the team has no such
-    /// cell, or there is no such team.
+    /// How the team's cell of that position stands, the first at 0; none if the team has no such cell, or there is no
+    /// such team.
     pub fn standing(&self, team: usize, own: usize) -> Option<Standing>
         ensures { result ≡ option_map standing_of (slice_get (cells_of self.now team) own) }
     {
@@ -121,14 +121,14 @@ impl CellTable {
         })
     }
 
-    /// The working place of a cell; none where it is unplaced, or there is no such cell.
+    /// The working place of a cell; none if it is unplaced, or there is no such cell.
     pub fn working(&self, id: CellId) -> Option<Place>
         ensures { result ≡ working_at (cells_of self.now id.team) id.own }
     {
         self.parts.slot(id.team as usize, id.own as usize)?.working
     }
 
-    /// The committed place of a cell; none where it is unplaced, or there is no such cell.
+    /// The committed place of a cell; none if it is unplaced, or there is no such cell.
     pub fn committed(&self, id: CellId) -> Option<Place>
         ensures { result ≡ committed_at (cells_of self.now id.team) id.own }
     {

@@ -9,7 +9,8 @@ use Rattle.lf_claims.specs.Teams.{fences, IsUnclaimed, IsClaimedBy, IsTeamOf}
 use Rattle.lf_claims.specs.Entries.{NoneBreaks, FirstIs}
 use Rattle.lf_claims.specs.Refusals.{HasTwoFences, BearsEarlierName}
 
--- what a table tells: the component that bears an earlier one's name, the claims of the components by their numbers, and the number of the ground
+-- what a table tells: the component that has an earlier one's name, the claims of the components by their numbers, and the number
+-- of the ground
 pub record Told : Type 0 where
   pub second : Option ℕ
   pub claims : List Claim
@@ -30,13 +31,14 @@ abbrev pub AreClaimsOf : List Region → List Group → List Component → List 
 AreClaimsOf regions groups components claims = (k : ℕ) (d : Component) → k < length components → IsClaimOf regions groups (slice_index_or components k d).name
     (claim_at claims k)
 
--- the table has the first component that bears an earlier one's name, the claims of all where there is none such, and the number of the ground
+-- the table has the first component that has an earlier one's name, the claims of all where there is none such, and the number of
+-- the ground
 pub record IsTableOf (regions : List Region) (groups : List Group) (components : List Component) (table : Told) : Type 0 where
   pub second : FirstIs BearsEarlierName components table.second
   pub claims : NoneBreaks BearsEarlierName components → AreClaimsOf regions groups components table.claims
   pub ground : table.ground ≡ length (fences regions)
 
--- whatever components the table is of, the found one is the first of them that bears an earlier one's name
+-- whatever components the table is of, the found one is the first of them that has an earlier one's name
 abbrev pub TellsSecondName : Told → Option ℕ → Type 0
 TellsSecondName table found = (regions : List Region) (groups : List Group) (components : List Component) → IsTableOf regions groups components table →
     FirstIs BearsEarlierName components found

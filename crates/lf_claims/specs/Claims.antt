@@ -93,7 +93,8 @@ pub record HasAtEnd (kept : PatternsAtEnd) (bounds : List Bound) : Type 0 where
   pub own : (key name : List ℕ) (fence : ℕ) → ClaimsBy (kept_under kept key) name fence → ClaimsBy bounds name fence
   pub needed : (count : ℕ) → Contains kept.lengths.items count → Any (λ b. length (key_of kept.end b.pattern) ≡ count) bounds
 
--- the pattern is kept behind those of the key; under each other key, and among the lengths, all is as it was, and the end is the same
+-- the pattern is kept after those of the key; under each other key, and among the lengths, all is as it was, and the end is the
+-- same
 pub record Keeps (old new : PatternsAtEnd) (key : List ℕ) (bound : Bound) : Type 0 where
   pub whole : length new.keys ≡ length new.bounds.items
   pub there : kept_under new key ≡ kept_under old key ++ bound ∷ []
@@ -116,7 +117,7 @@ pub record Holds (index : PatternIndex) (bounds : List Bound) : Type 0 where
   pub forth : (name : List ℕ) (fence : ℕ) → ClaimsBy bounds name fence → Labels index.literals name fence ⊎ ClaimsBy starred name fence
   pub back : (name : List ℕ) (fence : ℕ) → Labels index.literals name fence ⊎ ClaimsBy starred name fence → ClaimsBy bounds name fence
 
--- whatever patterns the old index holds, the new one holds these behind them
+-- whatever patterns the old index holds, the new one holds these after them
 abbrev pub Extends : PatternIndex → PatternIndex → List Bound → Type 0
 Extends old new more = (bounds : List Bound) → Holds old bounds → Holds new (bounds ++ more)
 
@@ -124,7 +125,7 @@ Extends old new more = (bounds : List Bound) → Holds old bounds → Holds new 
 abbrev pub Numbers : List (List ℕ) → NameMap ℕ → Type 0
 Numbers names numbers = (name : List ℕ) → value_of numbers name ≡ position_of names name
 
--- whatever names the old map numbers, the new one numbers those and this name behind them
+-- whatever names the old map numbers, the new one numbers those and this name after them
 pub record NumbersOneMore (old new : NameMap ℕ) (number : ℕ) (name : List ℕ) : Type 0 where
   pub whole : IsWhole new
   pub numbers : (names : List (List ℕ)) → number ≡ length names → Numbers names old → Numbers (names ++ name ∷ []) new
@@ -133,7 +134,7 @@ pub record NumbersOneMore (old new : NameMap ℕ) (number : ℕ) (name : List �
 abbrev pub AreTold : (List ℕ → ℕ → Type 0) → List Component → List Claim → Type 0
 AreTold claims components told = (k : ℕ) (d : Component) → k < length components → Tells (claims (slice_index_or components k d).name) (claim_at told k)
 
--- where the components' names all differ, each component has its claim; and there are none only where two bear one name
+-- where the components' names all differ, each component has its claim; and there are none only if two have one name
 abbrev pub AreClaimsWhereDistinct : (List ℕ → ℕ → Type 0) → List Component → Option (Vec Claim Global) → Type 0
 AreClaimsWhereDistinct claims components (Some told) = NoneBreaks BearsEarlierName components × AreTold claims components told.items
 AreClaimsWhereDistinct claims components None = NoneBreaks BearsEarlierName components → ⊥

@@ -80,6 +80,6 @@ pub record IsClaimedBy (regions : List Region) (groups : List Group) (name : Lis
   pub claimed : IsClaimed regions groups name fence
   pub only : (other : List ℕ) → IsClaimed regions groups name other → other ≡ fence
 
--- the team of a movable component: the one fence that claims it, or the ground, whose number is behind the fences
+-- the team of a movable component: the one fence that claims it, or the ground, whose number is after the fences
 abbrev pub IsTeamOf : List Region → List Group → List ℕ → ℕ → Type 0
 IsTeamOf regions groups name team = IsClaimedBy regions groups name team ⊎ (IsUnclaimed regions groups name × (team ≡ length (fences regions)))

@@ -10,7 +10,7 @@ use lf_names::{Added, NameParts, NameTable};
 use std::alloc::{AllocError, Global};
 
 /// The names of components in parts, each labelled with its component's number. More of them than 32 bits count are
-/// refused as want of memory.
+/// refused as a failed allocation.
 pub(crate) fn parts_of_components(
     alloc: Global,
     components: &[Component],
@@ -40,7 +40,7 @@ pub fn is_added(names: &mut NameTable, name: &[u8]) -> Result<bool, AllocError>
     }
 }
 
-/// The first component that bears an earlier one's name.
+/// The first component that has an earlier one's name.
 pub(crate) fn first_second_name(
     alloc: Global,
     components: &[Component],

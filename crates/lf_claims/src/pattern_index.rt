@@ -94,7 +94,7 @@ impl PatternIndex {
         }
     }
 
-    /// What the literal patterns claim each component for; none where two components bear one name.
+    /// What the literal patterns claim each component for; none if two components have one name.
     fn literal_claims(
         &self,
         alloc: Global,
@@ -142,7 +142,7 @@ impl PatternIndex {
         self.with_starred(alloc, components, &claims)
     }
 
-    /// What the patterns claim each component for; none where two components bear one name.
+    /// What the patterns claim each component for; none if two components have one name.
     pub(crate) fn claims_of(
         &self,
         alloc: Global,

@@ -18,7 +18,7 @@ pub struct Bound {
 }
 
 /// Patterns that are bound to fences, kept by what each of their names has at one end: at the front their bytes before
-/// the first star, at the back those behind the last. The patterns of a key stand at its position, and each length that
+/// the first star, at the back those after the last. The patterns of a key stand at its position, and each length that
 /// a key has is there once.
 #[derive(Drop)]
 pub struct PatternsAtEnd {
@@ -67,7 +67,7 @@ fn one_bound(alloc: Global, bound: Bound) -> Result<Vec<Bound>, AllocError>
     Ok(bounds)
 }
 
-/// Puts the pattern behind those that stand at the place, if there is one.
+/// Puts the pattern after those that stand at the place, if there is one.
 fn push_at(all: &mut Vec<Vec<Bound>>, place: usize, bound: Bound) -> Result<(), AllocError>
     ensures { OnOk result ((before : Vec Bound Global) → slice_get all.old.items place ≡ Some before → (after : Vec Bound Global) × (after.items ≡ before.items ++ bound ∷ []) × (all.new.items ≡ slice_set all.old.items place after)) }
 {
@@ -108,7 +108,7 @@ impl PatternsAtEnd {
         self.lengths.is_empty()
     }
 
-    /// Puts the pattern behind those of the key.
+    /// Puts the pattern after those of the key.
     fn keep(&mut self, alloc: Global, key: &[u8], bound: Bound) -> Result<(), AllocError>
         ensures { OnOk result (length self.old.keys ≡ length self.old.bounds.items → Keeps self.old self.new key.now bound) }
     {

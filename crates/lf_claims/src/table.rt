@@ -37,7 +37,7 @@ impl Model for ClaimTable {
     ghost view = { λ t. record { second = t.second; claims = t.claims.items; ground = t.ground } };
 }
 
-/// Puts the number of the fence under its name, unless an earlier fence bears it.
+/// Puts the number of the fence under its name, unless an earlier fence has it.
 fn put_fence(numbers: &mut NameMap<u32>, name: &Name, number: u32) -> Result<(), AllocError>
     requires { IsWhole numbers.old }
     ensures { OnOk result (NumbersOneMore numbers.old numbers.new number name.now) }
@@ -50,7 +50,7 @@ fn put_fence(numbers: &mut NameMap<u32>, name: &Name, number: u32) -> Result<(),
 }
 
 /// The number of each fence by its name, and how many fences there are. More of them than 32 bits count are refused as
-/// want of memory.
+/// a failed allocation.
 fn number_fences(alloc: Global, regions: &[Region]) -> Result<(NameMap<u32>, u32), AllocError>
     ensures numbers { IfOk result (λ answer. Numbers (fence_names regions.now) answer.0) }
     ensures ground { IfOk result (λ answer. answer.1 ≡ length (fences regions.now)) }
@@ -66,7 +66,7 @@ fn number_fences(alloc: Global, regions: &[Region]) -> Result<(NameMap<u32>, u32
     Ok((numbers, count))
 }
 
-/// What the names of all components tell, by all groups; the table has no claims where two components bear one name.
+/// What the names of all components tell, by all groups; the table has no claims where two components have one name.
 pub fn claim_table(
     alloc: Global,
     components: &[Component],
@@ -92,7 +92,7 @@ pub fn claim_table(
 }
 
 impl ClaimTable {
-    /// The first component that bears an earlier one's name.
+    /// The first component that has an earlier one's name.
     pub fn second_name(&self) -> Option<usize>
         ensures { TellsSecondName self.now result }
     {
@@ -123,7 +123,7 @@ impl ClaimTable {
     }
 }
 
-/// The first movable component that groups of two different fences name, where no two components bear one name.
+/// The first movable component that groups of two different fences name, where no two components have one name.
 pub fn first_claimed_twice(components: &[Component], table: &ClaimTable) -> Option<usize>
     ensures { (regions : List Region) (groups : List Group) → NoneBreaks BearsEarlierName components.now → IsTableOf regions groups components.now table.now → FirstIs (IsClaimedTwice regions groups) components.now result }
 {

@@ -7,28 +7,28 @@ use Rattle.lf_def.specs.declared.header.Header.{Header}
 use Rattle.lf_def.specs.declared.header.HeaderParts.{HeaderParts}
 use Rattle.lf_def.specs.Coordinates.{count}
 
--- VERSION v ; behind its keyword (DEF VERSION)
+-- VERSION v ; after its keyword (DEF VERSION)
 unfoldable pub version : Reader (List ℕ)
 version l = do
   v ← word l
   stop ← keyword (codes ";") v.rest
   taken v.value.text stop.rest
 
--- DIVIDERCHAR "c" ; or BUSBITCHARS "cc" ; behind its keyword (DEF DIVIDERCHAR, DEF BUSBITCHARS): the quoted text with its marks
+-- DIVIDERCHAR "c" ; or BUSBITCHARS "cc" ; after its keyword (DEF DIVIDERCHAR, DEF BUSBITCHARS): the quoted text with its marks
 unfoldable pub quoted : Reader (List ℕ)
 quoted l = do
   t ← token l
   if kind_is_word t.value.kind then fault_at Unexpected t.value.line
       else (keyword (codes ";") t.rest >>= λ stop. taken t.value.text stop.rest)
 
--- DESIGN name ; behind its keyword (DEF DESIGN)
+-- DESIGN name ; after its keyword (DEF DESIGN)
 unfoldable pub design : Reader (List ℕ)
 design l = do
   n ← name l
   stop ← keyword (codes ";") n.rest
   taken n.value.text stop.rest
 
--- UNITS DISTANCE MICRONS n ; behind its keyword (DEF UNITS): how many database units a micron has, from 1 to 20000
+-- UNITS DISTANCE MICRONS n ; after its keyword (DEF UNITS): how many database units a micron has, from 1 to 20000
 unfoldable pub units : Reader ℕ
 units l = do
   distance ← keyword (codes "DISTANCE") l

@@ -92,7 +92,7 @@ abbrev pub ClauseWithin : ℕ → ℕ → Option Placement → Type 0
 ClauseWithin from to None = Unit {0}
 ClauseWithin from to (Some p) = (from ≤ p.start) × (p.start < p.stop) × (p.stop ≤ to)
 
--- components one behind the other, from one place on and up to another, each with its clause before its semicolon
+-- components one after the other, from one place on and up to another, each with its clause before its semicolon
 abbrev pub Rising : ℕ → ℕ → List Component → Type 0
 Rising from to [] = from ≤ to
 Rising from to (c ∷ cs) = (from ≤ c.semicolon) × ClauseWithin from c.semicolon c.placement × Rising (c.semicolon + 1) to cs

@@ -148,7 +148,7 @@ blockage_words print b = codes "PLACEMENT" ∷ soft_words b.soft (partial_words 
 abbrev pub IsPrintedBlockage : Blockage → Type 0
 IsPrintedBlockage b = All IsRect b.rects
 
--- From tokens with these bytes this value is read, whatever stands behind them.
+-- From tokens with these bytes this value is read, whatever follows them.
 abbrev pub ReadsBack : {A : Type 0} → Reader A → List (List ℕ) → A → Type 0
 ReadsBack reader words x = (tokens : List Lexeme) → map plain tokens ≡ map word_of words → (behind : Lexed) → reader (with_tokens tokens behind) ≡ taken x behind
 
@@ -162,7 +162,7 @@ abbrev pub ComponentsReadBack : Reader (List Component) → List (List ℕ) → 
 ComponentsReadBack reader words cs = (tokens : List Lexeme) → map plain tokens ≡ map word_of words → (behind : Lexed)
     → (read : List Component) × (reader (with_tokens tokens behind) ≡ taken read behind) × (map without_places read ≡ map without_places cs)
 
--- each entry behind its minus
+-- each entry after its minus
 abbrev pub entries_words : {A : Type 0} → (A → List (List ℕ)) → List A → List (List ℕ) → List (List ℕ)
 entries_words words [] rest = rest
 entries_words words (x ∷ xs) rest = codes "-" ∷ (words x ++ entries_words words xs rest)

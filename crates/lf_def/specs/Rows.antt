@@ -8,7 +8,7 @@ use Rattle.lf_def.specs.declared.rows.Row.{Row}
 use Rattle.lf_def.specs.declared.rows.Sites.{Sites}
 use Rattle.lf_def.specs.Coordinates.{dbu, count, orient_of}
 
--- the end of a row, of which the first token was read: its properties are passed over
+-- the end of a row, of which the first token was read: its properties are skipped
 unfoldable pub row_end : Lexeme → Reader (Unit {0})
 row_end t l =
     if is (codes ";") t then taken tt l
@@ -21,7 +21,7 @@ step t l =
     if is (codes "STEP") t then (dbu l >>= λ x. dbu x.rest >>= λ y. token y.rest >>= λ u. row_end u.value u.rest >>= λ stop. taken (Some (record { x = x.value; y = y.value })) stop.rest)
     else (row_end t l >>= λ stop. taken None stop.rest)
 
--- numX BY numY [STEP sx sy] and the end of the row, behind DO
+-- numX BY numY [STEP sx sy] and the end of the row, after DO
 unfoldable pub sites : Reader Sites
 sites l = do
   x ← count 2147483647 l
@@ -40,7 +40,7 @@ sites_from t l =
     if is (codes "DO") t then sites l
     else (row_end t l >>= λ stop. taken one_site stop.rest)
 
--- a row behind its keyword
+-- a row after its keyword
 unfoldable pub row : Reader Row
 row l = do
   n ← name l
@@ -53,7 +53,7 @@ row l = do
   s ← sites_from u.value u.rest
   taken (record { name = n.value.text; site = site.value.text; x = x.value; y = y.value; orient = orient; sites_x = s.value.x; sites_y = s.value.y; step = s.value.step }) s.rest
 
--- one row more, behind its keyword
+-- one row more, after its keyword
 unfoldable pub with_row : List Row → Reader (List Row)
 with_row rows l = do
   r ← row l

@@ -35,7 +35,7 @@ pub struct BlockageParts {
     pub due: Due,
 }
 
-/// One more rectangle, behind RECT.
+/// One more rectangle, after RECT.
 #[tactic(auto, unfolding(crate::specs::Blockages::with_rect))]
 fn with_rect(lexer: &mut Lexer, parts: &mut BlockageParts) -> Result<bool, ReadError>
     requires rects { All IsRect parts.old.rects }
@@ -113,7 +113,7 @@ fn blockage_from(
     }
 }
 
-/// The tokens of a placement blockage behind PLACEMENT, up to its `;`.
+/// The tokens of a placement blockage after PLACEMENT, up to its `;`.
 #[derive(Drop)]
 struct BlockageTokens;
 
@@ -131,7 +131,7 @@ impl Block for BlockageTokens {
     }
 }
 
-/// What is known of a placement blockage behind PLACEMENT.
+/// What is known of a placement blockage after PLACEMENT.
 fn no_blockage(alloc: Global) -> BlockageParts
     ensures parts { result ≡ grammar.no_blockage }
     ensures rects { All IsRect result.rects }
@@ -144,7 +144,7 @@ fn no_blockage(alloc: Global) -> BlockageParts
     }
 }
 
-/// A blockage behind its minus; none where it blocks a layer.
+/// A blockage after its minus; none if it blocks a layer.
 #[tactic(auto, unfolding(crate::specs::Blockages::blockage))]
 fn read_blockage(alloc: Global, lexer: &mut Lexer) -> Result<Option<Blockage>, ReadError>
     ensures read { Reads (λ b. b) result grammar.blockage lexer.old lexer.new }
@@ -201,7 +201,7 @@ impl Block for BlockageEntries {
     }
 }
 
-/// A BLOCKAGES section behind its keyword: its blockages go behind the others.
+/// A BLOCKAGES section after its keyword: its blockages go after the others.
 #[tactic(auto, unfolding(crate::specs::Blockages::blockages))]
 pub(crate) fn blockages(
     alloc: Global,

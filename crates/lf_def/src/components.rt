@@ -42,7 +42,7 @@ pub struct Placement {
     pub place: Option<Location>,
     /// The offset of its `+` in the text.
     pub start: usize,
-    /// The offset behind its last token: the orientation, or UNPLACED where no point stands behind it.
+    /// The offset after its last token: the orientation, or UNPLACED where no point stands after it.
     pub stop: usize,
 }
 
@@ -86,7 +86,7 @@ fn narrow(x: i64) -> i32
     x as i32
 }
 
-/// `x y ) orient` behind the first parenthesis.
+/// `x y ) orient` after the first parenthesis.
 #[tactic(auto, unfolding(crate::specs::Components::located_rest))]
 fn located_rest(lexer: &mut Lexer) -> Result<Located, ReadError>
     ensures read { Reads (λ p. p) result grammar.located_rest lexer.old lexer.new }
@@ -106,7 +106,7 @@ fn located_rest(lexer: &mut Lexer) -> Result<Located, ReadError>
     })
 }
 
-/// `( x y ) orient` behind FIXED, COVER or PLACED.
+/// `( x y ) orient` after FIXED, COVER or PLACED.
 #[tactic(auto, unfolding(crate::specs::Components::placed))]
 fn placed(lexer: &mut Lexer, kind: PlacementKind, plus: usize) -> Result<Placement, ReadError>
     ensures read { Reads (λ p. p) result (grammar.placed kind plus) lexer.old lexer.new }
@@ -186,7 +186,7 @@ fn clause(lexer: &mut Lexer, parts: &mut ComponentParts, word: &Token) -> Result
     Ok(true)
 }
 
-/// The point and the orientation of UNPLACED, behind the first parenthesis.
+/// The point and the orientation of UNPLACED, after the first parenthesis.
 #[tactic(auto, unfolding(crate::specs::Components::unplaced_point))]
 fn unplaced_point(lexer: &mut Lexer, parts: &mut ComponentParts) -> Result<bool, ReadError>
     requires range { IfSome parts.old.placement (λ p. IsPlacement p) }
@@ -249,7 +249,7 @@ fn component_from(
     }
 }
 
-/// The tokens of a component behind its macro, up to its `;`.
+/// The tokens of a component after its macro, up to its `;`.
 #[derive(Drop)]
 struct ComponentTokens;
 
@@ -267,7 +267,7 @@ impl Block for ComponentTokens {
     }
 }
 
-/// What is known of a component behind its macro.
+/// What is known of a component after its macro.
 fn no_component() -> ComponentParts
     ensures { result ≡ grammar.no_component }
 {
@@ -280,7 +280,7 @@ fn no_component() -> ComponentParts
     }
 }
 
-/// A component behind its minus.
+/// A component after its minus.
 #[tactic(auto, unfolding(crate::specs::Components::component))]
 fn read_component<'a>(lexer: &mut Lexer<'a>) -> Result<Component<'a>, ReadError>
     ensures read { Reads (λ c. c) result grammar.component lexer.old lexer.new }
@@ -334,7 +334,7 @@ fn component_entries<'a>(
     Ok(())
 }
 
-/// A COMPONENTS section behind its keyword: its components go behind the others.
+/// A COMPONENTS section after its keyword: its components go after the others.
 #[tactic(auto, unfolding(crate::specs::Entries::section))]
 pub(crate) fn components<'a>(
     lexer: &mut Lexer<'a>,

@@ -54,7 +54,7 @@ pub(crate) fn count(lexer: &mut Lexer, most: u32) -> Result<u32, ReadError>
     up_to(most, value, token.line)
 }
 
-/// `x y )` behind the first parenthesis.
+/// `x y )` after the first parenthesis.
 #[tactic(auto, unfolding(crate::specs::Coordinates::point_rest))]
 pub(crate) fn point_rest(lexer: &mut Lexer) -> Result<Point, ReadError>
     ensures read { Reads (λ p. p) result grammar.point_rest lexer.old lexer.new }
@@ -108,7 +108,7 @@ fn rect_between(p: &Point, q: &Point) -> Rect
     }
 }
 
-/// `x y ) ( x y )` behind the first parenthesis.
+/// `x y ) ( x y )` after the first parenthesis.
 #[tactic(auto, unfolding(crate::specs::Coordinates::rect_rest))]
 pub(crate) fn rect_rest(lexer: &mut Lexer) -> Result<Rect, ReadError>
     ensures read { Reads (λ r. r) result grammar.rect_rest lexer.old lexer.new }

@@ -15,7 +15,7 @@ use std::alloc::Global;
 #[derive(Drop)]
 pub struct Group {
     pub name: Name,
-    /// Names of components, in the order of the text; a `*` that is not directly behind a backslash
+    /// Names of components, in the order of the text; a `*` that is not directly after a backslash
     /// stands for any run of bytes.
     pub patterns: Sequence<Name>,
     /// The region of the first REGION clause, where there is one.
@@ -49,7 +49,7 @@ fn with_pattern(
     Ok(true)
 }
 
-/// A REGION clause behind its word.
+/// A REGION clause after its word.
 #[tactic(auto, unfolding(crate::specs::Groups::with_region))]
 fn with_region(alloc: Global, lexer: &mut Lexer, parts: &mut GroupParts) -> Result<bool, ReadError>
     requires names { AreGroupParts parts.old }
@@ -116,7 +116,7 @@ fn group_from(
     }
 }
 
-/// The tokens of a group behind its name, up to its `;`.
+/// The tokens of a group after its name, up to its `;`.
 #[derive(Drop)]
 struct GroupTokens {
     alloc: Global,
@@ -136,7 +136,7 @@ impl Block for GroupTokens {
     }
 }
 
-/// What is known of a group behind its name.
+/// What is known of a group after its name.
 fn no_group(alloc: Global) -> GroupParts
     ensures parts { result ≡ grammar.no_group }
     ensures names { AreGroupParts result }
@@ -166,7 +166,7 @@ impl Entry for Group {
     }
 }
 
-/// A GROUPS section behind its keyword: its groups go behind the others.
+/// A GROUPS section after its keyword: its groups go after the others.
 pub(crate) fn groups(
     alloc: Global,
     lexer: &mut Lexer,

@@ -39,7 +39,7 @@ pub struct HeaderParts {
     pub units: Option<u32>,
 }
 
-/// `VERSION v ;` behind its keyword.
+/// `VERSION v ;` after its keyword.
 #[tactic(auto, unfolding(crate::specs::Header::version))]
 fn version<'a>(lexer: &mut Lexer<'a>) -> Result<&'a [u8], ReadError>
     ensures { Reads (λ v. v.now) result grammar.version lexer.old lexer.new }
@@ -49,7 +49,7 @@ fn version<'a>(lexer: &mut Lexer<'a>) -> Result<&'a [u8], ReadError>
     Ok(version.text)
 }
 
-/// `DIVIDERCHAR "c" ;` or `BUSBITCHARS "cc" ;` behind its keyword.
+/// `DIVIDERCHAR "c" ;` or `BUSBITCHARS "cc" ;` after its keyword.
 #[tactic(auto, unfolding(crate::specs::Header::quoted))]
 fn quoted<'a>(lexer: &mut Lexer<'a>) -> Result<&'a [u8], ReadError>
     ensures { Reads (λ q. q.now) result grammar.quoted lexer.old lexer.new }
@@ -62,7 +62,7 @@ fn quoted<'a>(lexer: &mut Lexer<'a>) -> Result<&'a [u8], ReadError>
     Ok(token.text)
 }
 
-/// `DESIGN name ;` behind its keyword.
+/// `DESIGN name ;` after its keyword.
 #[tactic(auto, unfolding(crate::specs::Header::design))]
 fn design<'a>(lexer: &mut Lexer<'a>) -> Result<&'a [u8], ReadError>
     ensures read { Reads (λ n. n.now) result grammar.design lexer.old lexer.new }
@@ -73,7 +73,7 @@ fn design<'a>(lexer: &mut Lexer<'a>) -> Result<&'a [u8], ReadError>
     Ok(name.text)
 }
 
-/// `UNITS DISTANCE MICRONS n ;` behind its keyword.
+/// `UNITS DISTANCE MICRONS n ;` after its keyword.
 #[tactic(auto, unfolding(crate::specs::Header::units))]
 fn units(lexer: &mut Lexer) -> Result<u32, ReadError>
     ensures read { Reads (λ n. n) result grammar.units lexer.old lexer.new }

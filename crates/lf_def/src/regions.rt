@@ -54,7 +54,7 @@ fn kind_of(token: &Token) -> Result<RegionKind, ReadError>
     }
 }
 
-/// One more rectangle, behind its first parenthesis.
+/// One more rectangle, after its first parenthesis.
 #[tactic(auto, unfolding(crate::specs::Regions::with_rect))]
 fn with_rect(lexer: &mut Lexer, parts: &mut RegionParts) -> Result<bool, ReadError>
     requires rects { All IsRect parts.old.rects }
@@ -68,7 +68,7 @@ fn with_rect(lexer: &mut Lexer, parts: &mut RegionParts) -> Result<bool, ReadErr
     Ok(true)
 }
 
-/// A TYPE clause behind its word.
+/// A TYPE clause after its word.
 #[tactic(auto, unfolding(crate::specs::Regions::with_kind))]
 fn with_kind(lexer: &mut Lexer, parts: &mut RegionParts) -> Result<bool, ReadError>
     requires rects { All IsRect parts.old.rects }
@@ -133,7 +133,7 @@ fn region_from(lexer: &mut Lexer, parts: &mut RegionParts, token: &Token) -> Res
     }
 }
 
-/// The tokens of a region behind its first rectangle, up to its `;`.
+/// The tokens of a region after its first rectangle, up to its `;`.
 #[derive(Drop)]
 struct RegionTokens;
 
@@ -151,7 +151,7 @@ impl Block for RegionTokens {
     }
 }
 
-/// What is known of a region behind its first rectangle.
+/// What is known of a region after its first rectangle.
 fn first_rect(alloc: Global, rect: Rect) -> Result<RegionParts, ReadError>
     requires rect { IsRect rect }
     ensures parts { IfOk result (λ parts. parts ≡ grammar.first_rect rect) }
@@ -187,7 +187,7 @@ impl Entry for Region {
     }
 }
 
-/// A REGIONS section behind its keyword: its regions go behind the others.
+/// A REGIONS section after its keyword: its regions go after the others.
 pub(crate) fn regions(
     alloc: Global,
     lexer: &mut Lexer,

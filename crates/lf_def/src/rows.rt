@@ -72,7 +72,7 @@ fn step(lexer: &mut Lexer, first: &Token) -> Result<Option<Point>, ReadError>
     }
 }
 
-/// `numX BY numY [STEP sx sy]` and the end of a row, behind DO.
+/// `numX BY numY [STEP sx sy]` and the end of a row, after DO.
 #[tactic(auto, unfolding(crate::specs::Rows::sites))]
 fn read_sites(lexer: &mut Lexer) -> Result<Sites, ReadError>
     ensures read { Reads (λ s. s) result grammar.sites lexer.old lexer.new }
@@ -108,7 +108,7 @@ fn sites_from(lexer: &mut Lexer, token: &Token) -> Result<Sites, ReadError>
     }
 }
 
-/// A row behind its keyword.
+/// A row after its keyword.
 #[tactic(auto, unfolding(crate::specs::Rows::row))]
 pub(crate) fn read_row(alloc: Global, lexer: &mut Lexer) -> Result<Row, ReadError>
     ensures read { Reads (λ r. r) result grammar.row lexer.old lexer.new }

@@ -26,7 +26,7 @@ impl<'a> TextName<'a> {
         TextName { bytes }
     }
 
-    /// The bytes, lent.
+    /// The bytes, borrowed.
     pub fn as_bytes(&self) -> &[u8]
         ensures { result.now ≡ self.now }
     {

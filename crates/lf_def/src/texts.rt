@@ -30,8 +30,8 @@ fn document<'a>(alloc: Global, text: &'a [u8]) -> Result<DefDoc<'a>, ReadError>
     })
 }
 
-/// Reads a DEF text up to its END DESIGN: the header, and rows, regions, groups, components and
-/// placement blockages in the order of the text. Other sections and statements of DEF are passed over.
+/// Reads a DEF text up to its END DESIGN: the header, and rows, regions, groups, components and placement blockages in
+/// the order of the text. Other sections and statements of DEF are skipped.
 ///
 /// The refusal is the first fault in the order of the tokens, with its line: BadToken, UnexpectedEnd,
 /// Unexpected, BadNumber, WrongEnd, UnknownStatement or TooMany; or OutOfMemory, where a growth was

@@ -95,7 +95,7 @@ fn frame_row(alloc: Global, row: &DefRow) -> Result<Row, AllocError>
     })
 }
 
-/// The heeded rows, in the order of the text.
+/// The rows of core sites, in the order of the text.
 pub(crate) fn heeded_rows(
     alloc: Global,
     rows: &[DefRow],
@@ -208,7 +208,7 @@ pub(crate) fn fixed_boxes(
     Ok(boxes)
 }
 
-/// Puts copies of the rectangles behind the others.
+/// Appends copies of the rectangles.
 fn push_rects(rects: &[Rect], obstacles: &mut Sequence<Rect>) -> Result<(), AllocError>
     ensures { OnOk result (obstacles.new ≡ obstacles.old ++ rects.now) }
 {
@@ -218,7 +218,7 @@ fn push_rects(rects: &[Rect], obstacles: &mut Sequence<Rect>) -> Result<(), Allo
     Ok(())
 }
 
-/// Puts the rectangles of a placement blockage that is neither SOFT nor PARTIAL behind the others.
+/// Appends the rectangles of a placement blockage that is neither SOFT nor PARTIAL.
 fn push_blockage(blockage: &Blockage, obstacles: &mut Sequence<Rect>) -> Result<(), AllocError>
     ensures { OnOk result (obstacles.new ≡ obstacles.old ++ blocked blockage.now) }
 {
@@ -228,7 +228,7 @@ fn push_blockage(blockage: &Blockage, obstacles: &mut Sequence<Rect>) -> Result<
     push_rects(blockage.rects.as_slice(), obstacles)
 }
 
-/// Puts the rectangles of all placement blockages that are neither SOFT nor PARTIAL behind the others.
+/// Appends the rectangles of all placement blockages that are neither SOFT nor PARTIAL.
 pub(crate) fn push_blockages(
     blockages: &[Blockage],
     obstacles: &mut Sequence<Rect>,

@@ -40,7 +40,7 @@ point l = do
   t ← token l
   point_from t.value t.rest
 
--- SIZE w BY h ; behind its keyword (LEF SITE, LEF MACRO)
+-- SIZE w BY h ; after its keyword (LEF SITE, LEF MACRO)
 unfoldable pub size : Reader Point
 size l = do
   width ← micros l
@@ -49,7 +49,7 @@ size l = do
   stop ← keyword (codes ";") height.rest
   taken (record { x = width.value; y = height.value }) stop.rest
 
--- ORIGIN x y ; behind its keyword (LEF MACRO)
+-- ORIGIN x y ; after its keyword (LEF MACRO)
 unfoldable pub origin : Reader Point
 origin l = do
   p ← point l

@@ -26,7 +26,7 @@ past_iterate t l = if is (codes "ITERATE") t then token l else taken t l
 abbrev pub reach_of : ℤ → ℤ → Reach
 reach_of a b = record { low = int_min a b; high = int_max a b }
 
--- RECT [MASK n] [ITERATE] pt pt .. ; behind its keyword: of an ITERATE the first rectangle counts
+-- RECT [MASK n] [ITERATE] pt pt .. ; after its keyword: of an ITERATE the first rectangle counts
 unfoldable pub rect : Reader Reach
 rect l = do
   t ← token l
@@ -37,7 +37,7 @@ rect l = do
   stop ← to_semicolon opposite.rest
   taken (reach_of corner.value.y opposite.value.y) stop.rest
 
--- A statement of a port, of which the first token was read: every RECT counts, others are passed over, and an END alone is the last.
+-- A statement of a port, of which the first token was read: every RECT counts, others are skipped, and an END alone is the last.
 unfoldable pub port_statement_from : List Reach → Lexeme → Reader (Turn (List Reach))
 port_statement_from reaches t l =
     if is (codes "END") t then ends reaches l
@@ -54,7 +54,7 @@ port_statement reaches l = do
 abbrev pub use_named : List ℕ → PinUse
 use_named w = if bytes_eq w (codes "POWER") then Power else if bytes_eq w (codes "GROUND") then Ground else Other
 
--- A statement of a pin, of which the first token was read: the first USE stands, every PORT counts, and others are passed over.
+-- A statement of a pin, of which the first token was read: the first USE stands, every PORT counts, and others are skipped.
 unfoldable pub pin_statement_from : List ℕ → Pin → Lexeme → Reader (Turn Pin)
 pin_statement_from name pin t l =
     if is (codes "END") t then (end_name name l >>= λ stop. ends pin stop.rest)
@@ -71,7 +71,7 @@ pin_statement name pin l = do
 abbrev pub no_pin : Pin
 no_pin = record { supply = None; reaches = [] }
 
--- PIN name, its statements, END name; behind its keyword
+-- PIN name, its statements, END name; after its keyword
 unfoldable pub pin : Reader Pin
 pin l = do
   n ← name l

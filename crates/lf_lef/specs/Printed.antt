@@ -68,9 +68,9 @@ pin_words name use_word x1 y1 x2 y2 = codes "PIN" ∷ name ∷ (use_words use_wo
 abbrev pub macro_words : List ℕ → List ℕ → List ℕ → List ℕ → List ℕ → Symmetry → List (List ℕ) → List (List ℕ)
 macro_words name x y w h symmetry pin = codes "MACRO" ∷ name ∷ (origin_words x y ++ (size_words w h ++ (symmetry_words symmetry ++ (pin ++ end_words name))))
 
--- Statements that are passed over.
+-- Statements that are skipped.
 
--- what is passed over to END and the name behind the keyword
+-- what is skipped to END and the name after the keyword
 pub data NamedGroup : Type 0 where
   layer : NamedGroup
   via : NamedGroup
@@ -85,7 +85,7 @@ named_word via_rule = codes "VIARULE"
 named_word rule = codes "NONDEFAULTRULE"
 named_word array = codes "ARRAY"
 
--- what is passed over to END and the keyword
+-- what is skipped to END and the keyword
 pub data Group : Type 0 where
   units : Group
   property_definitions : Group
@@ -106,8 +106,8 @@ group_word correction_table = codes "CORRECTIONTABLE"
 abbrev pub with_semicolon : List Plain → List Plain
 with_semicolon tokens = tokens ++ word_of (codes ";") ∷ []
 
--- The statement is passed over up to its semicolon: it has no other, and begins with none of the words that begin
--- a statement that is read otherwise. A semicolon alone is one too.
+-- The statement is skipped up to its semicolon: it has no other, and begins with none of the words that begin a statement that is
+-- read otherwise. A semicolon alone is one too.
 abbrev pub IsPassedOver : List (List ℕ) → List Plain → Type 0
 IsPassedOver others [] = Unit {0}
 IsPassedOver others (t ∷ ts) = All (λ word. t.text ≢ word) others × HaveNowhere (codes ";" ∷ []) (t ∷ ts)
@@ -129,32 +129,32 @@ passed_tokens (named keyword name between) = word_of (named_word keyword) ∷ wo
 passed_tokens (grouped keyword between) = word_of (group_word keyword) ∷ (between ++ map word_of (end_words (group_word keyword)))
 passed_tokens (extension between) = word_of (codes "BEGINEXT") ∷ (between ++ word_of (codes "ENDEXT") ∷ [])
 
--- the words that begin a statement which is not passed over up to a semicolon
+-- the words that begin a statement which is not skipped up to a semicolon
 abbrev pub other_statements : List (List ℕ)
 other_statements =
     codes "END" ∷ codes "SITE" ∷ codes "MACRO" ∷ codes "LAYER" ∷ codes "VIA" ∷ codes "VIARULE" ∷ codes "NONDEFAULTRULE" ∷ codes "ARRAY"
     ∷ codes "UNITS" ∷ codes "PROPERTYDEFINITIONS" ∷ codes "SPACING" ∷ codes "IRDROP" ∷ codes "NOISETABLE" ∷ codes "CORRECTIONTABLE" ∷ codes "BEGINEXT" ∷ []
 
--- the statement ends with its last word and not before: END and the name stand nowhere one directly behind the other before that
+-- the statement ends with its last word and not before: END and the name stand nowhere one directly after the other before that
 abbrev pub IsWhole : Passed → Type 0
 IsWhole (plain_statement tokens) = IsPassedOver other_statements tokens
 IsWhole (named keyword name between) = IsPrintable name × HaveNowhere (codes "END" ∷ name ∷ []) (between ++ word_of (codes "END") ∷ [])
 IsWhole (grouped keyword between) = HaveNowhere (codes "END" ∷ group_word keyword ∷ []) between
 IsWhole (extension between) = HaveNowhere (codes "ENDEXT" ∷ []) between
 
--- the statements one behind the other, and then these tokens
+-- the statements one after the other, and then these tokens
 abbrev pub tokens_behind : List Passed → List Plain → List Plain
 tokens_behind [] tokens = tokens
 tokens_behind (p ∷ ps) tokens = passed_tokens p ++ tokens_behind ps tokens
 
 -- What is read.
 
--- statements that are passed over play no part, whatever stands behind
+-- statements that are skipped play no part, whatever follows
 abbrev pub PassesOver : Contents → Type 0
 PassesOver c = (passed : List Passed) (tokens : List Lexeme) (behind : Lexed) → All IsWhole passed → Spells tokens (tokens_behind passed [])
     → library c (with_tokens tokens behind) ≡ library c behind
 
--- a printed site of a name that is new is read back, behind statements that are passed over and whatever stands behind it
+-- a printed site of a name that is new is read back, after statements that are skipped and whatever follows it
 abbrev pub ReadsSite : Contents → Site → Type 0
 ReadsSite c s = (passed : List Passed) (class w h : List ℕ) (tokens : List Lexeme) (behind : Lexed)
     → All IsWhole passed → IsPrintable s.name → class ≢ codes ";" → bytes_eq class (codes "CORE") ≡ s.core → Writes w s.size.x → Writes h s.size.y
@@ -162,7 +162,8 @@ ReadsSite c s = (passed : List Passed) (class w h : List ℕ) (tokens : List Lex
     → Spells tokens (tokens_behind passed (map word_of (site_words s.name class s.symmetry w h)))
     → library c (with_tokens tokens behind) ≡ library (record c { sites = c.sites ++ s ∷ [] }) behind
 
--- a printed macro of a name that is new is read back with the rail that its pin gives it, behind statements that are passed over and whatever stands behind it
+-- a printed macro of a name that is new is read back with the rail that its pin gives it, after statements that are skipped and
+-- whatever follows it
 abbrev pub ReadsMacro : Contents → Macro → Type 0
 ReadsMacro c m = (passed : List Passed) (x y w h pin use_word x1 y1 x2 y2 : List ℕ) (low high left right : ℤ) (tokens : List Lexeme) (behind : Lexed)
     → All IsWhole passed → IsPrintable m.name → IsPrintable pin → use_word ≢ codes ";" → Writes x m.origin.x → Writes y m.origin.y → Writes w m.size.x

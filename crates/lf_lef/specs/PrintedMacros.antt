@@ -1,4 +1,4 @@
--- Printed LEF macros: statements in any order, in MACRO, in PIN, in PORT and in OBS, with whatever is passed over among them.
+-- Printed LEF macros: statements in any order, in MACRO, in PIN, in PORT and in OBS, with whatever is skipped among them.
 use Rattle.std.specs.Prelude.{◌≡◌, ◌≢◌, ℕ, ◌<◌, Bool, List, [], ◌∷◌, ◌++◌, length, map, All, IfSome, ℤ, Option, Some, None, codes, if◌then◌else◌, true}
 use Rattle.lf_units.specs.declared.area.Point.{Point}
 use Rattle.lf_orient.specs.declared.Symmetry.{Symmetry}
@@ -47,7 +47,8 @@ point_of p = record { x = p.x.length; y = p.y.length }
 
 -- Ports (LEF MACRO PIN PORT).
 
--- a rectangle: its mask, whether it is repeated, two opposite corners, and what stands behind them up to its semicolon, as DO n BY m STEP x y
+-- a rectangle: its mask, whether it is repeated, two opposite corners, and what follows them up to its semicolon, as DO n BY m
+-- STEP x y
 pub record PrintedRect : Type 0 where
   pub mask : Option PrintedLength
   pub iterate : Bool
@@ -87,7 +88,7 @@ abbrev pub IsPortStatement : PortStatement → Type 0
 IsPortStatement (port_rect r) = IsPrintedRect r
 IsPortStatement (port_passed tokens) = IsPassedOver (codes "END" ∷ codes "RECT" ∷ []) tokens
 
--- the statements one behind the other, and END
+-- the statements one after the other, and END
 abbrev pub port_tokens : List PortStatement → List Plain
 port_tokens [] = word_of (codes "END") ∷ []
 port_tokens (s ∷ ss) = port_statement_tokens s ++ port_tokens ss
@@ -119,7 +120,7 @@ IsPinStatement (pin_use use_word) = use_word ≢ codes ";"
 IsPinStatement (pin_port statements) = All IsPortStatement statements
 IsPinStatement (pin_passed tokens) = IsPassedOver (codes "END" ∷ codes "USE" ∷ codes "PORT" ∷ []) tokens
 
--- the statements one behind the other, and END name
+-- the statements one after the other, and END name
 abbrev pub pin_body_tokens : List ℕ → List PinStatement → List Plain
 pin_body_tokens name [] = map word_of (end_words name)
 pin_body_tokens name (s ∷ ss) = pin_statement_tokens s ++ pin_body_tokens name ss
@@ -136,7 +137,7 @@ with_pin_statements pin (s ∷ ss) = with_pin_statements (with_pin_statement pin
 
 -- Macros (LEF MACRO).
 
--- what is passed over statement by statement, up to an END alone
+-- what is skipped statement by statement, up to an END alone
 pub data Layers : Type 0 where
   obstructions : Layers
   density : Layers
@@ -211,7 +212,7 @@ IsMacroStatement (macro_timing between) = HaveNowhere (codes "END" ∷ codes "TI
 IsMacroStatement (macro_passed tokens) =
     IsPassedOver (codes "END" ∷ codes "ORIGIN" ∷ codes "SIZE" ∷ codes "SYMMETRY" ∷ codes "PIN" ∷ codes "OBS" ∷ codes "DENSITY" ∷ codes "TIMING" ∷ []) tokens
 
--- the statements one behind the other, and END name
+-- the statements one after the other, and END name
 abbrev pub macro_body_tokens : List ℕ → List MacroStatement → List Plain
 macro_body_tokens name [] = map word_of (end_words name)
 macro_body_tokens name (s ∷ ss) = macro_statement_tokens s ++ macro_body_tokens name ss
@@ -220,7 +221,7 @@ macro_body_tokens name (s ∷ ss) = macro_statement_tokens s ++ macro_body_token
 abbrev pub macro_tokens : List ℕ → List MacroStatement → List Plain
 macro_tokens name statements = word_of (codes "MACRO") ∷ word_of name ∷ macro_body_tokens name statements
 
--- the first ORIGIN, SIZE and SYMMETRY stand, every PIN counts, and what is passed over plays no part
+-- the first ORIGIN, SIZE and SYMMETRY stand, every PIN counts, and what is skipped plays no part
 abbrev pub with_statement : MacroParts → MacroStatement → MacroParts
 with_statement parts (macro_origin p) = record parts { origin = first_stands parts.origin (point_of p) }
 with_statement parts (macro_size w h) = record parts { size = first_stands parts.size (record { x = w.length; y = h.length }) }
@@ -238,7 +239,8 @@ with_statements parts (s ∷ ss) = with_statements (with_statement parts s) ss
 abbrev pub said_macro : List ℕ → List MacroStatement → Macro
 said_macro name statements = macro_of name (with_statements no_macro_parts statements)
 
--- A macro that is printed by any such statements, and whose name is new, is read back, behind statements that are passed over and whatever stands behind it.
+-- A macro that is printed by any such statements, and whose name is new, is read back, after statements that are skipped and
+-- whatever follows it.
 abbrev pub ReadsMacroOf : Contents → Macro → List MacroStatement → Type 0
 ReadsMacroOf c m statements = (passed : List Passed) (tokens : List Lexeme) (behind : Lexed)
     → All IsWhole passed → IsPrintable m.name → All IsMacroStatement statements → said_macro m.name statements ≡ m

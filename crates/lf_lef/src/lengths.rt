@@ -60,7 +60,7 @@ pub(crate) fn point(lexer: &mut Lexer) -> Result<Point, ReadError>
     point_from(lexer, &token)
 }
 
-/// `SIZE w BY h ;` behind its keyword.
+/// `SIZE w BY h ;` after its keyword.
 #[tactic(auto, unfolding(crate::specs::Lengths::size))]
 pub(crate) fn size(lexer: &mut Lexer) -> Result<Point, ReadError>
     ensures read { Reads (λ p. p) result grammar.size lexer.old lexer.new }
@@ -73,7 +73,7 @@ pub(crate) fn size(lexer: &mut Lexer) -> Result<Point, ReadError>
     Ok(Point { x, y })
 }
 
-/// `ORIGIN x y ;` behind its keyword.
+/// `ORIGIN x y ;` after its keyword.
 #[tactic(auto, unfolding(crate::specs::Lengths::origin))]
 pub(crate) fn origin(lexer: &mut Lexer) -> Result<Point, ReadError>
     ensures read { Reads (λ p. p) result grammar.origin lexer.old lexer.new }

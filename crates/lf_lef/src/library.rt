@@ -36,7 +36,7 @@ impl Model for Library {
 }
 
 impl Library {
-    /// The empty library, which takes no memory.
+    /// The empty library, which allocates nothing.
     pub fn new(alloc: Global) -> Self
         ensures { result ≡ record { sites = []; macros = [] } }
     {
@@ -85,7 +85,7 @@ impl Library {
         self.macro_table.find(name)
     }
 
-    /// Puts a site behind the others.
+    /// Appends a site.
     pub(crate) fn add_site(&mut self, site: Site) -> Result<(), AllocError>
         requires site { IsSite site }
         requires fresh { position_of (site_names self.old.sites) site.name ≡ None }
@@ -97,7 +97,7 @@ impl Library {
         push_site(&mut self.sites, &mut self.site_table, site)
     }
 
-    /// Puts a macro behind the others.
+    /// Appends a macro.
     pub(crate) fn add_macro(&mut self, cell: Macro) -> Result<(), AllocError>
         requires cell { IsMacro cell }
         requires fresh { position_of (macro_names self.old.macros) cell.name ≡ None }
@@ -109,7 +109,7 @@ impl Library {
         push_macro(&mut self.macros, &mut self.macro_table, cell)
     }
 
-    /// Keeps the first sites and macros, so many of each. Takes no memory.
+    /// Keeps the first sites and macros, so many of each. Allocates nothing.
     pub(crate) fn truncate(&mut self, sites: usize, macros: usize)
         ensures { self.new ≡ record
             { sites = take sites self.old.sites; macros = take macros self.old.macros } }

@@ -27,7 +27,7 @@ pub struct MacroParts {
     pub pins: Sequence<Pin>,
 }
 
-/// The statements of OBS or DENSITY, which are passed over.
+/// The statements of OBS or DENSITY, which are skipped.
 #[derive(Drop)]
 struct PassedStatements;
 

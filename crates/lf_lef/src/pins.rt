@@ -67,7 +67,7 @@ fn reach_of(a: i64, b: i64) -> Reach
     }
 }
 
-/// `RECT [MASK n] [ITERATE] pt pt .. ;` behind its keyword.
+/// `RECT [MASK n] [ITERATE] pt pt .. ;` after its keyword.
 #[tactic(auto, unfolding(crate::specs::Pins::rect))]
 fn rect(lexer: &mut Lexer) -> Result<Reach, ReadError>
     ensures { Reads (λ r. r) result grammar.rect lexer.old lexer.new }
@@ -103,7 +103,7 @@ fn port_statement_from(
     Ok(true)
 }
 
-/// The statements of a port: its rectangles go behind the others.
+/// The statements of a port: its rectangles go after the others.
 #[derive(Drop)]
 struct PortStatements;
 
@@ -176,7 +176,7 @@ impl<'n> Block for PinStatements<'n> {
     }
 }
 
-/// `PIN name`, its statements and `END name`, behind its keyword.
+/// `PIN name`, its statements and `END name`, after its keyword.
 #[tactic(auto, unfolding(crate::specs::Pins::pin))]
 pub(crate) fn read_pin(alloc: Global, lexer: &mut Lexer) -> Result<Pin, ReadError>
     ensures { Reads (λ p. p) result grammar.pin lexer.old lexer.new }

@@ -33,7 +33,7 @@ pub(crate) fn one_word<'a>(lexer: &mut Lexer<'a>) -> Result<&'a [u8], ReadError>
     Ok(word.text)
 }
 
-/// The words behind SYMMETRY, up to the `;`.
+/// The words after SYMMETRY, up to the `;`.
 #[derive(Drop)]
 struct SymmetryWords;
 
@@ -59,7 +59,7 @@ impl Block for SymmetryWords {
     }
 }
 
-/// `SYMMETRY {X | Y | R90} .. ;` behind its keyword.
+/// `SYMMETRY {X | Y | R90} .. ;` after its keyword.
 pub(crate) fn symmetry(lexer: &mut Lexer) -> Result<Symmetry, ReadError>
     ensures { Reads (λ s. s) result grammar.symmetry lexer.old lexer.new }
 {

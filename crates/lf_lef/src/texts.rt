@@ -29,7 +29,7 @@ fn room_for(known: Option<usize>, count: usize, name: &Token) -> Result<(), Read
     Ok(())
 }
 
-/// SITE behind its keyword.
+/// SITE after its keyword.
 #[tactic(auto, unfolding(crate::specs::Library::with_site))]
 fn site(library: &mut Library, lexer: &mut Lexer) -> Result<(), ReadError>
     ensures read { Reads (λ _. library.new) result
@@ -47,7 +47,7 @@ fn site(library: &mut Library, lexer: &mut Lexer) -> Result<(), ReadError>
     Ok(())
 }
 
-/// MACRO behind its keyword.
+/// MACRO after its keyword.
 #[tactic(auto, unfolding(crate::specs::Library::with_macro))]
 fn cell(library: &mut Library, lexer: &mut Lexer) -> Result<(), ReadError>
     ensures read { Reads (λ _. library.new) result
@@ -65,7 +65,7 @@ fn cell(library: &mut Library, lexer: &mut Lexer) -> Result<(), ReadError>
     Ok(())
 }
 
-/// Whether a statement of this keyword is passed over to END and the name behind the keyword.
+/// Whether a statement of this keyword is skipped to END and the name after the keyword.
 fn is_named(token: &Token) -> bool
     ensures { result ≡ grammar.is_named (lexeme token.now) }
 {
@@ -76,7 +76,7 @@ fn is_named(token: &Token) -> bool
         || is(b"ARRAY", token)
 }
 
-/// Whether a statement of this keyword is passed over to END and the keyword.
+/// Whether a statement of this keyword is skipped to END and the keyword.
 fn is_group(token: &Token) -> bool
     ensures { result ≡ grammar.is_group (lexeme token.now) }
 {

@@ -1,4 +1,4 @@
--- Reading a list of tokens from its front: a value and the tokens behind it, or the first fault with its line.
+-- Reading a list of tokens from its front: a value and the tokens after it, or the first fault with its line.
 use Rattle.std.specs.Prelude.{◌≡◌, ℕ, zero, suc, ◌<◌, ◌≤◌, nat_lt, Bool, true, false, ◌&&◌, not, List, [], ◌∷◌, length, Option, Some, None, Result, Ok, Err}
 use Rattle.std.specs.Prelude.{codes, if◌then◌else◌}
 use Rattle.std.specs.Str.{bytes_eq}
@@ -14,7 +14,7 @@ use Rattle.lf_lex.specs.declared.fault.ReadError.{ReadError}
 use Rattle.lf_lex.specs.declared.fault.ReadError.TheVariants.{Memory, Fault}
 use Rattle.lf_lex.specs.Tokens.{Lexeme, Lexed, is_word_byte}
 
--- what was read, and what is left behind it
+-- what was read, and what is left after it
 pub record Taken (A : Type 0) : Type 0 where
   pub value : A
   pub rest : Lexed
@@ -120,7 +120,7 @@ name l = do
   t ← word l
   if nat_lt 1024 (length t.value.text) then fault_at TooMany t.value.line else taken t.value t.rest
 
--- the name that is due behind an END
+-- the name that is due after an END
 unfoldable pub end_name : List ℕ → Reader (Unit {0})
 end_name due l = do
   t ← token l
@@ -163,9 +163,9 @@ abbrev pub first_stands : {A : Type 0} → Option A → A → Option A
 first_stands None x = Some x
 first_stands (Some first) x = Some first
 
--- Passing over.
+-- Skipping.
 
--- a token that is passed over; a semicolon is the last
+-- a token that is skipped; a semicolon is the last
 unfoldable pub passed_token : Statement (Unit {0})
 passed_token _ l = do
   t ← token l
@@ -175,7 +175,7 @@ passed_token _ l = do
 abbrev pub to_semicolon : Reader (Unit {0})
 to_semicolon l = block passed_token tt l
 
--- a token that is passed over, directly behind an END or not; the name that is due behind END is the last
+-- a token that is skipped, directly after an END or not; the name that is due after END is the last
 unfoldable pub passed_to_end : List ℕ → Statement Bool
 passed_to_end due behind_end l = do
   t ← token l
@@ -187,7 +187,7 @@ to_end due l = do
   t ← block (passed_to_end due) false l
   taken tt t.rest
 
--- a token that is passed over; the word that is due is the last
+-- a token that is skipped; the word that is due is the last
 unfoldable pub passed_to_word : List ℕ → Statement (Unit {0})
 passed_to_word due _ l = do
   t ← token l
@@ -209,7 +209,7 @@ abbrev pub Fails : {A : Type 0} → ReadError → Result A ReadFault → Type 0
 Fails Memory reading = Unit {0}
 Fails (Fault f) reading = reading ≡ Err f
 
--- the error is a fault of the text: what takes no memory never answers want of it
+-- the error is a fault of the text: what allocates nothing never answers want of it
 abbrev pub IsFault : ReadError → Type 0
 IsFault Memory = ⊥
 IsFault (Fault f) = Unit {0}

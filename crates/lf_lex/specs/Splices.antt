@@ -15,7 +15,7 @@ unfoldable pub spliced : ℕ → List Splice → List ℕ → List ℕ
 spliced at [] bytes = bytes
 spliced at (s ∷ ss) bytes = take (s.start - at) bytes ++ (s.new ++ spliced s.stop ss (drop (s.stop - at) bytes))
 
--- splices one behind the other, within a text of so many bytes
+-- splices one after the other, within a text of so many bytes
 abbrev pub Rising : ℕ → ℕ → List Splice → Type 0
 Rising at len [] = at ≤ len
 Rising at len (s ∷ ss) = (at ≤ s.start) × (s.start ≤ s.stop) × Rising s.stop len ss
@@ -43,7 +43,7 @@ abbrev pub LastIs : ℕ → Lexeme → List Lexeme → Type 0
 LastIs stop t [] = (t.stop ≡ stop) × (is_word_text t.text ≡ true)
 LastIs stop t (u ∷ us) = LastIs stop u us
 
--- what one splice does to the tokens: the run that it replaces by words, and what stands behind; an insertion stands before a token
+-- what one splice does to the tokens: the run that it replaces by words, and what follows; an insertion stands before a token
 abbrev pub Makes : Splice → List (List ℕ) → List Lexeme → List Lexeme → Type 0
 Makes s ws [] [] = ⊥
 Makes s ws [] (t ∷ after) = (s.start ≡ t.start) × (s.stop ≡ t.start) × (s.new ≡ joined ws ++ 32 ∷ [])

@@ -13,7 +13,7 @@ use Rattle.lf_lex.specs.declared.tokens.LexFault.TheVariants.{BadToken, Unexpect
 abbrev pub Lexeme : Type 0
 Lexeme = TokenOf (List ℕ)
 
--- the tokens of a text, the fault behind them, and the line on which the text ends
+-- the tokens of a text, the fault after them, and the line on which the text ends
 pub record Lexed : Type 0 where
   pub tokens : List Lexeme
   pub fault : Option LexFault
@@ -32,7 +32,7 @@ is_word_byte b = nat_le 33 b && nat_le b 126
 abbrev pub line_feeds : List ℕ → ℕ
 line_feeds bytes = count_by is_line_feed bytes
 
--- how many bytes of a comment stand behind its number sign: all up to the end of the line
+-- how many bytes of a comment stand after its number sign: all up to the end of the line
 abbrev pub comment_len : List ℕ → ℕ
 comment_len bytes = position_or_len is_line_feed bytes
 
@@ -53,7 +53,7 @@ with_token token rest = record { tokens = token ∷ rest.tokens; fault = rest.fa
 abbrev pub stopped : LexFault → ℕ → Lexed
 stopped fault end_line = record { tokens = []; fault = Some fault; end_line = end_line }
 
--- The token whose first byte is b, and which has so many bytes of those behind b.
+-- The token whose first byte is b, and which has so many bytes of those after b.
 abbrev pub token_at : TokenKind → ℕ → ℕ → ℕ → List ℕ → ℕ → Lexeme
 token_at kind at line b bytes more = record { text = b ∷ take more bytes; kind = kind; start = at; stop = at + 1 + more; line = line }
 
@@ -76,7 +76,7 @@ tokens_of text = tokens_from 0 0 1 text
 abbrev pub lexeme : TokenOf (Bor (List ℕ)) → Lexeme
 lexeme t = record { text = t.text.now; kind = t.kind; start = t.start; stop = t.stop; line = t.line }
 
--- What a call for the next token answers: the first of them, or the end, or the fault behind them, which then stays.
+-- What a call for the next token answers: the first of them, or the end, or the fault after them, which then stays.
 abbrev pub Answers : Result (Option (TokenOf (Bor (List ℕ)))) LexFault → Lexed → Lexed → Type 0
 Answers (Ok (Some token)) old new = old ≡ with_token (lexeme token) new
 Answers (Ok None) old new = (old.tokens ≡ []) × (old.fault ≡ None) × (new ≡ old)
@@ -87,14 +87,14 @@ abbrev pub BeginsToken : List ℕ → Type 0
 BeginsToken [] = Unit {0}
 BeginsToken (b ∷ bytes) = (is_white b ≡ false) × ((b == 35) ≡ false)
 
--- What a token read at a place is: the first of those that are left, with the others behind it; or the fault in its place.
+-- What a token read at a place is: the first of those that are left, with the others after it; or the fault in its place.
 abbrev pub ReadsToken : List ℕ → ℕ → ℕ → Result (TokenOf (Bor (List ℕ))) LexFault → Type 0
 ReadsToken text at line (Ok t) =
     (at + length t.text.now ≡ t.stop) × (at < t.stop) × (t.stop ≤ length text)
     × (tokens_from 0 at line (drop at text) ≡ with_token (lexeme t) (tokens_from 0 t.stop (line + line_feeds t.text.now) (drop t.stop text)))
 ReadsToken text at line (Err fault) = tokens_from 0 at line (drop at text) ≡ stopped fault (line + line_feeds (drop at text))
 
--- Tokens that are slices of a text, one behind the other, from a place on.
+-- Tokens that are slices of a text, one after the other, from a place on.
 abbrev pub AreSlices : List ℕ → ℕ → List Lexeme → Type 0
 AreSlices text from [] = Unit {0}
 AreSlices text from (t ∷ ts) = (from ≤ t.start) × (t.start < t.stop) × (t.text ≡ take (t.stop - t.start) (drop t.start text)) × AreSlices text t.stop ts
@@ -111,7 +111,7 @@ pub record Plain : Type 0 where
 abbrev pub plain : Lexeme → Plain
 plain t = record { text = t.text; kind = t.kind }
 
--- Whatever stands in place of a token and all behind it, the tokens before it stay, with their places.
+-- Whatever stands in place of a token and all after it, the tokens before it stay, with their places.
 abbrev pub CutsAtTokens : List ℕ → Type 0
 CutsAtTokens text = (new : List ℕ) (before : List Lexeme) (t : Lexeme) (after : List Lexeme) → (tokens_of text).tokens ≡ before ++ t ∷ after
     → tokens_of (take t.start text ++ new) ≡ with_tokens before (tokens_from 0 t.start t.line new)

@@ -24,7 +24,7 @@ pub trait Block {
 
     /// Reads a statement, and puts what it says into the state; whether more follow.
     ///
-    /// `Err` is a fault of the text with its line, or want of memory.
+    /// `Err` is a fault of the text with its line, or a failed allocation.
     fn turn(&self, lexer: &mut Lexer, state: &mut Self::State) -> Result<bool, ReadError>
         requires kept { keeps self.now state.old }
         ensures read { Reads (reading.turn state.new) result (statement self.now state.old) lexer.old lexer.new }

@@ -41,13 +41,13 @@ pub enum FaultNumber {
     NoSize,
     /// A size is no whole number of database units.
     NotWhole,
-    /// A component bears an earlier one's name.
+    /// A component has an earlier one's name.
     SecondName,
-    /// A fence bears an earlier one's name.
+    /// A fence has an earlier one's name.
     SecondRegion,
     /// A group's region is in no REGIONS entry.
     NoRegion,
-    /// A fence bears the name of the ground outside all fences.
+    /// A fence has the name of the ground outside all fences.
     TeamName,
     /// A fence shares a point with an earlier one.
     FencesOverlap,
@@ -55,13 +55,13 @@ pub enum FaultNumber {
     TwoFences,
     /// A name is too long, or there is one thing more than the limit of its kind.
     TooMany,
-    /// A growth of memory was refused.
+    /// An allocation failed.
     OutOfMemory,
 }
 
 /// A refusal of a text or a design, with the line or the name that it speaks of.
 ///
-/// Readers name the line, loading names the entry, and want of memory names neither.
+/// Readers name the line, loading names the entry, and a failed allocation names neither.
 #[derive(Clone, Copy, Debug, PartialEq, Eq)]
 pub struct LoadFault<'a> {
     pub number: FaultNumber,
@@ -76,7 +76,7 @@ pub struct ReadFault {
     pub line: usize,
 }
 
-/// Why a reader gave up: a fault of the text, or a growth of memory that was refused.
+/// Why a reader gave up: a fault of the text, or a failed allocation.
 #[derive(Debug, Drop)]
 pub enum ReadError {
     Memory,

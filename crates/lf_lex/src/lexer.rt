@@ -70,12 +70,12 @@ pub fn kinds_follow_texts()
     ensures { (text : List ℕ) → All IsSpelled (tokens_of text).tokens }
 {}
 
-/// The tokens of a text are slices of it, one behind the other.
+/// The tokens of a text are slices of it, one after the other.
 pub fn slices_in_order()
     ensures { (text : List ℕ) → AreSlices text 0 (tokens_of text).tokens }
 {}
 
-/// Whatever stands in place of a token and all behind it, the tokens before it stay.
+/// Whatever stands in place of a token and all after it, the tokens before it stay.
 pub fn cuts_at_tokens()
     ensures { (text : List ℕ) → CutsAtTokens text }
 {}

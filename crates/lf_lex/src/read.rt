@@ -131,7 +131,7 @@ pub fn name<'a>(lexer: &mut Lexer<'a>) -> Result<Token<'a>, ReadError>
     }
 }
 
-/// Past the name that is due behind an END: WrongEnd for another word, Unexpected for a quoted text.
+/// Past the name that is due after an END: WrongEnd for another word, Unexpected for a quoted text.
 #[tactic(auto, unfolding(crate::specs::Reading::end_name))]
 pub fn end_name(lexer: &mut Lexer, due: &[u8]) -> Result<(), ReadError>
     ensures read { Reads (λ x. x) result (reading.end_name due.now) lexer.old lexer.new }
@@ -148,7 +148,7 @@ pub fn end_name(lexer: &mut Lexer, due: &[u8]) -> Result<(), ReadError>
     }
 }
 
-/// What is passed over up to a `;`.
+/// What is skipped up to a `;`.
 #[derive(Drop)]
 struct ToSemicolon;
 
@@ -174,8 +174,8 @@ pub fn to_semicolon(lexer: &mut Lexer) -> Result<(), ReadError>
     read_block(lexer, &ToSemicolon, &mut ())
 }
 
-/// What is passed over up to an END that stands directly before the name that is due. Its state: whether the last
-/// token was END.
+/// What is skipped up to an END that stands directly before the name that is due. Its state: whether the last token was
+/// END.
 #[derive(Drop)]
 struct ToEnd<'d> {
     due: &'d [u8],
@@ -209,7 +209,7 @@ pub fn to_end(lexer: &mut Lexer, due: &[u8]) -> Result<(), ReadError>
     read_block(lexer, &ToEnd { due }, &mut behind_end)
 }
 
-/// What is passed over up to the word that is due.
+/// What is skipped up to the word that is due.
 #[derive(Drop)]
 struct ToWord<'d> {
     due: &'d [u8],

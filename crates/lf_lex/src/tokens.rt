@@ -18,7 +18,7 @@ pub struct TokenOf<T> {
     pub kind: TokenKind,
     /// The offset of its first byte.
     pub start: usize,
-    /// The offset behind its last byte.
+    /// The offset after its last byte.
     pub stop: usize,
     /// 1 and the line feeds before its first byte.
     pub line: usize,

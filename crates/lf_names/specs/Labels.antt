@@ -19,7 +19,7 @@ pub record IsMatch (names asked : List Labelled) (m : Match) : Type 0 where
   pub is_own : Contains names (record { label = m.own; name = name })
   pub is_asked : Contains asked (record { label = m.asked; name = name })
 
--- these are the matches of two lists, in whatever order
+-- these are the matches of two lists, in any order
 abbrev pub AreMatches : List Labelled → List Labelled → List Match → Type 0
 AreMatches names asked matches = (m : Match) → Contains matches m ↔ IsMatch names asked m
 

@@ -19,7 +19,7 @@ hash_step hash byte = (hash * factor % 2 ^ 32 + byte) % 2 ^ 32
 unfoldable pub part_of : List ℕ → ℕ
 part_of name = fold hash_step 0 name * factor % 2 ^ 32 / 2 ^ 24
 
--- the bytes of these names, one behind the other
+-- the bytes of these names, one after the other
 abbrev pub joined : List Labelled → List ℕ
 joined names = flat_map (λ n. n.name) names
 
@@ -36,7 +36,7 @@ pub record Keeps (store : LabelledNames) (names : List Labelled) : Type 0 where
 abbrev pub names_of_part : ℕ → List Labelled → List Labelled
 names_of_part part names = filter (λ n. part_of n.name == part) names
 
--- the names that the entries cut from the bytes, one behind the other
+-- the names that the entries cut from the bytes, one after the other
 abbrev pub cut_names : List Entry → List ℕ → List Labelled
 cut_names [] bytes = []
 cut_names (e ∷ entries) bytes = record { label = e.label; name = take e.len bytes } ∷ cut_names entries (drop e.len bytes)

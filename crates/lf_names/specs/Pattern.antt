@@ -57,6 +57,6 @@ bytes_behind_star seen [] = seen
 bytes_behind_star seen (byte c ∷ parts) = bytes_behind_star (seen ++ c ∷ []) parts
 bytes_behind_star seen (star ∷ parts) = bytes_behind_star [] parts
 
--- the bytes of a pattern behind its last star, or all where there is none
+-- the bytes of a pattern after its last star, or all where there is none
 abbrev pub suffix_of : List ℕ → List ℕ
 suffix_of pattern = bytes_behind_star [] (parts_of pattern)

@@ -35,8 +35,8 @@ impl<'a> LentNames<'a> {
         })
     }
 
-    /// Adds the name behind the others, unless it is there already. An `Err`, for want of memory,
-    /// can only come of a new name.
+    /// Adds the name after the others, unless it is there already. An `Err`, from a failed allocation, can only come of
+    /// a new name.
     pub(crate) fn add(&mut self, name: &'a [u8]) -> Result<Added, AllocError>
         ensures ok { IfOk result (λ added. Adds self.old name.now added self.new) }
         ensures err { OnErr result (self.new ≡ self.old) }

@@ -25,7 +25,7 @@ pub struct Entry {
     len: u32,
 }
 
-/// Names with labels, in the order in which they were pushed: their bytes stand one behind the other.
+/// Names with labels, in the order in which they were pushed: their bytes stand one after the other.
 #[derive(Drop)]
 pub struct LabelledNames {
     bytes: Vec<u8>,
@@ -71,7 +71,7 @@ fn part_of(name: &[u8]) -> usize
     (hash.wrapping_mul(FACTOR) >> 24) as usize
 }
 
-/// The first `len` bytes, and those behind them.
+/// The first `len` bytes, and those after them.
 fn cut(bytes: &[u8], len: u32) -> (&[u8], &[u8])
     ensures front { result.0.now ≡ take len bytes.now }
     ensures back { result.1.now ≡ drop len bytes.now }
@@ -90,8 +90,8 @@ impl LabelledNames {
         }
     }
 
-    /// Puts a name with its label behind the others. An `Err`, for want of memory or for a name of more bytes than 32
-    /// bits count, leaves the names as they are.
+    /// Appends a name with its label. An `Err`, from a failed allocation or for a name of more bytes than 32 bits
+    /// count, leaves the names as they are.
     fn push(&mut self, label: u32, name: &[u8]) -> Result<(), AllocError>
         ensures ok { (names : List Labelled) → Keeps self.old names → OnOk result (Keeps self.new (names ++ record { label = label; name = name.now } ∷ [])) }
         ensures err { (names : List Labelled) → Keeps self.old names → OnErr result (Keeps self.new names) }
@@ -107,7 +107,7 @@ impl LabelledNames {
     }
 }
 
-/// The table of the names, or none where one stands twice.
+/// The table of the names, or none if one stands twice.
 fn table_of(alloc: Global, names: &LabelledNames) -> Result<Option<LentNames<'_>>, AllocError>
     ensures names { (own : List Labelled) → Keeps names.now own → IfOk result (λ answer. IfSome answer (λ table. table ≡ map (λ n. n.name) own)) }
     ensures differ { (own : List Labelled) → Keeps names.now own → IfOk result (λ answer. IfSome answer (λ table. Differ own)) }
@@ -134,7 +134,7 @@ fn label_of(names: &LabelledNames, table: &LentNames, name: &[u8]) -> Option<u32
     Some(entry.label)
 }
 
-/// Puts a match behind the others, if the name that is asked for has a label.
+/// Appends a match, if the name that is asked for has a label.
 fn add_match(matches: &mut Vec<Match>, own: Option<u32>, asked: u32) -> Result<(), AllocError>
     ensures { OnOk result (matches.new.items ≡ matches.old.items ++ option_to_list (option_map (labels_of asked) own)) }
 {
@@ -144,7 +144,7 @@ fn add_match(matches: &mut Vec<Match>, own: Option<u32>, asked: u32) -> Result<(
     Ok(())
 }
 
-/// Puts the match of each asked name that is there behind the others.
+/// Appends the match of each asked name that is there.
 fn match_names(
     names: &LabelledNames,
     table: &LentNames,
@@ -162,8 +162,8 @@ fn match_names(
     Ok(())
 }
 
-/// Puts the matches of one part behind the others, and tells whether the names of the part differ; where they do
-/// not, there are none.
+/// Appends the matches of one part, and returns whether the names of the part differ; where they do not, there are
+/// none.
 fn match_part(
     alloc: Global,
     names: &LabelledNames,
@@ -191,7 +191,7 @@ fn empty_parts(alloc: Global) -> Result<Vec<LabelledNames>, AllocError>
     Ok(parts)
 }
 
-/// Puts the name behind the others of its part.
+/// Appends the name to its part.
 fn push_in_part(parts: &mut Vec<LabelledNames>, label: u32, name: &[u8]) -> Result<(), AllocError>
     ensures ok { (names : List Labelled) → ArePartsOf names parts.old.items → OnOk result (ArePartsOf (names ++ record { label = label; name = name.now } ∷ []) parts.new.items) }
     ensures err { (names : List Labelled) → ArePartsOf names parts.old.items → OnErr result (ArePartsOf names parts.new.items) }
@@ -203,7 +203,7 @@ fn push_in_part(parts: &mut Vec<LabelledNames>, label: u32, name: &[u8]) -> Resu
     Ok(())
 }
 
-/// The matches of all parts, one part behind the other; none where names of one part do not differ.
+/// The matches of all parts, one part after the other; none if names of one part do not differ.
 fn match_parts(
     alloc: Global,
     own: &[LabelledNames],
@@ -236,8 +236,8 @@ impl NameParts {
         })
     }
 
-    /// Puts the name with its label among the others, in its part. An `Err` is for want of memory or for a name of more
-    /// bytes than 32 bits count.
+    /// Puts the name with its label among the others, in its part. An `Err` is from a failed allocation or for a name
+    /// of more bytes than 32 bits count.
     pub fn push(&mut self, label: u32, name: &[u8]) -> Result<(), AllocError>
         ensures ok { OnOk result (IsPermutation (self.old ++ record { label = label; name = name.now } ∷ []) self.new) }
         ensures err { OnErr result (self.new ≡ self.old) }
@@ -246,8 +246,8 @@ impl NameParts {
         Ok(())
     }
 
-    /// The labels of each of these names that is asked for, once for each time that it is, in whatever order. None
-    /// exactly where one of these names stands twice.
+    /// The labels of each of these names that is asked for, once for each time that it is, in any order. None iff one
+    /// of these names stands twice.
     pub fn matches(
         &self,
         alloc: Global,

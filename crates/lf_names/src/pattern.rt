@@ -50,8 +50,7 @@ impl<'a> Pattern<'a> {
         }
     }
 
-    /// The bytes behind the last star, or all where there is none. Each name that the pattern
-    /// stands for ends with them.
+    /// The bytes after the last star, or all where there is none. Each name that the pattern stands for ends with them.
     pub fn suffix(&self) -> &'a [u8]
         ensures suffix { result.now ≡ suffix_of self.now }
         ensures ends { (name : List ℕ) → Matches self.now name → (run : List ℕ) × (name ≡ run ++ result.now) }
@@ -59,8 +58,8 @@ impl<'a> Pattern<'a> {
         behind_last_star(self.bytes)
     }
 
-    /// Whether the pattern stands for the name. Takes no memory, and time at most in proportion to
-    /// the name's length times the pattern's.
+    /// Whether the pattern stands for the name. Allocates nothing, and time at most in proportion to the name's length
+    /// times the pattern's.
     pub fn matches(&self, name: &[u8]) -> bool
         ensures { IsTrue result ↔ Matches self.now name.now }
     {
@@ -81,8 +80,8 @@ fn stands_for(pattern: &[u8], name: &[u8]) -> bool
     }
 }
 
-/// Whether the pattern stands for some end of the name. The bytes between two stars are best sought
-/// at their first place, since that leaves most to the stars behind them.
+/// Whether the pattern stands for some end of the name. The bytes between two stars are best sought at their first
+/// place, since that leaves most to the stars after them.
 fn stands_for_an_end(pattern: &[u8], name: &[u8]) -> bool
     ensures { IsTrue result ↔ Becomes (star ∷ parts_of pattern.now) name.now }
 {
@@ -98,7 +97,7 @@ fn stands_for_an_end(pattern: &[u8], name: &[u8]) -> bool
     remaining_name.ends_with(remaining_pattern)
 }
 
-/// The bytes before the pattern's first star, which stand for themselves, and the pattern behind it.
+/// The bytes before the pattern's first star, which stand for themselves, and the pattern after it.
 fn split_at_star(pattern: &[u8]) -> Option<(&[u8], &[u8])>
     ensures parts { MatchOption result (IsLiteral pattern.now) (λ p. parts_of pattern.now ≡ map byte p.0.now ++ star ∷ parts_of p.1.now) }
     ensures shorter { IfSome result (λ p. length p.1.now < length pattern.now) }
@@ -113,7 +112,7 @@ fn split_at_star(pattern: &[u8]) -> Option<(&[u8], &[u8])>
     None
 }
 
-/// The bytes behind the pattern's last star, or all where there is none.
+/// The bytes after the pattern's last star, or all where there is none.
 fn behind_last_star(pattern: &[u8]) -> &[u8]
     ensures { result.now ≡ suffix_of pattern.now }
 {
@@ -124,7 +123,7 @@ fn behind_last_star(pattern: &[u8]) -> &[u8]
     remaining
 }
 
-/// What the name has behind the first place of the piece.
+/// What the name has after the first place of the piece.
 fn behind_first<'x>(name: &'x [u8], piece: &[u8]) -> Option<&'x [u8]>
     ensures { MatchOption result ((before rest : List ℕ) → name.now ≢ before ++ (piece.now ++ rest)) (λ rest. IsBehindFirst name.now piece.now rest.now) }
 {

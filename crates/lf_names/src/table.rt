@@ -38,7 +38,7 @@ impl<A: Allocator + Copy> Model for NameTable<A> {
 }
 
 impl<A: Allocator + Copy> NameTable<A> {
-    /// The empty table, which takes no memory.
+    /// The empty table, which allocates nothing.
     pub fn new(alloc: A) -> Self
         ensures { result ≡ [] }
     {
@@ -47,8 +47,8 @@ impl<A: Allocator + Copy> NameTable<A> {
         }
     }
 
-    /// Adds the name behind the others, unless it is there already. An `Err`, for want of memory,
-    /// can only come of a new name.
+    /// Adds the name after the others, unless it is there already. An `Err`, from a failed
+    /// allocation, can only come of a new name.
     pub fn add(&mut self, name: &[u8]) -> Result<Added, AllocError>
         ensures ok { IfOk result (λ added. Adds self.old name.now added self.new) }
         ensures err { OnErr result (self.new ≡ self.old) }
@@ -97,7 +97,7 @@ impl<A: Allocator + Copy> NameTable<A> {
         self.names.is_empty()
     }
 
-    /// Keeps the first `len` names and drops the others. Takes no memory.
+    /// Keeps the first `len` names and drops the others. Allocates nothing.
     pub fn truncate(&mut self, len: usize)
         ensures { self.new ≡ take len self.old }
     {

@@ -72,7 +72,8 @@ pub record CoreHasPartUnits (i : Inputs) (core : Site) (found : Option (List ℕ
 abbrev pub region_name : Group → List ℕ
 region_name g = unwrap_or g.region []
 
--- what the refusal of this number finds (LEF SITE, MACRO; DEF UNITS, ROW, REGIONS, GROUPS, COMPONENTS); the numbers of readers, and want of memory, find nothing
+-- what the refusal of this number finds (LEF SITE, MACRO; DEF UNITS, ROW, REGIONS, GROUPS, COMPONENTS); the numbers of readers,
+-- and a failed allocation, find nothing
 abbrev pub Finds : Inputs → FaultNumber → Finding
 Finds i NoUnits = λ found. found ≡ cond (is_some i.document.header.units) None (Some i.document.header.design)
 Finds i NoSite = NameOfFirst (λ r. r.site) (HasNoSite i.library) i.document.rows

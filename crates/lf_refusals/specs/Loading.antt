@@ -1,4 +1,4 @@
--- What loading takes from a LEF library and a DEF text: sites and macros by their names, the core site and heeded rows
+-- What loading takes from a LEF library and a DEF text: sites and macros by their names, the core site and rows of core sites
 -- (LEF SITE, MACRO; DEF ROW).
 use Rattle.std.specs.Prelude.{ℕ, pos, int_lt, Bool, false, ◌&&◌, List, Option, Some, None, slice_get}
 use Rattle.std.specs.Option.{option_and_then}
@@ -52,6 +52,6 @@ core_site library rows = option_and_then (λ r. site_named library r.site) (core
 abbrev pub is_heeded : Site → Row → Bool
 is_heeded core r = bytes_eq r.site core.name
 
--- a heeded row as the frame has it
+-- a row of core sites as the frame has it
 abbrev pub frame_row : Row → FrameRow
 frame_row r = record { name = r.name; x = r.x; y = r.y; orient = r.orient; sites = r.sites_x }

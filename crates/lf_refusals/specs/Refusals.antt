@@ -22,19 +22,19 @@ use Rattle.lf_refusals.specs.Loading.{site_named, macro_named, has_size, IsWhole
 abbrev pub HasNoSite : Contents → List Row → Row → Type 0
 HasNoSite library earlier r = site_named library r.site ≡ None
 
--- VerticalRow: a heeded row has another number of sites upwards than 1
+-- VerticalRow: a row of core sites has another number of sites upwards than 1
 abbrev pub IsVertical : Site → List Row → Row → Type 0
 IsVertical core earlier r = (is_heeded core r ≡ true) × (r.sites_y ≢ 1)
 
--- BadStep: a heeded row of several sites steps by another length than the site's width
+-- BadStep: a row of core sites of several sites steps by another length than the site's width
 abbrev pub HasBadStep : Site → Point → List Row → Row → Type 0
 HasBadStep core pitch earlier r = (is_heeded core r ≡ true) × (1 < r.sites_x) × IsSomeAnd r.step (λ step. step.x ≢ pitch.x)
 
--- RowOrient: a heeded row is not N, S, FN or FS
+-- RowOrient: a row of core sites is not N, S, FN or FS
 abbrev pub IsTurned : Site → List Row → Row → Type 0
 IsTurned core earlier r = (is_heeded core r ≡ true) × (IsSome (rail_below r.orient) → ⊥)
 
--- RowsOverlap: a heeded row shares a point with an earlier heeded one
+-- RowsOverlap: a row of core sites shares a point with an earlier heeded one
 abbrev pub MeetsEarlierRow : Site → Point → List Row → Row → Type 0
 MeetsEarlierRow core pitch earlier r =
     (is_heeded core r ≡ true) × Any (λ e. (is_heeded core e ≡ true) × SharesPoint (row_area pitch (frame_row e)) (row_area pitch (frame_row r))) earlier
@@ -57,7 +57,7 @@ pub record AreMacroFaults (library : Contents) (units : ℕ) (components : List 
   pub sizeless : FirstIs (HasNoSize library) components faults.sizeless
   pub part_units : FirstIs (HasPartUnits library units) components faults.part_units
 
--- SecondRegion: a fence bears an earlier fence's name
+-- SecondRegion: a fence has an earlier fence's name
 abbrev pub BearsEarlierFence : List Region → Region → Type 0
 BearsEarlierFence earlier r = (is_fence r ≡ true) × Any (λ e. (is_fence e ≡ true) × (e.name ≡ r.name)) earlier
 
@@ -80,7 +80,7 @@ pub record SharePoint (first second : List Rect) : Type 0 where
 abbrev pub MeetsEarlierFence : List Region → Region → Type 0
 MeetsEarlierFence earlier r = (is_fence r ≡ true) × Any (λ e. (is_fence e ≡ true) × SharePoint e.rects r.rects) earlier
 
--- TooMany, of heeded rows
+-- TooMany, of rows of core sites
 abbrev pub IsRowTooMany : Site → ℕ → List Row → Row → Type 0
 IsRowTooMany core limit earlier r = (is_heeded core r ≡ true) × (limit ≤ length (filter (is_heeded core) earlier))
 
@@ -92,6 +92,6 @@ IsFenceTooMany limit earlier r = (is_fence r ≡ true) × (limit ≤ length (fil
 abbrev pub IsComponentTooMany : ℕ → List Component → Component → Type 0
 IsComponentTooMany limit earlier c = limit ≤ length earlier
 
--- TooMany, of a heeded row that ends past the largest coordinate
+-- TooMany, of a row of core sites that ends past the largest coordinate
 abbrev pub EndsTooFar : Site → Point → List Row → Row → Type 0
 EndsTooFar core pitch earlier r = (is_heeded core r ≡ true) × (pos 2147483647 <ℤ (row_area pitch (frame_row r)).x2)

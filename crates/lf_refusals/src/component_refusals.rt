@@ -126,7 +126,7 @@ pub(crate) fn macro_faults(components: &[Component], library: &Library, units: u
     }
 }
 
-/// The first component that stands behind so many components as the limit allows.
+/// The first component that stands after so many components as the limit allows.
 pub(crate) fn first_component_too_many(components: &[Component], limit: usize) -> Option<usize>
     ensures { FirstIs (IsComponentTooMany limit) components.now result }
 {

@@ -28,7 +28,7 @@ fn is_second_fence(names: &mut NameTable, region: &Region) -> Result<bool, Alloc
     Ok(!new)
 }
 
-/// The first fence that bears an earlier fence's name.
+/// The first fence that has an earlier fence's name.
 pub(crate) fn first_second_fence(
     alloc: Global,
     regions: &[Region],
@@ -164,7 +164,7 @@ fn rect_piece(number: usize, rect: &Rect) -> Piece
     }
 }
 
-/// The rectangles of an entry, behind the pieces of earlier ones.
+/// The rectangles of an entry, after the pieces of earlier ones.
 fn push_pieces(pieces: &mut Vec<Piece>, number: usize, rects: &[Rect]) -> Result<(), AllocError>
     ensures { OnOk result (pieces.new.items ≡ pieces.old.items ++ map (λ rect. piece_of number rect) rects.now) }
 {
@@ -174,7 +174,7 @@ fn push_pieces(pieces: &mut Vec<Piece>, number: usize, rects: &[Rect]) -> Result
     Ok(())
 }
 
-/// The rectangles of a region behind the pieces of earlier ones, where it is a fence.
+/// The rectangles of a region after the pieces of earlier ones, where it is a fence.
 fn push_region(pieces: &mut Vec<Piece>, number: usize, region: &Region) -> Result<(), AllocError>
     ensures { OnOk result (pieces.new.items ≡ pieces.old.items ++ fence_pieces_of number region.now) }
 {
@@ -210,7 +210,7 @@ pub(crate) fn first_fence_overlap(
     Ok(fence_overlap_by_pairs(regions))
 }
 
-/// The first fence that stands behind so many fences as the limit allows.
+/// The first fence that stands after so many fences as the limit allows.
 pub(crate) fn first_fence_too_many(regions: &[Region], limit: usize) -> Option<usize>
     ensures { FirstIs (IsFenceTooMany limit) regions.now result }
 {

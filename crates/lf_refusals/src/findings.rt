@@ -98,7 +98,7 @@ pub(crate) fn no_rows<'d>(
     }
 }
 
-/// The first heeded row of several sites upwards.
+/// The first row of core sites of several sites upwards.
 pub(crate) fn vertical_row<'d>(
     library: &Library,
     document: &'d DefDoc,
@@ -125,7 +125,7 @@ pub fn units_of(document: &DefDoc) -> u32
     }
 }
 
-/// The first heeded row of several sites whose step is another length than the site's width.
+/// The first row of core sites of several sites whose step is another length than the site's width.
 pub(crate) fn bad_step<'d>(
     library: &Library,
     document: &'d DefDoc,
@@ -143,7 +143,7 @@ pub(crate) fn bad_step<'d>(
     row_name(rows, first_bad_step(rows, core, &pitch))
 }
 
-/// The first heeded row that is neither N, S, FN nor FS.
+/// The first row of core sites that is neither N, S, FN nor FS.
 pub(crate) fn row_orient<'d>(
     library: &Library,
     document: &'d DefDoc,
@@ -158,7 +158,7 @@ pub(crate) fn row_orient<'d>(
     row_name(rows, first_turned(rows, core))
 }
 
-/// The first heeded row that shares a point with an earlier one.
+/// The first row of core sites that shares a point with an earlier one.
 pub(crate) fn rows_overlap<'d>(
     alloc: Global,
     library: &Library,
@@ -260,7 +260,7 @@ pub(crate) fn not_whole<'d>(
     component_mac(document.components.as_slice(), faults.part_units)
 }
 
-/// The first component that bears an earlier one's name.
+/// The first component that has an earlier one's name.
 pub(crate) fn second_name<'d>(
     claims: &ClaimTable,
     library: &Library,
@@ -309,7 +309,7 @@ fn region_of_group<'d>(groups: &'d [Group], place: Option<usize>) -> Option<&'d 
     }
 }
 
-/// The first fence that bears an earlier fence's name.
+/// The first fence that has an earlier fence's name.
 pub(crate) fn second_region<'d>(
     alloc: Global,
     library: &Library,
@@ -363,7 +363,7 @@ pub(crate) fn fences_overlap<'d>(
     Ok(region_at(regions, first))
 }
 
-/// The first movable component that groups of two different fences name, where no two components bear one name.
+/// The first movable component that groups of two different fences name, where no two components have one name.
 pub(crate) fn two_fences<'d>(
     claims: &ClaimTable,
     library: &Library,
@@ -379,7 +379,7 @@ pub(crate) fn two_fences<'d>(
     component_name(components, first)
 }
 
-/// The first heeded row beyond the limit.
+/// The first row of core sites beyond the limit.
 fn rows_too_many<'d>(library: &Library, document: &'d DefDoc, limits: &Limits) -> Option<&'d [u8]>
     ensures { OfCore (inputs library.now document.now limits.now) (λ core. NameOfFirst (λ r. r.name) (IsRowTooMany core limits.now.rows) document.now.rows) (option_copied result) }
 {
@@ -412,7 +412,7 @@ fn components_too_many<'d>(document: &'d DefDoc, limits: &Limits) -> Option<&'d 
     )
 }
 
-/// The first heeded row that ends past the largest coordinate.
+/// The first row of core sites that ends past the largest coordinate.
 fn row_too_far<'d>(library: &Library, document: &'d DefDoc, limits: &Limits) -> Option<&'d [u8]>
     ensures { OfPitch (inputs library.now document.now limits.now) (λ core pitch. NameOfFirst (λ r. r.name) (EndsTooFar core pitch) document.now.rows) (option_copied result) }
 {
@@ -426,7 +426,7 @@ fn row_too_far<'d>(library: &Library, document: &'d DefDoc, limits: &Limits) -> 
     row_name(rows, first_too_far(rows, core, &pitch))
 }
 
-/// The first entry beyond a limit: of heeded rows, fences and components, and then a row that ends too far.
+/// The first entry beyond a limit: of rows of core sites, fences and components, and then a row that ends too far.
 pub(crate) fn too_many<'d>(
     library: &Library,
     document: &'d DefDoc,

@@ -26,7 +26,7 @@ use std::alloc::{AllocError, Global};
 /// The first of loading's refusals.
 const FIRST: u8 = 7;
 
-/// The number behind the last of loading's refusals.
+/// The number after the last of loading's refusals.
 const END: u8 = 24;
 
 /// The refusal of that number.

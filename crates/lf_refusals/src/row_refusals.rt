@@ -89,7 +89,7 @@ fn is_vertical(row: &Row, core: &Site) -> bool
     is_heeded(row, core) && row.sites_y != 1
 }
 
-/// The first heeded row with another number of sites upwards than 1.
+/// The first row of core sites with another number of sites upwards than 1.
 pub(crate) fn first_vertical(rows: &[Row], core: &Site) -> Option<usize>
     ensures { FirstIs (IsVertical core.now) rows.now result }
 {
@@ -111,7 +111,7 @@ fn has_bad_step(row: &Row, core: &Site, pitch: &Pitch) -> bool
     }
 }
 
-/// The first heeded row of several sites that steps by another length than the site's width.
+/// The first row of core sites of several sites that steps by another length than the site's width.
 pub(crate) fn first_bad_step(rows: &[Row], core: &Site, pitch: &Pitch) -> Option<usize>
     ensures { FirstIs (HasBadStep core.now pitch.now.size) rows.now result }
 {
@@ -130,7 +130,7 @@ fn is_turned(row: &Row, core: &Site) -> bool
     is_heeded(row, core) && row_rail(row.orient).is_none()
 }
 
-/// The first heeded row that is neither N, S, FN nor FS.
+/// The first row of core sites that is neither N, S, FN nor FS.
 pub(crate) fn first_turned(rows: &[Row], core: &Site) -> Option<usize>
     ensures { FirstIs (IsTurned core.now) rows.now result }
 {
@@ -142,7 +142,7 @@ pub(crate) fn first_turned(rows: &[Row], core: &Site) -> Option<usize>
     None
 }
 
-/// The first heeded row that stands behind so many heeded rows as the limit allows.
+/// The first row of core sites that stands after so many rows of core sites as the limit allows.
 pub(crate) fn first_row_too_many(rows: &[Row], core: &Site, limit: usize) -> Option<usize>
     ensures { FirstIs (IsRowTooMany core.now limit) rows.now result }
 {
@@ -207,7 +207,7 @@ fn do_rows_meet(first: &Row, second: &Row, pitch: &Pitch) -> bool
     !ends_before(first, second, pitch)
 }
 
-/// Whether a heeded row of the list shares a point with this one.
+/// Whether a row of core sites of the list shares a point with this one.
 fn meets_one_of(row: &Row, earlier: &[Row], core: &Site, pitch: &Pitch) -> bool
     requires row { IsRow row.now }
     requires each { All IsRow earlier.now }
@@ -221,7 +221,7 @@ fn meets_one_of(row: &Row, earlier: &[Row], core: &Site, pitch: &Pitch) -> bool
     false
 }
 
-/// The first heeded row that shares a point with an earlier one, by a look at each two rows.
+/// The first row of core sites that shares a point with an earlier one, by a look at each two rows.
 fn row_overlap_by_pairs(rows: &[Row], core: &Site, pitch: &Pitch) -> Option<usize>
     requires each { All IsRow rows.now }
     ensures { FirstIs (MeetsEarlierRow core.now pitch.now.size) rows.now result }
@@ -248,7 +248,7 @@ fn row_piece(number: usize, row: &Row, pitch: &Pitch) -> Piece
     }
 }
 
-/// The row behind the pieces of earlier ones, where it is heeded.
+/// The row after the pieces of earlier ones, where it is heeded.
 fn push_row(
     pieces: &mut Vec<Piece>,
     number: usize,
@@ -265,7 +265,7 @@ fn push_row(
     Ok(())
 }
 
-/// The heeded rows as pieces of a sweep.
+/// The rows of core sites as pieces of a sweep.
 fn row_pieces(
     alloc: Global,
     rows: &[Row],
@@ -282,7 +282,7 @@ fn row_pieces(
     Ok(pieces)
 }
 
-/// The first heeded row that shares a point with an earlier one. Takes the time of a sort where there is none
+/// The first row of core sites that shares a point with an earlier one. Takes the time of a sort where there is none
 /// and few rows lie at one height.
 pub(crate) fn first_row_overlap(
     alloc: Global,
@@ -308,7 +308,7 @@ fn ends_too_far(row: &Row, core: &Site, pitch: &Pitch) -> bool
     is_heeded(row, core) && 2_147_483_647 < right_edge(row, pitch)
 }
 
-/// The first heeded row that ends past the largest coordinate.
+/// The first row of core sites that ends past the largest coordinate.
 pub(crate) fn first_too_far(rows: &[Row], core: &Site, pitch: &Pitch) -> Option<usize>
     requires each { All IsRow rows.now }
     ensures { FirstIs (EndsTooFar core.now pitch.now.size) rows.now result }

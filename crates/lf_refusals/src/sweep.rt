@@ -54,8 +54,8 @@ fn do_clash(first: &Piece, second: &Piece) -> bool
     do_pieces_meet(first, second)
 }
 
-/// Whether the piece clashes with none of those behind it, which begin no lower: those that begin above its
-/// upper edge are not looked at.
+/// Whether the piece clashes with none of those after it, which begin no lower: those that begin above its upper edge
+/// are not looked at.
 fn clashes_with_none(piece: &Piece, behind: &[Piece]) -> bool
     requires { Rise behind.now }
     ensures { IsTrue result ↔ ClashesWithNone piece.now behind.now }
@@ -71,7 +71,7 @@ fn clashes_with_none(piece: &Piece, behind: &[Piece]) -> bool
     true
 }
 
-/// The pieces behind this one.
+/// The pieces after this one.
 fn behind(pieces: &[Piece], number: usize) -> &[Piece]
     requires { number < length pieces.now }
     ensures { result.now ≡ drop (number + 1) pieces.now }

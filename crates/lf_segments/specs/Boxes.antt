@@ -14,7 +14,7 @@ use Rattle.lf_floorplan.specs.Ground.{InGround}
 use Rattle.lf_segments.specs.declared.segment.Segment.{Segment}
 use Rattle.lf_segments.specs.Segments.{IsClearAt, IsOpen, LiesInSegment, ComesFirst}
 
--- a rectangle that bears a number
+-- a rectangle that has a number
 abbrev pub numbered : ℕ → Rect → Placed
 numbered own rect = record { own = own; rect = rect }
 
@@ -46,7 +46,7 @@ pub record AreBoxesOf (f : Frame) (r : Row) (boxes : List Placed) : Type 0 where
 abbrev pub AreSorted : List Placed → Type 0
 AreSorted boxes = IsNonDecreasingBy (λ p. p.own) boxes
 
--- the boxes of the least number that is not below this one; none where all are below
+-- the boxes of the least number that is not below this one; none if all are below
 pub record IsNextGroup (boxes : List Placed) (least : ℕ) (group : List Placed) : Type 0 where
   pub among : All (λ p. Contains boxes p × (least ≤ p.own)) group
   pub one : All (λ p. All (λ q. q.own ≡ p.own) group) group
@@ -94,7 +94,7 @@ pub record AreOpen (f : Frame) (r : Row) (team : ℕ) (spans : List Span) : Type
   pub rising : IsRising spans
   pub exact : (s : Span) → IsFilled s → (LiesInOne spans s ↔ ((x : ℤ) → Holds s x → IsOpen f r team x))
 
--- the segments of a row to the teams below a number stand behind the old ones
+-- the segments of a row to the teams below a number stand after the old ones
 pub record AddsRow (f : Frame) (number : ℕ) (r : Row) (limit : ℕ) (old new : List Segment) : Type 0 where
   pub added : List Segment
   pub is : new ≡ old ++ added

@@ -1,4 +1,4 @@
--- Laws on segments: what stands on rows is legal for a team exactly where it lies in segments, of which a frame has one list.
+-- Laws on segments: what stands on rows is legal for a team iff it lies in segments, of which a frame has one list.
 use Rattle.std.specs.Prelude.{◌≡◌, ◌↔◌, ℕ, ◌<◌, ◌<ℤ◌, List, Some, slice_get}
 use Rattle.lf_units.specs.declared.area.Rect.{Rect}
 use Rattle.lf_floorplan.specs.declared.frame.Frame.{Frame}
@@ -15,7 +15,7 @@ LiesInSegments f segments team box =
     (k : ℕ) (bottom : Row) (j n : ℕ) (r : Row) → IsSitesHigh f box k → IsBottomRow f box bottom → j < k → slice_get f.rows n ≡ Some r →
     Carries f box bottom j r → LiesInSegment segments n team (across box)
 
--- a box that stands on rows and is wide stays in the team's ground and clear of obstacles exactly where it lies in the team's segments
+-- a box that stands on rows and is wide stays in the team's ground and clear of obstacles iff it lies in the team's segments
 abbrev pub SegmentsDecide : Type 0
 SegmentsDecide =
     (f : Frame) (segments : List Segment) (team : ℕ) (box : Rect) → IsCut f segments → StandsOn f box → box.x1 <ℤ box.x2 →

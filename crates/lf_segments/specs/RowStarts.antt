@@ -12,7 +12,7 @@ pub record IsStartOf (rows : List ℕ) (row n : ℕ) : Type 0 where
   pub earlier : (k d : ℕ) → k < n → slice_index_or rows k d < row
   pub rest : (k d : ℕ) → n ≤ k → k < length rows → row ≤ slice_index_or rows k d
 
--- for each row the number of those before it, up to one behind all that are there
+-- for each row the number of those before it, up to one after all that are there
 pub record AreRowStarts (rows starts : List ℕ) : Type 0 where
   pub each : (r d : ℕ) → r < length starts → IsStartOf rows r (slice_index_or starts r d)
   pub all : All (λ r. r < length starts) rows

@@ -30,7 +30,8 @@ pub record IsRowsByY (f : Frame) (entries : List RowEntry) : Type 0 where
   pub once : AllPairs (λ a b. a.row ≢ b.row) entries
   pub in_order : AllPairs PrecedesByY entries
 
--- the entries whose y are within a range, which stand together: what stands before them lies below it, and what stands behind them above
+-- the entries whose y are within a range, which stand together: what stands before them lies below it, and what follows them
+-- above
 pub record IsRunBy (Below Within Above : ℤ → Type 0) (entries run : List RowEntry) : Type 0 where
   pub before : List RowEntry
   pub behind : List RowEntry
@@ -43,7 +44,7 @@ pub record IsRunBy (Below Within Above : ℤ → Type 0) (entries run : List Row
 abbrev pub IsRunAt : List RowEntry → ℤ → List RowEntry → Type 0
 IsRunAt entries y run = IsRunBy (λ v. v <ℤ y) (λ v. v ≡ y) (λ v. y <ℤ v) entries run
 
--- the entries from one y on and below another; none where the second is not above the first
+-- the entries from one y on and below another; none if the second is not above the first
 abbrev pub IsRunBetween : List RowEntry → ℤ → ℤ → List RowEntry → Type 0
 IsRunBetween entries from to run = IsRunBy (λ v. v <ℤ from) (λ v. (from ≤ℤ v) × (v <ℤ to)) (λ v. to ≤ℤ v) entries run
 

@@ -43,15 +43,15 @@ pub record IsSegment (f : Frame) (g : Segment) : Type 0 where
   pub team_known : IsTeam f g.team
   pub filled : IsFilled g.span
 
--- the segments of a frame, in one list: a span that holds a number lies in a segment of a row and a team exactly where the team may use the row at each of its
--- numbers. So segments are maximal
+-- the segments of a frame, in one list: a span that holds a number lies in a segment of a row and a team iff the team may use the
+-- row at each of its numbers. So segments are maximal
 pub record IsCut (f : Frame) (segments : List Segment) : Type 0 where
   pub known : All (IsSegment f) segments
   pub in_order : AllPairs ComesBefore segments
   pub exact : (n : ℕ) (r : Row) (team : ℕ) (s : Span) → slice_get f.rows n ≡ Some r → IsFilled s →
       (LiesInSegment segments n team s ↔ ((x : ℤ) → Holds s x → IsOpen f r team x))
 
--- the run of a list that has a property, from the n-th on: nothing before it has the property, and nothing behind it
+-- the run of a list that has a property, from the n-th on: nothing before it has the property, and nothing after it
 pub record IsRunFrom (P : Segment → Type 0) (segments : List Segment) (n : ℕ) (run : List Segment) : Type 0 where
   pub before : List Segment
   pub behind : List Segment

@@ -31,7 +31,7 @@ fn spans_of(alloc: Global, boxes: &[Placed]) -> Result<Vec<Span>, AllocError>
     Ok(spans)
 }
 
-/// The x ranges of boxes, in the order of their beginnings.
+/// The x ranges of boxes, in order of `lo`.
 fn spans_in_order(alloc: Global, boxes: &[Placed]) -> Result<Vec<Span>, AllocError>
     ensures moved { IfOk result (λ spans. IsPermutation (map (λ p. across p.rect) boxes.now) spans.items) }
     ensures order { IfOk result (λ spans. IsInOrder spans.items) }

@@ -12,7 +12,7 @@ use lf_rtree::Placed;
 use lf_units::Span;
 use std::alloc::{AllocError, Global};
 
-/// Puts spans behind the segments, as those of a row and a team.
+/// Puts spans after the segments, as those of a row and a team.
 fn push_spans(
     segments: &mut Vec<Segment>,
     row: usize,
@@ -51,7 +51,7 @@ fn count_up_to(boxes: &[Placed], own: u32) -> usize
     boxes.partition_point(|placed| placed.own <= own)
 }
 
-/// The boxes of the least number that is not below this one; none where all are below.
+/// The boxes of the least number that is not below this one; none if all are below.
 fn next_group<'a>(boxes: &'a [Placed], least: u32) -> &'a [Placed]
     requires { AreSorted boxes.now }
     ensures { IsNextGroup boxes.now least result.now }
@@ -100,8 +100,8 @@ fn ground_spans(
     free_beside(alloc, &row.area(&frame.pitch), near)
 }
 
-/// Puts the segments of the row to the fences behind the others. Only fences of which a box lies
-/// near are looked at.
+/// Appends the segments of the row to the fences. Only fences of which a box lies near are looked
+/// at.
 fn push_fences(
     alloc: Global,
     frame: &Frame,
@@ -143,8 +143,8 @@ fn sort_boxes(boxes: &mut Vec<Placed>)
     boxes.sort_unstable_by_key(|placed| placed.own);
 }
 
-/// Puts the segments of the row behind the others, those of the fences and then those of the ground
-/// team. The boxes near the row are put in order.
+/// Appends the segments of the row, those of the fences and then those of the ground team. The
+/// boxes near the row are put in order.
 pub(crate) fn push_row(
     alloc: Global,
     frame: &Frame,

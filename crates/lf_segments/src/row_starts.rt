@@ -16,7 +16,7 @@ pub struct RowRange {
 }
 
 /// For each row how many segments are of earlier rows, so that the segments of a row are found
-/// without a look at any. A contract sees the list of these numbers. Only `build` takes memory.
+/// without a look at any. A contract sees the list of these numbers. Only `build` allocates.
 #[derive(Drop)]
 pub struct RowStarts {
     starts: Vec<usize>,
@@ -52,8 +52,8 @@ fn starts_of(alloc: Global, segments: &[Segment], rows: usize) -> Result<Vec<usi
 }
 
 impl RowStarts {
-    /// The starts for segments of so many rows, in the order of their rows. `Err` where memory is
-    /// refused.
+    /// The starts for segments of so many rows, in the order of their rows. `Err` if an allocation
+    /// fails.
     pub fn build(alloc: Global, segments: &[Segment], rows: usize) -> Result<Self, AllocError>
         requires order { IsNonDecreasingBy (λ g. g.row) segments.now }
         requires known { All (λ g. g.row < rows) segments.now }

@@ -18,7 +18,7 @@ pub struct RowEntry {
 }
 
 /// The rows of a frame in the order of their y, and those of one y in the order of their x. A
-/// contract sees the list of their entries. Only `build` takes memory.
+/// contract sees the list of their entries. Only `build` allocates.
 #[derive(Drop)]
 pub struct RowsByY {
     entries: Vec<RowEntry>,
@@ -114,7 +114,7 @@ fn run_between<'a>(entries: &'a [RowEntry], from: &i64, to: &i64) -> &'a [RowEnt
 }
 
 impl RowsByY {
-    /// The rows of the frame. `Err` where memory is refused.
+    /// The rows of the frame. `Err` if an allocation fails.
     pub fn build(alloc: Global, frame: &Frame) -> Result<Self, AllocError>
         ensures { IfOk result (λ rows. IsRowsByY frame.now rows) }
     {

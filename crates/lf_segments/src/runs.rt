@@ -73,14 +73,14 @@ fn count_ended(segments: &[Segment], x: &i64) -> usize
     segments.partition_point(|segment| segment.span.hi <= *x)
 }
 
-/// Whether the segment begins behind x.
+/// Whether the segment begins after x.
 fn begins_behind(segment: &Segment, x: &i64) -> bool
     ensures { IsTrue result ↔ (x.now <ℤ segment.now.span.lo) }
 {
     *x < segment.span.lo
 }
 
-/// The position of the segment of a row and a team that holds x; none where there is none.
+/// The position of the segment of a row and a team that holds x; none if there is none.
 pub(crate) fn place_in(
     segments: &[Segment],
     starts: &RowStarts,

@@ -1,11 +1,11 @@
--- The session slots of teams: for each slot the revision that its session has seen, None where the slot is free.
+-- The session slots of teams: for each slot the revision that its session has seen, None if the slot is free.
 use Rattle.std.specs.Prelude.{ℕ, List, [], Option, None, slice_set, slice_index_or}
 
 -- the slots of the team of that number; a team that is none has no slots
 abbrev pub slots_of : List (List (Option ℕ)) → ℕ → List (Option ℕ)
 slots_of table team = slice_index_or table team []
 
--- the revision that a session has seen; None where its slot is free, or there is none of that number
+-- the revision that a session has seen; None if its slot is free, or there is none of that number
 abbrev pub seen_at : List (Option ℕ) → ℕ → Option ℕ
 seen_at slots session = slice_index_or slots session None
 
