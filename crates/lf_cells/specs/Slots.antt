@@ -36,7 +36,7 @@ moved_slots (s ∷ ss) (suc own) place = s ∷ moved_slots ss own place
 abbrev pub labels : List Slot → List ℕ
 labels slots = map (λ s. s.label) slots
 
--- the team's own ones of these cells, where the first cell's name has that position
+-- the team's own cells among these; the first cell's name has that position
 abbrev pub own_slots : ℕ → ℕ → List LoadedCell → List Slot
 own_slots number label [] = []
 own_slots number label (c ∷ cs) = if c.team == number then opening_slot label c ∷ own_slots number (label + 1) cs else own_slots number (label + 1) cs
@@ -79,7 +79,7 @@ pub record IsIndex (owners : List CellId) (labels : List (List ℕ)) : Type 0 wh
 pub record AreListed (ids : List (List CellId)) (labels : List (List ℕ)) : Type 0 where
   pub listed : (team : ℕ) → slice_index_or ids team [] ≡ map (λ own. id_of team own) (range_with_len 0 (length (slice_index_or labels team [])))
 
--- the names differ, each has one owner, the owners stand in the order of their entries, and each team has the ids of its cells
+-- the names differ, each has one owner, the owners are in the order of their entries, and each team has the ids of its cells
 pub record AreIndexed (p : Parts) : Type 0 where
   pub differ : AllPairs (λ name later. name ≢ later) p.names
   pub many : length p.names ≡ length p.owners.items

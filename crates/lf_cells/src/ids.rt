@@ -22,7 +22,7 @@ impl Model for Ids {
 }
 
 impl Ids {
-    /// No id.
+    /// The empty list.
     pub(crate) fn new(alloc: Global) -> Self
         ensures { result ≡ [] }
     {

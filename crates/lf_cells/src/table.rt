@@ -11,8 +11,10 @@ use lf_floorplan::{Loaded, Place};
 use std::alloc::{AllocError, Global};
 use std::marker::Model;
 
-/// The cells of all teams of a loaded design. A team's number is its position among the fences of
-/// the frame, and last comes the ground team `-`.
+/// The cells of all teams of a loaded design. A team's number is its position among the fences of the frame; the ground
+/// team `-` is last.
+///
+///
 ///
 /// Contracts see for each team the list of its cells in loading order, and the positions of their entries among all
 /// COMPONENTS of the DEF text. Only `build` allocates.
@@ -47,7 +49,7 @@ impl CellTable {
         Ok(CellTable { parts })
     }
 
-    /// The team's cell of that name; none for another team's cell, as for one that no team has.
+    /// The team's cell of that name; none if only another team, or none, has such a cell.
     pub fn find_own(&self, team: usize, name: &[u8]) -> Option<CellId>
         ensures own { option_map (λ id. id.own) result ≡ cell_named name.now (cells_of self.now team) }
         ensures team { IfSome result (λ id. id.team ≡ team) }
@@ -61,7 +63,7 @@ impl CellTable {
         None
     }
 
-    /// How many cells the team has; none if there is no such team.
+    /// How many cells the team has; 0 if there is no such team.
     pub fn count_of(&self, team: usize) -> usize
         ensures { result ≡ length (cells_of self.now team) }
     {
@@ -78,8 +80,7 @@ impl CellTable {
         self.parts.ids_of(team)
     }
 
-    /// The ids of all cells, of whatever team, in loading order: along them the positions of the cells' entries among
-    /// all COMPONENTS rise.
+    /// The ids of the cells of all teams, in loading order: the positions of their entries among all COMPONENTS rise.
     pub fn all(&self) -> &[CellId]
         ensures { AreAll self.now result.now }
     {
@@ -109,8 +110,8 @@ impl CellTable {
         })
     }
 
-    /// How the team's cell of that position stands, the first at 0; none if the team has no such cell, or there is no
-    /// such team.
+    /// The macro and working place of the team's cell of that position, the first at 0; none if the team has no such
+    /// cell, or there is no such team.
     pub fn standing(&self, team: usize, own: usize) -> Option<Standing>
         ensures { result ≡ option_map standing_of (slice_get (cells_of self.now team) own) }
     {
@@ -137,8 +138,7 @@ impl CellTable {
             .committed
     }
 
-    /// Changes the working place of one cell and nothing else; where there is no such cell, nothing
-    /// changes.
+    /// Changes the working place of one cell and nothing else; if there is no such cell, nothing changes.
     pub fn set_working(&mut self, id: CellId, place: Option<Place>)
         ensures cells { self.new.cells ≡ slice_set self.old.cells id.team (moved (cells_of self.old id.team) id.own place) }
         ensures components { self.new.components ≡ self.old.components }

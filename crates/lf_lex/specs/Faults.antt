@@ -1,4 +1,4 @@
--- What a public reader answers.
+-- The error of a public reader.
 use Rattle.std.specs.Prelude.{Some, None}
 use Rattle.lf_lex.specs.declared.fault.LoadFault.{LoadFault}
 use Rattle.lf_lex.specs.declared.fault.FaultNumber.TheVariants.{OutOfMemory}

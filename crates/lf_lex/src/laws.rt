@@ -1,10 +1,10 @@
-//! What is true of the words that the readers share, whatever they read.
+//! Laws on the reading functions, whatever they read.
 
 ghost use Rattle.std.specs.Prelude.{List, ℕ};
 ghost use Rattle.lf_lex.specs.Laws.{TakesTokens, ReadsAlike};
 ghost use Rattle.lf_lex.specs.Reading.{keyword, end_name, passed_token, passed_to_end, passed_to_word, to_semicolon, to_end, to_word};
 
-/// Whatever is skipped token by token comes to its end, or to the end of the text.
+/// Each token that is skipped is taken, so skipping ends.
 pub fn passing_takes_tokens()
     ensures to_semicolon { TakesTokens passed_token }
     ensures to_end { (due : List ℕ) → TakesTokens (passed_to_end due) }

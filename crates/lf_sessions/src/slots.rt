@@ -6,7 +6,7 @@ ghost use Rattle.lf_sessions.specs.Slots.{seen_at};
 use std::alloc::{AllocError, Global};
 use std::marker::Model;
 
-/// The session slots of one team, so many that 32 bits number them.
+/// The session slots of one team, at most as many as 32 bits number.
 #[derive(Drop)]
 pub(crate) struct Slots {
     /// For each slot the revision that its session has seen; none if the slot is free.
@@ -32,7 +32,7 @@ fn least_free(slots: &[Option<u32>]) -> Option<usize>
 }
 
 impl Slots {
-    /// So many free slots.
+    /// `count` free slots.
     pub(crate) fn free(alloc: Global, count: u32) -> Result<Self, AllocError>
         ensures { IfOk result (λ slots. slots ≡ replicate count None) }
     {
@@ -61,7 +61,7 @@ impl Slots {
         }
     }
 
-    /// Writes the slot of a session that is open; false if it is not.
+    /// Sets the slot of an open session; false if it is not open.
     pub(crate) fn write_open(&mut self, session: u32, seen: Option<u32>) -> bool
         ensures open { result ≡ is_some (seen_at self.old session) }
         ensures slots { self.new ≡ (if result then slice_set self.old session seen else self.old) }
