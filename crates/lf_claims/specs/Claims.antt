@@ -47,7 +47,7 @@ Tells claims ByTwo = (first : ℕ) × (second : ℕ) × (first ≢ second) × cl
 abbrev pub ClaimsBy : List Bound → List ℕ → ℕ → Type 0
 ClaimsBy bounds name fence = Any (λ b. (b.fence ≡ fence) × Matches b.pattern name) bounds
 
--- the claim joins the fence of the pattern, where it stands for the name, and stays as it is where not
+-- the claim joins the fence of the pattern, if it is there for the name, and stays as it is where not
 abbrev pub StepsTo : Bound → List ℕ → Claim → Claim → Type 0
 StepsTo b name claim after = (Matches b.pattern name × (after ≡ joined claim b.fence)) ⊎ ((Matches b.pattern name → ⊥) × (after ≡ claim))
 

@@ -37,7 +37,7 @@ unplaced plus t = record { kind = Unplaced; place = None; start = plus; stop = t
 abbrev pub is_placement_word : Lexeme → Bool
 is_placement_word t = is (codes "FIXED") t || is (codes "COVER") t || is (codes "PLACED") t || is (codes "UNPLACED") t
 
--- a placement clause, of which the plus and the word were read
+-- a placement clause, after its plus and its word
 unfoldable pub placement : ℕ → Lexeme → Reader Placement
 placement plus t l =
     if is (codes "FIXED") t then placed Fixed plus l
@@ -59,7 +59,7 @@ clause parts t l =
 abbrev pub up_to_stop : ℕ → Placement → Placement
 up_to_stop stop p = record p { stop = stop }
 
--- the point and the orientation after UNPLACED, which are not heeded; the clause runs to their end
+-- the point and the orientation after UNPLACED, which are ignored; the clause runs to their end
 unfoldable pub unplaced_point : ComponentParts → Reader (Turn ComponentParts)
 unplaced_point parts l = do
   p ← located_rest l

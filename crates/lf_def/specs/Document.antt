@@ -46,7 +46,7 @@ is_passed_statement t =
     is (codes "TRACKS") t || is (codes "GCELLGRID") t || is (codes "HISTORY") t || is (codes "TECHNOLOGY") t || is (codes "DIEAREA") t || is
     (codes "COMPONENTMASKSHIFT") t || is (codes "NAMESCASESENSITIVE") t
 
--- a statement that says nothing of placement, of which the first token was read; any other word begins no statement
+-- a statement that says nothing of placement, after its first token; any other word begins no statement
 unfoldable pub passed_from : Lexeme → Reader (Unit {0})
 passed_from t l =
     if is_passed_section t then to_end t.text l
@@ -64,7 +64,7 @@ end_design parts l = do
       else if is_some parts.header.design then taken tt t.rest
       else fault_at Unexpected t.value.line
 
--- a row or a section, of which the keyword was read, or a statement that is skipped
+-- a row or a section, after its keyword, or a statement that is skipped
 unfoldable pub body_statement : DocParts → Lexeme → Reader DocParts
 body_statement parts t l =
     if is (codes "ROW") t then (with_row parts.rows l >>= λ s. taken (record parts { rows = s.value }) s.rest)
@@ -74,7 +74,7 @@ body_statement parts t l =
     else if is (codes "BLOCKAGES") t then (blockages parts.blockages l >>= λ s. taken (record parts { blockages = s.value }) s.rest)
     else (passed_from t l >>= λ stop. taken parts stop.rest)
 
--- a statement of the text, of which the first token was read
+-- a statement of the text, after its first token
 unfoldable pub statement_from : DocParts → Lexeme → Reader (Turn DocParts)
 statement_from parts t l =
     if is (codes "END") t then (end_design parts l >>= λ stop. ends parts stop.rest)
@@ -115,6 +115,6 @@ abbrev pub IsReadFrom : List ℕ → Header → List Row → List Region → Lis
 IsReadFrom text header rows regions groups components blockages =
     document_of text ≡ Ok (record { header = header; rows = rows; regions = regions; groups = groups; components = components; blockages = blockages })
 
--- a refusal of the text: its fault with its line, or a failed allocation
+-- an error of the text: its fault with its line, or a failed allocation
 abbrev pub Refuses : LoadFault → Result Document ReadFault → Type 0
 Refuses fault reading = (fault ≡ load_fault_of Memory) ⊎ ((first : ReadFault) × (reading ≡ Err first) × (fault ≡ load_fault_of (Fault first)))

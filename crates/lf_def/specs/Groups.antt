@@ -15,7 +15,7 @@ with_pattern parts t l = do
   pattern ← name_of t
   goes_on (record parts { patterns = parts.patterns ++ pattern ∷ [] }) l
 
--- REGION name after its word: the first stands; a parenthesis is no name
+-- REGION name after its word: the first counts; a parenthesis is no name
 unfoldable pub with_region : GroupParts → Reader (Turn GroupParts)
 with_region parts l = do
   n ← name l

@@ -1,4 +1,4 @@
--- DEF VERSION, DIVIDERCHAR, BUSBITCHARS, DESIGN and UNITS: of each the first stands.
+-- DEF VERSION, DIVIDERCHAR, BUSBITCHARS, DESIGN and UNITS: of each the first counts.
 use Rattle.std.specs.Prelude.{ℕ, Bool, ◌||◌, List, [], None, codes, unwrap_or, if◌then◌else◌}
 use Rattle.lf_lex.specs.declared.fault.FaultNumber.TheVariants.{Unexpected}
 use Rattle.lf_lex.specs.Tokens.{Lexeme}
@@ -40,7 +40,7 @@ units l = do
 abbrev pub is_header : Lexeme → Bool
 is_header t = is (codes "VERSION") t || is (codes "DIVIDERCHAR") t || is (codes "BUSBITCHARS") t || is (codes "DESIGN") t || is (codes "UNITS") t
 
--- a statement of the header, of which the keyword was read
+-- a statement of the header, after its keyword
 unfoldable pub header_statement : HeaderParts → Lexeme → Reader HeaderParts
 header_statement parts t l =
     if is (codes "VERSION") t then (version l >>= λ v. taken (record parts { version = first_stands parts.version v.value }) v.rest)

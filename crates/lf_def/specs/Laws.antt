@@ -1,4 +1,4 @@
--- What is true of reading DEF, whatever is read.
+-- Laws on reading DEF, whatever is read.
 use Rattle.std.specs.Prelude.{◌≡◌, ◌⊎◌, codes, true, ℕ, ◌+◌, ◌≤◌, ◌<◌, List, [], ◌∷◌, ◌++◌, map, length, take, Option, Some, None, Ok}
 use Rattle.std.specs.Option.{option_map}
 use Rattle.lf_lex.specs.Tokens.{Lexed, Lexeme, plain, tokens_of, with_tokens}
@@ -22,18 +22,19 @@ without_places c = record { name = c.name; mac = c.mac; placement = option_map p
 abbrev pub document_without_places : Document → Document
 document_without_places d = record d { components = map without_places d.components }
 
--- A component takes some of the tokens, and from tokens with the same texts the same component is read, places apart.
+-- A component takes some of the tokens, and from tokens with the same texts the same component is read, but for where things are
+-- in the text.
 abbrev pub ComponentReadsAlike : Type 0
 ComponentReadsAlike = (l m : Lexed) (c : Component) → component l ≡ taken c m
     → (run : List Lexeme) × (l ≡ with_tokens run m)
     × ((same : List Lexeme) → map plain same ≡ map plain run → (behind : Lexed) → (again : Component) × (component (with_tokens same behind) ≡ taken again behind) × (without_places again ≡ without_places c))
 
--- Texts whose tokens have the same bytes say the same, places apart.
+-- Texts whose tokens have the same bytes say the same, but for where things are in the text.
 abbrev pub SaysTheSame : List ℕ → List ℕ → Type 0
 SaysTheSame a b = map plain (tokens_of a).tokens ≡ map plain (tokens_of b).tokens → (d : Document) → document_of a ≡ Ok d
     → (again : Document) × (document_of b ≡ Ok again) × (document_without_places again ≡ document_without_places d)
 
--- Where the statements of a text leave tokens unread, any bytes may stand from the first of these on.
+-- Where the statements of a text leave tokens unread, any bytes may replace those from the first of these on.
 abbrev pub EndsBefore : List ℕ → Type 0
 EndsBefore text = (read : List Lexeme) (t : Lexeme) (unread : List Lexeme) (parts : DocParts) → (tokens_of text).tokens ≡ read ++ t ∷ unread
     → block statement no_parts (tokens_of text) ≡ taken parts (behind (t ∷ unread) (tokens_of text)) → (bytes : List ℕ) → document_of (take t.start text ++ bytes) ≡ document_of text

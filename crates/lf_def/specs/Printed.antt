@@ -152,7 +152,7 @@ IsPrintedBlockage b = All IsRect b.rects
 abbrev pub ReadsBack : {A : Type 0} → Reader A → List (List ℕ) → A → Type 0
 ReadsBack reader words x = (tokens : List Lexeme) → map plain tokens ≡ map word_of words → (behind : Lexed) → reader (with_tokens tokens behind) ≡ taken x behind
 
--- the same for a component, but for where it stands
+-- the same for a component, but for if it is there
 abbrev pub ComponentReadsBack : List (List ℕ) → Component → Type 0
 ComponentReadsBack words c = (tokens : List Lexeme) → map plain tokens ≡ map word_of words → (behind : Lexed)
     → (read : Component) × (component (with_tokens tokens behind) ≡ taken read behind) × (without_places read ≡ without_places c)

@@ -51,7 +51,7 @@ abbrev pub clauses_tokens : List (List Plain) → List Plain → List Plain
 clauses_tokens [] rest = rest
 clauses_tokens (c ∷ cs) rest = word_of (codes "+") ∷ (c ++ clauses_tokens cs rest)
 
--- the place in a placement clause: that of the component, or the point that stands after UNPLACED and is not heeded
+-- the place in a placement clause: that of the component, or the point that stands after UNPLACED and is ignored
 abbrev pub printed_place : PlacementKind → Option Location → Option Location → Option Location
 printed_place Unplaced place point = point
 printed_place Fixed place point = place
@@ -88,7 +88,7 @@ components_tokens print count ps =
 abbrev pub component_of : PrintedComponent → Component
 component_of p = p.component
 
--- From these tokens the component is read, but for where it stands, whatever follows them.
+-- From these tokens the component is read, but for if it is there, whatever follows them.
 abbrev pub EntryReadsBack : List Plain → Component → Type 0
 EntryReadsBack printed c = (tokens : List Lexeme) → map plain tokens ≡ printed → (behind : Lexed)
     → (read : Component) × (component (with_tokens tokens behind) ≡ taken read behind) × (without_places read ≡ without_places c)

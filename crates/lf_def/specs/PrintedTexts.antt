@@ -54,7 +54,7 @@ IsPassed (extension between) = HaveNowhere (codes "ENDEXT" ∷ []) between
 
 -- Parts of a text.
 
--- a statement or a section of a text; each section has a count, which plays no part
+-- a statement or a section of a text; each section has a count, which is ignored
 pub data Part : Type 0 where
   passed_over : Passed → Part
   version_is : List ℕ → Part
@@ -111,7 +111,7 @@ IsPrintedPart (components_section count cs) = (count ≢ codes ";") × All IsPri
 IsPrintedPart (components_with_others count ps) = (count ≢ codes ";") × All IsPrintedEntry ps
 IsPrintedPart (blockages_section count bs) = (count ≢ codes ";") × All IsPrintedBlockage bs
 
--- what a part adds: of each statement of the header the first stands, and each list grows at its end
+-- what a part adds: of each statement of the header the first counts, and each list grows at its end
 abbrev pub with_part : DocParts → Part → DocParts
 with_part d (passed_over p) = d
 with_part d (version_is v) = record d { header = record d.header { version = first_stands d.header.version v } }

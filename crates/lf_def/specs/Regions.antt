@@ -24,7 +24,7 @@ with_rect parts l = do
   r ← rect_rest l
   goes_on (record parts { rects = parts.rects ++ r.value ∷ [] }) r.rest
 
--- TYPE FENCE or TYPE GUIDE after its word: the first stands
+-- TYPE FENCE or TYPE GUIDE after its word: the first counts
 unfoldable pub with_kind : RegionParts → Reader (Turn RegionParts)
 with_kind parts l = do
   t ← token l

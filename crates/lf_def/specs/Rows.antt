@@ -8,14 +8,14 @@ use Rattle.lf_def.specs.declared.rows.Row.{Row}
 use Rattle.lf_def.specs.declared.rows.Sites.{Sites}
 use Rattle.lf_def.specs.Coordinates.{dbu, count, orient_of}
 
--- the end of a row, of which the first token was read: its properties are skipped
+-- the end of a row, after its first token: its properties are skipped
 unfoldable pub row_end : Lexeme → Reader (Unit {0})
 row_end t l =
     if is (codes ";") t then taken tt l
     else if is (codes "+") t then to_semicolon l
     else fault_at Unexpected t.line
 
--- [STEP sx sy] and the end of the row, of which the first token was read
+-- [STEP sx sy] and the end of the row, after its first token
 unfoldable pub step : Lexeme → Reader (Option Point)
 step t l =
     if is (codes "STEP") t then (dbu l >>= λ x. dbu x.rest >>= λ y. token y.rest >>= λ u. row_end u.value u.rest >>= λ stop. taken (Some (record { x = x.value; y = y.value })) stop.rest)
@@ -34,7 +34,7 @@ sites l = do
 abbrev pub one_site : Sites
 one_site = record { x = 1; y = 1; step = None }
 
--- [DO numX BY numY [STEP sx sy]] and the end of the row, of which the first token was read; without DO it is one site
+-- [DO numX BY numY [STEP sx sy]] and the end of the row, after its first token; without DO it is one site
 unfoldable pub sites_from : Lexeme → Reader Sites
 sites_from t l =
     if is (codes "DO") t then sites l

@@ -26,7 +26,7 @@ pub struct Blockage {
     pub rects: Sequence<Rect>,
 }
 
-/// What is known of a blockage so far.
+/// What was read of a blockage so far.
 #[derive(Drop)]
 pub struct BlockageParts {
     pub soft: bool,
@@ -59,7 +59,7 @@ fn note(parts: &mut BlockageParts, word: &Token)
     parts.due = Due::Rest;
 }
 
-/// A token of a blockage that is no separator, with what belongs to it; whether more follow.
+/// A token of a blockage that is no separator, with what belongs to it; returns whether more follow.
 #[tactic(auto, unfolding(crate::specs::Blockages::blockage_part))]
 fn blockage_part(
     lexer: &mut Lexer,
@@ -92,7 +92,7 @@ fn blockage_part(
     }
 }
 
-/// A token of a blockage, with what belongs to it; whether more follow.
+/// A token of a blockage, with what belongs to it; returns whether more follow.
 #[tactic(auto, unfolding(crate::specs::Blockages::blockage_from))]
 fn blockage_from(
     lexer: &mut Lexer,
@@ -131,7 +131,7 @@ impl Block for BlockageTokens {
     }
 }
 
-/// What is known of a placement blockage after PLACEMENT.
+/// The state of a placement blockage after PLACEMENT.
 fn no_blockage(alloc: Global) -> BlockageParts
     ensures parts { result ≡ grammar.no_blockage }
     ensures rects { All IsRect result.rects }

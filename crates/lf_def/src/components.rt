@@ -34,11 +34,11 @@ pub struct Location {
     pub orient: Orient,
 }
 
-/// A placement clause, and where it stands.
+/// A placement clause, and if it is there.
 #[derive(Clone, Copy, Debug, PartialEq, Eq)]
 pub struct Placement {
     pub kind: PlacementKind,
-    /// Where the component stands; none for UNPLACED, whose point is not heeded.
+    /// Where the component stands; none for UNPLACED, whose point is ignored.
     pub place: Option<Location>,
     /// The offset of its `+` in the text.
     pub start: usize,
@@ -58,7 +58,7 @@ pub struct Component<'a> {
     pub semicolon: usize,
 }
 
-/// What is known of a component so far.
+/// What was read of a component so far.
 #[derive(Clone, Copy, Debug, PartialEq, Eq)]
 pub struct ComponentParts {
     pub placement: Option<Placement>,
@@ -129,7 +129,7 @@ fn is_placement_word(token: &Token) -> bool
     is(b"FIXED", token) || is(b"COVER", token) || is(b"PLACED", token) || is(b"UNPLACED", token)
 }
 
-/// A placement clause, of which the plus and the word were read.
+/// A placement clause, after its plus and its word.
 #[tactic(auto, unfolding(crate::specs::Components::placement))]
 fn read_placement(lexer: &mut Lexer, plus: usize, word: &Token) -> Result<Placement, ReadError>
     ensures read { ReadsOn (λ p. p) result (grammar.placement plus (lexeme word.now)) lexer.old lexer.new }
@@ -201,7 +201,7 @@ fn unplaced_point(lexer: &mut Lexer, parts: &mut ComponentParts) -> Result<bool,
     Ok(true)
 }
 
-/// A token of a component that is no separator, with what belongs to it; whether more follow.
+/// A token of a component that is no separator, with what belongs to it; returns whether more follow.
 #[tactic(auto, unfolding(crate::specs::Components::component_part))]
 fn component_part(
     lexer: &mut Lexer,
@@ -226,7 +226,7 @@ fn component_part(
     }
 }
 
-/// A token of a component, with what belongs to it; whether more follow.
+/// A token of a component, with what belongs to it; returns whether more follow.
 #[tactic(auto, unfolding(crate::specs::Components::component_from))]
 fn component_from(
     lexer: &mut Lexer,
@@ -267,7 +267,7 @@ impl Block for ComponentTokens {
     }
 }
 
-/// What is known of a component after its macro.
+/// The state of a component after its macro.
 fn no_component() -> ComponentParts
     ensures { result ≡ grammar.no_component }
 {
@@ -298,7 +298,7 @@ fn read_component<'a>(lexer: &mut Lexer<'a>) -> Result<Component<'a>, ReadError>
     })
 }
 
-/// An entry, or END COMPONENTS; whether more follow.
+/// An entry, or END COMPONENTS; returns whether more follow.
 #[tactic(auto, unfolding(crate::specs::Entries::entry_or_end))]
 fn component_or_end<'a>(
     lexer: &mut Lexer<'a>,

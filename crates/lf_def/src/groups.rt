@@ -22,7 +22,7 @@ pub struct Group {
     pub region: Option<Name>,
 }
 
-/// What is known of a group so far.
+/// What was read of a group so far.
 #[derive(Drop)]
 pub struct GroupParts {
     pub patterns: Sequence<Name>,
@@ -65,7 +65,7 @@ fn with_region(alloc: Global, lexer: &mut Lexer, parts: &mut GroupParts) -> Resu
     Ok(true)
 }
 
-/// A token of a group that is no separator, with what belongs to it; whether more follow.
+/// A token of a group that is no separator, with what belongs to it; returns whether more follow.
 #[tactic(auto, unfolding(crate::specs::Groups::group_part))]
 fn group_part(
     alloc: Global,
@@ -93,7 +93,7 @@ fn group_part(
     }
 }
 
-/// A token of a group, with what belongs to it; whether more follow.
+/// A token of a group, with what belongs to it; returns whether more follow.
 #[tactic(auto, unfolding(crate::specs::Groups::group_from))]
 fn group_from(
     alloc: Global,
@@ -136,7 +136,7 @@ impl Block for GroupTokens {
     }
 }
 
-/// What is known of a group after its name.
+/// The state of a group after its name.
 fn no_group(alloc: Global) -> GroupParts
     ensures parts { result ≡ grammar.no_group }
     ensures names { AreGroupParts result }

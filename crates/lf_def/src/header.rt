@@ -29,7 +29,7 @@ pub struct Header {
     pub units: Option<u32>,
 }
 
-/// What is known of the header so far.
+/// What was read of the header so far.
 #[derive(Drop)]
 pub struct HeaderParts {
     pub version: Option<Name>,
@@ -97,7 +97,7 @@ pub(crate) fn is_header(token: &Token) -> bool
         || is(b"UNITS", token)
 }
 
-/// A statement of the header, of which the keyword was read.
+/// A statement of the header, after its keyword.
 #[tactic(auto, unfolding(crate::specs::Header::header_statement))]
 pub(crate) fn header_statement(
     alloc: Global,
@@ -130,7 +130,7 @@ pub(crate) fn header_statement(
     Ok(())
 }
 
-/// What is known of the header before its first statement.
+/// The state of the header before its first statement.
 pub(crate) fn no_header() -> HeaderParts
     ensures { result ≡ grammar.no_header }
 {

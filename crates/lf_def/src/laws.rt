@@ -1,4 +1,4 @@
-//! What is true of the grammar of DEF, whatever is read.
+//! Laws on the grammar of DEF, whatever is read.
 
 ghost use Rattle.std.specs.Prelude.{◌≡◌, ◌≢◌, List, [], ◌∷◌, ◌++◌, map, true, ℕ, ℤ, Some, All, codes};
 ghost use Rattle.std.specs.List.{list_all};
@@ -38,8 +38,8 @@ pub fn statements_take_tokens()
     ensures blockage { TakesTokens blockage_token }
 {}
 
-/// White space, comments and what follows play no part in what a row, a region, a group, a blockage or a component
-/// says; where a component stands in the text is another matter.
+/// White space, comments and what follows are ignored in what a row, a region, a group, a blockage or a component says;
+/// where a component stands in the text is another matter.
 pub fn statements_read_alike()
     ensures row { ReadsAlike row }
     ensures region { ReadsAlike region }
@@ -53,14 +53,14 @@ pub fn the_same_tokens_say_the_same()
     ensures { (a b : List ℕ) → SaysTheSame a b }
 {}
 
-/// What stands after END DESIGN plays no part: where reading a text leaves tokens unread, any bytes may stand from the
+/// What follows END DESIGN is ignored: if reading a text leaves tokens unread, any bytes may replace those from the
 /// first of these on.
 pub fn nothing_behind_end_design_counts()
     ensures { (text : List ℕ) → EndsBefore text }
 {}
 
 /// A printed row, region, group, component or blockage reads back as what it is, however its numbers are written and
-/// whatever follows it; a component but for where it stands, also where words, quoted texts and clauses that are
+/// with anything after it; a component but for if it is there, also where words, quoted texts and clauses that are
 /// skipped stand in its entry, or a point after UNPLACED.
 pub fn printed_entries_read_back()
     ensures row { (print : ℤ → List ℕ) → WritesNumbers print → (r : Row) → IsPrintedRow r → ReadsBack row (row_words print r) r }
@@ -99,15 +99,15 @@ pub fn printed_sections_read_back()
 {}
 
 /// A printed text reads back: statements and sections in any order, DESIGN and any that are skipped among them, say
-/// what they say, and each list stands in the order of the text. White space, comments and what follows END DESIGN play
-/// no part.
+/// what they say, and each list stands in the order of the text. White space, comments and what follows END DESIGN are
+/// ignored.
 pub fn printed_texts_read_back()
     ensures { (print : ℤ → List ℕ) → WritesNumbers print → (parts : List Part) → PartsReadBack print parts }
 {}
 
 /// Printed rows, or a printed REGIONS, GROUPS, COMPONENTS or BLOCKAGES section, are all that a text says, alone and
-/// after any list of statements that are skipped; components but for where they stand. What follows END DESIGN plays no
-/// part.
+/// after any list of statements that are skipped; components but for where they stand. What follows END DESIGN is
+/// ignored.
 pub fn printed_lists_read_back_in_texts()
     ensures rows { (print : ℤ → List ℕ) → WritesNumbers print → (new : List Row) → All IsPrintedRow new → ReadsBackInTexts print (map one_row new) (λ d. record d { rows = new }) }
     ensures regions { (print : ℤ → List ℕ) → WritesNumbers print → (count : List ℕ) → count ≢ codes ";" → (new : List Region) → All IsPrintedRegion new → ReadsBackInTexts print (regions_section count new ∷ []) (λ d. record d { regions = new }) }

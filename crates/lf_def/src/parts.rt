@@ -1,4 +1,4 @@
-//! What is known of a text so far.
+//! What was read of a text so far.
 
 use crate::blockages::Blockage;
 use crate::components::Component;

@@ -33,7 +33,7 @@ pub struct Region {
     pub rects: Sequence<Rect>,
 }
 
-/// What is known of a region so far.
+/// What was read of a region so far.
 #[derive(Drop)]
 pub struct RegionParts {
     pub kind: Option<RegionKind>,
@@ -84,7 +84,7 @@ fn with_kind(lexer: &mut Lexer, parts: &mut RegionParts) -> Result<bool, ReadErr
     Ok(true)
 }
 
-/// A token of a region that is no separator, with what belongs to it; whether more follow.
+/// A token of a region that is no separator, with what belongs to it; returns whether more follow.
 #[tactic(auto, unfolding(crate::specs::Regions::region_part))]
 fn region_part(lexer: &mut Lexer, parts: &mut RegionParts, token: &Token) -> Result<bool, ReadError>
     requires rects { All IsRect parts.old.rects }
@@ -114,7 +114,7 @@ fn region_part(lexer: &mut Lexer, parts: &mut RegionParts, token: &Token) -> Res
     }
 }
 
-/// A token of a region, with what belongs to it; whether more follow.
+/// A token of a region, with what belongs to it; returns whether more follow.
 #[tactic(auto, unfolding(crate::specs::Regions::region_from))]
 fn region_from(lexer: &mut Lexer, parts: &mut RegionParts, token: &Token) -> Result<bool, ReadError>
     requires rects { All IsRect parts.old.rects }
@@ -151,7 +151,7 @@ impl Block for RegionTokens {
     }
 }
 
-/// What is known of a region after its first rectangle.
+/// The state of a region after its first rectangle.
 fn first_rect(alloc: Global, rect: Rect) -> Result<RegionParts, ReadError>
     requires rect { IsRect rect }
     ensures parts { IfOk result (λ parts. parts ≡ grammar.first_rect rect) }

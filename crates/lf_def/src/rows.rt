@@ -40,7 +40,7 @@ pub struct Sites {
     pub step: Option<Point>,
 }
 
-/// The end of a row, of which the first token was read.
+/// The end of a row, after its first token.
 #[tactic(auto, unfolding(crate::specs::Rows::row_end))]
 fn row_end(lexer: &mut Lexer, token: &Token) -> Result<(), ReadError>
     ensures { ReadsOn (λ x. x) result (grammar.row_end (lexeme token.now)) lexer.old lexer.new }
@@ -54,7 +54,7 @@ fn row_end(lexer: &mut Lexer, token: &Token) -> Result<(), ReadError>
     }
 }
 
-/// `[STEP sx sy]` and the end of a row, of which the first token was read.
+/// `[STEP sx sy]` and the end of a row, after its first token.
 #[tactic(auto, unfolding(crate::specs::Rows::step))]
 fn step(lexer: &mut Lexer, first: &Token) -> Result<Option<Point>, ReadError>
     ensures read { ReadsOn (λ s. s) result (grammar.step (lexeme first.now)) lexer.old lexer.new }
@@ -88,7 +88,7 @@ fn read_sites(lexer: &mut Lexer) -> Result<Sites, ReadError>
     Ok(Sites { x, y, step })
 }
 
-/// `[DO numX BY numY [STEP sx sy]]` and the end of a row, of which the first token was read.
+/// `[DO numX BY numY [STEP sx sy]]` and the end of a row, after its first token.
 #[tactic(auto, unfolding(crate::specs::Rows::sites_from))]
 fn sites_from(lexer: &mut Lexer, token: &Token) -> Result<Sites, ReadError>
     ensures read { ReadsOn (λ s. s) result (grammar.sites_from (lexeme token.now)) lexer.old lexer.new }

@@ -51,7 +51,7 @@ fn is_passed_statement(token: &Token) -> bool
         || is(b"NAMESCASESENSITIVE", token)
 }
 
-/// A statement that says nothing of placement, of which the first token was read.
+/// A statement that says nothing of placement, after its first token.
 #[tactic(auto, unfolding(crate::specs::Document::passed_from))]
 fn passed_from(lexer: &mut Lexer, token: &Token) -> Result<(), ReadError>
     ensures { ReadsOn (λ x. x) result (grammar.passed_from (lexeme token.now)) lexer.old lexer.new }
@@ -100,7 +100,7 @@ fn add_row(alloc: Global, lexer: &mut Lexer, rows: &mut Sequence<Row>) -> Result
     Ok(())
 }
 
-/// A row or a section, of which the keyword was read, or a statement that is skipped.
+/// A row or a section, after its keyword, or a statement that is skipped.
 #[tactic(auto, unfolding(crate::specs::Document::body_statement))]
 fn body_statement<'a>(
     alloc: Global,
@@ -127,7 +127,7 @@ fn body_statement<'a>(
     }
 }
 
-/// A statement of the text, of which the first token was read; whether more follow.
+/// A statement of the text, after its first token; returns whether more follow.
 #[tactic(auto, unfolding(crate::specs::Document::statement_from))]
 fn statement_from<'a>(
     alloc: Global,

@@ -1,4 +1,4 @@
--- What is true of reading LEF, whatever is read.
+-- Laws on reading LEF, whatever is read.
 use Rattle.std.specs.Prelude.{◌≡◌, ℕ, List, ◌∷◌, ◌++◌, length, take, Option, Some, Ok}
 use Rattle.lf_lex.specs.Tokens.{Lexeme, tokens_of}
 use Rattle.lf_lex.specs.Reading.{taken, behind}
@@ -8,7 +8,7 @@ use Rattle.lf_lef.specs.declared.macros.MacroParts.{MacroParts}
 use Rattle.lf_lef.specs.Contents.{Contents}
 use Rattle.lf_lef.specs.Library.{library, library_after}
 
--- Where reading a text leaves tokens unread, any bytes may stand from the first of these on.
+-- If reading a text leaves tokens unread, any bytes may replace those from the first of these on.
 abbrev pub EndsBefore : Contents → Contents → List ℕ → Type 0
 EndsBefore old new text = (read : List Lexeme) (t : Lexeme) (unread : List Lexeme) → (tokens_of text).tokens ≡ read ++ t ∷ unread
     → library old (tokens_of text) ≡ taken new (behind (t ∷ unread) (tokens_of text)) → (bytes : List ℕ) → library_after old (take t.start text ++ bytes) ≡ Ok new

@@ -27,7 +27,7 @@ micros l = do
   length ← micros_of t.value
   taken length t.rest
 
--- a point, of which the first token was read: x y, or ( x y )
+-- a point, after its first token: x y, or ( x y )
 unfoldable pub point_from : Lexeme → Reader Point
 point_from t l =
     if is (codes "(") t then (micros l >>= λ x. micros x.rest >>= λ y. keyword (codes ")") y.rest >>= λ stop.

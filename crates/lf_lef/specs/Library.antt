@@ -18,7 +18,7 @@ abbrev pub room_for : Option ℕ → ℕ → Lexeme → Result (Unit {0}) ReadFa
 room_for (Some at) count t = Ok tt
 room_for None count t = if nat_le 1000000 count then fault_at TooMany t.line else Ok tt
 
--- of several things of one name the first stands
+-- of several things of one name the first counts
 abbrev pub with_first : {A : Type 0} → Option ℕ → List A → A → List A
 with_first (Some at) things thing = things
 with_first None things thing = things ++ thing ∷ []
@@ -54,7 +54,7 @@ to_named_end l = do
   n ← name l
   to_end n.value.text n.rest
 
--- A statement that says nothing of sites and macros, of which the first token was read.
+-- A statement that says nothing of sites and macros, after its first token.
 unfoldable pub passed_from : Lexeme → Reader (Unit {0})
 passed_from t l =
     if is_named t then to_named_end l
@@ -63,7 +63,7 @@ passed_from t l =
     else if is (codes ";") t then taken tt l
     else to_semicolon l
 
--- A statement of the text, of which the first token was read: SITE and MACRO count, and others are skipped.
+-- A statement of the text, after its first token: SITE and MACRO count, and others are skipped.
 unfoldable pub statement_from : Contents → Lexeme → Reader (Turn Contents)
 statement_from c t l =
     if is (codes "END") t then (end_name (codes "LIBRARY") l >>= λ stop. ends c stop.rest)
@@ -89,6 +89,6 @@ library c l = block statement c l
 abbrev pub library_after : Contents → List ℕ → Result Contents ReadFault
 library_after c text = value_of (library c (tokens_of text))
 
--- a refusal of the text: its fault with its line, or a failed allocation
+-- an error of the text: its fault with its line, or a failed allocation
 abbrev pub Refuses : LoadFault → Result Contents ReadFault → Type 0
 Refuses fault reading = (fault ≡ load_fault_of Memory) ⊎ ((first : ReadFault) × (reading ≡ Err first) × (fault ≡ load_fault_of (Fault first)))

@@ -21,7 +21,7 @@ passed_statement _ l = do
 abbrev pub passed_group : Reader (Unit {0})
 passed_group l = block passed_statement tt l
 
--- A statement of a macro that says nothing of it, of which the first token was read.
+-- A statement of a macro that says nothing of it, after its first token.
 unfoldable pub passed_from : Lexeme → Reader (Unit {0})
 passed_from t l =
     if is (codes "OBS") t || is (codes "DENSITY") t then passed_group l
@@ -29,8 +29,8 @@ passed_from t l =
     else if is (codes ";") t then taken tt l
     else to_semicolon l
 
--- A statement of a macro, of which the first token was read: of ORIGIN, SIZE and SYMMETRY the first stands, every PIN counts, and
--- others are skipped.
+-- A statement of a macro, after its first token: of ORIGIN, SIZE and SYMMETRY the first counts, every PIN counts, and others are
+-- skipped.
 unfoldable pub macro_statement_from : List ℕ → MacroParts → Lexeme → Reader (Turn MacroParts)
 macro_statement_from name parts t l =
     if is (codes "END") t then (end_name name l >>= λ stop. ends parts stop.rest)

@@ -14,11 +14,11 @@ use Rattle.lf_lef.specs.declared.pins.Pin.{Pin}
 use Rattle.lf_lef.specs.Lengths.{micros, point_from, point}
 use Rattle.lf_lef.specs.Sites.{one_word}
 
--- MASK n, where it stands
+-- MASK n, if it is there
 unfoldable pub past_mask : Lexeme → Reader Lexeme
 past_mask t l = if is (codes "MASK") t then (micros l >>= λ n. token n.rest) else taken t l
 
--- ITERATE, where it stands
+-- ITERATE, if it is there
 unfoldable pub past_iterate : Lexeme → Reader Lexeme
 past_iterate t l = if is (codes "ITERATE") t then token l else taken t l
 
@@ -37,7 +37,7 @@ rect l = do
   stop ← to_semicolon opposite.rest
   taken (reach_of corner.value.y opposite.value.y) stop.rest
 
--- A statement of a port, of which the first token was read: every RECT counts, others are skipped, and an END alone is the last.
+-- A statement of a port, after its first token: every RECT counts, others are skipped, and an END alone is the last.
 unfoldable pub port_statement_from : List Reach → Lexeme → Reader (Turn (List Reach))
 port_statement_from reaches t l =
     if is (codes "END") t then ends reaches l
@@ -50,11 +50,11 @@ port_statement reaches l = do
   t ← token l
   port_statement_from reaches t.value t.rest
 
--- the use that a word names: all but POWER and GROUND play no part
+-- the use that a word names: all but POWER and GROUND are ignored
 abbrev pub use_named : List ℕ → PinUse
 use_named w = if bytes_eq w (codes "POWER") then Power else if bytes_eq w (codes "GROUND") then Ground else Other
 
--- A statement of a pin, of which the first token was read: the first USE stands, every PORT counts, and others are skipped.
+-- A statement of a pin, after its first token: the first USE stands, every PORT counts, and others are skipped.
 unfoldable pub pin_statement_from : List ℕ → Pin → Lexeme → Reader (Turn Pin)
 pin_statement_from name pin t l =
     if is (codes "END") t then (end_name name l >>= λ stop. ends pin stop.rest)

@@ -149,12 +149,12 @@ tokens_behind (p ∷ ps) tokens = passed_tokens p ++ tokens_behind ps tokens
 
 -- What is read.
 
--- statements that are skipped play no part, whatever follows
+-- statements that are skipped are ignored, whatever follows
 abbrev pub PassesOver : Contents → Type 0
 PassesOver c = (passed : List Passed) (tokens : List Lexeme) (behind : Lexed) → All IsWhole passed → Spells tokens (tokens_behind passed [])
     → library c (with_tokens tokens behind) ≡ library c behind
 
--- a printed site of a name that is new is read back, after statements that are skipped and whatever follows it
+-- a printed site of a name that is new is read back, after statements that are skipped and with anything after it
 abbrev pub ReadsSite : Contents → Site → Type 0
 ReadsSite c s = (passed : List Passed) (class w h : List ℕ) (tokens : List Lexeme) (behind : Lexed)
     → All IsWhole passed → IsPrintable s.name → class ≢ codes ";" → bytes_eq class (codes "CORE") ≡ s.core → Writes w s.size.x → Writes h s.size.y
@@ -163,7 +163,7 @@ ReadsSite c s = (passed : List Passed) (class w h : List ℕ) (tokens : List Lex
     → library c (with_tokens tokens behind) ≡ library (record c { sites = c.sites ++ s ∷ [] }) behind
 
 -- a printed macro of a name that is new is read back with the rail that its pin gives it, after statements that are skipped and
--- whatever follows it
+-- with anything after it
 abbrev pub ReadsMacro : Contents → Macro → Type 0
 ReadsMacro c m = (passed : List Passed) (x y w h pin use_word x1 y1 x2 y2 : List ℕ) (low high left right : ℤ) (tokens : List Lexeme) (behind : Lexed)
     → All IsWhole passed → IsPrintable m.name → IsPrintable pin → use_word ≢ codes ";" → Writes x m.origin.x → Writes y m.origin.y → Writes w m.size.x

@@ -166,7 +166,7 @@ abbrev pub symmetry_tokens : List SymmetryWord → List Plain
 symmetry_tokens [] = word_of (codes ";") ∷ []
 symmetry_tokens (w ∷ ws) = word_of (spelled_symmetry w) ∷ symmetry_tokens ws
 
--- R90 plays no part
+-- R90 is ignored
 abbrev pub with_symmetry : Symmetry → SymmetryWord → Symmetry
 with_symmetry s about_x = record s { x = true }
 with_symmetry s about_y = record s { y = true }
@@ -221,7 +221,7 @@ macro_body_tokens name (s ∷ ss) = macro_statement_tokens s ++ macro_body_token
 abbrev pub macro_tokens : List ℕ → List MacroStatement → List Plain
 macro_tokens name statements = word_of (codes "MACRO") ∷ word_of name ∷ macro_body_tokens name statements
 
--- the first ORIGIN, SIZE and SYMMETRY stand, every PIN counts, and what is skipped plays no part
+-- the first ORIGIN, SIZE and SYMMETRY stand, every PIN counts, and what is skipped is ignored
 abbrev pub with_statement : MacroParts → MacroStatement → MacroParts
 with_statement parts (macro_origin p) = record parts { origin = first_stands parts.origin (point_of p) }
 with_statement parts (macro_size w h) = record parts { size = first_stands parts.size (record { x = w.length; y = h.length }) }
@@ -239,8 +239,8 @@ with_statements parts (s ∷ ss) = with_statements (with_statement parts s) ss
 abbrev pub said_macro : List ℕ → List MacroStatement → Macro
 said_macro name statements = macro_of name (with_statements no_macro_parts statements)
 
--- A macro that is printed by any such statements, and whose name is new, is read back, after statements that are skipped and
--- whatever follows it.
+-- A macro that is printed by any such statements, and whose name is new, is read back, after statements that are skipped and with
+-- anything after it.
 abbrev pub ReadsMacroOf : Contents → Macro → List MacroStatement → Type 0
 ReadsMacroOf c m statements = (passed : List Passed) (tokens : List Lexeme) (behind : Lexed)
     → All IsWhole passed → IsPrintable m.name → All IsMacroStatement statements → said_macro m.name statements ≡ m

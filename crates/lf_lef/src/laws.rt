@@ -1,4 +1,4 @@
-//! What is true of the grammar of LEF, whatever is read.
+//! Laws on the grammar of LEF, whatever is read.
 
 ghost use Rattle.std.specs.Prelude.{◌≡◌, List, ℕ};
 ghost use Rattle.lf_lex.specs.Tokens.{Lexed};
@@ -30,20 +30,20 @@ pub fn statements_take_tokens()
     ensures text { TakesTokens statement }
 {}
 
-/// White space, comments and what follows play no part in what the statements of a site or a macro say.
+/// White space, comments and what follows are ignored in what the statements of a site or a macro say.
 pub fn statements_read_alike()
     ensures site { (name : List ℕ) → ReadsAlike (site_parts name) }
     ensures cell { (name : List ℕ) → ReadsAlike (macro_parts name) }
 {}
 
-/// What stands after END LIBRARY plays no part: where reading a text leaves tokens unread, any bytes may stand from the
+/// What follows END LIBRARY is ignored: if reading a text leaves tokens unread, any bytes may replace those from the
 /// first of these on.
 pub fn nothing_behind_end_library_counts()
     ensures { (before after : Contents) (text : List ℕ) → EndsBefore before after text }
 {}
 
-/// Of several statements of one kind the first stands, and every PIN and RECT counts; of several sites or
-/// macros of one name the first stands, in one text or several.
+/// Of several statements of one kind the first counts, and every PIN and RECT counts; of several sites or macros of one
+/// name the first counts, in one text or several.
 pub fn first_of_each_kind_stands()
     ensures site { (name : List ℕ) (old new : SiteParts) (l m : Lexed)
         → block (site_statement name) old l ≡ taken new m → SiteStands old new }
@@ -55,7 +55,7 @@ pub fn first_of_each_kind_stands()
         → library old l ≡ taken new m → BeginsWith old new }
 {}
 
-/// Statements that are skipped play no part, however many there are.
+/// Statements that are skipped are ignored, however many there are.
 pub fn passed_over_statements_play_no_part()
     ensures { (c : Contents) → PassesOver c }
 {}

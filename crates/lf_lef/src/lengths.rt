@@ -31,7 +31,7 @@ pub(crate) fn micros(lexer: &mut Lexer) -> Result<i64, ReadError>
     micros_of(&token)
 }
 
-/// A point, of which the first token was read.
+/// A point, after its first token.
 #[tactic(auto, unfolding(crate::specs::Lengths::point_from))]
 pub(crate) fn point_from(lexer: &mut Lexer, token: &Token) -> Result<Point, ReadError>
     ensures read { Reads (λ p. p) result

@@ -9,8 +9,7 @@ use lf_names::NameTable;
 use std::alloc::{AllocError, Global};
 use std::marker::Model;
 
-/// The sites and macros of the LEF texts that were read, each list in the order in which they were
-/// first read.
+/// The sites and macros of the LEF texts that were read, each list in first-read order.
 ///
 /// Names in a list differ, are 1,024 bytes long at most and hold bytes from 33 to 126; lengths lie
 /// between -1,000,000 and 1,000,000 microns; a list has at most 1,000,000 entries.

@@ -81,7 +81,7 @@ fn rect(lexer: &mut Lexer) -> Result<Reach, ReadError>
     Ok(reach_of(corner.y, opposite.y))
 }
 
-/// A statement of a port, of which the first token was read; whether more follow.
+/// A statement of a port, after its first token; returns whether more follow.
 #[tactic(auto, unfolding(crate::specs::Pins::port_statement_from))]
 fn port_statement_from(
     lexer: &mut Lexer,
@@ -132,7 +132,7 @@ fn use_named(word: &[u8]) -> PinUse
     }
 }
 
-/// A statement of a pin, of which the first token was read; whether more follow.
+/// A statement of a pin, after its first token; returns whether more follow.
 #[tactic(auto, unfolding(crate::specs::Pins::pin_statement_from))]
 fn pin_statement_from(
     lexer: &mut Lexer,

@@ -68,7 +68,7 @@ pub(crate) fn symmetry(lexer: &mut Lexer) -> Result<Symmetry, ReadError>
     Ok(symmetry)
 }
 
-/// A statement of a site, of which the first token was read; whether more follow.
+/// A statement of a site, after its first token; returns whether more follow.
 #[tactic(auto, unfolding(crate::specs::Sites::site_statement_from))]
 fn site_statement_from(
     lexer: &mut Lexer,

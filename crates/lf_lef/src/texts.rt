@@ -96,7 +96,7 @@ fn to_named_end(lexer: &mut Lexer) -> Result<(), ReadError>
     to_end(lexer, name.text)
 }
 
-/// A statement that says nothing of sites and macros, of which the first token was read.
+/// A statement that says nothing of sites and macros, after its first token.
 #[tactic(auto, unfolding(crate::specs::Library::passed_from))]
 fn passed_from(lexer: &mut Lexer, token: &Token) -> Result<(), ReadError>
     ensures { ReadsOn (λ x. x) result (grammar.passed_from (lexeme token.now)) lexer.old lexer.new }
@@ -114,7 +114,7 @@ fn passed_from(lexer: &mut Lexer, token: &Token) -> Result<(), ReadError>
     }
 }
 
-/// A statement of the text, of which the first token was read; whether more follow.
+/// A statement of the text, after its first token; returns whether more follow.
 #[tactic(auto, unfolding(crate::specs::Library::statement_from))]
 fn statement_from(
     library: &mut Library,
@@ -162,11 +162,11 @@ fn read_statements(library: &mut Library, text: &[u8]) -> Result<(), ReadError>
     Ok(())
 }
 
-/// Adds the sites and macros of a LEF text, up to END LIBRARY or the end of the text between
-/// statements. Of several sites or macros of one name the first stands, in one text or several.
+/// Adds the sites and macros of a LEF text, up to END LIBRARY or the end of the text between statements. Of several
+/// sites or macros of one name the first counts, in one text or several.
 ///
-/// The refusal is the first fault in the order of the tokens, with its line: BadToken, UnexpectedEnd,
-/// Unexpected, BadNumber, WrongEnd or TooMany; or OutOfMemory. The library is unchanged after it.
+/// The error is the first fault in the order of the tokens, with its line: BadToken, UnexpectedEnd, Unexpected,
+/// BadNumber, WrongEnd or TooMany; or OutOfMemory. The library is unchanged after it.
 pub fn read_lef<'a>(library: &mut Library, text: &'a [u8]) -> Result<(), LoadFault<'a>>
     ensures ok { OnOk result (grammar.library_after library.old text.now ≡ Ok library.new) }
     ensures fault { IfErr result
