@@ -25,7 +25,7 @@ blockage_part Keyword parts t l = goes_on (noted parts t) l
 blockage_part Rest parts t l = if is (codes "RECT") t then with_rect parts l else goes_on parts l
 blockage_part _ parts t l = if is (codes "RECT") t then with_rect parts l else fault_at Unexpected t.line
 
--- a token of a blockage with what belongs to it: a semicolon is the last, and a plus begins a clause
+-- a token of a blockage and what it takes with it: a semicolon is the last, and a plus begins a clause
 unfoldable pub blockage_from : BlockageParts → Lexeme → Reader (Turn BlockageParts)
 blockage_from parts t l =
     if is (codes ";") t then ends parts l

@@ -46,7 +46,7 @@ is_passed_statement t =
     is (codes "TRACKS") t || is (codes "GCELLGRID") t || is (codes "HISTORY") t || is (codes "TECHNOLOGY") t || is (codes "DIEAREA") t || is
     (codes "COMPONENTMASKSHIFT") t || is (codes "NAMESCASESENSITIVE") t
 
--- a statement that says nothing of placement, after its first token; any other word begins no statement
+-- a statement that is skipped, after its first token; any other word begins no statement
 unfoldable pub passed_from : Lexeme → Reader (Unit {0})
 passed_from t l =
     if is_passed_section t then to_end t.text l
@@ -55,7 +55,7 @@ passed_from t l =
     else if kind_is_word t.kind then fault_at UnknownStatement t.line
     else fault_at Unexpected t.line
 
--- DESIGN after an END (DEF END DESIGN): a DESIGN statement has to stand before it
+-- DESIGN after an END (DEF END DESIGN): a DESIGN statement must precede it
 unfoldable pub end_design : DocParts → Reader (Unit {0})
 end_design parts l = do
   t ← token l
@@ -115,6 +115,6 @@ abbrev pub IsReadFrom : List ℕ → Header → List Row → List Region → Lis
 IsReadFrom text header rows regions groups components blockages =
     document_of text ≡ Ok (record { header = header; rows = rows; regions = regions; groups = groups; components = components; blockages = blockages })
 
--- an error of the text: its fault with its line, or a failed allocation
+-- the error of a reader: the text's fault with its line, or a failed allocation
 abbrev pub Refuses : LoadFault → Result Document ReadFault → Type 0
 Refuses fault reading = (fault ≡ load_fault_of Memory) ⊎ ((first : ReadFault) × (reading ≡ Err first) × (fault ≡ load_fault_of (Fault first)))

@@ -20,7 +20,7 @@ section keyword entry entries l = do
   start ← to_semicolon l
   block (entry_or_end keyword entry) entries start.rest
 
--- the bytes of a name or a pattern, where the token is a word other than a semicolon of at most 1,024 bytes
+-- the bytes of a name or a pattern, if the token is a word other than a semicolon of at most 1,024 bytes
 abbrev pub name_of : Lexeme → Result (List ℕ) ReadFault
 name_of t =
     if not (is_word t) then fault_at Unexpected t.line

@@ -29,7 +29,7 @@ group_part Keyword parts t l = if is (codes "REGION") t then with_region parts l
 group_part Rest parts t l = goes_on parts l
 group_part Separator parts t l = fault_at Unexpected t.line
 
--- a token of a group with what belongs to it: a semicolon is the last, and a plus begins a clause
+-- a token of a group and what it takes with it: a semicolon is the last, and a plus begins a clause
 unfoldable pub group_from : GroupParts → Lexeme → Reader (Turn GroupParts)
 group_from parts t l =
     if is (codes ";") t then ends parts l

@@ -28,7 +28,7 @@ design l = do
   stop ← keyword (codes ";") n.rest
   taken n.value.text stop.rest
 
--- UNITS DISTANCE MICRONS n ; after its keyword (DEF UNITS): how many database units a micron has, from 1 to 20000
+-- UNITS DISTANCE MICRONS n ; after its keyword (DEF UNITS): the database units per micron, from 1 to 20000
 unfoldable pub units : Reader ℕ
 units l = do
   distance ← keyword (codes "DISTANCE") l
@@ -52,7 +52,7 @@ header_statement parts t l =
 abbrev pub no_header : HeaderParts
 no_header = record { version = None; divider = None; brackets = None; design = None; units = None }
 
--- the header that the statements describe; without them it is 5.8, "/" and "[]"
+-- the header that the statements describe; the defaults are 5.8, "/" and "[]"
 abbrev pub header_of : HeaderParts → Header
 header_of parts =
     record { version = unwrap_or parts.version (codes "5.8"); divider = unwrap_or parts.divider (codes "\"/\""); brackets = unwrap_or parts.brackets (codes "\"[]\""); design = unwrap_or parts.design []; units = parts.units }

@@ -38,7 +38,7 @@ region_part Keyword parts t l = if is (codes "TYPE") t then with_kind parts l el
 region_part Rest parts t l = goes_on parts l
 region_part Separator parts t l = fault_at Unexpected t.line
 
--- a token of a region with what belongs to it: a semicolon is the last, and a plus begins a clause
+-- a token of a region and what it takes with it: a semicolon is the last, and a plus begins a clause
 unfoldable pub region_from : RegionParts → Lexeme → Reader (Turn RegionParts)
 region_from parts t l =
     if is (codes ";") t then ends parts l

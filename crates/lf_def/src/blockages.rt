@@ -18,9 +18,9 @@ use std::alloc::Global;
 /// A placement blockage (LEF/DEF 5.8, DEF BLOCKAGES), in database units.
 #[derive(Drop)]
 pub struct Blockage {
-    /// It has a SOFT clause.
+    /// Whether it has a SOFT clause.
     pub soft: bool,
-    /// It has a PARTIAL clause.
+    /// Whether it has a PARTIAL clause.
     pub partial: bool,
     /// Its rectangles in the order of the text, each with its lower left corner before its upper right one.
     pub rects: Sequence<Rect>,
@@ -48,7 +48,7 @@ fn with_rect(lexer: &mut Lexer, parts: &mut BlockageParts) -> Result<bool, ReadE
     Ok(true)
 }
 
-/// Notes the word of a clause.
+/// Notes the word of a clause: SOFT and PARTIAL.
 fn note(parts: &mut BlockageParts, word: &Token)
     requires rects { All IsRect parts.old.rects }
     ensures parts { parts.new ≡ grammar.noted parts.old (lexeme word.now) }
@@ -59,7 +59,7 @@ fn note(parts: &mut BlockageParts, word: &Token)
     parts.due = Due::Rest;
 }
 
-/// A token of a blockage that is no separator, with what belongs to it; returns whether more follow.
+/// A token of a blockage that is no separator, and what it takes with it; returns whether more follow.
 #[tactic(auto, unfolding(crate::specs::Blockages::blockage_part))]
 fn blockage_part(
     lexer: &mut Lexer,
@@ -92,7 +92,7 @@ fn blockage_part(
     }
 }
 
-/// A token of a blockage, with what belongs to it; returns whether more follow.
+/// A token of a blockage, and what it takes with it; returns whether more follow.
 #[tactic(auto, unfolding(crate::specs::Blockages::blockage_from))]
 fn blockage_from(
     lexer: &mut Lexer,
@@ -201,7 +201,7 @@ impl Block for BlockageEntries {
     }
 }
 
-/// A BLOCKAGES section after its keyword: its blockages go after the others.
+/// A BLOCKAGES section after its keyword: its blockages are appended.
 #[tactic(auto, unfolding(crate::specs::Blockages::blockages))]
 pub(crate) fn blockages(
     alloc: Global,

@@ -1,4 +1,4 @@
-//! Components, and where their placement clauses stand in the text.
+//! Components, with the offsets of their placement clauses.
 
 ghost use Rattle.std.specs.Prelude.{◌≡◌, All, IfOk, IfSome, codes};
 ghost use Rattle.lf_lex.specs.Tokens.{lexeme};
@@ -34,19 +34,19 @@ pub struct Location {
     pub orient: Orient,
 }
 
-/// A placement clause, and if it is there.
+/// A placement clause and its offsets.
 #[derive(Clone, Copy, Debug, PartialEq, Eq)]
 pub struct Placement {
     pub kind: PlacementKind,
-    /// Where the component stands; none for UNPLACED, whose point is ignored.
+    /// The component's place; none for UNPLACED, whose point is ignored.
     pub place: Option<Location>,
     /// The offset of its `+` in the text.
     pub start: usize,
-    /// The offset after its last token: the orientation, or UNPLACED where no point stands after it.
+    /// The offset after its last token: the orientation, or UNPLACED if no point follows.
     pub stop: usize,
 }
 
-/// A component (LEF/DEF 5.8, DEF COMPONENTS), whose names its text lends.
+/// A component (LEF/DEF 5.8, DEF COMPONENTS), whose names are borrowed from its text.
 #[derive(Drop)]
 pub struct Component<'a> {
     pub name: TextName<'a>,
@@ -63,15 +63,15 @@ pub struct Component<'a> {
 pub struct ComponentParts {
     pub placement: Option<Placement>,
     pub due: Due,
-    /// The point of UNPLACED may stand here.
+    /// Whether the point of UNPLACED may follow here.
     pub point: bool,
     /// The offset of the last `+`.
     pub plus: usize,
-    /// The offset of the `;`, once it was read.
+    /// The offset of the `;`, once it is read.
     pub semicolon: usize,
 }
 
-/// A location, and where its orientation ends in the text.
+/// A location, and the offset at which its orientation ends.
 #[derive(Clone, Copy, Debug, PartialEq, Eq)]
 pub struct Located {
     pub location: Location,
@@ -151,7 +151,7 @@ fn read_placement(lexer: &mut Lexer, plus: usize, word: &Token) -> Result<Placem
     }
 }
 
-/// The only placement clause: a second one is Unexpected.
+/// Keeps the only placement clause: a second one is Unexpected.
 #[tactic(auto, unfolding(crate::specs::Components::only_placement))]
 fn only_placement(
     lexer: &mut Lexer,
@@ -168,7 +168,7 @@ fn only_placement(
     }
 }
 
-/// A clause of which the plus and the word were read.
+/// A clause, after its plus and its word.
 #[tactic(auto, unfolding(crate::specs::Components::clause))]
 fn clause(lexer: &mut Lexer, parts: &mut ComponentParts, word: &Token) -> Result<bool, ReadError>
     requires range { IfSome parts.old.placement (λ p. IsPlacement p) }
@@ -201,7 +201,7 @@ fn unplaced_point(lexer: &mut Lexer, parts: &mut ComponentParts) -> Result<bool,
     Ok(true)
 }
 
-/// A token of a component that is no separator, with what belongs to it; returns whether more follow.
+/// A token of a component that is no separator, and what it takes with it; returns whether more follow.
 #[tactic(auto, unfolding(crate::specs::Components::component_part))]
 fn component_part(
     lexer: &mut Lexer,
@@ -226,7 +226,7 @@ fn component_part(
     }
 }
 
-/// A token of a component, with what belongs to it; returns whether more follow.
+/// A token of a component, and what it takes with it; returns whether more follow.
 #[tactic(auto, unfolding(crate::specs::Components::component_from))]
 fn component_from(
     lexer: &mut Lexer,
@@ -321,7 +321,7 @@ fn component_or_end<'a>(
     Err(fault_at(FaultNumber::Unexpected, token.line))
 }
 
-/// The entries of a section, and its END. They borrow the text, so this loop is its own.
+/// The entries of a section, and its END. They borrow the text, so this loop does not use `read_block`.
 fn component_entries<'a>(
     lexer: &mut Lexer<'a>,
     components: &mut Sequence<Component<'a>>,
@@ -334,7 +334,7 @@ fn component_entries<'a>(
     Ok(())
 }
 
-/// A COMPONENTS section after its keyword: its components go after the others.
+/// A COMPONENTS section after its keyword: its components are appended.
 #[tactic(auto, unfolding(crate::specs::Entries::section))]
 pub(crate) fn components<'a>(
     lexer: &mut Lexer<'a>,

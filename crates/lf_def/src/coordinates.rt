@@ -32,7 +32,7 @@ pub(crate) fn dbu(lexer: &mut Lexer) -> Result<i64, ReadError>
     dbu_of(&token)
 }
 
-/// The number where it lies from 1 to the largest one, else BadNumber.
+/// The number if it is from 1 to the largest one, else BadNumber.
 fn up_to(most: u32, value: i64, line: usize) -> Result<u32, ReadError>
     ensures read { MatchResult result (λ n. grammar.up_to most value line ≡ Ok n) (λ e. Fails e (grammar.up_to most value line)) }
     ensures range { IfOk result (λ n. IsCount most n) }
@@ -76,7 +76,7 @@ fn point(lexer: &mut Lexer) -> Result<Point, ReadError>
     point_rest(lexer)
 }
 
-/// The numbers from the lesser of two on up to the greater.
+/// The lesser and the greater of two numbers.
 fn between(a: i64, b: i64) -> Span
     requires a { IsCoordinate a }
     requires b { IsCoordinate b }

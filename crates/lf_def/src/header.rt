@@ -14,18 +14,18 @@ use lf_lex::{
 use lf_units::Name;
 use std::alloc::{AllocError, Global};
 
-/// What the statements of the header say (LEF/DEF 5.8, DEF VERSION, DIVIDERCHAR, BUSBITCHARS, DESIGN and
-/// UNITS): of each the first, its token as it stands.
+/// What the statements of the header say (LEF/DEF 5.8, DEF VERSION, DIVIDERCHAR, BUSBITCHARS, DESIGN and UNITS): the
+/// first of each, its token unchanged.
 #[derive(Drop)]
 pub struct Header {
-    /// `5.8` where no statement says it.
+    /// `5.8` if no statement says it.
     pub version: Name,
-    /// With its quotation marks; `"/"` where no statement says it.
+    /// With its quotation marks; `"/"` if no statement says it.
     pub divider: Name,
-    /// With its quotation marks; `"[]"` where no statement says it.
+    /// With its quotation marks; `"[]"` if no statement says it.
     pub brackets: Name,
     pub design: Name,
-    /// How many database units a micron has, from 1 to 20000.
+    /// Database units per micron, from 1 to 20000; none without UNITS.
     pub units: Option<u32>,
 }
 
@@ -143,7 +143,7 @@ pub(crate) fn no_header() -> HeaderParts
     }
 }
 
-/// The text, or the one that is taken without it.
+/// The text, or its default if there is none.
 fn text_or(alloc: Global, text: Option<Name>, without: &[u8]) -> Result<Name, AllocError>
     ensures { IfOk result (λ t. t ≡ unwrap_or text without.now) }
 {

@@ -8,7 +8,7 @@ use crate::regions::Region;
 use crate::rows::Row;
 use lf_units::Sequence;
 
-/// What the statements that were read say.
+/// What the statements read so far say.
 #[derive(Drop)]
 pub struct DocParts<'a> {
     pub header: HeaderParts,

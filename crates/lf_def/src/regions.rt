@@ -13,12 +13,12 @@ use lf_lex::{Block, FaultNumber, Lexer, ReadError, Token, fault_at, is, name, re
 use lf_units::{Name, Rect, Sequence};
 use std::alloc::Global;
 
-/// What a region asks of the components of its groups (LEF/DEF 5.8, DEF REGIONS, TYPE).
+/// What the TYPE of a region demands of its groups' components (LEF/DEF 5.8, DEF REGIONS).
 #[derive(Clone, Copy, Debug, PartialEq, Eq)]
 pub enum RegionKind {
-    /// They stand in it, and no others do.
+    /// They are placed in it, and no others are.
     Fence,
-    /// They should stand in it.
+    /// They should be placed in it.
     Guide,
 }
 
@@ -26,10 +26,10 @@ pub enum RegionKind {
 #[derive(Drop)]
 pub struct Region {
     pub name: Name,
-    /// The first TYPE, where there is one.
+    /// The first TYPE, if there is one.
     pub kind: Option<RegionKind>,
-    /// Its rectangles in the order of the text, at least one, each with its lower left corner before its
-    /// upper right one. They may overlap.
+    /// Its rectangles in the order of the text, one or more, each with its lower left corner before its upper right
+    /// one. They may overlap.
     pub rects: Sequence<Rect>,
 }
 
@@ -84,7 +84,7 @@ fn with_kind(lexer: &mut Lexer, parts: &mut RegionParts) -> Result<bool, ReadErr
     Ok(true)
 }
 
-/// A token of a region that is no separator, with what belongs to it; returns whether more follow.
+/// A token of a region that is no separator, and what it takes with it; returns whether more follow.
 #[tactic(auto, unfolding(crate::specs::Regions::region_part))]
 fn region_part(lexer: &mut Lexer, parts: &mut RegionParts, token: &Token) -> Result<bool, ReadError>
     requires rects { All IsRect parts.old.rects }
@@ -114,7 +114,7 @@ fn region_part(lexer: &mut Lexer, parts: &mut RegionParts, token: &Token) -> Res
     }
 }
 
-/// A token of a region, with what belongs to it; returns whether more follow.
+/// A token of a region, and what it takes with it; returns whether more follow.
 #[tactic(auto, unfolding(crate::specs::Regions::region_from))]
 fn region_from(lexer: &mut Lexer, parts: &mut RegionParts, token: &Token) -> Result<bool, ReadError>
     requires rects { All IsRect parts.old.rects }
@@ -187,7 +187,7 @@ impl Entry for Region {
     }
 }
 
-/// A REGIONS section after its keyword: its regions go after the others.
+/// A REGIONS section after its keyword: its regions are appended.
 pub(crate) fn regions(
     alloc: Global,
     lexer: &mut Lexer,

@@ -28,11 +28,11 @@ pub struct Row {
     pub sites_x: u32,
     /// How many sites it has up, numY; 1 without DO.
     pub sites_y: u32,
-    /// The steps across and up from site to site, where it has STEP.
+    /// The steps across and up from site to site, if it has STEP.
     pub step: Option<Point>,
 }
 
-/// How many sites a row has across and up, and the steps between them.
+/// The numbers of sites of a row across and up, and the steps between them.
 #[derive(Clone, Copy, Debug, PartialEq, Eq)]
 pub struct Sites {
     pub x: u32,

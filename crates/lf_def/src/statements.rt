@@ -51,7 +51,7 @@ fn is_passed_statement(token: &Token) -> bool
         || is(b"NAMESCASESENSITIVE", token)
 }
 
-/// A statement that says nothing of placement, after its first token.
+/// A statement that is skipped, after its first token.
 #[tactic(auto, unfolding(crate::specs::Document::passed_from))]
 fn passed_from(lexer: &mut Lexer, token: &Token) -> Result<(), ReadError>
     ensures { ReadsOn (λ x. x) result (grammar.passed_from (lexeme token.now)) lexer.old lexer.new }
@@ -88,7 +88,7 @@ fn end_design(lexer: &mut Lexer, parts: &DocParts) -> Result<(), ReadError>
     }
 }
 
-/// A row after its keyword: it goes after the others.
+/// A row after its keyword: it is appended.
 #[tactic(auto, unfolding(crate::specs::Rows::with_row))]
 fn add_row(alloc: Global, lexer: &mut Lexer, rows: &mut Sequence<Row>) -> Result<(), ReadError>
     requires range { All IsRow rows.old }
@@ -165,7 +165,7 @@ fn statement<'a>(
     statement_from(alloc, lexer, parts, &first)
 }
 
-/// What is known before the first statement.
+/// The state before the first statement.
 fn no_parts<'a>(alloc: Global) -> DocParts<'a>
     ensures parts { result ≡ grammar.no_parts }
     ensures range { AreParts result }

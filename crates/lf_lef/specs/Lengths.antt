@@ -11,7 +11,7 @@ pub record IsInRange (length : ℤ) : Type 0 where
   pub low : negsuc 999999999999 ≤ℤ length
   pub high : length ≤ℤ pos (10 ^ 12)
 
--- both lengths of a point or a size do
+-- both lengths of a point or a size are in that range
 pub record HasRange (p : Point) : Type 0 where
   pub x : IsInRange p.x
   pub y : IsInRange p.y

@@ -13,7 +13,7 @@ use Rattle.lf_lef.specs.Contents.{Contents, site_names, macro_names}
 use Rattle.lf_lef.specs.Sites.{site_parts, site_of}
 use Rattle.lf_lef.specs.Macros.{macro_parts, macro_of}
 
--- where nothing has the name yet, there has to be room for one thing more
+-- a new name needs room for one thing more
 abbrev pub room_for : Option ℕ → ℕ → Lexeme → Result (Unit {0}) ReadFault
 room_for (Some at) count t = Ok tt
 room_for None count t = if nat_le 1000000 count then fault_at TooMany t.line else Ok tt
@@ -54,7 +54,7 @@ to_named_end l = do
   n ← name l
   to_end n.value.text n.rest
 
--- A statement that says nothing of sites and macros, after its first token.
+-- A statement other than SITE and MACRO, after its first token.
 unfoldable pub passed_from : Lexeme → Reader (Unit {0})
 passed_from t l =
     if is_named t then to_named_end l

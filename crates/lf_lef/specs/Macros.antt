@@ -21,7 +21,7 @@ passed_statement _ l = do
 abbrev pub passed_group : Reader (Unit {0})
 passed_group l = block passed_statement tt l
 
--- A statement of a macro that says nothing of it, after its first token.
+-- A statement of a macro that is skipped, after its first token.
 unfoldable pub passed_from : Lexeme → Reader (Unit {0})
 passed_from t l =
     if is (codes "OBS") t || is (codes "DENSITY") t then passed_group l

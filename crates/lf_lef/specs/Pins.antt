@@ -22,7 +22,7 @@ past_mask t l = if is (codes "MASK") t then (micros l >>= λ n. token n.rest) el
 unfoldable pub past_iterate : Lexeme → Reader Lexeme
 past_iterate t l = if is (codes "ITERATE") t then token l else taken t l
 
--- how far up a rectangle reaches, by any two opposite corners
+-- the y range of a rectangle, from any two opposite corners
 abbrev pub reach_of : ℤ → ℤ → Reach
 reach_of a b = record { low = int_min a b; high = int_max a b }
 
@@ -54,7 +54,7 @@ port_statement reaches l = do
 abbrev pub use_named : List ℕ → PinUse
 use_named w = if bytes_eq w (codes "POWER") then Power else if bytes_eq w (codes "GROUND") then Ground else Other
 
--- A statement of a pin, after its first token: the first USE stands, every PORT counts, and others are skipped.
+-- A statement of a pin, after its first token: the first USE counts, every PORT counts, and others are skipped.
 unfoldable pub pin_statement_from : List ℕ → Pin → Lexeme → Reader (Turn Pin)
 pin_statement_from name pin t l =
     if is (codes "END") t then (end_name name l >>= λ stop. ends pin stop.rest)
@@ -77,7 +77,7 @@ pin l = do
   n ← name l
   block (pin_statement n.value.text) no_pin n.rest
 
--- The bottom rail, which is this project's profile.
+-- The bottom rail, which is this project's own rule.
 
 -- the rectangle reaches the line y = 0 after ORIGIN is added
 abbrev pub is_at_bottom : ℤ → Reach → Bool
@@ -102,6 +102,6 @@ is_supply_at_bottom supply origin p = is_used_as supply p.supply && list_any (is
 abbrev pub has_at_bottom : PinUse → ℤ → List Pin → Bool
 has_at_bottom supply origin pins = list_any (is_supply_at_bottom supply origin) pins
 
--- power where a power pin reaches the bottom and no ground pin does, else ground
+-- power if a power pin reaches the bottom and no ground pin does, else ground
 abbrev pub rail_of : ℤ → List Pin → Rail
 rail_of origin pins = if has_at_bottom Power origin pins && not (has_at_bottom Ground origin pins) then rail.Power else rail.Ground

@@ -1,4 +1,4 @@
--- Printed LEF macros: statements in any order, in MACRO, in PIN, in PORT and in OBS, with whatever is skipped among them.
+-- Printed LEF macros: statements in any order, in MACRO, in PIN, in PORT and in OBS, with any skipped ones among them.
 use Rattle.std.specs.Prelude.{◌≡◌, ◌≢◌, ℕ, ◌<◌, Bool, List, [], ◌∷◌, ◌++◌, length, map, All, IfSome, ℤ, Option, Some, None, codes, if◌then◌else◌, true}
 use Rattle.lf_units.specs.declared.area.Point.{Point}
 use Rattle.lf_orient.specs.declared.Symmetry.{Symmetry}
@@ -125,7 +125,7 @@ abbrev pub pin_body_tokens : List ℕ → List PinStatement → List Plain
 pin_body_tokens name [] = map word_of (end_words name)
 pin_body_tokens name (s ∷ ss) = pin_statement_tokens s ++ pin_body_tokens name ss
 
--- the first USE stands, and every PORT counts
+-- the first USE counts, and every PORT
 abbrev pub with_pin_statement : Pin → PinStatement → Pin
 with_pin_statement pin (pin_use use_word) = record pin { supply = first_stands pin.supply (use_named use_word) }
 with_pin_statement pin (pin_port statements) = record pin { reaches = with_rects pin.reaches statements }
@@ -221,7 +221,7 @@ macro_body_tokens name (s ∷ ss) = macro_statement_tokens s ++ macro_body_token
 abbrev pub macro_tokens : List ℕ → List MacroStatement → List Plain
 macro_tokens name statements = word_of (codes "MACRO") ∷ word_of name ∷ macro_body_tokens name statements
 
--- the first ORIGIN, SIZE and SYMMETRY stand, every PIN counts, and what is skipped is ignored
+-- the first ORIGIN, SIZE and SYMMETRY count, and every PIN; what is skipped is ignored
 abbrev pub with_statement : MacroParts → MacroStatement → MacroParts
 with_statement parts (macro_origin p) = record parts { origin = first_stands parts.origin (point_of p) }
 with_statement parts (macro_size w h) = record parts { size = first_stands parts.size (record { x = w.length; y = h.length }) }
@@ -235,12 +235,11 @@ abbrev pub with_statements : MacroParts → List MacroStatement → MacroParts
 with_statements parts [] = parts
 with_statements parts (s ∷ ss) = with_statements (with_statement parts s) ss
 
--- the macro that the statements say
+-- the macro that the statements describe
 abbrev pub said_macro : List ℕ → List MacroStatement → Macro
 said_macro name statements = macro_of name (with_statements no_macro_parts statements)
 
--- A macro that is printed by any such statements, and whose name is new, is read back, after statements that are skipped and with
--- anything after it.
+-- A macro of a new name, printed by any such statements, reads back, after skipped statements and with anything after it.
 abbrev pub ReadsMacroOf : Contents → Macro → List MacroStatement → Type 0
 ReadsMacroOf c m statements = (passed : List Passed) (tokens : List Lexeme) (behind : Lexed)
     → All IsWhole passed → IsPrintable m.name → All IsMacroStatement statements → said_macro m.name statements ≡ m

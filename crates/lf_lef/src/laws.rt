@@ -19,7 +19,7 @@ ghost use Rattle.lf_lef.specs.PrintedMacros.{MacroStatement, ReadsMacroOf};
 ghost use Rattle.lf_lef.specs.PrintedSites.{SiteStatement, ReadsSiteOf};
 ghost use Rattle.lf_lef.specs.Macros.{passed_statement, macro_statement, macro_parts};
 
-/// Each statement after which more follow takes a token, so every block comes to its END or to a fault.
+/// Each statement after which more follow takes a token, so every block reaches its END or a fault.
 pub fn statements_take_tokens()
     ensures symmetry { TakesTokens symmetry_word }
     ensures site { (name : List ℕ) → TakesTokens (site_statement name) }
@@ -30,7 +30,7 @@ pub fn statements_take_tokens()
     ensures text { TakesTokens statement }
 {}
 
-/// White space, comments and what follows are ignored in what the statements of a site or a macro say.
+/// White space, comments and what follows do not affect what the statements of a site or a macro say.
 pub fn statements_read_alike()
     ensures site { (name : List ℕ) → ReadsAlike (site_parts name) }
     ensures cell { (name : List ℕ) → ReadsAlike (macro_parts name) }
@@ -55,22 +55,22 @@ pub fn first_of_each_kind_stands()
         → library old l ≡ taken new m → BeginsWith old new }
 {}
 
-/// Statements that are skipped are ignored, however many there are.
+/// Statements that are skipped have no effect, however many there are.
 pub fn passed_over_statements_play_no_part()
     ensures { (c : Contents) → PassesOver c }
 {}
 
-/// A printed SITE is read back, alone and after any statements that are skipped: with a CLASS, a SYMMETRY and a SIZE,
-/// and with any statements in any order.
+/// A printed SITE reads back, alone and after any skipped statements: with a CLASS, a SYMMETRY and a SIZE, and with any
+/// statements in any order.
 pub fn a_printed_site_is_read_back()
     ensures three_statements { (c : Contents) (s : Site) → ReadsSite c s }
     ensures any_statements { (c : Contents) (s : Site) (statements : List SiteStatement)
         → ReadsSiteOf c s statements }
 {}
 
-/// A printed MACRO is read back, alone and after any statements that are skipped: with one PIN, and with any statements
-/// in any order: any number of PIN and PORT, RECT with MASK and ITERATE, OBS, DENSITY, TIMING and others, which are
-/// skipped with whatever words and quoted texts they hold.
+/// A printed MACRO reads back, alone and after any skipped statements: with one PIN, and with any statements in any
+/// order: any number of PIN and PORT, RECT with MASK and ITERATE, OBS, DENSITY, TIMING and others, which are skipped
+/// with all words and quoted texts in them.
 pub fn a_printed_macro_is_read_back()
     ensures one_pin { (c : Contents) (m : Macro) → ReadsMacro c m }
     ensures any_statements { (c : Contents) (m : Macro) (statements : List MacroStatement)

@@ -9,7 +9,7 @@ ghost use Rattle.lf_lef.specs.Lengths.{IsInRange, HasRange};
 use lf_lex::{FaultNumber, Lexer, ReadError, Token, fault_at, is, keyword, token};
 use lf_units::{Point, read_fixed};
 
-/// The length that a token writes, else BadNumber.
+/// The length that a token writes, in millionths of a micron; else BadNumber.
 fn micros_of(token: &Token) -> Result<i64, ReadError>
     ensures read { MatchResult result (λ x. grammar.micros_of (lexeme token.now) ≡ Ok x)
         (λ e. Fails e (grammar.micros_of (lexeme token.now))) }
@@ -84,7 +84,7 @@ pub(crate) fn origin(lexer: &mut Lexer) -> Result<Point, ReadError>
     Ok(point)
 }
 
-/// The first of several points stands.
+/// The first of several points counts.
 pub(crate) fn keep_first(first: &mut Option<Point>, point: Point)
     requires range { IfSome first.old (λ p. HasRange p) }
     requires point { HasRange point }

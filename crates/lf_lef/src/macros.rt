@@ -49,7 +49,7 @@ impl Block for PassedStatements {
     }
 }
 
-/// A statement of a macro that says nothing of it, after its first token.
+/// A statement of a macro that is skipped, after its first token.
 #[tactic(auto, unfolding(crate::specs::Macros::passed_from))]
 fn passed_from(lexer: &mut Lexer, token: &Token) -> Result<(), ReadError>
     ensures { ReadsOn (λ x. x) result (grammar.passed_from (lexeme token.now)) lexer.old lexer.new }

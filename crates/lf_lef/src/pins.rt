@@ -21,7 +21,7 @@ pub enum PinUse {
     Other,
 }
 
-/// How far up a rectangle reaches, from its bottom to its top edge, in millionths of a micron.
+/// The y range of a rectangle, from its bottom to its top edge, in millionths of a micron.
 #[derive(Clone, Copy, Debug, PartialEq, Eq)]
 pub struct Reach {
     pub low: i64,
@@ -57,7 +57,7 @@ fn past_iterate<'a>(lexer: &mut Lexer<'a>, first: Token<'a>) -> Result<Token<'a>
     token(lexer)
 }
 
-/// The reach between two opposite corners.
+/// The y range between two opposite corners.
 fn reach_of(a: i64, b: i64) -> Reach
     ensures { result ≡ grammar.reach_of a b }
 {
@@ -103,7 +103,7 @@ fn port_statement_from(
     Ok(true)
 }
 
-/// The statements of a port: its rectangles go after the others.
+/// The statements of a port: its rectangles are appended.
 #[derive(Drop)]
 struct PortStatements;
 
@@ -190,7 +190,7 @@ pub(crate) fn read_pin(alloc: Global, lexer: &mut Lexer) -> Result<Pin, ReadErro
     Ok(pin)
 }
 
-/// A height of the macro's own coordinates once ORIGIN is added.
+/// A y of the macro's own coordinates after ORIGIN is added.
 fn moved(y: i64, origin: i64) -> i128
     ensures { result ≡ y +ℤ origin }
 {

@@ -134,7 +134,7 @@ pub(crate) fn site_parts(lexer: &mut Lexer, name: &[u8]) -> Result<SiteParts, Re
     Ok(parts)
 }
 
-/// No point or no size: 0 and 0.
+/// The point or size of a missing statement: 0 and 0.
 pub(crate) fn no_point() -> Point
     ensures { result ≡ grammar.no_point }
 {

@@ -17,7 +17,7 @@ use lf_lex::{
 };
 use lf_units::Name;
 
-/// Where nothing has the name yet, there has to be room for one thing more, else TooMany.
+/// A new name needs room for one thing more, else TooMany.
 fn room_for(known: Option<usize>, count: usize, name: &Token) -> Result<(), ReadError>
     ensures read { MatchResult result (λ x. grammar.room_for known count (lexeme name.now) ≡ Ok x)
         (λ e. Fails e (grammar.room_for known count (lexeme name.now))) }
@@ -96,7 +96,7 @@ fn to_named_end(lexer: &mut Lexer) -> Result<(), ReadError>
     to_end(lexer, name.text)
 }
 
-/// A statement that says nothing of sites and macros, after its first token.
+/// A statement other than SITE and MACRO, after its first token.
 #[tactic(auto, unfolding(crate::specs::Library::passed_from))]
 fn passed_from(lexer: &mut Lexer, token: &Token) -> Result<(), ReadError>
     ensures { ReadsOn (λ x. x) result (grammar.passed_from (lexeme token.now)) lexer.old lexer.new }
@@ -151,7 +151,7 @@ fn statement(library: &mut Library, lexer: &mut Lexer) -> Result<bool, ReadError
     }
 }
 
-/// The statements of a text; what was read up to a failure stays in the library.
+/// The statements of a text; what was read before a failure stays in the library.
 fn read_statements(library: &mut Library, text: &[u8]) -> Result<(), ReadError>
     ensures ok { OnOk result (grammar.library_after library.old text.now ≡ Ok library.new) }
     ensures fault { IfErr result (λ e. Fails e (grammar.library_after library.old text.now)) }
