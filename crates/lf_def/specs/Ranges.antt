@@ -37,7 +37,7 @@ pub record IsCount (most n : ℕ) : Type 0 where
   pub some : 1 ≤ n
   pub few : n ≤ most
 
--- names, a divider and brackets are words or quoted texts of a text; UNITS is from 1 to 20000
+-- the design's name is one of a text; UNITS, if given, is from 1 to 20000
 pub record IsHeader (h : Header) : Type 0 where
   pub design : IsName h.design
   pub units : IfSome h.units (λ n. IsCount 20000 n)

@@ -1,4 +1,4 @@
-//! What a frame takes over from the library and the document.
+//! What a frame copies from the library and the document.
 
 ghost use Rattle.std.specs.Prelude.{◌≡◌, ℕ, ◌++◌, ◌∷◌, [], true, false, Some, None, IfOk, IfSome, OnOk, OnErr, All, map, filter, filter_map, flat_map, unwrap_or, option_map};
 ghost use Rattle.lf_def.specs.Ranges.{IsCoordinate, IsRow, IsComponent, IsLocation};
@@ -56,7 +56,7 @@ pub(crate) fn copy_macros(alloc: Global, macros: &[Macro]) -> Result<Sequence<Ma
     Ok(copies)
 }
 
-/// The head of the document with its database units of a micron.
+/// The header of the document with its database units per micron.
 pub(crate) fn copy_header(
     alloc: Global,
     header: &DefHeader,
@@ -143,7 +143,7 @@ pub(crate) fn fence_teams(alloc: Global, regions: &[Region]) -> Result<Sequence<
     Ok(teams)
 }
 
-/// Where the component stands.
+/// The component's location; none if it is unplaced.
 pub(crate) fn location(component: &Component) -> Option<Location>
     ensures is { result ≡ location_of component.now }
 {

@@ -2,7 +2,7 @@
 
 ghost use Rattle.lf_frame.specs.Alike.{AcceptedAlike, FindAlike, LoadedAlike, RefusedAlike};
 
-/// Where components and their placement clauses stand in the DEF text is ignored in loading: texts that differ in these
+/// Loading ignores where components and their placement clauses are in the DEF text: texts that differ in these
 /// positions alone are refused alike, and a design of one is a design of the other.
 pub fn positions_play_no_part()
     ensures findings { FindAlike }

@@ -47,7 +47,7 @@ impl Library {
         }
     }
 
-    /// Where the library's memory comes from.
+    /// The library's allocator.
     pub(crate) fn alloc(&self) -> Global {
         *self.sites.allocator()
     }
@@ -70,14 +70,14 @@ impl Library {
         &self.macros
     }
 
-    /// The position of the site of that name.
+    /// The position of the site of that name; none if there is none.
     pub fn find_site(&self, name: &[u8]) -> Option<usize>
         ensures { result ≡ position_of (site_names self.now.sites) name.now }
     {
         self.site_table.find(name)
     }
 
-    /// The position of the macro of that name.
+    /// The position of the macro of that name; none if there is none.
     pub fn find_macro(&self, name: &[u8]) -> Option<usize>
         ensures { result ≡ position_of (macro_names self.now.macros) name.now }
     {
@@ -108,7 +108,7 @@ impl Library {
         push_macro(&mut self.macros, &mut self.macro_table, cell)
     }
 
-    /// Keeps the first sites and macros, so many of each. Allocates nothing.
+    /// Keeps the first `sites` sites and `macros` macros. Allocates nothing.
     pub(crate) fn truncate(&mut self, sites: usize, macros: usize)
         ensures { self.new ≡ record
             { sites = take sites self.old.sites; macros = take macros self.old.macros } }

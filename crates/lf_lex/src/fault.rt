@@ -53,7 +53,7 @@ pub enum FaultNumber {
     FencesOverlap,
     /// Groups of two different fences name the same component.
     TwoFences,
-    /// A name is too long, or there are more things than the limit of their kind.
+    /// A name is too long, there are more things than their limit, or a row ends past x 2147483647.
     TooMany,
     /// An allocation failed.
     OutOfMemory,

@@ -13,7 +13,7 @@ use Rattle.lf_lef.specs.Contents.{Contents, site_names, macro_names}
 use Rattle.lf_def.specs.declared.rows.Row.{Row}
 use Rattle.lf_floorplan.specs.declared.parts.Row.{Row as FrameRow}
 
--- what stands at a place of a list, where there is a place
+-- the entry at a position of a list, if there is one
 abbrev pub at_place : {A : Type 0} → List A → Option ℕ → Option A
 at_place things None = None
 at_place things (Some place) = slice_get things place
@@ -48,7 +48,7 @@ core_row library rows = find (λ r. is_core (site_named library r.site)) rows
 abbrev pub core_site : Contents → List Row → Option Site
 core_site library rows = option_and_then (λ r. site_named library r.site) (core_row library rows)
 
--- a row is heeded where its site is the core site
+-- the row is one of core sites: its site is the core site
 abbrev pub is_heeded : Site → Row → Bool
 is_heeded core r = bytes_eq r.site core.name
 

@@ -1,5 +1,5 @@
--- Which entries of a library and a document break what loading asks for. Rows, regions and groups, and
--- components are entries of DEF ROW, REGIONS, GROUPS and COMPONENTS; an entry is read with those before it.
+-- Which entries of a library and a document break what loading demands. Rows, regions and groups, and components are entries of
+-- DEF ROW, REGIONS, GROUPS and COMPONENTS; a rule sees an entry and those before it.
 use Rattle.std.specs.Prelude.{◌≡◌, ◌≢◌, ℕ, ◌<◌, ◌≤◌, pos, ◌<ℤ◌, ℤ, true, false, List, length, filter, None, IsSome, IsSomeAnd, All, Any}
 use Rattle.lf_units.specs.declared.area.Point.{Point}
 use Rattle.lf_units.specs.declared.area.Rect.{Rect}
@@ -18,15 +18,15 @@ use Rattle.lf_floorplan.specs.Fences.{ground_name}
 use Rattle.lf_claims.specs.Teams.{is_fence, is_cover}
 use Rattle.lf_refusals.specs.Loading.{site_named, macro_named, has_size, IsWholeSize, is_heeded, frame_row}
 
--- NoSite: no LEF text has the row's site
+-- NoSite: the row's site is in no LEF text
 abbrev pub HasNoSite : Contents → List Row → Row → Type 0
 HasNoSite library earlier r = site_named library r.site ≡ None
 
--- VerticalRow: a row of core sites has another number of sites upwards than 1
+-- VerticalRow: a row of core sites has a numY other than 1
 abbrev pub IsVertical : Site → List Row → Row → Type 0
 IsVertical core earlier r = (is_heeded core r ≡ true) × (r.sites_y ≢ 1)
 
--- BadStep: a row of core sites of several sites steps by another length than the site's width
+-- BadStep: a row of several core sites has a step that is not the site's width
 abbrev pub HasBadStep : Site → Point → List Row → Row → Type 0
 HasBadStep core pitch earlier r = (is_heeded core r ≡ true) × (1 < r.sites_x) × IsSomeAnd r.step (λ step. step.x ≢ pitch.x)
 
@@ -34,12 +34,12 @@ HasBadStep core pitch earlier r = (is_heeded core r ≡ true) × (1 < r.sites_x)
 abbrev pub IsTurned : Site → List Row → Row → Type 0
 IsTurned core earlier r = (is_heeded core r ≡ true) × (IsSome (rail_below r.orient) → ⊥)
 
--- RowsOverlap: a row of core sites shares a point with an earlier heeded one
+-- RowsOverlap: a row of core sites shares a point with an earlier one
 abbrev pub MeetsEarlierRow : Site → Point → List Row → Row → Type 0
 MeetsEarlierRow core pitch earlier r =
     (is_heeded core r ≡ true) × Any (λ e. (is_heeded core e ≡ true) × SharesPoint (row_area pitch (frame_row e)) (row_area pitch (frame_row r))) earlier
 
--- NoMacro: no LEF text has the macro of a component other than COVER
+-- NoMacro: the macro of a component other than COVER is in no LEF text
 abbrev pub HasNoMacro : Contents → List Component → Component → Type 0
 HasNoMacro library earlier c = (is_cover c ≡ false) × (macro_named library c.mac ≡ None)
 
