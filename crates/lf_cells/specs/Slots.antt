@@ -97,7 +97,7 @@ pub record TakesIn (c : LoadedCell) (old new : Parts) : Type 0 where
   pub ids : new.ids.items ≡ slice_set old.ids.items c.team
       (slice_index_or old.ids.items c.team [] ++ id_of c.team (length (slice_index_or old.teams.items c.team [])) ∷ [])
 
--- the parts of a table of these cells, for so many teams
+-- the parts of a table of these cells, for this many teams
 pub record AreTakenIn (cells : List LoadedCell) (count : ℕ) (p : Parts) : Type 0 where
   pub names : p.names ≡ map (λ c. c.name) cells
   pub many : length p.owners.items ≡ length cells

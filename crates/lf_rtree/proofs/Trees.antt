@@ -13,7 +13,7 @@ pub bounded_by_middle : (depth : ℕ) (nodes : List Node) (d : Node) → 0 < dep
 bounded_by_middle zero nodes d deep tree = absurd (omega arith)
 bounded_by_middle (suc depth) nodes d deep tree = tree.0 d
 
--- what stands behind the middle node is a run of one depth less
+-- what stands after the middle node is a run of one depth less
 pub behind_middle : (depth : ℕ) (nodes : List Node) → 0 < depth → IsTree depth nodes →
     IsTree (depth - 1) (take (length nodes - (length nodes / 2 + 1)) (drop (length nodes / 2 + 1) nodes))
 behind_middle zero nodes deep tree = absurd (omega arith)

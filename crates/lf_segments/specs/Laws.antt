@@ -15,7 +15,7 @@ LiesInSegments f segments team box =
     (k : ℕ) (bottom : Row) (j n : ℕ) (r : Row) → IsSitesHigh f box k → IsBottomRow f box bottom → j < k → slice_get f.rows n ≡ Some r →
     Carries f box bottom j r → LiesInSegment segments n team (across box)
 
--- a box that stands on rows and is wide stays in the team's ground and clear of obstacles iff it lies in the team's segments
+-- a wide box that stands on rows stays in the team's ground and clear of obstacles iff it lies in the team's segments
 abbrev pub SegmentsDecide : Type 0
 SegmentsDecide =
     (f : Frame) (segments : List Segment) (team : ℕ) (box : Rect) → IsCut f segments → StandsOn f box → box.x1 <ℤ box.x2 →

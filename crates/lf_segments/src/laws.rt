@@ -3,8 +3,8 @@
 ghost use Rattle.lf_segments.specs.Laws.{CutIsOne, SegmentsDecide};
 ghost use Rattle.lf_segments.specs.RowsByY.{RunAtHasRows, RunBetweenHasRows};
 
-/// A box that is on rows and is wide stays in a team's ground and clear of obstacles iff, in each
-/// row that carries it, its x range lies in one segment of the team.
+/// A wide box that stands on rows stays in a team's ground and clear of obstacles iff, in each row
+/// that carries it, its x range lies in one segment of the team.
 pub fn lies_in_segments()
     ensures { SegmentsDecide }
 {}
