@@ -14,8 +14,6 @@ use std::marker::Model;
 /// The cells of all teams of a loaded design. A team's number is its position among the fences of the frame; the ground
 /// team `-` is last.
 ///
-///
-///
 /// Contracts see for each team the list of its cells in loading order, and the positions of their entries among all
 /// COMPONENTS of the DEF text. Only `build` allocates.
 #[derive(Drop)]

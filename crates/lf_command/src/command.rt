@@ -334,8 +334,6 @@ fn task_of<'a>(
 /// The task that the words name; the first word is the program's name, and that name alone is the
 /// demo.
 ///
-///
-///
 /// `replay`, `serve` and `check` take the path of a DEF text, then of one LEF text or more; `serve`
 /// needs `--port P`, from 1 to 65535, and `--connections N`, from 1 to 1,000,000; `replay` and
 /// `serve` may have `--export FILE`. Options are before, between or after the paths, each once at

@@ -14,8 +14,6 @@ use lf_units::{Point, Rect, Sequence};
 
 /// What every team sees, and no command changes.
 ///
-///
-///
 /// A team's number is the position of its fence in `teams`; the ground team `-` has the number of
 /// fences, and a greater number is no team. The type keeps what loading has checked.
 #[derive(Drop)]

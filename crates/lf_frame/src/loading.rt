@@ -119,8 +119,6 @@ fn out_of_memory<'d>() -> LoadFault<'d>
 
 /// Loads the design of a library of LEF texts and the document of a DEF text, within the limits.
 ///
-///
-///
 /// An error has the least number, from 7 on, that finds anything, and names the first entry that it finds, in the order
 /// of the DEF text: the design for NoUnits and NoRows; a site for NoSite; a row for VerticalRow, BadStep, RowOrient and
 /// RowsOverlap; a macro for NoMacro and NoSize; the core site or a macro for NotWhole; a component for SecondName and

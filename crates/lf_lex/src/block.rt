@@ -24,8 +24,6 @@ pub trait Block {
 
     /// Reads a statement and updates the state; returns whether more follow.
     ///
-    ///
-    ///
     /// `Err` is a fault of the text with its line, or a failed allocation.
     fn turn(&self, lexer: &mut Lexer, state: &mut Self::State) -> Result<bool, ReadError>
         requires kept { keeps self.now state.old }
@@ -35,8 +33,6 @@ pub trait Block {
 }
 
 /// Reads statement after statement, up to the last.
-///
-///
 ///
 /// `Err` is that of the first statement that fails; the state then keeps `keeps`, and nothing more is promised.
 pub fn read_block<B: Block>(

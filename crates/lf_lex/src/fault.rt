@@ -61,8 +61,6 @@ pub enum FaultNumber {
 
 /// The error for a text or a design, with its line or name.
 ///
-///
-///
 /// Readers give the line, loading gives the entry's name, and a failed allocation has neither.
 #[derive(Clone, Copy, Debug, PartialEq, Eq)]
 pub struct LoadFault<'a> {

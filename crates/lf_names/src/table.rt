@@ -22,8 +22,6 @@ pub enum Added {
 /// Distinct names, in first-seen order. A name's place in that order is its position, which does
 /// not change while the table grows.
 ///
-///
-///
 /// A name is looked up in a time that does not depend on their number, but for names chosen against
 /// the fixed hash.
 #[derive(Drop)]

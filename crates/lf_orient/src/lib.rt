@@ -9,8 +9,6 @@ ghost use Rattle.lf_orient.specs.Words.{orient_word};
 /// The eight orientations of a DEF text: north, west, south, east, and each of them flipped
 /// (LEF/DEF 5.8, DEF COMPONENTS and ROW).
 ///
-///
-///
 /// N, S, FN and FS are upright. W, E, FW and FE lie on their side: cells may be loaded so, and are
 /// never legal.
 #[derive(Clone, Copy, Debug, PartialEq, Eq)]
@@ -27,8 +25,6 @@ pub enum Orient {
 
 /// The axes over which a macro or a site may be flipped (LEF/DEF 5.8, LEF MACRO and LEF SITE,
 /// SYMMETRY).
-///
-///
 ///
 /// R90 is ignored: a cell that lies on its side is never legal.
 #[derive(Clone, Copy, Debug, PartialEq, Eq)]

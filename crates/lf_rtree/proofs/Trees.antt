@@ -23,7 +23,7 @@ behind_middle (suc depth) nodes deep tree =
     let Deep : ℕ → Type 0 = λ n. IsTree n (take (length nodes - (length nodes / 2 + 1)) (drop (length nodes / 2 + 1) nodes)) in
     subst Deep less (subst Behind (sym (rest_from nodes (length nodes / 2 + 1))) tree.2)
 
--- a node between two runs of one depth, half of the boxes in front of it, is a run of the next depth, where it bounds them and itself
+-- a node between two runs of one depth, half of the boxes before it, makes a run of the next depth if it bounds them and itself
 pub joined_tree : (depth : ℕ) (before : List Node) (middle : Node) (behind : List Node) → 0 < depth →
     length before ≡ (length before + (length behind + 1)) / 2 → All (IsBound middle.bound) (boxes_of (before ++ (middle ∷ behind))) →
     IsTree (depth - 1) before → IsTree (depth - 1) behind → IsTree depth (before ++ (middle ∷ behind))

@@ -10,8 +10,6 @@ use std::marker::Model;
 /// The session slots of all teams. A session is identified by its team and the number of its slot,
 /// the first at 0.
 ///
-///
-///
 /// Contracts see for each team the list of its slots: for each slot the revision that its session
 /// has seen, none if the slot is free. Only `build` allocates.
 #[derive(Drop)]
@@ -29,8 +27,6 @@ impl Model for SessionTable {
 
 impl SessionTable {
     /// The table of this many teams, each with this many slots, all free.
-    ///
-    ///
     ///
     /// `Err` if an allocation fails.
     pub fn build(alloc: Global, teams: usize, slots: u32) -> Result<SessionTable, AllocError>

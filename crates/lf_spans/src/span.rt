@@ -5,8 +5,6 @@ ghost use Rattle.lf_spans.specs.declared.span.Span.{Span};
 
 /// The whole numbers from `lo` on and below `hi`, in database units.
 ///
-///
-///
 /// A span that does not begin below its end is allowed, and holds no number.
 #[derive(Clone, Copy, Debug, PartialEq, Eq)]
 pub struct Span {

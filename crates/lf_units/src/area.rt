@@ -12,8 +12,6 @@ pub struct Point {
 
 /// The whole points (x, y) with x1 <= x < x2 and y1 <= y < y2, in database units.
 ///
-///
-///
 /// A rectangle without points is allowed, and covers nothing.
 #[derive(Clone, Copy, Debug, PartialEq, Eq)]
 pub struct Rect {

@@ -141,8 +141,6 @@ fn value_of(
 /// The number that a text writes, in units of 1 / 10 ^ `decimals`: 6 for lengths of LEF, which
 /// become millionths of a micron, and 0 for coordinates of DEF.
 ///
-///
-///
 /// The text is an optional sign and decimal digits with at most one point, as `-.5` or `100.00`.
 /// `max` bounds the number without its sign, in the same units.
 pub fn read_fixed(text: &[u8], decimals: usize, max: u64) -> Result<i64, NumberFault>
@@ -160,8 +158,6 @@ pub fn read_fixed(text: &[u8], decimals: usize, max: u64) -> Result<i64, NumberF
 }
 
 /// A length in millionths of a micron as one in database units; none if it is not whole in them.
-///
-///
 ///
 /// `units` is the number of database units per micron (LEF/DEF 5.8, DEF UNITS). Nothing is rounded.
 pub fn micros_to_dbu(length: i64, units: u32) -> Option<i64>
