@@ -115,6 +115,6 @@ abbrev pub IsReadFrom : List ℕ → Header → List Row → List Region → Lis
 IsReadFrom text header rows regions groups components blockages =
     document_of text ≡ Ok (record { header = header; rows = rows; regions = regions; groups = groups; components = components; blockages = blockages })
 
--- the error of a reader: the text's fault with its line, or a failed allocation
+-- the fault of a reader: that of the text with its line, or a failed allocation
 abbrev pub Refuses : LoadFault → Result Document ReadFault → Type 0
 Refuses fault reading = (fault ≡ load_fault_of Memory) ⊎ ((first : ReadFault) × (reading ≡ Err first) × (fault ≡ load_fault_of (Fault first)))

@@ -19,7 +19,7 @@ pub record AreAlike (i j : Inputs) : Type 0 where
   pub document : document_without_places i.document ≡ document_without_places j.document
   pub limits : i.limits ≡ j.limits
 
--- on inputs that are alike, every error finds the same
+-- on inputs that are alike, every refusal finds the same
 abbrev pub FindAlike : Type 0
 FindAlike = (i j : Inputs) → AreAlike i j → (n : FaultNumber) (found : Option (List ℕ)) → Finds i n found → Finds j n found
 
@@ -27,7 +27,7 @@ FindAlike = (i j : Inputs) → AreAlike i j → (n : FaultNumber) (found : Optio
 abbrev pub AcceptedAlike : Type 0
 AcceptedAlike = (i j : Inputs) → AreAlike i j → IsAccepted i → IsAccepted j
 
--- of inputs that are alike, an error of one is the error of the other
+-- of inputs that are alike, a fault of one is the fault of the other
 abbrev pub RefusedAlike : Type 0
 RefusedAlike = (i j : Inputs) → AreAlike i j → (fault : LoadFault) → IsFault i fault → IsFault j fault
 

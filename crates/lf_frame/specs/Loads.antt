@@ -111,7 +111,7 @@ pub record IsCellOf (i : Inputs) (entry : ℕ × Component) (c : Cell) : Type 0 
   pub place : option_map as_location c.place ≡ location entry.1
   pub component : c.component ≡ entry.0
 
--- the design of these inputs: no error finds anything, and its frame and its cells, in the order of the text, are these
+-- the design of these inputs: no refusal finds anything, and its frame and its cells, in the order of the text, are these
 pub record IsLoadedFrom (i : Inputs) (l : Loaded) : Type 0 where
   pub accepted : IsAccepted i
   pub frame : IsFrameOf i l.frame

@@ -45,7 +45,7 @@ fn obstacles_of(
     Ok(obstacles)
 }
 
-/// The frame of a library and a document in which no error finds anything.
+/// The frame of a library and a document in which no refusal finds anything.
 fn frame_of(
     alloc: Global,
     library: &Library,
@@ -80,7 +80,7 @@ fn loaded_from(frame: Frame, cells: Sequence<Cell>) -> Loaded
     Loaded { frame, cells }
 }
 
-/// The design of a library and a document in which no error finds anything.
+/// The design of a library and a document in which no refusal finds anything.
 fn accepted_design(
     alloc: Global,
     claims: &ClaimTable,
@@ -110,7 +110,7 @@ fn claims_of(alloc: Global, document: &DefDoc) -> Result<ClaimTable, AllocError>
     )
 }
 
-/// The error of loading for a failed allocation.
+/// The fault for a failed allocation.
 fn out_of_memory<'d>() -> LoadFault<'d>
     ensures { result ≡ load_fault_of Memory }
 {
@@ -119,12 +119,12 @@ fn out_of_memory<'d>() -> LoadFault<'d>
 
 /// Loads the design of a library of LEF texts and the document of a DEF text, within the limits.
 ///
-/// An error has the least number, from 7 on, that finds anything, and names the first entry that it finds, in the order
-/// of the DEF text: the design for NoUnits and NoRows; a site for NoSite; a row for VerticalRow, BadStep, RowOrient and
-/// RowsOverlap; a macro for NoMacro and NoSize; the core site or a macro for NotWhole; a component for SecondName and
-/// TwoFences; a region for SecondRegion, NoRegion, TeamName and FencesOverlap; and the first row, region or component
-/// beyond a limit for TooMany. OutOfMemory, which names nothing, may replace any answer. The name is borrowed from the
-/// document or the library.
+/// `Err` is the refusal of least number, from 7 on, that finds an entry, with the name of the first that it finds in the
+/// order of the DEF text: the design for NoUnits and NoRows; a site for NoSite; a row for VerticalRow, BadStep, RowOrient
+/// and RowsOverlap; a macro for NoMacro and NoSize; the core site or a macro for NotWhole; a component for SecondName and
+/// TwoFences; a region for SecondRegion, NoRegion, TeamName and FencesOverlap; for TooMany the first row, region or
+/// component beyond a limit, or a row that ends past x 2147483647. OutOfMemory, which names nothing, may replace any
+/// answer. The name is borrowed from the document or the library.
 pub fn load<'d>(
     alloc: Global,
     library: &'d Library,

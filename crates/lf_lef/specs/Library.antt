@@ -89,6 +89,6 @@ library c l = block statement c l
 abbrev pub library_after : Contents → List ℕ → Result Contents ReadFault
 library_after c text = value_of (library c (tokens_of text))
 
--- an error of the text: its fault with its line, or a failed allocation
+-- the fault of a reader: that of the text with its line, or a failed allocation
 abbrev pub Refuses : LoadFault → Result Contents ReadFault → Type 0
 Refuses fault reading = (fault ≡ load_fault_of Memory) ⊎ ((first : ReadFault) × (reading ≡ Err first) × (fault ≡ load_fault_of (Fault first)))

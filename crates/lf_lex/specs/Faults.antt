@@ -1,4 +1,4 @@
--- The error of a public reader.
+-- The fault that a public reader returns.
 use Rattle.std.specs.Prelude.{Some, None}
 use Rattle.lf_lex.specs.declared.fault.LoadFault.{LoadFault}
 use Rattle.lf_lex.specs.declared.fault.FaultNumber.TheVariants.{OutOfMemory}

@@ -1,4 +1,4 @@
-//! The errors for a text that cannot be read or a design that cannot be loaded.
+//! The faults of texts that cannot be read and of designs that cannot be loaded.
 
 ghost use Rattle.std.specs.Prelude.{◌≡◌};
 ghost use Rattle.lf_lex.specs.declared.fault.ReadError.TheVariants.{Memory};
@@ -6,7 +6,7 @@ ghost use Rattle.lf_lex.specs.Faults.{load_fault_of};
 
 use std::alloc::{AllocError, AllocFailed};
 
-/// The errors of reading and loading, from number 1 to number 24.
+/// The faults of reading and loading, from number 1 to number 24.
 #[derive(Clone, Copy, Debug, PartialEq, Eq)]
 pub enum FaultNumber {
     /// A byte that no token may hold.
@@ -59,7 +59,7 @@ pub enum FaultNumber {
     OutOfMemory,
 }
 
-/// The error for a text or a design, with its line or name.
+/// The fault of a text or a design, with its line or name.
 ///
 /// Readers give the line, loading gives the entry's name, and a failed allocation has neither.
 #[derive(Clone, Copy, Debug, PartialEq, Eq)]
@@ -100,7 +100,7 @@ impl<T: Drop> From<AllocFailed<T>> for ReadError {
 }
 
 impl ReadError {
-    /// The error that a public reader returns.
+    /// The fault that a public reader returns.
     pub fn into_load_fault<'a>(self) -> LoadFault<'a>
         ensures { result ≡ load_fault_of self }
     {

@@ -1,4 +1,4 @@
--- What each error of loading finds, and which one loading returns.
+-- What each refusal of loading finds, and which one loading returns.
 use Rattle.std.specs.Prelude.{◌≡◌, ◌⊎◌, ℕ, ◌<◌, List, [], Option, Some, None, IsSome, is_some, cond, unwrap_or, option_map, MatchOption}
 use Rattle.std.specs.Option.{option_copied}
 use Rattle.lf_units.specs.declared.area.Point.{Point}
@@ -36,7 +36,7 @@ units_in i = unwrap_or i.document.header.units 1
 abbrev pub core_in : Inputs → Option Site
 core_in i = core_site i.library i.document.rows
 
--- what an error finds: a name, or nothing
+-- what a refusal finds: a name, or nothing
 abbrev pub Finding : Type 1
 Finding = Option (List ℕ) → Type 0
 
@@ -72,8 +72,8 @@ pub record CoreHasPartUnits (i : Inputs) (core : Site) (found : Option (List ℕ
 abbrev pub region_name : Group → List ℕ
 region_name g = unwrap_or g.region []
 
--- what the error of this number finds (LEF SITE, MACRO; DEF UNITS, ROW, REGIONS, GROUPS, COMPONENTS); the numbers of readers, and
--- OutOfMemory, find nothing
+-- what the refusal of this number finds (LEF SITE, MACRO; DEF UNITS, ROW, REGIONS, GROUPS, COMPONENTS); the numbers of readers,
+-- and OutOfMemory, find nothing
 abbrev pub Finds : Inputs → FaultNumber → Finding
 Finds i NoUnits = λ found. found ≡ cond (is_some i.document.header.units) None (Some i.document.header.design)
 Finds i NoSite = NameOfFirst (λ r. r.site) (HasNoSite i.library) i.document.rows
@@ -104,7 +104,7 @@ Finds i WrongEnd = λ found. found ≡ None
 Finds i UnknownStatement = λ found. found ≡ None
 Finds i OutOfMemory = λ found. found ≡ None
 
--- the number of an error, from 1 to 24
+-- the number of a refusal, from 1 to 24
 abbrev pub number_of : FaultNumber → ℕ
 number_of BadToken = 1
 number_of UnexpectedEnd = 2
@@ -131,16 +131,16 @@ number_of TwoFences = 22
 number_of TooMany = 23
 number_of OutOfMemory = 24
 
--- no error finds anything
+-- no refusal finds anything
 abbrev pub IsAccepted : Inputs → Type 0
 IsAccepted i = (n : FaultNumber) → Finds i n None
 
--- this error finds the name, and none of a lesser number finds anything
+-- this refusal finds the name, and none of a lesser number finds anything
 pub record IsRefused (i : Inputs) (number : FaultNumber) (name : List ℕ) : Type 0 where
   pub finds : Finds i number (Some name)
   pub least : (n : FaultNumber) → number_of n < number_of number → Finds i n None
 
--- the fault that loading returns: an error's number and the name that it finds, without a line
+-- the fault that loading returns: a refusal's number and the name that it finds, without a line
 pub record IsFault (i : Inputs) (fault : LoadFault) : Type 0 where
   pub name : List ℕ
   pub named : option_copied fault.name ≡ Some name

@@ -1,4 +1,4 @@
-//! The errors of loading for components.
+//! The refusals of loading for components.
 
 ghost use Rattle.std.specs.Prelude.{[], ◌∷◌, ◌++◌, Contains, ◌≡◌, ◌≢◌, ◌↔◌, ℕ, ◌<◌, ◌≤◌, ◌<ℤ◌, pos, true, false, None, Some, List, All, Any, IsTrue, IsFalse, IfOk, IfSome, MatchOption, length, int_lt, ◌&&◌};
 ghost use Rattle.std.specs.Option.{option_copied};

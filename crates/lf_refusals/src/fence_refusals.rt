@@ -1,4 +1,4 @@
-//! The errors of loading for regions and groups.
+//! The refusals of loading for regions and groups.
 
 ghost use Rattle.std.specs.Prelude.{[], ◌∷◌, ◌≡◌, ◌≢◌, ◌↔◌, ℕ, ◌<◌, ◌≤◌, ◌++◌, true, None, List, map, All, Any, Contains, IsTrue, IsFalse, IfOk, OnOk, MatchOption, IfSome, length};
 ghost use Rattle.lf_units.specs.Area.{SharesPoint};

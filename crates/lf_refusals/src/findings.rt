@@ -1,4 +1,4 @@
-//! What each error of loading finds.
+//! What each refusal of loading finds.
 
 ghost use Rattle.std.specs.Prelude.{◌≡◌, ◌↔◌, ◌<ℤ◌, ◌≤ℤ◌, pos, ◌≤◌, None, Some, IfOk, IfSome, IsTrue, option_map, unwrap_or, MatchOption, length};
 ghost use Rattle.std.specs.Option.{option_copied};

@@ -1,4 +1,4 @@
-//! The error of the least number.
+//! The refusal of the least number.
 
 ghost use Rattle.std.specs.Prelude.{◌≡◌, ◌≤◌, ◌<◌, Some, None, IfOk, MatchOption};
 ghost use Rattle.std.specs.Option.{option_copied};
@@ -23,13 +23,13 @@ use lf_lef::Library;
 use lf_lex::{FaultNumber, LoadFault};
 use std::alloc::{AllocError, Global};
 
-/// The first of loading's errors.
+/// The first of loading's refusals.
 const FIRST: u8 = 7;
 
-/// The number after the last of loading's errors.
+/// The number after the last of loading's refusals.
 const END: u8 = 24;
 
-/// The error of that number.
+/// The refusal of that number.
 fn numbered(number: u8) -> FaultNumber
     requires least { 7 ≤ number }
     requires most { number < 24 }
@@ -56,7 +56,7 @@ fn numbered(number: u8) -> FaultNumber
     }
 }
 
-/// What the error finds: the name of the first entry at fault, or none.
+/// What the refusal finds: the name of the first entry at fault, or none.
 fn finding<'d>(
     alloc: Global,
     claims: &ClaimTable,
@@ -99,7 +99,7 @@ fn finding<'d>(
     }
 }
 
-/// The error of the least number that finds an entry, with the name that it finds.
+/// The refusal of the least number that finds an entry, with the name that it finds.
 pub fn first_refusal<'d>(
     alloc: Global,
     claims: &ClaimTable,

@@ -1,4 +1,4 @@
-//! The errors of loading for rows.
+//! The refusals of loading for rows.
 
 ghost use Rattle.std.specs.Prelude.{[], ◌≡◌, ◌≢◌, ◌↔◌, ℕ, ℤ, pos, ◌<◌, ◌≤◌, ◌<ℤ◌, ◌≤ℤ◌, ◌+ℤ◌, ◌*ℤ◌, ◌++◌, true, None, All, Any, IsTrue, IfSome, IfOk, OnOk, MatchOption, length};
 ghost use Rattle.std.specs.Option.{option_copied};
