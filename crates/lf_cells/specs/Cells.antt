@@ -12,7 +12,7 @@ pub record Cells : Type 0 where
   pub cells : List (List Cell)
   pub components : List (List ℕ)
 
--- the cells of the team of that number; a team that is none has no cells
+-- the cells of the team of that number; a number that is no team's has none
 abbrev pub cells_of : Cells → ℕ → List Cell
 cells_of table team = slice_index_or table.cells team []
 
@@ -20,7 +20,7 @@ cells_of table team = slice_index_or table.cells team []
 abbrev pub components_of : Cells → ℕ → List ℕ
 components_of table team = slice_index_or table.components team []
 
--- the cell that an id stands for
+-- the cell of an id
 abbrev pub cell_at : Cells → CellId → Option Cell
 cell_at table id = slice_get (cells_of table id.team) id.own
 
@@ -28,12 +28,12 @@ cell_at table id = slice_get (cells_of table id.team) id.own
 abbrev pub component_at : Cells → CellId → Option ℕ
 component_at table id = slice_get (components_of table id.team) id.own
 
--- the position of that cell's entry, and 0 where there is no such cell
+-- the position of that cell's entry, and 0 if there is no such cell
 abbrev pub position_of : Cells → CellId → ℕ
 position_of table id = slice_index (components_of table id.team) id.own
 
--- the ids of all cells, of whatever team, in loading order: the positions of their entries rise, and they are the ids that stand for
--- a cell, and those that stand for an entry
+-- the ids of the cells of all teams, in loading order: the positions of their entries rise, and they are the ids that have a
+-- cell, and those that have an entry
 pub record AreAll (table : Cells) (ids : List CellId) : Type 0 where
   pub rise : AllPairs (λ id later. position_of table id < position_of table later) ids
   pub cells : (id : CellId) → Contains ids id ↔ IsSome (cell_at table id)
@@ -43,7 +43,7 @@ pub record AreAll (table : Cells) (ids : List CellId) : Type 0 where
 abbrev pub id_of : ℕ → ℕ → CellId
 id_of team own = record { team = team; own = own }
 
--- the id of the cell of that position among the team's cells; None where there is no such cell
+-- the id of the cell of that position among the team's cells; None if there is no such cell
 abbrev pub id_in : List Cell → ℕ → ℕ → Option CellId
 id_in cells team own = option_map (λ c. id_of team own) (slice_get cells own)
 
@@ -51,23 +51,23 @@ id_in cells team own = option_map (λ c. id_of team own) (slice_get cells own)
 abbrev pub ids_of : ℕ → List Cell → List CellId
 ids_of team cells = map (λ own. id_of team own) (range_with_len 0 (length cells))
 
--- the position of the cell of that name among these; None where none of them has it, whoever else may
+-- the position of the cell of that name among these; None if none of them has it, even if another team's cell does
 abbrev pub cell_named : List ℕ → List Cell → Option ℕ
 cell_named name cells = position (λ c. bytes_eq c.name name) cells
 
--- how a cell stands: its macro, and its working place
+-- a cell's macro and its working place
 abbrev pub standing_of : Cell → Standing
 standing_of c = record { mac = c.mac; working = c.working }
 
--- the working place of the cell of that position; None where it is unplaced, or there is no such cell
+-- the working place of the cell of that position; None if it is unplaced, or there is no such cell
 abbrev pub working_at : List Cell → ℕ → Option Place
 working_at cells own = option_and_then (λ c. c.working) (slice_get cells own)
 
--- the committed place of the cell of that position; None where it is unplaced, or there is no such cell
+-- the committed place of the cell of that position; None if it is unplaced, or there is no such cell
 abbrev pub committed_at : List Cell → ℕ → Option Place
 committed_at cells own = option_and_then (λ c. c.committed) (slice_get cells own)
 
--- the cells with the working place of one of them changed; what is committed stays
+-- the cells with the working place of one of them changed; committed places are unchanged
 abbrev pub moved : List Cell → ℕ → Option Place → List Cell
 moved [] own place = []
 moved (c ∷ cs) zero place = record c { working = place } ∷ cs

@@ -1,4 +1,4 @@
--- The table with which a loaded design begins.
+-- The table of a design as it is loaded.
 use Rattle.std.specs.Prelude.{ℕ, ◌+◌, List, ◌==◌, filter, map, length}
 use Rattle.std.specs.List.{range_with_len}
 use Rattle.lf_floorplan.specs.declared.loaded.Cell.{Cell as LoadedCell}
@@ -17,7 +17,7 @@ own_cells number cells = map opening_cell (filter (λ c. c.team == number) cells
 abbrev pub own_components : ℕ → List LoadedCell → List ℕ
 own_components number cells = map (λ c. c.component) (filter (λ c. c.team == number) cells)
 
--- the numbers of all teams: the fence teams in the frame's order, and last the team of the ground
+-- the numbers of all teams: the fence teams in the frame's order, then the ground team
 abbrev pub team_numbers : Loaded → List ℕ
 team_numbers design = range_with_len 0 (length design.frame.teams + 1)
 

@@ -36,7 +36,7 @@ moved_slots (s ∷ ss) (suc own) place = s ∷ moved_slots ss own place
 abbrev pub labels : List Slot → List ℕ
 labels slots = map (λ s. s.label) slots
 
--- the team's own ones of these cells, where the first cell's name has that position
+-- the team's own cells among these; the first cell's name has that position
 abbrev pub own_slots : ℕ → ℕ → List LoadedCell → List Slot
 own_slots number label [] = []
 own_slots number label (c ∷ cs) = if c.team == number then opening_slot label c ∷ own_slots number (label + 1) cs else own_slots number (label + 1) cs
@@ -67,7 +67,7 @@ slot_at teams id = slice_get (slice_index_or teams id.team []) id.own
 abbrev pub label_at : List (List ℕ) → CellId → Option ℕ
 label_at labels id = slice_get (slice_index_or labels id.team []) id.own
 
--- the position of the entry of an id's cell; 0 where there is no such cell
+-- the position of the entry of an id's cell; 0 if there is no such cell
 abbrev pub position_in : List (List ℕ) → CellId → ℕ
 position_in components id = slice_index (slice_index_or components id.team []) id.own
 
@@ -79,7 +79,7 @@ pub record IsIndex (owners : List CellId) (labels : List (List ℕ)) : Type 0 wh
 pub record AreListed (ids : List (List CellId)) (labels : List (List ℕ)) : Type 0 where
   pub listed : (team : ℕ) → slice_index_or ids team [] ≡ map (λ own. id_of team own) (range_with_len 0 (length (slice_index_or labels team [])))
 
--- the names differ, each has one owner, the owners stand in the order of their entries, and each team has the ids of its cells
+-- the names differ, each has one owner, the owners are in the order of their entries, and each team has the ids of its cells
 pub record AreIndexed (p : Parts) : Type 0 where
   pub differ : AllPairs (λ name later. name ≢ later) p.names
   pub many : length p.names ≡ length p.owners.items
@@ -97,7 +97,7 @@ pub record TakesIn (c : LoadedCell) (old new : Parts) : Type 0 where
   pub ids : new.ids.items ≡ slice_set old.ids.items c.team
       (slice_index_or old.ids.items c.team [] ++ id_of c.team (length (slice_index_or old.teams.items c.team [])) ∷ [])
 
--- the parts of a table of these cells, for so many teams
+-- the parts of a table of these cells, for this many teams
 pub record AreTakenIn (cells : List LoadedCell) (count : ℕ) (p : Parts) : Type 0 where
   pub names : p.names ≡ map (λ c. c.name) cells
   pub many : length p.owners.items ≡ length cells

@@ -9,9 +9,9 @@ pub struct Cell {
     pub name: Name,
     /// The position of its macro in the frame.
     pub mac: usize,
-    /// Where the team has it now; none where it is unplaced.
+    /// Its working place; none if it is unplaced.
     pub working: Option<Place>,
-    /// Where the committed design has it; none where it is unplaced.
+    /// Its committed place; none if it is unplaced.
     pub committed: Option<Place>,
 }
 
@@ -22,12 +22,12 @@ pub struct CellId {
     pub own: u32,
 }
 
-/// How a cell stands.
+/// A cell's macro and working place.
 #[derive(Clone, Copy)]
 pub struct Standing {
     /// The position of its macro in the frame.
     pub mac: usize,
-    /// Its working place; none where it is unplaced.
+    /// Its working place; none if it is unplaced.
     pub working: Option<Place>,
 }
 

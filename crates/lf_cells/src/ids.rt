@@ -22,7 +22,7 @@ impl Model for Ids {
 }
 
 impl Ids {
-    /// No id.
+    /// The empty list.
     pub(crate) fn new(alloc: Global) -> Self
         ensures { result ≡ [] }
     {
@@ -31,7 +31,7 @@ impl Ids {
         }
     }
 
-    /// Puts an id behind the others.
+    /// Appends an id.
     pub(crate) fn push(&mut self, id: CellId) -> Result<(), AllocError>
         ensures { OnOk result (self.new ≡ self.old ++ id ∷ []) }
     {

@@ -18,7 +18,7 @@ use std::alloc::{AllocError, Global};
 pub(crate) struct Parts {
     /// The names of all cells, in loading order.
     pub(crate) names: NameTable,
-    /// The cells that bear them.
+    /// The cell of each of these names.
     pub(crate) owners: Vec<CellId>,
     /// Each team's cells without their names.
     pub(crate) teams: Vec<Slots>,
@@ -26,7 +26,7 @@ pub(crate) struct Parts {
     pub(crate) ids: Vec<Ids>,
 }
 
-/// The id of the team's cell of that position.
+/// The id of the team's cell at this position.
 fn id_of(team: usize, own: usize) -> CellId
     requires team { team ≤ 4000000 }
     requires own { own ≤ 4000000 }
@@ -49,7 +49,7 @@ fn add_new(names: &mut NameTable, name: &[u8]) -> Result<(), AllocError>
     }
 }
 
-/// Puts a cell behind the others of its team.
+/// Appends a cell to its team.
 fn push_cell(teams: &mut Vec<Slots>, team: usize, slot: Slot) -> Result<(), AllocError>
     requires { team < length teams.old.items }
     ensures { OnOk result (teams.new.items ≡ slice_set teams.old.items team (slice_index_or teams.old.items team [] ++ slot ∷ [])) }
@@ -57,7 +57,7 @@ fn push_cell(teams: &mut Vec<Slots>, team: usize, slot: Slot) -> Result<(), Allo
     teams[team].push(slot)
 }
 
-/// Puts an id behind the others of its team.
+/// Appends an id to its team.
 fn push_id(ids: &mut Vec<Ids>, team: usize, id: CellId) -> Result<(), AllocError>
     requires { team < length ids.old.items }
     ensures { OnOk result (ids.new.items ≡ slice_set ids.old.items team (slice_index_or ids.old.items team [] ++ id ∷ [])) }
@@ -65,7 +65,7 @@ fn push_id(ids: &mut Vec<Ids>, team: usize, id: CellId) -> Result<(), AllocError
     ids[team].push(id)
 }
 
-/// Changes the working place of a cell of the team of that number, where it has the cell.
+/// Changes the working place of a team's cell, if the team has the cell.
 pub(crate) fn move_cell(teams: &mut Vec<Slots>, team: usize, own: usize, place: Option<Place>)
     requires { team < length teams.old.items }
     ensures { teams.new.items ≡ slice_set teams.old.items team (moved_slots (slice_index_or teams.old.items team []) own place) }
@@ -73,7 +73,7 @@ pub(crate) fn move_cell(teams: &mut Vec<Slots>, team: usize, own: usize, place: 
     teams[team].set_working(own, place);
 }
 
-/// Makes the working places of the cells of the team of that number the committed ones.
+/// Makes the working places of the team's cells the committed ones.
 pub(crate) fn commit_cells(teams: &mut Vec<Slots>, team: usize)
     requires { team < length teams.old.items }
     ensures { teams.new.items ≡ slice_set teams.old.items team (map committed_slot (slice_index_or teams.old.items team [])) }
@@ -81,7 +81,7 @@ pub(crate) fn commit_cells(teams: &mut Vec<Slots>, team: usize)
     teams[team].commit();
 }
 
-/// So many teams without cells.
+/// A list of this many teams without cells.
 fn empty_teams(alloc: Global, count: usize) -> Result<Vec<Slots>, AllocError>
     ensures { IfOk result (λ teams. teams.items ≡ replicate count []) }
 {
@@ -92,7 +92,7 @@ fn empty_teams(alloc: Global, count: usize) -> Result<Vec<Slots>, AllocError>
     Ok(teams)
 }
 
-/// So many teams without ids.
+/// A list of this many teams without ids.
 fn empty_ids(alloc: Global, count: usize) -> Result<Vec<Ids>, AllocError>
     ensures { IfOk result (λ ids. ids.items ≡ replicate count []) }
 {
@@ -104,7 +104,7 @@ fn empty_ids(alloc: Global, count: usize) -> Result<Vec<Ids>, AllocError>
 }
 
 impl Parts {
-    /// Puts the cell behind the others of its team.
+    /// Appends the cell to its team.
     fn take_in(&mut self, cell: &LoadedCell) -> Result<(), AllocError>
         requires team { cell.now.team < length self.old.teams.items }
         requires ids { length self.old.ids.items ≡ length self.old.teams.items }
@@ -122,7 +122,7 @@ impl Parts {
         push_cell(&mut self.teams, cell.team, Slot::opening(label, cell))
     }
 
-    /// The parts of a table of these cells, for so many teams.
+    /// The parts of a table of these cells, for this many teams.
     pub(crate) fn of_cells(
         alloc: Global,
         count: usize,
@@ -146,14 +146,14 @@ impl Parts {
         Ok(parts)
     }
 
-    /// The team's cell of that position, without its name.
+    /// The team's cell at this position, without its name.
     pub(crate) fn slot(&self, team: usize, own: usize) -> Option<Slot>
         ensures { result ≡ slot_at self.now.teams.items (id_of team own) }
     {
         self.teams.get(team)?.get(own)
     }
 
-    /// The ids of the team's cells; none where there is no such team.
+    /// The ids of the team's cells; none if there is no such team.
     pub(crate) fn ids_of(&self, team: usize) -> &[CellId]
         ensures { result.now ≡ slice_index_or self.now.ids.items team [] }
     {

@@ -19,7 +19,7 @@ pub(crate) struct Slot {
 }
 
 impl Slot {
-    /// A cell where it was loaded, with its name at that position.
+    /// A cell at its loaded place; its name has this position.
     pub(crate) fn opening(label: u32, cell: &LoadedCell) -> Self
         ensures { result ≡ opening_slot label cell.now }
     {
@@ -62,7 +62,7 @@ impl Model for Slots {
 }
 
 impl Slots {
-    /// No cell.
+    /// The empty list.
     pub(crate) fn new(alloc: Global) -> Self
         ensures { result ≡ [] }
     {
@@ -71,7 +71,7 @@ impl Slots {
         }
     }
 
-    /// Puts a cell behind the others.
+    /// Appends a cell.
     pub(crate) fn push(&mut self, slot: Slot) -> Result<(), AllocError>
         ensures { OnOk result (self.new ≡ self.old ++ slot ∷ []) }
     {
@@ -86,7 +86,7 @@ impl Slots {
         self.slots.len()
     }
 
-    /// The cell of that position.
+    /// The cell at this position.
     pub(crate) fn get(&self, own: usize) -> Option<Slot>
         ensures { result ≡ slice_get self.now own }
     {
@@ -96,7 +96,7 @@ impl Slots {
         }
     }
 
-    /// Changes the working place of the cell of that position, where there is one.
+    /// Changes the working place of the cell at this position, if there is one.
     pub(crate) fn set_working(&mut self, own: usize, place: Option<Place>)
         ensures { self.new ≡ moved_slots self.old own place }
     {
@@ -111,7 +111,7 @@ impl Slots {
     }
 }
 
-/// Changes the working place of the cell of that position, where there is one.
+/// Changes the working place of the cell at this position, if there is one.
 fn put(slots: &mut Vec<Slot>, own: usize, place: Option<Place>)
     ensures { slots.new.items ≡ moved_slots slots.old.items own place }
 {

@@ -11,11 +11,11 @@ use lf_floorplan::{Loaded, Place};
 use std::alloc::{AllocError, Global};
 use std::marker::Model;
 
-/// The cells of all teams of a loaded design. A team's number is its position among the fences of
-/// the frame, and last comes the ground team `-`.
+/// The cells of all teams of a loaded design. A team's number is its position among the fences of the frame; the ground
+/// team `-` is last.
 ///
-/// Contracts see for each team the list of its cells in loading order, and the positions of their
-/// entries among all COMPONENTS of the DEF text. Only `build` takes memory.
+/// Contracts see for each team the list of its cells in loading order, and the positions of their entries among all
+/// COMPONENTS of the DEF text. Only `build` allocates.
 #[derive(Drop)]
 pub struct CellTable {
     parts: Parts,
@@ -37,7 +37,7 @@ impl CellTable {
     /// The table of a design as it is loaded: each team has its own cells, in loading order, each
     /// with its place in the DEF text as its working place and its committed place.
     ///
-    /// `Err` where memory is refused.
+    /// `Err` if an allocation fails.
     pub fn build(alloc: Global, loaded: &Loaded) -> Result<CellTable, AllocError>
         ensures cells { IfOk result (λ table. table.cells ≡ opening_cells loaded.now) }
         ensures components { IfOk result (λ table. table.components ≡ opening_components loaded.now) }
@@ -47,7 +47,7 @@ impl CellTable {
         Ok(CellTable { parts })
     }
 
-    /// The team's cell of that name; none for another team's cell, as for one that no team has.
+    /// The team's cell of that name; none if only another team, or none, has such a cell.
     pub fn find_own(&self, team: usize, name: &[u8]) -> Option<CellId>
         ensures own { option_map (λ id. id.own) result ≡ cell_named name.now (cells_of self.now team) }
         ensures team { IfSome result (λ id. id.team ≡ team) }
@@ -61,7 +61,7 @@ impl CellTable {
         None
     }
 
-    /// How many cells the team has; none where there is no such team.
+    /// How many cells the team has; 0 if there is no such team.
     pub fn count_of(&self, team: usize) -> usize
         ensures { result ≡ length (cells_of self.now team) }
     {
@@ -71,23 +71,22 @@ impl CellTable {
         }
     }
 
-    /// The ids of the team's cells, in loading order; none where there is no such team.
+    /// The ids of the team's cells, in loading order; none if there is no such team.
     pub fn cells_of(&self, team: usize) -> &[CellId]
         ensures { result.now ≡ ids_of team (cells_of self.now team) }
     {
         self.parts.ids_of(team)
     }
 
-    /// The ids of all cells, of whatever team, in loading order: along them the positions of the cells' entries among
-    /// all COMPONENTS rise.
+    /// The ids of the cells of all teams, in loading order: the positions of their entries among all COMPONENTS rise.
     pub fn all(&self) -> &[CellId]
         ensures { AreAll self.now result.now }
     {
         self.parts.owners.as_slice()
     }
 
-    /// The id of the team's cell of that position, the first at 0; none where the team has no such
-    /// cell, or there is no such team.
+    /// The id of the team's cell of that position, the first at 0; none if the team has no such cell, or there is no
+    /// such team.
     pub fn id_at(&self, team: usize, own: usize) -> Option<CellId>
         ensures { result ≡ id_in (cells_of self.now team) team own }
     {
@@ -95,7 +94,7 @@ impl CellTable {
         Some(self.parts.owners[slot.label as usize])
     }
 
-    /// What no command changes of a cell; none where there is no such cell.
+    /// What no command changes of a cell; none if there is no such cell.
     pub fn cell(&self, id: CellId) -> Option<CellFacts<'_>>
         ensures name { option_map (λ facts. facts.name.now) result ≡ option_map (λ c. c.name) (cell_at self.now id) }
         ensures mac { option_map (λ facts. facts.mac) result ≡ option_map (λ c. c.mac) (cell_at self.now id) }
@@ -109,7 +108,7 @@ impl CellTable {
         })
     }
 
-    /// How the team's cell of that position stands, the first at 0; none where the team has no such
+    /// The macro and working place of the team's cell of that position, the first at 0; none if the team has no such
     /// cell, or there is no such team.
     pub fn standing(&self, team: usize, own: usize) -> Option<Standing>
         ensures { result ≡ option_map standing_of (slice_get (cells_of self.now team) own) }
@@ -121,14 +120,14 @@ impl CellTable {
         })
     }
 
-    /// The working place of a cell; none where it is unplaced, or there is no such cell.
+    /// The working place of a cell; none if it is unplaced, or there is no such cell.
     pub fn working(&self, id: CellId) -> Option<Place>
         ensures { result ≡ working_at (cells_of self.now id.team) id.own }
     {
         self.parts.slot(id.team as usize, id.own as usize)?.working
     }
 
-    /// The committed place of a cell; none where it is unplaced, or there is no such cell.
+    /// The committed place of a cell; none if it is unplaced, or there is no such cell.
     pub fn committed(&self, id: CellId) -> Option<Place>
         ensures { result ≡ committed_at (cells_of self.now id.team) id.own }
     {
@@ -137,8 +136,7 @@ impl CellTable {
             .committed
     }
 
-    /// Changes the working place of one cell and nothing else; where there is no such cell, nothing
-    /// changes.
+    /// Changes the working place of one cell and nothing else; if there is no such cell, nothing changes.
     pub fn set_working(&mut self, id: CellId, place: Option<Place>)
         ensures cells { self.new.cells ≡ slice_set self.old.cells id.team (moved (cells_of self.old id.team) id.own place) }
         ensures components { self.new.components ≡ self.old.components }

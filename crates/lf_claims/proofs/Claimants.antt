@@ -105,7 +105,7 @@ numbered regions groups name fence h = by (position_of (fence_names regions) fen
     by None e = absurd (stands_nowhere (fence_names regions) fence e (fence_known regions fence h.4.fence_there))
     by (Some n) e = record { n = n; place = e; claims = claims_of regions groups name fence n e h }
 
--- what a claim tells of the numbers, it says of the fences
+-- what a claim says of the numbers, it says of the fences
 pub claim_says : (regions : List Region) (groups : List Group) (name : List ℕ) (claim : Claim) → Tells (ClaimsBy (all_bounds regions groups) name) claim →
     IsClaimOf regions groups name claim
 claim_says regions groups name Unclaimed none = λ fence claimed. let q : Numbered regions groups name fence = numbered regions groups name fence claimed in none q.n q.claims

@@ -114,7 +114,7 @@ told_without_starred told starred components claims empty h k d within =
     tells_same (told name) (λ fence. told name fence ⊎ ClaimsBy starred name fence) (claim_at claims k) (λ fence s. inl s)
     (λ fence u. elim u [ inl s ↦ s | inr c ↦ absurd (omega (arith, c.2)) ]) (h k d within)
 
--- what literal and tried patterns tell together, all patterns of the index do
+-- what literal and tried patterns say together, all patterns of the index do
 pub told_by_index : (index : PatternIndex) (bounds : List Bound) (components : List Component) (claims : List Claim) (h : Holds index bounds) →
     AreTold (λ name fence. Labels index.literals name fence ⊎ ClaimsBy h.starred name fence) components claims →
     AreTold (ClaimsBy bounds) components claims

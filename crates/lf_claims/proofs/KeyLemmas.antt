@@ -45,7 +45,7 @@ no_pattern_no_length kept bounds none h = by kept.lengths.items h.needed
     by [] needed = refl
     by (n ∷ lengths) needed = absurd (none_of_nothing (λ b. length (key_of kept.end b.pattern) ≡ n) (rw none at (needed n (0, omega arith, refl))))
 
--- a pattern behind those of a key that is new
+-- a pattern after those of a key that is new
 pub keeps_new : (old new : PatternsAtEnd) (key : List ℕ) (b : Bound) (own : Vec Bound Global) → length old.keys ≡ length old.bounds.items →
     position_of old.keys key ≡ None → own.items ≡ b ∷ [] →
     new.keys ≡ old.keys ++ key ∷ [] → new.bounds.items ≡ old.bounds.items ++ own ∷ [] → new.lengths ≡ old.lengths → new.end ≡ old.end → Keeps old new key b
@@ -63,7 +63,7 @@ keeps_new old new key b own whole absent alone keys bounds lengths end = record 
     by_place : Option ℕ → Option (Vec Bound Global)
     by_place at = option_and_then (slice_get old.bounds.items) at
 
--- a pattern behind those of a key that was there
+-- a pattern after those of a key that was there
 pub keeps_old : (old new : PatternsAtEnd) (key : List ℕ) (b : Bound) (place : ℕ) (before after : Vec Bound Global) →
     length old.keys ≡ length old.bounds.items → position_of old.keys key ≡ Some place → slice_get old.bounds.items place ≡ Some before →
     after.items ≡ before.items ++ b ∷ [] → new.keys ≡ old.keys → new.bounds.items ≡ set old.bounds.items place after → new.lengths ≡ old.lengths →

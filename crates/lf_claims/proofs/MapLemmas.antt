@@ -37,7 +37,7 @@ position_at p xs n e within = ap (λ k. cond (nat_lt k (length xs)) (Some k) Non
 position_past : (p : List ℕ → Bool) (xs : List (List ℕ)) (n : ℕ) → position_or_len p xs ≡ n → length xs ≤ n → position p xs ≡ None
 position_past p xs n e past = ap (λ k. cond (nat_lt k (length xs)) (Some k) None) e ∙ ap (λ s. cond s (Some n) None) (le-ltb _ _ past)
 
--- where a name stands once another name stands behind the list
+-- where a name stands once another name stands after the list
 stays : (xs : List (List ℕ)) (y q : List ℕ) (n : ℕ) → position_of xs q ≡ Some n → position_of (xs ++ y ∷ []) q ≡ Some n
 stays xs y q n e = by (place (bytes_eq q) xs)
   where
@@ -147,7 +147,7 @@ one_at_place names a b n at_a at_b =
     let second : slice_get names n ≡ Some b = stands_there names b n at_b in
     cc
 
--- a name behind others moves none of them
+-- a name after others moves none of them
 unmoved : (names : List (List ℕ)) (y q : List ℕ) → (q ≡ y → position_of names q ≡ None → ⊥) → position_of (names ++ y ∷ []) q ≡ position_of names q
 unmoved names y q known = by (position_of names q) refl
   where

@@ -1,4 +1,4 @@
--- Entries by their names: an entry that bears a name, and the list of all names.
+-- Entries by their names: an entry that has a name, and the list of all names.
 use Rattle.std.proofs.Common.{◌≡◌, ℕ, ◌+◌, ◌<◌, true, false, cond, List, [], ◌∷◌, ◌++◌, length, map, take, get_or, sym, ◌∙◌, ap, arith}
 use Rattle.std.specs.Prelude.{Any, Contains, filter}
 use Rattle.std.proofs.lemmas.List.{map-append, append-nil}

@@ -59,7 +59,7 @@ first : (components : List Component) → 0 < length components → Component
 first [] some = absurd (omega arith)
 first (c ∷ components) some = c
 
--- these names differ exactly where no component bears an earlier one's name
+-- these names differ iff no component has an earlier one's name
 pub none_differ : (components : List Component) → NoneBreaks BearsEarlierName components → Differ (numbered_names components)
 none_differ components none i j e below within same =
     let d : Component = first components (omega (arith, many_numbered components)) in

@@ -1,4 +1,5 @@
--- What a table of claims tells, and when it is the table of components, by the groups and the regions of a document (DEF REGIONS, GROUPS, COMPONENTS).
+-- What a table of claims says, and when it is that of components, by the groups and regions of a document (DEF REGIONS, GROUPS,
+-- COMPONENTS).
 use Rattle.std.specs.Prelude.{◌≡◌, ℕ, ◌<◌, List, length, Option, Some, unwrap_or, slice_get, slice_index_or}
 use Rattle.lf_def.specs.declared.regions.Region.{Region}
 use Rattle.lf_def.specs.declared.groups.Group.{Group}
@@ -9,7 +10,8 @@ use Rattle.lf_claims.specs.Teams.{fences, IsUnclaimed, IsClaimedBy, IsTeamOf}
 use Rattle.lf_claims.specs.Entries.{NoneBreaks, FirstIs}
 use Rattle.lf_claims.specs.Refusals.{HasTwoFences, BearsEarlierName}
 
--- what a table tells: the component that bears an earlier one's name, the claims of the components by their numbers, and the number of the ground
+-- what a table says: the component that has an earlier one's name, the claims of the components by their numbers, and the number
+-- of the ground team
 pub record Told : Type 0 where
   pub second : Option ℕ
   pub claims : List Claim
@@ -30,18 +32,20 @@ abbrev pub AreClaimsOf : List Region → List Group → List Component → List 
 AreClaimsOf regions groups components claims = (k : ℕ) (d : Component) → k < length components → IsClaimOf regions groups (slice_index_or components k d).name
     (claim_at claims k)
 
--- the table has the first component that bears an earlier one's name, the claims of all where there is none such, and the number of the ground
+-- the table has the first component that has an earlier one's name, the claims of all if there is none, and the number of the
+-- ground team
 pub record IsTableOf (regions : List Region) (groups : List Group) (components : List Component) (table : Told) : Type 0 where
   pub second : FirstIs BearsEarlierName components table.second
   pub claims : NoneBreaks BearsEarlierName components → AreClaimsOf regions groups components table.claims
   pub ground : table.ground ≡ length (fences regions)
 
--- whatever components the table is of, the found one is the first of them that bears an earlier one's name
+-- for any components that the table is of, the found one is the first of them that has an earlier one's name
 abbrev pub TellsSecondName : Told → Option ℕ → Type 0
 TellsSecondName table found = (regions : List Region) (groups : List Group) (components : List Component) → IsTableOf regions groups components table →
     FirstIs BearsEarlierName components found
 
--- whatever components the table is of, where their names differ the team is that of the component of this number, unless two fences claim it
+-- for any components that the table is of and whose names differ, the team is that of the component of this number, unless two
+-- fences claim it
 abbrev pub TellsTeam : Told → ℕ → ℕ → Type 0
 TellsTeam table number team =
     (regions : List Region) (groups : List Group) (components : List Component) → IsTableOf regions groups components table → NoneBreaks BearsEarlierName

@@ -25,37 +25,37 @@ use Rattle.lf_claims.specs.Refusals.{BearsEarlierName}
 use Rattle.lf_claims.specs.ClaimTables.{claim_at}
 use Rattle.lf_claims.specs.Ends.{key_of, part_of}
 
--- the claim when this fence claims the name too
+-- the claim with this fence added
 abbrev pub joined : Claim → ℕ → Claim
 joined Unclaimed fence = ByOne fence
 joined (ByOne other) fence = if other == fence then ByOne other else ByTwo
 joined ByTwo fence = ByTwo
 
--- two claims as one
+-- the union of two claims
 abbrev pub merged : Claim → Claim → Claim
 merged claim Unclaimed = claim
 merged claim (ByOne fence) = joined claim fence
 merged claim ByTwo = ByTwo
 
--- the claim tells how many fences of a set there are: none, one alone, or two that differ
+-- the claim says how many fences of a set there are: none, one alone, or two that differ
 abbrev pub Tells : (ℕ → Type 0) → Claim → Type 0
 Tells claims Unclaimed = (fence : ℕ) → claims fence → ⊥
 Tells claims (ByOne one) = claims one × ((other : ℕ) → claims other → other ≡ one)
 Tells claims ByTwo = (first : ℕ) × (second : ℕ) × (first ≢ second) × claims first × claims second
 
--- a pattern that is bound to the fence of this number stands for the name
+-- the name matches a pattern that is bound to the fence of this number
 abbrev pub ClaimsBy : List Bound → List ℕ → ℕ → Type 0
 ClaimsBy bounds name fence = Any (λ b. (b.fence ≡ fence) × Matches b.pattern name) bounds
 
--- the claim joins the fence of the pattern, where it stands for the name, and stays as it is where not
+-- the fence of the pattern is added to the claim if the name matches, and else the claim is unchanged
 abbrev pub StepsTo : Bound → List ℕ → Claim → Claim → Type 0
 StepsTo b name claim after = (Matches b.pattern name × (after ≡ joined claim b.fence)) ⊎ ((Matches b.pattern name → ⊥) × (after ≡ claim))
 
--- the name stands in the list with this label
+-- the name is in the list with this label
 abbrev pub Labels : List Labelled → List ℕ → ℕ → Type 0
 Labels names name label = Contains names (record { label = label; name = name })
 
--- a name is matched: it has this number, and is asked for with this label
+-- a name is matched: it has this number, and the asked name has this label
 abbrev pub IsMatched : List Match → ℕ → ℕ → Type 0
 IsMatched matches number label = Contains matches (record { own = number; asked = label })
 
@@ -64,7 +64,7 @@ abbrev pub bound_to : Option ℕ → List (List ℕ) → List Bound
 bound_to None patterns = []
 bound_to (Some fence) patterns = map (λ p. record { pattern = p; fence = fence }) patterns
 
--- the patterns of a group, bound to its fence where it has one
+-- the patterns of a group, bound to its fence if it has one
 abbrev pub group_bounds : List Region → Group → List Bound
 group_bounds regions g = bound_to (option_and_then (position_of (fence_names regions)) g.region) g.patterns
 
@@ -72,7 +72,7 @@ group_bounds regions g = bound_to (option_and_then (position_of (fence_names reg
 abbrev pub all_bounds : List Region → List Group → List Bound
 all_bounds regions groups = flat_map (group_bounds regions) groups
 
--- the patterns that stand at a place, where it is one
+-- the patterns at a place, if it is one
 abbrev pub bounds_there : Option (Vec Bound Global) → List Bound
 bounds_there None = []
 bounds_there (Some bounds) = bounds.items
@@ -81,19 +81,20 @@ bounds_there (Some bounds) = bounds.items
 abbrev pub kept_under : PatternsAtEnd → List ℕ → List Bound
 kept_under kept key = bounds_there (option_and_then (slice_get kept.bounds.items) (position_of kept.keys key))
 
--- a pattern claims the name that is kept under the name's bytes at this end, so many of them
+-- a pattern kept under the name's bytes at this end, this many of them, claims the name
 abbrev pub ClaimsUnder : PatternsAtEnd → List ℕ → ℕ → ℕ → Type 0
 ClaimsUnder kept name count fence = (count ≤ length name) × ClaimsBy (kept_under kept (part_of kept.end count name)) name fence
 
--- these patterns are kept: where one of them claims a name, one claims it that is kept under the name's bytes at this end, as many
--- as a length tells; what is kept claims nothing that these do not; and each length is that of one's key
+-- these patterns are kept: if one of them claims a name, one claims it that is kept under the name's bytes at this end, as many
+-- as a listed length; what is kept claims nothing that these do not; and each length is that of a key
 pub record HasAtEnd (kept : PatternsAtEnd) (bounds : List Bound) : Type 0 where
   pub whole : length kept.keys ≡ length kept.bounds.items
   pub found : (name : List ℕ) (fence : ℕ) → ClaimsBy bounds name fence → Any (λ count. ClaimsUnder kept name count fence) kept.lengths.items
   pub own : (key name : List ℕ) (fence : ℕ) → ClaimsBy (kept_under kept key) name fence → ClaimsBy bounds name fence
   pub needed : (count : ℕ) → Contains kept.lengths.items count → Any (λ b. length (key_of kept.end b.pattern) ≡ count) bounds
 
--- the pattern is kept behind those of the key; under each other key, and among the lengths, all is as it was, and the end is the same
+-- the pattern is appended to those of the key; under each other key, and among the lengths, nothing changes, and the end is the
+-- same
 pub record Keeps (old new : PatternsAtEnd) (key : List ℕ) (bound : Bound) : Type 0 where
   pub whole : length new.keys ≡ length new.bounds.items
   pub there : kept_under new key ≡ kept_under old key ++ bound ∷ []
@@ -101,7 +102,8 @@ pub record Keeps (old new : PatternsAtEnd) (key : List ℕ) (bound : Bound) : Ty
   pub lengths : new.lengths ≡ old.lengths
   pub end : new.end ≡ old.end
 
--- these patterns are kept, some at the front and the others at the back: what these claim, one of the two lists claims, and the two claim nothing else
+-- these patterns are kept, some at the front and the others at the back: what these claim, one of the two lists claims, and the
+-- two claim nothing else
 pub record HasStarred (starred : StarredPatterns) (bounds : List Bound) : Type 0 where
   pub fronts : List Bound
   pub backs : List Bound
@@ -109,31 +111,32 @@ pub record HasStarred (starred : StarredPatterns) (bounds : List Bound) : Type 0
   pub by_back : HasAtEnd starred.backs backs
   pub together : (name : List ℕ) (fence : ℕ) → ClaimsBy bounds name fence ↔ (ClaimsBy fronts name fence ⊎ ClaimsBy backs name fence)
 
--- the index holds these patterns: literal ones as names, labelled with the number of the fence, the others by what their names have at an end
+-- the index holds these patterns: literal ones as names, labelled with the fence's number, the others by what their names have at
+-- an end
 pub record Holds (index : PatternIndex) (bounds : List Bound) : Type 0 where
   pub starred : List Bound
   pub tried : HasStarred index.starred starred
   pub forth : (name : List ℕ) (fence : ℕ) → ClaimsBy bounds name fence → Labels index.literals name fence ⊎ ClaimsBy starred name fence
   pub back : (name : List ℕ) (fence : ℕ) → Labels index.literals name fence ⊎ ClaimsBy starred name fence → ClaimsBy bounds name fence
 
--- whatever patterns the old index holds, the new one holds these behind them
+-- for any patterns that the old index holds, the new one holds them and then these
 abbrev pub Extends : PatternIndex → PatternIndex → List Bound → Type 0
 Extends old new more = (bounds : List Bound) → Holds old bounds → Holds new (bounds ++ more)
 
--- the map has the place of each name of the list, the first where a name stands twice
+-- the map has the position of each name of the list, the first if a name is there twice
 abbrev pub Numbers : List (List ℕ) → NameMap ℕ → Type 0
 Numbers names numbers = (name : List ℕ) → value_of numbers name ≡ position_of names name
 
--- whatever names the old map numbers, the new one numbers those and this name behind them
+-- for any names that the old map numbers, the new one numbers those and then this name
 pub record NumbersOneMore (old new : NameMap ℕ) (number : ℕ) (name : List ℕ) : Type 0 where
   pub whole : IsWhole new
   pub numbers : (names : List (List ℕ)) → number ≡ length names → Numbers names old → Numbers (names ++ name ∷ []) new
 
--- each component has the claim of its number, by fences that are told from its name
+-- each component has the claim of its number, by the fences that its name determines
 abbrev pub AreTold : (List ℕ → ℕ → Type 0) → List Component → List Claim → Type 0
 AreTold claims components told = (k : ℕ) (d : Component) → k < length components → Tells (claims (slice_index_or components k d).name) (claim_at told k)
 
--- where the components' names all differ, each component has its claim; and there are none only where two bear one name
+-- if the components' names all differ, each component has its claim; there are no claims only if two have one name
 abbrev pub AreClaimsWhereDistinct : (List ℕ → ℕ → Type 0) → List Component → Option (Vec Claim Global) → Type 0
 AreClaimsWhereDistinct claims components (Some told) = NoneBreaks BearsEarlierName components × AreTold claims components told.items
 AreClaimsWhereDistinct claims components None = NoneBreaks BearsEarlierName components → ⊥

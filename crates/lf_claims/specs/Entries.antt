@@ -1,4 +1,4 @@
--- The first entry of a list that breaks a rule, where an entry is read with those before it.
+-- The first entry of a list that breaks a rule; the rule sees the entry and those before it.
 use Rattle.std.specs.Prelude.{ℕ, ◌<◌, Bool, true, false, List, length, take, Option, None, Some, slice_index_or, MatchOption}
 
 -- no entry breaks the rule
@@ -15,7 +15,7 @@ pub record IsFirst {A : Type 0} (breaks : List A → A → Type 0) (entries : Li
 abbrev pub FirstIs : {A : Type 0} → (List A → A → Type 0) → List A → Option ℕ → Type 0
 FirstIs breaks entries found = MatchOption found (NoneBreaks breaks entries) (IsFirst breaks entries)
 
--- the first number, when one more counts or not
+-- the first number so far, given whether one more counts
 abbrev pub first_of : Option ℕ → ℕ → Bool → Option ℕ
 first_of (Some earlier) number counts = Some earlier
 first_of None number true = Some number

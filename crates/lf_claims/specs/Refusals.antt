@@ -1,12 +1,12 @@
--- Components that loading refuses for their names: one that bears an earlier one's, and one that two fences claim
--- (DEF REGIONS, GROUPS, COMPONENTS).
+-- Components that loading refuses for their names: one that has an earlier one's, and one that two fences claim (DEF REGIONS,
+-- GROUPS, COMPONENTS).
 use Rattle.std.specs.Prelude.{◌≡◌, ◌≢◌, ℕ, true, List, Any}
 use Rattle.lf_def.specs.declared.regions.Region.{Region}
 use Rattle.lf_def.specs.declared.groups.Group.{Group}
 use Rattle.lf_def.specs.declared.components.Component.{Component}
 use Rattle.lf_claims.specs.Teams.{is_movable, IsClaimed}
 
--- SecondName: a component bears an earlier one's name
+-- SecondName: a component has an earlier one's name
 abbrev pub BearsEarlierName : List Component → Component → Type 0
 BearsEarlierName earlier c = Any (λ e. e.name ≡ c.name) earlier
 

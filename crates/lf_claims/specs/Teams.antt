@@ -1,4 +1,4 @@
--- The fences, the components that teams may move, and which team each of these is of (DEF REGIONS, GROUPS, COMPONENTS).
+-- The fences, the components that teams may move, and the team of each of these (DEF REGIONS, GROUPS, COMPONENTS).
 use Rattle.std.specs.Prelude.{◌≡◌, ℕ, Bool, true, false, not, ◌&&◌, ◌⊎◌, List, length, filter, map, Option, Some, None, Any}
 use Rattle.lf_names.specs.Names.{position_of}
 use Rattle.lf_names.specs.Pattern.{Matches}
@@ -40,7 +40,7 @@ is_cover_kind Cover = true
 is_cover_kind Placed = false
 is_cover_kind Unplaced = false
 
--- its placement clause says so; without a clause it does not
+-- its placement clause is of this kind; a component without one is of none
 abbrev pub says : (PlacementKind → Bool) → Option Placement → Bool
 says is_kind None = false
 says is_kind (Some p) = is_kind p.kind
@@ -55,7 +55,7 @@ is_cover c = says is_cover_kind c.placement
 abbrev pub is_movable : Component → Bool
 is_movable c = not (is_fixed c) && not (is_cover c)
 
--- a pattern of the group stands for the name
+-- the name matches a pattern of the group
 abbrev pub NamedBy : Group → List ℕ → Type 0
 NamedBy group name = Any (λ pattern. Matches pattern name) group.patterns
 
@@ -80,6 +80,6 @@ pub record IsClaimedBy (regions : List Region) (groups : List Group) (name : Lis
   pub claimed : IsClaimed regions groups name fence
   pub only : (other : List ℕ) → IsClaimed regions groups name other → other ≡ fence
 
--- the team of a movable component: the one fence that claims it, or the ground, whose number is behind the fences
+-- the team of a movable component: the one fence that claims it, or the ground team, whose number is the number of fences
 abbrev pub IsTeamOf : List Region → List Group → List ℕ → ℕ → Type 0
 IsTeamOf regions groups name team = IsClaimedBy regions groups name team ⊎ (IsUnclaimed regions groups name × (team ≡ length (fences regions)))

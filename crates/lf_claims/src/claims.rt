@@ -1,4 +1,4 @@
-//! Claims of fences on names.
+//! Claims of fences on component names.
 
 ghost use Rattle.std.specs.Prelude.{◌≡◌, ◌<◌, ℕ, IfOk, length, slice_set};
 ghost use Rattle.lf_claims.specs.Claims.{joined as joined_claim, merged as merged_claim, Tells, IsMatched};
@@ -10,7 +10,7 @@ use std::alloc::{AllocError, Global};
 /// Which fences claim a name.
 #[derive(Clone, Copy)]
 pub enum Claim {
-    /// None does.
+    /// No fence does.
     Unclaimed,
     /// The fence of this number does, and no other.
     ByOne(u32),
@@ -18,7 +18,7 @@ pub enum Claim {
     ByTwo,
 }
 
-/// The claim when this fence claims the name too.
+/// The claim with this fence added.
 pub(crate) fn joined(claim: Claim, fence: u32) -> Claim
     ensures { result ≡ joined_claim claim fence }
 {
@@ -35,7 +35,7 @@ pub(crate) fn joined(claim: Claim, fence: u32) -> Claim
     }
 }
 
-/// Two claims as one.
+/// The union of two claims.
 pub(crate) fn merged(claim: Claim, more: Claim) -> Claim
     ensures { result ≡ merged_claim claim more }
 {
@@ -46,7 +46,7 @@ pub(crate) fn merged(claim: Claim, more: Claim) -> Claim
     }
 }
 
-/// The claim at the number; at a number beyond them, none.
+/// The claim at the number; Unclaimed if there is none.
 pub(crate) fn claim_of(claims: &[Claim], number: usize) -> Claim
     ensures { result ≡ claim_at claims.now number }
 {
@@ -56,7 +56,7 @@ pub(crate) fn claim_of(claims: &[Claim], number: usize) -> Claim
     }
 }
 
-/// No claim, so many times.
+/// A list of this many names without a claim.
 fn unclaimed(alloc: Global, count: usize) -> Result<Vec<Claim>, AllocError>
     ensures long { IfOk result (λ claims. length claims.items ≡ count) }
     ensures nothing { IfOk result (λ claims. (number : ℕ) → claim_at claims.items number ≡ Claim.Unclaimed) }
@@ -64,7 +64,7 @@ fn unclaimed(alloc: Global, count: usize) -> Result<Vec<Claim>, AllocError>
     vec![in alloc; Claim::Unclaimed; count]
 }
 
-/// Joins the fence to the claim at the number, if there is one.
+/// Adds the fence to the claim at the number, if there is one.
 fn join_at(claims: &mut Vec<Claim>, number: usize, fence: u32)
     ensures { claims.new.items ≡ slice_set claims.old.items number (joined_claim (claim_at claims.old.items number) fence) }
 {
@@ -73,7 +73,7 @@ fn join_at(claims: &mut Vec<Claim>, number: usize, fence: u32)
     }
 }
 
-/// What each of so many names is claimed for by its matches, in which it is named by its number.
+/// The claims on this many names from matches of a name's number with a fence's number.
 pub(crate) fn claims_by_match(
     alloc: Global,
     count: usize,

@@ -9,8 +9,8 @@ use lf_def::Component;
 use lf_names::{Added, NameParts, NameTable};
 use std::alloc::{AllocError, Global};
 
-/// The names of components in parts, each labelled with its component's number. More of them than 32 bits count are
-/// refused as want of memory.
+/// The names of components in parts, each labelled with its component's number. If the numbers exceed 32 bits, this is
+/// a failed allocation.
 pub(crate) fn parts_of_components(
     alloc: Global,
     components: &[Component],
@@ -27,7 +27,7 @@ pub(crate) fn parts_of_components(
     Ok(parts)
 }
 
-/// Adds the name, and answers whether it is new.
+/// Adds the name; returns whether it is new.
 pub fn is_added(names: &mut NameTable, name: &[u8]) -> Result<bool, AllocError>
     ensures new { IfOk result (λ added. IsTrue added → Contains names.old name.now → ⊥) }
     ensures added { IfOk result (λ added. IsTrue added → names.new ≡ names.old ++ name.now ∷ []) }
@@ -40,7 +40,7 @@ pub fn is_added(names: &mut NameTable, name: &[u8]) -> Result<bool, AllocError>
     }
 }
 
-/// The first component that bears an earlier one's name.
+/// The first component that has an earlier one's name.
 pub(crate) fn first_second_name(
     alloc: Global,
     components: &[Component],

@@ -12,7 +12,7 @@ pub enum End {
     Back,
 }
 
-/// What each name that the pattern stands for has at this end.
+/// What each name that matches the pattern has at this end.
 pub(crate) fn key_at(end: End, pattern: &[u8]) -> &[u8]
     ensures { result.now ≡ key_of end pattern.now }
 {
@@ -22,7 +22,7 @@ pub(crate) fn key_at(end: End, pattern: &[u8]) -> &[u8]
     }
 }
 
-/// So many bytes of the name at this end, where it has as many.
+/// The first or last `count` bytes of the name; none if it is shorter.
 pub(crate) fn part_at(end: End, name: &[u8], count: usize) -> Option<&[u8]>
     ensures { MatchOption result (length name.now < count) (λ part. (count ≤ length name.now) × (part.now ≡ part_of end count name.now)) }
 {

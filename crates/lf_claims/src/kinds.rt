@@ -1,4 +1,4 @@
-//! What is a fence, and which components teams may move.
+//! The fences, and the components that teams may move.
 
 ghost use Rattle.std.specs.Prelude.{◌≡◌};
 ghost use Rattle.lf_claims.specs.Teams.{is_fence as is_fence_region, is_cover as is_cover_component, is_fixed as is_fixed_component, is_movable as is_movable_component};

@@ -6,8 +6,8 @@ ghost use Rattle.lf_claims.specs.NameMaps.{value_of, IsWhole, Puts};
 use lf_names::{Added, NameTable};
 use std::alloc::{AllocError, Global};
 
-/// A value for each of some names, looked up in a time that does not depend on how many there are, but for
-/// names chosen against the fixed hash.
+/// A value for each of some names, looked up in a time that does not depend on their number, but for names chosen
+/// against the fixed hash.
 #[derive(Drop)]
 pub struct NameMap<V: Copy> {
     names: NameTable,
@@ -15,7 +15,7 @@ pub struct NameMap<V: Copy> {
 }
 
 impl<V: Copy> NameMap<V> {
-    /// The map of no name.
+    /// The empty map.
     pub(crate) fn new(alloc: Global) -> Self
         ensures whole { IsWhole result }
         ensures nothing { (name : List ℕ) → value_of result name ≡ None }
@@ -26,7 +26,7 @@ impl<V: Copy> NameMap<V> {
         }
     }
 
-    /// The name's value.
+    /// The name's value; none if it has none.
     pub(crate) fn get(&self, name: &[u8]) -> Option<V>
         ensures { result ≡ value_of self.now name.now }
     {
@@ -36,7 +36,7 @@ impl<V: Copy> NameMap<V> {
         }
     }
 
-    /// Gives the name this value in place of any other. After an `Err` the map is to be dropped.
+    /// Sets the name's value. After an `Err` the map must be dropped.
     pub(crate) fn put(&mut self, name: &[u8], value: V) -> Result<(), AllocError>
         requires { IsWhole self.old }
         ensures { OnOk result (Puts self.old self.new name.now value) }

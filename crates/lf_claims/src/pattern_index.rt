@@ -19,8 +19,8 @@ use lf_names::{NameParts, Pattern};
 use lf_units::Name;
 use std::alloc::{AllocError, Global};
 
-/// Patterns that are bound to fences: those without a star in parts, as the names that they stand for, each labelled
-/// with the number of its fence; the others by what their names begin or end with.
+/// Patterns bound to fences: those without a star in parts, as the names that they match, each labelled with the number
+/// of its fence; the others by what their names begin or end with.
 #[derive(Drop)]
 pub struct PatternIndex {
     literals: NameParts,
@@ -28,7 +28,7 @@ pub struct PatternIndex {
 }
 
 impl PatternIndex {
-    /// The index of no pattern.
+    /// The empty index.
     fn new(alloc: Global) -> Result<Self, AllocError>
         ensures { IfOk result (λ index. Holds index []) }
     {
@@ -46,7 +46,7 @@ impl PatternIndex {
         Ok(())
     }
 
-    /// Adds a pattern that is tried on each name that begins as it does, or that ends as it does.
+    /// Adds a pattern with a star, to be tried on names that begin or end as it does.
     fn add_starred(&mut self, alloc: Global, pattern: &[u8], fence: u32) -> Result<(), AllocError>
         ensures { OnOk result (Extends self.old self.new (record { pattern = pattern.now; fence = fence } ∷ [])) }
     {
@@ -64,7 +64,7 @@ impl PatternIndex {
         self.add_starred(alloc, pattern, fence)
     }
 
-    /// Adds patterns of one fence.
+    /// Adds the patterns of one fence.
     fn add_patterns(
         &mut self,
         alloc: Global,
@@ -79,7 +79,7 @@ impl PatternIndex {
         Ok(())
     }
 
-    /// Adds the patterns of a group, where it is bound to a fence.
+    /// Adds the patterns of a group, if it is bound to a fence.
     fn add_group(
         &mut self,
         alloc: Global,
@@ -94,7 +94,7 @@ impl PatternIndex {
         }
     }
 
-    /// What the literal patterns claim each component for; none where two components bear one name.
+    /// The claims of the literal patterns on each component; none if two components have one name.
     fn literal_claims(
         &self,
         alloc: Global,
@@ -109,8 +109,8 @@ impl PatternIndex {
         Ok(Some(claims_by_match(alloc, components.len(), &matches)?))
     }
 
-    /// These claims of all components with those of the patterns with a star, each of which is tried on the names that
-    /// begin, or end, as it does.
+    /// These claims of all components together with those of the patterns with a star, each of which is tried on the
+    /// names that begin, or end, as it does.
     fn with_starred(
         &self,
         alloc: Global,
@@ -127,7 +127,7 @@ impl PatternIndex {
         Ok(all)
     }
 
-    /// These claims of all components with those of the patterns with a star.
+    /// These claims of all components together with those of the patterns with a star.
     fn completed(
         &self,
         alloc: Global,
@@ -142,7 +142,7 @@ impl PatternIndex {
         self.with_starred(alloc, components, &claims)
     }
 
-    /// What the patterns claim each component for; none where two components bear one name.
+    /// The claims of all patterns on each component; none if two components have one name.
     pub(crate) fn claims_of(
         &self,
         alloc: Global,
@@ -157,7 +157,7 @@ impl PatternIndex {
     }
 }
 
-/// The number of the fence that the group is bound to.
+/// The number of the fence that the group is bound to; none if it is bound to none.
 fn fence_of(group: &Group, numbers: &NameMap<u32>) -> Option<u32>
     ensures { result ≡ option_and_then (value_of numbers.now) group.now.region }
 {

@@ -17,9 +17,8 @@ pub struct Bound {
     pub fence: u32,
 }
 
-/// Patterns that are bound to fences, kept by what each of their names has at one end: at the front their bytes before
-/// the first star, at the back those behind the last. The patterns of a key stand at its position, and each length that
-/// a key has is there once.
+/// Patterns bound to fences, by their key at one end: at the front their bytes before the first star, at the back those
+/// after the last. The patterns of a key are at its position, and each length of a key is listed once.
 #[derive(Drop)]
 pub struct PatternsAtEnd {
     end: End,
@@ -28,15 +27,15 @@ pub struct PatternsAtEnd {
     lengths: Vec<usize>,
 }
 
-/// Patterns that are bound to fences, each kept at an end of its names where it has bytes of its own: those that begin
-/// with a star at the back, the others at the front.
+/// Patterns bound to fences, each kept at an end of its names at which it has bytes of its own: those that begin with a
+/// star at the back, the others at the front.
 #[derive(Drop)]
 pub struct StarredPatterns {
     fronts: PatternsAtEnd,
     backs: PatternsAtEnd,
 }
 
-/// The claim with that of one pattern more.
+/// The claim with that of one more pattern added.
 fn with_bound(claim: Claim, bound: &Bound, name: &[u8]) -> Claim
     ensures { StepsTo bound.now name.now claim result }
 {
@@ -47,7 +46,7 @@ fn with_bound(claim: Claim, bound: &Bound, name: &[u8]) -> Claim
     }
 }
 
-/// What the patterns claim the name for, each tried in turn.
+/// The claim of the patterns on the name, each tried in turn.
 fn claim_by_trial(bounds: &[Bound], name: &[u8]) -> Claim
     ensures { Tells (ClaimsBy bounds.now name.now) result }
 {
@@ -67,7 +66,7 @@ fn one_bound(alloc: Global, bound: Bound) -> Result<Vec<Bound>, AllocError>
     Ok(bounds)
 }
 
-/// Puts the pattern behind those that stand at the place, if there is one.
+/// Appends the pattern to the list at the place, if there is one.
 fn push_at(all: &mut Vec<Vec<Bound>>, place: usize, bound: Bound) -> Result<(), AllocError>
     ensures { OnOk result ((before : Vec Bound Global) → slice_get all.old.items place ≡ Some before → (after : Vec Bound Global) × (after.items ≡ before.items ++ bound ∷ []) × (all.new.items ≡ slice_set all.old.items place after)) }
 {
@@ -77,7 +76,7 @@ fn push_at(all: &mut Vec<Vec<Bound>>, place: usize, bound: Bound) -> Result<(), 
     Ok(())
 }
 
-/// Adds the length, unless it is there already.
+/// Adds the length unless it is listed.
 fn add_length(lengths: &mut Vec<usize>, added: usize) -> Result<(), AllocError>
     ensures { OnOk result ((n : ℕ) → Contains lengths.new.items n ↔ (Contains lengths.old.items n ⊎ (n ≡ added))) }
 {
@@ -89,7 +88,7 @@ fn add_length(lengths: &mut Vec<usize>, added: usize) -> Result<(), AllocError>
 }
 
 impl PatternsAtEnd {
-    /// No pattern.
+    /// The empty list.
     fn new(alloc: Global, end: End) -> Self
         ensures { HasAtEnd result [] }
     {
@@ -108,7 +107,7 @@ impl PatternsAtEnd {
         self.lengths.is_empty()
     }
 
-    /// Puts the pattern behind those of the key.
+    /// Appends the pattern to those of the key.
     fn keep(&mut self, alloc: Global, key: &[u8], bound: Bound) -> Result<(), AllocError>
         ensures { OnOk result (length self.old.keys ≡ length self.old.bounds.items → Keeps self.old self.new key.now bound) }
     {
@@ -119,7 +118,7 @@ impl PatternsAtEnd {
         Ok(())
     }
 
-    /// Adds a pattern. After an `Err` the patterns are to be dropped.
+    /// Adds a pattern. After an `Err` the patterns must be dropped.
     fn add(&mut self, alloc: Global, pattern: &[u8], fence: u32) -> Result<(), AllocError>
         ensures { OnOk result ((bounds : List Bound) → HasAtEnd self.old bounds → HasAtEnd self.new (bounds ++ record { pattern = pattern.now; fence = fence } ∷ [])) }
     {
@@ -143,7 +142,7 @@ impl PatternsAtEnd {
         }
     }
 
-    /// What the patterns claim the name for whose key is as long as this and stands at this end of the name.
+    /// The claim on the name of the patterns whose key has this length and is at this end of the name.
     fn claim_under(&self, count: usize, name: &[u8]) -> Claim
         ensures { Tells (ClaimsUnder self.now name.now count) result }
     {
@@ -153,8 +152,8 @@ impl PatternsAtEnd {
         }
     }
 
-    /// What the patterns claim the name for. Tries those alone whose key the name has at this end, in a time that does
-    /// not depend on how many others there are, but for how many different lengths keys have.
+    /// The claim of the patterns on the name. Tries only those whose key the name has at this end, in a time that does
+    /// not depend on how many others there are, but on how many different lengths keys have.
     fn claim_on(&self, name: &[u8]) -> Claim
         ensures { (bounds : List Bound) → HasAtEnd self.now bounds → Tells (ClaimsBy bounds name.now) result }
     {
@@ -167,7 +166,7 @@ impl PatternsAtEnd {
 }
 
 impl StarredPatterns {
-    /// No pattern.
+    /// The empty list.
     pub(crate) fn new(alloc: Global) -> Self
         ensures { HasStarred result [] }
     {
@@ -184,7 +183,7 @@ impl StarredPatterns {
         self.fronts.is_empty() && self.backs.is_empty()
     }
 
-    /// Adds a pattern. After an `Err` the patterns are to be dropped.
+    /// Adds a pattern. After an `Err` the patterns must be dropped.
     pub(crate) fn add(
         &mut self,
         alloc: Global,
@@ -199,7 +198,7 @@ impl StarredPatterns {
         self.fronts.add(alloc, pattern, fence)
     }
 
-    /// What the patterns claim the name for.
+    /// The claim of the patterns on the name.
     pub(crate) fn claim_on(&self, name: &[u8]) -> Claim
         ensures { (bounds : List Bound) → HasStarred self.now bounds → Tells (ClaimsBy bounds name.now) result }
     {

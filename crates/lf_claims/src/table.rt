@@ -20,8 +20,8 @@ use lf_units::Name;
 use std::alloc::{AllocError, Global};
 use std::marker::Model;
 
-/// What the names of all components tell: which of them is an earlier one's too, and which fences claim each. A
-/// contract sees what it tells.
+/// What follows from the names of all components: the first that has an earlier one's name, and the fences that claim
+/// each. A contract sees these.
 #[derive(Drop)]
 pub struct ClaimTable {
     second: Option<usize>,
@@ -37,7 +37,7 @@ impl Model for ClaimTable {
     ghost view = { λ t. record { second = t.second; claims = t.claims.items; ground = t.ground } };
 }
 
-/// Puts the number of the fence under its name, unless an earlier fence bears it.
+/// Adds the fence's number under its name, unless an earlier fence has the name.
 fn put_fence(numbers: &mut NameMap<u32>, name: &Name, number: u32) -> Result<(), AllocError>
     requires { IsWhole numbers.old }
     ensures { OnOk result (NumbersOneMore numbers.old numbers.new number name.now) }
@@ -49,8 +49,7 @@ fn put_fence(numbers: &mut NameMap<u32>, name: &Name, number: u32) -> Result<(),
     Ok(())
 }
 
-/// The number of each fence by its name, and how many fences there are. More of them than 32 bits count are refused as
-/// want of memory.
+/// The number of each fence by its name, and the number of fences. If it exceeds 32 bits, this is a failed allocation.
 fn number_fences(alloc: Global, regions: &[Region]) -> Result<(NameMap<u32>, u32), AllocError>
     ensures numbers { IfOk result (λ answer. Numbers (fence_names regions.now) answer.0) }
     ensures ground { IfOk result (λ answer. answer.1 ≡ length (fences regions.now)) }
@@ -66,7 +65,7 @@ fn number_fences(alloc: Global, regions: &[Region]) -> Result<(NameMap<u32>, u32
     Ok((numbers, count))
 }
 
-/// What the names of all components tell, by all groups; the table has no claims where two components bear one name.
+/// The table of these components, regions and groups; it has no claims if two components have one name.
 pub fn claim_table(
     alloc: Global,
     components: &[Component],
@@ -92,15 +91,15 @@ pub fn claim_table(
 }
 
 impl ClaimTable {
-    /// The first component that bears an earlier one's name.
+    /// The first component that has an earlier one's name.
     pub fn second_name(&self) -> Option<usize>
         ensures { TellsSecondName self.now result }
     {
         self.second
     }
 
-    /// The team of the component of that number, where names differ and no two fences claim it: the place of its fence
-    /// among the fences, or their number where no fence claims it.
+    /// The team of the component of that number, if names differ and no two fences claim it: the position of its fence
+    /// among the fences, or their number if no fence claims it.
     pub fn team_at(&self, number: usize) -> usize
         ensures { TellsTeam self.now number result }
     {
@@ -111,7 +110,7 @@ impl ClaimTable {
         }
     }
 
-    /// Whether teams may move the component, which has this number, and groups of two different fences name it.
+    /// Whether teams may move the component of this number, and groups of two different fences name it.
     fn is_claimed_twice(&self, number: usize, component: &Component) -> bool
         ensures { (regions : List Region) (groups : List Group) → IsClaimOf regions groups component.now.name (claim_at self.now.claims number) → (IsTrue result ↔ IsClaimedTwice regions groups [] component.now) }
     {
@@ -123,7 +122,7 @@ impl ClaimTable {
     }
 }
 
-/// The first movable component that groups of two different fences name, where no two components bear one name.
+/// The first movable component that groups of two different fences name, if no two components have one name.
 pub fn first_claimed_twice(components: &[Component], table: &ClaimTable) -> Option<usize>
     ensures { (regions : List Region) (groups : List Group) → NoneBreaks BearsEarlierName components.now → IsTableOf regions groups components.now table.now → FirstIs (IsClaimedTwice regions groups) components.now result }
 {

@@ -204,7 +204,7 @@ top = (built command_line).top
 abbrev names : Names
 names = names_of (built command_line)
 
--- the walk has stopped at a subcommand of this name, with these words behind it
+-- the walk has stopped at a subcommand of this name, with these words after it
 abbrev stopped_at : Text → List Text → Walk
 stopped_at sub words = record start { stopped = Some (sub, words) }
 
@@ -218,7 +218,7 @@ unfolding clap_on_literals
 passes_behind sub [] before = refl
 passes_behind sub (word ∷ words) before = passes_behind sub words (before ++ word ∷ [])
 
--- a subcommand's word is one of the program's, and what is behind it is left to the subcommand
+-- a subcommand's word is one of the program's, and what is after it is left to the subcommand
 top_walk : (chosen : Subcommand) (words : List Text) → walk top.rules names nothing_held (word_of chosen ∷ words) ≡ stopped_at (word_of chosen) words
 unfolding clap_on_literals
 top_walk Replay words = walk_behind (word_of Replay) words []
@@ -410,7 +410,7 @@ no_job (name ∷ []) d job more none e = omega (arith, more)
 no_job (name ∷ word ∷ []) d job more none e = omega (arith, more)
 no_job (name ∷ word ∷ next ∷ rest) d job more none e = let same : None ≡ Some job = sym (rw none refl) ∙ e in false≢true (ap is_some same)
 
--- the job of three words or more is that of their subcommand with the words behind it
+-- the job of three words or more is that of their subcommand with the words after it
 pub record IsBehind (chosen : Subcommand) (words : List Text) (job : Job) : Type 0 where
   pub is_job : job_by chosen (drop 2 words) ≡ Some job
   pub given : Given

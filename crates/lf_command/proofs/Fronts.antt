@@ -9,7 +9,7 @@ use Rattle.std.proofs.lemmas.List.{take-append-drop}
 use Rattle.std.proofs.lemmas.Slice.Eq.{bytes_eq-Decides}
 use Rattle.lf_command.specs.Command.{text_behind}
 
--- the word is its front and the text behind it
+-- the word is its front and the text after it
 pub front_first : (front word : List ℕ) → bytes_eq (take (length front) word) front ≡ true → word ≡ front ++ drop (length front) word
 front_first front word e =
     sym (take-append-drop (length front) word) ∙ ap (λ (t : List ℕ). t ++ drop (length front) word) ((bytes_eq-Decides (take (length front) word) front).0 e)

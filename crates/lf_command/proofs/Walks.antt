@@ -159,7 +159,7 @@ pub record Fits (chosen : Subcommand) (given : Given) : Type 0 where
   pub values : (s : Setting) (value : Text) → has_setting chosen s ≡ true → value_of s given ≡ Some value → value_passes s value ≡ true
   pub few : length given.paths ≤ usize_max
 
--- one word leads from where the walk stands to where it stands behind it
+-- one word leads from where the walk stands to where it stands after it
 abbrev Goes : Subcommand → Text → Given → Next → Given × Next → Type 0
 Goes chosen word given next r =
     Fits chosen r.0 → Fits chosen given × ((w : Walk) → In chosen given next w → (to : Walk) × Step chosen w word to × In chosen r.0 r.1 to)
@@ -284,7 +284,7 @@ path_from chosen given word rows p b position (def ∷ lefs) e h s (is_position,
   more_lefs chosen given word def lef lefs more false rows e few fewer (subst (λ (q : Pending). Holds (def ∷ lefs) given (done chosen q rows)) is_p h),
 )
 
--- and a word behind it
+-- and a word after it
 behind_from : (chosen : Subcommand) (given : Given) (word : Text) (rows : List Row) (p : Pending) (b : Bool) (position : ℕ) (paths : List Text)
     → given.paths ≡ paths
     → Holds paths given (done chosen p rows) → settles chosen p rows ≡ true → Stands paths p b position → length (with_path word given).paths ≤ usize_max

@@ -22,7 +22,7 @@ pub data Job : Type 0 where
   serve : List ℕ → List (List ℕ) → ℕ → ℕ → Option (List ℕ) → Job
   check : List ℕ → List (List ℕ) → Job
 
--- a word that begins with '-' and goes on is an option, or '--'
+-- a word that begins with '-' and is longer is an option, or '--'
 abbrev pub is_option : List ℕ → Bool
 is_option (first ∷ next ∷ rest) = first == 45
 is_option _ = false
@@ -39,11 +39,11 @@ has_setting subcommand.Replay Export = true
 has_setting subcommand.Serve setting = true
 has_setting _ _ = false
 
--- the text that a word has behind this front
+-- the rest of a word after this front
 abbrev pub text_behind : List ℕ → List ℕ → Option (List ℕ)
 text_behind front word = if bytes_eq (take (length front) word) front then Some (drop (length front) word) else None
 
--- the word is this option: alone, or with its value behind '='
+-- the word is this option: alone, or with its value after '='
 abbrev pub value_in : List ℕ → Setting → Option (Option (List ℕ))
 value_in word setting =
     if bytes_eq word (flag_of setting) then Some None else option_map (λ value. Some value) (text_behind (flag_of setting ++ codes "=") word)
@@ -56,14 +56,14 @@ option_at word setting = option_map (λ value. (setting, value)) (value_in word 
 abbrev pub option_of : List ℕ → Option (Setting × Option (List ℕ))
 option_of word = option_or (option_at word Export) (option_or (option_at word Port) (option_at word Connections))
 
--- what words give: the paths in order, and the values of options
+-- what words say: the paths in order, and the values of options
 pub record Given : Type 0 where
   pub paths : List (List ℕ)
   pub export : Option (List ℕ)
   pub port : Option (List ℕ)
   pub connections : Option (List ℕ)
 
--- before the first word
+-- before the first word is read
 abbrev pub nothing : Given
 nothing = record { paths = []; export = None; port = None; connections = None }
 
@@ -100,8 +100,8 @@ abbrev pub with_option : Subcommand → Given → Setting × Option (List ℕ) �
 with_option chosen given (setting, Some value) = if has_setting chosen setting then with_text setting value given else None
 with_option chosen given (setting, None) = if has_setting chosen setting then Some (given, Value setting) else None
 
--- what one more word gives, and what the next one may be: behind '--' each word is a path; before it one that begins with '-' and goes on is an
--- option and no value, and any other is the value that is due, or else a path
+-- what the words say with one more, and what the next one may be: after '--' each word is a path; before it a longer word that
+-- begins with '-' is an option and no value, and any other is the value that is due, or else a path
 abbrev pub read_word : Subcommand → List ℕ → Given → Next → Option (Given × Next)
 read_word chosen word given Path = Some (with_path word given, Path)
 read_word chosen word given (Value setting) = if is_option word then None else with_text setting word given
@@ -110,17 +110,17 @@ read_word chosen word given Any =
     else if is_option word then option_and_then (with_option chosen given) (option_of word)
     else Some (with_path word given, Any)
 
--- what is given once no word is left: nothing, where a value is due
+-- what the words say at their end; none if a value is due
 abbrev pub read_end : Given → Next → Option Given
 read_end given (Value setting) = None
 read_end given _ = Some given
 
--- what these words give behind what was given before them
+-- what these words say after what was said before them
 abbrev pub given_behind : Subcommand → List (List ℕ) → Given → Next → Option Given
 given_behind chosen [] given next = read_end given next
 given_behind chosen (word ∷ rest) given next = option_and_then (λ read. given_behind chosen rest read.0 read.1) (read_word chosen word given next)
 
--- what the words of a subcommand give
+-- what the words of a subcommand say
 abbrev pub given_by : Subcommand → List (List ℕ) → Option Given
 given_by chosen words = given_behind chosen words nothing Any
 
@@ -138,7 +138,7 @@ subcommand_named word =
     else if bytes_eq word (word_of subcommand.Check) then Some subcommand.Check
     else None
 
--- the text is a number: digits, one at least, that may stand behind '+' and begin with zeros
+-- the text is a number: digits, one at least, which may follow '+' and begin with zeros
 abbrev pub is_number : List ℕ → Bool
 is_number text = nat_lt 0 (length (without_leading_plus text)) && list_all (λ digit. nat_lt (digit_value digit) 10) (without_leading_plus text)
 
@@ -146,7 +146,7 @@ is_number text = nat_lt 0 (length (without_leading_plus text)) && list_all (λ d
 abbrev pub number_of : List ℕ → ℕ
 number_of text = digits_value 10 (without_leading_plus text)
 
--- the number that the text is, where it is one of these
+-- the number that the text writes; none if it is not in this range
 abbrev pub number_in : ℕ → ℕ → List ℕ → Option ℕ
 number_in least most text =
     if is_number text && (nat_le least (number_of text) && nat_le (number_of text) most) then Some (number_of text) else None
@@ -163,7 +163,7 @@ job_on subcommand.Replay def lefs given = Some (replay def lefs given.export)
 job_on subcommand.Serve def lefs given = option_map (λ service. serve def lefs service.0 service.1 given.export) (service_of given)
 job_on subcommand.Check def lefs given = Some (check def lefs)
 
--- a subcommand has the path of a DEF text and then one path at least of a LEF text
+-- a subcommand takes the path of a DEF text and then one path at least of a LEF text
 abbrev pub job_over : Subcommand → List (List ℕ) → Given → Option Job
 job_over chosen (def ∷ lef ∷ lefs) given = job_on chosen def (lef ∷ lefs) given
 job_over chosen _ given = None
@@ -172,7 +172,7 @@ job_over chosen _ given = None
 abbrev pub job_by : Subcommand → List (List ℕ) → Option Job
 job_by chosen words = option_and_then (λ given. job_over chosen given.paths given) (given_by chosen words)
 
--- the job that a word names, with the words behind it
+-- the job that a word names, with the words after it
 abbrev pub job_named : List ℕ → List (List ℕ) → Option Job
 job_named word [] = if bytes_eq word (codes "demo") then Some demo else None
 job_named word (next ∷ rest) = option_and_then (λ chosen. job_by chosen (next ∷ rest)) (subcommand_named word)
@@ -183,7 +183,7 @@ job_of [] = Some demo
 job_of (name ∷ []) = Some demo
 job_of (name ∷ word ∷ rest) = job_named word rest
 
--- a task as the job that it does
+-- the job that a task does
 abbrev pub as_job : Task → Job
 as_job Demo = demo
 as_job (Replay def lefs export) = replay def.now (map (λ lef. lef.now) lefs) (option_map (λ path. path.now) export)

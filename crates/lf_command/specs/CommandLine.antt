@@ -1,4 +1,4 @@
--- The command line, as the reader of arguments is told it.
+-- The command line as it is declared to the argument parser.
 use Rattle.std.specs.Prelude.{ℕ, List, [], ◌∷◌, ◌++◌, Some, None, map, option_map, option_to_list, unwrap_or, codes, true}
 use Rattle.clap.specs.Lexer.{usize_max}
 use Rattle.clap.specs.Simple.{App, new_app, new_rule, with_rule, with_subcommand}

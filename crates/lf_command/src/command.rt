@@ -18,30 +18,30 @@ use lf_units::Sequence;
 use std::alloc::{AllocError, Global};
 use thiserror::Error;
 
-/// The most connections that a service takes.
+/// The most connections that a service accepts.
 const MOST_CONNECTIONS: u32 = 1_000_000;
 
 /// What the program is to do.
 #[derive(Drop)]
 pub enum Task<'a> {
-    /// Answers the lines of standard input over the design that the program holds.
+    /// Answers the lines of standard input over the built-in design.
     Demo,
     /// Answers the lines of standard input over the design of a DEF text and of LEF texts, given by paths.
     Replay {
         def: &'a str,
         lefs: Sequence<&'a str>,
-        /// The path that the exported text goes to, where there is to be one.
+        /// The path of the exported text, if one is asked for.
         export: Option<&'a str>,
     },
     /// Answers the lines of connections over the design of a DEF text and of LEF texts, given by paths.
     Serve {
         def: &'a str,
         lefs: Sequence<&'a str>,
-        /// The port that is listened on: 1 at least.
+        /// The port to listen on: 1 at least.
         port: u16,
-        /// The number of connections that are served: from 1 to 1,000,000.
+        /// The number of connections to serve: from 1 to 1,000,000.
         connections: u32,
-        /// The path that the exported text goes to, where there is to be one.
+        /// The path of the exported text, if one is asked for.
         export: Option<&'a str>,
     },
     /// Reports on the design of a DEF text and of LEF texts, given by paths.
@@ -57,7 +57,7 @@ pub enum UsageFault {
     /// They are no command of the program.
     #[error("usage")]
     Usage,
-    /// A growth of memory was refused.
+    /// An allocation failed.
     #[error("24 OutOfMemory")]
     OutOfMemory,
 }
@@ -156,7 +156,7 @@ fn command<'a>(alloc: Global) -> Result<Command<'a>, AllocError>
         .subcommand(check(alloc)?)
 }
 
-/// What was found of the words of a subcommand.
+/// What `clap` found in the words of a subcommand.
 fn found_in<'a>(alloc: Global, matches: &ArgMatches<'a>) -> Result<Reading<'a>, AllocError>
     ensures { IfOk result (λ found. as_given found ≡ found_given (found_of matches.now)) }
 {
@@ -175,7 +175,7 @@ fn found_in<'a>(alloc: Global, matches: &ArgMatches<'a>) -> Result<Reading<'a>, 
     })
 }
 
-/// The port that the text is.
+/// The port that the text writes.
 #[tactic(auto, using(crate::proofs::Numbers::number_none, crate::proofs::Numbers::number_some, crate::proofs::Numbers::number_out))]
 fn port_of(text: &str) -> Option<u16>
     ensures { result ≡ number_in 1 65535 text.now }
@@ -189,7 +189,7 @@ fn port_of(text: &str) -> Option<u16>
     Some(port)
 }
 
-/// The number of connections that the text is.
+/// The number of connections that the text writes.
 #[tactic(auto, using(crate::proofs::Numbers::number_none, crate::proofs::Numbers::number_some, crate::proofs::Numbers::number_out))]
 fn connections_of(text: &str) -> Option<u32>
     ensures { result ≡ number_in 1 1000000 text.now }
@@ -241,7 +241,7 @@ fn task_on<'a>(
     }
 }
 
-/// The task of a subcommand whose words give this.
+/// The task of a subcommand from what its words give.
 fn task_for<'a>(
     alloc: Global,
     chosen: Subcommand,
@@ -259,7 +259,8 @@ fn task_for<'a>(
     Ok(task_on(chosen, *def, lefs, found))
 }
 
-/// The task of a subcommand with these words, of which this was found: it is tested against the words.
+/// The task of a subcommand with these words, in which this was found: it is checked against the
+/// words.
 fn task_tested<'a>(
     alloc: Global,
     chosen: Subcommand,
@@ -279,7 +280,8 @@ fn task_tested<'a>(
     task_for(alloc, chosen, found)
 }
 
-/// The task of a subcommand with these words, as `clap` has read them: its answer is tested against the words.
+/// The task of a subcommand with these words, as `clap` has read them: it is checked against the
+/// words.
 fn task_over<'a>(
     alloc: Global,
     chosen: Subcommand,
@@ -329,12 +331,14 @@ fn task_of<'a>(
     }
 }
 
-/// The task that the words name; the first of them is the program's name, and that name alone is the demo.
+/// The task that the words name; the first word is the program's name, and that name alone is the
+/// demo.
 ///
-/// `replay` and `check` have the path of a DEF text and then of one LEF text at least, and so has `serve`, which needs
-/// `--port P`, from 1 to 65535, and `--connections N`, from 1 to 1,000,000; `--export FILE` may be given to `replay` and
-/// `serve`. An option stands before, between or behind the paths, once at most, and `--export=FILE` is the same. Behind
-/// `--` a path may begin with '-'. Words for help and for the version are usage faults as any others are.
+/// `replay`, `serve` and `check` take the path of a DEF text, then of one LEF text or more; `serve`
+/// needs `--port P`, from 1 to 65535, and `--connections N`, from 1 to 1,000,000; `replay` and
+/// `serve` may have `--export FILE`. Options are before, between or after the paths, each once at
+/// most; `--export=FILE` is the same. After `--` a path may begin with '-'. Words for help and for
+/// the version are usage faults like any others.
 pub fn command_of<'a>(alloc: Global, words: &'a [&'a str]) -> Result<Task<'a>, UsageFault>
     ensures ok { IfOk result (λ task. job_of (map (λ word. word.now) words.now) ≡ Some (as_job task)) }
     ensures err { IfErr result (λ fault. fault ≡ Usage → job_of (map (λ word. word.now) words.now) ≡ None) }

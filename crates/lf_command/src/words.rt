@@ -1,4 +1,4 @@
-//! What the words of a subcommand give, word by word.
+//! What the words of a subcommand say, word by word.
 
 ghost use Rattle.std.specs.Prelude.{◌≡◌, ◌++◌, Some, None, codes, if◌then◌else◌, is_some, map, not, option_and_then, option_map, IfOk, IsTrue, OnOk, ◌↔◌};
 ghost use Rattle.lf_command.specs.Command.{flag_of, given_by, has_setting, is_option, option_at, option_of, read_to, read_word, subcommand_named, text_behind, with_option, with_path, with_text};
@@ -20,11 +20,11 @@ pub(crate) enum Subcommand {
 /// An option, which has a value.
 #[derive(Clone, Copy)]
 pub(crate) enum Setting {
-    /// The path that the exported text goes to.
+    /// The path of the exported text.
     Export,
-    /// The port that is listened on.
+    /// The port to listen on.
     Port,
-    /// The number of connections that are served.
+    /// The number of connections to serve.
     Connections,
 }
 
@@ -39,7 +39,8 @@ pub(crate) enum Next {
     Path,
 }
 
-/// What was read of the words of a subcommand, or found in them: paths, and the values of options as they are written.
+/// What was read of the words of a subcommand, or found in them: paths and option values, as they
+/// are written.
 #[derive(Drop)]
 pub(crate) struct Reading<'a> {
     pub paths: Vec<&'a str>,
@@ -60,7 +61,7 @@ pub(crate) fn subcommand_named(word: &str) -> Option<Subcommand>
     }
 }
 
-/// Whether the word begins with '-' and goes on.
+/// Whether the word begins with '-' and is longer.
 fn is_option(word: &str) -> bool
     ensures { result ≡ is_option word.now }
 {
@@ -81,7 +82,7 @@ fn flag_of(setting: Setting) -> &'static str
     }
 }
 
-/// The word of an option that has its value behind it.
+/// The word of an option with `=` after it.
 fn front_of(setting: Setting) -> &'static str
     ensures { result.now ≡ flag_of setting ++ codes "=" }
 {
@@ -103,7 +104,7 @@ fn has_setting(chosen: Subcommand, setting: Setting) -> bool
     }
 }
 
-/// The text that the word has behind this front.
+/// The rest of the word after this front; none if the word does not begin with it.
 fn text_behind<'a>(front: &str, word: &'a str) -> Option<&'a str>
     ensures { option_map (λ text. text.now) result ≡ text_behind front.now word.now }
 {
@@ -134,7 +135,7 @@ fn option_of<'a>(word: &'a str) -> Option<(Setting, Option<&'a str>)>
     option_at(word, Setting::Connections)
 }
 
-/// Puts a value where none is, and gives whether there was none.
+/// Sets a value that was none; returns whether it was.
 fn put_once<'a>(value: &mut Option<&'a str>, text: &'a str) -> bool
     ensures put { result ≡ not (is_some value.old) }
     ensures value { value.new ≡ (if is_some value.old then value.old else Some text.entry) }
@@ -146,7 +147,7 @@ fn put_once<'a>(value: &mut Option<&'a str>, text: &'a str) -> bool
     true
 }
 
-/// Puts one more value of an option behind what was read: each has one at most.
+/// Adds the value of an option to what was read: each has one at most.
 fn put_value<'a>(reading: &mut Reading<'a>, setting: Setting, text: &'a str) -> Option<Next>
     ensures { with_text setting text.entry.now (as_given reading.old) ≡ read_to (as_given reading.new) result }
 {
@@ -158,7 +159,7 @@ fn put_value<'a>(reading: &mut Reading<'a>, setting: Setting, text: &'a str) -> 
     if is_put { Some(Next::Any) } else { None }
 }
 
-/// Reads the word of an option of the subcommand, and gives what the next word may be.
+/// Reads the word of an option of the subcommand, and returns what the next word may be.
 fn read_option<'a>(chosen: Subcommand, reading: &mut Reading<'a>, word: &'a str) -> Option<Next>
     ensures { option_and_then (with_option chosen (as_given reading.old)) (option_of word.entry.now)
         ≡ read_to (as_given reading.new) result }
@@ -181,7 +182,7 @@ fn read_path<'a>(reading: &mut Reading<'a>, word: &'a str) -> Result<(), AllocEr
     Ok(())
 }
 
-/// Reads one more word, and gives what the next one may be.
+/// Reads one more word, and returns what the next one may be.
 fn read_word<'a>(
     chosen: Subcommand,
     reading: &mut Reading<'a>,
@@ -207,7 +208,7 @@ fn read_word<'a>(
     }
 }
 
-/// What the words of a subcommand give.
+/// What the words of a subcommand say.
 pub(crate) fn read_words<'a>(
     alloc: Global,
     chosen: Subcommand,

@@ -83,7 +83,7 @@ point_ok l m p e =
       c1.2,
     )
 
--- the tokens of a place behind its first parenthesis
+-- the tokens of a place after its first parenthesis
 pub record PlaceRun (l m : Lexed) (p : Located) : Type 0 where
   pub x : Lexeme
   pub y : Lexeme
@@ -113,7 +113,7 @@ located_ok l m p e =
       stop = ap (λ (z : Located). z.stop) d.0;
     }
 
--- the tokens of a placement behind its word
+-- the tokens of a placement after its word
 pub record MoreRun (plus : ℕ) (t : Lexeme) (l m : Lexed) (p : Placement) : Type 0 where
   pub more : List Lexeme
   pub whole : l ≡ with_tokens more m
@@ -266,7 +266,7 @@ keyword_not_separator e = cc
 separator_not_keyword : Separator ≡ Keyword → ⊥
 separator_not_keyword e = cc
 
--- a token that is passed over
+-- a token that is skipped
 passed : (r : List Lexeme) (l m n : Lexed) (s : ComponentParts) (u : Lexeme) → Known r s → (s.due ≡ Keyword → ⊥) → (s.due ≡ Separator → ⊥) → l ≡ with_token u n
     → n ≡ m → Step r l m s
 passed r l m n s u k no_keyword no_separator w e =

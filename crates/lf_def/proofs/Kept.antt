@@ -1,4 +1,4 @@
--- What stands behind a component, a statement or the end of the design plays no part in it.
+-- What stands after a component, a statement or the end of the design is ignored in it.
 use Rattle.std.proofs.Common.{◌≡◌, ℕ, ◌&&◌, List, ◌∷◌, ◌++◌, length, take, Option, Some, None, Result, refl, sym, ap, ◌∙◌}
 use Rattle.std.specs.Prelude.{codes, nat_lt}
 use Rattle.lf_lex.specs.declared.fault.ReadFault.{ReadFault}
@@ -137,7 +137,7 @@ statement_local s = local_bind token _ token_local (λ t. statement_from_local s
 pub statements_local : (s : DocParts) → Local (block statement s)
 statements_local s = local_block statement statement_local statement_goes s
 
--- What stands behind END DESIGN.
+-- What stands after END DESIGN.
 
 pub ends_before : (text : List ℕ) → EndsBefore text
 ends_before text read t after parts e h bytes =

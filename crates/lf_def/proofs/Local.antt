@@ -1,11 +1,11 @@
--- Reading takes a run of tokens, and what stands behind the run plays no part.
+-- Reading takes a run of tokens, and what stands after the run is ignored.
 use Rattle.std.proofs.Common.{◌≡◌, ℕ, zero, suc, ◌<◌, Bool, true, false, cond, List, [], ◌∷◌, ◌++◌, length, Result, Ok, Err, refl, sym, ap, ◌∙◌, arith}
 use Rattle.lf_lex.specs.declared.fault.ReadFault.{ReadFault}
 use Rattle.lf_lex.specs.Tokens.{Lexed, Lexeme, with_tokens}
 use Rattle.lf_lex.specs.Reading.{◌>>=◌, Reader, Taken, Turn, Statement, taken, turn, token, first_of, behind, statements, block}
 use Rattle.lf_lex.proofs.Runs.{Follows, Goes, same, left, ok_is, with_both, length_both}
 
--- the run that was taken, whatever stands behind
+-- the run that was taken, whatever stands after
 pub record Takes {A : Type 0} (reader : Reader A) (l m : Lexed) (x : A) : Type 0 where
   pub run : List Lexeme
   pub whole : l ≡ with_tokens run m

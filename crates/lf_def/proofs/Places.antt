@@ -1,4 +1,4 @@
--- Components and whole texts read alike from tokens that differ in their places alone, but for the places that components bear.
+-- Components and whole texts read alike from tokens that differ in their places alone, but for the places that components have.
 use Rattle.std.proofs.Common.{◌≡◌, ℕ, Bool, true, false, ◌&&◌, ◌||◌, List, [], ◌∷◌, ◌++◌, map, Option, Some, None, refl, ap, sym, ◌∙◌}
 use Rattle.std.specs.Prelude.{codes, not, is_some}
 use Rattle.std.specs.Str.{bytes_eq}

@@ -1,4 +1,4 @@
--- Printed rows and sections are what a text says, behind any statements that are passed over.
+-- Printed rows and sections are what a text says, after any statements that are skipped.
 use Rattle.std.proofs.Common.{◌≡◌, ◌≢◌, ℕ, true, List, [], ◌∷◌, ◌++◌, All, map, ℤ, Some, Ok, refl, ap, sym, ◌∙◌, subst}
 use Rattle.std.specs.Prelude.{codes, IsSome}
 use Rattle.std.specs.List.{list_all}
@@ -28,7 +28,7 @@ passed_adds_nothing : (ps : List Passed) (qs : List Part) (d : DocParts) → wit
 passed_adds_nothing [] qs d = refl
 passed_adds_nothing (p ∷ ps) qs d = passed_adds_nothing ps qs d
 
--- what is passed over adds nothing before DESIGN and behind it
+-- what is skipped adds nothing before DESIGN and after it
 behind_is : (before : List Passed) (n : List ℕ) (between : List Passed) (parts : List Part) → with_parts no_parts (behind_passed before n between parts) ≡ with_parts (named_parts n) parts
 behind_is before n between parts = passed_adds_nothing before (design_is n ∷ (map passed_over between ++ parts)) no_parts ∙ passed_adds_nothing between parts (named_parts n)
 
@@ -37,7 +37,7 @@ behind_printed before n between parts hb hm hn hp =
     All-append IsPrintedPart (map passed_over before) (design_is n ∷ (map passed_over between ++ parts)) (All-map IsPrintedPart passed_over before hb)
     (All-cons IsPrintedPart (design_is n) (map passed_over between ++ parts) hn (All-append IsPrintedPart (map passed_over between) parts (All-map IsPrintedPart passed_over between hm) hp))
 
--- what a text of these parts says, where d is what they say behind DESIGN
+-- what a text of these parts says, where d is what they say after DESIGN
 says_behind : (print : ℤ → List ℕ) → WritesNumbers print → (before : List Passed) (n : List ℕ) (between : List Passed) (parts : List Part) (d : DocParts) → All IsPassed before → All IsPassed between → IsWord n → All IsPrintedPart parts
     → with_parts (named_parts n) parts ≡ d → IsSome d.header.design → (text : List ℕ) → BeginsWith text (text_tokens print (behind_passed before n between parts)) → SaysPlacesApart text (document_with d)
 says_behind print writes before n between parts d hb hm hn hp e named text begins =

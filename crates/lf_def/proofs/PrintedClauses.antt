@@ -1,4 +1,4 @@
--- Printed components read back, with whatever is passed over in their entries.
+-- Printed components read back, with whatever is skipped in their entries.
 use Rattle.std.proofs.Common.{◌≡◌, ◌≢◌, ℕ, Bool, true, false, ◌&&◌, ◌||◌, List, [], ◌∷◌, ◌++◌, All, map, ℤ, Option, Some, None, refl, ap, ◌∙◌, arith}
 use Rattle.std.specs.Prelude.{codes, IfSome}
 use Rattle.std.specs.Option.{option_map}
@@ -48,7 +48,7 @@ no_stop u t h e = is_of (codes ";") u t e ∙ not_eq u.text (codes ";") h.stop
 no_plus : (u : Plain) (t : Lexeme) → IsInner u → plain t ≡ u → is (codes "+") t ≡ false
 no_plus u t h e = is_of (codes "+") u t e ∙ not_eq u.text (codes "+") h.plus
 
--- where such tokens are passed over
+-- where such tokens are skipped
 abbrev Passes : Due → Type 0
 Passes due = (parts : ComponentParts) (t : Lexeme) (l : Lexed) → component_part due parts t l ≡ goes_on parts l
 
@@ -80,7 +80,7 @@ inner_leads s y passes (u ∷ us) vs h next s' a =
     at_more bare_parts component_token s' s y (u ∷ []) (us ++ vs) (omega arith) (inner_back s s' passes a u (All-head IsInner u us h)) (λ s1 a1.
     inner_leads s y passes us vs (All-tail IsInner u us h) next s1 a1)
 
--- Clauses that are passed over.
+-- Clauses that are skipped.
 
 plus_back : (s s' : ComponentParts) → Alike s s' → BackAt (turn_bare bare_parts) (component_token s') (word_of (codes "+") ∷ [])
     (turn (record s { due = Keyword }) true)
@@ -102,7 +102,7 @@ no_placement u t h e =
     (is_of (codes "FIXED") u t e ∙ not_eq u.text (codes "FIXED") (h Fixed)) (is_of (codes "COVER") u t e ∙ not_eq u.text (codes "COVER") (h Cover))
     (is_of (codes "PLACED") u t e ∙ not_eq u.text (codes "PLACED") (h Placed)) (is_of (codes "UNPLACED") u t e ∙ not_eq u.text (codes "UNPLACED") (h Unplaced))
 
--- the first word of a clause that is passed over
+-- the first word of a clause that is skipped
 word_back : (s s' : ComponentParts) → s.due ≡ Keyword → Alike s s' → (u : Plain) → IsInner u → ((kind : PlacementKind) → u.text ≢ kind_word kind)
     → BackAt (turn_bare bare_parts) (component_token s') (u ∷ []) (turn (record s { due = Rest }) true)
 unfolding component_token component_from component_part clause
@@ -115,7 +115,7 @@ word_back s s' due a u h other =
     (at_no (turn_bare bare_parts) (is_placement_word t) _ _ [] y (no_placement u t other e)
     (back_pure (turn_bare bare_parts) y (turn (record s' { due = Rest }) true) (ap (λ (z : ComponentParts). turn (record z { due = Rest }) true) a))))))
 
--- what is known behind clauses that are passed over
+-- what is known after clauses that are skipped
 abbrev behind_clauses : ComponentParts → List (List Plain) → ComponentParts
 behind_clauses s [] = s
 behind_clauses s ([] ∷ cs) = behind_clauses (record s { due = Keyword }) cs
@@ -190,7 +190,7 @@ point_back print writes p h s a =
     turn (record s { placement = option_map (up_to_stop q.stop) s.placement; point = false }) true)
     behind (located_at p) y (located_back print writes p h) (λ q eq. ap (λ (z : ComponentParts). turn z true) (point_taken s q a)))))))
 
--- what is known behind the placement clause
+-- what is known after the placement clause
 abbrev behind_unplaced : Option Location → ComponentParts
 behind_unplaced None = placed_state Unplaced None
 behind_unplaced (Some p) = behind_point

@@ -115,7 +115,7 @@ end_back : (t : Lexeme) → plain t ≡ word_of (codes ";") → Back same (row_e
 unfolding row_end
 end_back t e = back_yes same (is (codes ";") t) _ _ [] tt (is_at (codes ";") (codes ";") t e) (back_pure same tt tt refl)
 
--- the words of a step behind the first of them
+-- the words of a step after the first of them
 step_back : (print : ℤ → List ℕ) → WritesNumbers print → (s : Option Point) → IfSome s (λ p. HasCoordinates p)
     → (k : Taken Lexeme → Result (Taken Sites) ReadFault) (y : Sites)
     → ((t : Lexeme) (ws : List (List ℕ)) → Back same (step t) ws s → Back same (λ l. k (left t l)) ws y) → Back same (λ l. token l >>= k) (step_words print s) y

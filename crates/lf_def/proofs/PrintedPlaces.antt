@@ -184,7 +184,7 @@ clause_turns print writes kind p h =
     turns_last bare_parts component_token s2 (parts_at (Some (placement_at kind p)) Separator (is_unplaced kind)) (codes ";" ∷ [])
     (stops s2 (parts_at (Some (placement_at kind p)) Separator (is_unplaced kind)) e2)))
 
--- what is known behind the clause of a component
+-- what is known after the clause of a component
 abbrev known_of : Option Placement → ComponentParts
 known_of None = no_component
 known_of (Some p) = parts_at (Some (placement_at p.kind p.place)) Separator (is_unplaced p.kind)

@@ -59,7 +59,7 @@ by_bytes : (s : DocParts) (t : Lexeme) (l : Lexed) (u : Plain) → plain t ≡ u
     → statement_from s t l ≡ statement_from s (record t { text = u.text; kind = u.kind }) l
 by_bytes s t l u e = ap (λ (p : Plain). statement_from s (record t { text = p.text; kind = p.kind }) l) e
 
--- Statements that are passed over.
+-- Statements that are skipped.
 
 abbrev ReadsBy : List ℕ → Reader (Unit {0}) → Type 0
 ReadsBy w r = (s : DocParts) (t : Lexeme) (l : Lexed) → plain t ≡ word_of w
@@ -261,7 +261,7 @@ more_alike cs s s' a =
     ∙ ap (λ (z : DocParts). record z { components = z.components ++ map without_places cs }) a
     ∙ ap (λ (z : List Component). record s { components = z }) (sym (map-append without_places s.components cs))
 
--- places play no part in what a part adds
+-- places are ignored in what a part adds
 with_alike : (p : Part) (s s' : DocParts) → bare_doc s' ≡ bare_doc s → bare_doc (with_part s' p) ≡ bare_doc (with_part s p)
 with_alike (passed_over p) s s' a = a
 with_alike (version_is v) s s' a = ap (λ (z : DocParts). with_part z (version_is v)) a

@@ -1,4 +1,4 @@
--- The components of a document stand in its text in their order, one behind the other.
+-- The components of a document stand in its text in their order, one after the other.
 use Rattle.std.proofs.Common.{◌≡◌, ℕ, zero, suc, ◌+◌, ◌-◌, ◌≤◌, ◌<◌, Bool, true, false, cond, List, [], ◌∷◌, ◌++◌, length, take, drop, Option, Some, None, Result, Err, refl, sym, ap, ◌∙◌, arith, min}
 use Rattle.std.specs.Prelude.{codes}
 use Rattle.std.proofs.lemmas.Slice.Eq.{bytes_eq-Decides}
@@ -27,7 +27,7 @@ use Rattle.lf_def.proofs.Local.{Local, local_of}
 use Rattle.lf_def.proofs.Clauses.{bind_ok, token_ok, components_stand}
 use Rattle.lf_def.proofs.Same.{said}
 
--- the place behind a run of tokens
+-- the place after a run of tokens
 behind_run : ℕ → List Lexeme → ℕ
 behind_run at [] = at
 behind_run at (t ∷ ts) = behind_run t.stop ts

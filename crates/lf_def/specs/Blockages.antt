@@ -1,4 +1,4 @@
--- DEF BLOCKAGES: - PLACEMENT {+ clause | RECT pt pt} ; and - LAYER, which is passed over.
+-- DEF BLOCKAGES: - PLACEMENT {+ clause | RECT pt pt} ; and - LAYER, which is skipped.
 use Rattle.std.specs.Prelude.{false, ◌||◌, List, [], ◌∷◌, ◌++◌, Option, Some, None, codes, if◌then◌else◌}
 use Rattle.lf_lex.specs.declared.fault.FaultNumber.TheVariants.{Unexpected}
 use Rattle.lf_lex.specs.Tokens.{Lexeme}
@@ -9,7 +9,7 @@ use Rattle.lf_def.specs.declared.blockages.Blockage.{Blockage}
 use Rattle.lf_def.specs.declared.blockages.BlockageParts.{BlockageParts}
 use Rattle.lf_def.specs.Coordinates.{rect}
 
--- one more rectangle, behind RECT
+-- one more rectangle, after RECT
 unfoldable pub with_rect : BlockageParts → Reader (Turn BlockageParts)
 with_rect parts l = do
   r ← rect l
@@ -19,13 +19,13 @@ with_rect parts l = do
 abbrev pub noted : BlockageParts → Lexeme → BlockageParts
 noted parts t = record parts { soft = parts.soft || is (codes "SOFT") t; partial = parts.partial || is (codes "PARTIAL") t; due = Rest }
 
--- A token of a blockage that is no separator: what follows a clause's word is passed over up to RECT.
+-- A token of a blockage that is no separator: what follows a clause's word is skipped up to RECT.
 unfoldable pub blockage_part : Due → BlockageParts → Lexeme → Reader (Turn BlockageParts)
 blockage_part Keyword parts t l = goes_on (noted parts t) l
 blockage_part Rest parts t l = if is (codes "RECT") t then with_rect parts l else goes_on parts l
 blockage_part _ parts t l = if is (codes "RECT") t then with_rect parts l else fault_at Unexpected t.line
 
--- a token of a blockage with what belongs to it: a semicolon is the last, and a plus begins a clause
+-- a token of a blockage and what it takes with it: a semicolon is the last, and a plus begins a clause
 unfoldable pub blockage_from : BlockageParts → Lexeme → Reader (Turn BlockageParts)
 blockage_from parts t l =
     if is (codes ";") t then ends parts l
@@ -43,7 +43,7 @@ no_blockage = record { soft = false; partial = false; rects = []; due = Item }
 abbrev pub blockage_of : BlockageParts → Blockage
 blockage_of parts = record { soft = parts.soft; partial = parts.partial; rects = parts.rects }
 
--- a blockage behind its minus, or none where it blocks a layer
+-- a blockage after its minus, or none if it blocks a layer
 unfoldable pub blockage : Reader (Option Blockage)
 blockage l = do
   t ← token l
@@ -63,7 +63,7 @@ blockage_or_end known l = do
       else if is (codes "END") t.value then (end_name (codes "BLOCKAGES") t.rest >>= λ stop. ends known stop.rest)
       else fault_at Unexpected t.value.line
 
--- BLOCKAGES count ; entries END BLOCKAGES, behind its keyword
+-- BLOCKAGES count ; entries END BLOCKAGES, after its keyword
 unfoldable pub blockages : List Blockage → Reader (List Blockage)
 blockages known l = do
   start ← to_semicolon l

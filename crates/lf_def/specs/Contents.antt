@@ -1,4 +1,4 @@
--- What a document holds besides its text.
+-- What a document contains besides its text.
 use Rattle.lf_def.specs.declared.document.DefDoc.{DefDoc}
 use Rattle.lf_def.specs.Document.{Document}
 

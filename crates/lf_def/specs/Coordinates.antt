@@ -34,7 +34,7 @@ count most l = do
   n ← up_to most x t.value.line
   taken n t.rest
 
--- x y ) behind the first parenthesis
+-- x y ) after the first parenthesis
 unfoldable pub point_rest : Reader Point
 point_rest l = do
   x ← dbu l
@@ -52,7 +52,7 @@ point l = do
 abbrev pub rect_between : Point → Point → Rect
 rect_between p q = record { x1 = int_min p.x q.x; y1 = int_min p.y q.y; x2 = int_max p.x q.x; y2 = int_max p.y q.y }
 
--- x y ) ( x y ) behind the first parenthesis: any two opposite corners
+-- x y ) ( x y ) after the first parenthesis: any two opposite corners
 unfoldable pub rect_rest : Reader Rect
 rect_rest l = do
   p ← point_rest l

@@ -31,21 +31,22 @@ pub record Document : Type 0 where
   pub components : List Component
   pub blockages : List Blockage
 
--- sections that are passed over to END and their keyword (DEF PROPERTYDEFINITIONS, VIAS, STYLES, NONDEFAULTRULES, PINS, PINPROPERTIES, SLOTS, FILLS,
--- SPECIALNETS, NETS, SCANCHAINS)
+-- sections that are skipped to END and their keyword (DEF PROPERTYDEFINITIONS, VIAS, STYLES, NONDEFAULTRULES, PINS,
+-- PINPROPERTIES, SLOTS, FILLS, SPECIALNETS, NETS, SCANCHAINS)
 abbrev pub is_passed_section : Lexeme → Bool
 is_passed_section t =
     is (codes "PROPERTYDEFINITIONS") t || is (codes "VIAS") t || is (codes "STYLES") t || is (codes "NONDEFAULTRULES") t || is (codes "PINS") t || is
     (codes "PINPROPERTIES") t
     || is (codes "SLOTS") t || is (codes "FILLS") t || is (codes "SPECIALNETS") t || is (codes "NETS") t || is (codes "SCANCHAINS") t
 
--- statements that are passed over to their semicolon (DEF TRACKS, GCELLGRID, HISTORY, TECHNOLOGY, DIEAREA, COMPONENTMASKSHIFT, NAMESCASESENSITIVE)
+-- statements that are skipped to their semicolon (DEF TRACKS, GCELLGRID, HISTORY, TECHNOLOGY, DIEAREA, COMPONENTMASKSHIFT,
+-- NAMESCASESENSITIVE)
 abbrev pub is_passed_statement : Lexeme → Bool
 is_passed_statement t =
     is (codes "TRACKS") t || is (codes "GCELLGRID") t || is (codes "HISTORY") t || is (codes "TECHNOLOGY") t || is (codes "DIEAREA") t || is
     (codes "COMPONENTMASKSHIFT") t || is (codes "NAMESCASESENSITIVE") t
 
--- a statement that says nothing of placement, of which the first token was read; any other word begins no statement
+-- a statement that is skipped, after its first token; any other word begins no statement
 unfoldable pub passed_from : Lexeme → Reader (Unit {0})
 passed_from t l =
     if is_passed_section t then to_end t.text l
@@ -54,7 +55,7 @@ passed_from t l =
     else if kind_is_word t.kind then fault_at UnknownStatement t.line
     else fault_at Unexpected t.line
 
--- DESIGN behind an END (DEF END DESIGN): a DESIGN statement has to stand before it
+-- DESIGN after an END (DEF END DESIGN): a DESIGN statement must precede it
 unfoldable pub end_design : DocParts → Reader (Unit {0})
 end_design parts l = do
   t ← token l
@@ -63,7 +64,7 @@ end_design parts l = do
       else if is_some parts.header.design then taken tt t.rest
       else fault_at Unexpected t.value.line
 
--- a row or a section, of which the keyword was read, or a statement that is passed over
+-- a row or a section, after its keyword, or a statement that is skipped
 unfoldable pub body_statement : DocParts → Lexeme → Reader DocParts
 body_statement parts t l =
     if is (codes "ROW") t then (with_row parts.rows l >>= λ s. taken (record parts { rows = s.value }) s.rest)
@@ -73,7 +74,7 @@ body_statement parts t l =
     else if is (codes "BLOCKAGES") t then (blockages parts.blockages l >>= λ s. taken (record parts { blockages = s.value }) s.rest)
     else (passed_from t l >>= λ stop. taken parts stop.rest)
 
--- a statement of the text, of which the first token was read
+-- a statement of the text, after its first token
 unfoldable pub statement_from : DocParts → Lexeme → Reader (Turn DocParts)
 statement_from parts t l =
     if is (codes "END") t then (end_design parts l >>= λ stop. ends parts stop.rest)
@@ -114,6 +115,6 @@ abbrev pub IsReadFrom : List ℕ → Header → List Row → List Region → Lis
 IsReadFrom text header rows regions groups components blockages =
     document_of text ≡ Ok (record { header = header; rows = rows; regions = regions; groups = groups; components = components; blockages = blockages })
 
--- a refusal of the text: its fault with its line, or want of memory
+-- the fault of a reader: that of the text with its line, or a failed allocation
 abbrev pub Refuses : LoadFault → Result Document ReadFault → Type 0
 Refuses fault reading = (fault ≡ load_fault_of Memory) ⊎ ((first : ReadFault) × (reading ≡ Err first) × (fault ≡ load_fault_of (Fault first)))

@@ -13,13 +13,14 @@ entry_or_end keyword entry entries l = do
       else if is (codes "END") t.value then (end_name keyword t.rest >>= λ stop. ends entries stop.rest)
       else fault_at Unexpected t.value.line
 
--- count ; entries, END and the keyword, behind that keyword. Its entries follow those of earlier sections, and the count plays no part.
+-- count ; entries, END and the keyword, after that keyword. Its entries follow those of earlier sections, and the count is
+-- ignored.
 unfoldable pub section : {A : Type 0} → List ℕ → Reader A → List A → Reader (List A)
 section keyword entry entries l = do
   start ← to_semicolon l
   block (entry_or_end keyword entry) entries start.rest
 
--- the bytes of a name or a pattern, where the token is a word other than a semicolon of at most 1,024 bytes
+-- the bytes of a name or a pattern, if the token is a word other than a semicolon of at most 1,024 bytes
 abbrev pub name_of : Lexeme → Result (List ℕ) ReadFault
 name_of t =
     if not (is_word t) then fault_at Unexpected t.line

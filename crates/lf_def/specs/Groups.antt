@@ -15,21 +15,21 @@ with_pattern parts t l = do
   pattern ← name_of t
   goes_on (record parts { patterns = parts.patterns ++ pattern ∷ [] }) l
 
--- REGION name behind its word: the first stands; a parenthesis is no name
+-- REGION name after its word: the first counts; a parenthesis is no name
 unfoldable pub with_region : GroupParts → Reader (Turn GroupParts)
 with_region parts l = do
   n ← name l
   if is (codes "(") n.value then fault_at Unexpected n.value.line
       else goes_on (record parts { region = first_stands parts.region n.value.text; due = Separator }) n.rest
 
--- a token of a group that is no separator: patterns come first, REGION is read, and other clauses are passed over
+-- a token of a group that is no separator: patterns come first, REGION is read, and other clauses are skipped
 unfoldable pub group_part : Due → GroupParts → Lexeme → Reader (Turn GroupParts)
 group_part Item parts t l = with_pattern parts t l
 group_part Keyword parts t l = if is (codes "REGION") t then with_region parts l else goes_on (record parts { due = Rest }) l
 group_part Rest parts t l = goes_on parts l
 group_part Separator parts t l = fault_at Unexpected t.line
 
--- a token of a group with what belongs to it: a semicolon is the last, and a plus begins a clause
+-- a token of a group and what it takes with it: a semicolon is the last, and a plus begins a clause
 unfoldable pub group_from : GroupParts → Lexeme → Reader (Turn GroupParts)
 group_from parts t l =
     if is (codes ";") t then ends parts l
@@ -44,13 +44,13 @@ group_token parts l = do
 abbrev pub no_group : GroupParts
 no_group = record { patterns = []; region = None; due = Item }
 
--- a group behind its minus
+-- a group after its minus
 unfoldable pub group : Reader Group
 group l = do
   n ← name l
   parts ← block group_token no_group n.rest
   taken (record { name = n.value.text; patterns = parts.value.patterns; region = parts.value.region }) parts.rest
 
--- GROUPS count ; entries END GROUPS, behind its keyword
+-- GROUPS count ; entries END GROUPS, after its keyword
 abbrev pub groups : List Group → Reader (List Group)
 groups known l = section (codes "GROUPS") group known l

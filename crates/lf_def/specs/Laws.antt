@@ -1,4 +1,4 @@
--- What is true of reading DEF, whatever is read.
+-- Laws on reading DEF, whatever is read.
 use Rattle.std.specs.Prelude.{◌≡◌, ◌⊎◌, codes, true, ℕ, ◌+◌, ◌≤◌, ◌<◌, List, [], ◌∷◌, ◌++◌, map, length, take, Option, Some, None, Ok}
 use Rattle.std.specs.Option.{option_map}
 use Rattle.lf_lex.specs.Tokens.{Lexed, Lexeme, plain, tokens_of, with_tokens}
@@ -11,7 +11,7 @@ use Rattle.lf_def.specs.Coordinates.{orient_of}
 use Rattle.lf_def.specs.Components.{component, is_placement_word}
 use Rattle.lf_def.specs.Document.{Document, document_of, statement, no_parts}
 
--- Where things stand in the text is left out.
+-- Values without their offsets.
 
 abbrev pub placement_without_places : Placement → Placement
 placement_without_places p = record { kind = p.kind; place = p.place; start = 0; stop = 0 }
@@ -22,35 +22,36 @@ without_places c = record { name = c.name; mac = c.mac; placement = option_map p
 abbrev pub document_without_places : Document → Document
 document_without_places d = record d { components = map without_places d.components }
 
--- A component takes some of the tokens, and from tokens with the same texts the same component is read, places apart.
+-- A component takes some of the tokens, and from tokens with the same texts the same component is read, but for its offsets.
 abbrev pub ComponentReadsAlike : Type 0
 ComponentReadsAlike = (l m : Lexed) (c : Component) → component l ≡ taken c m
     → (run : List Lexeme) × (l ≡ with_tokens run m)
     × ((same : List Lexeme) → map plain same ≡ map plain run → (behind : Lexed) → (again : Component) × (component (with_tokens same behind) ≡ taken again behind) × (without_places again ≡ without_places c))
 
--- Texts whose tokens have the same bytes say the same, places apart.
+-- Texts whose tokens have the same bytes say the same, but for offsets.
 abbrev pub SaysTheSame : List ℕ → List ℕ → Type 0
 SaysTheSame a b = map plain (tokens_of a).tokens ≡ map plain (tokens_of b).tokens → (d : Document) → document_of a ≡ Ok d
     → (again : Document) × (document_of b ≡ Ok again) × (document_without_places again ≡ document_without_places d)
 
--- Where the statements of a text leave tokens unread, any bytes may stand from the first of these on.
+-- If the statements of a text leave tokens unread, any bytes may replace those from the first of these on.
 abbrev pub EndsBefore : List ℕ → Type 0
 EndsBefore text = (read : List Lexeme) (t : Lexeme) (unread : List Lexeme) (parts : DocParts) → (tokens_of text).tokens ≡ read ++ t ∷ unread
     → block statement no_parts (tokens_of text) ≡ taken parts (behind (t ∷ unread) (tokens_of text)) → (bytes : List ℕ) → document_of (take t.start text ++ bytes) ≡ document_of text
 
--- Where placement clauses stand.
+-- The offsets of placement clauses.
 
 -- ( x y ) orient
 abbrev pub IsPlace : List Lexeme → Type 0
 IsPlace (start ∷ x ∷ y ∷ stop ∷ o ∷ []) = (is (codes "(") start ≡ true) × (is (codes ")") stop ≡ true) × ((orient : Orient) × (orient_of o ≡ Ok orient))
 IsPlace _ = ⊥
 
--- the last of these tokens ends there
+-- the last of these tokens ends at this offset
 abbrev pub LastEnds : ℕ → Lexeme → List Lexeme → Type 0
 LastEnds stop t [] = t.stop ≡ stop
 LastEnds stop t (u ∷ us) = LastEnds stop u us
 
--- The tokens of a placement clause: its plus, its word, and a place, which UNPLACED may lack. The clause runs from the first byte of its plus to the last byte of its last token.
+-- The tokens of a placement clause: its plus, its word, and a place, which UNPLACED may lack. The clause extends from the first
+-- byte of its plus to the last byte of its last token.
 pub record IsClause (p : Placement) (clause : List Lexeme) : Type 0 where
   pub plus : Lexeme
   pub word : Lexeme
@@ -62,7 +63,7 @@ pub record IsClause (p : Placement) (clause : List Lexeme) : Type 0 where
   pub start : p.start ≡ plus.start
   pub stop : LastEnds p.stop word more
 
--- the clause stands among these tokens
+-- the clause is among these tokens
 pub record ClauseAmong (tokens : List Lexeme) (p : Placement) : Type 0 where
   pub before : List Lexeme
   pub clause : List Lexeme
@@ -70,12 +71,12 @@ pub record ClauseAmong (tokens : List Lexeme) (p : Placement) : Type 0 where
   pub whole : tokens ≡ before ++ (clause ++ after)
   pub is : IsClause p clause
 
--- so does the clause of a component that has one
+-- the same for the clause of a component, if it has one
 abbrev pub HasClause : List Lexeme → Option Placement → Type 0
 HasClause tokens None = Unit {0}
 HasClause tokens (Some p) = ClauseAmong tokens p
 
--- A component's tokens: its placement clause stands among them, and its semicolon is the last.
+-- A component's tokens: its placement clause is among them, and its semicolon is the last.
 pub record IsComponentOf (tokens : List Lexeme) (c : Component) : Type 0 where
   pub front : List Lexeme
   pub last : Lexeme
@@ -87,16 +88,16 @@ pub record IsComponentOf (tokens : List Lexeme) (c : Component) : Type 0 where
 abbrev pub ComponentsStand : Type 0
 ComponentsStand = (l m : Lexed) (c : Component) → component l ≡ taken c m → (run : List Lexeme) × (l ≡ with_tokens run m) × IsComponentOf run c
 
--- a placement clause from one place on and up to another
+-- a placement clause within these offsets
 abbrev pub ClauseWithin : ℕ → ℕ → Option Placement → Type 0
 ClauseWithin from to None = Unit {0}
 ClauseWithin from to (Some p) = (from ≤ p.start) × (p.start < p.stop) × (p.stop ≤ to)
 
--- components one behind the other, from one place on and up to another, each with its clause before its semicolon
+-- components one after the other, within these offsets, each with its clause before its semicolon
 abbrev pub Rising : ℕ → ℕ → List Component → Type 0
 Rising from to [] = from ≤ to
 Rising from to (c ∷ cs) = (from ≤ c.semicolon) × ClauseWithin from c.semicolon c.placement × Rising (c.semicolon + 1) to cs
 
--- The components of a document stand in its text in their order.
+-- The components of a document are in its text in their order.
 abbrev pub ComponentsRise : List ℕ → Type 0
 ComponentsRise text = (d : Document) → document_of text ≡ Ok d → Rising 0 (length text) d.components

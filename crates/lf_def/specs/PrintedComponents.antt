@@ -1,4 +1,4 @@
--- Printed components with whatever their entries may hold besides a placement clause (DEF COMPONENTS).
+-- Printed components with all that their entries may hold besides a placement clause (DEF COMPONENTS).
 use Rattle.std.specs.Prelude.{◌≡◌, ◌≢◌, ℕ, List, [], ◌∷◌, ◌++◌, All, IfSome, map, ℤ, Option, Some, None, codes}
 use Rattle.lf_lex.specs.Tokens.{Lexed, Lexeme, Plain, plain, with_tokens}
 use Rattle.lf_lex.specs.Reading.{Reader, taken}
@@ -19,20 +19,20 @@ pub record PrintedComponent : Type 0 where
   pub component : Component
   -- words and quoted texts before the first clause
   pub items : List Plain
-  -- clauses that are passed over, each behind its plus: those before the placement clause, and those behind it
+  -- clauses that are skipped, each after its plus: those before the placement clause, and those after it
   pub before : List (List Plain)
   pub after : List (List Plain)
-  -- the point and the orientation behind UNPLACED, where they are printed
+  -- the point and the orientation after UNPLACED, if they are printed
   pub point : Option Location
 
--- What is passed over.
+-- What is skipped.
 
 -- a word or a quoted text that neither ends the entry nor begins a clause
 pub record IsInner (t : Plain) : Type 0 where
   pub stop : t.text ≢ codes ";"
   pub plus : t.text ≢ codes "+"
 
--- a clause behind its plus whose first word names no placement; a plus alone is one too
+-- a clause after its plus whose first word names no placement; a plus alone is one too
 abbrev pub IsOtherClause : List Plain → Type 0
 IsOtherClause [] = Unit {0}
 IsOtherClause (t ∷ ts) = ((kind : PlacementKind) → t.text ≢ kind_word kind) × All IsInner (t ∷ ts)
@@ -51,7 +51,7 @@ abbrev pub clauses_tokens : List (List Plain) → List Plain → List Plain
 clauses_tokens [] rest = rest
 clauses_tokens (c ∷ cs) rest = word_of (codes "+") ∷ (c ++ clauses_tokens cs rest)
 
--- the place in a placement clause: that of the component, or the point that stands behind UNPLACED and is not heeded
+-- the place in a placement clause: that of the component, or the point after UNPLACED, which is ignored
 abbrev pub printed_place : PlacementKind → Option Location → Option Location → Option Location
 printed_place Unplaced place point = point
 printed_place Fixed place point = place
@@ -75,7 +75,7 @@ entry_tokens print p =
     word_of p.component.name ∷ word_of p.component.mac ∷ (p.items ++ clauses_tokens p.before
     (placement_tokens print p.component.placement p.point (clauses_tokens p.after (word_of (codes ";") ∷ []))))
 
--- each entry behind its minus, and then the rest
+-- each entry after its minus, and then the rest
 abbrev pub entries_tokens : {A : Type 0} → (A → List Plain) → List A → List Plain → List Plain
 entries_tokens tokens [] rest = rest
 entries_tokens tokens (x ∷ xs) rest = word_of (codes "-") ∷ (tokens x ++ entries_tokens tokens xs rest)
@@ -88,12 +88,12 @@ components_tokens print count ps =
 abbrev pub component_of : PrintedComponent → Component
 component_of p = p.component
 
--- From these tokens the component is read, but for where it stands, whatever stands behind them.
+-- These tokens read as the component, but for its offsets, whatever follows them.
 abbrev pub EntryReadsBack : List Plain → Component → Type 0
 EntryReadsBack printed c = (tokens : List Lexeme) → map plain tokens ≡ printed → (behind : Lexed)
     → (read : Component) × (component (with_tokens tokens behind) ≡ taken read behind) × (without_places read ≡ without_places c)
 
--- the same for components in a row
+-- the same for a list of components
 abbrev pub EntriesReadBack : Reader (List Component) → List Plain → List Component → Type 0
 EntriesReadBack reader printed cs = (tokens : List Lexeme) → map plain tokens ≡ printed → (behind : Lexed)
     → (read : List Component) × (reader (with_tokens tokens behind) ≡ taken read behind) × (map without_places read ≡ map without_places cs)

@@ -1,4 +1,4 @@
--- Whole DEF texts as they are printed: statements and sections in any order, and END DESIGN.
+-- Printed DEF texts: statements and sections in any order, and END DESIGN.
 use Rattle.std.specs.Prelude.{◌≡◌, ◌≢◌, ℕ, List, [], ◌∷◌, ◌++◌, All, Contains, IsSome, map, ℤ, pos, Some, Ok, codes}
 use Rattle.lf_lex.specs.declared.tokens.TokenKind.TheVariants.{Quoted}
 use Rattle.lf_lex.specs.Tokens.{Plain, plain, tokens_of}
@@ -19,20 +19,20 @@ use Rattle.lf_def.specs.Printed.{IsWord, row_words, IsPrintedRow, region_words, 
 use Rattle.lf_def.specs.Printed.{IsPrintedComponent, blockage_words, IsPrintedBlockage, section_words}
 use Rattle.lf_def.specs.PrintedComponents.{PrintedComponent, IsPrintedEntry, components_tokens, component_of}
 
--- Statements that are passed over.
+-- Statements that are skipped.
 
--- the keywords of statements that are passed over to their semicolon
+-- the keywords of statements that are skipped to their semicolon
 abbrev pub statement_keywords : List (List ℕ)
 statement_keywords = codes "TRACKS" ∷ codes "GCELLGRID" ∷ codes "HISTORY" ∷ codes "TECHNOLOGY" ∷ codes "DIEAREA" ∷ codes "COMPONENTMASKSHIFT" ∷ codes
     "NAMESCASESENSITIVE" ∷ []
 
--- the keywords of sections that are passed over to END and their keyword
+-- the keywords of sections that are skipped to END and their keyword
 abbrev pub section_keywords : List (List ℕ)
 section_keywords =
     codes "PROPERTYDEFINITIONS" ∷ codes "VIAS" ∷ codes "STYLES" ∷ codes "NONDEFAULTRULES" ∷ codes "PINS" ∷ codes "PINPROPERTIES" ∷ codes "SLOTS" ∷ codes
     "FILLS" ∷ codes "SPECIALNETS" ∷ codes "NETS" ∷ codes "SCANCHAINS" ∷ []
 
--- a statement that says nothing of placement: its keyword, and the words and quoted texts up to its end
+-- a statement that is skipped: its keyword, and the words and quoted texts up to its end
 pub data Passed : Type 0 where
   -- keyword .. ;
   to_its_semicolon : List ℕ → List Plain → Passed
@@ -54,7 +54,7 @@ IsPassed (extension between) = HaveNowhere (codes "ENDEXT" ∷ []) between
 
 -- Parts of a text.
 
--- a statement or a section of a text; each section bears a count, which plays no part
+-- a statement or a section of a text; each section has a count, which is ignored
 pub data Part : Type 0 where
   passed_over : Passed → Part
   version_is : List ℕ → Part
@@ -91,7 +91,7 @@ part_tokens print (components_section count cs) = map word_of (codes "COMPONENTS
 part_tokens print (components_with_others count ps) = word_of (codes "COMPONENTS") ∷ components_tokens print count ps
 part_tokens print (blockages_section count bs) = map word_of (codes "BLOCKAGES" ∷ section_words (codes "BLOCKAGES") count (blockage_words print) bs)
 
--- the parts one behind the other, and END DESIGN
+-- the parts one after the other, and END DESIGN
 abbrev pub text_tokens : (ℤ → List ℕ) → List Part → List Plain
 text_tokens print [] = map word_of (codes "END" ∷ codes "DESIGN" ∷ [])
 text_tokens print (p ∷ ps) = part_tokens print p ++ text_tokens print ps
@@ -111,7 +111,7 @@ IsPrintedPart (components_section count cs) = (count ≢ codes ";") × All IsPri
 IsPrintedPart (components_with_others count ps) = (count ≢ codes ";") × All IsPrintedEntry ps
 IsPrintedPart (blockages_section count bs) = (count ≢ codes ";") × All IsPrintedBlockage bs
 
--- what a part adds: of each statement of the header the first stands, and each list grows at its end
+-- what a part adds: of each statement of the header the first counts, and lists are appended
 abbrev pub with_part : DocParts → Part → DocParts
 with_part d (passed_over p) = d
 with_part d (version_is v) = record d { header = record d.header { version = first_stands d.header.version v } }
@@ -147,11 +147,11 @@ printed_document parts = document_with (with_parts no_parts parts)
 
 -- Reading them back.
 
--- the first tokens of the text are these, with any white space and comments between them and anything behind
+-- the first tokens of the text are these, with any white space and comments between them and anything after
 abbrev pub BeginsWith : List ℕ → List Plain → Type 0
 BeginsWith text tokens = (rest : List Plain) × (map plain (tokens_of text).tokens ≡ tokens ++ rest)
 
--- the text says this, but for where its components stand
+-- the text says this, but for the offsets of its components
 abbrev pub SaysPlacesApart : List ℕ → Document → Type 0
 SaysPlacesApart text d = (read : List Component) × (document_of text ≡ Ok (record d { components = read }))
     × (map without_places read ≡ map without_places d.components)
@@ -165,16 +165,16 @@ PartsReadBack print parts = All IsPrintedPart parts → IsSome (with_parts no_pa
 abbrev pub design_named : List ℕ → Document
 design_named n = record { header = header_of (record no_header { design = Some n }); rows = []; regions = []; groups = []; components = []; blockages = [] }
 
--- DESIGN, with statements that are passed over before and behind it, and then these parts
+-- DESIGN, with skipped statements before and after it, and then these parts
 abbrev pub behind_passed : List Passed → List ℕ → List Passed → List Part → List Part
 behind_passed before n between parts = map passed_over before ++ design_is n ∷ (map passed_over between ++ parts)
 
--- Behind any statements that are passed over, and with anything behind END DESIGN, these parts say this of the design.
+-- After any skipped statements, and with anything after END DESIGN, these parts say this of the design.
 abbrev pub ReadsBackInTexts : (ℤ → List ℕ) → List Part → (Document → Document) → Type 0
 ReadsBackInTexts print parts said = (before between : List Passed) (n : List ℕ) → All IsPassed before → All IsPassed between → IsWord n
     → (text : List ℕ) → BeginsWith text (text_tokens print (behind_passed before n between parts)) → document_of text ≡ Ok (said (design_named n))
 
--- the same for components, but for where they stand
+-- the same for components, but for their offsets
 abbrev pub ComponentsReadBackInTexts : (ℤ → List ℕ) → List ℕ → List Component → Type 0
 ComponentsReadBackInTexts print count cs = (before between : List Passed) (n : List ℕ) → All IsPassed before → All IsPassed between → IsWord n
     → (text : List ℕ) → BeginsWith text (text_tokens print (behind_passed before n between (components_section count cs ∷ [])))

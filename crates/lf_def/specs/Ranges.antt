@@ -14,7 +14,7 @@ use Rattle.lf_def.specs.declared.components.Placement.{Placement}
 use Rattle.lf_def.specs.declared.blockages.Blockage.{Blockage}
 use Rattle.lf_def.specs.declared.parts.DocParts.{DocParts}
 
--- a coordinate lies between -2147483647 and 2147483647
+-- a coordinate is from -2147483647 to 2147483647
 pub record IsCoordinate (x : ℤ) : Type 0 where
   pub low : negsuc 2147483646 ≤ℤ x
   pub high : x ≤ℤ pos 2147483647
@@ -32,12 +32,12 @@ pub record IsRect (r : Rect) : Type 0 where
   pub across : r.x1 ≤ℤ r.x2
   pub up : r.y1 ≤ℤ r.y2
 
--- a count lies from 1 to the largest one
+-- a count is from 1 to the largest one
 pub record IsCount (most n : ℕ) : Type 0 where
   pub some : 1 ≤ n
   pub few : n ≤ most
 
--- names, a divider and brackets are words or quoted texts as they stand; UNITS is from 1 to 20000
+-- the design's name is one of a text; UNITS, if given, is from 1 to 20000
 pub record IsHeader (h : Header) : Type 0 where
   pub design : IsName h.design
   pub units : IfSome h.units (λ n. IsCount 20000 n)
@@ -76,12 +76,12 @@ pub record IsComponent (c : Component) : Type 0 where
 pub record IsBlockage (b : Blockage) : Type 0 where
   pub rects : All IsRect b.rects
 
--- what is known of a group so far
+-- what was read of a group so far
 pub record AreGroupParts (g : GroupParts) : Type 0 where
   pub patterns : All IsName g.patterns
   pub region : IfSome g.region (λ n. IsName n)
 
--- what is known of a text so far
+-- what was read of a text so far
 pub record AreParts (p : DocParts) : Type 0 where
   pub design : IfSome p.header.design (λ n. IsName n)
   pub units : IfSome p.header.units (λ n. IsCount 20000 n)

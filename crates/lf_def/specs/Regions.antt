@@ -24,21 +24,21 @@ with_rect parts l = do
   r ← rect_rest l
   goes_on (record parts { rects = parts.rects ++ r.value ∷ [] }) r.rest
 
--- TYPE FENCE or TYPE GUIDE behind its word: the first stands
+-- TYPE FENCE or TYPE GUIDE after its word: the first counts
 unfoldable pub with_kind : RegionParts → Reader (Turn RegionParts)
 with_kind parts l = do
   t ← token l
   kind ← kind_of t.value
   goes_on (record parts { kind = first_stands parts.kind kind; due = Separator }) t.rest
 
--- a token of a region that is no separator: rectangles come first, TYPE is read, and other clauses are passed over
+-- a token of a region that is no separator: rectangles come first, TYPE is read, and other clauses are skipped
 unfoldable pub region_part : Due → RegionParts → Lexeme → Reader (Turn RegionParts)
 region_part Item parts t l = if is (codes "(") t then with_rect parts l else fault_at Unexpected t.line
 region_part Keyword parts t l = if is (codes "TYPE") t then with_kind parts l else goes_on (record parts { due = Rest }) l
 region_part Rest parts t l = goes_on parts l
 region_part Separator parts t l = fault_at Unexpected t.line
 
--- a token of a region with what belongs to it: a semicolon is the last, and a plus begins a clause
+-- a token of a region and what it takes with it: a semicolon is the last, and a plus begins a clause
 unfoldable pub region_from : RegionParts → Lexeme → Reader (Turn RegionParts)
 region_from parts t l =
     if is (codes ";") t then ends parts l
@@ -53,7 +53,7 @@ region_token parts l = do
 abbrev pub first_rect : Rect → RegionParts
 first_rect r = record { kind = None; rects = r ∷ []; due = Item }
 
--- a region behind its minus
+-- a region after its minus
 unfoldable pub region : Reader Region
 region l = do
   n ← name l
@@ -61,6 +61,6 @@ region l = do
   parts ← block region_token (first_rect r.value) r.rest
   taken (record { name = n.value.text; kind = parts.value.kind; rects = parts.value.rects }) parts.rest
 
--- REGIONS count ; entries END REGIONS, behind its keyword
+-- REGIONS count ; entries END REGIONS, after its keyword
 abbrev pub regions : List Region → Reader (List Region)
 regions known l = section (codes "REGIONS") region known l

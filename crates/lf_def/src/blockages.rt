@@ -18,15 +18,15 @@ use std::alloc::Global;
 /// A placement blockage (LEF/DEF 5.8, DEF BLOCKAGES), in database units.
 #[derive(Drop)]
 pub struct Blockage {
-    /// It has a SOFT clause.
+    /// Whether it has a SOFT clause.
     pub soft: bool,
-    /// It has a PARTIAL clause.
+    /// Whether it has a PARTIAL clause.
     pub partial: bool,
     /// Its rectangles in the order of the text, each with its lower left corner before its upper right one.
     pub rects: Sequence<Rect>,
 }
 
-/// What is known of a blockage so far.
+/// What was read of a blockage so far.
 #[derive(Drop)]
 pub struct BlockageParts {
     pub soft: bool,
@@ -35,7 +35,7 @@ pub struct BlockageParts {
     pub due: Due,
 }
 
-/// One more rectangle, behind RECT.
+/// One more rectangle, after RECT.
 #[tactic(auto, unfolding(crate::specs::Blockages::with_rect))]
 fn with_rect(lexer: &mut Lexer, parts: &mut BlockageParts) -> Result<bool, ReadError>
     requires rects { All IsRect parts.old.rects }
@@ -48,7 +48,7 @@ fn with_rect(lexer: &mut Lexer, parts: &mut BlockageParts) -> Result<bool, ReadE
     Ok(true)
 }
 
-/// Notes the word of a clause.
+/// Notes the word of a clause: SOFT and PARTIAL.
 fn note(parts: &mut BlockageParts, word: &Token)
     requires rects { All IsRect parts.old.rects }
     ensures parts { parts.new ≡ grammar.noted parts.old (lexeme word.now) }
@@ -59,7 +59,7 @@ fn note(parts: &mut BlockageParts, word: &Token)
     parts.due = Due::Rest;
 }
 
-/// A token of a blockage that is no separator, with what belongs to it; whether more follow.
+/// A token of a blockage that is no separator, and what it takes with it; returns whether more follow.
 #[tactic(auto, unfolding(crate::specs::Blockages::blockage_part))]
 fn blockage_part(
     lexer: &mut Lexer,
@@ -92,7 +92,7 @@ fn blockage_part(
     }
 }
 
-/// A token of a blockage, with what belongs to it; whether more follow.
+/// A token of a blockage, and what it takes with it; returns whether more follow.
 #[tactic(auto, unfolding(crate::specs::Blockages::blockage_from))]
 fn blockage_from(
     lexer: &mut Lexer,
@@ -113,7 +113,7 @@ fn blockage_from(
     }
 }
 
-/// The tokens of a placement blockage behind PLACEMENT, up to its `;`.
+/// The tokens of a placement blockage after PLACEMENT, up to its `;`.
 #[derive(Drop)]
 struct BlockageTokens;
 
@@ -131,7 +131,7 @@ impl Block for BlockageTokens {
     }
 }
 
-/// What is known of a placement blockage behind PLACEMENT.
+/// The state of a placement blockage after PLACEMENT.
 fn no_blockage(alloc: Global) -> BlockageParts
     ensures parts { result ≡ grammar.no_blockage }
     ensures rects { All IsRect result.rects }
@@ -144,7 +144,7 @@ fn no_blockage(alloc: Global) -> BlockageParts
     }
 }
 
-/// A blockage behind its minus; none where it blocks a layer.
+/// A blockage after its minus; none if it blocks a layer.
 #[tactic(auto, unfolding(crate::specs::Blockages::blockage))]
 fn read_blockage(alloc: Global, lexer: &mut Lexer) -> Result<Option<Blockage>, ReadError>
     ensures read { Reads (λ b. b) result grammar.blockage lexer.old lexer.new }
@@ -201,7 +201,7 @@ impl Block for BlockageEntries {
     }
 }
 
-/// A BLOCKAGES section behind its keyword: its blockages go behind the others.
+/// A BLOCKAGES section after its keyword: its blockages are appended.
 #[tactic(auto, unfolding(crate::specs::Blockages::blockages))]
 pub(crate) fn blockages(
     alloc: Global,

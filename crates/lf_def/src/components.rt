@@ -1,4 +1,4 @@
-//! Components, and where their placement clauses stand in the text.
+//! Components, with the offsets of their placement clauses.
 
 ghost use Rattle.std.specs.Prelude.{◌≡◌, All, IfOk, IfSome, codes};
 ghost use Rattle.lf_lex.specs.Tokens.{lexeme};
@@ -34,19 +34,19 @@ pub struct Location {
     pub orient: Orient,
 }
 
-/// A placement clause, and where it stands.
+/// A placement clause and its offsets.
 #[derive(Clone, Copy, Debug, PartialEq, Eq)]
 pub struct Placement {
     pub kind: PlacementKind,
-    /// Where the component stands; none for UNPLACED, whose point is not heeded.
+    /// The component's place; none for UNPLACED, whose point is ignored.
     pub place: Option<Location>,
     /// The offset of its `+` in the text.
     pub start: usize,
-    /// The offset behind its last token: the orientation, or UNPLACED where no point stands behind it.
+    /// The offset after its last token: the orientation, or UNPLACED if no point follows.
     pub stop: usize,
 }
 
-/// A component (LEF/DEF 5.8, DEF COMPONENTS), whose names its text lends.
+/// A component (LEF/DEF 5.8, DEF COMPONENTS), whose names are borrowed from its text.
 #[derive(Drop)]
 pub struct Component<'a> {
     pub name: TextName<'a>,
@@ -58,20 +58,20 @@ pub struct Component<'a> {
     pub semicolon: usize,
 }
 
-/// What is known of a component so far.
+/// What was read of a component so far.
 #[derive(Clone, Copy, Debug, PartialEq, Eq)]
 pub struct ComponentParts {
     pub placement: Option<Placement>,
     pub due: Due,
-    /// The point of UNPLACED may stand here.
+    /// Whether the point of UNPLACED may follow here.
     pub point: bool,
     /// The offset of the last `+`.
     pub plus: usize,
-    /// The offset of the `;`, once it was read.
+    /// The offset of the `;`, once it is read.
     pub semicolon: usize,
 }
 
-/// A location, and where its orientation ends in the text.
+/// A location, and the offset at which its orientation ends.
 #[derive(Clone, Copy, Debug, PartialEq, Eq)]
 pub struct Located {
     pub location: Location,
@@ -86,7 +86,7 @@ fn narrow(x: i64) -> i32
     x as i32
 }
 
-/// `x y ) orient` behind the first parenthesis.
+/// `x y ) orient` after the first parenthesis.
 #[tactic(auto, unfolding(crate::specs::Components::located_rest))]
 fn located_rest(lexer: &mut Lexer) -> Result<Located, ReadError>
     ensures read { Reads (λ p. p) result grammar.located_rest lexer.old lexer.new }
@@ -106,7 +106,7 @@ fn located_rest(lexer: &mut Lexer) -> Result<Located, ReadError>
     })
 }
 
-/// `( x y ) orient` behind FIXED, COVER or PLACED.
+/// `( x y ) orient` after FIXED, COVER or PLACED.
 #[tactic(auto, unfolding(crate::specs::Components::placed))]
 fn placed(lexer: &mut Lexer, kind: PlacementKind, plus: usize) -> Result<Placement, ReadError>
     ensures read { Reads (λ p. p) result (grammar.placed kind plus) lexer.old lexer.new }
@@ -129,7 +129,7 @@ fn is_placement_word(token: &Token) -> bool
     is(b"FIXED", token) || is(b"COVER", token) || is(b"PLACED", token) || is(b"UNPLACED", token)
 }
 
-/// A placement clause, of which the plus and the word were read.
+/// A placement clause, after its plus and its word.
 #[tactic(auto, unfolding(crate::specs::Components::placement))]
 fn read_placement(lexer: &mut Lexer, plus: usize, word: &Token) -> Result<Placement, ReadError>
     ensures read { ReadsOn (λ p. p) result (grammar.placement plus (lexeme word.now)) lexer.old lexer.new }
@@ -151,7 +151,7 @@ fn read_placement(lexer: &mut Lexer, plus: usize, word: &Token) -> Result<Placem
     }
 }
 
-/// The only placement clause: a second one is Unexpected.
+/// Keeps the only placement clause: a second one is Unexpected.
 #[tactic(auto, unfolding(crate::specs::Components::only_placement))]
 fn only_placement(
     lexer: &mut Lexer,
@@ -168,7 +168,7 @@ fn only_placement(
     }
 }
 
-/// A clause of which the plus and the word were read.
+/// A clause, after its plus and its word.
 #[tactic(auto, unfolding(crate::specs::Components::clause))]
 fn clause(lexer: &mut Lexer, parts: &mut ComponentParts, word: &Token) -> Result<bool, ReadError>
     requires range { IfSome parts.old.placement (λ p. IsPlacement p) }
@@ -186,7 +186,7 @@ fn clause(lexer: &mut Lexer, parts: &mut ComponentParts, word: &Token) -> Result
     Ok(true)
 }
 
-/// The point and the orientation of UNPLACED, behind the first parenthesis.
+/// The point and the orientation of UNPLACED, after the first parenthesis.
 #[tactic(auto, unfolding(crate::specs::Components::unplaced_point))]
 fn unplaced_point(lexer: &mut Lexer, parts: &mut ComponentParts) -> Result<bool, ReadError>
     requires range { IfSome parts.old.placement (λ p. IsPlacement p) }
@@ -201,7 +201,7 @@ fn unplaced_point(lexer: &mut Lexer, parts: &mut ComponentParts) -> Result<bool,
     Ok(true)
 }
 
-/// A token of a component that is no separator, with what belongs to it; whether more follow.
+/// A token of a component that is no separator, and what it takes with it; returns whether more follow.
 #[tactic(auto, unfolding(crate::specs::Components::component_part))]
 fn component_part(
     lexer: &mut Lexer,
@@ -226,7 +226,7 @@ fn component_part(
     }
 }
 
-/// A token of a component, with what belongs to it; whether more follow.
+/// A token of a component, and what it takes with it; returns whether more follow.
 #[tactic(auto, unfolding(crate::specs::Components::component_from))]
 fn component_from(
     lexer: &mut Lexer,
@@ -249,7 +249,7 @@ fn component_from(
     }
 }
 
-/// The tokens of a component behind its macro, up to its `;`.
+/// The tokens of a component after its macro, up to its `;`.
 #[derive(Drop)]
 struct ComponentTokens;
 
@@ -267,7 +267,7 @@ impl Block for ComponentTokens {
     }
 }
 
-/// What is known of a component behind its macro.
+/// The state of a component after its macro.
 fn no_component() -> ComponentParts
     ensures { result ≡ grammar.no_component }
 {
@@ -280,7 +280,7 @@ fn no_component() -> ComponentParts
     }
 }
 
-/// A component behind its minus.
+/// A component after its minus.
 #[tactic(auto, unfolding(crate::specs::Components::component))]
 fn read_component<'a>(lexer: &mut Lexer<'a>) -> Result<Component<'a>, ReadError>
     ensures read { Reads (λ c. c) result grammar.component lexer.old lexer.new }
@@ -298,7 +298,7 @@ fn read_component<'a>(lexer: &mut Lexer<'a>) -> Result<Component<'a>, ReadError>
     })
 }
 
-/// An entry, or END COMPONENTS; whether more follow.
+/// An entry, or END COMPONENTS; returns whether more follow.
 #[tactic(auto, unfolding(crate::specs::Entries::entry_or_end))]
 fn component_or_end<'a>(
     lexer: &mut Lexer<'a>,
@@ -321,7 +321,7 @@ fn component_or_end<'a>(
     Err(fault_at(FaultNumber::Unexpected, token.line))
 }
 
-/// The entries of a section, and its END. They borrow the text, so this loop is its own.
+/// The entries of a section, and its END. They borrow the text, so this loop does not use `read_block`.
 fn component_entries<'a>(
     lexer: &mut Lexer<'a>,
     components: &mut Sequence<Component<'a>>,
@@ -334,7 +334,7 @@ fn component_entries<'a>(
     Ok(())
 }
 
-/// A COMPONENTS section behind its keyword: its components go behind the others.
+/// A COMPONENTS section after its keyword: its components are appended.
 #[tactic(auto, unfolding(crate::specs::Entries::section))]
 pub(crate) fn components<'a>(
     lexer: &mut Lexer<'a>,

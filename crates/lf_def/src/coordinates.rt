@@ -32,7 +32,7 @@ pub(crate) fn dbu(lexer: &mut Lexer) -> Result<i64, ReadError>
     dbu_of(&token)
 }
 
-/// The number where it lies from 1 to the largest one, else BadNumber.
+/// The number if it is from 1 to the largest one, else BadNumber.
 fn up_to(most: u32, value: i64, line: usize) -> Result<u32, ReadError>
     ensures read { MatchResult result (λ n. grammar.up_to most value line ≡ Ok n) (λ e. Fails e (grammar.up_to most value line)) }
     ensures range { IfOk result (λ n. IsCount most n) }
@@ -54,7 +54,7 @@ pub(crate) fn count(lexer: &mut Lexer, most: u32) -> Result<u32, ReadError>
     up_to(most, value, token.line)
 }
 
-/// `x y )` behind the first parenthesis.
+/// `x y )` after the first parenthesis.
 #[tactic(auto, unfolding(crate::specs::Coordinates::point_rest))]
 pub(crate) fn point_rest(lexer: &mut Lexer) -> Result<Point, ReadError>
     ensures read { Reads (λ p. p) result grammar.point_rest lexer.old lexer.new }
@@ -76,7 +76,7 @@ fn point(lexer: &mut Lexer) -> Result<Point, ReadError>
     point_rest(lexer)
 }
 
-/// The numbers from the lesser of two on up to the greater.
+/// The lesser and the greater of two numbers.
 fn between(a: i64, b: i64) -> Span
     requires a { IsCoordinate a }
     requires b { IsCoordinate b }
@@ -108,7 +108,7 @@ fn rect_between(p: &Point, q: &Point) -> Rect
     }
 }
 
-/// `x y ) ( x y )` behind the first parenthesis.
+/// `x y ) ( x y )` after the first parenthesis.
 #[tactic(auto, unfolding(crate::specs::Coordinates::rect_rest))]
 pub(crate) fn rect_rest(lexer: &mut Lexer) -> Result<Rect, ReadError>
     ensures read { Reads (λ r. r) result grammar.rect_rest lexer.old lexer.new }

@@ -13,16 +13,16 @@ use lf_units::{Name, Sequence};
 use std::alloc::{AllocError, Global};
 use std::marker::PhantomData;
 
-/// What is due in an entry where neither `;` nor `+` stands.
+/// What is due in an entry besides `;` and `+`.
 #[derive(Clone, Copy, Debug, PartialEq, Eq)]
 pub enum Due {
-    /// What stands before the first clause: points of a region, patterns of a group.
+    /// What precedes the first clause: points of a region, patterns of a group.
     Item,
-    /// The word of a clause, directly behind its `+`.
+    /// The word of a clause, directly after its `+`.
     Keyword,
-    /// What is left of a clause that is passed over.
+    /// The rest of a clause that is skipped.
     Rest,
-    /// Nothing else: the clause was read whole.
+    /// Nothing else: the clause was read to its end.
     Separator,
 }
 
@@ -41,7 +41,7 @@ pub(crate) fn check_name(token: &Token) -> Result<(), ReadError>
     Ok(())
 }
 
-/// The first of several names or texts stands.
+/// The first of several names or texts counts.
 pub(crate) fn keep_first(
     alloc: Global,
     first: &mut Option<Name>,
@@ -58,13 +58,13 @@ pub(crate) fn keep_first(
 
 /// What the entries of a section are.
 pub(crate) trait Entry: Sized + Drop {
-    // An entry behind its minus.
+    // An entry after its minus.
     ghost entry: { Reader Self };
 
-    // What is true of each.
+    // What each entry keeps.
     ghost keeps: { Self → Type 0 };
 
-    /// Reads an entry behind its minus.
+    /// Reads an entry after its minus.
     fn read(alloc: Global, lexer: &mut Lexer) -> Result<Self, ReadError>
         ensures read { Reads (λ e. e) result entry lexer.old lexer.new }
         ensures range { IfOk result (λ e. keeps e) };
@@ -101,7 +101,7 @@ impl<'k, E: Entry> Block for Entries<'k, E> {
     }
 }
 
-/// A section behind its keyword: its entries go behind the others.
+/// A section after its keyword: its entries are appended.
 #[tactic(auto, unfolding(crate::specs::Entries::section))]
 pub(crate) fn section<E: Entry>(
     alloc: Global,

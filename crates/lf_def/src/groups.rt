@@ -1,4 +1,4 @@
-//! Groups: which components belong to a region.
+//! Groups: the components that belong to a region.
 
 ghost use Rattle.std.specs.Prelude.{◌≡◌, All, IfSome};
 ghost use Rattle.lf_lex.specs.Tokens.{lexeme, IsSpelled};
@@ -15,14 +15,14 @@ use std::alloc::Global;
 #[derive(Drop)]
 pub struct Group {
     pub name: Name,
-    /// Names of components, in the order of the text; a `*` that is not directly behind a backslash
-    /// stands for any run of bytes.
+    /// Patterns of component names, in the order of the text; a `*` that is not directly after a
+    /// backslash matches any run of bytes.
     pub patterns: Sequence<Name>,
-    /// The region of the first REGION clause, where there is one.
+    /// The region of the first REGION clause, if there is one.
     pub region: Option<Name>,
 }
 
-/// What is known of a group so far.
+/// What was read of a group so far.
 #[derive(Drop)]
 pub struct GroupParts {
     pub patterns: Sequence<Name>,
@@ -49,7 +49,7 @@ fn with_pattern(
     Ok(true)
 }
 
-/// A REGION clause behind its word.
+/// A REGION clause after its word.
 #[tactic(auto, unfolding(crate::specs::Groups::with_region))]
 fn with_region(alloc: Global, lexer: &mut Lexer, parts: &mut GroupParts) -> Result<bool, ReadError>
     requires names { AreGroupParts parts.old }
@@ -65,7 +65,7 @@ fn with_region(alloc: Global, lexer: &mut Lexer, parts: &mut GroupParts) -> Resu
     Ok(true)
 }
 
-/// A token of a group that is no separator, with what belongs to it; whether more follow.
+/// A token of a group that is no separator, and what it takes with it; returns whether more follow.
 #[tactic(auto, unfolding(crate::specs::Groups::group_part))]
 fn group_part(
     alloc: Global,
@@ -93,7 +93,7 @@ fn group_part(
     }
 }
 
-/// A token of a group, with what belongs to it; whether more follow.
+/// A token of a group, and what it takes with it; returns whether more follow.
 #[tactic(auto, unfolding(crate::specs::Groups::group_from))]
 fn group_from(
     alloc: Global,
@@ -116,7 +116,7 @@ fn group_from(
     }
 }
 
-/// The tokens of a group behind its name, up to its `;`.
+/// The tokens of a group after its name, up to its `;`.
 #[derive(Drop)]
 struct GroupTokens {
     alloc: Global,
@@ -136,7 +136,7 @@ impl Block for GroupTokens {
     }
 }
 
-/// What is known of a group behind its name.
+/// The state of a group after its name.
 fn no_group(alloc: Global) -> GroupParts
     ensures parts { result ≡ grammar.no_group }
     ensures names { AreGroupParts result }
@@ -166,7 +166,7 @@ impl Entry for Group {
     }
 }
 
-/// A GROUPS section behind its keyword: its groups go behind the others.
+/// A GROUPS section after its keyword: its groups are appended.
 pub(crate) fn groups(
     alloc: Global,
     lexer: &mut Lexer,

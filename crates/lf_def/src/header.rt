@@ -14,22 +14,22 @@ use lf_lex::{
 use lf_units::Name;
 use std::alloc::{AllocError, Global};
 
-/// What the statements of the header say (LEF/DEF 5.8, DEF VERSION, DIVIDERCHAR, BUSBITCHARS, DESIGN and
-/// UNITS): of each the first, its token as it stands.
+/// What the statements of the header say (LEF/DEF 5.8, DEF VERSION, DIVIDERCHAR, BUSBITCHARS, DESIGN and UNITS): the
+/// first of each, its token unchanged.
 #[derive(Drop)]
 pub struct Header {
-    /// `5.8` where no statement says it.
+    /// `5.8` if no statement says it.
     pub version: Name,
-    /// With its quotation marks; `"/"` where no statement says it.
+    /// With its quotation marks; `"/"` if no statement says it.
     pub divider: Name,
-    /// With its quotation marks; `"[]"` where no statement says it.
+    /// With its quotation marks; `"[]"` if no statement says it.
     pub brackets: Name,
     pub design: Name,
-    /// How many database units a micron has, from 1 to 20000.
+    /// Database units per micron, from 1 to 20000; none without UNITS.
     pub units: Option<u32>,
 }
 
-/// What is known of the header so far.
+/// What was read of the header so far.
 #[derive(Drop)]
 pub struct HeaderParts {
     pub version: Option<Name>,
@@ -39,7 +39,7 @@ pub struct HeaderParts {
     pub units: Option<u32>,
 }
 
-/// `VERSION v ;` behind its keyword.
+/// `VERSION v ;` after its keyword.
 #[tactic(auto, unfolding(crate::specs::Header::version))]
 fn version<'a>(lexer: &mut Lexer<'a>) -> Result<&'a [u8], ReadError>
     ensures { Reads (λ v. v.now) result grammar.version lexer.old lexer.new }
@@ -49,7 +49,7 @@ fn version<'a>(lexer: &mut Lexer<'a>) -> Result<&'a [u8], ReadError>
     Ok(version.text)
 }
 
-/// `DIVIDERCHAR "c" ;` or `BUSBITCHARS "cc" ;` behind its keyword.
+/// `DIVIDERCHAR "c" ;` or `BUSBITCHARS "cc" ;` after its keyword.
 #[tactic(auto, unfolding(crate::specs::Header::quoted))]
 fn quoted<'a>(lexer: &mut Lexer<'a>) -> Result<&'a [u8], ReadError>
     ensures { Reads (λ q. q.now) result grammar.quoted lexer.old lexer.new }
@@ -62,7 +62,7 @@ fn quoted<'a>(lexer: &mut Lexer<'a>) -> Result<&'a [u8], ReadError>
     Ok(token.text)
 }
 
-/// `DESIGN name ;` behind its keyword.
+/// `DESIGN name ;` after its keyword.
 #[tactic(auto, unfolding(crate::specs::Header::design))]
 fn design<'a>(lexer: &mut Lexer<'a>) -> Result<&'a [u8], ReadError>
     ensures read { Reads (λ n. n.now) result grammar.design lexer.old lexer.new }
@@ -73,7 +73,7 @@ fn design<'a>(lexer: &mut Lexer<'a>) -> Result<&'a [u8], ReadError>
     Ok(name.text)
 }
 
-/// `UNITS DISTANCE MICRONS n ;` behind its keyword.
+/// `UNITS DISTANCE MICRONS n ;` after its keyword.
 #[tactic(auto, unfolding(crate::specs::Header::units))]
 fn units(lexer: &mut Lexer) -> Result<u32, ReadError>
     ensures read { Reads (λ n. n) result grammar.units lexer.old lexer.new }
@@ -97,7 +97,7 @@ pub(crate) fn is_header(token: &Token) -> bool
         || is(b"UNITS", token)
 }
 
-/// A statement of the header, of which the keyword was read.
+/// A statement of the header, after its keyword.
 #[tactic(auto, unfolding(crate::specs::Header::header_statement))]
 pub(crate) fn header_statement(
     alloc: Global,
@@ -130,7 +130,7 @@ pub(crate) fn header_statement(
     Ok(())
 }
 
-/// What is known of the header before its first statement.
+/// The state of the header before its first statement.
 pub(crate) fn no_header() -> HeaderParts
     ensures { result ≡ grammar.no_header }
 {
@@ -143,7 +143,7 @@ pub(crate) fn no_header() -> HeaderParts
     }
 }
 
-/// The text, or the one that is taken without it.
+/// The text, or its default if there is none.
 fn text_or(alloc: Global, text: Option<Name>, without: &[u8]) -> Result<Name, AllocError>
     ensures { IfOk result (λ t. t ≡ unwrap_or text without.now) }
 {

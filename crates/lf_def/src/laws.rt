@@ -1,4 +1,4 @@
-//! What is true of the grammar of DEF, whatever is read.
+//! Laws on the grammar of DEF, whatever is read.
 
 ghost use Rattle.std.specs.Prelude.{◌≡◌, ◌≢◌, List, [], ◌∷◌, ◌++◌, map, true, ℕ, ℤ, Some, All, codes};
 ghost use Rattle.std.specs.List.{list_all};
@@ -24,8 +24,7 @@ ghost use Rattle.lf_def.specs.PrintedComponents.{entry_tokens, components_tokens
 ghost use Rattle.lf_def.specs.PrintedTexts.{Part, one_row, regions_section, groups_section, blockages_section, BeginsWith, PartsReadBack, ReadsBackInTexts, ComponentsReadBackInTexts};
 ghost use Rattle.lf_def.specs.Laws.{ComponentReadsAlike, SaysTheSame, EndsBefore, ComponentsStand, ComponentsRise};
 
-/// Each statement, entry and token behind which more follow takes a token, so every block comes to its
-/// end or to a fault.
+/// Each statement, entry and token after which more follow takes a token, so every block reaches its end or a fault.
 pub fn statements_take_tokens()
     ensures text { TakesTokens statement }
     ensures regions { TakesTokens (entry_or_end (codes "REGIONS") region) }
@@ -38,8 +37,8 @@ pub fn statements_take_tokens()
     ensures blockage { TakesTokens blockage_token }
 {}
 
-/// White space, comments and what stands behind play no part in what a row, a region, a group, a
-/// blockage or a component says; where a component stands in the text is another matter.
+/// White space, comments and what follows do not affect what a row, a region, a group, a blockage or a component says,
+/// but for a component's offsets.
 pub fn statements_read_alike()
     ensures row { ReadsAlike row }
     ensures region { ReadsAlike region }
@@ -48,20 +47,20 @@ pub fn statements_read_alike()
     ensures component { ComponentReadsAlike }
 {}
 
-/// Texts that differ in white space and comments alone say the same, but for where components stand in them.
+/// Texts that differ in white space and comments alone say the same, but for the offsets of components.
 pub fn the_same_tokens_say_the_same()
     ensures { (a b : List ℕ) → SaysTheSame a b }
 {}
 
-/// What stands behind END DESIGN plays no part: where reading a text leaves tokens unread, any bytes may
-/// stand from the first of these on.
+/// What follows END DESIGN is ignored: if reading a text leaves tokens unread, any bytes may replace those from the
+/// first of these on.
 pub fn nothing_behind_end_design_counts()
     ensures { (text : List ℕ) → EndsBefore text }
 {}
 
-/// A printed row, region, group, component or blockage reads back as what it is, however its numbers are
-/// written and whatever stands behind it; a component but for where it stands, also where words, quoted texts
-/// and clauses that are passed over stand in its entry, or a point behind UNPLACED.
+/// A printed row, region, group, component or blockage reads back, however its numbers are written and with anything
+/// after it; a component but for its offsets, also if its entry has skipped words, quoted texts and clauses, or a point
+/// after UNPLACED.
 pub fn printed_entries_read_back()
     ensures row { (print : ℤ → List ℕ) → WritesNumbers print → (r : Row) → IsPrintedRow r → ReadsBack row (row_words print r) r }
     ensures region { (print : ℤ → List ℕ) → WritesNumbers print → (r : Region) → IsPrintedRegion r → ReadsBack region (region_words print r) r }
@@ -73,21 +72,20 @@ pub fn printed_entries_read_back()
     ensures blockage { (print : ℤ → List ℕ) → WritesNumbers print → (b : Blockage) → IsPrintedBlockage b → ReadsBack blockage (blockage_words print b) (Some b) }
 {}
 
-/// The placement clause of a component runs from the first byte of its `+` to the last byte of its last
-/// token: the orientation, or UNPLACED where no point stands behind it. The offset of its `;` is that of
-/// its last token.
+/// The placement clause of a component extends from the first byte of its `+` to the last byte of its last token: the
+/// orientation, or UNPLACED if no point follows. The offset of its `;` is that of its last token.
 pub fn clauses_stand_in_components()
     ensures { ComponentsStand }
 {}
 
-/// The components of a document stand in its text in their order, one behind the other: the clause of
-/// each before its own `;`, and behind the `;` of the component before it.
+/// The components of a document are in its text in their order, one after the other: the clause of each before its own
+/// `;`, and after the `;` of the component before it.
 pub fn components_rise()
     ensures { (text : List ℕ) → ComponentsRise text }
 {}
 
-/// A printed REGIONS, GROUPS, COMPONENTS or BLOCKAGES section reads back as its list, behind the entries
-/// of earlier sections, whatever count it bears; components but for where they stand.
+/// A printed REGIONS, GROUPS, COMPONENTS or BLOCKAGES section reads back as its list, after the entries of earlier
+/// sections, whatever its count; components but for their offsets.
 pub fn printed_sections_read_back()
     ensures regions { (print : ℤ → List ℕ) → WritesNumbers print → (count : List ℕ) → count ≢ codes ";" → (new known : List Region) → All IsPrintedRegion new → ReadsBack (regions known) (section_words (codes "REGIONS") count (region_words print) new) (known ++ new) }
     ensures groups { (count : List ℕ) → count ≢ codes ";" → (new known : List Group) → All IsPrintedGroup new → ReadsBack (groups known) (section_words (codes "GROUPS") count group_words new) (known ++ new) }
@@ -99,16 +97,14 @@ pub fn printed_sections_read_back()
     ensures blockages { (print : ℤ → List ℕ) → WritesNumbers print → (count : List ℕ) → count ≢ codes ";" → (new known : List Blockage) → All IsPrintedBlockage new → ReadsBack (blockages known) (section_words (codes "BLOCKAGES") count (blockage_words print) new) (known ++ new) }
 {}
 
-/// A printed text reads back: statements and sections in any order, DESIGN and any that are passed over
-/// among them, say what they say, and each list stands in the order of the text. White space, comments
-/// and what follows END DESIGN play no part.
+/// A printed text reads back: statements and sections in any order, DESIGN and any skipped ones among them, say what
+/// they say, each list in the order of the text. White space, comments and what follows END DESIGN are ignored.
 pub fn printed_texts_read_back()
     ensures { (print : ℤ → List ℕ) → WritesNumbers print → (parts : List Part) → PartsReadBack print parts }
 {}
 
-/// Printed rows, or a printed REGIONS, GROUPS, COMPONENTS or BLOCKAGES section, are all that a text says,
-/// alone and behind any list of statements that are passed over; components but for where they stand.
-/// What follows END DESIGN plays no part.
+/// Printed rows, or a printed REGIONS, GROUPS, COMPONENTS or BLOCKAGES section, are all that a text says, alone and
+/// after any skipped statements; components but for their offsets. What follows END DESIGN is ignored.
 pub fn printed_lists_read_back_in_texts()
     ensures rows { (print : ℤ → List ℕ) → WritesNumbers print → (new : List Row) → All IsPrintedRow new → ReadsBackInTexts print (map one_row new) (λ d. record d { rows = new }) }
     ensures regions { (print : ℤ → List ℕ) → WritesNumbers print → (count : List ℕ) → count ≢ codes ";" → (new : List Region) → All IsPrintedRegion new → ReadsBackInTexts print (regions_section count new ∷ []) (λ d. record d { regions = new }) }
@@ -117,8 +113,8 @@ pub fn printed_lists_read_back_in_texts()
     ensures blockages { (print : ℤ → List ℕ) → WritesNumbers print → (count : List ℕ) → count ≢ codes ";" → (new : List Blockage) → All IsPrintedBlockage new → ReadsBackInTexts print (blockages_section count new ∷ []) (λ d. record d { blockages = new }) }
 {}
 
-/// A text may be printed with one space between its words and a line feed behind them, and with any bytes
-/// behind that: its first tokens are these words.
+/// A text may be printed with one space between its words and a line feed after them, and with any bytes after that:
+/// its first tokens are these words.
 pub fn printed_words_are_read()
     ensures { (words : List (List ℕ)) (rest : List ℕ) → list_all is_word_text words ≡ true → BeginsWith (joined words ++ 10 ∷ rest) (map word_of words) }
 {}

@@ -1,5 +1,5 @@
-//! Reads the parts of DEF texts that placement needs: header, rows, regions, groups, components with
-//! where their placement clauses stand in the text, and placement blockages.
+//! Reads the parts of DEF texts that placement needs: header, rows, regions, groups, components with the offsets of
+//! their placement clauses, and placement blockages.
 #![tactic(auto)]
 
 mod blockages;

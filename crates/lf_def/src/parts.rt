@@ -1,4 +1,4 @@
-//! What is known of a text so far.
+//! What was read of a text so far.
 
 use crate::blockages::Blockage;
 use crate::components::Component;
@@ -8,7 +8,7 @@ use crate::regions::Region;
 use crate::rows::Row;
 use lf_units::Sequence;
 
-/// What the statements that were read say.
+/// What the statements read so far say.
 #[derive(Drop)]
 pub struct DocParts<'a> {
     pub header: HeaderParts,

@@ -13,12 +13,12 @@ use lf_lex::{Block, FaultNumber, Lexer, ReadError, Token, fault_at, is, name, re
 use lf_units::{Name, Rect, Sequence};
 use std::alloc::Global;
 
-/// What a region asks of the components of its groups (LEF/DEF 5.8, DEF REGIONS, TYPE).
+/// What the TYPE of a region demands of its groups' components (LEF/DEF 5.8, DEF REGIONS).
 #[derive(Clone, Copy, Debug, PartialEq, Eq)]
 pub enum RegionKind {
-    /// They stand in it, and no others do.
+    /// They are placed in it, and no others are.
     Fence,
-    /// They should stand in it.
+    /// They should be placed in it.
     Guide,
 }
 
@@ -26,14 +26,14 @@ pub enum RegionKind {
 #[derive(Drop)]
 pub struct Region {
     pub name: Name,
-    /// The first TYPE, where there is one.
+    /// The first TYPE, if there is one.
     pub kind: Option<RegionKind>,
-    /// Its rectangles in the order of the text, at least one, each with its lower left corner before its
-    /// upper right one. They may overlap.
+    /// Its rectangles in the order of the text, one or more, each with its lower left corner before its upper right
+    /// one. They may overlap.
     pub rects: Sequence<Rect>,
 }
 
-/// What is known of a region so far.
+/// What was read of a region so far.
 #[derive(Drop)]
 pub struct RegionParts {
     pub kind: Option<RegionKind>,
@@ -54,7 +54,7 @@ fn kind_of(token: &Token) -> Result<RegionKind, ReadError>
     }
 }
 
-/// One more rectangle, behind its first parenthesis.
+/// One more rectangle, after its first parenthesis.
 #[tactic(auto, unfolding(crate::specs::Regions::with_rect))]
 fn with_rect(lexer: &mut Lexer, parts: &mut RegionParts) -> Result<bool, ReadError>
     requires rects { All IsRect parts.old.rects }
@@ -68,7 +68,7 @@ fn with_rect(lexer: &mut Lexer, parts: &mut RegionParts) -> Result<bool, ReadErr
     Ok(true)
 }
 
-/// A TYPE clause behind its word.
+/// A TYPE clause after its word.
 #[tactic(auto, unfolding(crate::specs::Regions::with_kind))]
 fn with_kind(lexer: &mut Lexer, parts: &mut RegionParts) -> Result<bool, ReadError>
     requires rects { All IsRect parts.old.rects }
@@ -84,7 +84,7 @@ fn with_kind(lexer: &mut Lexer, parts: &mut RegionParts) -> Result<bool, ReadErr
     Ok(true)
 }
 
-/// A token of a region that is no separator, with what belongs to it; whether more follow.
+/// A token of a region that is no separator, and what it takes with it; returns whether more follow.
 #[tactic(auto, unfolding(crate::specs::Regions::region_part))]
 fn region_part(lexer: &mut Lexer, parts: &mut RegionParts, token: &Token) -> Result<bool, ReadError>
     requires rects { All IsRect parts.old.rects }
@@ -114,7 +114,7 @@ fn region_part(lexer: &mut Lexer, parts: &mut RegionParts, token: &Token) -> Res
     }
 }
 
-/// A token of a region, with what belongs to it; whether more follow.
+/// A token of a region, and what it takes with it; returns whether more follow.
 #[tactic(auto, unfolding(crate::specs::Regions::region_from))]
 fn region_from(lexer: &mut Lexer, parts: &mut RegionParts, token: &Token) -> Result<bool, ReadError>
     requires rects { All IsRect parts.old.rects }
@@ -133,7 +133,7 @@ fn region_from(lexer: &mut Lexer, parts: &mut RegionParts, token: &Token) -> Res
     }
 }
 
-/// The tokens of a region behind its first rectangle, up to its `;`.
+/// The tokens of a region after its first rectangle, up to its `;`.
 #[derive(Drop)]
 struct RegionTokens;
 
@@ -151,7 +151,7 @@ impl Block for RegionTokens {
     }
 }
 
-/// What is known of a region behind its first rectangle.
+/// The state of a region after its first rectangle.
 fn first_rect(alloc: Global, rect: Rect) -> Result<RegionParts, ReadError>
     requires rect { IsRect rect }
     ensures parts { IfOk result (λ parts. parts ≡ grammar.first_rect rect) }
@@ -187,7 +187,7 @@ impl Entry for Region {
     }
 }
 
-/// A REGIONS section behind its keyword: its regions go behind the others.
+/// A REGIONS section after its keyword: its regions are appended.
 pub(crate) fn regions(
     alloc: Global,
     lexer: &mut Lexer,

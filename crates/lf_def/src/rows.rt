@@ -28,11 +28,11 @@ pub struct Row {
     pub sites_x: u32,
     /// How many sites it has up, numY; 1 without DO.
     pub sites_y: u32,
-    /// The steps across and up from site to site, where it has STEP.
+    /// The steps across and up from site to site, if it has STEP.
     pub step: Option<Point>,
 }
 
-/// How many sites a row has across and up, and the steps between them.
+/// The numbers of sites of a row across and up, and the steps between them.
 #[derive(Clone, Copy, Debug, PartialEq, Eq)]
 pub struct Sites {
     pub x: u32,
@@ -40,7 +40,7 @@ pub struct Sites {
     pub step: Option<Point>,
 }
 
-/// The end of a row, of which the first token was read.
+/// The end of a row, after its first token.
 #[tactic(auto, unfolding(crate::specs::Rows::row_end))]
 fn row_end(lexer: &mut Lexer, token: &Token) -> Result<(), ReadError>
     ensures { ReadsOn (λ x. x) result (grammar.row_end (lexeme token.now)) lexer.old lexer.new }
@@ -54,7 +54,7 @@ fn row_end(lexer: &mut Lexer, token: &Token) -> Result<(), ReadError>
     }
 }
 
-/// `[STEP sx sy]` and the end of a row, of which the first token was read.
+/// `[STEP sx sy]` and the end of a row, after its first token.
 #[tactic(auto, unfolding(crate::specs::Rows::step))]
 fn step(lexer: &mut Lexer, first: &Token) -> Result<Option<Point>, ReadError>
     ensures read { ReadsOn (λ s. s) result (grammar.step (lexeme first.now)) lexer.old lexer.new }
@@ -72,7 +72,7 @@ fn step(lexer: &mut Lexer, first: &Token) -> Result<Option<Point>, ReadError>
     }
 }
 
-/// `numX BY numY [STEP sx sy]` and the end of a row, behind DO.
+/// `numX BY numY [STEP sx sy]` and the end of a row, after DO.
 #[tactic(auto, unfolding(crate::specs::Rows::sites))]
 fn read_sites(lexer: &mut Lexer) -> Result<Sites, ReadError>
     ensures read { Reads (λ s. s) result grammar.sites lexer.old lexer.new }
@@ -88,7 +88,7 @@ fn read_sites(lexer: &mut Lexer) -> Result<Sites, ReadError>
     Ok(Sites { x, y, step })
 }
 
-/// `[DO numX BY numY [STEP sx sy]]` and the end of a row, of which the first token was read.
+/// `[DO numX BY numY [STEP sx sy]]` and the end of a row, after its first token.
 #[tactic(auto, unfolding(crate::specs::Rows::sites_from))]
 fn sites_from(lexer: &mut Lexer, token: &Token) -> Result<Sites, ReadError>
     ensures read { ReadsOn (λ s. s) result (grammar.sites_from (lexeme token.now)) lexer.old lexer.new }
@@ -108,7 +108,7 @@ fn sites_from(lexer: &mut Lexer, token: &Token) -> Result<Sites, ReadError>
     }
 }
 
-/// A row behind its keyword.
+/// A row after its keyword.
 #[tactic(auto, unfolding(crate::specs::Rows::row))]
 pub(crate) fn read_row(alloc: Global, lexer: &mut Lexer) -> Result<Row, ReadError>
     ensures read { Reads (λ r. r) result grammar.row lexer.old lexer.new }

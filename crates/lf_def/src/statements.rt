@@ -21,7 +21,7 @@ use lf_lex::{
 use lf_units::Sequence;
 use std::alloc::Global;
 
-/// Whether the token begins a section that is passed over to END and its keyword.
+/// Whether the token begins a section that is skipped to END and its keyword.
 fn is_passed_section(token: &Token) -> bool
     ensures { result ≡ grammar.is_passed_section (lexeme token.now) }
 {
@@ -38,7 +38,7 @@ fn is_passed_section(token: &Token) -> bool
         || is(b"SCANCHAINS", token)
 }
 
-/// Whether the token begins a statement that is passed over to its semicolon.
+/// Whether the token begins a statement that is skipped to its semicolon.
 fn is_passed_statement(token: &Token) -> bool
     ensures { result ≡ grammar.is_passed_statement (lexeme token.now) }
 {
@@ -51,7 +51,7 @@ fn is_passed_statement(token: &Token) -> bool
         || is(b"NAMESCASESENSITIVE", token)
 }
 
-/// A statement that says nothing of placement, of which the first token was read.
+/// A statement that is skipped, after its first token.
 #[tactic(auto, unfolding(crate::specs::Document::passed_from))]
 fn passed_from(lexer: &mut Lexer, token: &Token) -> Result<(), ReadError>
     ensures { ReadsOn (λ x. x) result (grammar.passed_from (lexeme token.now)) lexer.old lexer.new }
@@ -69,7 +69,7 @@ fn passed_from(lexer: &mut Lexer, token: &Token) -> Result<(), ReadError>
     }
 }
 
-/// DESIGN behind an END.
+/// DESIGN after an END.
 #[tactic(auto, unfolding(crate::specs::Document::end_design))]
 fn end_design(lexer: &mut Lexer, parts: &DocParts) -> Result<(), ReadError>
     ensures { Reads (λ x. x) result (grammar.end_design parts.now) lexer.old lexer.new }
@@ -88,7 +88,7 @@ fn end_design(lexer: &mut Lexer, parts: &DocParts) -> Result<(), ReadError>
     }
 }
 
-/// A row behind its keyword: it goes behind the others.
+/// A row after its keyword: it is appended.
 #[tactic(auto, unfolding(crate::specs::Rows::with_row))]
 fn add_row(alloc: Global, lexer: &mut Lexer, rows: &mut Sequence<Row>) -> Result<(), ReadError>
     requires range { All IsRow rows.old }
@@ -100,7 +100,7 @@ fn add_row(alloc: Global, lexer: &mut Lexer, rows: &mut Sequence<Row>) -> Result
     Ok(())
 }
 
-/// A row or a section, of which the keyword was read, or a statement that is passed over.
+/// A row or a section, after its keyword, or a statement that is skipped.
 #[tactic(auto, unfolding(crate::specs::Document::body_statement))]
 fn body_statement<'a>(
     alloc: Global,
@@ -127,7 +127,7 @@ fn body_statement<'a>(
     }
 }
 
-/// A statement of the text, of which the first token was read; whether more follow.
+/// A statement of the text, after its first token; returns whether more follow.
 #[tactic(auto, unfolding(crate::specs::Document::statement_from))]
 fn statement_from<'a>(
     alloc: Global,
@@ -165,7 +165,7 @@ fn statement<'a>(
     statement_from(alloc, lexer, parts, &first)
 }
 
-/// What is known before the first statement.
+/// The state before the first statement.
 fn no_parts<'a>(alloc: Global) -> DocParts<'a>
     ensures parts { result ≡ grammar.no_parts }
     ensures range { AreParts result }

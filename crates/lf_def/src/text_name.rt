@@ -1,10 +1,10 @@
-//! Names that stand in a text.
+//! Names borrowed from a text.
 
 ghost use Rattle.std.specs.Prelude.{◌≡◌, bytes_eq};
 
 use std::marker::Model;
 
-/// The bytes of a name, lent by the text in which it stands. Upper and lower case differ, as in the texts.
+/// The bytes of a name, borrowed from its text. Upper and lower case differ.
 #[derive(Drop)]
 pub struct TextName<'a> {
     bytes: &'a [u8],
@@ -26,7 +26,7 @@ impl<'a> TextName<'a> {
         TextName { bytes }
     }
 
-    /// The bytes, lent.
+    /// The bytes, borrowed.
     pub fn as_bytes(&self) -> &[u8]
         ensures { result.now ≡ self.now }
     {

@@ -30,12 +30,11 @@ fn document<'a>(alloc: Global, text: &'a [u8]) -> Result<DefDoc<'a>, ReadError>
     })
 }
 
-/// Reads a DEF text up to its END DESIGN: the header, and rows, regions, groups, components and
-/// placement blockages in the order of the text. Other sections and statements of DEF are passed over.
+/// Reads a DEF text up to its END DESIGN: the header, and rows, regions, groups, components and placement blockages in
+/// the order of the text. Other sections and statements of DEF are skipped.
 ///
-/// The refusal is the first fault in the order of the tokens, with its line: BadToken, UnexpectedEnd,
-/// Unexpected, BadNumber, WrongEnd, UnknownStatement or TooMany; or OutOfMemory, where a growth was
-/// refused.
+/// The error is the first fault in the order of the tokens, with its line: BadToken, UnexpectedEnd, Unexpected,
+/// BadNumber, WrongEnd, UnknownStatement or TooMany; or OutOfMemory if an allocation fails.
 pub fn read_def<'a>(alloc: Global, text: &'a [u8]) -> Result<DefDoc<'a>, LoadFault<'a>>
     ensures text { IfOk result (λ doc. doc.text.now ≡ text.now) }
     ensures ok { IfOk result (λ doc. document_of text.now ≡ Ok (contents doc)) }

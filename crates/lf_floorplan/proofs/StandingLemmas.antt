@@ -42,7 +42,7 @@ shared f box j r s wide u v =
 turn : {a b : Rect} → SharesPoint a b → SharesPoint b a
 turn m = record { x = m.x; y = m.y; in_first = m.in_second; in_second = m.in_first }
 
--- heeded rows that share a point are one
+-- rows of core sites that share a point are one
 row_one : (f : Frame) (r s : Row) → Contains f.rows r → Contains f.rows s → SharesPoint (row_area f.pitch r) (row_area f.pitch s) → r ≡ s
 row_one f r s (i, within_i, is_r) (j, within_j, is_s) meet =
     let here : get_or f.rows j r ≡ s = get_or_default f.rows j r s within_j ∙ is_s in

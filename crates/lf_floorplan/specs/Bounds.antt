@@ -1,4 +1,4 @@
--- The ranges of numbers that a frame keeps in its types.
+-- The ranges of numbers that the types of a frame keep.
 use Rattle.std.specs.Prelude.{ℕ, ℤ, pos, negsuc, ◌≤◌, ◌≤ℤ◌, ◌<ℤ◌, List, All, length}
 use Rattle.lf_units.specs.declared.area.Point.{Point}
 use Rattle.lf_units.specs.declared.area.Rect.{Rect}
@@ -49,17 +49,18 @@ pub record IsNearDefRange (lo hi : ℤ) : Type 0 where
   pub to : hi ≤ℤ pos 22147483647
   pub in_order : lo ≤ℤ hi
 
--- a rectangle whose lower left corner a DEF text can hold, and which reaches past the largest coordinate by at most the largest size of a macro
+-- a rectangle whose lower left corner a DEF text can hold, and which reaches past the largest coordinate by at most the largest
+-- size of a macro
 pub record IsNearDefRect (r : Rect) : Type 0 where
   pub across : IsNearDefRange r.x1 r.x2
   pub up : IsNearDefRange r.y1 r.y2
 
--- a byte that can stand in a word of a text
+-- a byte that a word of a text may have
 pub record IsPrinted (byte : ℕ) : Type 0 where
   pub least : 33 ≤ byte
   pub most : byte ≤ 126
 
--- a name of at most 1,024 bytes, each of which can stand in a word
+-- a name of at most 1,024 bytes, each of which a word may have
 pub record IsName (name : List ℕ) : Type 0 where
   pub short : length name ≤ 1024
   pub printed : All IsPrinted name

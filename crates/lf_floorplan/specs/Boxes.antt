@@ -8,7 +8,7 @@ use Rattle.lf_floorplan.specs.Bounds.{IsLefSize}
 use Rattle.lf_floorplan.specs.declared.frame.Frame.{Frame}
 use Rattle.lf_floorplan.specs.declared.macros.Macro.{Macro}
 
--- the size of a macro that stands upright, in database units
+-- the size of a macro that is upright, in database units
 abbrev pub size_of : Frame → Macro → Point
 size_of f m = size_in_dbu f.header.units m.size
 
@@ -30,6 +30,6 @@ no_macro = record {
   rail = Ground;
 }
 
--- the macro of this number; the cells of a loaded design have no number beyond the frame's macros
+-- the macro of this number; cells of a loaded design have numbers of the frame's macros alone
 abbrev pub macro_of : Frame → ℕ → Macro
 macro_of f number = unwrap_or (slice_get f.macros number) no_macro

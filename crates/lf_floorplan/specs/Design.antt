@@ -7,22 +7,22 @@ use Rattle.lf_floorplan.specs.Bounds.{IsName}
 use Rattle.lf_floorplan.specs.Boxes.{IsSized, macro_of}
 use Rattle.lf_floorplan.specs.Ground.{IsTeam}
 
--- the cell's team and macro are there, the macro is whole, and the name is one
+-- the cell's team and macro exist, the macro's size is whole and above 0, and the name is one of a text
 pub record IsCell (f : Frame) (c : Cell) : Type 0 where
   pub team_known : IsTeam f c.team
   pub mac_known : c.mac < length f.macros
   pub mac_sized : ForSome (slice_get f.macros c.mac) (λ m. IsSized f m)
   pub name_printed : IsName c.name
 
--- the macro of a cell's number is whole in database units
+-- the macro of a cell has a size that is whole in database units and above 0
 abbrev pub CellIsSized : Type 0
 CellIsSized = (f : Frame) (c : Cell) → IsCell f c → IsSized f (macro_of f c.mac)
 
--- no two cells bear one name
+-- no two cells have the same name
 abbrev pub CellsNamed : List Cell → Type 0
 CellsNamed cells = AllPairs (λ a b. a.name ≢ b.name) cells
 
--- the cells stand in the order of their components
+-- the cells are in the order of their components
 abbrev pub ComponentsRise : List Cell → Type 0
 ComponentsRise cells = AllPairs (λ a b. a.component < b.component) cells
 

@@ -8,13 +8,13 @@ use Rattle.lf_floorplan.specs.declared.parts.Team.{Team}
 abbrev pub ground_name : List ℕ
 ground_name = 45 ∷ []
 
--- a fence does not bear the ground team's name, and has at least one rectangle
+-- a fence does not have the ground team's name, and has at least one rectangle
 pub record IsFence (t : Team) : Type 0 where
   pub named : t.name ≢ ground_name
   pub has_rect : 0 < length t.rects
   pub rects_in_def : All IsDefRect t.rects
 
--- no two fences bear one name
+-- no two fences have the same name
 abbrev pub FencesNamed : List Team → Type 0
 FencesNamed teams = AllPairs (λ a b. a.name ≢ b.name) teams
 

@@ -9,8 +9,8 @@ use Rattle.lf_floorplan.specs.Bounds.{IsNearDefRect}
 abbrev pub IsTeam : Frame → ℕ → Type 0
 IsTeam f team = team ≤ length f.teams
 
--- the point is ground of the team: of a fence what its rectangles cover, of the ground team what no
--- fence covers; a greater number is no team and has no ground
+-- the point is ground of the team: of a fence what its rectangles cover, of the ground team what no fence covers; a greater
+-- number is no team and has no ground
 abbrev pub InGround : Frame → ℕ → ℤ → ℤ → Type 0
 InGround f team x y =
     MatchOption (slice_get f.teams team)
@@ -25,7 +25,7 @@ StaysInGround f team box = (x y : ℤ) → Covers box x y → InGround f team x 
 abbrev pub IsClear : Frame → Rect → Type 0
 IsClear f box = All (λ obstacle. SharesPoint box obstacle → ⊥) f.obstacles
 
--- each point is ground of one team
+-- each point is ground of exactly one team
 pub record PointHasOneTeam : Type 0 where
   pub some_team : (f : Frame) (x y : ℤ) → (team : ℕ) × InGround f team x y
   pub one_team : (f : Frame) (s t : ℕ) (x y : ℤ) → InGround f s x y → InGround f t x y → s ≡ t
@@ -34,6 +34,7 @@ pub record PointHasOneTeam : Type 0 where
 abbrev pub TeamsStayApart : Type 0
 TeamsStayApart = (f : Frame) (s t : ℕ) (a b : Rect) → s ≢ t → StaysInGround f s a → StaysInGround f t b → SharesPoint a b → ⊥
 
--- an obstacle has its lower left corner in the range of DEF coordinates, and reaches past the largest by at most the largest size of a macro
+-- an obstacle has its lower left corner in the range of DEF coordinates, and reaches past the largest by at most a macro's
+-- largest size
 abbrev pub ObstaclesStayNear : Type 0
 ObstaclesStayNear = (f : Frame) → All IsNearDefRect f.obstacles

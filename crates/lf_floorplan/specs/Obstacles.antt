@@ -7,7 +7,7 @@ use Rattle.lf_floorplan.specs.Bounds.{IsDefNumber, IsDefRect}
 use Rattle.lf_floorplan.specs.Rows.{IsPitch}
 use Rattle.lf_floorplan.specs.Sizes.{size_in_dbu, turned, box_at}
 
--- the box of one of the macros, whose size is whole in database units, with its lower left corner in the range of DEF coordinates
+-- the box of one of the macros of whole size in database units, with its lower left corner in the range of DEF coordinates
 pub record IsMacroBox (units : ℕ) (macros : List Macro) (r : Rect) : Type 0 where
   pub mac : Macro
   pub known : Contains macros mac

@@ -26,8 +26,8 @@ row_area pitch r = record {
   y2 = r.y +ℤ pitch.y;
 }
 
--- a heeded row: its corner has coordinates of DEF, it has a site, it ends within those coordinates,
--- and it is N, S, FN or FS
+-- a row of core sites: its corner has coordinates of DEF, it has a site or more, it ends within those coordinates, and it is N,
+-- S, FN or FS
 pub record IsHeeded (pitch : Point) (r : Row) : Type 0 where
   pub x_in_def : IsDefNumber r.x
   pub y_in_def : IsDefNumber r.y

@@ -22,6 +22,6 @@ turned size _ = size
 abbrev pub box_at : Point → ℤ → ℤ → Rect
 box_at size x y = record { x1 = x; y1 = y; x2 = x +ℤ size.x; y2 = y +ℤ size.y }
 
--- a size that is turned twice alike is what it was
+-- turning a size twice by the same orientation gives the size back
 abbrev pub TurnsBack : Type 0
 TurnsBack = (size : Point) (o : Orient) → turned (turned size o) o ≡ size

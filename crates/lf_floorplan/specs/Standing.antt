@@ -20,19 +20,19 @@ pub record IsRowOfBox (f : Frame) (box : Rect) (j : ℕ) (r : Row) : Type 0 wher
   pub left : r.x ≤ℤ box.x1
   pub right : box.x2 ≤ℤ (row_area f.pitch r).x2
 
--- the bottom row of the box: a heeded row that is its row 0, and whose x grid holds the box's x
+-- the bottom row of the box: a row of core sites that is its row 0, and whose x grid holds the box's x
 pub record IsBottomRow (f : Frame) (box : Rect) (r : Row) : Type 0 where
   pub heeded : Contains f.rows r
   pub at_bottom : IsRowOfBox f box 0 r
   pub site : ℕ
   pub on_grid : box.x1 -ℤ r.x ≡ pos site *ℤ f.pitch.x
 
--- a rail, changed j times
+-- a rail, alternated j times
 abbrev pub changed : ℕ → Rail → Rail
 changed zero rail = rail
 changed (suc j) rail = other_rail (changed j rail)
 
--- the heeded row s carries the box: it is row j of it, and its rail is the bottom row's, changed j times
+-- row s carries the box: it is the box's row j, and its rail is the bottom row's, alternated j times
 pub record Carries (f : Frame) (box : Rect) (bottom : Row) (j : ℕ) (s : Row) : Type 0 where
   pub heeded : Contains f.rows s
   pub at_row : IsRowOfBox f box j s
@@ -46,7 +46,7 @@ HasHeight f box = (k : ℕ) × IsSitesHigh f box k
 abbrev pub HasBottomRow : Frame → Rect → Type 0
 HasBottomRow f box = (r : Row) × IsBottomRow f box r
 
--- for each j below the height, a heeded row carries the box
+-- for each j below the height, a row of core sites carries the box as its row j
 abbrev pub IsCarried : Frame → Rect → Type 0
 IsCarried f box =
     (k : ℕ) (r : Row) → IsSitesHigh f box k → IsBottomRow f box r → (j : ℕ) → j < k → (s : Row) × Carries f box r j s
@@ -57,7 +57,7 @@ pub record StandsOn (f : Frame) (box : Rect) : Type 0 where
   pub row : HasBottomRow f box
   pub stand : IsCarried f box
 
--- a box has one height in sites, and where it has points one bottom row
+-- a box has one height in sites, and one bottom row if it has points
 pub record StandingIsOne : Type 0 where
   pub height : (f : Frame) (box : Rect) (j k : ℕ) → IsSitesHigh f box j → IsSitesHigh f box k → j ≡ k
   pub bottom : (f : Frame) (box : Rect) (r s : Row) → box.x1 <ℤ box.x2 → IsBottomRow f box r → IsBottomRow f box s → r ≡ s

@@ -42,7 +42,7 @@ fn is_whole(micros: i64, units: u32) -> bool
     }
 }
 
-/// The macro of this number, as cells bear it.
+/// The macro of this number, as in a cell's `mac`.
 pub fn mac_at(frame: &Frame, number: usize) -> &Macro
     requires { number < length frame.now.macros }
     ensures { result.now ≡ macro_of frame.now number }
@@ -50,7 +50,7 @@ pub fn mac_at(frame: &Frame, number: usize) -> &Macro
     &frame.macros.as_slice()[number]
 }
 
-/// Whether a cell may be of the macro: its size is whole in database units and above 0 both ways.
+/// Whether cells may be of the macro: its size is whole in database units and above 0 both ways.
 pub fn is_sized(frame: &Frame, mac: &Macro) -> bool
     ensures { IsTrue result ↔ IsSized frame.now mac.now }
 {

@@ -1,4 +1,4 @@
-//! The frame, with what loading has made sure of.
+//! The frame, with what loading has checked.
 
 ghost use Rattle.std.specs.Prelude.{◌≡◌, ℕ, ◌<◌, ◌≤◌, All, length};
 ghost use Rattle.lf_floorplan.specs.Bounds.{IsWithin, IsLefSize};
@@ -15,7 +15,7 @@ use lf_units::{Point, Rect, Sequence};
 /// What every team sees, and no command changes.
 ///
 /// A team's number is the position of its fence in `teams`; the ground team `-` has the number of
-/// fences, and a greater number is no team. The type keeps what loading has made sure of.
+/// fences, and a greater number is no team. The type keeps what loading has checked.
 #[derive(Drop)]
 pub struct Frame {
     /// The core site: that of the first ROW whose site has CLASS CORE and a size above 0.
@@ -30,7 +30,7 @@ pub struct Frame {
     pub obstacles: Sequence<Rect>,
     /// All macros of the LEF texts, used or not.
     pub macros: Sequence<Macro>,
-    /// The head of the DEF text.
+    /// The header of the DEF text.
     pub header: Header,
     pub limits: Limits,
     pub ghost units_in_range: { IsWithin header.units 20000 },

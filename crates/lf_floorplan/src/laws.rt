@@ -5,12 +5,12 @@ ghost use Rattle.lf_floorplan.specs.Design.{CellIsSized};
 ghost use Rattle.lf_floorplan.specs.Ground.{ObstaclesStayNear, PointHasOneTeam, TeamsStayApart};
 ghost use Rattle.lf_floorplan.specs.Standing.{StandingIsOne};
 
-/// A size that is turned twice alike is what it was.
+/// Turning a size twice by the same orientation gives the size back.
 pub fn size_turns_back()
     ensures { TurnsBack }
 {}
 
-/// Each point is ground of one team and no other.
+/// Each point is ground of exactly one team.
 pub fn point_has_one_team()
     ensures { PointHasOneTeam }
 {}
@@ -31,7 +31,7 @@ pub fn standing_is_one()
     ensures { StandingIsOne }
 {}
 
-/// The macro of a cell's number is whole in database units.
+/// The macro of a cell has a size that is whole in database units and above 0.
 pub fn cell_is_sized()
     ensures { CellIsSized }
 {}

@@ -1,5 +1,5 @@
-//! The floor plan of a design: the frame, which every team sees and no command changes, the cells, and what legality
-//! measures of them.
+//! The floor plan of a design: the frame, which every team sees and no command changes, the cells,
+//! and the measures that legality rests on.
 #![tactic(auto)]
 
 mod design;

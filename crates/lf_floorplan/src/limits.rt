@@ -1,4 +1,4 @@
-//! How much a design may have of each thing.
+//! The limits of a design.
 
 ghost use Rattle.std.specs.Prelude.{◌≡◌, ◌≤◌, ◌<◌, ◌↔◌, IsSome, IfSome};
 ghost use Rattle.lf_floorplan.specs.Bounds.{IsWithin, AreAllowed};
@@ -6,7 +6,7 @@ ghost use Rattle.lf_floorplan.specs.Bounds.{IsWithin, AreAllowed};
 /// The limits of a design, each from 1 to its largest value.
 #[derive(Clone, Copy, Debug, PartialEq, Eq)]
 pub struct Limits {
-    /// Heeded rows, at most 65,535.
+    /// Rows of core sites, at most 65,535.
     pub rows: u32,
     /// Fences, at most 1,024.
     pub fences: u32,
@@ -22,8 +22,7 @@ pub struct Limits {
 }
 
 impl Limits {
-    /// The limits where none are given: 8 sessions and 64 undo entries, and each other limit at its
-    /// largest value.
+    /// The default limits: 8 sessions, 64 undo entries, and each other limit at its largest value.
     pub fn standard() -> Self
         ensures rows { result.rows ≡ 65535 }
         ensures fences { result.fences ≡ 1024 }
@@ -42,7 +41,7 @@ impl Limits {
         }
     }
 
-    /// These limits, unless one of them is 0 or above its largest value.
+    /// These limits; none if one of them is 0 or above its largest value.
     pub fn checked(
         rows: u32,
         fences: u32,

@@ -15,7 +15,7 @@ pub struct Cell {
     pub team: usize,
     /// The position of its macro in the frame.
     pub mac: usize,
-    /// Its place in the DEF text; none where it is unplaced there.
+    /// Its place in the DEF text; none if it is unplaced there.
     pub place: Option<Place>,
     /// The position of its entry among all COMPONENTS of the DEF text.
     pub component: usize,

@@ -21,7 +21,7 @@ pub struct Team {
     pub rects: Sequence<Rect>,
 }
 
-/// The head of the DEF text, token by token, and its database units per micron (DEF UNITS).
+/// The header of the DEF text, token by token, and its database units per micron (DEF UNITS).
 #[derive(Drop)]
 pub struct Header {
     pub version: Name,

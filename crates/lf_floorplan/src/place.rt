@@ -1,4 +1,4 @@
-//! Where a cell stands.
+//! The place of a cell.
 
 ghost use Rattle.std.specs.Prelude.{◌≡◌, ◌<ℤ◌, negsuc};
 

@@ -13,7 +13,7 @@ use lf_units::{Point, Rect};
 /// Millionths of a micron in one micron.
 const MICRON: i64 = 1_000_000;
 
-/// A length of LEF in database units.
+/// A length of LEF, in millionths of a micron, as one in database units.
 fn length_in_units(micros: i64, units: u32) -> i64
     requires whole { IsLength units micros (in_dbu units micros) }
     requires positive { pos 0 <ℤ in_dbu units micros }

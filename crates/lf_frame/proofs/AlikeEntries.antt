@@ -90,7 +90,7 @@ entry_same xs ys k d same within =
     let there : k < length xs = omega (arith, length_same xs ys same) in
     sym (get_or-map settled xs k d d there) ∙ ap (λ l. get_or l k d) same ∙ get_or-map settled ys k d d within
 
--- the names that components bear
+-- the names that components have
 names_same : (name_of : Component → List ℕ) → ((c : Component) → name_of (settled c) ≡ name_of c) → (xs ys : List Component) → SameAll xs ys →
     map name_of xs ≡ map name_of ys
 names_same name_of without xs ys same = of_map xs ∙ ap (map name_of) same ∙ sym (of_map ys)
@@ -99,7 +99,7 @@ names_same name_of without xs ys same = of_map xs ∙ ap (map name_of) same ∙ 
     of_map [] = refl
     of_map (c ∷ cs) = rw (without c, of_map cs)
 
--- where movable components stand plays no part in whether an entry breaks the rule
+-- the places of movable components do not affect whether an entry breaks the rule
 abbrev pub Respects : (List Component → Component → Type 0) → Type 0
 Respects breaks = (xs ys : List Component) (a b : Component) → SameAll xs ys → Same a b → breaks xs a → breaks ys b
 
@@ -130,7 +130,7 @@ named_alike name_of without xs ys same None = refl
 named_alike name_of without xs ys same (Some n) =
     sym (slice_get-map name_of xs n) ∙ ap (λ l. slice_get l n) (names_same name_of without xs ys same) ∙ slice_get-map name_of ys n
 
--- the first component that breaks a rule bears the same name
+-- the first component that breaks a rule has the same name
 pub name_alike : (name_of : Component → List ℕ) → ((c : Component) → name_of (settled c) ≡ name_of c) → (breaks : List Component → Component → Type 0) →
     Respects breaks →
     (xs ys : List Component) → SameAll xs ys → (found : Option (List ℕ)) → NameOfFirst name_of breaks xs found → NameOfFirst name_of breaks ys found
@@ -140,7 +140,7 @@ name_alike name_of without breaks respects xs ys same found n = record {
   name = n.name ∙ named_alike name_of without xs ys same n.place;
 }
 
--- Where movable components stand plays no part in any rule for components.
+-- Where movable components stand is ignored in any rule for components.
 
 pub no_macro_respects : (library : Contents) → Respects (HasNoMacro library)
 no_macro_respects library xs ys a b all same h = (sym (cover_same a b same) ∙ h.0, subst (λ m. macro_named library m ≡ None) (mac_same a b same) h.1)

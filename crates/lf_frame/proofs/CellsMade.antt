@@ -8,7 +8,7 @@ use Rattle.lf_claims.specs.Teams.{is_movable}
 use Rattle.lf_refusals.specs.Findings.{Inputs}
 use Rattle.lf_frame.specs.Loads.{movables, movables_from, IsCellOf}
 
--- whatever cells the components from this one on have, behind these they are the cells of all
+-- whatever cells the components from this one on have, after these they are the cells of all
 abbrev pub GoesOn : Inputs → List Component → ℕ → List Cell → Type 0
 GoesOn i components k cells = (more : List Cell) → AllZip (IsCellOf i) (movables_from k (drop k components)) more → AllZip (IsCellOf i) (movables components) (cells ++ more)
 

@@ -174,7 +174,7 @@ near_rows i core is whole a =
     let behind_fences = (first_nothing behind_rows).1 in
     none_of_name (of_pitch i core (λ s pitch. NameOfFirst (λ r. r.name) (EndsTooFar s pitch) i.document.rows) is whole (first_nothing behind_fences).1)
 
--- no more rows are heeded than the limit
+-- there are at most as many rows of core sites as the limit
 few_rows : (i : Inputs) (core : Site) → core_in i ≡ Some core → IsAccepted i → length (map frame_row (filter (is_heeded core) i.document.rows)) ≤ i.limits.rows
 few_rows i core is a =
     few_kept frame_row (is_heeded core) i.limits.rows i.document.rows
@@ -186,7 +186,8 @@ few_fences i a =
     let behind_rows = (first_nothing (a TooMany)).1 in
     few_kept frame_team is_fence i.limits.fences i.document.regions (none_of_name {breaks = IsFenceTooMany i.limits.fences} (first_nothing behind_rows).0)
 
--- what a frame keeps of the rows that are heeded, the fences, the obstacles and the macros of an accepted design with this core site
+-- what a frame keeps of the rows that are of core sites, the fences, the obstacles and the macros of an accepted design with this
+-- core site
 pub record IsFrameKept (i : Inputs) (core : Site) : Type 0 where
   pub site_in_lef : IsLefSize core.size
   pub pitch_whole : IsPitch (units_in i) core.size (size_in_dbu (units_in i) core.size)

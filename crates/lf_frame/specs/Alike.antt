@@ -1,4 +1,4 @@
--- Inputs of loading that differ in nothing but where components stand in the DEF text: loading answers the same for both.
+-- Inputs of loading that differ in nothing but where components are in the DEF text: loading returns the same for both.
 use Rattle.std.specs.Prelude.{◌≡◌, ℕ, List, Option, None, cond, option_map}
 use Rattle.lf_lex.specs.declared.fault.FaultNumber.{FaultNumber}
 use Rattle.lf_lex.specs.declared.fault.LoadFault.{LoadFault}
@@ -19,11 +19,11 @@ pub record AreAlike (i j : Inputs) : Type 0 where
   pub document : document_without_places i.document ≡ document_without_places j.document
   pub limits : i.limits ≡ j.limits
 
--- of inputs that are alike, every refusal finds the same
+-- on inputs that are alike, every refusal finds the same
 abbrev pub FindAlike : Type 0
 FindAlike = (i j : Inputs) → AreAlike i j → (n : FaultNumber) (found : Option (List ℕ)) → Finds i n found → Finds j n found
 
--- of inputs that are alike, where one is accepted the other is
+-- of inputs that are alike, if one is accepted so is the other
 abbrev pub AcceptedAlike : Type 0
 AcceptedAlike = (i j : Inputs) → AreAlike i j → IsAccepted i → IsAccepted j
 

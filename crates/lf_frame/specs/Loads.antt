@@ -1,4 +1,4 @@
--- What loading gives: the frame, and the movable cells with their teams.
+-- What loading returns: the frame, and the movable cells with their teams.
 use Rattle.std.specs.Prelude.{◌≡◌, ℕ, cond, true, ◌||◌, List, [], ◌++◌, map, filter, filter_map, flat_map, Option, Some, None, option_map, IfSome, IsSome, pos, ◌<ℤ◌, All}
 use Rattle.std.specs.List.{AllZip, enumerate_from}
 use Rattle.std.specs.Option.{option_and_then}
@@ -25,7 +25,7 @@ use Rattle.lf_refusals.specs.Loading.{macro_named, is_heeded, frame_row}
 use Rattle.lf_claims.specs.Refusals.{HasTwoFences}
 use Rattle.lf_refusals.specs.Findings.{Inputs, units_in, core_in, IsAccepted}
 
--- the head of the document, with its database units of a micron
+-- the header of the document, with its database units per micron
 abbrev pub header_in : Inputs → Header
 header_in i = record {
   version = i.document.header.version;
@@ -39,17 +39,17 @@ header_in i = record {
 abbrev pub frame_team : Region → Team
 frame_team r = record { name = r.name; rects = r.rects }
 
--- where a component stands; an unplaced one stands nowhere
+-- the location of a component; none if it is unplaced
 abbrev pub location : Component → Option Location
 location c = option_and_then (λ p. p.place) c.placement
 
--- the macro has a size above 0 both ways that is whole in database units
+-- the macro's size is whole in database units and above 0 both ways
 pub record IsSizedIn (units : ℕ) (m : Macro) : Type 0 where
   pub wide : pos 0 <ℤ m.size.x
   pub high : pos 0 <ℤ m.size.y
   pub whole : IsPitch units m.size (size_in_dbu units m.size)
 
--- the macro of a component, where it is FIXED, has such a size
+-- the macro of a FIXED component has such a size
 abbrev pub FixedIsSized : Contents → ℕ → Component → Type 0
 FixedIsSized library units c = is_fixed c ≡ true → IfSome (macro_named library c.mac) (IsSizedIn units)
 
@@ -66,7 +66,7 @@ blocked b = cond (b.soft || b.partial) [] b.rects
 abbrev pub obstacles_in : Inputs → List Rect
 obstacles_in i = filter_map (fixed_box i.library (units_in i)) i.document.components ++ flat_map blocked i.document.blockages
 
--- what texts keep of names, lengths and coordinates
+-- the ranges that texts keep of names, lengths and coordinates
 pub record AreInRange (i : Inputs) : Type 0 where
   pub units : IsWithin (units_in i) 20000
   pub sites : All IsSite i.library.sites
@@ -76,7 +76,7 @@ pub record AreInRange (i : Inputs) : Type 0 where
   pub components : All IsComponent i.document.components
   pub blockages : All IsBlockage i.document.blockages
 
--- the frame of what is loaded
+-- the frame of these inputs
 pub record IsFrameOf (i : Inputs) (f : Frame) : Type 0 where
   pub site : core_in i ≡ Some f.site
   pub rows : f.rows ≡ map frame_row (filter (is_heeded f.site) i.document.rows)
@@ -111,7 +111,7 @@ pub record IsCellOf (i : Inputs) (entry : ℕ × Component) (c : Cell) : Type 0 
   pub place : option_map as_location c.place ≡ location entry.1
   pub component : c.component ≡ entry.0
 
--- the design of what is loaded: no refusal finds anything, and its frame and its cells, in the order of the text, are these
+-- the design of these inputs: no refusal finds anything, and its frame and its cells, in the order of the text, are these
 pub record IsLoadedFrom (i : Inputs) (l : Loaded) : Type 0 where
   pub accepted : IsAccepted i
   pub frame : IsFrameOf i l.frame

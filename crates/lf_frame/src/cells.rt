@@ -20,7 +20,7 @@ use lf_lef::Library;
 use lf_units::{Name, Sequence};
 use std::alloc::{AllocError, Global};
 
-/// Where the component stands.
+/// The component's place; none if it is unplaced.
 fn place_of(component: &Component) -> Option<Place>
     requires { IsComponent component.now }
     ensures { option_map as_location result ≡ location_of component.now }

@@ -1,4 +1,4 @@
-//! What a frame takes over from the library and the document.
+//! What a frame copies from the library and the document.
 
 ghost use Rattle.std.specs.Prelude.{◌≡◌, ℕ, ◌++◌, ◌∷◌, [], true, false, Some, None, IfOk, IfSome, OnOk, OnErr, All, map, filter, filter_map, flat_map, unwrap_or, option_map};
 ghost use Rattle.lf_def.specs.Ranges.{IsCoordinate, IsRow, IsComponent, IsLocation};
@@ -56,7 +56,7 @@ pub(crate) fn copy_macros(alloc: Global, macros: &[Macro]) -> Result<Sequence<Ma
     Ok(copies)
 }
 
-/// The head of the document with its database units of a micron.
+/// The header of the document with its database units per micron.
 pub(crate) fn copy_header(
     alloc: Global,
     header: &DefHeader,
@@ -95,7 +95,7 @@ fn frame_row(alloc: Global, row: &DefRow) -> Result<Row, AllocError>
     })
 }
 
-/// The heeded rows, in the order of the text.
+/// The rows of core sites, in the order of the text.
 pub(crate) fn heeded_rows(
     alloc: Global,
     rows: &[DefRow],
@@ -143,7 +143,7 @@ pub(crate) fn fence_teams(alloc: Global, regions: &[Region]) -> Result<Sequence<
     Ok(teams)
 }
 
-/// Where the component stands.
+/// The component's location; none if it is unplaced.
 pub(crate) fn location(component: &Component) -> Option<Location>
     ensures is { result ≡ location_of component.now }
 {
@@ -208,7 +208,7 @@ pub(crate) fn fixed_boxes(
     Ok(boxes)
 }
 
-/// Puts copies of the rectangles behind the others.
+/// Appends copies of the rectangles.
 fn push_rects(rects: &[Rect], obstacles: &mut Sequence<Rect>) -> Result<(), AllocError>
     ensures { OnOk result (obstacles.new ≡ obstacles.old ++ rects.now) }
 {
@@ -218,7 +218,7 @@ fn push_rects(rects: &[Rect], obstacles: &mut Sequence<Rect>) -> Result<(), Allo
     Ok(())
 }
 
-/// Puts the rectangles of a placement blockage that is neither SOFT nor PARTIAL behind the others.
+/// Appends the rectangles of a placement blockage that is neither SOFT nor PARTIAL.
 fn push_blockage(blockage: &Blockage, obstacles: &mut Sequence<Rect>) -> Result<(), AllocError>
     ensures { OnOk result (obstacles.new ≡ obstacles.old ++ blocked blockage.now) }
 {
@@ -228,7 +228,7 @@ fn push_blockage(blockage: &Blockage, obstacles: &mut Sequence<Rect>) -> Result<
     push_rects(blockage.rects.as_slice(), obstacles)
 }
 
-/// Puts the rectangles of all placement blockages that are neither SOFT nor PARTIAL behind the others.
+/// Appends the rectangles of all placement blockages that are neither SOFT nor PARTIAL.
 pub(crate) fn push_blockages(
     blockages: &[Blockage],
     obstacles: &mut Sequence<Rect>,

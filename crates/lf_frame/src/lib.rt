@@ -1,4 +1,5 @@
-//! Loading a design: the frame, what every team sees and no command changes, and the movable cells.
+//! Loading a design: the frame, which every team sees and no command changes, and the movable
+//! cells.
 #![tactic(auto)]
 
 mod cells;

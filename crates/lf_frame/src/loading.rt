@@ -21,7 +21,7 @@ use lf_refusals::{core_pitch, first_refusal, sized_core_site, units_of};
 use lf_units::{Rect, Sequence};
 use std::alloc::{AllocError, Global};
 
-/// What the library and the document keep in their types.
+/// What the types of the library and the document keep.
 fn ranges_kept(library: &Library, document: &DefDoc, limits: &Limits)
     ensures { AreInRange (inputs library.now document.now limits.now) }
 {
@@ -98,7 +98,7 @@ fn accepted_design(
     Ok(loaded_from(frame, cells))
 }
 
-/// What the names of all components tell, for all groups of the document.
+/// The claims on the names of all components, by all groups of the document.
 fn claims_of(alloc: Global, document: &DefDoc) -> Result<ClaimTable, AllocError>
     ensures { IfOk result (λ claims. IsTableOf document.now.regions document.now.groups document.now.components claims) }
 {
@@ -110,7 +110,7 @@ fn claims_of(alloc: Global, document: &DefDoc) -> Result<ClaimTable, AllocError>
     )
 }
 
-/// Want of memory, as loading answers it.
+/// The fault for a failed allocation.
 fn out_of_memory<'d>() -> LoadFault<'d>
     ensures { result ≡ load_fault_of Memory }
 {
@@ -119,12 +119,12 @@ fn out_of_memory<'d>() -> LoadFault<'d>
 
 /// Loads the design of a library of LEF texts and the document of a DEF text, within the limits.
 ///
-/// A refusal names the least of its numbers that finds anything, from 7 on, and the first entry that it finds,
-/// in the order of the DEF text: the design for NoUnits and NoRows; a site for NoSite; a row for VerticalRow,
-/// BadStep, RowOrient and RowsOverlap; a macro for NoMacro and NoSize; the core site or a macro for NotWhole; a
-/// component for SecondName and TwoFences; a region for SecondRegion, NoRegion, TeamName and FencesOverlap; and
-/// the row, region or component that is one too many for TooMany. OutOfMemory, which names nothing, may stand in
-/// the place of any answer. The name is lent by the document or the library.
+/// `Err` is the refusal of least number, from 7 on, that finds an entry, with the name of the first that it finds in the
+/// order of the DEF text: the design for NoUnits and NoRows; a site for NoSite; a row for VerticalRow, BadStep, RowOrient
+/// and RowsOverlap; a macro for NoMacro and NoSize; the core site or a macro for NotWhole; a component for SecondName and
+/// TwoFences; a region for SecondRegion, NoRegion, TeamName and FencesOverlap; for TooMany the first row, region or
+/// component beyond a limit, or a row that ends past x 2147483647. OutOfMemory, which names nothing, may replace any
+/// answer. The name is borrowed from the document or the library.
 pub fn load<'d>(
     alloc: Global,
     library: &'d Library,

@@ -51,7 +51,7 @@ pub nearest_of_same : (F G : ℤ → Type 0) (t : ℤ) (found : Option ℤ) → 
 nearest_of_same F G t None to from p = λ x g. p x (from x g)
 nearest_of_same F G t (Some z) to from p = record { fit = to z p.fit; least = λ w g. p.least w (from w g) }
 
--- what is farther than the best so far plays no part
+-- what is farther than the best so far is ignored
 pub nearest_of_near : (F H : ℤ → Type 0) (t : ℤ) (found : Option ℤ) → ((x : ℤ) → F x → H x) → FindsNearest F t found →
     IsSomeAnd found (λ z. (x : ℤ) → H x → F x ⊎ (distance t z < distance t x)) → FindsNearest H t found
 nearest_of_near F H t None to p far = absurd far

@@ -1,4 +1,4 @@
--- Where a width fits into one span of each of several lists.
+-- A width that fits into one span of each of several lists.
 use Rattle.std.specs.Prelude.{ℤ, List, All, Any}
 use Rattle.lf_spans.specs.declared.span.Span.{Span}
 use Rattle.lf_spans.specs.declared.grid.Grid.{Grid}

@@ -1,11 +1,11 @@
--- What the steps of the look for the nearest gap give.
+-- What the steps of the search for the nearest gap return.
 use Rattle.std.specs.Prelude.{◌≡◌, ℤ, pos, ◌+ℤ◌, ◌≤ℤ◌, ◌<ℤ◌, ◌<◌, ◌⊎◌, List, Any, Option, IfSome, IsSomeAnd}
 use Rattle.lf_spans.specs.declared.span.Span.{Span}
 use Rattle.lf_spans.specs.declared.grid.Grid.{Grid}
 use Rattle.lf_spans.specs.Grids.{IsBounded, IsNoFarther, IsOnGrid, IsWithin, distance}
 use Rattle.lf_gaps.specs.declared.row.Wanted.{Wanted}
 
--- a width above 0, and a target, at most 2 to the 40th power either way
+-- a width above 0, and a target; both are at most 2^40 either way
 pub record IsWanted (wanted : Wanted) : Type 0 where
   pub some : pos 0 <ℤ wanted.width
   pub width : IsBounded wanted.width
@@ -22,10 +22,10 @@ pub record IsNearerOf (a b : Option ℤ) (target : ℤ) (found : Option ℤ) : T
   pub first : IfSome a (λ x. IsSomeAnd found (λ z. IsNoFarther target z x))
   pub second : IfSome b (λ x. IsSomeAnd found (λ z. IsNoFarther target z x))
 
--- there is a best so far, and it is nearer than each number from where the span begins
+-- there is a best so far, and it is nearer than each number from the start of the span on
 abbrev pub IsPast : Span → Option ℤ → ℤ → Type 0
 IsPast span best target = IsSomeAnd best (λ x. (y : ℤ) → span.lo ≤ℤ y → distance target x < distance target y)
 
--- there is a best so far, and it is nearer than each number from which the width ends in the span, or before it
+-- there is a best so far, and it is nearer than each number at which the width ends in the span or left of it
 abbrev pub IsBefore : Span → Option ℤ → Wanted → Type 0
 IsBefore span best wanted = IsSomeAnd best (λ x. (y : ℤ) → (y +ℤ wanted.width) ≤ℤ span.hi → distance wanted.target x < distance wanted.target y)

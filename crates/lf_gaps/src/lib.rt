@@ -1,5 +1,5 @@
-//! Where a width fits into one span of each of several lists, at the number of a grid nearest to a
-//! target.
+//! The number of a grid nearest to a target at which a width fits into one span of each of several
+//! lists.
 #![tactic(auto)]
 
 mod row;

@@ -10,7 +10,7 @@ ghost use Rattle.lf_gaps.specs.Steps.{FitsOne, IsBefore, IsNearerOf, IsPast, IsW
 use lf_spans::{Grid, Span, nearest_fit, spans_meet_all};
 use std::alloc::{AllocError, Global};
 
-/// How wide a gap has to be, and the number to which it is to be near.
+/// The width that a gap must have, and the target that it is to be near.
 #[derive(Clone, Copy)]
 struct Wanted {
     width: i64,
@@ -24,7 +24,7 @@ fn wanted_of(width: i64, target: i64) -> Wanted
     Wanted { width, target }
 }
 
-/// The nearest number at which the width fits into one span.
+/// The nearest number at which the width fits into the span.
 fn nearest_in_span(span: &Span, grid: &Grid, wanted: &Wanted) -> Option<i64>
     requires grid { IsGrid grid.now }
     requires bounded { IsBoundedSpan span.now }
@@ -34,7 +34,7 @@ fn nearest_in_span(span: &Span, grid: &Grid, wanted: &Wanted) -> Option<i64>
     nearest_fit(span, grid, wanted.width, wanted.target)
 }
 
-/// Whether the first number is nearer to the target than the second, or as near and less.
+/// Whether the first number is nearer to the target than the second, or equally near and less.
 fn is_nearer(first: &i64, second: &i64, wanted: &Wanted) -> bool
     ensures yes { OnTrue result (IsNoFarther wanted.now.target first.now second.now) }
     ensures other { OnFalse result (IsNoFarther wanted.now.target second.now first.now) }
@@ -47,7 +47,7 @@ fn is_nearer(first: &i64, second: &i64, wanted: &Wanted) -> bool
     near < far
 }
 
-/// The nearer of two, where there are two.
+/// The nearer of two options; the other one if one is none.
 fn nearer_of(best: &Option<i64>, next: &Option<i64>, wanted: &Wanted) -> Option<i64>
     ensures { IsNearerOf best.now next.now wanted.now.target result }
 {
@@ -64,7 +64,7 @@ fn nearer_of(best: &Option<i64>, next: &Option<i64>, wanted: &Wanted) -> Option<
     }
 }
 
-/// Whether nothing in the span or behind it can be as near as the best so far.
+/// Whether nothing in the span or right of it can be as near as the best so far.
 fn is_past(span: &Span, best: &Option<i64>, wanted: &Wanted) -> bool
     ensures { IsTrue result → IsPast span.now best.now wanted.now.target }
 {
@@ -77,7 +77,7 @@ fn is_past(span: &Span, best: &Option<i64>, wanted: &Wanted) -> bool
     found.abs_diff(wanted.target) < span.lo.abs_diff(wanted.target)
 }
 
-/// Whether nothing in the span or before it can be as near as the best so far.
+/// Whether nothing in the span or left of it can be as near as the best so far.
 fn is_before(span: &Span, best: &Option<i64>, wanted: &Wanted) -> bool
     requires bounded { IsBoundedSpan span.now }
     requires wanted { IsWanted wanted.now }
@@ -93,8 +93,8 @@ fn is_before(span: &Span, best: &Option<i64>, wanted: &Wanted) -> bool
     found.abs_diff(wanted.target) < last.abs_diff(wanted.target)
 }
 
-/// The nearest number at which the width fits into one of the spans, which are looked at from left
-/// to right until the rest lies too far right.
+/// The nearest number at which the width fits into one of the spans. They are searched from left to
+/// right until the rest is too far right.
 fn nearest_rightwards(spans: &[Span], grid: &Grid, wanted: &Wanted) -> Option<i64>
     requires grid { IsGrid grid.now }
     requires rising { IsRising spans.now }
@@ -112,8 +112,8 @@ fn nearest_rightwards(spans: &[Span], grid: &Grid, wanted: &Wanted) -> Option<i6
     best
 }
 
-/// The nearest number at which the width fits into one of the spans. The look goes outwards from
-/// the target, first to the right and then to the left, and ends where the rest lies too far off.
+/// The nearest number at which the width fits into one of the spans. The search goes outwards from
+/// the target, first right and then left, and ends where the rest is too far.
 fn nearest_of(spans: &[Span], grid: &Grid, wanted: &Wanted) -> Option<i64>
     requires grid { IsGrid grid.now }
     requires rising { IsRising spans.now }
@@ -135,8 +135,8 @@ fn nearest_of(spans: &[Span], grid: &Grid, wanted: &Wanted) -> Option<i64>
     best
 }
 
-/// The number of the grid nearest to the target, the lesser of two, from which on the width lies in
-/// one span of each list; none where there is no such number. Spans that touch stay apart.
+/// The grid number nearest to the target at which the width lies in one span of each list; the
+/// lesser of two equally near ones; none if there is none. Spans that touch stay apart.
 pub fn best_in_row(
     alloc: Global,
     lists: &[Vec<Span>],

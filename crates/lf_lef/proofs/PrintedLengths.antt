@@ -1,4 +1,4 @@
--- Printed lengths, points and words are read back, and what is passed over is passed over up to its semicolon.
+-- Printed lengths, points and words are read back, and what is skipped is skipped up to its semicolon.
 use Rattle.std.proofs.Common.{◌≡◌, ◌≢◌, ℕ, ◌^◌, ◌<◌, Bool, true, false, cond, List, [], ◌∷◌, ◌++◌, All, map, length, ℤ, Result, Ok, Err, refl, sym, ap, ◌∙◌}
 use Rattle.std.proofs.Common.{arith}
 use Rattle.std.specs.Prelude.{codes}
@@ -144,9 +144,9 @@ words_turns (turned ∷ ws) s = word_turns s s (with_symmetries s ws) (word_of (
 pub symmetries_back : (ws : List SymmetryWord) → BackAt same symmetry (symmetry_tokens ws) (with_symmetries no_symmetry ws)
 symmetries_back ws = at_block same symmetry_word no_symmetry (with_symmetries no_symmetry ws) (symmetry_tokens ws) (words_turns ws no_symmetry)
 
--- Statements that are passed over.
+-- Statements that are skipped.
 
--- a statement that is passed over, where a semicolon alone is passed over and any other first token but those
+-- a statement that is skipped, where a semicolon alone is skipped and any other first token but those
 pub passed_back : {S : Type 0} (from : Lexeme → Reader (Turn S)) (s : S) (others : List (List ℕ)) (ts : List Plain) → IsPassedOver others ts
     → ((t : Lexeme) (l : Lexed) → from (record t { text = codes ";"; kind = Word }) l ≡ goes_on s l)
     → ((u : Plain) → All (λ w. u.text ≢ w) others → u.text ≢ codes ";" → (t : Lexeme) (l : Lexed)

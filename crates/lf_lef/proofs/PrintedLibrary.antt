@@ -1,4 +1,4 @@
--- Printed sites and macros are read back in texts, and statements that are passed over play no part.
+-- Printed sites and macros are read back in texts, and statements that are skipped are ignored.
 use Rattle.std.proofs.Common.{◌≡◌, ◌≢◌, ℕ, zero, suc, ◌<◌, Bool, true, false, cond, List, [], ◌∷◌, ◌++◌, All, map, length, ℤ, None, Result, Ok, Err, refl, sym}
 use Rattle.std.proofs.Common.{ap, ◌∙◌, arith}
 use Rattle.std.specs.Prelude.{codes, nat_le}
@@ -46,7 +46,7 @@ use Rattle.lf_lef.proofs.PrintedMacros.{macro_parts_back}
 has_room : (n : ℕ) → n < 1000000 → nat_le 1000000 n ≡ false
 has_room n lt = grind (arith, nat_tests)
 
--- Statements that are passed over.
+-- Statements that are skipped.
 
 plain_due : (c : Contents) (ts : List Plain) → IsPassedOver other_statements ts → BackAt same (due_statement c) (with_semicolon ts) (turn c true)
 unfolding due_statement statement_from passed_from
@@ -83,7 +83,7 @@ named_back n between p h =
     at_bind plain same name _ (word_of n ∷ []) (between ++ map word_of (end_words n)) (token_with n) tt (short_name_back n p.word p.short) (λ t e.
     rw (text_is n t e) (to_end_before n (same_bytes n) between h))
 
--- a keyword behind which something is passed over
+-- a keyword after which something is skipped
 keyword_due : (c : Contents) (w : List ℕ) (r : Reader (Unit {0})) (vs : List Plain)
     → ((t : Lexeme) (l : Lexed) → statement_from c (record t { text = w; kind = Word }) l ≡ (r l >>= λ stop. goes_on c stop.rest)) → BackAt same r vs tt
     → BackAt same (due_statement c) (word_of w ∷ vs) (turn c true)
@@ -156,7 +156,7 @@ same_from one goes n n' s l lt lt' later (Ok t) h =
     let shorter = goes s t.value.state l t.rest (h ∙ ap (λ (b : Bool). taken (turn t.value.state b) t.rest) more) in
     later t.value.state t.rest (omega (arith, shorter, lt)) (omega (arith, shorter, lt')))
 
--- how many turns there may be plays no part where there are enough
+-- the bound on turns does not matter if it is large enough
 same_turns : {S : Type 0} (one : Statement S) → Goes one → (n n' : ℕ) (s : S) (l : Lexed) → length l.tokens < n → length l.tokens < n'
     → statements one n s l ≡ statements one n' s l
 unfolding statements
@@ -170,7 +170,7 @@ library_turn c c' l k h =
     let shorter = statement_goes c c' l k h in
     rw h (same_turns statement statement_goes (length l.tokens) (suc (length k.tokens)) c' k shorter (omega arith))
 
--- a statement of these tokens is read, whatever stands behind
+-- a statement of these tokens is read, whatever stands after
 library_step : (c c' : Contents) (ts : List Plain) (p : List Lexeme) (k : Lexed) → BackAt same (due_statement c) ts (turn c' true) → Spells p ts
     → library c (with_tokens p k) ≡ library c' k
 library_step c c' ts p k back e =

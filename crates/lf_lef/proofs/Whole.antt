@@ -1,4 +1,5 @@
--- The statements of a text take a run of tokens, read alike from tokens that differ in their places alone, and leave what stands behind END LIBRARY.
+-- The statements of a text take a run of tokens, read alike from tokens that differ in their places alone, and leave what stands
+-- after END LIBRARY.
 use Rattle.std.proofs.Common.{◌≡◌, ℕ, zero, suc, ◌<◌, Bool, true, false, ◌||◌, cond, List, [], ◌∷◌, length, map, Option, Some, None, Result, Ok, Err, refl, ap}
 use Rattle.std.proofs.Common.{sym, ◌∙◌}
 use Rattle.std.specs.Prelude.{codes, nat_le}
@@ -162,7 +163,7 @@ goes_with c c1 l m (t ∷ ts) e h = due_statement_goes c c1 l m (sym (with_token
 pub statement_goes : Goes statement
 statement_goes c c1 l m h = goes_with c c1 l m l.tokens refl h
 
--- What stands behind END LIBRARY.
+-- What stands after END LIBRARY.
 
 nothing_left : (l m : Lexed) → l.tokens ≡ [] → m ≡ l → m.tokens ≡ []
 nothing_left l m e f = ap (λ (x : Lexed). x.tokens) f ∙ e

@@ -5,7 +5,7 @@ use Rattle.lf_floorplan.specs.declared.sites.Site.{Site}
 use Rattle.lf_floorplan.specs.declared.macros.Macro.{Macro}
 use Rattle.lf_lef.specs.Lengths.{HasRange}
 
--- the sites and the macros, each in the order in which they were first read
+-- the sites and the macros, each in first-read order
 pub record Contents : Type 0 where
   pub sites : List Site
   pub macros : List Macro

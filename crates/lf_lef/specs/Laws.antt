@@ -1,4 +1,4 @@
--- What is true of reading LEF, whatever is read.
+-- Laws on reading LEF, whatever is read.
 use Rattle.std.specs.Prelude.{◌≡◌, ℕ, List, ◌∷◌, ◌++◌, length, take, Option, Some, Ok}
 use Rattle.lf_lex.specs.Tokens.{Lexeme, tokens_of}
 use Rattle.lf_lex.specs.Reading.{taken, behind}
@@ -8,31 +8,31 @@ use Rattle.lf_lef.specs.declared.macros.MacroParts.{MacroParts}
 use Rattle.lf_lef.specs.Contents.{Contents}
 use Rattle.lf_lef.specs.Library.{library, library_after}
 
--- Where reading a text leaves tokens unread, any bytes may stand from the first of these on.
+-- If reading a text leaves tokens unread, any bytes may replace those from the first of these on.
 abbrev pub EndsBefore : Contents → Contents → List ℕ → Type 0
 EndsBefore old new text = (read : List Lexeme) (t : Lexeme) (unread : List Lexeme) → (tokens_of text).tokens ≡ read ++ t ∷ unread
     → library old (tokens_of text) ≡ taken new (behind (t ∷ unread) (tokens_of text)) → (bytes : List ℕ) → library_after old (take t.start text ++ bytes) ≡ Ok new
 
--- what the first statement of a kind said stands
+-- what the first statement of a kind said is kept
 abbrev pub Stands : {A : Type 0} → Option A → Option A → Type 0
 Stands old new = (said : _) → old ≡ Some said → new ≡ Some said
 
--- all that was read stays in front
+-- all that was read stays at the front
 abbrev pub StaysInFront : {A : Type 0} → List A → List A → Type 0
 StaysInFront old new = take (length old) new ≡ old
 
--- the first CLASS, SYMMETRY and SIZE of a site stand
+-- the first CLASS, SYMMETRY and SIZE of a site count
 pub record SiteStands (old new : SiteParts) : Type 0 where
   pub core : Stands old.core new.core
   pub symmetry : Stands old.symmetry new.symmetry
   pub size : Stands old.size new.size
 
--- the first USE of a pin stands, and every RECT counts
+-- the first USE of a pin counts, and every RECT
 pub record PinStands (old new : Pin) : Type 0 where
   pub supply : Stands old.supply new.supply
   pub reaches : StaysInFront old.reaches new.reaches
 
--- the first SIZE, ORIGIN and SYMMETRY of a macro stand, and every PIN counts
+-- the first SIZE, ORIGIN and SYMMETRY of a macro count, and every PIN
 pub record MacroStands (old new : MacroParts) : Type 0 where
   pub size : Stands old.size new.size
   pub origin : Stands old.origin new.origin

@@ -11,7 +11,7 @@ pub record IsInRange (length : ℤ) : Type 0 where
   pub low : negsuc 999999999999 ≤ℤ length
   pub high : length ≤ℤ pos (10 ^ 12)
 
--- both lengths of a point or a size do
+-- both lengths of a point or a size are in that range
 pub record HasRange (p : Point) : Type 0 where
   pub x : IsInRange p.x
   pub y : IsInRange p.y
@@ -27,7 +27,7 @@ micros l = do
   length ← micros_of t.value
   taken length t.rest
 
--- a point, of which the first token was read: x y, or ( x y )
+-- a point, after its first token: x y, or ( x y )
 unfoldable pub point_from : Lexeme → Reader Point
 point_from t l =
     if is (codes "(") t then (micros l >>= λ x. micros x.rest >>= λ y. keyword (codes ")") y.rest >>= λ stop.
@@ -40,7 +40,7 @@ point l = do
   t ← token l
   point_from t.value t.rest
 
--- SIZE w BY h ; behind its keyword (LEF SITE, LEF MACRO)
+-- SIZE w BY h ; after its keyword (LEF SITE, LEF MACRO)
 unfoldable pub size : Reader Point
 size l = do
   width ← micros l
@@ -49,7 +49,7 @@ size l = do
   stop ← keyword (codes ";") height.rest
   taken (record { x = width.value; y = height.value }) stop.rest
 
--- ORIGIN x y ; behind its keyword (LEF MACRO)
+-- ORIGIN x y ; after its keyword (LEF MACRO)
 unfoldable pub origin : Reader Point
 origin l = do
   p ← point l

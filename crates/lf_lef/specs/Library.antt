@@ -13,17 +13,17 @@ use Rattle.lf_lef.specs.Contents.{Contents, site_names, macro_names}
 use Rattle.lf_lef.specs.Sites.{site_parts, site_of}
 use Rattle.lf_lef.specs.Macros.{macro_parts, macro_of}
 
--- where nothing has the name yet, there has to be room for one thing more
+-- a new name needs room for one thing more
 abbrev pub room_for : Option ℕ → ℕ → Lexeme → Result (Unit {0}) ReadFault
 room_for (Some at) count t = Ok tt
 room_for None count t = if nat_le 1000000 count then fault_at TooMany t.line else Ok tt
 
--- of several things of one name the first stands
+-- of several things of one name the first counts
 abbrev pub with_first : {A : Type 0} → Option ℕ → List A → A → List A
 with_first (Some at) things thing = things
 with_first None things thing = things ++ thing ∷ []
 
--- SITE name, its statements, END name; behind its keyword
+-- SITE name, its statements, END name; after its keyword
 unfoldable pub with_site : Contents → Reader Contents
 with_site c l = do
   n ← name l
@@ -31,7 +31,7 @@ with_site c l = do
   parts ← site_parts n.value.text n.rest
   taken (record c { sites = with_first (position_of (site_names c.sites) n.value.text) c.sites (site_of n.value.text parts.value) }) parts.rest
 
--- MACRO name, its statements, END name; behind its keyword
+-- MACRO name, its statements, END name; after its keyword
 unfoldable pub with_macro : Contents → Reader Contents
 with_macro c l = do
   n ← name l
@@ -39,11 +39,11 @@ with_macro c l = do
   parts ← macro_parts n.value.text n.rest
   taken (record c { macros = with_first (position_of (macro_names c.macros) n.value.text) c.macros (macro_of n.value.text parts.value) }) parts.rest
 
--- what is passed over to END and the name that follows its keyword (LEF LAYER, VIA, VIARULE, NONDEFAULTRULE, ARRAY)
+-- what is skipped to END and the name that follows its keyword (LEF LAYER, VIA, VIARULE, NONDEFAULTRULE, ARRAY)
 abbrev pub is_named : Lexeme → Bool
 is_named t = is (codes "LAYER") t || is (codes "VIA") t || is (codes "VIARULE") t || is (codes "NONDEFAULTRULE") t || is (codes "ARRAY") t
 
--- what is passed over to END and its keyword (LEF UNITS, PROPERTYDEFINITIONS, SPACING and groups of older texts)
+-- what is skipped to END and its keyword (LEF UNITS, PROPERTYDEFINITIONS, SPACING and groups of older texts)
 abbrev pub is_group : Lexeme → Bool
 is_group t = is (codes "UNITS") t || is (codes "PROPERTYDEFINITIONS") t || is (codes "SPACING") t || is (codes "IRDROP") t || is (codes "NOISETABLE") t || is
     (codes "CORRECTIONTABLE") t
@@ -54,7 +54,7 @@ to_named_end l = do
   n ← name l
   to_end n.value.text n.rest
 
--- A statement that says nothing of sites and macros, of which the first token was read.
+-- A statement other than SITE and MACRO, after its first token.
 unfoldable pub passed_from : Lexeme → Reader (Unit {0})
 passed_from t l =
     if is_named t then to_named_end l
@@ -63,7 +63,7 @@ passed_from t l =
     else if is (codes ";") t then taken tt l
     else to_semicolon l
 
--- A statement of the text, of which the first token was read: SITE and MACRO count, and others are passed over.
+-- A statement of the text, after its first token: SITE and MACRO count, and others are skipped.
 unfoldable pub statement_from : Contents → Lexeme → Reader (Turn Contents)
 statement_from c t l =
     if is (codes "END") t then (end_name (codes "LIBRARY") l >>= λ stop. ends c stop.rest)
@@ -81,7 +81,7 @@ statement c l = do
   t ← next l
   statement_or_end c t.value t.rest
 
--- what a library holds after a text, and what is left behind its END LIBRARY
+-- what a library holds after a text, and what is left after its END LIBRARY
 abbrev pub library : Contents → Reader Contents
 library c l = block statement c l
 
@@ -89,6 +89,6 @@ library c l = block statement c l
 abbrev pub library_after : Contents → List ℕ → Result Contents ReadFault
 library_after c text = value_of (library c (tokens_of text))
 
--- a refusal of the text: its fault with its line, or want of memory
+-- the fault of a reader: that of the text with its line, or a failed allocation
 abbrev pub Refuses : LoadFault → Result Contents ReadFault → Type 0
 Refuses fault reading = (fault ≡ load_fault_of Memory) ⊎ ((first : ReadFault) × (reading ≡ Err first) × (fault ≡ load_fault_of (Fault first)))

@@ -9,7 +9,7 @@ use Rattle.lf_lef.specs.Lengths.{size, origin}
 use Rattle.lf_lef.specs.Sites.{symmetry, no_symmetry, no_point}
 use Rattle.lf_lef.specs.Pins.{pin, rail_of}
 
--- A statement of OBS or DENSITY (LEF MACRO OBS, LEF MACRO DENSITY), which is passed over; an END alone is the last.
+-- A statement of OBS or DENSITY (LEF MACRO OBS, LEF MACRO DENSITY), which is skipped; an END alone is the last.
 unfoldable pub passed_statement : Statement (Unit {0})
 passed_statement _ l = do
   t ← token l
@@ -17,11 +17,11 @@ passed_statement _ l = do
       else if is (codes ";") t.value then goes_on tt t.rest
       else (to_semicolon t.rest >>= λ stop. goes_on tt stop.rest)
 
--- OBS or DENSITY behind its keyword
+-- OBS or DENSITY after its keyword
 abbrev pub passed_group : Reader (Unit {0})
 passed_group l = block passed_statement tt l
 
--- A statement of a macro that says nothing of it, of which the first token was read.
+-- A statement of a macro that is skipped, after its first token.
 unfoldable pub passed_from : Lexeme → Reader (Unit {0})
 passed_from t l =
     if is (codes "OBS") t || is (codes "DENSITY") t then passed_group l
@@ -29,7 +29,8 @@ passed_from t l =
     else if is (codes ";") t then taken tt l
     else to_semicolon l
 
--- A statement of a macro, of which the first token was read: of ORIGIN, SIZE and SYMMETRY the first stands, every PIN counts, and others are passed over.
+-- A statement of a macro, after its first token: of ORIGIN, SIZE and SYMMETRY the first counts, every PIN counts, and others are
+-- skipped.
 unfoldable pub macro_statement_from : List ℕ → MacroParts → Lexeme → Reader (Turn MacroParts)
 macro_statement_from name parts t l =
     if is (codes "END") t then (end_name name l >>= λ stop. ends parts stop.rest)

@@ -14,19 +14,19 @@ use Rattle.lf_lef.specs.declared.pins.Pin.{Pin}
 use Rattle.lf_lef.specs.Lengths.{micros, point_from, point}
 use Rattle.lf_lef.specs.Sites.{one_word}
 
--- MASK n, where it stands
+-- MASK n, if it is there
 unfoldable pub past_mask : Lexeme → Reader Lexeme
 past_mask t l = if is (codes "MASK") t then (micros l >>= λ n. token n.rest) else taken t l
 
--- ITERATE, where it stands
+-- ITERATE, if it is there
 unfoldable pub past_iterate : Lexeme → Reader Lexeme
 past_iterate t l = if is (codes "ITERATE") t then token l else taken t l
 
--- how far up a rectangle reaches, by any two opposite corners
+-- the y range of a rectangle, from any two opposite corners
 abbrev pub reach_of : ℤ → ℤ → Reach
 reach_of a b = record { low = int_min a b; high = int_max a b }
 
--- RECT [MASK n] [ITERATE] pt pt .. ; behind its keyword: of an ITERATE the first rectangle counts
+-- RECT [MASK n] [ITERATE] pt pt .. ; after its keyword: of an ITERATE the first rectangle counts
 unfoldable pub rect : Reader Reach
 rect l = do
   t ← token l
@@ -37,7 +37,7 @@ rect l = do
   stop ← to_semicolon opposite.rest
   taken (reach_of corner.value.y opposite.value.y) stop.rest
 
--- A statement of a port, of which the first token was read: every RECT counts, others are passed over, and an END alone is the last.
+-- A statement of a port, after its first token: every RECT counts, others are skipped, and an END alone is the last.
 unfoldable pub port_statement_from : List Reach → Lexeme → Reader (Turn (List Reach))
 port_statement_from reaches t l =
     if is (codes "END") t then ends reaches l
@@ -50,11 +50,11 @@ port_statement reaches l = do
   t ← token l
   port_statement_from reaches t.value t.rest
 
--- the use that a word names: all but POWER and GROUND play no part
+-- the use that a word names: all but POWER and GROUND are ignored
 abbrev pub use_named : List ℕ → PinUse
 use_named w = if bytes_eq w (codes "POWER") then Power else if bytes_eq w (codes "GROUND") then Ground else Other
 
--- A statement of a pin, of which the first token was read: the first USE stands, every PORT counts, and others are passed over.
+-- A statement of a pin, after its first token: the first USE counts, every PORT counts, and others are skipped.
 unfoldable pub pin_statement_from : List ℕ → Pin → Lexeme → Reader (Turn Pin)
 pin_statement_from name pin t l =
     if is (codes "END") t then (end_name name l >>= λ stop. ends pin stop.rest)
@@ -71,13 +71,13 @@ pin_statement name pin l = do
 abbrev pub no_pin : Pin
 no_pin = record { supply = None; reaches = [] }
 
--- PIN name, its statements, END name; behind its keyword
+-- PIN name, its statements, END name; after its keyword
 unfoldable pub pin : Reader Pin
 pin l = do
   n ← name l
   block (pin_statement n.value.text) no_pin n.rest
 
--- The bottom rail, which is this project's profile.
+-- The bottom rail, which is this project's own rule.
 
 -- the rectangle reaches the line y = 0 after ORIGIN is added
 abbrev pub is_at_bottom : ℤ → Reach → Bool
@@ -102,6 +102,6 @@ is_supply_at_bottom supply origin p = is_used_as supply p.supply && list_any (is
 abbrev pub has_at_bottom : PinUse → ℤ → List Pin → Bool
 has_at_bottom supply origin pins = list_any (is_supply_at_bottom supply origin) pins
 
--- power where a power pin reaches the bottom and no ground pin does, else ground
+-- power if a power pin reaches the bottom and no ground pin does, else ground
 abbrev pub rail_of : ℤ → List Pin → Rail
 rail_of origin pins = if has_at_bottom Power origin pins && not (has_at_bottom Ground origin pins) then rail.Power else rail.Ground

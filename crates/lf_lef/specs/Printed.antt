@@ -1,4 +1,4 @@
--- LEF statements as they are printed, word by word; any white space and comments may stand between the words.
+-- LEF statements as they are printed, word by word; any white space and comments may be between the words.
 use Rattle.std.specs.Prelude.{◌≡◌, ◌≢◌, ℕ, ◌^◌, ◌≤◌, ◌<◌, List, [], ◌∷◌, ◌++◌, length, map, All, ℤ, None, Some, Ok, codes, if◌then◌else◌}
 use Rattle.std.specs.Str.{bytes_eq}
 use Rattle.lf_units.specs.Number.{fixed_of}
@@ -13,7 +13,7 @@ use Rattle.lf_lef.specs.Contents.{Contents, site_names, macro_names}
 use Rattle.lf_lef.specs.Pins.{rail_of, reach_of, use_named}
 use Rattle.lf_lef.specs.Library.{library}
 
--- the tokens are these, wherever they stand
+-- the tokens have these kinds and bytes, wherever they are
 abbrev pub Spells : List Lexeme → List Plain → Type 0
 Spells tokens printed = map plain tokens ≡ printed
 
@@ -68,9 +68,9 @@ pin_words name use_word x1 y1 x2 y2 = codes "PIN" ∷ name ∷ (use_words use_wo
 abbrev pub macro_words : List ℕ → List ℕ → List ℕ → List ℕ → List ℕ → Symmetry → List (List ℕ) → List (List ℕ)
 macro_words name x y w h symmetry pin = codes "MACRO" ∷ name ∷ (origin_words x y ++ (size_words w h ++ (symmetry_words symmetry ++ (pin ++ end_words name))))
 
--- Statements that are passed over.
+-- Statements that are skipped.
 
--- what is passed over to END and the name behind the keyword
+-- what is skipped to END and the name after the keyword
 pub data NamedGroup : Type 0 where
   layer : NamedGroup
   via : NamedGroup
@@ -85,7 +85,7 @@ named_word via_rule = codes "VIARULE"
 named_word rule = codes "NONDEFAULTRULE"
 named_word array = codes "ARRAY"
 
--- what is passed over to END and the keyword
+-- what is skipped to END and the keyword
 pub data Group : Type 0 where
   units : Group
   property_definitions : Group
@@ -106,21 +106,21 @@ group_word correction_table = codes "CORRECTIONTABLE"
 abbrev pub with_semicolon : List Plain → List Plain
 with_semicolon tokens = tokens ++ word_of (codes ";") ∷ []
 
--- The statement is passed over up to its semicolon: it has no other, and begins with none of the words that begin
--- a statement that is read otherwise. A semicolon alone is one too.
+-- The statement is skipped up to its semicolon: it has no other, and begins with none of the words that begin a statement that is
+-- read otherwise. A semicolon alone is one too.
 abbrev pub IsPassedOver : List (List ℕ) → List Plain → Type 0
 IsPassedOver others [] = Unit {0}
 IsPassedOver others (t ∷ ts) = All (λ word. t.text ≢ word) others × HaveNowhere (codes ";" ∷ []) (t ∷ ts)
 
--- a statement that says nothing of sites and macros, with any words and quoted texts
+-- a statement other than SITE and MACRO, with any words and quoted texts
 pub data Passed : Type 0 where
   -- all up to a semicolon
   plain_statement : List Plain → Passed
-  -- a keyword and a name, what stands in between, END and the name
+  -- a keyword and a name, what is in between, END and the name
   named : NamedGroup → List ℕ → List Plain → Passed
-  -- a keyword, what stands in between, END and the keyword
+  -- a keyword, what is in between, END and the keyword
   grouped : Group → List Plain → Passed
-  -- BEGINEXT, what stands in between, ENDEXT
+  -- BEGINEXT, what is in between, ENDEXT
   extension : List Plain → Passed
 
 abbrev pub passed_tokens : Passed → List Plain
@@ -129,32 +129,32 @@ passed_tokens (named keyword name between) = word_of (named_word keyword) ∷ wo
 passed_tokens (grouped keyword between) = word_of (group_word keyword) ∷ (between ++ map word_of (end_words (group_word keyword)))
 passed_tokens (extension between) = word_of (codes "BEGINEXT") ∷ (between ++ word_of (codes "ENDEXT") ∷ [])
 
--- the words that begin a statement which is not passed over up to a semicolon
+-- the words that begin a statement that is not skipped up to a semicolon
 abbrev pub other_statements : List (List ℕ)
 other_statements =
     codes "END" ∷ codes "SITE" ∷ codes "MACRO" ∷ codes "LAYER" ∷ codes "VIA" ∷ codes "VIARULE" ∷ codes "NONDEFAULTRULE" ∷ codes "ARRAY"
     ∷ codes "UNITS" ∷ codes "PROPERTYDEFINITIONS" ∷ codes "SPACING" ∷ codes "IRDROP" ∷ codes "NOISETABLE" ∷ codes "CORRECTIONTABLE" ∷ codes "BEGINEXT" ∷ []
 
--- the statement ends with its last word and not before: END and the name stand nowhere one directly behind the other before that
+-- the statement ends with its last word and not before: nowhere earlier does the name directly follow END
 abbrev pub IsWhole : Passed → Type 0
 IsWhole (plain_statement tokens) = IsPassedOver other_statements tokens
 IsWhole (named keyword name between) = IsPrintable name × HaveNowhere (codes "END" ∷ name ∷ []) (between ++ word_of (codes "END") ∷ [])
 IsWhole (grouped keyword between) = HaveNowhere (codes "END" ∷ group_word keyword ∷ []) between
 IsWhole (extension between) = HaveNowhere (codes "ENDEXT" ∷ []) between
 
--- the statements one behind the other, and then these tokens
+-- the statements one after the other, and then these tokens
 abbrev pub tokens_behind : List Passed → List Plain → List Plain
 tokens_behind [] tokens = tokens
 tokens_behind (p ∷ ps) tokens = passed_tokens p ++ tokens_behind ps tokens
 
--- What is read.
+-- What reading returns.
 
--- statements that are passed over play no part, whatever stands behind
+-- statements that are skipped have no effect, whatever follows
 abbrev pub PassesOver : Contents → Type 0
 PassesOver c = (passed : List Passed) (tokens : List Lexeme) (behind : Lexed) → All IsWhole passed → Spells tokens (tokens_behind passed [])
     → library c (with_tokens tokens behind) ≡ library c behind
 
--- a printed site of a name that is new is read back, behind statements that are passed over and whatever stands behind it
+-- a printed site of a new name reads back, after skipped statements and with anything after it
 abbrev pub ReadsSite : Contents → Site → Type 0
 ReadsSite c s = (passed : List Passed) (class w h : List ℕ) (tokens : List Lexeme) (behind : Lexed)
     → All IsWhole passed → IsPrintable s.name → class ≢ codes ";" → bytes_eq class (codes "CORE") ≡ s.core → Writes w s.size.x → Writes h s.size.y
@@ -162,7 +162,8 @@ ReadsSite c s = (passed : List Passed) (class w h : List ℕ) (tokens : List Lex
     → Spells tokens (tokens_behind passed (map word_of (site_words s.name class s.symmetry w h)))
     → library c (with_tokens tokens behind) ≡ library (record c { sites = c.sites ++ s ∷ [] }) behind
 
--- a printed macro of a name that is new is read back with the rail that its pin gives it, behind statements that are passed over and whatever stands behind it
+-- a printed macro of a new name reads back with the rail that its pin gives it, after skipped statements and with anything after
+-- it
 abbrev pub ReadsMacro : Contents → Macro → Type 0
 ReadsMacro c m = (passed : List Passed) (x y w h pin use_word x1 y1 x2 y2 : List ℕ) (low high left right : ℤ) (tokens : List Lexeme) (behind : Lexed)
     → All IsWhole passed → IsPrintable m.name → IsPrintable pin → use_word ≢ codes ";" → Writes x m.origin.x → Writes y m.origin.y → Writes w m.size.x

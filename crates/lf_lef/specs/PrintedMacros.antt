@@ -1,4 +1,4 @@
--- Printed LEF macros: statements in any order, in MACRO, in PIN, in PORT and in OBS, with whatever is passed over among them.
+-- Printed LEF macros: statements in any order, in MACRO, in PIN, in PORT and in OBS, with any skipped ones among them.
 use Rattle.std.specs.Prelude.{◌≡◌, ◌≢◌, ℕ, ◌<◌, Bool, List, [], ◌∷◌, ◌++◌, length, map, All, IfSome, ℤ, Option, Some, None, codes, if◌then◌else◌, true}
 use Rattle.lf_units.specs.declared.area.Point.{Point}
 use Rattle.lf_orient.specs.declared.Symmetry.{Symmetry}
@@ -47,7 +47,8 @@ point_of p = record { x = p.x.length; y = p.y.length }
 
 -- Ports (LEF MACRO PIN PORT).
 
--- a rectangle: its mask, whether it is repeated, two opposite corners, and what stands behind them up to its semicolon, as DO n BY m STEP x y
+-- a rectangle: its mask, whether it is repeated, two opposite corners, and what follows them up to its semicolon, as DO n BY m
+-- STEP x y
 pub record PrintedRect : Type 0 where
   pub mask : Option PrintedLength
   pub iterate : Bool
@@ -87,7 +88,7 @@ abbrev pub IsPortStatement : PortStatement → Type 0
 IsPortStatement (port_rect r) = IsPrintedRect r
 IsPortStatement (port_passed tokens) = IsPassedOver (codes "END" ∷ codes "RECT" ∷ []) tokens
 
--- the statements one behind the other, and END
+-- the statements one after the other, and END
 abbrev pub port_tokens : List PortStatement → List Plain
 port_tokens [] = word_of (codes "END") ∷ []
 port_tokens (s ∷ ss) = port_statement_tokens s ++ port_tokens ss
@@ -119,12 +120,12 @@ IsPinStatement (pin_use use_word) = use_word ≢ codes ";"
 IsPinStatement (pin_port statements) = All IsPortStatement statements
 IsPinStatement (pin_passed tokens) = IsPassedOver (codes "END" ∷ codes "USE" ∷ codes "PORT" ∷ []) tokens
 
--- the statements one behind the other, and END name
+-- the statements one after the other, and END name
 abbrev pub pin_body_tokens : List ℕ → List PinStatement → List Plain
 pin_body_tokens name [] = map word_of (end_words name)
 pin_body_tokens name (s ∷ ss) = pin_statement_tokens s ++ pin_body_tokens name ss
 
--- the first USE stands, and every PORT counts
+-- the first USE counts, and every PORT
 abbrev pub with_pin_statement : Pin → PinStatement → Pin
 with_pin_statement pin (pin_use use_word) = record pin { supply = first_stands pin.supply (use_named use_word) }
 with_pin_statement pin (pin_port statements) = record pin { reaches = with_rects pin.reaches statements }
@@ -136,7 +137,7 @@ with_pin_statements pin (s ∷ ss) = with_pin_statements (with_pin_statement pin
 
 -- Macros (LEF MACRO).
 
--- what is passed over statement by statement, up to an END alone
+-- what is skipped statement by statement, up to an END alone
 pub data Layers : Type 0 where
   obstructions : Layers
   density : Layers
@@ -165,7 +166,7 @@ abbrev pub symmetry_tokens : List SymmetryWord → List Plain
 symmetry_tokens [] = word_of (codes ";") ∷ []
 symmetry_tokens (w ∷ ws) = word_of (spelled_symmetry w) ∷ symmetry_tokens ws
 
--- R90 plays no part
+-- R90 is ignored
 abbrev pub with_symmetry : Symmetry → SymmetryWord → Symmetry
 with_symmetry s about_x = record s { x = true }
 with_symmetry s about_y = record s { y = true }
@@ -211,7 +212,7 @@ IsMacroStatement (macro_timing between) = HaveNowhere (codes "END" ∷ codes "TI
 IsMacroStatement (macro_passed tokens) =
     IsPassedOver (codes "END" ∷ codes "ORIGIN" ∷ codes "SIZE" ∷ codes "SYMMETRY" ∷ codes "PIN" ∷ codes "OBS" ∷ codes "DENSITY" ∷ codes "TIMING" ∷ []) tokens
 
--- the statements one behind the other, and END name
+-- the statements one after the other, and END name
 abbrev pub macro_body_tokens : List ℕ → List MacroStatement → List Plain
 macro_body_tokens name [] = map word_of (end_words name)
 macro_body_tokens name (s ∷ ss) = macro_statement_tokens s ++ macro_body_tokens name ss
@@ -220,7 +221,7 @@ macro_body_tokens name (s ∷ ss) = macro_statement_tokens s ++ macro_body_token
 abbrev pub macro_tokens : List ℕ → List MacroStatement → List Plain
 macro_tokens name statements = word_of (codes "MACRO") ∷ word_of name ∷ macro_body_tokens name statements
 
--- the first ORIGIN, SIZE and SYMMETRY stand, every PIN counts, and what is passed over plays no part
+-- the first ORIGIN, SIZE and SYMMETRY count, and every PIN; what is skipped is ignored
 abbrev pub with_statement : MacroParts → MacroStatement → MacroParts
 with_statement parts (macro_origin p) = record parts { origin = first_stands parts.origin (point_of p) }
 with_statement parts (macro_size w h) = record parts { size = first_stands parts.size (record { x = w.length; y = h.length }) }
@@ -234,11 +235,11 @@ abbrev pub with_statements : MacroParts → List MacroStatement → MacroParts
 with_statements parts [] = parts
 with_statements parts (s ∷ ss) = with_statements (with_statement parts s) ss
 
--- the macro that the statements say
+-- the macro that the statements describe
 abbrev pub said_macro : List ℕ → List MacroStatement → Macro
 said_macro name statements = macro_of name (with_statements no_macro_parts statements)
 
--- A macro that is printed by any such statements, and whose name is new, is read back, behind statements that are passed over and whatever stands behind it.
+-- A macro of a new name, printed by any such statements, reads back, after skipped statements and with anything after it.
 abbrev pub ReadsMacroOf : Contents → Macro → List MacroStatement → Type 0
 ReadsMacroOf c m statements = (passed : List Passed) (tokens : List Lexeme) (behind : Lexed)
     → All IsWhole passed → IsPrintable m.name → All IsMacroStatement statements → said_macro m.name statements ≡ m

@@ -1,4 +1,4 @@
--- Printed LEF sites: statements in any order, with whatever is passed over among them.
+-- Printed LEF sites: statements in any order, with any skipped ones among them.
 use Rattle.std.specs.Prelude.{◌≡◌, ◌≢◌, ℕ, ◌<◌, List, [], ◌∷◌, ◌++◌, length, map, All, None, codes}
 use Rattle.std.specs.Str.{bytes_eq}
 use Rattle.lf_names.specs.Names.{position_of}
@@ -36,7 +36,7 @@ IsSiteStatement (site_symmetry words) = Unit {0}
 IsSiteStatement (site_size w h) = IsPrintedLength w × IsPrintedLength h
 IsSiteStatement (site_passed tokens) = IsPassedOver (codes "END" ∷ codes "CLASS" ∷ codes "SYMMETRY" ∷ codes "SIZE" ∷ []) tokens
 
--- the statements one behind the other, and END name
+-- the statements one after the other, and END name
 abbrev pub site_body_tokens : List ℕ → List SiteStatement → List Plain
 site_body_tokens name [] = map word_of (end_words name)
 site_body_tokens name (s ∷ ss) = site_statement_tokens s ++ site_body_tokens name ss
@@ -45,7 +45,7 @@ site_body_tokens name (s ∷ ss) = site_statement_tokens s ++ site_body_tokens n
 abbrev pub site_tokens : List ℕ → List SiteStatement → List Plain
 site_tokens name statements = word_of (codes "SITE") ∷ word_of name ∷ site_body_tokens name statements
 
--- the first CLASS, SYMMETRY and SIZE stand, and what is passed over plays no part
+-- the first CLASS, SYMMETRY and SIZE count, and what is skipped is ignored
 abbrev pub with_site_statement : SiteParts → SiteStatement → SiteParts
 with_site_statement parts (site_class class) = record parts { core = first_stands parts.core (bytes_eq class (codes "CORE")) }
 with_site_statement parts (site_symmetry words) = record parts { symmetry = first_stands parts.symmetry (with_symmetries no_symmetry words) }
@@ -56,12 +56,11 @@ abbrev pub with_site_statements : SiteParts → List SiteStatement → SiteParts
 with_site_statements parts [] = parts
 with_site_statements parts (s ∷ ss) = with_site_statements (with_site_statement parts s) ss
 
--- the site that the statements say
+-- the site that the statements describe
 abbrev pub said_site : List ℕ → List SiteStatement → Site
 said_site name statements = site_of name (with_site_statements no_site_parts statements)
 
--- A site that is printed by any such statements, and whose name is new, is read back, behind statements that are
--- passed over and whatever stands behind it.
+-- A site of a new name, printed by any such statements, reads back, after skipped statements and with anything after it.
 abbrev pub ReadsSiteOf : Contents → Site → List SiteStatement → Type 0
 ReadsSiteOf c s statements = (passed : List Passed) (tokens : List Lexeme) (behind : Lexed)
     → All IsWhole passed → IsPrintable s.name → All IsSiteStatement statements → said_site s.name statements ≡ s

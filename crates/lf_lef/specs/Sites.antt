@@ -17,7 +17,7 @@ one_word l = do
   stop ← keyword (codes ";") w.rest
   taken w.value.text stop.rest
 
--- a word of SYMMETRY {X | Y | R90} .. ; up to its semicolon; R90 plays no part
+-- a word of SYMMETRY {X | Y | R90} .. ; up to its semicolon; R90 is ignored
 unfoldable pub symmetry_word : Statement Symmetry
 symmetry_word s l = do
   t ← token l
@@ -30,11 +30,11 @@ symmetry_word s l = do
 abbrev pub no_symmetry : Symmetry
 no_symmetry = record { x = false; y = false }
 
--- SYMMETRY {X | Y | R90} .. ; behind its keyword
+-- SYMMETRY {X | Y | R90} .. ; after its keyword
 abbrev pub symmetry : Reader Symmetry
 symmetry l = block symmetry_word no_symmetry l
 
--- A statement of a site, of which the first token was read: of CLASS, SYMMETRY and SIZE the first stands, and others are passed over.
+-- A statement of a site, after its first token: of CLASS, SYMMETRY and SIZE the first counts, and others are skipped.
 unfoldable pub site_statement_from : List ℕ → SiteParts → Lexeme → Reader (Turn SiteParts)
 site_statement_from name parts t l =
     if is (codes "END") t then (end_name name l >>= λ stop. ends parts stop.rest)

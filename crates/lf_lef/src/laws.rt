@@ -1,4 +1,4 @@
-//! What is true of the grammar of LEF, whatever is read.
+//! Laws on the grammar of LEF, whatever is read.
 
 ghost use Rattle.std.specs.Prelude.{◌≡◌, List, ℕ};
 ghost use Rattle.lf_lex.specs.Tokens.{Lexed};
@@ -19,7 +19,7 @@ ghost use Rattle.lf_lef.specs.PrintedMacros.{MacroStatement, ReadsMacroOf};
 ghost use Rattle.lf_lef.specs.PrintedSites.{SiteStatement, ReadsSiteOf};
 ghost use Rattle.lf_lef.specs.Macros.{passed_statement, macro_statement, macro_parts};
 
-/// Each statement behind which more follow takes a token, so every block comes to its END or to a fault.
+/// Each statement after which more follow takes a token, so every block reaches its END or a fault.
 pub fn statements_take_tokens()
     ensures symmetry { TakesTokens symmetry_word }
     ensures site { (name : List ℕ) → TakesTokens (site_statement name) }
@@ -30,20 +30,20 @@ pub fn statements_take_tokens()
     ensures text { TakesTokens statement }
 {}
 
-/// White space, comments and what stands behind play no part in what the statements of a site or a macro say.
+/// White space, comments and what follows do not affect what the statements of a site or a macro say.
 pub fn statements_read_alike()
     ensures site { (name : List ℕ) → ReadsAlike (site_parts name) }
     ensures cell { (name : List ℕ) → ReadsAlike (macro_parts name) }
 {}
 
-/// What stands behind END LIBRARY plays no part: where reading a text leaves tokens unread, any bytes may
-/// stand from the first of these on.
+/// What follows END LIBRARY is ignored: if reading a text leaves tokens unread, any bytes may replace those from the
+/// first of these on.
 pub fn nothing_behind_end_library_counts()
     ensures { (before after : Contents) (text : List ℕ) → EndsBefore before after text }
 {}
 
-/// Of several statements of one kind the first stands, and every PIN and RECT counts; of several sites or
-/// macros of one name the first stands, in one text or several.
+/// Of several statements of one kind the first counts, and every PIN and RECT counts; of several sites or macros of one
+/// name the first counts, in one text or several.
 pub fn first_of_each_kind_stands()
     ensures site { (name : List ℕ) (old new : SiteParts) (l m : Lexed)
         → block (site_statement name) old l ≡ taken new m → SiteStands old new }
@@ -55,22 +55,22 @@ pub fn first_of_each_kind_stands()
         → library old l ≡ taken new m → BeginsWith old new }
 {}
 
-/// Statements that are passed over play no part, however many there are.
+/// Statements that are skipped have no effect, however many there are.
 pub fn passed_over_statements_play_no_part()
     ensures { (c : Contents) → PassesOver c }
 {}
 
-/// A printed SITE is read back, alone and behind any statements that are passed over: with a CLASS, a
-/// SYMMETRY and a SIZE, and with any statements in any order.
+/// A printed SITE reads back, alone and after any skipped statements: with a CLASS, a SYMMETRY and a SIZE, and with any
+/// statements in any order.
 pub fn a_printed_site_is_read_back()
     ensures three_statements { (c : Contents) (s : Site) → ReadsSite c s }
     ensures any_statements { (c : Contents) (s : Site) (statements : List SiteStatement)
         → ReadsSiteOf c s statements }
 {}
 
-/// A printed MACRO is read back, alone and behind any statements that are passed over: with one PIN, and
-/// with any statements in any order: any number of PIN and PORT, RECT with MASK and ITERATE, OBS, DENSITY,
-/// TIMING and others, which are passed over with whatever words and quoted texts they hold.
+/// A printed MACRO reads back, alone and after any skipped statements: with one PIN, and with any statements in any
+/// order: any number of PIN and PORT, RECT with MASK and ITERATE, OBS, DENSITY, TIMING and others, which are skipped
+/// with all words and quoted texts in them.
 pub fn a_printed_macro_is_read_back()
     ensures one_pin { (c : Contents) (m : Macro) → ReadsMacro c m }
     ensures any_statements { (c : Contents) (m : Macro) (statements : List MacroStatement)

@@ -9,7 +9,7 @@ ghost use Rattle.lf_lef.specs.Lengths.{IsInRange, HasRange};
 use lf_lex::{FaultNumber, Lexer, ReadError, Token, fault_at, is, keyword, token};
 use lf_units::{Point, read_fixed};
 
-/// The length that a token writes, else BadNumber.
+/// The length that a token writes, in millionths of a micron; else BadNumber.
 fn micros_of(token: &Token) -> Result<i64, ReadError>
     ensures read { MatchResult result (λ x. grammar.micros_of (lexeme token.now) ≡ Ok x)
         (λ e. Fails e (grammar.micros_of (lexeme token.now))) }
@@ -31,7 +31,7 @@ pub(crate) fn micros(lexer: &mut Lexer) -> Result<i64, ReadError>
     micros_of(&token)
 }
 
-/// A point, of which the first token was read.
+/// A point, after its first token.
 #[tactic(auto, unfolding(crate::specs::Lengths::point_from))]
 pub(crate) fn point_from(lexer: &mut Lexer, token: &Token) -> Result<Point, ReadError>
     ensures read { Reads (λ p. p) result
@@ -60,7 +60,7 @@ pub(crate) fn point(lexer: &mut Lexer) -> Result<Point, ReadError>
     point_from(lexer, &token)
 }
 
-/// `SIZE w BY h ;` behind its keyword.
+/// `SIZE w BY h ;` after its keyword.
 #[tactic(auto, unfolding(crate::specs::Lengths::size))]
 pub(crate) fn size(lexer: &mut Lexer) -> Result<Point, ReadError>
     ensures read { Reads (λ p. p) result grammar.size lexer.old lexer.new }
@@ -73,7 +73,7 @@ pub(crate) fn size(lexer: &mut Lexer) -> Result<Point, ReadError>
     Ok(Point { x, y })
 }
 
-/// `ORIGIN x y ;` behind its keyword.
+/// `ORIGIN x y ;` after its keyword.
 #[tactic(auto, unfolding(crate::specs::Lengths::origin))]
 pub(crate) fn origin(lexer: &mut Lexer) -> Result<Point, ReadError>
     ensures read { Reads (λ p. p) result grammar.origin lexer.old lexer.new }
@@ -84,7 +84,7 @@ pub(crate) fn origin(lexer: &mut Lexer) -> Result<Point, ReadError>
     Ok(point)
 }
 
-/// The first of several points stands.
+/// The first of several points counts.
 pub(crate) fn keep_first(first: &mut Option<Point>, point: Point)
     requires range { IfSome first.old (λ p. HasRange p) }
     requires point { HasRange point }

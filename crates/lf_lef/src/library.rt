@@ -9,8 +9,7 @@ use lf_names::NameTable;
 use std::alloc::{AllocError, Global};
 use std::marker::Model;
 
-/// The sites and macros of the LEF texts that were read, each list in the order in which they were
-/// first read.
+/// The sites and macros of the LEF texts that were read, each list in first-read order.
 ///
 /// Names in a list differ, are 1,024 bytes long at most and hold bytes from 33 to 126; lengths lie
 /// between -1,000,000 and 1,000,000 microns; a list has at most 1,000,000 entries.
@@ -36,7 +35,7 @@ impl Model for Library {
 }
 
 impl Library {
-    /// The empty library, which takes no memory.
+    /// The empty library, which allocates nothing.
     pub fn new(alloc: Global) -> Self
         ensures { result ≡ record { sites = []; macros = [] } }
     {
@@ -48,7 +47,7 @@ impl Library {
         }
     }
 
-    /// Where the library's memory comes from.
+    /// The library's allocator.
     pub(crate) fn alloc(&self) -> Global {
         *self.sites.allocator()
     }
@@ -71,21 +70,21 @@ impl Library {
         &self.macros
     }
 
-    /// The position of the site of that name.
+    /// The position of the site of that name; none if there is none.
     pub fn find_site(&self, name: &[u8]) -> Option<usize>
         ensures { result ≡ position_of (site_names self.now.sites) name.now }
     {
         self.site_table.find(name)
     }
 
-    /// The position of the macro of that name.
+    /// The position of the macro of that name; none if there is none.
     pub fn find_macro(&self, name: &[u8]) -> Option<usize>
         ensures { result ≡ position_of (macro_names self.now.macros) name.now }
     {
         self.macro_table.find(name)
     }
 
-    /// Puts a site behind the others.
+    /// Appends a site.
     pub(crate) fn add_site(&mut self, site: Site) -> Result<(), AllocError>
         requires site { IsSite site }
         requires fresh { position_of (site_names self.old.sites) site.name ≡ None }
@@ -97,7 +96,7 @@ impl Library {
         push_site(&mut self.sites, &mut self.site_table, site)
     }
 
-    /// Puts a macro behind the others.
+    /// Appends a macro.
     pub(crate) fn add_macro(&mut self, cell: Macro) -> Result<(), AllocError>
         requires cell { IsMacro cell }
         requires fresh { position_of (macro_names self.old.macros) cell.name ≡ None }
@@ -109,7 +108,7 @@ impl Library {
         push_macro(&mut self.macros, &mut self.macro_table, cell)
     }
 
-    /// Keeps the first sites and macros, so many of each. Takes no memory.
+    /// Keeps the first `sites` sites and `macros` macros. Allocates nothing.
     pub(crate) fn truncate(&mut self, sites: usize, macros: usize)
         ensures { self.new ≡ record
             { sites = take sites self.old.sites; macros = take macros self.old.macros } }

@@ -27,7 +27,7 @@ pub struct MacroParts {
     pub pins: Sequence<Pin>,
 }
 
-/// The statements of OBS or DENSITY, which are passed over.
+/// The statements of OBS or DENSITY, which are skipped.
 #[derive(Drop)]
 struct PassedStatements;
 
@@ -49,7 +49,7 @@ impl Block for PassedStatements {
     }
 }
 
-/// A statement of a macro that says nothing of it, of which the first token was read.
+/// A statement of a macro that is skipped, after its first token.
 #[tactic(auto, unfolding(crate::specs::Macros::passed_from))]
 fn passed_from(lexer: &mut Lexer, token: &Token) -> Result<(), ReadError>
     ensures { ReadsOn (λ x. x) result (grammar.passed_from (lexeme token.now)) lexer.old lexer.new }
@@ -65,7 +65,7 @@ fn passed_from(lexer: &mut Lexer, token: &Token) -> Result<(), ReadError>
     }
 }
 
-/// A statement of a macro, of which the first token was read; whether more follow.
+/// A statement of a macro, after its first token; returns whether more follow.
 #[tactic(auto, unfolding(crate::specs::Macros::macro_statement_from))]
 fn macro_statement_from(
     alloc: Global,
@@ -122,7 +122,7 @@ impl<'n> Block for MacroStatements<'n> {
     }
 }
 
-/// What is known of a macro before its first statement.
+/// The state of a macro before its first statement.
 fn no_parts(alloc: Global) -> MacroParts
     ensures { result ≡ grammar.no_macro_parts }
 {

@@ -21,7 +21,7 @@ pub enum PinUse {
     Other,
 }
 
-/// How far up a rectangle reaches, from its bottom to its top edge, in millionths of a micron.
+/// The y range of a rectangle, from its bottom to its top edge, in millionths of a micron.
 #[derive(Clone, Copy, Debug, PartialEq, Eq)]
 pub struct Reach {
     pub low: i64,
@@ -57,7 +57,7 @@ fn past_iterate<'a>(lexer: &mut Lexer<'a>, first: Token<'a>) -> Result<Token<'a>
     token(lexer)
 }
 
-/// The reach between two opposite corners.
+/// The y range between two opposite corners.
 fn reach_of(a: i64, b: i64) -> Reach
     ensures { result ≡ grammar.reach_of a b }
 {
@@ -67,7 +67,7 @@ fn reach_of(a: i64, b: i64) -> Reach
     }
 }
 
-/// `RECT [MASK n] [ITERATE] pt pt .. ;` behind its keyword.
+/// `RECT [MASK n] [ITERATE] pt pt .. ;` after its keyword.
 #[tactic(auto, unfolding(crate::specs::Pins::rect))]
 fn rect(lexer: &mut Lexer) -> Result<Reach, ReadError>
     ensures { Reads (λ r. r) result grammar.rect lexer.old lexer.new }
@@ -81,7 +81,7 @@ fn rect(lexer: &mut Lexer) -> Result<Reach, ReadError>
     Ok(reach_of(corner.y, opposite.y))
 }
 
-/// A statement of a port, of which the first token was read; whether more follow.
+/// A statement of a port, after its first token; returns whether more follow.
 #[tactic(auto, unfolding(crate::specs::Pins::port_statement_from))]
 fn port_statement_from(
     lexer: &mut Lexer,
@@ -103,7 +103,7 @@ fn port_statement_from(
     Ok(true)
 }
 
-/// The statements of a port: its rectangles go behind the others.
+/// The statements of a port: its rectangles are appended.
 #[derive(Drop)]
 struct PortStatements;
 
@@ -132,7 +132,7 @@ fn use_named(word: &[u8]) -> PinUse
     }
 }
 
-/// A statement of a pin, of which the first token was read; whether more follow.
+/// A statement of a pin, after its first token; returns whether more follow.
 #[tactic(auto, unfolding(crate::specs::Pins::pin_statement_from))]
 fn pin_statement_from(
     lexer: &mut Lexer,
@@ -176,7 +176,7 @@ impl<'n> Block for PinStatements<'n> {
     }
 }
 
-/// `PIN name`, its statements and `END name`, behind its keyword.
+/// `PIN name`, its statements and `END name`, after its keyword.
 #[tactic(auto, unfolding(crate::specs::Pins::pin))]
 pub(crate) fn read_pin(alloc: Global, lexer: &mut Lexer) -> Result<Pin, ReadError>
     ensures { Reads (λ p. p) result grammar.pin lexer.old lexer.new }
@@ -190,7 +190,7 @@ pub(crate) fn read_pin(alloc: Global, lexer: &mut Lexer) -> Result<Pin, ReadErro
     Ok(pin)
 }
 
-/// A height of the macro's own coordinates once ORIGIN is added.
+/// A y of the macro's own coordinates after ORIGIN is added.
 fn moved(y: i64, origin: i64) -> i128
     ensures { result ≡ y +ℤ origin }
 {

@@ -1,6 +1,6 @@
-//! A small LEF text for trials.
+//! A small LEF text for tests.
 
-/// One core site, and two library cells of one and two rows: `INV` and `DBL`.
+/// One core site, and two library cells, one and two rows high: `INV` and `DBL`.
 pub const W_LEF: &[u8] = b"VERSION 5.8 ;
 SITE core
   CLASS CORE ;

@@ -33,7 +33,7 @@ pub(crate) fn one_word<'a>(lexer: &mut Lexer<'a>) -> Result<&'a [u8], ReadError>
     Ok(word.text)
 }
 
-/// The words behind SYMMETRY, up to the `;`.
+/// The words after SYMMETRY, up to the `;`.
 #[derive(Drop)]
 struct SymmetryWords;
 
@@ -59,7 +59,7 @@ impl Block for SymmetryWords {
     }
 }
 
-/// `SYMMETRY {X | Y | R90} .. ;` behind its keyword.
+/// `SYMMETRY {X | Y | R90} .. ;` after its keyword.
 pub(crate) fn symmetry(lexer: &mut Lexer) -> Result<Symmetry, ReadError>
     ensures { Reads (λ s. s) result grammar.symmetry lexer.old lexer.new }
 {
@@ -68,7 +68,7 @@ pub(crate) fn symmetry(lexer: &mut Lexer) -> Result<Symmetry, ReadError>
     Ok(symmetry)
 }
 
-/// A statement of a site, of which the first token was read; whether more follow.
+/// A statement of a site, after its first token; returns whether more follow.
 #[tactic(auto, unfolding(crate::specs::Sites::site_statement_from))]
 fn site_statement_from(
     lexer: &mut Lexer,
@@ -134,7 +134,7 @@ pub(crate) fn site_parts(lexer: &mut Lexer, name: &[u8]) -> Result<SiteParts, Re
     Ok(parts)
 }
 
-/// No point or no size: 0 and 0.
+/// The point or size of a missing statement: 0 and 0.
 pub(crate) fn no_point() -> Point
     ensures { result ≡ grammar.no_point }
 {

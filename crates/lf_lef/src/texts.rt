@@ -17,7 +17,7 @@ use lf_lex::{
 };
 use lf_units::Name;
 
-/// Where nothing has the name yet, there has to be room for one thing more, else TooMany.
+/// A new name needs room for one thing more, else TooMany.
 fn room_for(known: Option<usize>, count: usize, name: &Token) -> Result<(), ReadError>
     ensures read { MatchResult result (λ x. grammar.room_for known count (lexeme name.now) ≡ Ok x)
         (λ e. Fails e (grammar.room_for known count (lexeme name.now))) }
@@ -29,7 +29,7 @@ fn room_for(known: Option<usize>, count: usize, name: &Token) -> Result<(), Read
     Ok(())
 }
 
-/// SITE behind its keyword.
+/// SITE after its keyword.
 #[tactic(auto, unfolding(crate::specs::Library::with_site))]
 fn site(library: &mut Library, lexer: &mut Lexer) -> Result<(), ReadError>
     ensures read { Reads (λ _. library.new) result
@@ -47,7 +47,7 @@ fn site(library: &mut Library, lexer: &mut Lexer) -> Result<(), ReadError>
     Ok(())
 }
 
-/// MACRO behind its keyword.
+/// MACRO after its keyword.
 #[tactic(auto, unfolding(crate::specs::Library::with_macro))]
 fn cell(library: &mut Library, lexer: &mut Lexer) -> Result<(), ReadError>
     ensures read { Reads (λ _. library.new) result
@@ -65,7 +65,7 @@ fn cell(library: &mut Library, lexer: &mut Lexer) -> Result<(), ReadError>
     Ok(())
 }
 
-/// Whether a statement of this keyword is passed over to END and the name behind the keyword.
+/// Whether a statement of this keyword is skipped to END and the name after the keyword.
 fn is_named(token: &Token) -> bool
     ensures { result ≡ grammar.is_named (lexeme token.now) }
 {
@@ -76,7 +76,7 @@ fn is_named(token: &Token) -> bool
         || is(b"ARRAY", token)
 }
 
-/// Whether a statement of this keyword is passed over to END and the keyword.
+/// Whether a statement of this keyword is skipped to END and the keyword.
 fn is_group(token: &Token) -> bool
     ensures { result ≡ grammar.is_group (lexeme token.now) }
 {
@@ -96,7 +96,7 @@ fn to_named_end(lexer: &mut Lexer) -> Result<(), ReadError>
     to_end(lexer, name.text)
 }
 
-/// A statement that says nothing of sites and macros, of which the first token was read.
+/// A statement other than SITE and MACRO, after its first token.
 #[tactic(auto, unfolding(crate::specs::Library::passed_from))]
 fn passed_from(lexer: &mut Lexer, token: &Token) -> Result<(), ReadError>
     ensures { ReadsOn (λ x. x) result (grammar.passed_from (lexeme token.now)) lexer.old lexer.new }
@@ -114,7 +114,7 @@ fn passed_from(lexer: &mut Lexer, token: &Token) -> Result<(), ReadError>
     }
 }
 
-/// A statement of the text, of which the first token was read; whether more follow.
+/// A statement of the text, after its first token; returns whether more follow.
 #[tactic(auto, unfolding(crate::specs::Library::statement_from))]
 fn statement_from(
     library: &mut Library,
@@ -151,7 +151,7 @@ fn statement(library: &mut Library, lexer: &mut Lexer) -> Result<bool, ReadError
     }
 }
 
-/// The statements of a text; what was read up to a failure stays in the library.
+/// The statements of a text; what was read before a failure stays in the library.
 fn read_statements(library: &mut Library, text: &[u8]) -> Result<(), ReadError>
     ensures ok { OnOk result (grammar.library_after library.old text.now ≡ Ok library.new) }
     ensures fault { IfErr result (λ e. Fails e (grammar.library_after library.old text.now)) }
@@ -162,11 +162,11 @@ fn read_statements(library: &mut Library, text: &[u8]) -> Result<(), ReadError>
     Ok(())
 }
 
-/// Adds the sites and macros of a LEF text, up to END LIBRARY or the end of the text between
-/// statements. Of several sites or macros of one name the first stands, in one text or several.
+/// Adds the sites and macros of a LEF text, up to END LIBRARY or the end of the text between statements. Of several
+/// sites or macros of one name the first counts, in one text or several.
 ///
-/// The refusal is the first fault in the order of the tokens, with its line: BadToken, UnexpectedEnd,
-/// Unexpected, BadNumber, WrongEnd or TooMany; or OutOfMemory. The library is unchanged after it.
+/// The error is the first fault in the order of the tokens, with its line: BadToken, UnexpectedEnd, Unexpected,
+/// BadNumber, WrongEnd or TooMany; or OutOfMemory. The library is unchanged after it.
 pub fn read_lef<'a>(library: &mut Library, text: &'a [u8]) -> Result<(), LoadFault<'a>>
     ensures ok { OnOk result (grammar.library_after library.old text.now ≡ Ok library.new) }
     ensures fault { IfErr result

@@ -1,4 +1,4 @@
--- Reading words back: from tokens with these bytes a reader gives this value, places apart, whatever stands behind.
+-- Reading words back: from tokens with these bytes a reader gives this value, places apart, whatever stands after.
 use Rattle.std.proofs.Common.{◌≡◌, ℕ, suc, ◌<◌, Bool, true, false, cond, List, [], ◌∷◌, ◌++◌, map, length, Result, Ok, Err, refl, ap, sym, ◌∙◌, arith}
 use Rattle.std.proofs.lemmas.List.{map-append}
 use Rattle.lf_lex.specs.declared.fault.ReadFault.{ReadFault}
@@ -92,7 +92,7 @@ at_first bareB k u vs y next (t ∷ p) e =
     let b = next t h.0 p h.1 in
     record { value = b.value; alike = b.alike; takes = λ l. b.takes l }
 
--- a first token, and what is read behind it
+-- a first token, and what is read after it
 pub back_first : {B D : Type 0} (bareB : B → D) (k : Taken Lexeme → Result (Taken B) ReadFault) (w : List ℕ) (vs : List (List ℕ)) (y : B)
     → ((t : Lexeme) → plain t ≡ word_of w → Back bareB (λ l. k (left t l)) vs y) → Back bareB (λ l. token l >>= k) (w ∷ vs) y
 back_first bareB k w vs y next = back_bind plain bareB token k (w ∷ []) vs (token_with w) y (back_token w) next

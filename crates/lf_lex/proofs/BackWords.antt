@@ -1,4 +1,4 @@
--- The words that the readers share read back, and what is passed over is passed over up to its end.
+-- The words that the readers share read back, and what is skipped is skipped up to its end.
 use Rattle.std.proofs.Common.{◌≡◌, ◌≢◌, ℕ, ◌≤◌, Bool, true, false, ◌&&◌, List, [], ◌∷◌, ◌++◌, map, length, refl, ap, sym, ◌∙◌, arith}
 use Rattle.std.proofs.lemmas.List.{append-nil}
 use Rattle.std.specs.Prelude.{codes, not, nat_lt}
@@ -109,7 +109,7 @@ not_both true true h = absurd (h refl refl)
 not_both true false h = refl
 not_both false b h = refl
 
--- the word does not stand directly behind END
+-- the word does not stand directly after END
 not_end : (due q : List ℕ) (u : Plain) (ps : List Plain) → HaveNowhere (codes "END" ∷ due ∷ []) (word_of q ∷ u ∷ ps)
     → (bytes_eq q (codes "END") && bytes_eq u.text due) ≡ false
 not_end due q u ps h =
@@ -143,7 +143,7 @@ none_before : (due : List ℕ) (ps : List Plain) → HaveNowhere (codes "END" �
 none_before due ps h [] after e = absurd cc
 none_before due ps h (w ∷ before) after e = h before after cc
 
--- up to the first END with the word behind it
+-- up to the first END with the word after it
 pub to_end_before : (due : List ℕ) → bytes_eq due due ≡ true → (ps : List Plain) → HaveNowhere (codes "END" ∷ due ∷ []) (ps ++ word_of (codes "END") ∷ [])
     → BackAt same (to_end due) (ps ++ word_of (codes "END") ∷ word_of due ∷ []) tt
 unfolding to_end

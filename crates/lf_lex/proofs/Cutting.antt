@@ -15,7 +15,7 @@ use Rattle.lf_lex.proofs.Scanning.{no_line_feed, one_more, white_step, word_read
 use Rattle.lf_lex.proofs.Slices.{slices_from}
 use Rattle.lf_lex.specs.Reading.{behind}
 
--- the first bytes of a list, with others behind them
+-- the first bytes of a list, with others after them
 front_of : (n k : ℕ) (bytes new : List ℕ) → n ≤ k → n ≤ length bytes → take n (take k bytes ++ new) ≡ take n bytes
 front_of zero k bytes new le within = refl
 front_of (suc n) zero bytes new le within = absurd (omega arith)
@@ -107,7 +107,7 @@ head_is u t us ts e = cc
 pub tail_is : (u t : Lexeme) (us ts : List Lexeme) → ◌≡◌ {A = List Lexeme} (u ∷ us) (t ∷ ts) → us ≡ ts
 tail_is u t us ts e = cc
 
--- white space is passed over
+-- white space is skipped
 pub blank_step : (at line b : ℕ) (bytes : List ℕ) (feed : Bool) → is_line_feed b ≡ feed → is_white b ≡ true
     → tokens_from 0 at line (b ∷ bytes) ≡ tokens_from 0 (at + 1) (cond (is_line_feed b) (line + 1) line) bytes
 unfolding tokens_from
@@ -125,7 +125,7 @@ pub quote_step : (at line b : ℕ) (bytes : List ℕ) (o : Option ℕ) → is_wh
 unfolding tokens_from
 quote_step at line b bytes o w h q e = rw (w, no_line_feed b w, h, q, e) refl
 
--- the next token begins behind the first byte of white space
+-- the next token begins after the first byte of white space
 passed_step : (p : ℕ → Bool) (at line b : ℕ) (bytes : List ℕ) (test : Bool) → p b ≡ test → (p b ≡ true → is_white b ≡ true)
     → (before after : List Lexeme) (t : Lexeme)
     → ((line : ℕ) → (tokens_from (position_or_len p bytes) (at + 1) line bytes).tokens ≡ before ++ t ∷ after
@@ -151,7 +151,7 @@ passed p white at line [] before after t e = absurd (no_token before after t e)
 passed p white at line (b ∷ bytes) before after t e =
     passed_step p at line b bytes (p b) refl (white b) before after t (λ l f. passed p white (at + 1) l bytes before after t f) e
 
--- the tokens before one of them do not change with what stands in its place and behind it
+-- the tokens before one of them do not change with what stands in its place and after it
 abbrev pub Cuts : List ℕ → ℕ → ℕ → ℕ → List ℕ → Type 0
 Cuts new n at line bytes = (before after : List Lexeme) (t : Lexeme) → (tokens_from n at line bytes).tokens ≡ before ++ t ∷ after
     → tokens_from n at line (take (t.start - at) bytes ++ new) ≡ with_tokens before (tokens_from 0 t.start t.line new)

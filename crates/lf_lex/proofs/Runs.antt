@@ -1,4 +1,4 @@
--- Reading takes a run of tokens, and reads the same from tokens that differ in their places alone, whatever stands behind.
+-- Reading takes a run of tokens, and reads the same from tokens that differ in their places alone, whatever stands after.
 use Rattle.std.proofs.Common.{◌≡◌, ℕ, zero, suc, ◌+◌, ◌≤◌, ◌<◌, Bool, true, false, cond, List, [], ◌∷◌, ◌++◌, map, length, Result, Ok, Err, refl, sym, ap, ◌∙◌}
 use Rattle.std.proofs.Common.{arith}
 use Rattle.std.proofs.lemmas.List.{append_assoc, append_cancel_right, append-nil}
@@ -323,7 +323,7 @@ reads_alike reader f l m x e =
     let r = f l m x e in
     (r.run, r.whole, λ p q k. let a = r.again p q in a.takes k ∙ ap (λ (z : _). taken z k) a.alike)
 
--- what begins with a token takes one, whatever is read behind it
+-- what begins with a token takes one, whatever is read after it
 pub takes_first : {A : Type 0} (k : Taken Lexeme → Result (Taken A) ReadFault) (l m : Lexed) (x : A) → (token l >>= k) ≡ taken x m
     → ((t : Lexeme) → Follows same (λ l. k (left t l)) (λ l. k (left t l))) → length m.tokens < length l.tokens
 takes_first k l m x e next = takes_one same k (λ t l. k (left t l)) l m x next e

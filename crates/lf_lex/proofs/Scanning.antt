@@ -154,7 +154,7 @@ after_front (suc n) at line (b ∷ bytes) le =
     let f = after_one (is_line_feed b) line (line_feeds (take n bytes)) in
     after_front n (at + 1) (cond (is_line_feed b) (line + 1) line) bytes (omega arith) ∙ rw (e, f, ← line_feeds_cons b (take n bytes)) refl
 
--- what stands at a place, as a token with what is left behind it
+-- what stands at a place, as a token with what is left after it
 placed : (kind : TokenKind) (text : List ℕ) (at line more b : ℕ) (t : List ℕ) → at < length text → get_or text at 0 ≡ b → is_line_feed b ≡ false → more ≤ length (drop (at + 1) text)
     → t ≡ take (at + 1 + more - at) (drop at text)
     → tokens_from 0 at line (b ∷ drop (at + 1) text) ≡ with_token (token_at kind at line b (drop (at + 1) text) more) (tokens_from more (at + 1) line (drop (at + 1) text))

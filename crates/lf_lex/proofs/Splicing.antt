@@ -139,7 +139,7 @@ joined_front at line (w ∷ ws) rest h white =
     ∙ word_front at line w (spaced ws ++ rest) x.0 (spaced_white ws rest white)
     ∙ ap (λ (y : List Plain). word_of w ∷ y) (spaced_front at line ws rest x.1 white)
 
--- What stands behind a token.
+-- What stands after a token.
 
 word_behind : (bytes : List ℕ) → BeginsWhite (drop (word_len bytes) bytes)
 word_behind [] = tt
@@ -149,7 +149,7 @@ word_behind (b ∷ bytes) = by_test (is_white b) refl (word_behind bytes)
     by_test true h r = rw h h
     by_test false h r = let e : 1 + word_len bytes ≡ suc (word_len bytes) = omega arith in rw (h, e) r
 
--- the tokens behind a place up to which is passed over
+-- the tokens after a place that skipping reaches
 pub record Behind (at stop : ℕ) (bytes : List ℕ) (us : List Lexeme) : Type 0 where
   pub line : ℕ
   pub past : at ≤ stop
@@ -249,7 +249,7 @@ walk at line bytes (v ∷ us) after u stop e s last =
     drop-drop (stop - v.start) (v.start - u.stop) _ ∙ drop-drop _ (u.stop - at) bytes ∙ rw sum refl in
     (record { line = w.0.line; past = omega (arith, ge, n.0.past, w.0.past); rest = rw there at w.0.rest }, rw there at w.1)
 
--- the first token at or behind a splice
+-- the first token at or after a splice
 first_made : (s : Splice) (ws : List (List ℕ)) (middle after : List Lexeme) → Makes s ws middle after
     → (t : Lexeme) × (ts : List Lexeme) × (middle ++ after ≡ t ∷ ts) × (s.start ≡ t.start)
 first_made s ws [] [] m = absurd m

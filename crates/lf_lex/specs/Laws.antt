@@ -1,13 +1,13 @@
--- What is true of reading, whatever is read.
+-- Laws on reading, whatever is read.
 use Rattle.std.specs.Prelude.{◌≡◌, ◌<◌, List, length, map}
 use Rattle.lf_lex.specs.Tokens.{Lexed, Lexeme, plain, with_tokens}
 use Rattle.lf_lex.specs.Reading.{Reader, Statement, taken, goes_on}
 
--- a statement behind which more follow takes a token, so a block comes to its last statement or to a fault
+-- a statement after which more follow takes a token, so a block ends or fails
 abbrev pub TakesTokens : {S : Type 0} → Statement S → Type 0
 TakesTokens statement = (before after : _) (l m : Lexed) → statement before l ≡ goes_on after m → length m.tokens < length l.tokens
 
--- What is read takes some of the tokens, and is read alike from tokens with the same texts, wherever they stand and whatever stands behind them.
+-- A reader takes some of the tokens, and reads alike from tokens with the same texts, wherever they are and whatever follows.
 abbrev pub ReadsAlike : {A : Type 0} → Reader A → Type 0
 ReadsAlike reader = (l m : Lexed) (x : _) → reader l ≡ taken x m
     → (run : List Lexeme) × (l ≡ with_tokens run m) × ((same : List Lexeme) → map plain same ≡ map plain run → (behind : Lexed) → reader (with_tokens same behind) ≡ taken x behind)

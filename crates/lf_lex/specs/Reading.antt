@@ -1,4 +1,4 @@
--- Reading a list of tokens from its front: a value and the tokens behind it, or the first fault with its line.
+-- Reading a list of tokens from its front: a value and the tokens after it, or the first fault with its line.
 use Rattle.std.specs.Prelude.{◌≡◌, ℕ, zero, suc, ◌<◌, ◌≤◌, nat_lt, Bool, true, false, ◌&&◌, not, List, [], ◌∷◌, length, Option, Some, None, Result, Ok, Err}
 use Rattle.std.specs.Prelude.{codes, if◌then◌else◌}
 use Rattle.std.specs.Str.{bytes_eq}
@@ -14,12 +14,12 @@ use Rattle.lf_lex.specs.declared.fault.ReadError.{ReadError}
 use Rattle.lf_lex.specs.declared.fault.ReadError.TheVariants.{Memory, Fault}
 use Rattle.lf_lex.specs.Tokens.{Lexeme, Lexed, is_word_byte}
 
--- what was read, and what is left behind it
+-- what was read, and what is left after it
 pub record Taken (A : Type 0) : Type 0 where
   pub value : A
   pub rest : Lexed
 
--- what reads a value from the front of the tokens
+-- a function that reads a value from the front of the tokens
 abbrev pub Reader : Type 0 → Type 0
 Reader A = Lexed → Result (Taken A) ReadFault
 
@@ -56,7 +56,7 @@ lexer_error (lex.UnexpectedEnd line) = error_at UnexpectedEnd line
 
 -- Tokens.
 
--- the tokens are spent: the lexer's fault, or the end of the text where more is due
+-- no token is left: the lexer's fault, or UnexpectedEnd
 abbrev pub fault_of : Option LexFault → ℕ → ReadFault
 fault_of None end_line = record { number = UnexpectedEnd; line = end_line }
 fault_of (Some (lex.BadToken line)) end_line = record { number = BadToken; line = line }
@@ -102,7 +102,7 @@ kind_is_word Quoted = false
 abbrev pub is_word : Lexeme → Bool
 is_word t = kind_is_word t.kind && not (is (codes ";") t)
 
--- the keyword, or another token that has to stand as it is
+-- the keyword, or another token that is due as it is
 unfoldable pub keyword : List ℕ → Reader (Unit {0})
 keyword due l = do
   t ← token l
@@ -120,7 +120,7 @@ name l = do
   t ← word l
   if nat_lt 1024 (length t.value.text) then fault_at TooMany t.value.line else taken t.value t.rest
 
--- the name that is due behind an END
+-- the name that is due after an END
 unfoldable pub end_name : List ℕ → Reader (Unit {0})
 end_name due l = do
   t ← token l
@@ -130,12 +130,12 @@ end_name due l = do
 
 -- Statements.
 
--- whether more statements follow, and what is known after this one
+-- whether more statements follow, and the state after this one
 pub record Turn (S : Type 0) : Type 0 where
   pub more : Bool
   pub state : S
 
--- what one statement of a block reads, given what is known before it
+-- what one statement of a block reads, given the state before it
 abbrev pub Statement : Type 0 → Type 0
 Statement S = S → Reader (Turn S)
 
@@ -147,25 +147,25 @@ goes_on s l = taken (record { more = true; state = s }) l
 abbrev pub ends : {S : Type 0} → S → Lexed → Result (Taken (Turn S)) ReadFault
 ends s l = taken (record { more = false; state = s }) l
 
--- statement after statement up to the last, so many of them at most
+-- statement after statement up to the last, at most this many
 unfoldable pub statements : {S : Type 0} → Statement S → ℕ → S → Reader S
 statements statement zero s l = Err (fault_behind l)
 statements statement (suc n) s l = do
   t ← statement s l
   if t.value.more then statements statement n t.value.state t.rest else taken t.value.state t.rest
 
--- Statement after statement up to the last. Each takes a token, so there are no more of them than tokens.
+-- Statement after statement up to the last. Each takes a token, so there are at most as many as tokens.
 abbrev pub block : {S : Type 0} → Statement S → S → Reader S
 block statement s l = statements statement (suc (length l.tokens)) s l
 
--- of several statements of one kind the first stands
+-- of several statements of one kind the first counts
 abbrev pub first_stands : {A : Type 0} → Option A → A → Option A
 first_stands None x = Some x
 first_stands (Some first) x = Some first
 
--- Passing over.
+-- Skipping.
 
--- a token that is passed over; a semicolon is the last
+-- a token that is skipped; a semicolon is the last
 unfoldable pub passed_token : Statement (Unit {0})
 passed_token _ l = do
   t ← token l
@@ -175,7 +175,7 @@ passed_token _ l = do
 abbrev pub to_semicolon : Reader (Unit {0})
 to_semicolon l = block passed_token tt l
 
--- a token that is passed over, directly behind an END or not; the name that is due behind END is the last
+-- a token that is skipped, directly after an END or not; the name that is due after END is the last
 unfoldable pub passed_to_end : List ℕ → Statement Bool
 passed_to_end due behind_end l = do
   t ← token l
@@ -187,7 +187,7 @@ to_end due l = do
   t ← block (passed_to_end due) false l
   taken tt t.rest
 
--- a token that is passed over; the word that is due is the last
+-- a token that is skipped; the word that is due is the last
 unfoldable pub passed_to_word : List ℕ → Statement (Unit {0})
 passed_to_word due _ l = do
   t ← token l
@@ -197,34 +197,34 @@ passed_to_word due _ l = do
 abbrev pub to_word : List ℕ → Reader (Unit {0})
 to_word due l = block (passed_to_word due) tt l
 
--- What functions answer.
+-- What functions return.
 
 -- a name: a word of at most 1,024 bytes, each from 33 to 126
 pub record IsName (bytes : List ℕ) : Type 0 where
   pub short : length bytes ≤ 1024
   pub printable : list_all is_word_byte bytes ≡ true
 
--- a reader's failure: the fault that reading gives, or memory ran out
+-- a reader's failure: the fault that the definition gives, or memory ran out
 abbrev pub Fails : {A : Type 0} → ReadError → Result A ReadFault → Type 0
 Fails Memory reading = Unit {0}
 Fails (Fault f) reading = reading ≡ Err f
 
--- the error is a fault of the text: what takes no memory never answers want of it
+-- the error is a fault of the text and not a failed allocation
 abbrev pub IsFault : ReadError → Type 0
 IsFault Memory = ⊥
 IsFault (Fault f) = Unit {0}
 
--- A function answered what reading gives, its value seen by view, unless memory ran out; and at least one token was taken.
+-- A function returned what the definition reads, its value seen by `view`, unless memory ran out; at least one token was taken.
 abbrev pub Reads : {X Y : Type 0} → (X → Y) → Result X ReadError → Reader Y → Lexed → Lexed → Type 0
 Reads view (Ok x) reader old new = (reader old ≡ taken (view x) new) × (length new.tokens < length old.tokens)
 Reads view (Err e) reader old new = Fails e (reader old)
 
--- the same where perhaps no token was taken
+-- the same, but perhaps no token was taken
 abbrev pub ReadsOn : {X Y : Type 0} → (X → Y) → Result X ReadError → Reader Y → Lexed → Lexed → Type 0
 ReadsOn view (Ok x) reader old new = (reader old ≡ taken (view x) new) × (length new.tokens ≤ length old.tokens)
 ReadsOn view (Err e) reader old new = Fails e (reader old)
 
--- the same for a statement that may be the end of the text: where more follow, a token was taken
+-- the same for a statement that may be the end of the text: if more follow, a token was taken
 abbrev pub ReadsTurn : {S : Type 0} → (Bool → Turn S) → Result Bool ReadError → Reader (Turn S) → Lexed → Lexed → Type 0
 ReadsTurn view (Ok more) reader old new = (reader old ≡ taken (view more) new) × (length new.tokens ≤ length old.tokens)
     × (more ≡ true → length new.tokens < length old.tokens)

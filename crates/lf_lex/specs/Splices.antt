@@ -4,18 +4,18 @@ use Rattle.std.specs.List.{list_all}
 use Rattle.lf_lex.specs.declared.tokens.TokenKind.TheVariants.{Word}
 use Rattle.lf_lex.specs.Tokens.{Lexeme, Plain, plain, tokens_of, is_word_byte}
 
--- bytes that take the place of those from one offset up to another
+-- bytes that replace those from one offset up to another
 pub record Splice : Type 0 where
   pub start : ℕ
   pub stop : ℕ
   pub new : List ℕ
 
--- What is left of a text from a place on, with the splices made.
+-- The rest of a text from an offset on, with the splices made.
 unfoldable pub spliced : ℕ → List Splice → List ℕ → List ℕ
 spliced at [] bytes = bytes
 spliced at (s ∷ ss) bytes = take (s.start - at) bytes ++ (s.new ++ spliced s.stop ss (drop (s.stop - at) bytes))
 
--- splices one behind the other, within a text of so many bytes
+-- splices one after the other, within a text of this length
 abbrev pub Rising : ℕ → ℕ → List Splice → Type 0
 Rising at len [] = at ≤ len
 Rising at len (s ∷ ss) = (at ≤ s.start) × (s.start ≤ s.stop) × Rising s.stop len ss
@@ -30,7 +30,7 @@ abbrev pub joined : List (List ℕ) → List ℕ
 joined [] = []
 joined (w ∷ ws) = w ++ spaced ws
 
--- bytes that are one word where white space follows
+-- bytes that are one word if white space follows
 abbrev pub is_word_text : List ℕ → Bool
 is_word_text [] = false
 is_word_text (b ∷ bytes) = not (b == 35) && not (b == 34) && list_all is_word_byte (b ∷ bytes)
@@ -38,12 +38,12 @@ is_word_text (b ∷ bytes) = not (b == 35) && not (b == 34) && list_all is_word_
 abbrev pub word_of : List ℕ → Plain
 word_of w = record { text = w; kind = Word }
 
--- a run of tokens ends with a word, at a place
+-- the last token of a run is a word and ends at this offset
 abbrev pub LastIs : ℕ → Lexeme → List Lexeme → Type 0
 LastIs stop t [] = (t.stop ≡ stop) × (is_word_text t.text ≡ true)
 LastIs stop t (u ∷ us) = LastIs stop u us
 
--- what one splice does to the tokens: the run that it replaces by words, and what stands behind; an insertion stands before a token
+-- one splice replaces a run of tokens by words, or inserts words before a token
 abbrev pub Makes : Splice → List (List ℕ) → List Lexeme → List Lexeme → Type 0
 Makes s ws [] [] = ⊥
 Makes s ws [] (t ∷ after) = (s.start ≡ t.start) × (s.stop ≡ t.start) × (s.new ≡ joined ws ++ 32 ∷ [])
@@ -61,11 +61,11 @@ pub record Step (s : Splice) (p : List Lexeme) (q : List Plain) (Then : List Lex
   pub new : q ≡ map plain before ++ (map word_of words ++ later)
   pub next : Then after later
 
--- splices of a run of tokens, and what the run becomes
+-- the splices turn this run of tokens into that one
 abbrev pub Edited : List Splice → List Lexeme → List Plain → Type 0
 Edited [] p q = map plain p ≡ q
 Edited (s ∷ ss) p q = Step s p q (Edited ss)
 
--- The tokens of a text whose splices are made are what the splices make of its tokens, places apart.
+-- Making splices in a text makes them among its tokens, but for offsets and lines.
 abbrev pub SplicesTokens : List ℕ → Type 0
 SplicesTokens text = (ss : List Splice) (q : List Plain) → Edited ss (tokens_of text).tokens q → map plain (tokens_of (spliced 0 ss text)).tokens ≡ q

@@ -1,4 +1,4 @@
--- The tokens of a text, up to the first that is none, or to its end.
+-- The tokens of a text, up to its end or the first fault.
 use Rattle.std.specs.Prelude.{◌≡◌, ℕ, zero, suc, ◌+◌, ◌-◌, ◌==◌, nat_le, ◌<◌, ◌≤◌, length, drop, Bool, true, false, not, ◌&&◌, ◌||◌, List, [], ◌∷◌, take, ◌++◌, Option, Some, None, Result, Ok, Err, count_by, if◌then◌else◌}
 use Rattle.std.specs.Option.{option_map, option_map_or}
 use Rattle.std.specs.List.{list_all, position_or_len}
@@ -9,11 +9,11 @@ use Rattle.lf_lex.specs.declared.tokens.TokenKind.TheVariants.{Word, Quoted}
 use Rattle.lf_lex.specs.declared.tokens.LexFault.{LexFault}
 use Rattle.lf_lex.specs.declared.tokens.LexFault.TheVariants.{BadToken, UnexpectedEnd}
 
--- a token whose bytes are a list, and no part of a text in memory
+-- a token whose bytes are a list instead of a slice of a text
 abbrev pub Lexeme : Type 0
 Lexeme = TokenOf (List ℕ)
 
--- the tokens of a text, the fault behind them, and the line on which the text ends
+-- the tokens of a text, the fault after them, and the line on which the text ends
 pub record Lexed : Type 0 where
   pub tokens : List Lexeme
   pub fault : Option LexFault
@@ -32,15 +32,15 @@ is_word_byte b = nat_le 33 b && nat_le b 126
 abbrev pub line_feeds : List ℕ → ℕ
 line_feeds bytes = count_by is_line_feed bytes
 
--- how many bytes of a comment stand behind its number sign: all up to the end of the line
+-- the number of bytes of a comment after its number sign: all up to the end of the line
 abbrev pub comment_len : List ℕ → ℕ
 comment_len bytes = position_or_len is_line_feed bytes
 
--- how many bytes stand before the next white space
+-- the number of bytes before the next white space
 abbrev pub word_len : List ℕ → ℕ
 word_len bytes = position_or_len is_white bytes
 
--- how many bytes stand up to the closing quote, with it; a backslash takes the next byte along
+-- the number of bytes up to the closing quote, with it; a backslash takes the next byte along
 abbrev pub quoted_len : Bool → List ℕ → Option ℕ
 quoted_len escaped [] = None
 quoted_len escaped (b ∷ bytes) =
@@ -53,11 +53,12 @@ with_token token rest = record { tokens = token ∷ rest.tokens; fault = rest.fa
 abbrev pub stopped : LexFault → ℕ → Lexed
 stopped fault end_line = record { tokens = []; fault = Some fault; end_line = end_line }
 
--- The token whose first byte is b, and which has so many bytes of those behind b.
+-- The token whose first byte is b, followed by this many of the bytes after b.
 abbrev pub token_at : TokenKind → ℕ → ℕ → ℕ → List ℕ → ℕ → Lexeme
 token_at kind at line b bytes more = record { text = b ∷ take more bytes; kind = kind; start = at; stop = at + 1 + more; line = line }
 
--- The tokens of what is left of a text from a place and a line on; the first bytes of it, so many, belong to what was read before.
+-- The tokens of the rest of a text, from an offset and a line; the first bytes, as many as `before`, were read already and are
+-- skipped.
 unfoldable pub tokens_from : ℕ → ℕ → ℕ → List ℕ → Lexed
 tokens_from before at line [] = record { tokens = []; fault = None; end_line = line }
 tokens_from (suc before) at line (b ∷ bytes) = tokens_from before (at + 1) (if is_line_feed b then line + 1 else line) bytes
@@ -76,25 +77,25 @@ tokens_of text = tokens_from 0 0 1 text
 abbrev pub lexeme : TokenOf (Bor (List ℕ)) → Lexeme
 lexeme t = record { text = t.text.now; kind = t.kind; start = t.start; stop = t.stop; line = t.line }
 
--- What a call for the next token answers: the first of them, or the end, or the fault behind them, which then stays.
+-- What a call for the next token returns: the first of them, or the end, or the fault after them, which then stays.
 abbrev pub Answers : Result (Option (TokenOf (Bor (List ℕ)))) LexFault → Lexed → Lexed → Type 0
 Answers (Ok (Some token)) old new = old ≡ with_token (lexeme token) new
 Answers (Ok None) old new = (old.tokens ≡ []) × (old.fault ≡ None) × (new ≡ old)
 Answers (Err fault) old new = (old.tokens ≡ []) × (old.fault ≡ Some fault) × (new ≡ old)
 
--- a token stands at the front, or nothing is left
+-- a token is at the front, or nothing is left
 abbrev pub BeginsToken : List ℕ → Type 0
 BeginsToken [] = Unit {0}
 BeginsToken (b ∷ bytes) = (is_white b ≡ false) × ((b == 35) ≡ false)
 
--- What a token read at a place is: the first of those that are left, with the others behind it; or the fault in its place.
+-- A token read at an offset: the first of those that are left, with the others after it; or the fault in its place.
 abbrev pub ReadsToken : List ℕ → ℕ → ℕ → Result (TokenOf (Bor (List ℕ))) LexFault → Type 0
 ReadsToken text at line (Ok t) =
     (at + length t.text.now ≡ t.stop) × (at < t.stop) × (t.stop ≤ length text)
     × (tokens_from 0 at line (drop at text) ≡ with_token (lexeme t) (tokens_from 0 t.stop (line + line_feeds t.text.now) (drop t.stop text)))
 ReadsToken text at line (Err fault) = tokens_from 0 at line (drop at text) ≡ stopped fault (line + line_feeds (drop at text))
 
--- Tokens that are slices of a text, one behind the other, from a place on.
+-- Tokens that are slices of a text, one after the other, from an offset on.
 abbrev pub AreSlices : List ℕ → ℕ → List Lexeme → Type 0
 AreSlices text from [] = Unit {0}
 AreSlices text from (t ∷ ts) = (from ≤ t.start) × (t.start < t.stop) × (t.text ≡ take (t.stop - t.start) (drop t.start text)) × AreSlices text t.stop ts
@@ -103,7 +104,7 @@ AreSlices text from (t ∷ ts) = (from ≤ t.start) × (t.start < t.stop) × (t.
 abbrev pub with_tokens : List Lexeme → Lexed → Lexed
 with_tokens front rest = record { tokens = front ++ rest.tokens; fault = rest.fault; end_line = rest.end_line }
 
--- A token without its place and line.
+-- A token without its offsets and line.
 pub record Plain : Type 0 where
   pub text : List ℕ
   pub kind : TokenKind
@@ -111,7 +112,7 @@ pub record Plain : Type 0 where
 abbrev pub plain : Lexeme → Plain
 plain t = record { text = t.text; kind = t.kind }
 
--- Whatever stands in place of a token and all behind it, the tokens before it stay, with their places.
+-- Replacing a token and all that follows leaves the tokens before it unchanged, with their offsets.
 abbrev pub CutsAtTokens : List ℕ → Type 0
 CutsAtTokens text = (new : List ℕ) (before : List Lexeme) (t : Lexeme) (after : List Lexeme) → (tokens_of text).tokens ≡ before ++ t ∷ after
     → tokens_of (take t.start text ++ new) ≡ with_tokens before (tokens_from 0 t.start t.line new)
@@ -121,7 +122,7 @@ abbrev pub kind_of : List ℕ → TokenKind
 kind_of [] = Word
 kind_of (b ∷ bytes) = if b == 34 then Quoted else Word
 
--- a token is spelled as its kind asks: its first byte tells the kind, and each byte of a word is from 33 to 126
+-- a token is spelled as its kind asks: its first byte determines the kind, and each byte of a word is from 33 to 126
 pub record IsSpelled (t : Lexeme) : Type 0 where
   pub kind : t.kind ≡ kind_of t.text
   pub bytes : t.kind ≡ Word → list_all is_word_byte t.text ≡ true

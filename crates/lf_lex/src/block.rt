@@ -10,21 +10,21 @@ use crate::lexer::Lexer;
 
 /// A block of statements: how each of them is read.
 pub trait Block {
-    /// What is known of the block: what the statements that were read say.
+    /// The state: what the statements read so far say.
     type State;
 
-    // What a statement reads, given what is known before it.
+    // What a statement reads, given the state before it.
     ghost statement: { Self → Statement Self.State };
 
-    // What each statement keeps of what is known.
+    // What each statement keeps of the state.
     ghost keeps: { Self → Self.State → Type 0 } = { λ _ _. ⊤ };
 
-    // What a failure may be.
+    // What an error may be.
     ghost fails: { ReadError → Type 0 } = { λ _. ⊤ };
 
-    /// Reads a statement, and puts what it says into the state; whether more follow.
+    /// Reads a statement and updates the state; returns whether more follow.
     ///
-    /// `Err` is a fault of the text with its line, or want of memory.
+    /// `Err` is a fault of the text with its line, or a failed allocation.
     fn turn(&self, lexer: &mut Lexer, state: &mut Self::State) -> Result<bool, ReadError>
         requires kept { keeps self.now state.old }
         ensures read { Reads (reading.turn state.new) result (statement self.now state.old) lexer.old lexer.new }
@@ -34,7 +34,7 @@ pub trait Block {
 
 /// Reads statement after statement, up to the last.
 ///
-/// `Err` is that of the first statement that fails; of the state nothing is promised then but what statements keep.
+/// `Err` is that of the first statement that fails; the state then keeps `keeps`, and nothing more is promised.
 pub fn read_block<B: Block>(
     lexer: &mut Lexer,
     block: &B,

@@ -1,4 +1,4 @@
-//! What is answered to a text that cannot be read or a design that cannot be loaded.
+//! The faults of texts that cannot be read and of designs that cannot be loaded.
 
 ghost use Rattle.std.specs.Prelude.{◌≡◌};
 ghost use Rattle.lf_lex.specs.declared.fault.ReadError.TheVariants.{Memory};
@@ -6,18 +6,18 @@ ghost use Rattle.lf_lex.specs.Faults.{load_fault_of};
 
 use std::alloc::{AllocError, AllocFailed};
 
-/// The refusals of reading and loading, from number 1 to number 24.
+/// The faults of reading and loading, from number 1 to number 24.
 #[derive(Clone, Copy, Debug, PartialEq, Eq)]
 pub enum FaultNumber {
     /// A byte that no token may hold.
     BadToken,
     /// The text ends where more is due.
     UnexpectedEnd,
-    /// Another token than the one that is due.
+    /// A token other than the one that is due.
     Unexpected,
     /// No number, too fine a number or too large a number where a number is due.
     BadNumber,
-    /// END and another name than the one that is due.
+    /// A name after END other than the one that is due.
     WrongEnd,
     /// A word that begins no statement of DEF.
     UnknownStatement,
@@ -39,29 +39,29 @@ pub enum FaultNumber {
     NoMacro,
     /// A component's macro has no size with both lengths above 0.
     NoSize,
-    /// A size is no whole number of database units.
+    /// A size is not whole in database units.
     NotWhole,
-    /// A component bears an earlier one's name.
+    /// A component has an earlier one's name.
     SecondName,
-    /// A fence bears an earlier one's name.
+    /// A fence has an earlier one's name.
     SecondRegion,
     /// A group's region is in no REGIONS entry.
     NoRegion,
-    /// A fence bears the name of the ground outside all fences.
+    /// A fence has the name of the ground team, `-`.
     TeamName,
     /// A fence shares a point with an earlier one.
     FencesOverlap,
-    /// Groups of two fences name one component.
+    /// Groups of two different fences name the same component.
     TwoFences,
-    /// A name is too long, or there is one thing more than the limit of its kind.
+    /// A name is too long, there are more things than their limit, or a row ends past x 2147483647.
     TooMany,
-    /// A growth of memory was refused.
+    /// An allocation failed.
     OutOfMemory,
 }
 
-/// A refusal of a text or a design, with the line or the name that it speaks of.
+/// The fault of a text or a design, with its line or name.
 ///
-/// Readers name the line, loading names the entry, and want of memory names neither.
+/// Readers give the line, loading gives the entry's name, and a failed allocation has neither.
 #[derive(Clone, Copy, Debug, PartialEq, Eq)]
 pub struct LoadFault<'a> {
     pub number: FaultNumber,
@@ -76,7 +76,7 @@ pub struct ReadFault {
     pub line: usize,
 }
 
-/// Why a reader gave up: a fault of the text, or a growth of memory that was refused.
+/// Why reading failed: a fault of the text, or a failed allocation.
 #[derive(Debug, Drop)]
 pub enum ReadError {
     Memory,
@@ -100,7 +100,7 @@ impl<T: Drop> From<AllocFailed<T>> for ReadError {
 }
 
 impl ReadError {
-    /// The refusal that a public reader answers.
+    /// The fault that a public reader returns.
     pub fn into_load_fault<'a>(self) -> LoadFault<'a>
         ensures { result ≡ load_fault_of self }
     {

@@ -1,17 +1,17 @@
-//! What is true of the words that the readers share, whatever they read.
+//! Laws on the reading functions, whatever they read.
 
 ghost use Rattle.std.specs.Prelude.{List, ℕ};
 ghost use Rattle.lf_lex.specs.Laws.{TakesTokens, ReadsAlike};
 ghost use Rattle.lf_lex.specs.Reading.{keyword, end_name, passed_token, passed_to_end, passed_to_word, to_semicolon, to_end, to_word};
 
-/// Whatever is passed over token by token comes to its end, or to the end of the text.
+/// Each token that is skipped is taken, so skipping ends.
 pub fn passing_takes_tokens()
     ensures to_semicolon { TakesTokens passed_token }
     ensures to_end { (due : List ℕ) → TakesTokens (passed_to_end due) }
     ensures to_word { (due : List ℕ) → TakesTokens (passed_to_word due) }
 {}
 
-/// White space, comments and what stands behind play no part in what is read.
+/// White space, comments and what follows do not affect what is read.
 pub fn words_read_alike()
     ensures keyword { (due : List ℕ) → ReadsAlike (keyword due) }
     ensures end_name { (due : List ℕ) → ReadsAlike (end_name due) }

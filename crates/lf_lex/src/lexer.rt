@@ -1,4 +1,4 @@
-//! The lexer, and what is true of the tokens of every text.
+//! The lexer, and laws on the tokens of every text.
 
 ghost use Rattle.std.specs.Prelude.{◌≡◌, ◌+◌, ◌≤◌, List, ℕ, length, drop, All, IfOk, IfSome};
 ghost use Rattle.lf_lex.specs.Splices.{SplicesTokens};
@@ -8,7 +8,7 @@ use crate::scan::{line_feeds, quoted_token, skip_blank, word_token};
 use crate::tokens::{LexFault, Token};
 use std::marker::Model;
 
-/// Gives the tokens of a text one by one. A fault stays.
+/// Returns the tokens of a text one by one. After a fault every call returns that fault.
 #[derive(Drop)]
 pub struct Lexer<'a> {
     text: &'a [u8],
@@ -65,22 +65,22 @@ impl<'a> Lexer<'a> {
     }
 }
 
-/// The kind of each token of a text follows from its bytes, and words have no bytes but those from 33 to 126.
+/// The kind of each token of a text follows from its bytes, and words have bytes from 33 to 126 only.
 pub fn kinds_follow_texts()
     ensures { (text : List ℕ) → All IsSpelled (tokens_of text).tokens }
 {}
 
-/// The tokens of a text are slices of it, one behind the other.
+/// The tokens of a text are slices of it, one after the other.
 pub fn slices_in_order()
     ensures { (text : List ℕ) → AreSlices text 0 (tokens_of text).tokens }
 {}
 
-/// Whatever stands in place of a token and all behind it, the tokens before it stay.
+/// Replacing a token and all that follows leaves the tokens before it unchanged.
 pub fn cuts_at_tokens()
     ensures { (text : List ℕ) → CutsAtTokens text }
 {}
 
-/// The tokens of a text with splices made between its tokens.
+/// Replacing runs of tokens in a text replaces them among its tokens.
 pub fn splices_tokens()
     ensures { (text : List ℕ) → SplicesTokens text }
 {}

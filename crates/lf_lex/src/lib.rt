@@ -1,4 +1,4 @@
-//! The tokens of LEF and DEF texts, and the words that both readers read them by.
+//! The tokens of LEF and DEF texts, and the reading functions that both readers share.
 #![tactic(auto)]
 
 mod block;

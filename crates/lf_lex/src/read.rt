@@ -1,4 +1,4 @@
-//! The words by which LEF and DEF are read, token by token.
+//! The functions that read LEF and DEF, token by token.
 
 ghost use Rattle.std.specs.Prelude.{◌≡◌, ◌<◌, ◌≤◌, length, true, false, IfOk, IfErr, MatchResult, OnSome};
 ghost use Rattle.std.specs.Option.{option_map};
@@ -29,7 +29,7 @@ fn lexer_error(fault: LexFault) -> ReadError
     }
 }
 
-/// Another token stands where this one was due.
+/// The error for another token than the one that is due.
 fn unexpected(found: &Token) -> ReadError
     ensures { result ≡ reading.error_at Unexpected found.now.line }
 {
@@ -70,7 +70,7 @@ pub fn is(word: &[u8], token: &Token) -> bool
     token.text == word
 }
 
-/// Whether the token is a word, `;` among them.
+/// Whether the token is a word; `;` is one.
 pub fn is_any_word(token: &Token) -> bool
     ensures { result ≡ reading.kind_is_word (lexeme token.now).kind }
 {
@@ -87,7 +87,7 @@ pub fn is_word(token: &Token) -> bool
     is_any_word(token) && !is(b";", token)
 }
 
-/// Past the token that is due, else Unexpected.
+/// Takes the next token, which must be `due`; else Unexpected.
 #[tactic(auto, unfolding(crate::specs::Reading::keyword))]
 pub fn keyword(lexer: &mut Lexer, due: &[u8]) -> Result<(), ReadError>
     ensures read { Reads (λ x. x) result (reading.keyword due.now) lexer.old lexer.new }
@@ -101,7 +101,7 @@ pub fn keyword(lexer: &mut Lexer, due: &[u8]) -> Result<(), ReadError>
     }
 }
 
-/// A word other than `;`, of any length, else Unexpected.
+/// Takes a word other than `;`, of any length; else Unexpected.
 #[tactic(auto, unfolding(crate::specs::Reading::word))]
 pub fn word<'a>(lexer: &mut Lexer<'a>) -> Result<Token<'a>, ReadError>
     ensures read { Reads lexeme result reading.word lexer.old lexer.new }
@@ -116,7 +116,7 @@ pub fn word<'a>(lexer: &mut Lexer<'a>) -> Result<Token<'a>, ReadError>
     }
 }
 
-/// A word other than `;` of at most 1,024 bytes, else Unexpected or TooMany.
+/// Takes a word other than `;` of at most 1,024 bytes; else Unexpected or TooMany.
 #[tactic(auto, unfolding(crate::specs::Reading::name))]
 pub fn name<'a>(lexer: &mut Lexer<'a>) -> Result<Token<'a>, ReadError>
     ensures read { Reads lexeme result reading.name lexer.old lexer.new }
@@ -131,7 +131,7 @@ pub fn name<'a>(lexer: &mut Lexer<'a>) -> Result<Token<'a>, ReadError>
     }
 }
 
-/// Past the name that is due behind an END: WrongEnd for another word, Unexpected for a quoted text.
+/// Takes the name due after END: WrongEnd for another word, Unexpected for a quoted text.
 #[tactic(auto, unfolding(crate::specs::Reading::end_name))]
 pub fn end_name(lexer: &mut Lexer, due: &[u8]) -> Result<(), ReadError>
     ensures read { Reads (λ x. x) result (reading.end_name due.now) lexer.old lexer.new }
@@ -148,7 +148,7 @@ pub fn end_name(lexer: &mut Lexer, due: &[u8]) -> Result<(), ReadError>
     }
 }
 
-/// What is passed over up to a `;`.
+/// How tokens up to a `;` are skipped.
 #[derive(Drop)]
 struct ToSemicolon;
 
@@ -166,7 +166,7 @@ impl Block for ToSemicolon {
     }
 }
 
-/// Past the next `;`.
+/// Skips past the next `;`.
 pub fn to_semicolon(lexer: &mut Lexer) -> Result<(), ReadError>
     ensures read { Reads (λ x. x) result reading.to_semicolon lexer.old lexer.new }
     ensures fault { IfErr result IsFault }
@@ -174,8 +174,7 @@ pub fn to_semicolon(lexer: &mut Lexer) -> Result<(), ReadError>
     read_block(lexer, &ToSemicolon, &mut ())
 }
 
-/// What is passed over up to an END that stands directly before the name that is due. Its state: whether the last
-/// token was END.
+/// How tokens up to END and the name due directly after it are skipped. Its state: whether the last token was END.
 #[derive(Drop)]
 struct ToEnd<'d> {
     due: &'d [u8],
@@ -199,7 +198,7 @@ impl<'d> Block for ToEnd<'d> {
     }
 }
 
-/// Past the next END that stands directly before the name, and past that name.
+/// Skips past the next END that the name directly follows, and past that name.
 #[tactic(auto, unfolding(crate::specs::Reading::to_end))]
 pub fn to_end(lexer: &mut Lexer, due: &[u8]) -> Result<(), ReadError>
     ensures read { Reads (λ x. x) result (reading.to_end due.now) lexer.old lexer.new }
@@ -209,7 +208,7 @@ pub fn to_end(lexer: &mut Lexer, due: &[u8]) -> Result<(), ReadError>
     read_block(lexer, &ToEnd { due }, &mut behind_end)
 }
 
-/// What is passed over up to the word that is due.
+/// How tokens up to the word that is due are skipped.
 #[derive(Drop)]
 struct ToWord<'d> {
     due: &'d [u8],
@@ -229,7 +228,7 @@ impl<'d> Block for ToWord<'d> {
     }
 }
 
-/// Past the next such word.
+/// Skips past the next such word.
 pub fn to_word(lexer: &mut Lexer, due: &[u8]) -> Result<(), ReadError>
     ensures read { Reads (λ x. x) result (reading.to_word due.now) lexer.old lexer.new }
     ensures fault { IfErr result IsFault }

@@ -31,7 +31,7 @@ fn first_white(text: &[u8]) -> Option<usize>
     text.iter().position(|byte| is_white(*byte))
 }
 
-/// How many bytes stand before the next white space.
+/// The number of bytes before the next white space.
 pub(crate) fn word_len(text: &[u8]) -> usize
     ensures len { result ≡ word_len text.now }
     ensures within { result ≤ length text.now }
@@ -39,7 +39,7 @@ pub(crate) fn word_len(text: &[u8]) -> usize
     first_white(text).unwrap_or(text.len())
 }
 
-/// How many bytes stand up to the closing quote, with it.
+/// The number of bytes up to the closing quote, with it.
 pub(crate) fn quoted_len(text: &[u8]) -> Option<usize>
     ensures len { result ≡ quoted_len false text.now }
     ensures within { IfSome result (λ n. n ≤ length text.now) }
@@ -57,7 +57,7 @@ pub(crate) fn quoted_len(text: &[u8]) -> Option<usize>
     None
 }
 
-/// The place and the line of the next byte that is neither white space nor in a comment.
+/// The offset and the line of the next byte that is neither white space nor in a comment.
 pub(crate) fn skip_blank(text: &[u8], start: usize, start_line: usize) -> (usize, usize)
     requires start { start ≤ length text.now }
     requires line { start_line ≤ start + 1 }
@@ -101,7 +101,7 @@ fn part(text: &[u8], start: usize, stop: usize) -> &[u8]
     &text[start..stop]
 }
 
-/// The quoted token at a place where a quote stands.
+/// The quoted token at an offset that has a quote.
 pub(crate) fn quoted_token<'a>(
     text: &'a [u8],
     at: usize,
@@ -131,7 +131,7 @@ pub(crate) fn quoted_token<'a>(
     }
 }
 
-/// The word at a place where neither white space, a comment nor a quote stands.
+/// The word at an offset that has neither white space, a comment nor a quote.
 pub(crate) fn word_token<'a>(text: &'a [u8], at: usize, line: usize) -> Result<Token<'a>, LexFault>
     requires within { at < length text.now }
     requires line { line ≤ at + 1 }

@@ -3,24 +3,24 @@
 /// What kind of token it is.
 #[derive(Clone, Copy, Debug, PartialEq, Eq)]
 pub enum TokenKind {
-    /// Bytes from 33 to 126, up to the next white space: a keyword, a name, a number, or `;`, `(`, `)`,
-    /// `+` and `-` where they stand alone.
+    /// Bytes from 33 to 126, up to the next white space: a keyword, a name, a number, or `;`, `(`, `)`, `+` and `-` as
+    /// words of their own.
     Word,
-    /// A text in quotation marks, with its marks.
+    /// A text in quotation marks, which are part of it.
     Quoted,
 }
 
-/// A token: its bytes, and where they stand in the text. The bytes are of the type `T`: a slice of the
-/// text in a `Token`, and a list of bytes in a contract.
+/// A token: its bytes, and where they are in the text. The bytes have the type `T`: a slice of the text in a `Token`, a
+/// list of bytes in a contract.
 #[derive(Clone, Copy, Debug, PartialEq, Eq)]
 pub struct TokenOf<T> {
     pub text: T,
     pub kind: TokenKind,
     /// The offset of its first byte.
     pub start: usize,
-    /// The offset behind its last byte.
+    /// The offset after its last byte.
     pub stop: usize,
-    /// 1 and the line feeds before its first byte.
+    /// Its line, counted from 1.
     pub line: usize,
 }
 
@@ -30,7 +30,7 @@ pub type Token<'a> = TokenOf<&'a [u8]>;
 /// Why there is no further token.
 #[derive(Clone, Copy, Debug, PartialEq, Eq)]
 pub enum LexFault {
-    /// A byte that is neither white space nor from 33 to 126 stands outside comments and quoted texts.
+    /// A byte outside comments and quoted texts that is neither white space nor from 33 to 126.
     BadToken { line: usize },
     /// A quoted text has no end; the line is the text's last.
     UnexpectedEnd { line: usize },

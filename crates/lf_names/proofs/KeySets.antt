@@ -33,7 +33,7 @@ position-out test keys none =
     let at : position_or_len test keys ≡ length keys = past test keys none in
     ap (λ t. cond t (Some (position_or_len test keys)) None) (le-ltb (position_or_len test keys) (length keys) (omega arith))
 
--- whether a key is new, of which the set tells the opposite
+-- whether a key is new, of which the set says the opposite
 stands : (new known : Bool) → new ≡ not known → new ≡ false → known ≡ true
 stands new true is old = refl
 stands new false is old = absurd (false≢true (sym old ∙ is))
@@ -60,7 +60,7 @@ module _ {K : Type 0} (bytes : K → List ℕ) where
   new-last keys names name at new view is added place =
       place ∙ past (λ k. bytes_eq name (bytes k)) keys (fresh new _ is added) ∙ sym (length-map keys bytes) ∙ ap length view
 
-  -- the names behind a key that is added, and behind one that is there
+  -- the names after a key that is added, and after one that is there
   pub names-new : (keys after : List K) (key : K) (names : List (List ℕ)) (new : Bool) → map bytes keys ≡ names → new ≡ not (list_any (λ k. bytes_eq (bytes key) (bytes k)) keys) → new ≡ true
       → after ≡ (if list_any (λ k. bytes_eq (bytes key) (bytes k)) keys then keys else keys ++ key ∷ []) → map bytes after ≡ names ++ bytes key ∷ []
   names-new keys after key names new view is added made =

@@ -24,7 +24,7 @@ module _ {K : Type 0} (bytes : K → List ℕ) where
       ∙ ap (λ n. cond (nat_lt (position_or_len (bytes_eq name) (map bytes keys)) n) (Some (position_or_len (bytes_eq name) (map bytes keys))) None) many
       ∙ ap (λ ns. position_of ns name) view
 
-  -- a new key puts its name behind the others
+  -- a new key puts its name after the others
   pub names-push : (keys after : List K) (key : K) (names : List (List ℕ)) (name : List ℕ) → map bytes keys ≡ names → bytes key ≡ name
       → false ≡ list_any (λ k. bytes_eq name (bytes k)) keys → after ≡ (if list_any (λ k. bytes_eq (bytes key) (bytes k)) keys then keys else keys ++ key ∷ [])
       → map bytes after ≡ names ++ name ∷ []

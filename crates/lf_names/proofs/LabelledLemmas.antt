@@ -1,4 +1,4 @@
--- Names with labels, kept one behind the other.
+-- Names with labels, kept one after the other.
 use Rattle.std.proofs.Common.{◌≡◌, ◌≢◌, ℕ, ◌+◌, ◌<◌, List, [], ◌∷◌, ◌++◌, length, take, drop, map, get_or, AllPairs, Option, slice_get, sym, ◌∙◌, ap, arith, append_assoc}
 use Rattle.std.proofs.Math.Seq.{take-append_seam, drop-append_seam}
 use Rattle.std.proofs.lemmas.Grind.{common_steps}
@@ -19,7 +19,7 @@ use Rattle.lf_names.proofs.Positions.{stands_nowhere, stands_there}
 no_name : Labelled
 no_name = record { label = 0; name = [] }
 
--- a name that is read between those before it and those behind it
+-- a name that is read between those before it and those after it
 pub record IsRead (names : List Labelled) (i : ℕ) (e : Entry) : Type 0 where
   pub one : Labelled
   pub entry : e ≡ entry_of one
@@ -49,7 +49,7 @@ read store names entries i d keeps same within =
       known = taken names i (get_or names i no_name) inside own;
     }
 
--- the bytes of the name, and those behind it
+-- the bytes of the name, and those after it
 pub cut_front : (names : List Labelled) (i : ℕ) (e : Entry) (r : IsRead names i e) (bytes : List ℕ) → bytes ≡ joined (drop i names) → take e.len bytes ≡ r.one.name
 cut_front names i e r bytes is =
     ap (λ (f : Entry). take f.len bytes) r.entry ∙ ap (take (length r.one.name)) (is ∙ ap joined r.left) ∙ take-append_seam r.one.name (joined (drop (i + 1) names))
@@ -58,7 +58,7 @@ pub cut_back : (names : List Labelled) (i : ℕ) (e : Entry) (r : IsRead names i
 cut_back names i e r bytes is =
     ap (λ (f : Entry). drop f.len bytes) r.entry ∙ ap (drop (length r.one.name)) (is ∙ ap joined r.left) ∙ drop-append_seam r.one.name (joined (drop (i + 1) names))
 
--- a name that has no position may stand behind names that differ
+-- a name that has no position may stand after names that differ
 pub differ_more : (names : List (List ℕ)) (name : List ℕ) → position_of names name ≡ None → AllPairs (λ earlier later. earlier ≢ later) names → AllPairs (λ earlier later. earlier ≢ later) (names ++ name ∷ [])
 differ_more names name new differ =
     all_pairs_push (λ earlier later. earlier ≢ later) names name differ (λ k d within same. stands_nowhere names name new (k, within, get_or_default names k name d within ∙ same))

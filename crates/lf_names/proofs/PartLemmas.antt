@@ -132,7 +132,7 @@ behind_differ : (n : Labelled) (names : List Labelled) (t : Bool) → Differ (co
 behind_differ n names true differ = λ i j d less within. differ (suc i) (suc j) d (omega arith) (omega arith)
 behind_differ n names false differ = differ
 
--- a name differs from those behind it that are of its part, and so from all behind it
+-- a name differs from those after it that are of its part, and so from all after it
 differs_from : (n : Labelled) (names : List Labelled) (part : ℕ) → part_of n.name ≡ part → Differ (names_of_part part (n ∷ names)) → All (λ later. n.name ≢ later.name) names
 differs_from n names part is differ k d within same =
     let later : Labelled = get_or names k d in

@@ -66,7 +66,7 @@ module _ (parts more : List Part) (piece : List ℕ) (is : parts ≡ map byte pi
   pub nowhere : (name : List ℕ) → ((before rest : List ℕ) → name ≡ before ++ (piece ++ rest) → ⊥) → Becomes (star ∷ parts) name → ⊥
   nowhere name apart h = let o = opened h.1 h.3 in apart h.0 o.0 (h.2 ∙ ap (λ l. h.0 ++ l) o.1)
 
--- behind the last star the name must end with the piece
+-- after the last star the name must end with the piece
 pub at_end : (parts : List Part) (piece name : List ℕ) (ends : Bool) → parts ≡ map byte piece → ends ≡ ends_with nat_eq name piece → IsTrue ends ↔ Becomes (star ∷ parts) name
 at_end parts piece name ends e is =
     let answer = ends_is Decides-eqb name piece ends is in
@@ -109,7 +109,7 @@ begins_before_star (byte c ∷ parts) name h =
     let more = begins_before_star parts h.0 h.2 in (more.0, h.1 ∙ ap (λ l. c ∷ l) more.1)
 begins_before_star (star ∷ parts) name h = (name, refl)
 
--- the bytes behind the last star are those of what is behind any star
+-- the bytes after the last star are those of what is after any star
 pub behind_star : (seen piece : List ℕ) (more : List Part) → bytes_behind_star seen (map byte piece ++ star ∷ more) ≡ bytes_behind_star [] more
 behind_star seen [] more = refl
 behind_star seen (c ∷ piece) more = behind_star (seen ++ c ∷ []) piece more
@@ -118,7 +118,7 @@ pub behind_no_star : (seen piece : List ℕ) → bytes_behind_star seen (map byt
 behind_no_star seen [] = sym (append-nil seen)
 behind_no_star seen (c ∷ piece) = behind_no_star (seen ++ c ∷ []) piece ∙ append_assoc seen (c ∷ []) piece
 
--- what some parts become ends with the bytes behind their last star, once the bytes seen before stand in front of it
+-- what some parts become ends with the bytes after their last star, once the bytes seen before stand in front of it
 seen_ends_behind_star : (parts : List Part) (seen name : List ℕ) → Becomes parts name → (run : List ℕ) × (seen ++ name ≡ run ++ bytes_behind_star seen parts)
 seen_ends_behind_star [] seen name h = ([], ap (λ l. seen ++ l) h ∙ append-nil seen)
 seen_ends_behind_star (byte c ∷ parts) seen name h =
@@ -131,6 +131,6 @@ seen_ends_behind_star (star ∷ parts) seen name h =
       ap (λ l. seen ++ l) (h.2 ∙ ap (λ l. h.0 ++ l) more.1 ∙ sym (append_assoc h.0 more.0 ends)) ∙ sym (append_assoc seen (h.0 ++ more.0) ends),
     )
 
--- what some parts become ends with the bytes behind their last star. A caller's proof may cite this.
+-- what some parts become ends with the bytes after their last star. A caller's proof may cite this.
 pub ends_behind_star : (parts : List Part) (name : List ℕ) → Becomes parts name → (run : List ℕ) × (name ≡ run ++ bytes_behind_star [] parts)
 ends_behind_star parts name h = seen_ends_behind_star parts [] name h

@@ -30,7 +30,7 @@ no_place name piece end h empty apart before rest e = let at = h.all before rest
     ahead [] is = apart rest is
     ahead (d ∷ front) is = cc
 
--- what is behind a later place of the piece is an end of what is behind an earlier one
+-- what is after a later place of the piece is an end of what is after an earlier one
 behind : (piece rest ahead later : List ℕ) → piece ++ rest ≡ ahead ++ (piece ++ later) → (more : List ℕ) × (rest ≡ more ++ later)
 behind piece rest ahead later e =
     let fits : length piece ≤ length (ahead ++ piece) = simp length-append (omega arith) in (
@@ -38,7 +38,7 @@ behind piece rest ahead later e =
       sym (drop-append_seam piece rest) ∙ ap (drop (length piece)) (e ∙ sym (append_assoc ahead piece later)) ∙ drop-append-le (length piece) (ahead ++ piece) later fits,
     )
 
--- what stands behind the piece at the front of such an end
+-- what stands after the piece at the front of such an end
 pub first_place : (name piece end rest : List ℕ) → IsEndWithAll name piece end → end ≡ piece ++ rest → IsBehindFirst name piece rest
 first_place name piece end rest h at = record {
   found = (h.before, h.is ∙ ap (λ l. h.before ++ l) at);

@@ -50,7 +50,7 @@ found_there names name at distinct e =
     earlier k below within true e here = absurd (distinct k at [] below within (sym ((bytes_eq-Decides name (get_or names k [])).0 e) ∙ sym here))
     earlier k below within false e here = e
 
--- what a look-up tells in plain facts
+-- what a look-up says in plain facts
 pub found : (names : List (List ℕ)) (name : List ℕ) (answer : Option ℕ) → answer ≡ position_of names name → IfSome answer (λ at. slice_get names at ≡ Some name)
 found names name (Some at) e = stands_there names name at (sym e)
 found names name None e = tt

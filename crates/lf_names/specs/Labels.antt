@@ -1,4 +1,4 @@
--- Lists of labelled names, and the matches of two: the names that stand in both, with their labels.
+-- Lists of labelled names, and the matches of two: the names that are in both, with their labels.
 use Rattle.std.specs.Prelude.{◌≢◌, ◌↔◌, ℕ, List, map, filter_map, Option, slice_get, AllPairs, Contains}
 use Rattle.std.specs.Option.{option_and_then, option_map}
 use Rattle.lf_names.specs.Names.{position_of}
@@ -9,25 +9,25 @@ pub record Labelled : Type 0 where
   pub label : ℕ
   pub name : List ℕ
 
--- no name stands twice, whatever its labels
+-- no name is there twice, whatever its labels
 abbrev pub Differ : List Labelled → Type 0
 Differ names = AllPairs (λ n later. n.name ≢ later.name) names
 
--- one name stands in both lists, with these labels
+-- one name is in both lists, with these labels
 pub record IsMatch (names asked : List Labelled) (m : Match) : Type 0 where
   pub name : List ℕ
   pub is_own : Contains names (record { label = m.own; name = name })
   pub is_asked : Contains asked (record { label = m.asked; name = name })
 
--- these are the matches of two lists, in whatever order
+-- these are the matches of two lists, in any order
 abbrev pub AreMatches : List Labelled → List Labelled → List Match → Type 0
 AreMatches names asked matches = (m : Match) → Contains matches m ↔ IsMatch names asked m
 
--- the label that a name has among these, if it is there; the first where it stands twice
+-- the label that a name has among these, if it is there; the first if it is there twice
 abbrev pub label_in : List Labelled → List ℕ → Option ℕ
 label_in names name = option_and_then (λ at. option_map (λ n. n.label) (slice_get names at)) (position_of (map (λ n. n.name) names) name)
 
--- a name's own label beside the one with which it is asked for
+-- a name's own label beside that of the asked name
 abbrev pub labels_of : ℕ → ℕ → Match
 labels_of asked own = record { own = own; asked = asked }
 
@@ -35,6 +35,6 @@ labels_of asked own = record { own = own; asked = asked }
 abbrev pub match_of : List Labelled → Labelled → Option Match
 match_of names q = option_map (labels_of q.label) (label_in names q.name)
 
--- the matches of the asked names that are there, in the order in which they are asked
+-- the matches of the asked names that are there, in the order of asking
 abbrev pub matches_of : List Labelled → List Labelled → List Match
 matches_of names asked = filter_map (match_of names) asked

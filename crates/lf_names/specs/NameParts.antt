@@ -4,14 +4,14 @@ use Rattle.lf_names.specs.Labels.{Labelled}
 use Rattle.lf_names.specs.declared.name_parts.Entry.{Entry}
 use Rattle.lf_names.specs.declared.name_parts.LabelledNames.{LabelledNames}
 
--- how many parts there are, and the factor of the hash that tells them apart
+-- the number of parts, and the factor of the hash that selects them
 abbrev pub part_count : ℕ
 part_count = 256
 
 abbrev pub factor : ℕ
 factor = 2654435761
 
--- the hash of some bytes, when one byte more follows
+-- the hash of some bytes and one byte more
 abbrev pub hash_step : ℕ → ℕ → ℕ
 hash_step hash byte = (hash * factor % 2 ^ 32 + byte) % 2 ^ 32
 
@@ -19,11 +19,11 @@ hash_step hash byte = (hash * factor % 2 ^ 32 + byte) % 2 ^ 32
 unfoldable pub part_of : List ℕ → ℕ
 part_of name = fold hash_step 0 name * factor % 2 ^ 32 / 2 ^ 24
 
--- the bytes of these names, one behind the other
+-- the bytes of these names, one after the other
 abbrev pub joined : List Labelled → List ℕ
 joined names = flat_map (λ n. n.name) names
 
--- what is kept of a name beside its bytes
+-- what is kept of a name besides its bytes
 abbrev pub entry_of : Labelled → Entry
 entry_of n = record { label = n.label; len = length n.name }
 
@@ -36,7 +36,7 @@ pub record Keeps (store : LabelledNames) (names : List Labelled) : Type 0 where
 abbrev pub names_of_part : ℕ → List Labelled → List Labelled
 names_of_part part names = filter (λ n. part_of n.name == part) names
 
--- the names that the entries cut from the bytes, one behind the other
+-- the names that the entries cut from the bytes, one after the other
 abbrev pub cut_names : List Entry → List ℕ → List Labelled
 cut_names [] bytes = []
 cut_names (e ∷ entries) bytes = record { label = e.label; name = take e.len bytes } ∷ cut_names entries (drop e.len bytes)

@@ -1,4 +1,4 @@
-//! A table of distinct names that are lent to it.
+//! A table of distinct borrowed names.
 
 ghost use Rattle.std.specs.Prelude.{◌≡◌, [], IfOk, OnErr, None};
 ghost use Rattle.lf_names.specs.Names.{position_of};
@@ -10,8 +10,8 @@ use std::alloc::{AllocError, Global};
 use std::hash::{BuildHasherDefault, FoldHasher};
 use std::marker::Model;
 
-/// Distinct names that stand elsewhere, in the order in which they were first seen: as a `NameTable`, but without
-/// copies. It is quickest where the names stand close together.
+/// Distinct borrowed names, in first-seen order: a `NameTable` without copies. It is fastest if the names are close
+/// together in memory.
 #[derive(Drop)]
 pub(crate) struct LentNames<'a> {
     names: IndexSet<&'a [u8], BuildHasherDefault<FoldHasher>, Global>,
@@ -26,7 +26,7 @@ impl<'a> Model for LentNames<'a> {
 }
 
 impl<'a> LentNames<'a> {
-    /// The empty table, with room for so many names.
+    /// The empty table, with room for this many names.
     pub(crate) fn with_capacity(alloc: Global, names: usize) -> Result<Self, AllocError>
         ensures { IfOk result (λ table. table ≡ []) }
     {
@@ -35,8 +35,7 @@ impl<'a> LentNames<'a> {
         })
     }
 
-    /// Adds the name behind the others, unless it is there already. An `Err`, for want of memory,
-    /// can only come of a new name.
+    /// Appends the name unless it is there. `Err` if an allocation fails, which only a new name needs.
     pub(crate) fn add(&mut self, name: &'a [u8]) -> Result<Added, AllocError>
         ensures ok { IfOk result (λ added. Adds self.old name.now added self.new) }
         ensures err { OnErr result (self.new ≡ self.old) }
@@ -49,7 +48,7 @@ impl<'a> LentNames<'a> {
         Ok(Added::Present(position))
     }
 
-    /// The name's position.
+    /// The name's position; none if it is not there.
     pub(crate) fn find(&self, name: &[u8]) -> Option<usize>
         ensures { result ≡ position_of self.now name.now }
     {

@@ -1,5 +1,5 @@
-//! Names of library cells, sites, components and groups: tables of distinct names, labelled names in
-//! parts, and the patterns of DEF GROUPS that stand for names.
+//! Names of library cells, sites, components and groups: tables of distinct names, labelled names in parts, and the
+//! patterns of DEF GROUPS.
 #![tactic(auto)]
 
 mod lent;

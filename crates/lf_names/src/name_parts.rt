@@ -11,11 +11,10 @@ use crate::table::Added;
 use std::alloc::{AllocError, Global};
 use std::marker::Model;
 
-/// How many parts there are: so many that the table of one part of a million names is small enough to stay close to
-/// the processor.
+/// The number of parts: enough that the table of one part of a million names stays close to the processor.
 const PARTS: usize = 256;
 
-/// The odd factor of the hash that tells parts apart.
+/// The odd factor of the hash that selects the part.
 const FACTOR: u32 = 0x9E37_79B1;
 
 /// A name's label, and how many bytes it has.
@@ -25,23 +24,23 @@ pub struct Entry {
     len: u32,
 }
 
-/// Names with labels, in the order in which they were pushed: their bytes stand one behind the other.
+/// Names with labels, in the order in which they were pushed; their bytes are joined.
 #[derive(Drop)]
 pub struct LabelledNames {
     bytes: Vec<u8>,
     entries: Vec<Entry>,
 }
 
-/// The labels of one name that stands in two lists: its own, and that with which it is asked for.
+/// The labels of a name that is in two lists: its own, and that of the asked name.
 #[derive(Clone, Copy)]
 pub struct Match {
     pub own: u32,
     pub asked: u32,
 }
 
-/// A list of labelled names in parts, of which each has copies of its names. Equal names are in one part, so that
-/// names are looked up part by part, in tables that are small. That is quicker than one large table where there are
-/// many names. A contract sees the list of the names with their labels, in an order of its own.
+/// A list of labelled names in parts, which copy their names. Equal names are in one part, so names are looked up part
+/// by part, in small tables: faster than one large table if there are many names. A contract sees the list of the names
+/// with their labels, in some order.
 #[derive(Drop)]
 pub struct NameParts {
     parts: Vec<LabelledNames>,
@@ -59,7 +58,7 @@ impl Model for NameParts {
     ghost invariant = { λ p. AreParted p.parts.items };
 }
 
-/// The part of a name. The hash is not that of the tables, so that the names of a part do not crowd in its table.
+/// The part of a name. The hash is not that of the tables, so that the names of a part do not collide in its table.
 fn part_of(name: &[u8]) -> usize
     ensures part { result ≡ name_part name.now }
     ensures within { result < part_count }
@@ -71,7 +70,7 @@ fn part_of(name: &[u8]) -> usize
     (hash.wrapping_mul(FACTOR) >> 24) as usize
 }
 
-/// The first `len` bytes, and those behind them.
+/// The first `len` bytes, and those after them.
 fn cut(bytes: &[u8], len: u32) -> (&[u8], &[u8])
     ensures front { result.0.now ≡ take len bytes.now }
     ensures back { result.1.now ≡ drop len bytes.now }
@@ -80,7 +79,7 @@ fn cut(bytes: &[u8], len: u32) -> (&[u8], &[u8])
 }
 
 impl LabelledNames {
-    /// No name.
+    /// The empty list.
     fn new(alloc: Global) -> Self
         ensures { Keeps result [] }
     {
@@ -90,8 +89,8 @@ impl LabelledNames {
         }
     }
 
-    /// Puts a name with its label behind the others. An `Err`, for want of memory or for a name of more bytes than 32
-    /// bits count, leaves the names as they are.
+    /// Appends a name with its label. `Err`, which leaves the names unchanged, if an allocation fails or the name's
+    /// length does not fit 32 bits.
     fn push(&mut self, label: u32, name: &[u8]) -> Result<(), AllocError>
         ensures ok { (names : List Labelled) → Keeps self.old names → OnOk result (Keeps self.new (names ++ record { label = label; name = name.now } ∷ [])) }
         ensures err { (names : List Labelled) → Keeps self.old names → OnErr result (Keeps self.new names) }
@@ -107,7 +106,7 @@ impl LabelledNames {
     }
 }
 
-/// The table of the names, or none where one stands twice.
+/// The table of the names; none if one is there twice.
 fn table_of(alloc: Global, names: &LabelledNames) -> Result<Option<LentNames<'_>>, AllocError>
     ensures names { (own : List Labelled) → Keeps names.now own → IfOk result (λ answer. IfSome answer (λ table. table ≡ map (λ n. n.name) own)) }
     ensures differ { (own : List Labelled) → Keeps names.now own → IfOk result (λ answer. IfSome answer (λ table. Differ own)) }
@@ -126,7 +125,7 @@ fn table_of(alloc: Global, names: &LabelledNames) -> Result<Option<LentNames<'_>
     Ok(Some(table))
 }
 
-/// The label of a name, whose place is that of the table.
+/// The label of the name, by its position in the table.
 fn label_of(names: &LabelledNames, table: &LentNames, name: &[u8]) -> Option<u32>
     ensures { (own : List Labelled) → Keeps names.now own → table.now ≡ map (λ n. n.name) own → result ≡ label_in own name.now }
 {
@@ -134,7 +133,7 @@ fn label_of(names: &LabelledNames, table: &LentNames, name: &[u8]) -> Option<u32
     Some(entry.label)
 }
 
-/// Puts a match behind the others, if the name that is asked for has a label.
+/// Appends a match if the asked name has a label.
 fn add_match(matches: &mut Vec<Match>, own: Option<u32>, asked: u32) -> Result<(), AllocError>
     ensures { OnOk result (matches.new.items ≡ matches.old.items ++ option_to_list (option_map (labels_of asked) own)) }
 {
@@ -144,7 +143,7 @@ fn add_match(matches: &mut Vec<Match>, own: Option<u32>, asked: u32) -> Result<(
     Ok(())
 }
 
-/// Puts the match of each asked name that is there behind the others.
+/// Appends the match of each asked name that is there.
 fn match_names(
     names: &LabelledNames,
     table: &LentNames,
@@ -162,8 +161,7 @@ fn match_names(
     Ok(())
 }
 
-/// Puts the matches of one part behind the others, and tells whether the names of the part differ; where they do
-/// not, there are none.
+/// Appends the matches of one part and returns true; false, and no match, if a name of the part is there twice.
 fn match_part(
     alloc: Global,
     names: &LabelledNames,
@@ -180,7 +178,7 @@ fn match_part(
     Ok(true)
 }
 
-/// The parts of no name.
+/// All parts, empty.
 fn empty_parts(alloc: Global) -> Result<Vec<LabelledNames>, AllocError>
     ensures { IfOk result (λ parts. ArePartsOf [] parts.items) }
 {
@@ -191,7 +189,7 @@ fn empty_parts(alloc: Global) -> Result<Vec<LabelledNames>, AllocError>
     Ok(parts)
 }
 
-/// Puts the name behind the others of its part.
+/// Appends the name to its part.
 fn push_in_part(parts: &mut Vec<LabelledNames>, label: u32, name: &[u8]) -> Result<(), AllocError>
     ensures ok { (names : List Labelled) → ArePartsOf names parts.old.items → OnOk result (ArePartsOf (names ++ record { label = label; name = name.now } ∷ []) parts.new.items) }
     ensures err { (names : List Labelled) → ArePartsOf names parts.old.items → OnErr result (ArePartsOf names parts.new.items) }
@@ -203,7 +201,7 @@ fn push_in_part(parts: &mut Vec<LabelledNames>, label: u32, name: &[u8]) -> Resu
     Ok(())
 }
 
-/// The matches of all parts, one part behind the other; none where names of one part do not differ.
+/// The matches of all parts, one part after the other; none if a name is there twice.
 fn match_parts(
     alloc: Global,
     own: &[LabelledNames],
@@ -227,7 +225,7 @@ fn match_parts(
 }
 
 impl NameParts {
-    /// The parts of no name.
+    /// The empty list.
     pub fn new(alloc: Global) -> Result<Self, AllocError>
         ensures { IfOk result (λ parts. parts ≡ []) }
     {
@@ -236,8 +234,8 @@ impl NameParts {
         })
     }
 
-    /// Puts the name with its label among the others, in its part. An `Err` is for want of memory or for a name of more
-    /// bytes than 32 bits count.
+    /// Adds the name with its label to its part. `Err` if an allocation fails or the name's length does not fit 32
+    /// bits.
     pub fn push(&mut self, label: u32, name: &[u8]) -> Result<(), AllocError>
         ensures ok { OnOk result (IsPermutation (self.old ++ record { label = label; name = name.now } ∷ []) self.new) }
         ensures err { OnErr result (self.new ≡ self.old) }
@@ -246,8 +244,8 @@ impl NameParts {
         Ok(())
     }
 
-    /// The labels of each of these names that is asked for, once for each time that it is, in whatever order. None
-    /// exactly where one of these names stands twice.
+    /// The two labels of each asked name that is in the list, once for each time that it is asked for, in any order.
+    /// None iff a name of the list is there twice.
     pub fn matches(
         &self,
         alloc: Global,

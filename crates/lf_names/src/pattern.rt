@@ -1,4 +1,4 @@
-//! Patterns that stand for names.
+//! Patterns that names match.
 
 ghost use Rattle.std.specs.Prelude.{◌≡◌, ◌≢◌, ◌<◌, ◌↔◌, ℕ, List, ◌∷◌, ◌++◌, length, map, IsTrue, IfSome, MatchOption};
 ghost use Rattle.lf_names.specs.Pattern.{byte, star, parts_of, prefix_of, suffix_of, Becomes, Matches, IsLiteral};
@@ -6,9 +6,8 @@ ghost use Rattle.lf_names.specs.Places.{IsBehindFirst};
 
 use std::marker::Model;
 
-/// A pattern of names, as a DEF GROUPS entry lists them: `*` stands for any run of bytes, none
-/// included. A `*` directly after a backslash is an ordinary byte, and so is every backslash: `a\*`
-/// stands for these three bytes alone.
+/// A pattern of names, as a DEF GROUPS entry lists them: `*` matches any run of bytes, also none. A `*` directly after
+/// a backslash is an ordinary byte, and so is every backslash: `a\*` matches these three bytes alone.
 #[derive(Drop)]
 pub struct Pattern<'a> {
     bytes: &'a [u8],
@@ -30,7 +29,7 @@ impl<'a> Pattern<'a> {
         Pattern { bytes }
     }
 
-    /// Whether the pattern has no star, so that it stands for its own bytes alone.
+    /// Whether the pattern has no star, so that it matches its own bytes alone.
     pub fn is_literal(&self) -> bool
         ensures literal { IsTrue result ↔ IsLiteral self.now }
         ensures own_bytes { IsTrue result → (name : List ℕ) → (Matches self.now name ↔ (name ≡ self.now)) }
@@ -38,8 +37,7 @@ impl<'a> Pattern<'a> {
         split_at_star(self.bytes).is_none()
     }
 
-    /// The bytes before the first star, or all where there is none. Each name that the pattern
-    /// stands for begins with them.
+    /// The bytes before the first star, or all if there is none. Each name that matches begins with them.
     pub fn prefix(&self) -> &'a [u8]
         ensures prefix { result.now ≡ prefix_of self.now }
         ensures begins { (name : List ℕ) → Matches self.now name → (rest : List ℕ) × (name ≡ result.now ++ rest) }
@@ -50,8 +48,7 @@ impl<'a> Pattern<'a> {
         }
     }
 
-    /// The bytes behind the last star, or all where there is none. Each name that the pattern
-    /// stands for ends with them.
+    /// The bytes after the last star, or all if there is none. Each name that matches ends with them.
     pub fn suffix(&self) -> &'a [u8]
         ensures suffix { result.now ≡ suffix_of self.now }
         ensures ends { (name : List ℕ) → Matches self.now name → (run : List ℕ) × (name ≡ run ++ result.now) }
@@ -59,8 +56,8 @@ impl<'a> Pattern<'a> {
         behind_last_star(self.bytes)
     }
 
-    /// Whether the pattern stands for the name. Takes no memory, and time at most in proportion to
-    /// the name's length times the pattern's.
+    /// Whether the name matches the pattern. Allocates nothing; takes time at most proportional to the name's length
+    /// times the pattern's.
     pub fn matches(&self, name: &[u8]) -> bool
         ensures { IsTrue result ↔ Matches self.now name.now }
     {
@@ -68,7 +65,7 @@ impl<'a> Pattern<'a> {
     }
 }
 
-/// What `Pattern::matches` answers. Up to the first star the name must agree byte for byte.
+/// What `Pattern::matches` returns. Up to the first star the name must agree byte for byte.
 fn stands_for(pattern: &[u8], name: &[u8]) -> bool
     ensures { IsTrue result ↔ Matches pattern.now name.now }
 {
@@ -81,8 +78,8 @@ fn stands_for(pattern: &[u8], name: &[u8]) -> bool
     }
 }
 
-/// Whether the pattern stands for some end of the name. The bytes between two stars are best sought
-/// at their first place, since that leaves most to the stars behind them.
+/// Whether some end of the name matches the pattern. The bytes between two stars are matched at their first occurrence,
+/// which leaves most to the stars after them.
 fn stands_for_an_end(pattern: &[u8], name: &[u8]) -> bool
     ensures { IsTrue result ↔ Becomes (star ∷ parts_of pattern.now) name.now }
 {
@@ -98,7 +95,7 @@ fn stands_for_an_end(pattern: &[u8], name: &[u8]) -> bool
     remaining_name.ends_with(remaining_pattern)
 }
 
-/// The bytes before the pattern's first star, which stand for themselves, and the pattern behind it.
+/// The bytes before the pattern's first star, and the pattern after it; none if there is no star.
 fn split_at_star(pattern: &[u8]) -> Option<(&[u8], &[u8])>
     ensures parts { MatchOption result (IsLiteral pattern.now) (λ p. parts_of pattern.now ≡ map byte p.0.now ++ star ∷ parts_of p.1.now) }
     ensures shorter { IfSome result (λ p. length p.1.now < length pattern.now) }
@@ -113,7 +110,7 @@ fn split_at_star(pattern: &[u8]) -> Option<(&[u8], &[u8])>
     None
 }
 
-/// The bytes behind the pattern's last star, or all where there is none.
+/// The bytes after the pattern's last star, or all if there is none.
 fn behind_last_star(pattern: &[u8]) -> &[u8]
     ensures { result.now ≡ suffix_of pattern.now }
 {
@@ -124,7 +121,7 @@ fn behind_last_star(pattern: &[u8]) -> &[u8]
     remaining
 }
 
-/// What the name has behind the first place of the piece.
+/// The rest of the name after the first occurrence of the piece; none if there is none.
 fn behind_first<'x>(name: &'x [u8], piece: &[u8]) -> Option<&'x [u8]>
     ensures { MatchOption result ((before rest : List ℕ) → name.now ≢ before ++ (piece.now ++ rest)) (λ rest. IsBehindFirst name.now piece.now rest.now) }
 {

@@ -10,20 +10,20 @@ use std::alloc::{AllocError, Allocator, Global};
 use std::hash::{BuildHasherDefault, FoldHasher};
 use std::marker::Model;
 
-/// Where a name that was added stands in its table.
+/// The position of a name that was added.
 #[derive(Clone, Copy, Debug, PartialEq, Eq)]
 pub enum Added {
-    /// The name was new, and now stands last.
+    /// The name was new, and is the last one.
     New(usize),
     /// The name was in the table already.
     Present(usize),
 }
 
-/// Distinct names, in the order in which they were first seen. A name's place in that order is its
-/// position, which stays as it is while the table grows.
+/// Distinct names, in first-seen order. A name's place in that order is its position, which does
+/// not change while the table grows.
 ///
-/// A name is looked up in a time that does not depend on how many there are, but for names chosen
-/// against the fixed hash.
+/// A name is looked up in a time that does not depend on their number, but for names chosen against
+/// the fixed hash.
 #[derive(Drop)]
 pub struct NameTable<A: Allocator + Copy = Global> {
     names: IndexSet<Vec<u8, A>, BuildHasherDefault<FoldHasher>, A>,
@@ -38,7 +38,7 @@ impl<A: Allocator + Copy> Model for NameTable<A> {
 }
 
 impl<A: Allocator + Copy> NameTable<A> {
-    /// The empty table, which takes no memory.
+    /// The empty table, which allocates nothing.
     pub fn new(alloc: A) -> Self
         ensures { result ≡ [] }
     {
@@ -47,8 +47,8 @@ impl<A: Allocator + Copy> NameTable<A> {
         }
     }
 
-    /// Adds the name behind the others, unless it is there already. An `Err`, for want of memory,
-    /// can only come of a new name.
+    /// Appends the name unless it is there. `Err` if an allocation fails, which only a new name
+    /// needs; the table is then unchanged.
     pub fn add(&mut self, name: &[u8]) -> Result<Added, AllocError>
         ensures ok { IfOk result (λ added. Adds self.old name.now added self.new) }
         ensures err { OnErr result (self.new ≡ self.old) }
@@ -65,7 +65,7 @@ impl<A: Allocator + Copy> NameTable<A> {
         }
     }
 
-    /// The name's position.
+    /// The name's position; none if it is not there.
     pub fn find(&self, name: &[u8]) -> Option<usize>
         ensures position { result ≡ position_of self.now name.now }
         ensures found { IfSome result (λ at. slice_get self.now at ≡ Some name.now) }
@@ -74,7 +74,7 @@ impl<A: Allocator + Copy> NameTable<A> {
         self.names.get_index_of(name)
     }
 
-    /// The name at the position.
+    /// The name at the position; none if there is none.
     pub fn name_at(&self, position: usize) -> Option<&[u8]>
         ensures name { option_map (λ name. name.now) result ≡ slice_get self.now position }
         ensures found_there { IfSome result (λ name. position_of self.now name.now ≡ Some position) }
@@ -82,7 +82,7 @@ impl<A: Allocator + Copy> NameTable<A> {
         Some(self.names.as_slice().get(position)?.as_slice())
     }
 
-    /// How many names there are, which all differ.
+    /// How many names there are; all differ.
     pub fn len(&self) -> usize
         ensures len { result ≡ length self.now }
         ensures distinct { AllPairs (λ name later. name ≢ later) self.now }
@@ -97,7 +97,7 @@ impl<A: Allocator + Copy> NameTable<A> {
         self.names.is_empty()
     }
 
-    /// Keeps the first `len` names and drops the others. Takes no memory.
+    /// Keeps the first `len` names and drops the others. Allocates nothing.
     pub fn truncate(&mut self, len: usize)
         ensures { self.new ≡ take len self.old }
     {

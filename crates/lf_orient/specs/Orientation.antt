@@ -1,5 +1,5 @@
--- The tables of orientations: the candidates of a macro and equality under a site's symmetry (LEF/DEF 5.8, LEF MACRO and
--- LEF SITE, SYMMETRY), and the rails, which are this project's own reading of rows and supply pins.
+-- The tables of orientations: the candidates of a macro and equality under a site's symmetry (LEF/DEF 5.8, LEF MACRO and LEF
+-- SITE, SYMMETRY), and the rails, which are this project's own reading of rows and supply pins.
 use Rattle.std.specs.Prelude.{◌≡◌, ◌⊎◌, Bool, true, false, ◌&&◌, IsTrue, Option, Some, None}
 use Rattle.lf_orient.specs.declared.Orient.{Orient}
 use Rattle.lf_orient.specs.declared.Orient.TheVariants.{N, S, FN, FS}
@@ -15,7 +15,7 @@ is_allowed s FN = s.y
 is_allowed s S = s.x && s.y
 is_allowed _ _ = false
 
--- flipped over the x axis: X makes N equal to FS, and FN equal to S; what lies on its side is left
+-- flipped over the x axis: X makes N equal to FS, and FN equal to S; an orientation on its side is unchanged
 abbrev pub flipped_over_x : Orient → Orient
 flipped_over_x N = FS
 flipped_over_x FS = N
@@ -23,7 +23,7 @@ flipped_over_x FN = S
 flipped_over_x S = FN
 flipped_over_x o = o
 
--- flipped over the y axis: Y makes N equal to FN, and FS equal to S; what lies on its side is left
+-- flipped over the y axis: Y makes N equal to FN, and FS equal to S; an orientation on its side is unchanged
 abbrev pub flipped_over_y : Orient → Orient
 flipped_over_y N = FN
 flipped_over_y FN = N
@@ -31,7 +31,7 @@ flipped_over_y FS = S
 flipped_over_y S = FS
 flipped_over_y o = o
 
--- two orientations are equal under a site's symmetry: they are one, or X, or Y, or both flips take one to the other
+-- two orientations are equal under a site's symmetry: they are the same, or X, or Y, or both flips turn one into the other
 abbrev pub EqualUnder : Symmetry → Orient → Orient → Type 0
 EqualUnder s a b =
     (a ≡ b)

@@ -1,4 +1,4 @@
-//! Orientations of cells and rows, the symmetries that allow them, and the supply rail at the
+//! Orientations of cells and rows, the symmetries that allow them, and the supply rail along the
 //! bottom.
 #![tactic(auto)]
 
@@ -9,8 +9,8 @@ ghost use Rattle.lf_orient.specs.Words.{orient_word};
 /// The eight orientations of a DEF text: north, west, south, east, and each of them flipped
 /// (LEF/DEF 5.8, DEF COMPONENTS and ROW).
 ///
-/// N, S, FN and FS stand upright. W, E, FW and FE lie on their side: cells may be loaded so, and
-/// are never legal.
+/// N, S, FN and FS are upright. W, E, FW and FE lie on their side: cells may be loaded so, and are
+/// never legal.
 #[derive(Clone, Copy, Debug, PartialEq, Eq)]
 pub enum Orient {
     N,
@@ -26,7 +26,7 @@ pub enum Orient {
 /// The axes over which a macro or a site may be flipped (LEF/DEF 5.8, LEF MACRO and LEF SITE,
 /// SYMMETRY).
 ///
-/// R90 plays no part: a cell that lies on its side is never legal.
+/// R90 is ignored: a cell that lies on its side is never legal.
 #[derive(Clone, Copy, Debug, PartialEq, Eq)]
 pub struct Symmetry {
     /// SYMMETRY X: may be flipped over the x axis, as N to FS.
@@ -43,7 +43,7 @@ pub enum Rail {
     Power,
 }
 
-/// The word by which a DEF text and a reply name an orientation (LEF/DEF 5.8, DEF COMPONENTS).
+/// The word for an orientation in a DEF text and a reply (LEF/DEF 5.8, DEF COMPONENTS).
 pub fn orient_word(orient: Orient) -> &'static [u8]
     ensures { result.now ≡ orient_word orient }
 {
@@ -59,7 +59,7 @@ pub fn orient_word(orient: Orient) -> &'static [u8]
     }
 }
 
-/// Whether a macro of this symmetry may stand in this orientation: as it is drawn it always may.
+/// Whether a macro of this symmetry may have this orientation. N is always allowed.
 pub fn is_candidate(symmetry: Symmetry, orient: Orient) -> bool
     ensures { result ≡ is_allowed symmetry orient }
 {
@@ -72,7 +72,7 @@ pub fn is_candidate(symmetry: Symmetry, orient: Orient) -> bool
     }
 }
 
-/// The orientation flipped over the x axis; one that lies on its side plays no part, and is left.
+/// The orientation flipped over the x axis; W, E, FW and FE are left unchanged.
 fn over_x(orient: Orient) -> Orient
     ensures { result ≡ flipped_over_x orient }
 {
@@ -85,7 +85,7 @@ fn over_x(orient: Orient) -> Orient
     }
 }
 
-/// The orientation flipped over the y axis; one that lies on its side plays no part, and is left.
+/// The orientation flipped over the y axis; W, E, FW and FE are left unchanged.
 fn over_y(orient: Orient) -> Orient
     ensures { result ≡ flipped_over_y orient }
 {
@@ -98,8 +98,8 @@ fn over_y(orient: Orient) -> Orient
     }
 }
 
-/// Whether a site of this symmetry takes the two orientations for one, so that a cell of the one
-/// may stand in a row of the other.
+/// Whether the two orientations are equal under a site's symmetry, so that a cell of one may be in
+/// a row of the other.
 pub fn equal_under(symmetry: Symmetry, a: Orient, b: Orient) -> bool
     ensures { IsTrue result ↔ EqualUnder symmetry a b }
 {
@@ -109,7 +109,7 @@ pub fn equal_under(symmetry: Symmetry, a: Orient, b: Orient) -> bool
         || (symmetry.x && symmetry.y && b == over_x(over_y(a)))
 }
 
-/// The rail along the bottom of a row of this orientation; none for a row that lies on its side.
+/// The rail along the bottom of a row of this orientation; none for one that lies on its side.
 pub fn row_rail(orient: Orient) -> Option<Rail>
     ensures { result ≡ rail_below orient }
 {
@@ -120,7 +120,7 @@ pub fn row_rail(orient: Orient) -> Option<Rail>
     }
 }
 
-/// The other rail: rails take turns from row to row, and from one side of a row to the other.
+/// The other rail: rails alternate from row to row, and from the bottom of a row to its top.
 pub fn opposite(rail: Rail) -> Rail
     ensures { result ≡ other_rail rail }
 {

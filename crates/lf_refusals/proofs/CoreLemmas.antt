@@ -68,7 +68,7 @@ pub of_lent : (lent : Option (Bor Site)) {found : Option Site} → IfSome found 
 of_lent None {found} is same = tt
 of_lent (Some s) {found} is same = rw (← same) at is
 
--- the site that is found bears the name
+-- the site that is found has the name
 site_bears : (sites : List Site) (name : List ℕ) (place : Option ℕ) (s : Site) → place ≡ position_of (site_names sites) name → at_place sites place ≡ Some s →
     s.name ≡ name
 site_bears sites name None s is found = absurd (none-some s found)
@@ -81,7 +81,7 @@ site_bears sites name (Some k) s is found =
     read_at : (xs : List Site) (k : ℕ) (x : Site) → slice_get xs k ≡ Some x → get_or xs k x ≡ x
     read_at xs k x e = sym (unwrap_or-slice_get xs k x) ∙ ap (λ o. unwrap_or o x) e
 
--- the row of the core site is heeded, so there is a heeded row
+-- the row of the core site is of core sites, so there is a row of core sites
 pub core_heeded : (library : Contents) (rows : List Row) (core : Site) → core_site library rows ≡ Some core →
     0 < length (map frame_row (filter (is_heeded core) rows))
 core_heeded library [] core is = absurd (none-some core is)

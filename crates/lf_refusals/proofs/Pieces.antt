@@ -93,7 +93,7 @@ rise_behind pieces n rise i j d below within =
     let lower : n + i < n + j = omega arith in
     rw (get_or-drop n pieces i d, get_or-drop n pieces j d) (rise (n + i) (n + j) d lower inside)
 
--- a piece that clashes with none behind it
+-- a piece that clashes with none after it
 pub none_later : (a : Piece) (pieces : List Piece) (n : ℕ) → ClashesWithNone a (drop n pieces) → (k : ℕ) (d : Piece) → n ≤ k → k < length pieces →
     Clash a (get_or pieces k d) → ⊥
 none_later a pieces n none k d from within clash =

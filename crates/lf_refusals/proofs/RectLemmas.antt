@@ -1,4 +1,4 @@
--- A point lies in rectangles of two lists exactly where a rectangle of one shares a point with one of the other.
+-- A point lies in rectangles of two lists iff a rectangle of one shares a point with one of the other.
 use Rattle.std.proofs.Common.{◌≡◌, ℕ, ◌+◌, ◌<◌, ◌⊎◌, inl, inr, List, length, get_or, arith}
 use Rattle.std.proofs.lemmas.List.{get_or_default}
 use Rattle.std.specs.Prelude.{Any}

@@ -43,7 +43,7 @@ pub region_names_more : (regions : List Region) (n : ℕ) (r : Region) → n < l
     region_names (take n regions) ++ r.name ∷ [] ≡ region_names (take (n + 1) regions)
 region_names_more regions n r within is = sym (ap region_names (take_one_more regions n r within is) ∙ map-append (λ q. q.name) (take n regions) (r ∷ []))
 
--- a group's region is outside the names of the regions exactly where no region bears its name
+-- a group's region is outside the names of the regions iff no region has its name
 pub outside_of : (regions : List Region) (names : List (List ℕ)) (g : Group) → HoldSameNames names (region_names regions) → HasNoRegion regions [] g →
     IsOutside names g
 outside_of regions names g same h = by g.region h

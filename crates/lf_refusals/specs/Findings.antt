@@ -1,4 +1,4 @@
--- What each refusal of loading finds, and which one loading answers.
+-- What each refusal of loading finds, and which one loading returns.
 use Rattle.std.specs.Prelude.{◌≡◌, ◌⊎◌, ℕ, ◌<◌, List, [], Option, Some, None, IsSome, is_some, cond, unwrap_or, option_map, MatchOption}
 use Rattle.std.specs.Option.{option_copied}
 use Rattle.lf_units.specs.declared.area.Point.{Point}
@@ -18,17 +18,17 @@ use Rattle.lf_floorplan.specs.Sizes.{size_in_dbu}
 use Rattle.lf_claims.specs.Refusals.{BearsEarlierName, IsClaimedTwice}
 use Rattle.lf_refusals.specs.Refusals.{HasNoSite, IsVertical, HasBadStep, IsTurned, MeetsEarlierRow, HasNoMacro, HasNoSize, HasPartUnits, BearsEarlierFence, HasNoRegion, BearsGroundName, MeetsEarlierFence, IsRowTooMany, IsFenceTooMany, IsComponentTooMany, EndsTooFar}
 
--- what a design is loaded from: the library of the LEF texts, what the DEF text says, and the limits
+-- what a design is loaded from: the library of the LEF texts, the document of the DEF text, and the limits
 pub record Inputs : Type 0 where
   pub library : Contents
   pub document : Document
   pub limits : Limits
 
--- what is read from these
+-- the inputs made of these
 abbrev pub inputs : Contents → DefDoc → Limits → Inputs
 inputs library document limits = record { library = library; document = contents document; limits = limits }
 
--- the database units of a micron; a document without UNITS is refused before they count
+-- the database units per micron; 1 for a document without UNITS, which is refused
 abbrev pub units_in : Inputs → ℕ
 units_in i = unwrap_or i.document.header.units 1
 
@@ -46,24 +46,24 @@ pub record NameOfFirst {A : Type 0} (name_of : A → List ℕ) (breaks : List A 
   pub first : FirstIs breaks entries place
   pub name : found ≡ option_map name_of (at_place entries place)
 
--- nothing, where the first finds nothing, what the second does
+-- what the first finds; if that is nothing, what the second finds
 abbrev pub InTurn : Finding → Finding → Finding
 InTurn first second found = (first None × second found) ⊎ (IsSome found × first found)
 
--- what is found of the core site; without one NoRows is answered before
+-- what is found with the core site; nothing without one, as NoRows comes first
 abbrev pub OfCore : Inputs → (Site → Finding) → Finding
 OfCore i finds found = MatchOption (core_in i) (found ≡ None) (λ core. finds core found)
 
--- what is found of rows as wide and as high as the core site, where its size is whole in database units; where it is not, nothing is found
+-- what is found with the core site's size in database units; nothing if it is not whole in them
 pub record WhereWhole (i : Inputs) (core : Site) (finds : Finding) (found : Option (List ℕ)) : Type 0 where
   pub whole : IsWholeSize (units_in i) core.size → finds found
   pub part : (IsWholeSize (units_in i) core.size → ⊥) → found ≡ None
 
--- what is found of the core site and its size in database units
+-- what is found with the core site and its size in database units
 abbrev pub OfPitch : Inputs → (Site → Point → Finding) → Finding
 OfPitch i finds = OfCore i (λ core. WhereWhole i core (finds core (size_in_dbu (units_in i) core.size)))
 
--- the core site's size is no whole number of database units
+-- the core site's size is not whole in database units
 pub record CoreHasPartUnits (i : Inputs) (core : Site) (found : Option (List ℕ)) : Type 0 where
   pub whole : IsWholeSize (units_in i) core.size → found ≡ None
   pub part : (IsWholeSize (units_in i) core.size → ⊥) → found ≡ Some core.name
@@ -72,7 +72,8 @@ pub record CoreHasPartUnits (i : Inputs) (core : Site) (found : Option (List ℕ
 abbrev pub region_name : Group → List ℕ
 region_name g = unwrap_or g.region []
 
--- what the refusal of this number finds (LEF SITE, MACRO; DEF UNITS, ROW, REGIONS, GROUPS, COMPONENTS); the numbers of readers, and want of memory, find nothing
+-- what the refusal of this number finds (LEF SITE, MACRO; DEF UNITS, ROW, REGIONS, GROUPS, COMPONENTS); the numbers of readers,
+-- and OutOfMemory, find nothing
 abbrev pub Finds : Inputs → FaultNumber → Finding
 Finds i NoUnits = λ found. found ≡ cond (is_some i.document.header.units) None (Some i.document.header.design)
 Finds i NoSite = NameOfFirst (λ r. r.site) (HasNoSite i.library) i.document.rows
@@ -139,7 +140,7 @@ pub record IsRefused (i : Inputs) (number : FaultNumber) (name : List ℕ) : Typ
   pub finds : Finds i number (Some name)
   pub least : (n : FaultNumber) → number_of n < number_of number → Finds i n None
 
--- the fault that loading answers: a refusal's number and the name that it finds, without a line
+-- the fault that loading returns: a refusal's number and the name that it finds, without a line
 pub record IsFault (i : Inputs) (fault : LoadFault) : Type 0 where
   pub name : List ℕ
   pub named : option_copied fault.name ≡ Some name

@@ -1,4 +1,4 @@
--- What loading takes from a LEF library and a DEF text: sites and macros by their names, the core site and heeded rows
+-- What loading takes from a LEF library and a DEF text: sites and macros by their names, the core site and rows of core sites
 -- (LEF SITE, MACRO; DEF ROW).
 use Rattle.std.specs.Prelude.{ℕ, pos, int_lt, Bool, false, ◌&&◌, List, Option, Some, None, slice_get}
 use Rattle.std.specs.Option.{option_and_then}
@@ -13,7 +13,7 @@ use Rattle.lf_lef.specs.Contents.{Contents, site_names, macro_names}
 use Rattle.lf_def.specs.declared.rows.Row.{Row}
 use Rattle.lf_floorplan.specs.declared.parts.Row.{Row as FrameRow}
 
--- what stands at a place of a list, where there is a place
+-- the entry at a position of a list, if there is one
 abbrev pub at_place : {A : Type 0} → List A → Option ℕ → Option A
 at_place things None = None
 at_place things (Some place) = slice_get things place
@@ -48,10 +48,10 @@ core_row library rows = find (λ r. is_core (site_named library r.site)) rows
 abbrev pub core_site : Contents → List Row → Option Site
 core_site library rows = option_and_then (λ r. site_named library r.site) (core_row library rows)
 
--- a row is heeded where its site is the core site
+-- the row is one of core sites: its site is the core site
 abbrev pub is_heeded : Site → Row → Bool
 is_heeded core r = bytes_eq r.site core.name
 
--- a heeded row as the frame has it
+-- a row of core sites as the frame has it
 abbrev pub frame_row : Row → FrameRow
 frame_row r = record { name = r.name; x = r.x; y = r.y; orient = r.orient; sites = r.sites_x }

@@ -1,5 +1,5 @@
--- Which entries of a library and a document break what loading asks for. Rows, regions and groups, and
--- components are entries of DEF ROW, REGIONS, GROUPS and COMPONENTS; an entry is read with those before it.
+-- Which entries of a library and a document break what loading demands. Rows, regions and groups, and components are entries of
+-- DEF ROW, REGIONS, GROUPS and COMPONENTS; a rule sees an entry and those before it.
 use Rattle.std.specs.Prelude.{◌≡◌, ◌≢◌, ℕ, ◌<◌, ◌≤◌, pos, ◌<ℤ◌, ℤ, true, false, List, length, filter, None, IsSome, IsSomeAnd, All, Any}
 use Rattle.lf_units.specs.declared.area.Point.{Point}
 use Rattle.lf_units.specs.declared.area.Rect.{Rect}
@@ -18,28 +18,28 @@ use Rattle.lf_floorplan.specs.Fences.{ground_name}
 use Rattle.lf_claims.specs.Teams.{is_fence, is_cover}
 use Rattle.lf_refusals.specs.Loading.{site_named, macro_named, has_size, IsWholeSize, is_heeded, frame_row}
 
--- NoSite: no LEF text has the row's site
+-- NoSite: the row's site is in no LEF text
 abbrev pub HasNoSite : Contents → List Row → Row → Type 0
 HasNoSite library earlier r = site_named library r.site ≡ None
 
--- VerticalRow: a heeded row has another number of sites upwards than 1
+-- VerticalRow: a row of core sites has a numY other than 1
 abbrev pub IsVertical : Site → List Row → Row → Type 0
 IsVertical core earlier r = (is_heeded core r ≡ true) × (r.sites_y ≢ 1)
 
--- BadStep: a heeded row of several sites steps by another length than the site's width
+-- BadStep: a row of several core sites has a step that is not the site's width
 abbrev pub HasBadStep : Site → Point → List Row → Row → Type 0
 HasBadStep core pitch earlier r = (is_heeded core r ≡ true) × (1 < r.sites_x) × IsSomeAnd r.step (λ step. step.x ≢ pitch.x)
 
--- RowOrient: a heeded row is not N, S, FN or FS
+-- RowOrient: a row of core sites is not N, S, FN or FS
 abbrev pub IsTurned : Site → List Row → Row → Type 0
 IsTurned core earlier r = (is_heeded core r ≡ true) × (IsSome (rail_below r.orient) → ⊥)
 
--- RowsOverlap: a heeded row shares a point with an earlier heeded one
+-- RowsOverlap: a row of core sites shares a point with an earlier one
 abbrev pub MeetsEarlierRow : Site → Point → List Row → Row → Type 0
 MeetsEarlierRow core pitch earlier r =
     (is_heeded core r ≡ true) × Any (λ e. (is_heeded core e ≡ true) × SharesPoint (row_area pitch (frame_row e)) (row_area pitch (frame_row r))) earlier
 
--- NoMacro: no LEF text has the macro of a component other than COVER
+-- NoMacro: the macro of a component other than COVER is in no LEF text
 abbrev pub HasNoMacro : Contents → List Component → Component → Type 0
 HasNoMacro library earlier c = (is_cover c ≡ false) × (macro_named library c.mac ≡ None)
 
@@ -57,7 +57,7 @@ pub record AreMacroFaults (library : Contents) (units : ℕ) (components : List 
   pub sizeless : FirstIs (HasNoSize library) components faults.sizeless
   pub part_units : FirstIs (HasPartUnits library units) components faults.part_units
 
--- SecondRegion: a fence bears an earlier fence's name
+-- SecondRegion: a fence has an earlier fence's name
 abbrev pub BearsEarlierFence : List Region → Region → Type 0
 BearsEarlierFence earlier r = (is_fence r ≡ true) × Any (λ e. (is_fence e ≡ true) × (e.name ≡ r.name)) earlier
 
@@ -80,7 +80,7 @@ pub record SharePoint (first second : List Rect) : Type 0 where
 abbrev pub MeetsEarlierFence : List Region → Region → Type 0
 MeetsEarlierFence earlier r = (is_fence r ≡ true) × Any (λ e. (is_fence e ≡ true) × SharePoint e.rects r.rects) earlier
 
--- TooMany, of heeded rows
+-- TooMany, of rows of core sites
 abbrev pub IsRowTooMany : Site → ℕ → List Row → Row → Type 0
 IsRowTooMany core limit earlier r = (is_heeded core r ≡ true) × (limit ≤ length (filter (is_heeded core) earlier))
 
@@ -92,6 +92,6 @@ IsFenceTooMany limit earlier r = (is_fence r ≡ true) × (limit ≤ length (fil
 abbrev pub IsComponentTooMany : ℕ → List Component → Component → Type 0
 IsComponentTooMany limit earlier c = limit ≤ length earlier
 
--- TooMany, of a heeded row that ends past the largest coordinate
+-- TooMany, of a row of core sites that ends past the largest coordinate
 abbrev pub EndsTooFar : Site → Point → List Row → Row → Type 0
 EndsTooFar core pitch earlier r = (is_heeded core r ≡ true) × (pos 2147483647 <ℤ (row_area pitch (frame_row r)).x2)

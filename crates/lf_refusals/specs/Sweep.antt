@@ -1,4 +1,4 @@
--- Pieces of rows or of fences: rectangles, each with the number of the entry that it belongs to.
+-- Pieces of rows or fences: rectangles, each with the number of its entry.
 use Rattle.std.specs.Prelude.{◌≢◌, ℕ, ◌<◌, ◌≤ℤ◌, ◌⊎◌, if◌then◌else◌, List, [], ◌∷◌, length, map, slice_index_or, All, AllPairs, Contains}
 use Rattle.lf_units.specs.declared.area.Point.{Point}
 use Rattle.lf_units.specs.declared.area.Rect.{Rect}
@@ -19,7 +19,7 @@ piece_area p = record { x1 = p.left; y1 = p.bottom; x2 = p.right; y2 = p.top }
 abbrev pub piece_of : ℕ → Rect → Piece
 piece_of entry area = record { entry = entry; left = area.x1; right = area.x2; bottom = area.y1; top = area.y2 }
 
--- the one piece ends at the left of the other, or below it; a piece without points ends before itself
+-- the first piece ends at the left of the second, or below it; a piece without points ends before itself
 abbrev pub EndsBefore : Piece → Piece → Type 0
 EndsBefore a b = (a.right ≤ℤ b.left) ⊎ (a.top ≤ℤ b.bottom)
 
@@ -40,11 +40,11 @@ NoneClash pieces = All (λ a. ClashesWithNone a pieces) pieces
 abbrev pub Rise : List Piece → Type 0
 Rise pieces = AllPairs (λ a b. a.bottom ≤ℤ b.bottom) pieces
 
--- the pieces of a row: all of it, where it is heeded
+-- the pieces of a row: all of it, if it is one of core sites
 abbrev pub row_pieces : Site → Point → ℕ → Row → List Piece
 row_pieces core pitch number r = if is_heeded core r then piece_of number (row_area pitch (frame_row r)) ∷ [] else []
 
--- the pieces of a region: its rectangles, where it is a fence
+-- the pieces of a region: its rectangles, if it is a fence
 abbrev pub fence_pieces : ℕ → Region → List Piece
 fence_pieces number r = if is_fence r then map (λ rect. piece_of number rect) r.rects else []
 

@@ -1,4 +1,4 @@
--- What a table of names knows of regions and groups.
+-- What a table of names says of regions and groups.
 use Rattle.std.specs.Prelude.{ℕ, List, map, Contains, IsSomeAnd}
 use Rattle.lf_def.specs.declared.regions.Region.{Region}
 use Rattle.lf_def.specs.declared.groups.Group.{Group}

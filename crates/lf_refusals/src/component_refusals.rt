@@ -1,4 +1,4 @@
-//! What loading refuses of components.
+//! The refusals of loading for components.
 
 ghost use Rattle.std.specs.Prelude.{[], ◌∷◌, ◌++◌, Contains, ◌≡◌, ◌≢◌, ◌↔◌, ℕ, ◌<◌, ◌≤◌, ◌<ℤ◌, pos, true, false, None, Some, List, All, Any, IsTrue, IsFalse, IfOk, IfSome, MatchOption, length, int_lt, ◌&&◌};
 ghost use Rattle.std.specs.Option.{option_copied};
@@ -14,7 +14,7 @@ use lf_floorplan::Macro;
 use lf_lef::Library;
 use lf_units::{Point, micros_to_dbu};
 
-/// The macro of that name.
+/// The macro of that name; none if there is none.
 pub fn macro_named<'l>(library: &'l Library, name: &[u8]) -> Option<&'l Macro>
     ensures macro_is { option_copied result ≡ named_macro library.now name.now }
     ensures range { IfSome result (λ m. HasRange m.now.size) }
@@ -60,8 +60,8 @@ struct MacroFault {
     part_units: bool,
 }
 
-/// The first components other than COVER whose macro no LEF text has, has no SIZE with both lengths above 0, and
-/// has a size that is not whole in database units.
+/// The first components other than COVER whose macro is in no LEF text, has no SIZE with both lengths above 0, and has
+/// a size that is not whole in database units.
 #[derive(Clone, Copy)]
 pub struct MacroFaults {
     pub unknown: Option<usize>,
@@ -94,7 +94,7 @@ fn macro_fault(component: &Component, library: &Library, units: u32) -> MacroFau
     fault
 }
 
-/// The first number so far, when this one counts or not.
+/// The first number so far, given whether this one counts.
 fn first_so_far(first: Option<usize>, number: usize, counts: bool) -> Option<usize>
     ensures { result ≡ first_of first number counts }
 {
@@ -104,7 +104,7 @@ fn first_so_far(first: Option<usize>, number: usize, counts: bool) -> Option<usi
     }
 }
 
-/// The first components whose macros are at fault.
+/// The first components whose macros are at fault, of each kind.
 pub(crate) fn macro_faults(components: &[Component], library: &Library, units: u32) -> MacroFaults
     requires least { 1 ≤ units }
     requires most { units ≤ 20000 }
@@ -126,7 +126,7 @@ pub(crate) fn macro_faults(components: &[Component], library: &Library, units: u
     }
 }
 
-/// The first component that stands behind so many components as the limit allows.
+/// The first component beyond the limit.
 pub(crate) fn first_component_too_many(components: &[Component], limit: usize) -> Option<usize>
     ensures { FirstIs (IsComponentTooMany limit) components.now result }
 {

@@ -1,4 +1,4 @@
-//! What loading refuses of regions and groups.
+//! The refusals of loading for regions and groups.
 
 ghost use Rattle.std.specs.Prelude.{[], ◌∷◌, ◌≡◌, ◌≢◌, ◌↔◌, ℕ, ◌<◌, ◌≤◌, ◌++◌, true, None, List, map, All, Any, Contains, IsTrue, IsFalse, IfOk, OnOk, MatchOption, IfSome, length};
 ghost use Rattle.lf_units.specs.Area.{SharesPoint};
@@ -15,7 +15,7 @@ use lf_names::NameTable;
 use lf_units::Rect;
 use std::alloc::{AllocError, Global};
 
-/// Whether the region is a fence whose name is in the table; the name of another fence is added.
+/// Whether the region is a fence whose name is in the table; a fence's new name is added.
 fn is_second_fence(names: &mut NameTable, region: &Region) -> Result<bool, AllocError>
     ensures second { IfOk result (λ second. IsTrue second → (is_fence_region region.now ≡ true) × Contains names.old region.now.name) }
     ensures first { IfOk result (λ second. IsFalse second → is_fence_region region.now ≡ true → Contains names.old region.now.name → ⊥) }
@@ -28,7 +28,7 @@ fn is_second_fence(names: &mut NameTable, region: &Region) -> Result<bool, Alloc
     Ok(!new)
 }
 
-/// The first fence that bears an earlier fence's name.
+/// The first fence that has an earlier fence's name.
 pub(crate) fn first_second_fence(
     alloc: Global,
     regions: &[Region],
@@ -84,7 +84,7 @@ fn is_outside(group: &Group, names: &NameTable) -> bool
     }
 }
 
-/// The first group whose region no entry of REGIONS is.
+/// The first group whose region is in no REGIONS entry.
 pub(crate) fn first_without_region(
     alloc: Global,
     groups: &[Group],
@@ -139,7 +139,7 @@ fn meets_one_of(region: &Region, earlier: &[Region]) -> bool
     false
 }
 
-/// The first fence that shares a point with an earlier fence, by a look at each two fences.
+/// The first fence that shares a point with an earlier fence, found by comparing all pairs.
 fn fence_overlap_by_pairs(regions: &[Region]) -> Option<usize>
     ensures { FirstIs MeetsEarlierFence regions.now result }
 {
@@ -151,7 +151,7 @@ fn fence_overlap_by_pairs(regions: &[Region]) -> Option<usize>
     None
 }
 
-/// The rectangle as a piece of a sweep.
+/// The rectangle as a piece of the sweep.
 fn rect_piece(number: usize, rect: &Rect) -> Piece
     ensures { result ≡ piece_of number rect.now }
 {
@@ -164,7 +164,7 @@ fn rect_piece(number: usize, rect: &Rect) -> Piece
     }
 }
 
-/// The rectangles of an entry, behind the pieces of earlier ones.
+/// Appends the rectangles of an entry as pieces.
 fn push_pieces(pieces: &mut Vec<Piece>, number: usize, rects: &[Rect]) -> Result<(), AllocError>
     ensures { OnOk result (pieces.new.items ≡ pieces.old.items ++ map (λ rect. piece_of number rect) rects.now) }
 {
@@ -174,7 +174,7 @@ fn push_pieces(pieces: &mut Vec<Piece>, number: usize, rects: &[Rect]) -> Result
     Ok(())
 }
 
-/// The rectangles of a region behind the pieces of earlier ones, where it is a fence.
+/// Appends the rectangles of a region as pieces, if it is a fence.
 fn push_region(pieces: &mut Vec<Piece>, number: usize, region: &Region) -> Result<(), AllocError>
     ensures { OnOk result (pieces.new.items ≡ pieces.old.items ++ fence_pieces_of number region.now) }
 {
@@ -184,7 +184,7 @@ fn push_region(pieces: &mut Vec<Piece>, number: usize, region: &Region) -> Resul
     Ok(())
 }
 
-/// The rectangles of all fences as pieces of a sweep.
+/// The rectangles of all fences as pieces of the sweep.
 fn fence_pieces(alloc: Global, regions: &[Region]) -> Result<Vec<Piece>, AllocError>
     ensures { IfOk result (λ pieces. HoldPieces fence_pieces_of regions.now pieces.items) }
 {
@@ -195,8 +195,8 @@ fn fence_pieces(alloc: Global, regions: &[Region]) -> Result<Vec<Piece>, AllocEr
     Ok(pieces)
 }
 
-/// The first fence that shares a point with an earlier fence. Takes the time of a sort where there is none and
-/// few rectangles lie at one height.
+/// The first fence that shares a point with an earlier fence. Takes the time of a sort if there is none and few
+/// rectangles overlap in y.
 pub(crate) fn first_fence_overlap(
     alloc: Global,
     regions: &[Region],
@@ -210,7 +210,7 @@ pub(crate) fn first_fence_overlap(
     Ok(fence_overlap_by_pairs(regions))
 }
 
-/// The first fence that stands behind so many fences as the limit allows.
+/// The first fence beyond the limit.
 pub(crate) fn first_fence_too_many(regions: &[Region], limit: usize) -> Option<usize>
     ensures { FirstIs (IsFenceTooMany limit) regions.now result }
 {

@@ -30,7 +30,7 @@ use lf_lef::Library;
 use lf_units::{Point, micros_to_dbu};
 use std::alloc::{AllocError, Global};
 
-/// The name of the row of that place.
+/// The name of the row at that position.
 fn row_name<'d>(rows: &'d [Row], place: Option<usize>) -> Option<&'d [u8]>
     ensures { option_copied result ≡ option_map (λ r. r.name) (at_place rows.now place) }
 {
@@ -43,7 +43,7 @@ fn row_name<'d>(rows: &'d [Row], place: Option<usize>) -> Option<&'d [u8]>
     }
 }
 
-/// The name of the site of the row of that place.
+/// The name of the site of the row at that position.
 fn row_site<'d>(rows: &'d [Row], place: Option<usize>) -> Option<&'d [u8]>
     ensures { option_copied result ≡ option_map (λ r. r.site) (at_place rows.now place) }
 {
@@ -56,7 +56,7 @@ fn row_site<'d>(rows: &'d [Row], place: Option<usize>) -> Option<&'d [u8]>
     }
 }
 
-/// The design's name, where the document has no UNITS.
+/// The design's name, if the document has no UNITS.
 pub(crate) fn no_units<'d>(
     library: &Library,
     document: &'d DefDoc,
@@ -71,7 +71,7 @@ pub(crate) fn no_units<'d>(
     }
 }
 
-/// The site of the first row whose site no LEF text has.
+/// The site of the first row whose site is in no LEF text.
 pub(crate) fn no_site<'d>(
     library: &Library,
     document: &'d DefDoc,
@@ -83,7 +83,7 @@ pub(crate) fn no_site<'d>(
     row_site(rows, first_without_site(rows, library))
 }
 
-/// The design's name, where there is no core site.
+/// The design's name, if there is no core site.
 pub(crate) fn no_rows<'d>(
     library: &Library,
     document: &'d DefDoc,
@@ -98,7 +98,7 @@ pub(crate) fn no_rows<'d>(
     }
 }
 
-/// The first heeded row of several sites upwards.
+/// The first row of core sites with numY other than 1.
 pub(crate) fn vertical_row<'d>(
     library: &Library,
     document: &'d DefDoc,
@@ -113,7 +113,7 @@ pub(crate) fn vertical_row<'d>(
     row_name(rows, first_vertical(rows, core))
 }
 
-/// The database units of a micron, or 1 where the document has no UNITS and is refused.
+/// The database units per micron; 1 if the document has no UNITS and is refused.
 pub fn units_of(document: &DefDoc) -> u32
     ensures units { result ≡ unwrap_or document.now.header.units 1 }
     ensures least { 1 ≤ result }
@@ -125,7 +125,7 @@ pub fn units_of(document: &DefDoc) -> u32
     }
 }
 
-/// The first heeded row of several sites whose step is another length than the site's width.
+/// The first row of several core sites whose step is not the site's width.
 pub(crate) fn bad_step<'d>(
     library: &Library,
     document: &'d DefDoc,
@@ -143,7 +143,7 @@ pub(crate) fn bad_step<'d>(
     row_name(rows, first_bad_step(rows, core, &pitch))
 }
 
-/// The first heeded row that is neither N, S, FN nor FS.
+/// The first row of core sites that is neither N, S, FN nor FS.
 pub(crate) fn row_orient<'d>(
     library: &Library,
     document: &'d DefDoc,
@@ -158,7 +158,7 @@ pub(crate) fn row_orient<'d>(
     row_name(rows, first_turned(rows, core))
 }
 
-/// The first heeded row that shares a point with an earlier one.
+/// The first row of core sites that shares a point with an earlier one.
 pub(crate) fn rows_overlap<'d>(
     alloc: Global,
     library: &Library,
@@ -178,7 +178,7 @@ pub(crate) fn rows_overlap<'d>(
     Ok(row_name(rows, first))
 }
 
-/// The macro of the component of that place.
+/// The macro of the component at that position.
 fn component_mac<'d>(components: &'d [Component], place: Option<usize>) -> Option<&'d [u8]>
     ensures { option_copied result ≡ option_map (λ c. c.mac) (at_place components.now place) }
 {
@@ -191,7 +191,7 @@ fn component_mac<'d>(components: &'d [Component], place: Option<usize>) -> Optio
     }
 }
 
-/// The name of the component of that place.
+/// The name of the component at that position.
 fn component_name<'d>(components: &'d [Component], place: Option<usize>) -> Option<&'d [u8]>
     ensures { option_copied result ≡ option_map (λ c. c.name) (at_place components.now place) }
 {
@@ -204,7 +204,7 @@ fn component_name<'d>(components: &'d [Component], place: Option<usize>) -> Opti
     }
 }
 
-/// The macro of the first component whose macro no LEF text has.
+/// The macro of the first component whose macro is in no LEF text.
 pub(crate) fn no_macro<'d>(
     faults: &MacroFaults,
     library: &Library,
@@ -230,7 +230,7 @@ pub(crate) fn no_size<'d>(
     component_mac(document.components.as_slice(), faults.sizeless)
 }
 
-/// The core site's name, where its size is no whole number of database units.
+/// The core site's name, if its size is not whole in database units.
 fn core_not_whole<'d>(library: &'d Library, document: &DefDoc, limits: &Limits) -> Option<&'d [u8]>
     ensures { OfCore (inputs library.now document.now limits.now) (CoreHasPartUnits (inputs library.now document.now limits.now)) (option_copied result) }
 {
@@ -244,7 +244,7 @@ fn core_not_whole<'d>(library: &'d Library, document: &DefDoc, limits: &Limits) 
     }
 }
 
-/// The site or macro whose size is no whole number of database units: the core site, then those of components.
+/// The site or macro whose size is not whole in database units: the core site, then macros of components.
 pub(crate) fn not_whole<'d>(
     faults: &MacroFaults,
     library: &'d Library,
@@ -260,7 +260,7 @@ pub(crate) fn not_whole<'d>(
     component_mac(document.components.as_slice(), faults.part_units)
 }
 
-/// The first component that bears an earlier one's name.
+/// The first component that has an earlier one's name.
 pub(crate) fn second_name<'d>(
     claims: &ClaimTable,
     library: &Library,
@@ -273,7 +273,7 @@ pub(crate) fn second_name<'d>(
     component_name(document.components.as_slice(), claims.second_name())
 }
 
-/// The name of the region of that place.
+/// The name of the region at that position.
 fn region_at<'d>(regions: &'d [Region], place: Option<usize>) -> Option<&'d [u8]>
     ensures { option_copied result ≡ option_map (λ r. r.name) (at_place regions.now place) }
 {
@@ -296,7 +296,7 @@ fn group_region(group: &Group) -> &[u8]
     }
 }
 
-/// The region of the group of that place.
+/// The region of the group at that position.
 fn region_of_group<'d>(groups: &'d [Group], place: Option<usize>) -> Option<&'d [u8]>
     ensures { option_copied result ≡ option_map region_name (at_place groups.now place) }
 {
@@ -309,7 +309,7 @@ fn region_of_group<'d>(groups: &'d [Group], place: Option<usize>) -> Option<&'d 
     }
 }
 
-/// The first fence that bears an earlier fence's name.
+/// The first fence that has an earlier fence's name.
 pub(crate) fn second_region<'d>(
     alloc: Global,
     library: &Library,
@@ -323,7 +323,7 @@ pub(crate) fn second_region<'d>(
     Ok(region_at(regions, first))
 }
 
-/// The region of the first group whose region no entry of REGIONS is.
+/// The region of the first group whose region is in no REGIONS entry.
 pub(crate) fn no_region<'d>(
     alloc: Global,
     library: &Library,
@@ -363,7 +363,7 @@ pub(crate) fn fences_overlap<'d>(
     Ok(region_at(regions, first))
 }
 
-/// The first movable component that groups of two different fences name, where no two components bear one name.
+/// The first movable component that groups of two different fences name, if no two components have one name.
 pub(crate) fn two_fences<'d>(
     claims: &ClaimTable,
     library: &Library,
@@ -379,7 +379,7 @@ pub(crate) fn two_fences<'d>(
     component_name(components, first)
 }
 
-/// The first heeded row beyond the limit.
+/// The first row of core sites beyond the limit.
 fn rows_too_many<'d>(library: &Library, document: &'d DefDoc, limits: &Limits) -> Option<&'d [u8]>
     ensures { OfCore (inputs library.now document.now limits.now) (λ core. NameOfFirst (λ r. r.name) (IsRowTooMany core limits.now.rows) document.now.rows) (option_copied result) }
 {
@@ -412,7 +412,7 @@ fn components_too_many<'d>(document: &'d DefDoc, limits: &Limits) -> Option<&'d 
     )
 }
 
-/// The first heeded row that ends past the largest coordinate.
+/// The first row of core sites that ends past the largest coordinate.
 fn row_too_far<'d>(library: &Library, document: &'d DefDoc, limits: &Limits) -> Option<&'d [u8]>
     ensures { OfPitch (inputs library.now document.now limits.now) (λ core pitch. NameOfFirst (λ r. r.name) (EndsTooFar core pitch) document.now.rows) (option_copied result) }
 {
@@ -426,7 +426,8 @@ fn row_too_far<'d>(library: &Library, document: &'d DefDoc, limits: &Limits) -> 
     row_name(rows, first_too_far(rows, core, &pitch))
 }
 
-/// The first entry beyond a limit: of heeded rows, fences and components, and then a row that ends too far.
+/// The first entry beyond a limit: of rows of core sites, fences and components; then the first row that ends too far
+/// right.
 pub(crate) fn too_many<'d>(
     library: &Library,
     document: &'d DefDoc,

@@ -1,4 +1,4 @@
-//! What loading refuses: each refusal's search, and the refusal of the least number; the core site and its pitch.
+//! The refusals of loading: the search of each, and the refusal of the least number; the core site and its pitch.
 #![tactic(auto)]
 
 mod component_refusals;

@@ -26,7 +26,7 @@ use std::alloc::{AllocError, Global};
 /// The first of loading's refusals.
 const FIRST: u8 = 7;
 
-/// The number behind the last of loading's refusals.
+/// The number after the last of loading's refusals.
 const END: u8 = 24;
 
 /// The refusal of that number.
@@ -56,7 +56,7 @@ fn numbered(number: u8) -> FaultNumber
     }
 }
 
-/// What the refusal finds: the name of the first entry that it names, or nothing.
+/// What the refusal finds: the name of the first entry at fault, or none.
 fn finding<'d>(
     alloc: Global,
     claims: &ClaimTable,

@@ -1,4 +1,4 @@
-//! What loading refuses of rows.
+//! The refusals of loading for rows.
 
 ghost use Rattle.std.specs.Prelude.{[], ◌≡◌, ◌≢◌, ◌↔◌, ℕ, ℤ, pos, ◌<◌, ◌≤◌, ◌<ℤ◌, ◌≤ℤ◌, ◌+ℤ◌, ◌*ℤ◌, ◌++◌, true, None, All, Any, IsTrue, IfSome, IfOk, OnOk, MatchOption, length};
 ghost use Rattle.std.specs.Option.{option_copied};
@@ -20,7 +20,7 @@ use lf_lef::Library;
 use lf_orient::row_rail;
 use std::alloc::{AllocError, Global};
 
-/// The site of that name.
+/// The site of that name; none if there is none.
 pub(crate) fn site_named<'l>(library: &'l Library, name: &[u8]) -> Option<&'l Site>
     ensures site { option_copied result ≡ site_named library.now name.now }
     ensures range { IfSome result (λ s. HasRange s.now.size) }
@@ -56,14 +56,14 @@ pub(crate) fn core_site<'l>(library: &'l Library, rows: &[Row]) -> Option<&'l Si
     }
 }
 
-/// Whether no LEF text has the row's site.
+/// Whether the row's site is in no LEF text.
 fn has_no_site(row: &Row, library: &Library) -> bool
     ensures { IsTrue result ↔ HasNoSite library.now [] row.now }
 {
     site_named(library, row.site.as_bytes()).is_none()
 }
 
-/// The first row whose site no LEF text has.
+/// The first row whose site is in no LEF text.
 pub(crate) fn first_without_site(rows: &[Row], library: &Library) -> Option<usize>
     ensures { FirstIs (HasNoSite library.now) rows.now result }
 {
@@ -82,14 +82,14 @@ pub fn is_heeded(row: &Row, core: &Site) -> bool
     row.site.is(core.name.as_bytes())
 }
 
-/// Whether the row is heeded and has another number of sites upwards than 1.
+/// Whether the row is one of core sites and its numY is not 1.
 fn is_vertical(row: &Row, core: &Site) -> bool
     ensures { IsTrue result ↔ IsVertical core.now [] row.now }
 {
     is_heeded(row, core) && row.sites_y != 1
 }
 
-/// The first heeded row with another number of sites upwards than 1.
+/// The first row of core sites whose numY is not 1.
 pub(crate) fn first_vertical(rows: &[Row], core: &Site) -> Option<usize>
     ensures { FirstIs (IsVertical core.now) rows.now result }
 {
@@ -101,7 +101,7 @@ pub(crate) fn first_vertical(rows: &[Row], core: &Site) -> Option<usize>
     None
 }
 
-/// Whether the row is heeded, has several sites, and steps by another length than the site's width.
+/// Whether the row has several sites, which are core sites, and its step is not their width.
 fn has_bad_step(row: &Row, core: &Site, pitch: &Pitch) -> bool
     ensures { IsTrue result ↔ HasBadStep core.now pitch.now.size [] row.now }
 {
@@ -111,7 +111,7 @@ fn has_bad_step(row: &Row, core: &Site, pitch: &Pitch) -> bool
     }
 }
 
-/// The first heeded row of several sites that steps by another length than the site's width.
+/// The first row of several core sites whose step is not the site's width.
 pub(crate) fn first_bad_step(rows: &[Row], core: &Site, pitch: &Pitch) -> Option<usize>
     ensures { FirstIs (HasBadStep core.now pitch.now.size) rows.now result }
 {
@@ -123,14 +123,14 @@ pub(crate) fn first_bad_step(rows: &[Row], core: &Site, pitch: &Pitch) -> Option
     None
 }
 
-/// Whether the row is heeded and neither N, S, FN nor FS.
+/// Whether the row is one of core sites and neither N, S, FN nor FS.
 fn is_turned(row: &Row, core: &Site) -> bool
     ensures { IsTrue result ↔ IsTurned core.now [] row.now }
 {
     is_heeded(row, core) && row_rail(row.orient).is_none()
 }
 
-/// The first heeded row that is neither N, S, FN nor FS.
+/// The first row of core sites that is neither N, S, FN nor FS.
 pub(crate) fn first_turned(rows: &[Row], core: &Site) -> Option<usize>
     ensures { FirstIs (IsTurned core.now) rows.now result }
 {
@@ -142,7 +142,7 @@ pub(crate) fn first_turned(rows: &[Row], core: &Site) -> Option<usize>
     None
 }
 
-/// The first heeded row that stands behind so many heeded rows as the limit allows.
+/// The first row of core sites beyond the limit.
 pub(crate) fn first_row_too_many(rows: &[Row], core: &Site, limit: usize) -> Option<usize>
     ensures { FirstIs (IsRowTooMany core.now limit) rows.now result }
 {
@@ -158,14 +158,14 @@ pub(crate) fn first_row_too_many(rows: &[Row], core: &Site, limit: usize) -> Opt
     None
 }
 
-/// The width of all sites of a row, which may pass 64 bits.
+/// The width of all sites of a row, which may exceed 64 bits.
 fn full_width(row: &Row, pitch: &Pitch) -> i128
     ensures { result ≡ pos row.now.sites_x *ℤ pitch.now.size.x }
 {
     i128::from(row.sites_x) * i128::from(pitch.size.x)
 }
 
-/// The x at which the row ends, which may pass 64 bits.
+/// The x at which the row ends, which may exceed 64 bits.
 fn right_edge(row: &Row, pitch: &Pitch) -> i128
     requires row { IsRow row.now }
     ensures { result ≡ (row_area pitch.now.size (frame_row row.now)).x2 }
@@ -173,7 +173,7 @@ fn right_edge(row: &Row, pitch: &Pitch) -> i128
     i128::from(row.x) + full_width(row, pitch)
 }
 
-/// Whether the row's upper edge is no higher than the other's lower one.
+/// Whether the row's upper edge is at or below the other's lower one.
 fn is_below(row: &Row, other: &Row, pitch: &Pitch) -> bool
     requires row { IsRow row.now }
     ensures { IsTrue result ↔ ((row.now.y +ℤ pitch.now.size.y) ≤ℤ other.now.y) }
@@ -181,7 +181,7 @@ fn is_below(row: &Row, other: &Row, pitch: &Pitch) -> bool
     row.y + pitch.size.y <= other.y
 }
 
-/// Whether the row ends before the other begins.
+/// Whether the row ends at or before the x at which the other begins.
 fn ends_before(row: &Row, other: &Row, pitch: &Pitch) -> bool
     requires row { IsRow row.now }
     ensures { IsTrue result ↔ ((row_area pitch.now.size (frame_row row.now)).x2 ≤ℤ other.now.x) }
@@ -207,7 +207,7 @@ fn do_rows_meet(first: &Row, second: &Row, pitch: &Pitch) -> bool
     !ends_before(first, second, pitch)
 }
 
-/// Whether a heeded row of the list shares a point with this one.
+/// Whether a row of core sites in the list shares a point with this one.
 fn meets_one_of(row: &Row, earlier: &[Row], core: &Site, pitch: &Pitch) -> bool
     requires row { IsRow row.now }
     requires each { All IsRow earlier.now }
@@ -221,7 +221,7 @@ fn meets_one_of(row: &Row, earlier: &[Row], core: &Site, pitch: &Pitch) -> bool
     false
 }
 
-/// The first heeded row that shares a point with an earlier one, by a look at each two rows.
+/// The first row of core sites that shares a point with an earlier one, found by comparing all pairs.
 fn row_overlap_by_pairs(rows: &[Row], core: &Site, pitch: &Pitch) -> Option<usize>
     requires each { All IsRow rows.now }
     ensures { FirstIs (MeetsEarlierRow core.now pitch.now.size) rows.now result }
@@ -234,7 +234,7 @@ fn row_overlap_by_pairs(rows: &[Row], core: &Site, pitch: &Pitch) -> Option<usiz
     None
 }
 
-/// The row as a piece of a sweep.
+/// The row as a piece of the sweep.
 fn row_piece(number: usize, row: &Row, pitch: &Pitch) -> Piece
     requires row { IsRow row.now }
     ensures { result ≡ piece_of number (row_area pitch.now.size (frame_row row.now)) }
@@ -248,7 +248,7 @@ fn row_piece(number: usize, row: &Row, pitch: &Pitch) -> Piece
     }
 }
 
-/// The row behind the pieces of earlier ones, where it is heeded.
+/// Appends the row as a piece, if it is one of core sites.
 fn push_row(
     pieces: &mut Vec<Piece>,
     number: usize,
@@ -265,7 +265,7 @@ fn push_row(
     Ok(())
 }
 
-/// The heeded rows as pieces of a sweep.
+/// The rows of core sites as pieces of the sweep.
 fn row_pieces(
     alloc: Global,
     rows: &[Row],
@@ -282,8 +282,8 @@ fn row_pieces(
     Ok(pieces)
 }
 
-/// The first heeded row that shares a point with an earlier one. Takes the time of a sort where there is none
-/// and few rows lie at one height.
+/// The first row of core sites that shares a point with an earlier one. Takes the time of a sort if there is none and
+/// few rows overlap in y.
 pub(crate) fn first_row_overlap(
     alloc: Global,
     rows: &[Row],
@@ -300,7 +300,7 @@ pub(crate) fn first_row_overlap(
     Ok(row_overlap_by_pairs(rows, core, pitch))
 }
 
-/// Whether the row is heeded and ends past the largest coordinate.
+/// Whether the row is one of core sites and ends past the largest coordinate.
 fn ends_too_far(row: &Row, core: &Site, pitch: &Pitch) -> bool
     requires row { IsRow row.now }
     ensures { IsTrue result ↔ EndsTooFar core.now pitch.now.size [] row.now }
@@ -308,7 +308,7 @@ fn ends_too_far(row: &Row, core: &Site, pitch: &Pitch) -> bool
     is_heeded(row, core) && 2_147_483_647 < right_edge(row, pitch)
 }
 
-/// The first heeded row that ends past the largest coordinate.
+/// The first row of core sites that ends past the largest coordinate.
 pub(crate) fn first_too_far(rows: &[Row], core: &Site, pitch: &Pitch) -> Option<usize>
     requires each { All IsRow rows.now }
     ensures { FirstIs (EndsTooFar core.now pitch.now.size) rows.now result }

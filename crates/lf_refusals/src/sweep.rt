@@ -1,10 +1,10 @@
-//! Pieces of rows or of fences: a sweep upwards that finds whether pieces of two entries share a point.
+//! Pieces of rows or fences, and an upward sweep that finds whether pieces of two entries share a point.
 
 ghost use Rattle.std.specs.Prelude.{◌≡◌, ◌↔◌, ◌+◌, ◌<◌, ◌≤ℤ◌, All, AllPairs, IsTrue, IsPermutation, length, drop};
 ghost use Rattle.lf_units.specs.Area.{SharesPoint};
 ghost use Rattle.lf_refusals.specs.Sweep.{piece_area, EndsBefore, Clash, ClashesWithNone, NoneClash, Rise};
 
-/// A rectangle of the entry with this number, in database units. A row may end past 64 bits.
+/// A rectangle of the entry with this number, in database units. A row's end may exceed 64 bits.
 #[derive(Clone, Copy)]
 pub struct Piece {
     pub entry: usize,
@@ -14,14 +14,14 @@ pub struct Piece {
     pub top: i64,
 }
 
-/// Whether the one piece ends below the other, or where it begins.
+/// Whether the first piece ends at or below the lower edge of the second.
 fn is_below(first: &Piece, second: &Piece) -> bool
     ensures { IsTrue result ↔ (first.now.top ≤ℤ second.now.bottom) }
 {
     first.top <= second.bottom
 }
 
-/// Whether the one piece ends at the left of the other, or below it.
+/// Whether the first piece ends at the left of the second, or below it.
 fn ends_before(first: &Piece, second: &Piece) -> bool
     ensures { IsTrue result ↔ EndsBefore first.now second.now }
 {
@@ -54,8 +54,8 @@ fn do_clash(first: &Piece, second: &Piece) -> bool
     do_pieces_meet(first, second)
 }
 
-/// Whether the piece clashes with none of those behind it, which begin no lower: those that begin above its
-/// upper edge are not looked at.
+/// Whether the piece clashes with none of those after it, which begin no lower. Those that begin above its upper edge
+/// are not looked at.
 fn clashes_with_none(piece: &Piece, behind: &[Piece]) -> bool
     requires { Rise behind.now }
     ensures { IsTrue result ↔ ClashesWithNone piece.now behind.now }
@@ -71,7 +71,7 @@ fn clashes_with_none(piece: &Piece, behind: &[Piece]) -> bool
     true
 }
 
-/// The pieces behind this one.
+/// The pieces after this one.
 fn behind(pieces: &[Piece], number: usize) -> &[Piece]
     requires { number < length pieces.now }
     ensures { result.now ≡ drop (number + 1) pieces.now }
@@ -79,7 +79,7 @@ fn behind(pieces: &[Piece], number: usize) -> &[Piece]
     &pieces[number + 1..]
 }
 
-/// Whether no two pieces clash, where none begins below an earlier one.
+/// Whether no two pieces clash, if none begins below an earlier one.
 fn none_clash_upwards(pieces: &[Piece]) -> bool
     requires { Rise pieces.now }
     ensures { IsTrue result ↔ NoneClash pieces.now }
@@ -92,7 +92,7 @@ fn none_clash_upwards(pieces: &[Piece]) -> bool
     true
 }
 
-/// The pieces in the order of their lower edges.
+/// Sorts the pieces by their lower edges.
 fn sort_upwards(pieces: &mut [Piece])
     ensures same { IsPermutation pieces.old pieces.new }
     ensures rise { Rise pieces.new }
@@ -100,8 +100,8 @@ fn sort_upwards(pieces: &mut [Piece])
     pieces.sort_unstable_by_key(|piece| piece.bottom);
 }
 
-/// Whether no two pieces of different entries share a point. Takes the time of a sort, and of a test for each
-/// two pieces that lie at one height.
+/// Whether no two pieces of different entries share a point. Takes the time of a sort, and of a test for each two
+/// pieces that overlap in y.
 pub(crate) fn none_clash(pieces: &mut [Piece]) -> bool
     ensures { IsTrue result ↔ NoneClash pieces.old }
 {

@@ -106,7 +106,7 @@ pub least_turned : (xs ys : List Placed) (rect : Rect) (but : ℕ) (a b c : Opti
 least_turned xs ys rect but a b c first second =
     least_permuted (ys ++ xs) (xs ++ ys) rect but a c (IsPermutation-append_comm ys xs) (least_along ys xs rect but a b c first second)
 
--- the node at a place, and then those before it and those behind it
+-- the node at a place, and then those before it and those after it
 pub least_of_halves : (nodes : List Node) (n : ℕ) (d : Node) (rect : Rect) (but : ℕ) (a b c : Option ℕ) → n < length nodes →
     IsLeastOf ((get_or nodes n d).placed ∷ []) rect but a b →
     IsLeastOf (boxes_of (take n nodes) ++ boxes_of (take (length nodes - (n + 1)) (drop (n + 1) nodes))) rect but b c →

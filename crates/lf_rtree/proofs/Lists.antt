@@ -5,13 +5,13 @@ use Rattle.std.specs.Prelude.{IsPermutation}
 use Rattle.std.proofs.lemmas.List.Sorted.{IsPermutation-trans, IsPermutation-append_left, IsPermutation-put_mid}
 use Rattle.std.proofs.lemmas.List.{take_all, take-append-drop}
 
--- what stands before a place, the element there and what stands behind it are the list
+-- what stands before a place, the element there and what stands after it are the list
 pub parted : {X : Type 0} (xs : List X) (n : ℕ) (d : X) → n < length xs → take n xs ++ (get_or xs n d ∷ drop (n + 1) xs) ≡ xs
 parted xs n d within =
     let cut : drop n xs ≡ get_or xs n d ∷ drop (n + 1) xs = cc (drop-cons xs n d within, add-one n) in
     ap (λ ys. take n xs ++ ys) (sym cut) ∙ take-append-drop n xs
 
--- what stands behind a place, as a slice of the list is
+-- what stands after a place, as a slice of the list is
 pub rest_from : {X : Type 0} (xs : List X) (n : ℕ) → take (length xs - n) (drop n xs) ≡ drop n xs
 rest_from xs n = take_all (length xs - n) (drop n xs) (omega (arith, length-drop n xs))
 

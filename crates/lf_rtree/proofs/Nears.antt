@@ -15,7 +15,7 @@ use Rattle.lf_rtree.specs.declared.bound.Node.{Node}
 use Rattle.lf_rtree.proofs.Lists.{parted, rest_from}
 use Rattle.lf_rtree.proofs.Bounds.{shares_with_bound}
 
--- lists that are parted, one behind the other, are parted so
+-- lists that are parted, one after the other, are parted so
 parted_along : (xs ys found others more rest : List Placed) → IsPermutation xs (found ++ others) → IsPermutation ys (more ++ rest) →
     IsPermutation (xs ++ ys) ((found ++ more) ++ (others ++ rest))
 parted_along xs ys found others more rest first second =
@@ -32,7 +32,7 @@ parted_along xs ys found others more rest first second =
     (IsPermutation-append_right found (others ++ (more ++ rest)) (more ++ (others ++ rest)) behind) in
     IsPermutation-trans (xs ++ ys) all ((found ++ more) ++ (others ++ rest)) both last
 
--- what is near of two lists is near of both, one behind the other
+-- what is near of two lists is near of both, one after the other
 pub near_along : (xs ys : List Placed) (rect : Rect) (front back : List Placed) → AreNear xs rect front → AreNear ys rect back →
     AreNear (xs ++ ys) rect (front ++ back)
 near_along xs ys rect front back first second = record {
@@ -113,7 +113,7 @@ adds_one_more nodes n d rect old middle new within first second =
     ap (λ (xs : List Node). boxes_of xs) (take_more nodes n d within) ∙ map-append (λ (m : Node). m.placed) (take n nodes) (node ∷ []) in
     subst P (sym parts) (adds_along (boxes_of (take n nodes)) (node.placed ∷ []) rect old middle new first second)
 
--- the nodes before a place, the one there and those behind it
+-- the nodes before a place, the one there and those after it
 pub adds_of_halves : (nodes : List Node) (n : ℕ) (d : Node) (rect : Rect) (old first_found with_middle new : List Placed) → n < length nodes →
     AddsNear (boxes_of (take n nodes)) rect old first_found → AddsNear ((get_or nodes n d).placed ∷ []) rect first_found with_middle →
     AddsNear (boxes_of (take (length nodes - (n + 1)) (drop (n + 1) nodes))) rect with_middle new → AddsNear (boxes_of nodes) rect old new

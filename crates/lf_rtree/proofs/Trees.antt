@@ -13,7 +13,7 @@ pub bounded_by_middle : (depth : ℕ) (nodes : List Node) (d : Node) → 0 < dep
 bounded_by_middle zero nodes d deep tree = absurd (omega arith)
 bounded_by_middle (suc depth) nodes d deep tree = tree.0 d
 
--- what stands behind the middle node is a run of one depth less
+-- what stands after the middle node is a run of one depth less
 pub behind_middle : (depth : ℕ) (nodes : List Node) → 0 < depth → IsTree depth nodes →
     IsTree (depth - 1) (take (length nodes - (length nodes / 2 + 1)) (drop (length nodes / 2 + 1) nodes))
 behind_middle zero nodes deep tree = absurd (omega arith)
@@ -23,7 +23,7 @@ behind_middle (suc depth) nodes deep tree =
     let Deep : ℕ → Type 0 = λ n. IsTree n (take (length nodes - (length nodes / 2 + 1)) (drop (length nodes / 2 + 1) nodes)) in
     subst Deep less (subst Behind (sym (rest_from nodes (length nodes / 2 + 1))) tree.2)
 
--- a node between two runs of one depth, half of the boxes in front of it, is a run of the next depth, where it bounds them and itself
+-- a node between two runs of one depth, half of the boxes before it, makes a run of the next depth if it bounds them and itself
 pub joined_tree : (depth : ℕ) (before : List Node) (middle : Node) (behind : List Node) → 0 < depth →
     length before ≡ (length before + (length behind + 1)) / 2 → All (IsBound middle.bound) (boxes_of (before ++ (middle ∷ behind))) →
     IsTree (depth - 1) before → IsTree (depth - 1) behind → IsTree depth (before ++ (middle ∷ behind))

@@ -4,15 +4,15 @@ use Rattle.lf_units.specs.Area.{SharesPoint}
 use Rattle.lf_units.specs.declared.area.Rect.{Rect}
 use Rattle.lf_rtree.specs.declared.placed.Placed.{Placed}
 
--- the found boxes are those of the list that share a point with the rectangle, each as often as it stands there: the list is
--- the found boxes and others, in any order, and the others share none
+-- the found boxes are those of the list that share a point with the rectangle, each as often as in the list: the list is the
+-- found boxes and others, in any order, and the others share none
 pub record AreNear (boxes : List Placed) (rect : Rect) (found : List Placed) : Type 0 where
   pub others : List Placed
   pub parted : IsPermutation boxes (found ++ others)
   pub near : All (λ p. SharesPoint rect p.rect) found
   pub far : All (λ p. SharesPoint rect p.rect → ⊥) others
 
--- a box of the list has this number, another than `but`, and shares a point with the rectangle
+-- a box of the list has this number, which is not `but`, and shares a point with the rectangle
 pub record IsMet (boxes : List Placed) (rect : Rect) (but own : ℕ) : Type 0 where
   pub placed : Placed
   pub among : Contains boxes placed

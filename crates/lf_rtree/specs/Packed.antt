@@ -1,4 +1,4 @@
--- How a list of nodes is a tree: what its middle nodes bound, and what the steps of a look through it give.
+-- How a list of nodes is a tree: what its middle nodes bound, and what the steps of a search through it return.
 use Rattle.std.specs.Prelude.{◌≡◌, ◌≢◌, ◌⊎◌, ℕ, ◌+◌, ◌/◌, ◌≤◌, ◌≤ℤ◌, suc, zero, Option, IfSome, IsSomeAnd, List, ◌++◌, map, length, take, drop, All}
 use Rattle.std.specs.List.{HoldsAt}
 use Rattle.lf_units.specs.Area.{SharesPoint}
@@ -8,7 +8,7 @@ use Rattle.lf_rtree.specs.declared.placed.Placed.{Placed}
 use Rattle.lf_rtree.specs.declared.bound.Bound.{Bound}
 use Rattle.lf_rtree.specs.declared.bound.Node.{Node}
 
--- the bound's rectangle holds the box, by its edges, and its number is no greater than the box's
+-- the bound's rectangle contains the box, by its edges, and its number is at most the box's
 pub record IsBound (bound : Bound) (p : Placed) : Type 0 where
   pub left : bound.rect.x1 ≤ℤ p.rect.x1
   pub bottom : bound.rect.y1 ≤ℤ p.rect.y1
@@ -24,7 +24,7 @@ IsWithin bound p = IsSomeAnd bound (λ b. IsBound b p)
 abbrev pub boxes_of : List Node → List Placed
 boxes_of nodes = map (λ n. n.placed) nodes
 
--- a run of a depth: at depth 0 any nodes; else its middle node bounds the run, and what stands on either side of it is a run of one depth less
+-- a run of a depth: at depth 0 any nodes; else its middle node bounds the run, and either side of it is a run of one depth less
 abbrev pub IsTree : ℕ → List Node → Type 0
 IsTree zero nodes = Unit {0}
 IsTree (suc depth) nodes =
@@ -32,7 +32,7 @@ IsTree (suc depth) nodes =
     × IsTree depth (take (length nodes / 2) nodes)
     × IsTree depth (drop (length nodes / 2 + 1) nodes)
 
--- there is a least number so far, and it is no greater than this one
+-- the number so far exists and is at most this one
 abbrev pub IsUpTo : Option ℕ → ℕ → Type 0
 IsUpTo least own = IsSomeAnd least (λ n. n ≤ own)
 
@@ -46,7 +46,7 @@ pub record IsLeastOf (boxes : List Placed) (rect : Rect) (but : ℕ) (so_far lea
 abbrev pub HoldsNoLess : Bound → Rect → Option ℕ → Type 0
 HoldsNoLess bound rect so_far = (p : Placed) → IsBound bound p → SharesPoint rect p.rect → IsUpTo so_far p.own
 
--- found boxes stand behind the old ones: those of the list that share a point with the rectangle
+-- the boxes of the list that share a point with the rectangle are appended
 pub record AddsNear (boxes : List Placed) (rect : Rect) (old new : List Placed) : Type 0 where
   pub found : List Placed
   pub is : new ≡ old ++ found

@@ -1,11 +1,11 @@
-//! What bounds the boxes of a run, and the nodes of a tree.
+//! Bounds of the boxes of a run, and the nodes of a tree.
 
 ghost use Rattle.lf_rtree.specs.Packed.{IsBound, IsWithin};
 
 use crate::placed::Placed;
 use lf_units::Rect;
 
-/// What bounds the boxes of a run: a rectangle that holds all of theirs, and the least of their
+/// A bound of the boxes of a run: a rectangle that contains all of theirs, and the least of their
 /// numbers.
 #[derive(Clone, Copy, Debug)]
 pub struct Bound {
@@ -13,7 +13,7 @@ pub struct Bound {
     pub least: u32,
 }
 
-/// A box of a tree. Where it is the middle one of a run, `bound` bounds the whole run.
+/// A box of a tree. If it is the middle one of a run, `bound` bounds the whole run.
 #[derive(Clone, Copy, Debug)]
 pub struct Node {
     pub placed: Placed,
@@ -21,7 +21,7 @@ pub struct Node {
 }
 
 impl Bound {
-    /// What bounds one box.
+    /// The bound of one box.
     pub(crate) fn of(placed: &Placed) -> Self
         ensures { IsBound result placed.now }
     {
@@ -31,7 +31,7 @@ impl Bound {
         }
     }
 
-    /// What bounds the same boxes and those that the other one bounds.
+    /// A bound of all boxes that either bounds.
     pub(crate) fn joined(&self, other: &Bound) -> Self
         ensures the_same { (p : Placed) → IsBound self.now p → IsBound result p }
         ensures the_others { (p : Placed) → IsBound other.now p → IsBound result p }
@@ -49,7 +49,7 @@ impl Bound {
         }
     }
 
-    /// The same, where there may be no other one.
+    /// The same with an optional second bound.
     pub(crate) fn with(&self, other: &Option<Bound>) -> Self
         ensures the_same { (p : Placed) → IsBound self.now p → IsBound result p }
         ensures the_others { (p : Placed) → IsWithin other.now p → IsBound result p }

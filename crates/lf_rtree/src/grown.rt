@@ -1,5 +1,5 @@
-//! How a tree is made of boxes that stand in order: a node for each, and then the bounds, from the
-//! shortest runs upwards, with one look at each box.
+//! How a tree is made of boxes in order: a node for each, then the bounds, from the shortest runs
+//! upwards, with one look at each box.
 
 ghost use Rattle.std.specs.Prelude.{◌≡◌, All, IfOk};
 ghost use Rattle.lf_rtree.specs.Packed.{IsTree, IsWithin, boxes_of};
@@ -8,7 +8,7 @@ use crate::bound::{Bound, Node};
 use crate::placed::Placed;
 use std::alloc::{AllocError, Global};
 
-/// A node for each box, in the boxes' order, with no tree among them.
+/// A node for each box, in the boxes' order; not yet a tree.
 fn nodes_of(alloc: Global, boxes: &[Placed]) -> Result<Vec<Node>, AllocError>
     ensures { IfOk result (λ nodes. boxes_of nodes.items ≡ boxes.now) }
 {
@@ -23,7 +23,7 @@ fn nodes_of(alloc: Global, boxes: &[Placed]) -> Result<Vec<Node>, AllocError>
     Ok(nodes)
 }
 
-/// What bounds each of these boxes; none where there is no box.
+/// A bound of these boxes; none if there is no box.
 fn bound_of(nodes: &[Node]) -> Option<Bound>
     ensures { All (IsWithin result) (boxes_of nodes.now) }
 {
@@ -34,8 +34,8 @@ fn bound_of(nodes: &[Node]) -> Option<Bound>
     bound
 }
 
-/// Makes the nodes a run of this depth, each where it stands, and gives what bounds the run; none
-/// where there is no box.
+/// Sets the bounds that make the nodes, in place, a run of this depth; returns the run's bound,
+/// none for no box.
 fn bind(nodes: &mut [Node], depth: u32) -> Option<Bound>
     ensures same { boxes_of nodes.new ≡ boxes_of nodes.old }
     ensures tree { IsTree depth nodes.new }

@@ -1,4 +1,4 @@
-//! The least number of a box that is met.
+//! The least number of a box that shares a point with a rectangle.
 
 ghost use Rattle.std.specs.Prelude.{[], ◌∷◌};
 ghost use Rattle.std.specs.Bool.{OnFalse};
@@ -8,8 +8,8 @@ use crate::bound::{Bound, Node};
 use crate::placed::Placed;
 use lf_units::Rect;
 
-/// The number of the box where it is the lesser one, is not `but`, and the box shares a point with
-/// the rectangle; else the number so far.
+/// The lesser of the number so far and the box's number, the latter only if it is not `but` and the
+/// box shares a point with the rectangle.
 fn lesser(placed: &Placed, rect: &Rect, but: u32, so_far: Option<u32>) -> Option<u32>
     ensures { IsLeastOf (placed.now ∷ []) rect.now but so_far result }
 {
@@ -28,7 +28,7 @@ fn lesser(placed: &Placed, rect: &Rect, but: u32, so_far: Option<u32>) -> Option
     }
 }
 
-/// The same over each of the nodes, one after another.
+/// The least over several nodes, one after another.
 fn least_in(nodes: &[Node], rect: &Rect, but: u32, so_far: Option<u32>) -> Option<u32>
     ensures { IsLeastOf (boxes_of nodes.now) rect.now but so_far result }
 {
@@ -52,16 +52,16 @@ fn may_be_less(bound: &Bound, rect: &Rect, so_far: Option<u32>) -> bool
     rect.overlaps(&bound.rect)
 }
 
-/// A guess at the least number of a run, that of its middle node's bound: it is right where the run
-/// is divided further, and no result rests on it.
+/// An estimate of a run's least number, from its middle bound. It only chooses which half is
+/// searched first.
 fn likely_least(nodes: &[Node]) -> u32 {
     nodes
         .get(nodes.len() / 2)
         .map_or(u32::MAX, |middle| middle.bound.least)
 }
 
-/// The same over a run of a tree: no look is taken into a part where no number can be less, and the
-/// half that is likely to have the lesser one comes first.
+/// The least over a run of a tree. Parts that cannot hold a lesser number are skipped, and the half
+/// that is likely to hold the least comes first.
 pub(crate) fn least_among(
     nodes: &[Node],
     depth: u32,

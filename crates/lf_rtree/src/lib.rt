@@ -1,5 +1,5 @@
-//! Boxes of a design in a packed tree, to find those that lie near a rectangle without a look at all
-//! of them. A contract sees the plain list of the boxes.
+//! Boxes of a design in a packed tree, to find those near a rectangle without a look at all of
+//! them. A contract sees the plain list of the boxes.
 #![tactic(auto)]
 
 mod bound;

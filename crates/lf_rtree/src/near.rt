@@ -8,7 +8,7 @@ use crate::placed::Placed;
 use lf_units::Rect;
 use std::alloc::AllocError;
 
-/// Puts the box behind the others, where it shares a point with the rectangle.
+/// Appends the box if it shares a point with the rectangle.
 fn push_near(placed: &Placed, rect: &Rect, found: &mut Vec<Placed>) -> Result<(), AllocError>
     ensures { OnOk result (AddsNear (placed.now ∷ []) rect.now found.old.items found.new.items) }
 {
@@ -19,7 +19,7 @@ fn push_near(placed: &Placed, rect: &Rect, found: &mut Vec<Placed>) -> Result<()
     Ok(())
 }
 
-/// The same for each of the nodes, one after another.
+/// Appends the boxes of several nodes that share a point with the rectangle.
 fn push_near_of_all(nodes: &[Node], rect: &Rect, found: &mut Vec<Placed>) -> Result<(), AllocError>
     ensures { OnOk result (AddsNear (boxes_of nodes.now) rect.now found.old.items found.new.items) }
 {
@@ -29,8 +29,7 @@ fn push_near_of_all(nodes: &[Node], rect: &Rect, found: &mut Vec<Placed>) -> Res
     Ok(())
 }
 
-/// The same for a run of a tree: no look is taken into a part whose bound shares no point with the
-/// rectangle.
+/// The same for a run of a tree. Parts whose bound shares no point with the rectangle are skipped.
 pub(crate) fn push_near_of_run(
     nodes: &[Node],
     depth: u32,

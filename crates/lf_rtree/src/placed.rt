@@ -1,4 +1,4 @@
-//! A box and the number of what it belongs to.
+//! A box with the number of its owner.
 
 use lf_units::Rect;
 

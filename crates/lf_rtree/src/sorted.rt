@@ -1,12 +1,12 @@
-//! The order in which boxes stand in a tree.
+//! The order of boxes in a tree.
 
 ghost use Rattle.std.specs.Prelude.{IsPermutation};
 
 use crate::placed::Placed;
 
-/// Puts the boxes into the order for a tree of this depth: into bands from the bottom upwards, each
-/// a run of half of the depth, and in a band from left to right. So the boxes of a short run lie
-/// close together both ways.
+/// Orders the boxes for a tree of this depth: into bands from the bottom upwards, each a run of
+/// half the depth, and from left to right in a band. So the boxes of a short run are close together
+/// both ways.
 pub(crate) fn sort_for_depth(boxes: &mut [Placed], depth: u32)
     ensures { IsPermutation boxes.old boxes.new }
 {
@@ -14,7 +14,7 @@ pub(crate) fn sort_for_depth(boxes: &mut [Placed], depth: u32)
     sort_bands(boxes, depth / 2);
 }
 
-/// Sorts each run that lies so deep, from left to right.
+/// Sorts each run at this depth from left to right.
 fn sort_bands(boxes: &mut [Placed], depth: u32)
     ensures { IsPermutation boxes.old boxes.new }
 {

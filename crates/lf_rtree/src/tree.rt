@@ -13,10 +13,10 @@ use lf_units::Rect;
 use std::alloc::{AllocError, Global};
 use std::marker::Model;
 
-/// About how many boxes stand in a part of a tree that is not divided further.
+/// About how many boxes a part of a tree has that is not divided further.
 const BUCKET: usize = 8;
 
-/// Boxes in a packed tree. A contract sees the list of the boxes, in an order of the tree's own.
+/// Boxes in a packed tree. A contract sees the list of the boxes, in the tree's order.
 #[derive(Drop)]
 pub struct RTree {
     nodes: Vec<Node>,
@@ -36,8 +36,8 @@ impl Model for RTree {
 }
 
 impl RTree {
-    /// A tree of these boxes, which are put into the tree's order. Numbers may stand more than once,
-    /// and rectangles without points are never found.
+    /// A tree of these boxes, which are put into the tree's order. Numbers may repeat, and
+    /// rectangles without points are never found.
     pub fn build(alloc: Global, boxes: &mut [Placed]) -> Result<Self, AllocError>
         ensures same { IsPermutation boxes.old boxes.new }
         ensures tree { IfOk result (λ tree. tree ≡ boxes.new) }
@@ -48,8 +48,8 @@ impl RTree {
         Ok(RTree { nodes, depth })
     }
 
-    /// Puts the boxes that share a point with this rectangle into `found`, each once, in place of what
-    /// it holds. Where memory runs out, `found` holds some of them.
+    /// Replaces the contents of `found` by the boxes that share a point with this rectangle, each
+    /// as often as it is in the tree. If an allocation fails, `found` holds some of them.
     pub fn find_near(&self, rect: &Rect, found: &mut Vec<Placed>) -> Result<(), AllocError>
         ensures { OnOk result (AreNear self.now rect.now found.new.items) }
     {
@@ -58,7 +58,7 @@ impl RTree {
     }
 
     /// The least number, other than `but`, of a box that shares a point with this rectangle; none
-    /// where there is no such box. It takes no memory.
+    /// if there is none. It allocates nothing.
     pub fn least_met(&self, rect: &Rect, but: u32) -> Option<u32>
         ensures { MatchOption result (IsNoneMet self.now rect.now but) (IsLeastMet self.now rect.now but) }
     {

@@ -1,4 +1,4 @@
--- The boxes of one number among those near a row, and what they tell of its points.
+-- The boxes of one number among those near a row, and what they say of its points.
 use Rattle.std.proofs.Common.{◌≡◌, ◌⊎◌, inl, inr, ℕ, ℤ, pos, ◌+◌, ◌-◌, ◌<◌, ◌≤◌, ◌≤ℤ◌, ◌<ℤ◌, List, length}
 use Rattle.std.proofs.Common.{map, get_or, slice_get, take, drop, Option, Some, None, refl, sym, ap, subst, ◌∙◌, arith}
 use Rattle.std.specs.Prelude.{◌↔◌, All, Any, Contains, IsPermutation}
@@ -111,7 +111,7 @@ none_left xs least f group none all below = record {
   others = λ k d inside. inl (below k d (omega (arith, inside, all)));
 }
 
--- a point is met by boxes of the group's number exactly where a box of the group covers it
+-- a point is met by boxes of the group's number iff a box of the group covers it
 pub group_met : (near group : List Placed) (least own : ℕ) → IsNextGroup near least group → All (λ p. p.own ≡ own) group → least ≤ own → (x y : ℤ) →
     IsMetAt near own x y ↔ Any (λ p. Covers p.rect x y) group
 group_met near group least own g number from x y = (forth, back)
@@ -217,7 +217,7 @@ moved_boxes f r boxes sorted moved b = record {
     met xs ys turned own x y (k, p, within, is, e) = has_item (λ q. (q.own ≡ own) × Covers q.rect x y) ys p
         (Contains-permutation xs ys p turned (k, within, is)) e
 
--- no obstacle covers a point of the row exactly where no box of the ground team's number does
+-- no obstacle covers a point of the row iff no box of the ground team's number does
 none_of : {P : Rect → Type 0} (rects : List Rect) → (Any P rects → ⊥) → All (λ o. P o → ⊥) rects
 none_of {P} rects never k d within p = never (has_item P rects (get_or rects k d) (Contains-get_or rects k d within) p)
 

@@ -128,7 +128,7 @@ rows_by_y f es moved in_order = record {
   in_order = in_order;
 }
 
--- what a bisection by y tells of what stands before it and behind it
+-- what a bisection by y says of what stands before it and after it
 less_of : (a b : ℤ) → int_lt a b ≡ true → a <ℤ b
 less_of a b e = grind (arith, ints)
 
@@ -223,7 +223,7 @@ rest_holds P xs ys f same from = subst (All (λ e. P e.y)) (sym same) rest
 pub exactly : (a b : ℤ) → a ≤ℤ b → b ≤ℤ a → a ≡ b
 exactly a b first second = omega (arith, ints, first, second)
 
--- the entry that bears a row's position has the row's y
+-- the entry that has a row's position has the row's y
 height_of : (f : Frame) (es : List RowEntry) (e : RowEntry) (n : ℕ) (r : Row) → All (IsEntryOf f) es → Contains es e → e.row ≡ n → slice_get f.rows n ≡ Some r →
     e.y ≡ r.y
 height_of f es e n r known there number stands =

@@ -1,4 +1,4 @@
--- A box that stands on rows is legal exactly where it lies in segments.
+-- A box that stands on rows is legal iff it lies in segments.
 use Rattle.std.proofs.Common.{◌≡◌, ◌⊎◌, inl, inr, ℕ, zero, suc, ℤ, pos, negsuc, ◌*◌, ◌<◌, ◌+ℤ◌, ◌*ℤ◌}
 use Rattle.std.proofs.Common.{◌≤ℤ◌, ◌<ℤ◌, List, Some, slice_get, sym, ap, subst, ◌∙◌, arith}
 use Rattle.std.specs.Prelude.{Contains}
@@ -90,7 +90,7 @@ point_in_row f box j r x y at covers from below =
       top = omega (arith, ints, level, below);
     }
 
--- a heeded row by its position
+-- a row of core sites by its position
 row_at : (f : Frame) (s : Row) → Contains f.rows s → (n : ℕ) × (slice_get f.rows n ≡ Some s)
 row_at f s (n, within, is) = (n, slice_get-get_or f.rows n s within ∙ ap (λ (r : Row). Some r) is)
 

@@ -16,7 +16,7 @@ use Rattle.lf_segments.specs.declared.segment.Segment.{Segment}
 use Rattle.lf_segments.specs.Segments.{IsOpen, IsOf, LiesInSegment, ComesFirst, ComesBefore, IsSegment, IsCut}
 use Rattle.lf_segments.specs.Boxes.{segment_of, AreOpen, AddsRow}
 
--- pairs of two lists, one behind the other
+-- pairs of two lists, one after the other
 pairs_append : {X : Type 0} (R : X → X → Type 0) (xs ys : List X) → AllPairs R xs → AllPairs R ys →
     ((i j : ℕ) (d : X) → i < length xs → j < length ys → R (get_or xs i d) (get_or ys j d)) → AllPairs R (xs ++ ys)
 pairs_append {X} R xs ys first second across i j d less within = elim (side i) [

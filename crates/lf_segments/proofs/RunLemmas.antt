@@ -13,7 +13,7 @@ use Rattle.lf_spans.specs.Spans.{IsFilled}
 use Rattle.lf_segments.specs.declared.segment.Segment.{Segment}
 use Rattle.lf_segments.specs.Segments.{ComesBefore, IsAt, IsOf, IsRunFrom}
 
--- what a bisection by a number tells of what stands before it and behind it
+-- what a bisection by a number says of what stands before it and after it
 pub below_point : {X : Type 0} (n : X → ℕ) (xs : List X) (t f : ℕ) → IsPartitionPoint (λ x. ltb (n x) t ≡ true) (λ x. ltb (n x) t ≡ false) xs f →
     (k : ℕ) (d : X) → k < f → n (get_or xs k d) < t
 below_point n xs t f point k d less = let e = point.0 k d (omega arith) less in grind (arith, nat_tests, e)
@@ -180,7 +180,7 @@ ends_rise xs pairs filled i j d less within =
     let wide = filled j d within in
     omega (arith, ints, apart, wide)
 
--- no segment holds x where all end before it, or the first that does not begins behind it
+-- no segment holds x where all end before it, or the first that does not begins after it
 pub none_at : (run : List Segment) (row team k : ℕ) (x : ℤ) → ((m : ℕ) (d : Segment) → m < k → (get_or run m d).span.hi ≤ℤ x) → length run ≤ k →
     (g : Segment) → Contains run g → IsAt row team x g → ⊥
 none_at run row team k x ended all g (m, within, is) at =

@@ -1,4 +1,5 @@
--- The boxes of a frame's fences and obstacles, by numbers: a fence's rectangle has the fence's number, an obstacle the ground team's.
+-- The boxes of a frame's fences and obstacles, with numbers: a fence's rectangle has the fence's number, an obstacle the ground
+-- team's.
 use Rattle.std.specs.Prelude.{◌≡◌, ◌⊎◌, ◌↔◌, ℕ, ◌+◌, ◌<◌, ◌≤◌, ℤ, ◌≤ℤ◌, ◌<ℤ◌, List, [], ◌∷◌, ◌++◌, map, length, All, AllPairs, Any, Contains}
 use Rattle.std.specs.List.Sorted.{IsNonDecreasingBy}
 use Rattle.lf_units.specs.declared.area.Rect.{Rect}
@@ -14,7 +15,7 @@ use Rattle.lf_floorplan.specs.Ground.{InGround}
 use Rattle.lf_segments.specs.declared.segment.Segment.{Segment}
 use Rattle.lf_segments.specs.Segments.{IsClearAt, IsOpen, LiesInSegment, ComesFirst}
 
--- a rectangle that bears a number
+-- a rectangle that has a number
 abbrev pub numbered : ℕ → Rect → Placed
 numbered own rect = record { own = own; rect = rect }
 
@@ -31,22 +32,22 @@ frame_boxes f = fence_boxes 0 f.teams ++ map (numbered (length f.teams)) f.obsta
 abbrev pub IsMetAt : List Placed → ℕ → ℤ → ℤ → Type 0
 IsMetAt boxes own x y = Any (λ p. (p.own ≡ own) × Covers p.rect x y) boxes
 
--- the boxes tell of the point which fences cover it and whether an obstacle does
+-- the boxes determine which fences cover the point and whether an obstacle does
 pub record Tell (f : Frame) (boxes : List Placed) (x y : ℤ) : Type 0 where
   pub fence : (team : ℕ) → team < length f.teams → (InGround f team x y ↔ IsMetAt boxes team x y)
   pub obstacle : Any (λ r. Covers r x y) f.obstacles ↔ IsMetAt boxes (length f.teams) x y
 
--- boxes that share a point with the row, and tell of each of its points
+-- boxes that share a point with the row, and determine the fences and obstacles at each of its points
 pub record AreBoxesOf (f : Frame) (r : Row) (boxes : List Placed) : Type 0 where
   pub known : All (λ p. p.own ≤ length f.teams) boxes
   pub near : All (λ p. SharesPoint (row_area f.pitch r) p.rect) boxes
   pub tell : (x y : ℤ) → Covers (row_area f.pitch r) x y → Tell f boxes x y
 
--- boxes in the order of their numbers
+-- boxes in order of their numbers
 abbrev pub AreSorted : List Placed → Type 0
 AreSorted boxes = IsNonDecreasingBy (λ p. p.own) boxes
 
--- the boxes of the least number that is not below this one; none where all are below
+-- the boxes of the least number that is not below this one; none if all are below
 pub record IsNextGroup (boxes : List Placed) (least : ℕ) (group : List Placed) : Type 0 where
   pub among : All (λ p. Contains boxes p × (least ≤ p.own)) group
   pub one : All (λ p. All (λ q. q.own ≡ p.own) group) group
@@ -56,29 +57,29 @@ pub record IsNextGroup (boxes : List Placed) (least : ℕ) (group : List Placed)
 abbrev pub across : Rect → Span
 across r = record { lo = r.x1; hi = r.x2 }
 
--- the spans hold just what the boxes cover at this y
+-- the spans hold exactly what the boxes cover at this y
 abbrev pub AreSpansAt : List Placed → ℤ → List Span → Type 0
 AreSpansAt boxes y spans = (x : ℤ) → (HeldByOne spans x ↔ Any (λ p. Covers p.rect x y) boxes)
 
--- what boxes cover of a span at this y is all of it
+-- the boxes cover the whole span at this y
 abbrev pub AreUnder : List Placed → ℤ → Span → Type 0
 AreUnder boxes y s = (x : ℤ) → Holds s x → Any (λ p. Covers p.rect x y) boxes
 
--- of free spans, what the boxes cover at this y
+-- the parts of the free spans that the boxes cover at this y
 pub record IsCoveredAt (boxes : List Placed) (y : ℤ) (free covered : List Span) : Type 0 where
   pub rising : IsRising covered
   pub exact : (s : Span) → IsFilled s → (LiesInOne covered s ↔ (LiesInOne free s × AreUnder boxes y s))
 
--- of free spans, what the boxes cover at each y from the lower one to the upper one
+-- the parts of the free spans that the boxes cover at each y from the lower one to the upper one
 pub record IsCoveredOver (boxes : List Placed) (lower upper : ℤ) (free covered : List Span) : Type 0 where
   pub rising : IsRising covered
   pub exact : (s : Span) → IsFilled s → (LiesInOne covered s ↔ (LiesInOne free s × ((y : ℤ) → lower ≤ℤ y → y <ℤ upper → AreUnder boxes y s)))
 
--- spans as segments of a row and a team
+-- a span as a segment of a row and a team
 abbrev pub segment_of : ℕ → ℕ → Span → Segment
 segment_of row team s = record { row = row; team = team; span = s }
 
--- the segments of a row to the teams below a number
+-- the row's segments of the teams below a number
 pub record IsCutOfRow (f : Frame) (number : ℕ) (r : Row) (limit : ℕ) (segments : List Segment) : Type 0 where
   pub known : All (λ g. (g.row ≡ number) × ((g.team < limit) × IsFilled g.span)) segments
   pub in_order : AllPairs ComesFirst segments
@@ -94,7 +95,7 @@ pub record AreOpen (f : Frame) (r : Row) (team : ℕ) (spans : List Span) : Type
   pub rising : IsRising spans
   pub exact : (s : Span) → IsFilled s → (LiesInOne spans s ↔ ((x : ℤ) → Holds s x → IsOpen f r team x))
 
--- the segments of a row to the teams below a number stand behind the old ones
+-- the row's segments of the teams below a number are appended
 pub record AddsRow (f : Frame) (number : ℕ) (r : Row) (limit : ℕ) (old new : List Segment) : Type 0 where
   pub added : List Segment
   pub is : new ≡ old ++ added

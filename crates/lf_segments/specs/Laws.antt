@@ -1,4 +1,4 @@
--- Laws on segments: what stands on rows is legal for a team exactly where it lies in segments, of which a frame has one list.
+-- Laws on segments: a wide box on rows stays in a team's ground and clear of obstacles iff it lies in the team's segments.
 use Rattle.std.specs.Prelude.{◌≡◌, ◌↔◌, ℕ, ◌<◌, ◌<ℤ◌, List, Some, slice_get}
 use Rattle.lf_units.specs.declared.area.Rect.{Rect}
 use Rattle.lf_floorplan.specs.declared.frame.Frame.{Frame}
@@ -15,12 +15,12 @@ LiesInSegments f segments team box =
     (k : ℕ) (bottom : Row) (j n : ℕ) (r : Row) → IsSitesHigh f box k → IsBottomRow f box bottom → j < k → slice_get f.rows n ≡ Some r →
     Carries f box bottom j r → LiesInSegment segments n team (across box)
 
--- a box that stands on rows and is wide stays in the team's ground and clear of obstacles exactly where it lies in the team's segments
+-- a wide box that stands on rows stays in the team's ground and clear of obstacles iff it lies in the team's segments
 abbrev pub SegmentsDecide : Type 0
 SegmentsDecide =
     (f : Frame) (segments : List Segment) (team : ℕ) (box : Rect) → IsCut f segments → StandsOn f box → box.x1 <ℤ box.x2 →
     ((StaysInGround f team box × IsClear f box) ↔ LiesInSegments f segments team box)
 
--- a frame has one list of segments
+-- a frame has only one list of segments
 abbrev pub CutIsOne : Type 0
 CutIsOne = (f : Frame) (a b : List Segment) → IsCut f a → IsCut f b → a ≡ b

@@ -1,4 +1,4 @@
--- The rows of a frame in order of their y.
+-- The rows of a frame in order of y.
 use Rattle.std.specs.Prelude.{◌≡◌, ◌≢◌, ◌⊎◌, ◌↔◌, ℕ, ◌+◌, ◌<◌, ℤ, ◌≤ℤ◌, ◌<ℤ◌, List, [], ◌∷◌, ◌++◌, All, AllPairs, Any, Some, length, slice_get}
 use Rattle.lf_floorplan.specs.declared.frame.Frame.{Frame}
 use Rattle.lf_floorplan.specs.declared.parts.Row.{Row}
@@ -8,7 +8,7 @@ use Rattle.lf_segments.specs.declared.rows_by_y.RowEntry.{RowEntry}
 abbrev pub entry : ℕ → Row → RowEntry
 entry number r = record { y = r.y; x = r.x; row = number }
 
--- the entries of rows in their own order, where the first has this position
+-- the entries of rows in their own order; the first has this position
 abbrev pub entries_from : ℕ → List Row → List RowEntry
 entries_from number [] = []
 entries_from number (r ∷ rows) = entry number r ∷ entries_from (number + 1) rows
@@ -23,14 +23,14 @@ pub record IsEntryOf (f : Frame) (e : RowEntry) : Type 0 where
 abbrev pub PrecedesByY : RowEntry → RowEntry → Type 0
 PrecedesByY a b = (a.y <ℤ b.y) ⊎ ((a.y ≡ b.y) × (a.x ≤ℤ b.x))
 
--- each row of the frame has one entry, and the entries stand in order of y, those of one y in order of x
+-- each row of the frame has one entry, and the entries are in order of y, those of one y in order of x
 pub record IsRowsByY (f : Frame) (entries : List RowEntry) : Type 0 where
   pub known : All (IsEntryOf f) entries
   pub each : (n : ℕ) → n < length f.rows → Any (λ e. e.row ≡ n) entries
   pub once : AllPairs (λ a b. a.row ≢ b.row) entries
   pub in_order : AllPairs PrecedesByY entries
 
--- the entries whose y are within a range, which stand together: what stands before them lies below it, and what stands behind them above
+-- the entries whose y is within a range, which are consecutive: those before them are below it, those after them above
 pub record IsRunBy (Below Within Above : ℤ → Type 0) (entries run : List RowEntry) : Type 0 where
   pub before : List RowEntry
   pub behind : List RowEntry
@@ -39,21 +39,21 @@ pub record IsRunBy (Below Within Above : ℤ → Type 0) (entries run : List Row
   pub within : All (λ e. Within e.y) run
   pub above : All (λ e. Above e.y) behind
 
--- the entries of exactly this y
+-- the entries of this y
 abbrev pub IsRunAt : List RowEntry → ℤ → List RowEntry → Type 0
 IsRunAt entries y run = IsRunBy (λ v. v <ℤ y) (λ v. v ≡ y) (λ v. y <ℤ v) entries run
 
--- the entries from one y on and below another; none where the second is not above the first
+-- the entries from one y on and below another; none if the second is not above the first
 abbrev pub IsRunBetween : List RowEntry → ℤ → ℤ → List RowEntry → Type 0
 IsRunBetween entries from to run = IsRunBy (λ v. v <ℤ from) (λ v. (from ≤ℤ v) × (v <ℤ to)) (λ v. to ≤ℤ v) entries run
 
--- the run at a y has just the rows of a frame that lie at it
+-- the run at a y has exactly the rows of a frame at that y
 abbrev pub RunAtHasRows : Type 0
 RunAtHasRows =
     (f : Frame) (entries run : List RowEntry) (y : ℤ) (n : ℕ) (r : Row) → IsRowsByY f entries → IsRunAt entries y run → slice_get f.rows n ≡ Some r →
     (Any (λ e. e.row ≡ n) run ↔ (r.y ≡ y))
 
--- the run between two y has just the rows of a frame that lie at the first or above it, and below the second
+-- the run between two y has exactly the rows of a frame from the first on and below the second
 abbrev pub RunBetweenHasRows : Type 0
 RunBetweenHasRows =
     (f : Frame) (entries run : List RowEntry) (from to : ℤ) (n : ℕ) (r : Row) → IsRowsByY f entries → IsRunBetween entries from to run →

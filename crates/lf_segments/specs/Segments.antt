@@ -9,7 +9,7 @@ use Rattle.lf_floorplan.specs.Rows.{row_area}
 use Rattle.lf_floorplan.specs.Ground.{IsTeam, InGround}
 use Rattle.lf_segments.specs.declared.segment.Segment.{Segment}
 
--- the row reaches over x, and none of its points there is in an obstacle
+-- the row extends over x, and none of its points there is in an obstacle
 pub record IsClearAt (f : Frame) (r : Row) (x : ℤ) : Type 0 where
   pub left : r.x ≤ℤ x
   pub right : x <ℤ (row_area f.pitch r).x2
@@ -29,7 +29,7 @@ pub record IsOf (row team : ℕ) (g : Segment) : Type 0 where
 abbrev pub LiesInSegment : List Segment → ℕ → ℕ → Span → Type 0
 LiesInSegment segments row team s = Any (λ g. IsOf row team g × LiesIn s g.span) segments
 
--- in one row, segments stand by their teams, and those of one team by x, without overlap
+-- in one row, segments are in order of teams, and those of one team in order of x, without overlap
 abbrev pub ComesFirst : Segment → Segment → Type 0
 ComesFirst a b = (a.team < b.team) ⊎ ((a.team ≡ b.team) × (a.span.hi ≤ℤ b.span.lo))
 
@@ -37,21 +37,21 @@ ComesFirst a b = (a.team < b.team) ⊎ ((a.team ≡ b.team) × (a.span.hi ≤ℤ
 abbrev pub ComesBefore : Segment → Segment → Type 0
 ComesBefore a b = (a.row < b.row) ⊎ ((a.row ≡ b.row) × ComesFirst a b)
 
--- the segment is of a row and a team that there are, and a number lies in its span
+-- the segment's row and team exist, and its span is filled
 pub record IsSegment (f : Frame) (g : Segment) : Type 0 where
   pub row_known : g.row < length f.rows
   pub team_known : IsTeam f g.team
   pub filled : IsFilled g.span
 
--- the segments of a frame, in one list: a span that holds a number lies in a segment of a row and a team exactly where the team may use the row at each of its
--- numbers. So segments are maximal
+-- the segments of a frame, in one list: a filled span lies in a segment of a row and a team iff the team may use the row at each
+-- of its numbers. So segments are maximal
 pub record IsCut (f : Frame) (segments : List Segment) : Type 0 where
   pub known : All (IsSegment f) segments
   pub in_order : AllPairs ComesBefore segments
   pub exact : (n : ℕ) (r : Row) (team : ℕ) (s : Span) → slice_get f.rows n ≡ Some r → IsFilled s →
       (LiesInSegment segments n team s ↔ ((x : ℤ) → Holds s x → IsOpen f r team x))
 
--- the run of a list that has a property, from the n-th on: nothing before it has the property, and nothing behind it
+-- the run of a list that has a property, from the n-th on: nothing before it has the property, and nothing after it
 pub record IsRunFrom (P : Segment → Type 0) (segments : List Segment) (n : ℕ) (run : List Segment) : Type 0 where
   pub before : List Segment
   pub behind : List Segment
@@ -61,7 +61,7 @@ pub record IsRunFrom (P : Segment → Type 0) (segments : List Segment) (n : ℕ
   pub none_before : All (λ g. P g → ⊥) before
   pub none_behind : All (λ g. P g → ⊥) behind
 
--- the segments of the list that are of this row and team, which stand together
+-- the segments of the list that are of this row and team, which are consecutive
 abbrev pub IsRunOf : List Segment → ℕ → ℕ → List Segment → Type 0
 IsRunOf segments row team run = (n : ℕ) × IsRunFrom (IsOf row team) segments n run
 

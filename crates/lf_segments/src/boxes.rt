@@ -8,7 +8,7 @@ use lf_rtree::Placed;
 use lf_units::Rect;
 use std::alloc::{AllocError, Global};
 
-/// Puts rectangles behind the others, each with this number.
+/// Appends rectangles, each with this number.
 fn push_rects(boxes: &mut Vec<Placed>, own: u32, rects: &[Rect]) -> Result<(), AllocError>
     ensures { OnOk result (boxes.new.items ≡ boxes.old.items ++ map (numbered own) rects.now) }
 {

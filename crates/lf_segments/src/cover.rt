@@ -31,7 +31,7 @@ fn spans_of(alloc: Global, boxes: &[Placed]) -> Result<Vec<Span>, AllocError>
     Ok(spans)
 }
 
-/// The x ranges of boxes, in the order of their beginnings.
+/// The x ranges of boxes, in order of `lo`.
 fn spans_in_order(alloc: Global, boxes: &[Placed]) -> Result<Vec<Span>, AllocError>
     ensures moved { IfOk result (λ spans. IsPermutation (map (λ p. across p.rect) boxes.now) spans.items) }
     ensures order { IfOk result (λ spans. IsInOrder spans.items) }
@@ -53,14 +53,14 @@ pub(crate) fn free_beside(
     spans_free(alloc, &span_of(area), taken.as_slice())
 }
 
-/// Whether the rectangle reaches over this y.
+/// Whether the rectangle covers this y.
 fn reaches(rect: &Rect, y: &i64) -> bool
     ensures { IsTrue result ↔ ((rect.now.y1 ≤ℤ y.now) × (y.now <ℤ rect.now.y2)) }
 {
     rect.y1 <= *y && *y < rect.y2
 }
 
-/// The x ranges of those boxes that reach over this y.
+/// The x ranges of the boxes that cover this y.
 fn spans_at(alloc: Global, boxes: &[Placed], y: &i64) -> Result<Vec<Span>, AllocError>
     ensures { IfOk result (λ spans. AreSpansAt boxes.now y.now spans.items) }
 {
@@ -74,7 +74,7 @@ fn spans_at(alloc: Global, boxes: &[Placed], y: &i64) -> Result<Vec<Span>, Alloc
     Ok(spans)
 }
 
-/// Of the free spans, what the boxes cover at this y.
+/// The parts of the free spans that the boxes cover at this y.
 fn covered_at(
     alloc: Global,
     boxes: &[Placed],
@@ -101,10 +101,9 @@ fn ends_elsewhere(placed: &Placed, area: &Rect, last: &Option<Placed>) -> bool
     placed.rect.y2 < area.y2
 }
 
-/// Of the free spans, what the boxes cover over the whole height of the area. What covers an area
-/// together changes at most where a box begins or ends, and only the ends can take anything away: so
-/// it is looked at from the area's lower edge and from each end within it, and once where boxes that
-/// follow one another end at one y.
+/// The parts of the free spans that the boxes cover over the whole height of the area. The cover changes only where a
+/// box begins or ends, and only an end can reduce it. So it is computed at the area's lower edge and at each end within
+/// it, once for consecutive boxes with the same end.
 pub(crate) fn covered_over(
     alloc: Global,
     area: &Rect,

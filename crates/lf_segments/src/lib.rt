@@ -1,5 +1,4 @@
-//! Segments: the spans of rows that a team may use, each maximal, in one list; and a frame's rows in
-//! order of their y.
+//! Segments: the spans of rows that a team may use, each maximal, in one list; and a frame's rows in order of y.
 #![tactic(auto)]
 
 mod boxes;

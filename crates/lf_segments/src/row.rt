@@ -12,7 +12,7 @@ use lf_rtree::Placed;
 use lf_units::Span;
 use std::alloc::{AllocError, Global};
 
-/// Puts spans behind the segments, as those of a row and a team.
+/// Appends spans as segments of a row and a team.
 fn push_spans(
     segments: &mut Vec<Segment>,
     row: usize,
@@ -31,7 +31,7 @@ fn push_spans(
     Ok(())
 }
 
-/// How many boxes have a lesser number. They stand in the order of their numbers.
+/// How many boxes have a lesser number. They are in order of their numbers.
 fn count_below(boxes: &[Placed], own: u32) -> usize
     requires { AreSorted boxes.now }
     ensures within { result ≤ length boxes.now }
@@ -41,7 +41,7 @@ fn count_below(boxes: &[Placed], own: u32) -> usize
     boxes.partition_point(|placed| placed.own < own)
 }
 
-/// How many boxes have this number or a lesser one. They stand in the order of their numbers.
+/// How many boxes have this number or a lesser one. They are in order of their numbers.
 fn count_up_to(boxes: &[Placed], own: u32) -> usize
     requires { AreSorted boxes.now }
     ensures within { result ≤ length boxes.now }
@@ -51,7 +51,7 @@ fn count_up_to(boxes: &[Placed], own: u32) -> usize
     boxes.partition_point(|placed| placed.own <= own)
 }
 
-/// The boxes of the least number that is not below this one; none where all are below.
+/// The boxes of the least number that is not below this one; none if all are below.
 fn next_group<'a>(boxes: &'a [Placed], least: u32) -> &'a [Placed]
     requires { AreSorted boxes.now }
     ensures { IsNextGroup boxes.now least result.now }
@@ -70,7 +70,7 @@ fn ground_number(frame: &Frame) -> u32
     frame.teams.len() as u32
 }
 
-/// The spans of the row that are clear of obstacles, of which the boxes tell.
+/// The spans of the row that are clear of obstacles, found from the boxes near it.
 fn clear_spans(
     alloc: Global,
     frame: &Frame,
@@ -86,7 +86,7 @@ fn clear_spans(
     free_beside(alloc, &row.area(&frame.pitch), obstacles)
 }
 
-/// The spans of the row that the ground team may use, of which the boxes tell.
+/// The spans of the row that the ground team may use, found from the boxes near it.
 fn ground_spans(
     alloc: Global,
     frame: &Frame,
@@ -100,8 +100,7 @@ fn ground_spans(
     free_beside(alloc, &row.area(&frame.pitch), near)
 }
 
-/// Puts the segments of the row to the fences behind the others. Only fences of which a box lies
-/// near are looked at.
+/// Appends the row's segments of the fences. Only fences with a box near the row are looked at.
 fn push_fences(
     alloc: Global,
     frame: &Frame,
@@ -135,7 +134,7 @@ fn push_fences(
     Ok(())
 }
 
-/// The boxes in the order of their numbers.
+/// Sorts the boxes by number.
 fn sort_boxes(boxes: &mut Vec<Placed>)
     ensures moved { IsPermutation boxes.old.items boxes.new.items }
     ensures sorted { AreSorted boxes.new.items }
@@ -143,8 +142,8 @@ fn sort_boxes(boxes: &mut Vec<Placed>)
     boxes.sort_unstable_by_key(|placed| placed.own);
 }
 
-/// Puts the segments of the row behind the others, those of the fences and then those of the ground
-/// team. The boxes near the row are put in order.
+/// Appends the segments of the row, those of the fences and then those of the ground team. The
+/// boxes near the row are sorted.
 pub(crate) fn push_row(
     alloc: Global,
     frame: &Frame,

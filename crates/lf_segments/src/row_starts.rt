@@ -1,4 +1,4 @@
-//! Where the segments of each row begin in the list of all.
+//! Where the segments of each row begin in the list of all segments.
 
 ghost use Rattle.std.specs.Prelude.{◌≡◌, ◌<◌, ℕ, All, IfOk, List, length};
 ghost use Rattle.std.specs.List.Sorted.{IsNonDecreasingBy};
@@ -8,15 +8,16 @@ use crate::segment::Segment;
 use std::alloc::{AllocError, Global};
 use std::marker::Model;
 
-/// The numbers of the segments of one row, which stand together: from `start` on and below `end`.
+/// The positions of the segments of one row, which are consecutive: from `start` on and below
+/// `end`.
 #[derive(Clone, Copy, Debug, PartialEq, Eq)]
 pub struct RowRange {
     pub start: usize,
     pub end: usize,
 }
 
-/// For each row how many segments are of earlier rows, so that the segments of a row are found
-/// without a look at any. A contract sees the list of these numbers. Only `build` takes memory.
+/// For each row the number of segments of earlier rows, so that a row's segments are found by one
+/// look-up. A contract sees the list of these numbers. Only `build` allocates.
 #[derive(Drop)]
 pub struct RowStarts {
     starts: Vec<usize>,
@@ -30,7 +31,7 @@ impl Model for RowStarts {
     ghost view = { λ s. s.starts.items };
 }
 
-/// How many of the segments are of an earlier row. They stand by rows.
+/// How many of the segments are of an earlier row. They are in order of rows.
 fn count_earlier(segments: &[Segment], row: usize) -> usize
     requires { IsNonDecreasingBy (λ g. g.row) segments.now }
     ensures { IsStartOf (rows_of segments.now) row result }
@@ -38,7 +39,7 @@ fn count_earlier(segments: &[Segment], row: usize) -> usize
     segments.partition_point(|segment| segment.row < row)
 }
 
-/// For so many rows how many segments are of an earlier one.
+/// For each of this many rows how many segments are of an earlier one.
 fn starts_of(alloc: Global, segments: &[Segment], rows: usize) -> Result<Vec<usize>, AllocError>
     requires order { IsNonDecreasingBy (λ g. g.row) segments.now }
     requires known { All (λ g. g.row < rows) segments.now }
@@ -52,8 +53,8 @@ fn starts_of(alloc: Global, segments: &[Segment], rows: usize) -> Result<Vec<usi
 }
 
 impl RowStarts {
-    /// The starts for segments of so many rows, in the order of their rows. `Err` where memory is
-    /// refused.
+    /// The starts for segments of `rows` rows, in the order of their rows. `Err` if an allocation
+    /// fails.
     pub fn build(alloc: Global, segments: &[Segment], rows: usize) -> Result<Self, AllocError>
         requires order { IsNonDecreasingBy (λ g. g.row) segments.now }
         requires known { All (λ g. g.row < rows) segments.now }
@@ -63,8 +64,8 @@ impl RowStarts {
         Ok(RowStarts { starts })
     }
 
-    /// The numbers of the row's segments, of `count` segments in all; an empty range at the end of
-    /// the list where no row so far down has one. One look-up.
+    /// The positions of the row's segments among `count` segments; an empty range at the end of the
+    /// list if the table has no such row. One look-up.
     pub fn of_row(&self, row: usize, count: usize) -> RowRange
         ensures { (rows : List ℕ) → AreRowStarts rows self.now → length rows ≡ count → IsRangeOf rows row result.start result.end }
     {

@@ -1,4 +1,4 @@
-//! The rows of a frame in order of their y, found by bisection.
+//! The rows of a frame in order of y, found by bisection.
 
 ghost use Rattle.std.specs.Prelude.{◌≡◌, ◌<◌, ◌≤◌, ◌≤ℤ◌, ◌<ℤ◌, ℕ, AllPairs, IfOk, IsPermutation, length, slice_index_or};
 ghost use Rattle.lf_segments.specs.declared.rows_by_y.RowEntry.{RowEntry};
@@ -17,8 +17,8 @@ pub struct RowEntry {
     pub row: usize,
 }
 
-/// The rows of a frame in the order of their y, and those of one y in the order of their x. A
-/// contract sees the list of their entries. Only `build` takes memory.
+/// The rows of a frame in order of y, and those of one y in order of x. A contract sees the list of
+/// their entries. Only `build` allocates.
 #[derive(Drop)]
 pub struct RowsByY {
     entries: Vec<RowEntry>,
@@ -58,7 +58,7 @@ fn entries_of(alloc: Global, rows: &[Row]) -> Result<Vec<RowEntry>, AllocError>
     Ok(entries)
 }
 
-/// The entries in the order of their y, and those of one y in the order of their x.
+/// Sorts the entries by y, and those of one y by x.
 fn sort_by_y(entries: &mut Vec<RowEntry>)
     ensures moved { IsPermutation entries.old.items entries.new.items }
     ensures sorted { AllPairs PrecedesByY entries.new.items }
@@ -66,7 +66,7 @@ fn sort_by_y(entries: &mut Vec<RowEntry>)
     entries.sort_unstable_by_key(|entry| (entry.y, entry.x));
 }
 
-/// The entries of the frame's rows, in the order of their y.
+/// The entries of the frame's rows, in order of y.
 fn rows_in_order(alloc: Global, frame: &Frame) -> Result<Vec<RowEntry>, AllocError>
     ensures { IfOk result (λ entries. IsRowsByY frame.now entries.items) }
 {
@@ -114,7 +114,7 @@ fn run_between<'a>(entries: &'a [RowEntry], from: &i64, to: &i64) -> &'a [RowEnt
 }
 
 impl RowsByY {
-    /// The rows of the frame. `Err` where memory is refused.
+    /// The table of the frame's rows. `Err` if an allocation fails.
     pub fn build(alloc: Global, frame: &Frame) -> Result<Self, AllocError>
         ensures { IfOk result (λ rows. IsRowsByY frame.now rows) }
     {
@@ -122,15 +122,15 @@ impl RowsByY {
         Ok(RowsByY { entries })
     }
 
-    /// The rows of exactly this y, in the order of their x. They are found by bisection.
+    /// The rows at this y, in order of x. They are found by bisection.
     pub fn at(&self, y: i64) -> &[RowEntry]
         ensures { IsRunAt self.now y result.now }
     {
         run_at(&self.entries, &y)
     }
 
-    /// The rows from one y on and below another, in the order of their y and then of their x. They
-    /// are found by bisection.
+    /// The rows from one y on and below another, in order of y and then of x. They are found by
+    /// bisection.
     pub fn between(&self, from: i64, to: i64) -> &[RowEntry]
         ensures { IsRunBetween self.now from to result.now }
     {

@@ -11,14 +11,14 @@ ghost use Rattle.lf_segments.specs.Segments.{ComesBefore, IsAt, IsOf, IsRunFrom}
 use crate::row_starts::RowStarts;
 use crate::segment::Segment;
 
-/// Segments that stand together in a list, and the position of the first of them.
+/// Consecutive segments of a list, and the position of the first of them.
 #[derive(Clone, Copy)]
 pub(crate) struct Run<'a> {
     pub(crate) start: usize,
     pub(crate) segments: &'a [Segment],
 }
 
-/// The segments of a row, of which the starts are known.
+/// The segments of a row, by the starts of rows.
 fn run_of_row<'a>(segments: &'a [Segment], starts: &RowStarts, row: usize) -> Run<'a>
     requires { AreRowStarts (rows_of segments.now) starts.now }
     ensures { IsRunFrom (λ g. g.row ≡ row) segments.now result.start result.segments.now }
@@ -30,7 +30,7 @@ fn run_of_row<'a>(segments: &'a [Segment], starts: &RowStarts, row: usize) -> Ru
     }
 }
 
-/// The segments of a team, among those of a row, which stand by teams.
+/// The segments of a team, among those of a row, which are in order of teams.
 fn run_of_team(segments: &[Segment], team: usize) -> Run<'_>
     requires { IsNonDecreasingBy (λ g. g.team) segments.now }
     ensures { IsRunFrom (λ g. g.team ≡ team) segments.now result.start result.segments.now }
@@ -63,7 +63,7 @@ pub(crate) fn run_of<'a>(
     }
 }
 
-/// How many of the segments of a row and a team end at x or before it. They stand by x.
+/// How many of the segments of a row and a team end at x or before it. They are in order of x.
 fn count_ended(segments: &[Segment], x: &i64) -> usize
     requires { AllPairs (λ g h. g.span.hi ≤ℤ h.span.hi) segments.now }
     ensures within { result ≤ length segments.now }
@@ -73,14 +73,14 @@ fn count_ended(segments: &[Segment], x: &i64) -> usize
     segments.partition_point(|segment| segment.span.hi <= *x)
 }
 
-/// Whether the segment begins behind x.
+/// Whether the segment begins after x.
 fn begins_behind(segment: &Segment, x: &i64) -> bool
     ensures { IsTrue result ↔ (x.now <ℤ segment.now.span.lo) }
 {
     *x < segment.span.lo
 }
 
-/// The position of the segment of a row and a team that holds x; none where there is none.
+/// The position of the segment of a row and a team that holds x; none if there is none.
 pub(crate) fn place_in(
     segments: &[Segment],
     starts: &RowStarts,

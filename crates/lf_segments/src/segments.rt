@@ -14,8 +14,8 @@ use lf_rtree::RTree;
 use std::alloc::{AllocError, Global};
 use std::marker::Model;
 
-/// The segments of a frame, in the order of rows, then of teams, then from left to right. A contract
-/// sees their one list. Only `cut` takes memory.
+/// The segments of a frame, in order of rows, then of teams, then from left to right. A contract sees their one list.
+/// Only `cut` allocates.
 #[derive(Drop)]
 pub struct Segments {
     list: Vec<Segment>,
@@ -36,7 +36,7 @@ impl Model for Segments {
     ghost invariant = { λ s. AllPairs ComesBefore s.list.items × (All (λ g. IsFilled g.span) s.list.items × AreRowStarts (rows_of s.list.items) s.starts) };
 }
 
-/// The segments of all rows. For each row only what lies near it is looked at.
+/// The segments of all rows. For each row only the boxes near it are looked at.
 fn cut_rows(alloc: Global, frame: &Frame) -> Result<Vec<Segment>, AllocError>
     ensures { IfOk result (λ segments. IsCut frame.now segments.items) }
 {
@@ -52,8 +52,8 @@ fn cut_rows(alloc: Global, frame: &Frame) -> Result<Vec<Segment>, AllocError>
 }
 
 impl Segments {
-    /// The segments of the frame: of each row and team the maximal spans of the row that the team
-    /// may use. `Err` where memory is refused.
+    /// The segments of the frame: of each row and team the maximal spans of the row that the team may use. `Err` if an
+    /// allocation fails.
     pub fn cut(alloc: Global, frame: &Frame) -> Result<Self, AllocError>
         ensures { IfOk result (λ segments. IsCut frame.now segments) }
     {
@@ -62,7 +62,7 @@ impl Segments {
         Ok(Segments { list, starts })
     }
 
-    /// The segments, lent.
+    /// The segments, borrowed.
     pub fn as_slice(&self) -> &[Segment]
         ensures { result.now ≡ self.now }
     {
@@ -76,16 +76,16 @@ impl Segments {
         self.list.len()
     }
 
-    /// The segments of the row and the team, from left to right; none where there is no such row or
-    /// team. They are found by a look-up and bisection.
+    /// The segments of the row and the team, from left to right; none if there is no such row or team. They are found
+    /// by a look-up and bisection.
     pub fn of_row(&self, row: usize, team: usize) -> &[Segment]
         ensures { IsRunOf self.now row team result.now }
     {
         run_of(&self.list, &self.starts, row, team).segments
     }
 
-    /// The number in the one list of the segment of the row and the team that holds x; none where
-    /// there is none. It is found by a look-up and bisection.
+    /// The position in the list of the segment of the row and the team that holds x; none if there is none. It is found
+    /// by a look-up and bisection.
     pub fn segment_at(&self, row: usize, team: usize, x: i64) -> Option<usize>
         ensures { MatchOption result (All (λ g. IsAt row team x g → ⊥) self.now) (HoldsAt (IsAt row team x) self.now) }
     {

@@ -6,10 +6,10 @@ ghost use Rattle.lf_sessions.specs.Slots.{seen_at};
 use std::alloc::{AllocError, Global};
 use std::marker::Model;
 
-/// The session slots of one team, so many that 32 bits number them.
+/// The session slots of one team, at most as many as 32 bits number.
 #[derive(Drop)]
 pub(crate) struct Slots {
-    /// For each slot the revision that its session has seen; none where the slot is free.
+    /// For each slot the revision that its session has seen; none if the slot is free.
     slots: Vec<Option<u32>>,
 }
 
@@ -23,7 +23,7 @@ impl Model for Slots {
     ghost invariant = { λ s. length s.slots.items ≤ 4294967295 };
 }
 
-/// The least free slot; none where all are taken.
+/// The least free slot; none if all are taken.
 fn least_free(slots: &[Option<u32>]) -> Option<usize>
     ensures free { result ≡ position is_none slots.now }
     ensures within { IfSome result (λ session. session < length slots.now) }
@@ -32,7 +32,7 @@ fn least_free(slots: &[Option<u32>]) -> Option<usize>
 }
 
 impl Slots {
-    /// So many free slots.
+    /// `count` free slots.
     pub(crate) fn free(alloc: Global, count: u32) -> Result<Self, AllocError>
         ensures { IfOk result (λ slots. slots ≡ replicate count None) }
     {
@@ -41,8 +41,7 @@ impl Slots {
         })
     }
 
-    /// Takes the least free slot for a session that has seen this revision; none where all are
-    /// taken.
+    /// Takes the least free slot for a session that has seen this revision; none if all are taken.
     pub(crate) fn take(&mut self, revision: u32) -> Option<u32>
         ensures session { result ≡ position is_none self.old }
         ensures slots { MatchOption result (self.new ≡ self.old) (λ session. self.new ≡ slice_set self.old session (Some revision)) }
@@ -52,7 +51,7 @@ impl Slots {
         Some(session as u32)
     }
 
-    /// The revision that a session has seen; none where it is not open.
+    /// The revision that a session has seen; none if it is not open.
     pub(crate) fn seen(&self, session: u32) -> Option<u32>
         ensures { result ≡ seen_at self.now session }
     {
@@ -62,7 +61,7 @@ impl Slots {
         }
     }
 
-    /// Writes the slot of a session that is open; false where it is not.
+    /// Sets the slot of an open session; false if it is not open.
     pub(crate) fn write_open(&mut self, session: u32, seen: Option<u32>) -> bool
         ensures open { result ≡ is_some (seen_at self.old session) }
         ensures slots { self.new ≡ (if result then slice_set self.old session seen else self.old) }

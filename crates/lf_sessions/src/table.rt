@@ -7,11 +7,11 @@ use crate::slots::Slots;
 use std::alloc::{AllocError, Global};
 use std::marker::Model;
 
-/// The session slots of all teams. A session is known by its team and by the number of its slot,
+/// The session slots of all teams. A session is identified by its team and the number of its slot,
 /// the first at 0.
 ///
 /// Contracts see for each team the list of its slots: for each slot the revision that its session
-/// has seen, none where the slot is free. Only `build` takes memory.
+/// has seen, none if the slot is free. Only `build` allocates.
 #[derive(Drop)]
 pub struct SessionTable {
     teams: Vec<Slots>,
@@ -26,9 +26,9 @@ impl Model for SessionTable {
 }
 
 impl SessionTable {
-    /// The table of so many teams, each with so many slots, all free.
+    /// The table of this many teams, each with this many slots, all free.
     ///
-    /// `Err` where memory is refused.
+    /// `Err` if an allocation fails.
     pub fn build(alloc: Global, teams: usize, slots: u32) -> Result<SessionTable, AllocError>
         ensures { IfOk result (λ table. table ≡ replicate teams (replicate slots None)) }
     {
@@ -40,7 +40,7 @@ impl SessionTable {
     }
 
     /// Opens a session of the team, which has seen this revision: takes the team's least free slot
-    /// and tells its number. None where all are taken, or there is no such team; then nothing
+    /// and returns its number. None if all are taken or there is no such team; then nothing
     /// changes.
     pub fn take_slot(&mut self, team: usize, revision: u32) -> Option<u32>
         ensures session { result ≡ position is_none (slots_of self.old team) }
@@ -50,8 +50,8 @@ impl SessionTable {
         self.teams.get_mut(team)?.take(revision)
     }
 
-    /// Closes a session of the team: its slot is free. False where it is not open, or there is no
-    /// such team; then nothing changes.
+    /// Closes a session of the team and frees its slot. False if it is not open or there is no such
+    /// team; then nothing changes.
     pub fn free_slot(&mut self, team: usize, session: u32) -> bool
         ensures open { result ≡ is_some (seen_at (slots_of self.old team) session) }
         ensures table { self.new ≡ (if result then with_slot self.old team session None else self.old) }
@@ -60,7 +60,7 @@ impl SessionTable {
         write_open(&mut self.teams, team, session, None)
     }
 
-    /// The revision that a session of the team has seen; none where it is not open, or there is no
+    /// The revision that a session of the team has seen; none if it is not open, or there is no
     /// such team.
     pub fn seen(&self, team: usize, session: u32) -> Option<u32>
         ensures { result ≡ seen_at (slots_of self.now team) session }
@@ -68,8 +68,8 @@ impl SessionTable {
         self.teams.get(team)?.seen(session)
     }
 
-    /// An open session of the team has now seen this revision. False where it is not open, or there
-    /// is no such team; then nothing changes.
+    /// Sets the revision that an open session of the team has seen. False if it is not open or
+    /// there is no such team; then nothing changes.
     pub fn set_seen(&mut self, team: usize, session: u32, revision: u32) -> bool
         ensures open { result ≡ is_some (seen_at (slots_of self.old team) session) }
         ensures table { self.new ≡ (if result then with_slot self.old team session (Some revision) else self.old) }
@@ -79,7 +79,7 @@ impl SessionTable {
     }
 }
 
-/// Writes the slot of a session of the team that is open; false where it is not.
+/// Sets the slot of an open session of the team; false if it is not open.
 fn write_open(teams: &mut Vec<Slots>, team: usize, session: u32, seen: Option<u32>) -> bool
     ensures open { result ≡ is_some (seen_at (slots_of teams.old.items team) session) }
     ensures table { teams.new.items ≡ (if result then with_slot teams.old.items team session seen else teams.old.items) }

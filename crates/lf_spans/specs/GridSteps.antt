@@ -1,15 +1,15 @@
--- What the steps to the nearest number of a grid give.
+-- What the steps of the search for the nearest grid number return.
 use Rattle.std.specs.Prelude.{◌≡◌, ◌⊎◌, ℤ, pos, negsuc, ◌+ℤ◌, ◌-ℤ◌, ◌≤ℤ◌, ◌<ℤ◌}
 use Rattle.lf_spans.specs.declared.span.Span.{Span}
 use Rattle.lf_spans.specs.declared.grid.Grid.{Grid}
 use Rattle.lf_spans.specs.Grids.{IsOnGrid}
 
--- at most 2 to the 42nd power either way
+-- at most 2^42 either way
 pub record IsSmall (v : ℤ) : Type 0 where
   pub low : negsuc 4398046511103 ≤ℤ v
   pub high : v ≤ℤ pos 4398046511104
 
--- the nearer of two numbers around a target, and the left one where they are as near
+-- the nearer of two numbers around a target; the left one if they are equally near
 abbrev pub IsNearer : ℤ → ℤ → ℤ → ℤ → Type 0
 IsNearer left right target x =
     ((x ≡ left) × ((target -ℤ left) ≤ℤ (right -ℤ target))) ⊎ ((x ≡ right) × ((right -ℤ target) <ℤ (target -ℤ left)))

@@ -3,12 +3,12 @@ use Rattle.std.specs.Prelude.{◌≡◌, ◌⊎◌, ℕ, ℤ, pos, negsuc, ◌<�
 use Rattle.lf_spans.specs.declared.span.Span.{Span}
 use Rattle.lf_spans.specs.declared.grid.Grid.{Grid}
 
--- at most 2 to the 40th power either way
+-- at most 2^40 either way
 pub record IsBounded (v : ℤ) : Type 0 where
   pub low : negsuc 1099511627775 ≤ℤ v
   pub high : v ≤ℤ pos 1099511627776
 
--- both ends are at most 2 to the 40th power either way
+-- both ends are at most 2^40 either way
 pub record IsBoundedSpan (s : Span) : Type 0 where
   pub low : IsBounded s.lo
   pub high : IsBounded s.hi
@@ -19,11 +19,11 @@ pub record IsGrid (g : Grid) : Type 0 where
   pub rising : pos 0 <ℤ g.step
   pub step : g.step ≤ℤ pos 1099511627776
 
--- the grid of the numbers that lie whole steps from this origin
+-- the grid of this origin and step
 abbrev pub grid_of : ℤ → ℤ → Grid
 grid_of origin step = record { origin = origin; step = step }
 
--- x lies whole steps from the grid's origin: so many steps right of x is so many steps right of the origin
+-- x is a whole number of steps from the grid's origin: that many steps right of x is that many steps right of the origin
 pub record IsOnGrid (g : Grid) (x : ℤ) : Type 0 where
   pub left : ℕ
   pub right : ℕ
@@ -43,15 +43,15 @@ pub record FitsSpan (span : Span) (g : Grid) (width x : ℤ) : Type 0 where
 abbrev pub distance : ℤ → ℤ → ℕ
 distance target x = unsigned_abs (x -ℤ target)
 
--- x is nearer to the target than y, or it is as near and not right of it
+-- x is nearer to the target than y, or equally near and not right of it
 abbrev pub IsNoFarther : ℤ → ℤ → ℤ → Type 0
 IsNoFarther target x y = (distance target x < distance target y) ⊎ ((distance target x ≡ distance target y) × (x ≤ℤ y))
 
--- of the numbers that are fit, x is the nearest to the target, and the lesser of two
+-- of the numbers that fit, x is the nearest to the target, the lesser of two equally near ones
 pub record IsNearest (Fit : ℤ → Type 0) (target x : ℤ) : Type 0 where
   pub fit : Fit x
   pub least : (y : ℤ) → Fit y → IsNoFarther target x y
 
--- the nearest fit number, and none only where none is fit
+-- the nearest number that fits, and none only if none fits
 abbrev pub FindsNearest : (ℤ → Type 0) → ℤ → Option ℤ → Type 0
 FindsNearest Fit target found = MatchOption found ((x : ℤ) → Fit x → ⊥) (λ x. IsNearest Fit target x)

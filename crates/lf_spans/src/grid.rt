@@ -6,14 +6,14 @@ ghost use Rattle.lf_spans.specs.GridSteps.{AreEnds, IsNearer, IsSmall};
 
 use crate::span::Span;
 
-/// The numbers that lie whole steps from an origin, in database units, as the sites of a row.
+/// The numbers a whole number of steps from the origin, in database units, as the sites of a row.
 #[derive(Clone, Copy, Debug, PartialEq, Eq)]
 pub struct Grid {
     pub origin: i64,
     pub step: i64,
 }
 
-/// How far the number is from one of the grid, less than one step either way.
+/// The remainder of the number on the grid, less than one step either way.
 fn beyond(grid: &Grid, at: i64) -> i64
     requires grid { IsGrid grid.now }
     requires small { IsSmall at }
@@ -24,7 +24,7 @@ fn beyond(grid: &Grid, at: i64) -> i64
     (at - grid.origin) % grid.step
 }
 
-/// The greatest number of the grid that is not above this one.
+/// The greatest grid number not above this one.
 fn last_to(grid: &Grid, at: i64) -> i64
     requires grid { IsGrid grid.now }
     requires small { IsSmall at }
@@ -39,7 +39,7 @@ fn last_to(grid: &Grid, at: i64) -> i64
     at - over
 }
 
-/// The least number of the grid that is not below this one.
+/// The least grid number not below this one.
 fn first_from(grid: &Grid, at: i64) -> i64
     requires grid { IsGrid grid.now }
     requires small { IsSmall at }
@@ -54,7 +54,7 @@ fn first_from(grid: &Grid, at: i64) -> i64
     below
 }
 
-/// The least and the greatest number of the grid at which the width may lie in the span.
+/// The least and the greatest grid number at which the width may lie in the span.
 struct Ends {
     first: i64,
     last: i64,
@@ -71,7 +71,7 @@ fn ends_of(span: &Span, grid: &Grid, width: i64) -> Ends
     Ends { first, last }
 }
 
-/// The nearer of two neighbours on the grid between which the target lies.
+/// The nearer of two neighboring grid numbers around the target; the left one if equally near.
 fn nearer(grid: &Grid, left: i64, target: i64) -> i64
     requires grid { IsGrid grid.now }
     requires target { IsBounded target }
@@ -88,8 +88,8 @@ fn nearer(grid: &Grid, left: i64, target: i64) -> i64
     left
 }
 
-/// The number of the grid nearest to the target from which on the width lies in the span, the
-/// lesser of two; none where there is no such number. All lengths are in database units.
+/// The grid number nearest to the target at which the width fits into the span; the lesser of two
+/// equally near ones; none if there is none. All lengths are in database units.
 pub fn nearest_fit(span: &Span, grid: &Grid, width: i64, target: i64) -> Option<i64>
     requires grid { IsGrid grid.now }
     requires span { IsBoundedSpan span.now }
@@ -117,8 +117,7 @@ fn grid_from(origin: i64, step: i64) -> Grid
     Grid { origin, step }
 }
 
-/// The same, of the grid of the numbers that lie whole steps from the origin: the nearest to the
-/// target from which on the width lies in the span, the lesser of two; none where there is none.
+/// `nearest_fit` on the grid of this origin and step.
 pub fn nearest_on_grid(span: &Span, origin: i64, step: i64, width: i64, target: i64) -> Option<i64>
     requires grid { IsGrid (grid_of origin step) }
     requires span { IsBoundedSpan span.now }

@@ -1,23 +1,23 @@
-//! A stretch along one axis.
+//! A range along one axis.
 
 ghost use Rattle.std.specs.Prelude.{◌≡◌};
 ghost use Rattle.lf_spans.specs.declared.span.Span.{Span};
 
-/// The whole numbers from lo on and below hi, in database units: a stretch along one axis.
+/// The whole numbers from `lo` on and below `hi`, in database units.
 ///
-/// A span that ends where it begins, or before, is allowed, and holds no number.
+/// A span that does not begin below its end is allowed, and holds no number.
 #[derive(Clone, Copy, Debug, PartialEq, Eq)]
 pub struct Span {
     pub lo: i64,
     pub hi: i64,
 }
 
-/// What takes a span, as a cell that stands in a row does, or a span itself.
+/// Anything that occupies a span: a cell in a row, or a span itself.
 pub trait HasSpan {
-    // The span that it takes.
+    // The span that it occupies.
     ghost span: { Self → Span };
 
-    /// The span that it takes.
+    /// The span that it occupies.
     fn span(&self) -> Span
         ensures { result ≡ span self.now };
 }

@@ -1,4 +1,4 @@
--- Two rectangles share a point exactly where their edges say so.
+-- Two rectangles share a point iff their edges say so.
 use Rattle.std.proofs.Common.{ℤ, ◌≤ℤ◌, ◌<ℤ◌, arith}
 use Rattle.std.proofs.lemmas.Int.{ints, by_lt_z}
 use Rattle.lf_units.specs.declared.area.Rect.{Rect}

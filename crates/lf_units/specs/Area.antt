@@ -1,15 +1,15 @@
--- Rectangles as sets of whole points: what they cover is said by points, and never by comparing edges.
+-- Rectangles as sets of whole points: what they cover is defined by points, never by comparing edges.
 use Rattle.std.specs.Prelude.{ℤ, ◌≤ℤ◌, ◌<ℤ◌, List, Any}
 use Rattle.lf_units.specs.declared.area.Rect.{Rect}
 
--- the point (x, y) lies in the rectangle: its lower and left edges count, its upper and right ones do not
+-- the point (x, y) lies in the rectangle: lower and left edges count, upper and right ones do not
 pub record Covers (r : Rect) (x y : ℤ) : Type 0 where
   pub left : r.x1 ≤ℤ x
   pub right : x <ℤ r.x2
   pub bottom : r.y1 ≤ℤ y
   pub top : y <ℤ r.y2
 
--- two rectangles overlap: some point lies in both, so that touching edges or corners are no overlap
+-- two rectangles overlap: some point lies in both, so touching edges or corners are no overlap
 pub record SharesPoint (a b : Rect) : Type 0 where
   pub x : ℤ
   pub y : ℤ

@@ -2,10 +2,10 @@
 use Rattle.std.specs.Prelude.{◌≡◌, ℕ, ℤ, pos, ◌*ℤ◌}
 use Rattle.std.specs.Int.RustNames.{int_div}
 
--- so many database units are as long as so many millionths of a micron
+-- this many database units are as long as this many millionths of a micron
 abbrev pub IsLength : ℕ → ℤ → ℤ → Type 0
 IsLength units micros dbu = dbu *ℤ pos 1000000 ≡ micros *ℤ pos units
 
--- the length in database units, where it is a whole number of them; else what is no whole unit is left off
+-- the length in database units; if it is not whole in them, the fraction is dropped
 abbrev pub in_dbu : ℕ → ℤ → ℤ
 in_dbu units micros = int_div (micros *ℤ pos units) (pos 1000000)

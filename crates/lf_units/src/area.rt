@@ -12,7 +12,7 @@ pub struct Point {
 
 /// The whole points (x, y) with x1 <= x < x2 and y1 <= y < y2, in database units.
 ///
-/// A rectangle whose edges leave no point between them is allowed, and covers nothing.
+/// A rectangle without points is allowed, and covers nothing.
 #[derive(Clone, Copy, Debug, PartialEq, Eq)]
 pub struct Rect {
     pub x1: i64,
@@ -22,8 +22,8 @@ pub struct Rect {
 }
 
 impl Rect {
-    /// Whether the point lies in the rectangle: its left and lower edges do, its right and upper
-    /// ones do not.
+    /// Whether the point lies in the rectangle: left and lower edges count, right and upper ones do
+    /// not.
     #[tactic(auto, using(crate::proofs::Edges::edges))]
     pub fn covers(&self, point: &Point) -> bool
         ensures { IsTrue result ↔ Covers self.now point.now.x point.now.y }
@@ -34,7 +34,7 @@ impl Rect {
         self.y1 <= point.y && point.y < self.y2
     }
 
-    /// Whether a point lies in both: rectangles that only touch do not overlap, and one without
+    /// Whether some point lies in both: rectangles that only touch do not overlap, and one without
     /// points overlaps none.
     #[tactic(auto, using(crate::proofs::Edges::edges))]
     pub fn overlaps(&self, other: &Rect) -> bool

@@ -1,5 +1,5 @@
-//! Whole database units: numbers of the layout formats, points, rectangles and spans, and the lists
-//! that public types hold.
+//! Numbers of LEF and DEF texts in whole units, points, rectangles and spans, and the lists that
+//! public types hold.
 #![tactic(auto)]
 
 mod area;

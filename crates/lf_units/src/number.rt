@@ -1,4 +1,4 @@
-//! Numbers of LEF and DEF texts: decimal, with no exponent.
+//! Numbers of LEF and DEF texts: decimal, without exponent.
 
 ghost use Rattle.std.specs.Prelude.{◌≡◌, ◌+◌, ◌*◌, ◌^◌, ◌≤◌, ◌<◌, ◌++◌, length, take, drop, position, true, MatchOption, ℤ, pos, ◌≤ℤ◌, negsuc};
 ghost use Rattle.std.specs.Char.{is_ascii_digit};
@@ -7,14 +7,14 @@ ghost use Rattle.std.specs.Str.Parse.{starts_with_minus, without_leading_sign, d
 ghost use Rattle.lf_units.specs.Length.{IsLength};
 ghost use Rattle.lf_units.specs.Number.{fixed_of, digits_fixed, up_to, is_point, is_not_zero, with_sign};
 
-/// Why a text is not the number asked for: the first of these that holds.
+/// Why a text is not the number asked for: the first of these that applies.
 #[derive(Clone, Copy, Debug, PartialEq, Eq)]
 pub enum NumberFault {
     /// Not an optional sign and then digits with at most one point, at least one digit among them.
     NotANumber,
-    /// A digit other than 0 stands behind the decimals that are kept.
+    /// A digit other than 0 follows the decimals that are kept.
     TooFine,
-    /// The number without its sign is greater than the largest one asked for.
+    /// The number without its sign exceeds the largest one asked for.
     TooLarge,
 }
 
@@ -51,7 +51,7 @@ fn are_digits(text: &[u8]) -> bool
     text.iter().all(|b| b.is_ascii_digit())
 }
 
-/// Whether a digit is not 0.
+/// Whether one of the digits is not 0.
 fn has_more(digits: &[u8]) -> bool
     ensures { result ≡ list_any is_not_zero digits.now }
 {
@@ -66,7 +66,7 @@ fn signed(negative: bool, magnitude: u64) -> i64
     if negative { -magnitude } else { magnitude }
 }
 
-/// The number that the digits write when they follow those of `value`, up to `max`.
+/// The value of `value`'s digits followed by these; none if it exceeds `max`.
 fn digits_after(value: u64, digits: &[u8], max: u64) -> Option<u64>
     requires digits { list_all is_ascii_digit digits.now ≡ true }
     requires max { max ≤ 10 ^ 12 }
@@ -83,7 +83,7 @@ fn digits_after(value: u64, digits: &[u8], max: u64) -> Option<u64>
     Some(total)
 }
 
-/// `value` followed by so many zeros, up to `max`.
+/// `value` followed by that many zeros; none if it exceeds `max`.
 fn shifted(value: u64, zeros: usize, max: u64) -> Option<u64>
     requires zeros { zeros ≤ 6 }
     requires value { value ≤ 10 ^ 12 }
@@ -93,7 +93,7 @@ fn shifted(value: u64, zeros: usize, max: u64) -> Option<u64>
     (total <= max).then_some(total)
 }
 
-/// The number that both texts write one after the other, and then so many zeros, up to `max`.
+/// The value of both texts' digits one after the other, then that many zeros; none above `max`.
 fn joined_digits(whole: &[u8], kept: &[u8], zeros: usize, max: u64) -> Option<u64>
     requires whole { list_all is_ascii_digit whole.now ≡ true }
     requires kept { list_all is_ascii_digit kept.now ≡ true }
@@ -106,7 +106,7 @@ fn joined_digits(whole: &[u8], kept: &[u8], zeros: usize, max: u64) -> Option<u6
     shifted(value, zeros, max)
 }
 
-/// The decimals that are kept, and the finer ones.
+/// The decimals that are kept, and the remaining ones.
 fn split_decimals(fraction: &[u8], decimals: usize) -> (&[u8], &[u8])
     ensures kept { result.0.now ≡ take decimals fraction.now }
     ensures finer { result.1.now ≡ drop decimals fraction.now }
@@ -114,7 +114,7 @@ fn split_decimals(fraction: &[u8], decimals: usize) -> (&[u8], &[u8])
     fraction.split_at(decimals.min(fraction.len()))
 }
 
-/// The value of digits before and after the point.
+/// The value of the digits before and after the point, or its fault.
 fn value_of(
     negative: bool,
     whole: &[u8],
@@ -138,8 +138,8 @@ fn value_of(
     }
 }
 
-/// The number that a text writes, in units of 1 / 10 ^ `decimals`: lengths of LEF keep six
-/// decimals, so they come in millionths of a micron, and coordinates of DEF none.
+/// The number that a text writes, in units of 1 / 10 ^ `decimals`: 6 for lengths of LEF, which
+/// become millionths of a micron, and 0 for coordinates of DEF.
 ///
 /// The text is an optional sign and decimal digits with at most one point, as `-.5` or `100.00`.
 /// `max` bounds the number without its sign, in the same units.
@@ -157,10 +157,9 @@ pub fn read_fixed(text: &[u8], decimals: usize, max: u64) -> Result<i64, NumberF
     }
 }
 
-/// A length in millionths of a micron in database units, where it is a whole number of them.
+/// A length in millionths of a micron as one in database units; none if it is not whole in them.
 ///
-/// `units` is how many database units one micron has (LEF/DEF 5.8, DEF UNITS). A length that falls
-/// between two database units has no such number, and none is rounded.
+/// `units` is the number of database units per micron (LEF/DEF 5.8, DEF UNITS). Nothing is rounded.
 pub fn micros_to_dbu(length: i64, units: u32) -> Option<i64>
     requires low { negsuc 999999999999 ≤ℤ length }
     requires high { length ≤ℤ pos (10 ^ 12) }

@@ -5,8 +5,8 @@ ghost use Rattle.std.specs.Prelude.{◌≡◌, [], ◌∷◌, ◌++◌, length, 
 use std::alloc::{AllocError, Global};
 use std::marker::Model;
 
-/// A list of values that a public type holds: a contract sees the list itself, and no capacity, so
-/// two of them are equal where their elements are.
+/// A list of values that a public type holds. A contract sees the list itself and no capacity: two
+/// are equal if their elements are.
 #[derive(Drop)]
 pub struct Sequence<T> {
     values: Vec<T>,
@@ -37,7 +37,7 @@ impl<T> Sequence<T> {
         Sequence { values }
     }
 
-    /// The elements, given back.
+    /// The elements as a vector.
     pub fn into_vec(self) -> Vec<T>
         ensures { result.items ≡ self }
     {
@@ -45,7 +45,7 @@ impl<T> Sequence<T> {
         values
     }
 
-    /// The elements, lent.
+    /// The elements, borrowed.
     pub fn as_slice(&self) -> &[T]
         ensures { result.now ≡ self.now }
     {
@@ -68,7 +68,7 @@ impl<T> Sequence<T> {
 }
 
 impl<T: Drop> Sequence<T> {
-    /// Puts a value behind the others; where memory runs out, the value is dropped.
+    /// Appends a value. If an allocation fails, the value is dropped and the list is unchanged.
     pub fn push(&mut self, value: T) -> Result<(), AllocError>
         ensures ok { OnOk result (self.new ≡ self.old ++ value ∷ []) }
         ensures err { OnErr result (self.new ≡ self.old) }
@@ -78,7 +78,7 @@ impl<T: Drop> Sequence<T> {
     }
 }
 
-/// The bytes of a name, or of another word of a text. Upper and lower case differ, as in the texts.
+/// The bytes of a name or of another word of a text. Upper and lower case differ.
 #[derive(Drop)]
 pub struct Name {
     bytes: Vec<u8>,
@@ -102,14 +102,14 @@ impl Name {
         })
     }
 
-    /// The name of a vector's bytes, without a copy.
+    /// The name of these bytes, without a copy.
     pub fn from_vec(bytes: Vec<u8>) -> Self
         ensures { result ≡ bytes.items }
     {
         Name { bytes }
     }
 
-    /// The bytes, lent.
+    /// The bytes, borrowed.
     pub fn as_bytes(&self) -> &[u8]
         ensures { result.now ≡ self.now }
     {
