@@ -18,10 +18,11 @@
 //! `lef` and `def` exchange a line of the design's texts for another, or for several with `~` between them; each counts
 //! lines as those before it left them. `cut` keeps the first lines of a text alone; `limits` are those of rows, fences,
 //! components, sessions, undo entries and revisions; `check` asks for the report of the design; `read` asks what the texts
-//! say and nothing else (`reading`). All other lines are requests, but empty ones, which part rows. What is written of a
-//! row is the refusal of its design; or what its texts say; or `loaded`, the report if it is asked for, and the replies.
-//! Each row is answered twice, its places looked for by index and by a look at every site, and replies that differ are
-//! written too; `= index` leaves the second out.
+//! say and nothing else (`reading`); `export` asks for the exported text, which stands behind the replies with a `|` in
+//! front of each line. All other lines are requests, but empty ones, which part rows. What is written of a row is the
+//! refusal of its design; or what its texts say; or `loaded`, the report if it is asked for, the replies, and the exported
+//! text if it is asked for. Each row is answered twice, its places looked for by index and by a look at every site, and
+//! replies that differ are written too; `= index` leaves the second out.
 #![tactic(auto)]
 
 mod design;

@@ -5,7 +5,7 @@ use lf_app::{Exit, FileTexts, Task, perform, perform_over};
 use lf_def::W_DEF;
 use lf_files::{Exports, Unwritten};
 use lf_lef::W_LEF;
-use lf_tests_floor::with_line;
+use lf_tests_texts::with_line;
 use lf_units::Sequence;
 use std::alloc::{AllocError, Global};
 use std::io;

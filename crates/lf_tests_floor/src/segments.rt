@@ -1,9 +1,10 @@
 //! Segments of the built-in design, and its rows in order of their y.
 
-use crate::designs::{design_of, with_line};
+use crate::designs::{Asked, holds};
 use lf_def::W_DEF;
-use lf_frame::Frame;
+use lf_frame::{Frame, Loaded};
 use lf_segments::{RowEntry, RowsByY, Segment, Segments};
+use lf_tests_texts::with_line;
 use lf_units::Span;
 use std::alloc::{AllocError, Global};
 use std::test::Fail;
@@ -89,24 +90,20 @@ enum Case {
     Rows,
 }
 
-/// Whether the frame answers as the case asks.
-fn answer(alloc: Global, frame: &Frame, case: Case) -> Result<bool, Fail> {
-    Ok(match case {
-        Case::Segments => has_segments(alloc, frame)?,
-        Case::JoinedSegments => has_joined_segments(alloc, frame)?,
-        Case::Rows => has_rows(alloc, frame)?,
-    })
-}
-
-/// The same of the design of this DEF text.
-fn holds(alloc: Global, def: &[u8], case: Case) -> Result<bool, Fail> {
-    let design = design_of(alloc, def)?;
-    answer(alloc, &design.frame, case)
+impl Asked for Case {
+    fn holds(&self, alloc: Global, design: &Loaded) -> Result<bool, Fail> {
+        let frame = &design.frame;
+        Ok(match self {
+            Case::Segments => has_segments(alloc, frame)?,
+            Case::JoinedSegments => has_joined_segments(alloc, frame)?,
+            Case::Rows => has_rows(alloc, frame)?,
+        })
+    }
 }
 
 #[test]
 fn segments_of_the_design(rt: HostRuntime) -> Result<(), Fail> {
-    assert!(rt; holds(rt.alloc(), W_DEF, Case::Segments)?);
+    assert!(rt; holds(rt.alloc(), W_DEF, &Case::Segments)?);
     Ok(())
 }
 
@@ -114,7 +111,7 @@ fn segments_of_the_design(rt: HostRuntime) -> Result<(), Fail> {
 fn segments_of_two_rectangles_join(rt: HostRuntime) -> Result<(), Fail> {
     let line = b"- A ( 0 0 ) ( 500 4000 ) ( 500 0 ) ( 4000 3000 ) + TYPE FENCE ;";
     let def = with_line(rt.alloc(), W_DEF, 11, line)?;
-    assert!(rt; holds(rt.alloc(), &def, Case::JoinedSegments)?);
+    assert!(rt; holds(rt.alloc(), &def, &Case::JoinedSegments)?);
     Ok(())
 }
 
@@ -124,6 +121,6 @@ fn rows_by_y(rt: HostRuntime) -> Result<(), Fail> {
     let last = b"ROW r3 core 5000 8000 N DO 9 BY 1 STEP 200 0 ;";
     let lower = with_line(rt.alloc(), W_DEF, 6, first)?;
     let def = with_line(rt.alloc(), &lower, 9, last)?;
-    assert!(rt; holds(rt.alloc(), &def, Case::Rows)?);
+    assert!(rt; holds(rt.alloc(), &def, &Case::Rows)?);
     Ok(())
 }

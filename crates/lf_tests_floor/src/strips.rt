@@ -8,12 +8,13 @@ ghost use Rattle.lf_occupancy.specs.Floorplans.{IsOccupancyOf};
 ghost use Rattle.lf_occupancy.specs.Occupied.{GrowAtMost, HasRoomFor};
 ghost use Rattle.lf_occupancy.specs.Strips.{HasCell};
 
-use crate::designs::{design_of, with_line};
+use crate::designs::{Asked, holds};
 use lf_cells::{CellId, CellTable};
 use lf_def::W_DEF;
 use lf_frame::Loaded;
 use lf_occupancy::Occupancy;
 use lf_segments::Segments;
+use lf_tests_texts::with_line;
 use lf_units::{Rect, Span};
 use std::alloc::{AllocError, Global};
 use std::test::Fail;
@@ -22,12 +23,6 @@ use std::test::Fail;
 const LOWEST: usize = 0;
 
 const ABOVE: usize = 3;
-
-/// The design of these tests.
-fn design(alloc: Global) -> Result<Loaded, Fail> {
-    let def = with_line(alloc, W_DEF, 15, b"- a1 INV + PLACED ( 400 0 ) N ;")?;
-    design_of(alloc, &def)
-}
 
 /// The box of an INV whose lower left corner this is.
 fn inverter(x: i64, y: i64) -> Rect
@@ -213,27 +208,33 @@ fn answer(alloc: Global, design: &Loaded, case: Case) -> Result<bool, Fail> {
     }
 }
 
-/// The same of the design of these tests.
-fn holds(alloc: Global, case: Case) -> Result<bool, Fail> {
-    let design = design(alloc)?;
-    answer(alloc, &design, case)
+impl Asked for Case {
+    fn holds(&self, alloc: Global, design: &Loaded) -> Result<bool, Fail> {
+        answer(alloc, design, *self)
+    }
+}
+
+/// Whether the strips of the design of these tests answer as the case asks.
+fn strips_hold(alloc: Global, case: Case) -> Result<bool, Fail> {
+    let def = with_line(alloc, W_DEF, 15, b"- a1 INV + PLACED ( 400 0 ) N ;")?;
+    holds(alloc, &def, &case)
 }
 
 #[test]
 fn strips_show_what_is_free(rt: HostRuntime) -> Result<(), Fail> {
-    assert!(rt; holds(rt.alloc(), Case::WhatIsFree)?);
-    assert!(rt; holds(rt.alloc(), Case::WhatIsNear)?);
+    assert!(rt; strips_hold(rt.alloc(), Case::WhatIsFree)?);
+    assert!(rt; strips_hold(rt.alloc(), Case::WhatIsNear)?);
     Ok(())
 }
 
 #[test]
 fn strips_follow_a_cell(rt: HostRuntime) -> Result<(), Fail> {
-    assert!(rt; holds(rt.alloc(), Case::OneMove)?);
+    assert!(rt; strips_hold(rt.alloc(), Case::OneMove)?);
     Ok(())
 }
 
 #[test]
 fn reserved_moves_take_no_memory(rt: HostRuntime) -> Result<(), Fail> {
-    assert!(rt; holds(rt.alloc(), Case::ReservedMoves)?);
+    assert!(rt; strips_hold(rt.alloc(), Case::ReservedMoves)?);
     Ok(())
 }

@@ -1,6 +1,6 @@
-//! Texts of which a line is exchanged, and refusals at a line.
+//! What tests and worked rows share: texts that are another one with a line exchanged.
+#![tactic(auto)]
 
-use lf_lex::{FaultNumber, LoadFault};
 use std::alloc::{AllocError, Global};
 
 /// The text with one of its lines, numbered from 1, exchanged for another.
@@ -22,13 +22,4 @@ pub fn with_line(
         }
     }
     Ok(new)
-}
-
-/// The refusal of that number at a line.
-pub fn at_line(number: FaultNumber, line: usize) -> Option<LoadFault<'static>> {
-    Some(LoadFault {
-        number,
-        line: Some(line),
-        name: None,
-    })
 }

@@ -1,5 +1,5 @@
-use Rattle.lf_tests_strips.proofs.Moves.{has_cell}
-use Rattle.lf_tests_strips.proofs.strips.answer.Goals as goal
+use Rattle.lf_tests_floor.proofs.Moves.{has_cell}
+use Rattle.lf_tests_floor.proofs.strips.answer.Goals as goal
 
 pub makes_both_moves-requires-clause-first : goal.makes_both_moves-requires-clause-first
 makes_both_moves-requires-clause-first c =

@@ -1,6 +1,6 @@
 use Rattle.std.proofs.Common.{None, arith}
-use Rattle.lf_tests_strips.proofs.Moves.{room_left}
-use Rattle.lf_tests_strips.proofs.strips.put_both.Goals as goal
+use Rattle.lf_tests_floor.proofs.Moves.{room_left}
+use Rattle.lf_tests_floor.proofs.strips.put_both.Goals as goal
 
 pub put-requires-clause-room : goal.put-requires-clause-room
 put-requires-clause-room c = λ n meets.

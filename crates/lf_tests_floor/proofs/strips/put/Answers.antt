@@ -3,8 +3,8 @@ use Rattle.lf_units.specs.declared.area.Rect.{Rect}
 use Rattle.lf_occupancy.specs.Lanes.{cell_box}
 use Rattle.lf_occupancy.specs.Strips.{HasCell}
 use Rattle.std.specs.Prelude.{None, [], slice_index_or}
-use Rattle.lf_tests_strips.proofs.Moves.{known_still, room_left, stands_nowhere}
-use Rattle.lf_tests_strips.proofs.strips.put.Goals as goal
+use Rattle.lf_tests_floor.proofs.Moves.{known_still, room_left, stands_nowhere}
+use Rattle.lf_tests_floor.proofs.strips.put.Goals as goal
 
 pub insert-requires-clause-known : goal.insert-requires-clause-known
 insert-requires-clause-known c =

@@ -1,7 +1,5 @@
 //! Connections over readers and writers in memory.
 
-ghost use Rattle.std.specs.Prelude.{◌≡◌};
-
 use crate::designs::floor;
 use crate::devices::{Log, Pieces};
 use lf_floor::Floor;
@@ -53,18 +51,19 @@ fn served(
     reader: &mut Pieces<'_>,
     writer: &mut Log,
     limits: ServeLimits,
-) -> Served
-    ensures { floor.new.components ≡ floor.old.components }
-{
+) -> Served {
     let mut source = FromRead::new(reader);
     let mut sink = ToWrite::new(writer);
     serve(alloc, floor, &mut source, &mut sink, limits)
 }
 
 /// Serves these bytes.
-pub fn serve_bytes(alloc: Global, floor: &mut Floor<PlainSeeker>, bytes: &[u8], plan: &Plan) -> Told
-    ensures { floor.new.components ≡ floor.old.components }
-{
+pub fn serve_bytes(
+    alloc: Global,
+    floor: &mut Floor<PlainSeeker>,
+    bytes: &[u8],
+    plan: &Plan,
+) -> Told {
     let mut reader = Pieces {
         bytes,
         most: plan.piece,
@@ -100,9 +99,7 @@ pub fn tells_on(
     plan: &Plan,
     served: Served,
     log: &[u8],
-) -> bool
-    ensures { floor.new.components ≡ floor.old.components }
-{
+) -> bool {
     let told = serve_bytes(alloc, floor, bytes, plan);
     told.served == served && told.log.as_slice() == log
 }
