@@ -1,5 +1,15 @@
 //! The design of a row: the built-in texts with some of their lines exchanged.
 
+ghost use Rattle.std.specs.Prelude.{◌≡◌, ℕ, List, Option};
+ghost use Rattle.lf_floorplan.specs.declared.limits.Limits.{Limits as TheLimits};
+ghost use Rattle.lf_floorplan.specs.declared.place.Place.{Place};
+ghost use Rattle.lf_frame.specs.Loads.{IsLoadedFrom};
+ghost use Rattle.lf_lef.specs.Contents.{Contents};
+ghost use Rattle.lf_refusals.specs.Findings.{inputs};
+ghost use Rattle.lf_teams.specs.Places.{AreCommittedPlaces};
+ghost use Rattle.lf_teams.specs.States.{FloorState};
+ghost use Rattle.lf_write.specs.Export.{CanBeGiven};
+
 use crate::reading::{put_document, put_library};
 use lf_app::{Fault, answer_lines, write_fault};
 use lf_def::{DefDoc, W_DEF, read_def};
@@ -10,6 +20,10 @@ use lf_legalize::{IndexSeeker, PlainSeeker, Seeker};
 use lf_lex::LoadFault;
 use lf_proto::report_json;
 use lf_reports::check_all;
+use lf_reread::loaded_cells_can_be_given;
+use lf_teams::places_follow_design;
+use lf_tests_texts::with_line;
+use lf_write::export;
 use std::alloc::{AllocError, Global};
 use std::io;
 use std::io::Write;
@@ -23,6 +37,8 @@ pub struct Asked<'a> {
     pub is_checked: bool,
     /// Whether only the seeker by index answers, and not the plain one beside it.
     pub is_by_index_alone: bool,
+    /// Whether the exported text is asked for, once the requests are answered.
+    pub is_exported: bool,
     /// The requests.
     pub lines: &'a [u8],
 }
@@ -36,31 +52,11 @@ pub struct Design {
     limits: Limits,
 }
 
-/// Puts a line behind the text, with a line feed for each `~` in it.
-fn push_line(text: &mut Vec<u8>, line: &[u8]) -> Result<(), AllocError> {
-    for byte in line {
-        text.push(if *byte == b'~' { b'\n' } else { *byte })?;
-    }
-    Ok(())
-}
-
-/// The text with one of its lines, numbered from 1, exchanged for another.
-fn with_line(
-    alloc: Global,
-    text: &[u8],
-    number: usize,
-    line: &[u8],
-) -> Result<Vec<u8>, AllocError> {
+/// The line, with a line feed for each `~` in it.
+fn with_feeds(alloc: Global, line: &[u8]) -> Result<Vec<u8>, AllocError> {
     let mut new = Vec::new(alloc);
-    for (i, old) in text.split(|byte| *byte == b'\n').enumerate() {
-        if i > 0 {
-            new.push(b'\n')?;
-        }
-        if number.checked_sub(1) == Some(i) {
-            push_line(&mut new, line)?;
-        } else {
-            new.extend_from_slice(old)?;
-        }
+    for byte in line {
+        new.push(if *byte == b'~' { b'\n' } else { *byte })?;
     }
     Ok(new)
 }
@@ -95,13 +91,15 @@ impl Design {
 
     /// Exchanges a line of the LEF text.
     pub fn set_lef(&mut self, number: usize, line: &[u8]) -> Result<(), AllocError> {
-        self.lef = with_line(self.alloc, &self.lef, number, line)?;
+        let line = with_feeds(self.alloc, line)?;
+        self.lef = with_line(self.alloc, &self.lef, number, &line)?;
         Ok(())
     }
 
     /// Exchanges a line of the DEF text.
     pub fn set_def(&mut self, number: usize, line: &[u8]) -> Result<(), AllocError> {
-        self.def = with_line(self.alloc, &self.def, number, line)?;
+        let line = with_feeds(self.alloc, line)?;
+        self.def = with_line(self.alloc, &self.def, number, &line)?;
         Ok(())
     }
 
@@ -123,7 +121,8 @@ impl Design {
     }
 
     /// Writes what the design answers: its refusal, or what its texts say, where that is asked; or else `loaded`, its report
-    /// where it is asked for, and the replies to the lines; those of the plain seeker too, where they differ.
+    /// where it is asked for, the replies to the lines, and the exported text where it is asked for; replies and text by the
+    /// plain seeker too, where they differ.
     pub fn answer<W: Write>(&self, asked: &Asked<'_>, writer: &mut W) -> io::Result<()> {
         let mut library = Library::new(self.alloc);
         match read_lef(&mut library, &self.lef) {
@@ -160,7 +159,7 @@ impl Design {
         match load(self.alloc, library, document, self.limits) {
             Ok(loaded) => {
                 put_head(self.alloc, &loaded, asked.is_checked, writer)?;
-                let replies = replies_by_index(self.alloc, loaded, asked.lines)?;
+                let replies = replies_by_index(self.alloc, loaded, document, asked)?;
                 writer.write_all(&replies)?;
                 self.compare(library, document, asked, &replies, writer)
             }
@@ -183,7 +182,7 @@ impl Design {
         let Ok(loaded) = load(self.alloc, library, document, self.limits) else {
             return writer.write_all(b"not loaded again\n");
         };
-        let plain = replies_by(self.alloc, loaded, PlainSeeker, asked.lines)?;
+        let plain = replies_by(self.alloc, loaded, document, PlainSeeker, asked)?;
         if plain.as_slice() == replies {
             return Ok(());
         }
@@ -220,24 +219,91 @@ fn put_report<W: Write>(alloc: Global, loaded: &Loaded, writer: &mut W) -> io::R
     writer.write_all(b"\n")
 }
 
-/// The replies to the lines on the floor of the design, its places looked for by this seeker.
+/// The text of the document, with the committed places of the floor in it.
+fn exported<S: Seeker + Drop>(
+    alloc: Global,
+    floor: &Floor<S>,
+    document: &DefDoc<'_>,
+) -> Result<Vec<u8>, AllocError>
+    requires fits { (places : List (ℕ × Option Place)) → AreCommittedPlaces floor.now places → CanBeGiven document.now.components places }
+{
+    let places = floor.committed_places()?;
+    export(alloc, document, &places)
+}
+
+/// Puts the lines of a text behind the replies, each behind a bar.
+fn put_lines(replies: &mut Vec<u8>, text: &[u8]) -> Result<(), AllocError> {
+    for line in text.split(|byte| *byte == b'\n') {
+        replies.push(b'|')?;
+        replies.extend_from_slice(line)?;
+        replies.push(b'\n')?;
+    }
+    Ok(())
+}
+
+/// Puts the exported text behind the replies.
+fn put_export<S: Seeker + Drop>(
+    alloc: Global,
+    floor: &Floor<S>,
+    document: &DefDoc<'_>,
+    replies: &mut Vec<u8>,
+) -> Result<(), AllocError>
+    requires fits { (places : List (ℕ × Option Place)) → AreCommittedPlaces floor.now places → CanBeGiven document.now.components places }
+{
+    let text = exported(alloc, floor, document)?;
+    put_lines(replies, &text)
+}
+
+/// Puts the replies to the lines on the floor of the document's design, and the exported text where it is asked for.
+fn put_replies<S: Seeker + Drop>(
+    alloc: Global,
+    floor: &mut Floor<S>,
+    document: &DefDoc<'_>,
+    asked: &Asked<'_>,
+    replies: &mut Vec<u8>,
+) -> Result<(), AllocError>
+    requires fits { (s : FloorState) (places : List (ℕ × Option Place)) → s.components ≡ floor.old.components → AreCommittedPlaces s places
+        → CanBeGiven document.now.components places }
+{
+    let mut reader = asked.lines;
+    let _ending = answer_lines(alloc, floor, &mut reader, replies);
+    if !asked.is_exported {
+        return Ok(());
+    }
+    put_export(alloc, floor, document, replies)
+}
+
+/// The replies to the lines on the floor of the document's design, its places looked for by this seeker, and the exported
+/// text where it is asked for.
 fn replies_by<S: Seeker + Drop>(
     alloc: Global,
     loaded: Loaded,
+    document: &DefDoc<'_>,
     seeker: S,
-    lines: &[u8],
+    asked: &Asked<'_>,
 ) -> Result<Vec<u8>, AllocError>
-    requires { S.is_for seeker loaded.frame }
+    requires seeker { S.is_for seeker loaded.frame }
+    requires loads { (library : Contents) × (limits : TheLimits) × IsLoadedFrom (inputs library document.now limits) loaded }
 {
+    loaded_cells_can_be_given();
+    places_follow_design();
     let mut floor = Floor::start(alloc, loaded, seeker)?;
-    let mut reader = lines;
     let mut replies = Vec::new(alloc);
-    let _ending = answer_lines(alloc, &mut floor, &mut reader, &mut replies);
-    Ok(replies)
+    match put_replies(alloc, &mut floor, document, asked, &mut replies) {
+        Ok(()) => Ok(replies),
+        Err(error) => Err(error),
+    }
 }
 
-/// The replies by the index of the rows.
-fn replies_by_index(alloc: Global, loaded: Loaded, lines: &[u8]) -> Result<Vec<u8>, AllocError> {
+/// The same by the index of the rows.
+fn replies_by_index(
+    alloc: Global,
+    loaded: Loaded,
+    document: &DefDoc<'_>,
+    asked: &Asked<'_>,
+) -> Result<Vec<u8>, AllocError>
+    requires loads { (library : Contents) × (limits : TheLimits) × IsLoadedFrom (inputs library document.now limits) loaded }
+{
     let seeker = IndexSeeker::build(alloc, &loaded.frame)?;
-    replies_by(alloc, loaded, seeker, lines)
+    replies_by(alloc, loaded, document, seeker, asked)
 }

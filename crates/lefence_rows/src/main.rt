@@ -1,5 +1,6 @@
-//! Answers worked rows. Standard input is a list of rows; each begins with a heading, which is copied, and stands on
-//! the built-in design afresh:
+//! Answers worked rows. They are written in `rows/`, each request with its reply below it, and `tools/rows.py` makes of them
+//! `stdin` and `stdout`, on which the gate runs this program. A row of standard input begins with a heading, which is
+//! copied, and has the built-in design afresh:
 //!
 //! ```text
 //! # The heading.
@@ -11,13 +12,17 @@
 //! open A
 //! ```
 //!
-//! `lef` and `def` exchange a line of the design's texts for another, or for several with `~` between them, and lines are
-//! numbered as they stand by then; `cut` keeps the first lines of a text alone; `limits` are those of rows, fences,
+//! In `rows/` a request has `> ` in front, as `> open A`, and the lines without a mark are what the program writes: `loaded`
+//! and the report below the settings, and the reply `ok 0 0` below its request.
+//!
+//! `lef` and `def` exchange a line of the design's texts for another, or for several with `~` between them; each counts
+//! lines as those before it left them. `cut` keeps the first lines of a text alone; `limits` are those of rows, fences,
 //! components, sessions, undo entries and revisions; `check` asks for the report of the design; `read` asks what the texts
-//! say and nothing else (`reading`). All other lines are requests, but empty ones, which part rows. What is written of a
-//! row is the refusal of its design; or what its texts say; or `loaded`, the report if it is asked for, and the replies.
-//! Each row is answered twice, its places looked for by index and by a look at every site, and replies that differ are
-//! written too; `= index` leaves the second out.
+//! say and nothing else (`reading`); `export` asks for the exported text, which stands behind the replies with a `|` in
+//! front of each line. All other lines are requests, but empty ones, which part rows. What is written of a row is the
+//! refusal of its design; or what its texts say; or `loaded`, the report if it is asked for, the replies, and the exported
+//! text if it is asked for. Each row is answered twice, its places looked for by index and by a look at every site, and
+//! replies that differ are written too; `= index` leaves the second out.
 #![tactic(auto)]
 
 mod design;

@@ -14,6 +14,7 @@ pub struct Row {
     is_read: bool,
     is_checked: bool,
     is_by_index_alone: bool,
+    is_exported: bool,
     is_begun: bool,
     lines: Vec<u8>,
 }
@@ -60,6 +61,7 @@ impl Row {
             is_read: false,
             is_checked: false,
             is_by_index_alone: false,
+            is_exported: false,
             is_begun: false,
             lines: Vec::new(alloc),
         })
@@ -111,6 +113,8 @@ impl Row {
             self.is_checked = true;
         } else if setting == b"index".as_slice() {
             self.is_by_index_alone = true;
+        } else if setting == b"export".as_slice() {
+            self.is_exported = true;
         } else {
             return false;
         }
@@ -126,6 +130,7 @@ impl Row {
             is_read: self.is_read,
             is_checked: self.is_checked,
             is_by_index_alone: self.is_by_index_alone,
+            is_exported: self.is_exported,
             lines: &self.lines,
         };
         self.design.answer(&asked, writer)

@@ -1,25 +1,10 @@
-//! LEF texts: bounds, prefixes, several texts, and a long one. What texts say is told by rows of lefence_rows.
+//! LEF texts: prefixes, several texts, and a long one. What texts say, and their bounds, are in the rows of lefence_rows.
 
-use crate::changed::at_line;
+use crate::faults::at_line;
 use lf_lef::{Library, W_LEF, read_lef};
-use lf_lex::{FaultNumber, LoadFault};
-use std::alloc::Global;
+use lf_lex::FaultNumber;
+use std::alloc::{AllocError, Global};
 use std::test::Fail;
-
-/// What a text is refused for, where it is read into an empty library.
-fn refusal<'a>(rt: &HostRuntime, text: &'a [u8]) -> Option<LoadFault<'a>> {
-    read_lef(&mut Library::new(rt.alloc()), text).err()
-}
-
-#[test]
-fn bounds_names(rt: HostRuntime) -> Result<(), Fail> {
-    let mut text = Vec::from_slice(rt.alloc(), b"LAYER m1 END m1\nMACRO ")?;
-    text.extend_from_slice(&[b'a'; 1024])?;
-    assert!(rt; refusal(&rt, &text) == at_line(FaultNumber::UnexpectedEnd, 2));
-    text.push(b'a')?;
-    assert!(rt; refusal(&rt, &text) == at_line(FaultNumber::TooMany, 2));
-    Ok(())
-}
 
 /// Whether the library has so many sites and macros.
 fn has(library: &Library, sites: usize, macros: usize) -> bool {
@@ -62,26 +47,44 @@ fn returns_from_each_prefix(rt: HostRuntime) -> Result<(), Fail> {
     Ok(())
 }
 
+/// Puts the line of a macro with that number.
+fn push_macro(alloc: Global, text: &mut Vec<u8>, number: u32) -> Result<(), AllocError> {
+    let line = format!(in alloc;
+        "MACRO M{number} CLASS CORE ; SIZE 0.4 BY 2.0 ; SITE core ; END M{number}\n"
+    )?;
+    text.extend_from_slice(line.as_bytes())
+}
+
+/// Puts 20,000 macros.
+fn push_macros(alloc: Global, text: &mut Vec<u8>) -> Result<(), AllocError> {
+    for number in 0..20_000u32 {
+        push_macro(alloc, text, number)?;
+    }
+    Ok(())
+}
+
+/// Whether the text of these macros is read into the library.
+fn reads_macros(library: &mut Library, text: &[u8]) -> bool {
+    read_lef(library, text).is_ok()
+        && library.macros().len() == 20_000
+        && library.find_macro(b"M19999") == Some(19_999)
+}
+
+/// Whether the text, behind which one more macro begins, is refused at its end, and the library is left with its macros.
+fn refuses_the_end(library: &mut Library, text: &[u8]) -> bool {
+    let fault = read_lef(library, text).err();
+    fault == at_line(FaultNumber::UnexpectedEnd, 20_001) && library.macros().len() == 20_000
+}
+
 /// A text of more than a megabyte, with many macros, is read to its end.
 #[test]
 fn reads_a_megabyte(rt: HostRuntime) -> Result<(), Fail> {
-    let mut text = Vec::new(rt.alloc());
-    for i in 0..20_000u32 {
-        let name = format!(in rt.alloc(); "M{i}")?;
-        text.extend_from_slice(b"MACRO ")?;
-        text.extend_from_slice(name.as_bytes())?;
-        text.extend_from_slice(b" CLASS CORE ; SIZE 0.4 BY 2.0 ; SITE core ; END ")?;
-        text.extend_from_slice(name.as_bytes())?;
-        text.push(b'\n')?;
-    }
-    assert!(rt; text.len() > 1_000_000);
     let mut library = Library::new(rt.alloc());
-    assert!(rt; read_lef(&mut library, &text).is_ok());
-    assert_eq!(rt; library.macros().len(), 20_000);
-    assert!(rt; library.find_macro(b"M19999") == Some(19_999));
+    let mut text = Vec::new(rt.alloc());
+    push_macros(rt.alloc(), &mut text)?;
+    assert!(rt; text.len() > 1_000_000);
+    assert!(rt; reads_macros(&mut library, &text));
     text.extend_from_slice(b"MACRO")?;
-    let fault = read_lef(&mut library, &text).err();
-    assert!(rt; fault == at_line(FaultNumber::UnexpectedEnd, 20_001));
-    assert_eq!(rt; library.macros().len(), 20_000);
+    assert!(rt; refuses_the_end(&mut library, &text));
     Ok(())
 }

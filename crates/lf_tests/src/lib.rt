@@ -4,9 +4,9 @@
 #[cfg(test)]
 mod boxes;
 #[cfg(test)]
-mod changed;
-#[cfg(test)]
 mod def_texts;
+#[cfg(test)]
+mod faults;
 #[cfg(test)]
 mod heaps;
 #[cfg(test)]

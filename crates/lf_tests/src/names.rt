@@ -37,46 +37,91 @@ fn has_match(matches: &[Match], own: u32, asked: u32) -> bool {
         .any(|found| found.own == own && found.asked == asked)
 }
 
+/// Puts 200 names of two bytes, with labels from this one on.
+fn push_names(parts: &mut NameParts, first: u32) -> Result<(), AllocError> {
+    for name in 0..200u8 {
+        parts.push(first.saturating_add(u32::from(name)), &[name, 0])?;
+    }
+    Ok(())
+}
+
+/// Puts these names, one of them twice, and a name that is not among them.
+fn push_asked(parts: &mut NameParts) -> Result<(), AllocError> {
+    parts.push(999, b"")?;
+    push_names(parts, 1000)?;
+    parts.push(1200, &[7, 0])
+}
+
+/// Whether these are the matches of each name, and both of the one that is asked for twice.
+fn are_of_all(matches: &[Match]) -> bool {
+    for name in 0..200u32 {
+        if !has_match(matches, name, 1000 + name) {
+            return false;
+        }
+    }
+    matches.len() == 201 && has_match(matches, 7, 1200)
+}
+
+/// Whether the names that are asked for are found, each with its labels.
+fn are_found(alloc: Global, names: &NameParts, asked: &NameParts) -> Result<bool, AllocError> {
+    match names.matches(alloc, asked)? {
+        Some(matches) => Ok(are_of_all(&matches)),
+        None => Ok(false),
+    }
+}
+
+/// Whether names that are put are found, and there is no answer once one stands twice.
+fn answer(alloc: Global, names: &mut NameParts, asked: &mut NameParts) -> Result<bool, AllocError> {
+    push_names(names, 0)?;
+    push_asked(asked)?;
+    if !are_found(alloc, names, asked)? {
+        return Ok(false);
+    }
+    names.push(200, &[7, 0])?;
+    Ok(names.matches(alloc, asked)?.is_none())
+}
+
+/// The same of empty parts.
+fn parts_answer(alloc: Global) -> Result<bool, AllocError> {
+    let mut names = NameParts::new(alloc)?;
+    let mut asked = NameParts::new(alloc)?;
+    answer(alloc, &mut names, &mut asked)
+}
+
 /// Names of many parts are matched with their labels: a name that is asked for twice has two matches, and one that is
 /// not there has none. Where a name stands twice there is no answer.
 #[test]
 fn finds_names_in_parts(rt: HostRuntime) -> Result<(), Fail> {
-    let mut names = NameParts::new(rt.alloc())?;
-    let mut asked = NameParts::new(rt.alloc())?;
-    asked.push(999, b"")?;
-    for name in 0..200u8 {
-        names.push(u32::from(name), &[name, 0])?;
-        asked.push(1000 + u32::from(name), &[name, 0])?;
-    }
-    asked.push(1200, &[7, 0])?;
-    let Some(matches) = names.matches(rt.alloc(), &asked)? else {
-        return Err(Fail::from("names that differ"));
-    };
-    assert_eq!(rt; matches.len(), 201);
-    for name in 0..200u32 {
-        assert!(rt; has_match(&matches, name, 1000 + name));
-    }
-    assert!(rt; has_match(&matches, 7, 1200));
-    names.push(200, &[7, 0])?;
-    assert!(rt; names.matches(rt.alloc(), &asked)?.is_none());
+    assert!(rt; parts_answer(rt.alloc())?);
     Ok(())
+}
+
+/// Whether the table of one name stays as it is where no memory is left.
+fn stays<'a>(
+    table: &mut NameTable<&'a LocalHeap>,
+    heap: &'a LocalHeap,
+) -> Result<bool, AllocError> {
+    let _blocks = take_all(heap)?;
+    if Vec::<u8, &LocalHeap>::with_capacity(heap, 1).is_ok() || table.add(b"b").is_ok() {
+        return Ok(false);
+    }
+    Ok(holds(table, &[b"a"]) && table.find(b"b").is_none())
+}
+
+/// Whether it does, and takes another name once memory is given back.
+fn stays_and_grows(heap: &LocalHeap) -> Result<bool, AllocError> {
+    let mut table: NameTable<&LocalHeap> = NameTable::new(heap);
+    if table.add(b"a")? != Added::New(0) || !stays(&mut table, heap)? {
+        return Ok(false);
+    }
+    Ok(table.add(b"b")? == Added::New(1))
 }
 
 /// With every growth refused the table answers as before, and once memory is given back it grows.
 #[test]
 fn stays_as_it_was_where_memory_is_refused(rt: HostRuntime) -> Result<(), Fail> {
     let heap = LocalHeap::new(rt.alloc(), 4096)?;
-    let mut table: NameTable<&LocalHeap> = NameTable::new(&heap);
-    assert_eq!(rt; table.add(b"a")?, Added::New(0));
-    let blocks = take_all(&heap)?;
-    assert!(rt; Vec::<u8, &LocalHeap>::with_capacity(&heap, 1).is_err());
-
-    assert!(rt; table.add(b"b").is_err());
-    assert!(rt; holds(&table, &[b"a"]));
-    assert!(rt; table.find(b"b").is_none());
-
-    drop(blocks);
-    assert_eq!(rt; table.add(b"b")?, Added::New(1));
+    assert!(rt; stays_and_grows(&heap)?);
     Ok(())
 }
 
@@ -90,16 +135,21 @@ fn has_first(table: &NameTable<&LocalHeap>, count: u8) -> bool {
     table.len() == usize::from(count) && table.find(&[count]).is_none()
 }
 
-/// Whether in a heap of that size the first name for which there is no memory leaves the names before it where they are.
-fn keeps_its_names(alloc: Global, size: usize) -> Result<bool, AllocError> {
-    let heap = LocalHeap::new(alloc, size)?;
-    let mut table: NameTable<&LocalHeap> = NameTable::new(&heap);
+/// Whether the first name for which the heap has no memory leaves the names before it where they are.
+fn keeps_names_in(heap: &LocalHeap) -> bool {
+    let mut table: NameTable<&LocalHeap> = NameTable::new(heap);
     for name in 0..200u8 {
         if table.add(&[name]).is_err() {
-            return Ok(has_first(&table, name));
+            return has_first(&table, name);
         }
     }
-    Ok(false)
+    false
+}
+
+/// The same in a heap of that size.
+fn keeps_its_names(alloc: Global, size: usize) -> Result<bool, AllocError> {
+    let heap = LocalHeap::new(alloc, size)?;
+    Ok(keeps_names_in(&heap))
 }
 
 /// Each growth refused in turn, in heaps of every size.

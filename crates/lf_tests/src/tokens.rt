@@ -1,6 +1,6 @@
 //! Tokens and words.
 
-use crate::changed::at_line;
+use crate::faults::at_line;
 use lf_lex::{
     FaultNumber, LexFault, Lexer, LoadFault, ReadError, TokenKind, end_name, keyword, name, next,
     to_end, to_semicolon, to_word, token, word,

@@ -91,24 +91,49 @@ fn takes_the_place<'a>(store: &mut UndoStore<&'a LocalHeap>, second: Moves<&'a L
     }
 }
 
-/// Whether a store of two teams answers as the case asks: a first entry is there, and no memory is left for a second.
+/// Whether the store of two teams answers as the case asks, where no memory is left for a second entry.
+fn answers<'a>(
+    store: &mut UndoStore<&'a LocalHeap>,
+    heap: &'a LocalHeap,
+    second: Moves<&'a LocalHeap>,
+    case: Case,
+) -> bool
+    requires { length store.old.lists ≡ 2 }
+{
+    fill(store, heap);
+    match case {
+        Case::RoomOfAnother => serves_another(store, second),
+        Case::NoRoom => comes_back(store, second),
+        Case::Limit => takes_the_place(store, second),
+    }
+}
+
+/// The same where a first entry is there, and all memory of the heap is taken.
+fn answers_when_full<'a>(
+    store: &mut UndoStore<&'a LocalHeap>,
+    heap: &'a LocalHeap,
+    team: usize,
+    case: Case,
+) -> Result<bool, Fail>
+    requires lists { length store.old.lists ≡ 2 }
+    requires team { team < 2 }
+{
+    let second = one_move(heap, 2)?;
+    if store.push(team, one_move(heap, 1)?).is_err() {
+        return Ok(false);
+    }
+    let _blocks = take_all(heap)?;
+    Ok(answers(store, heap, second, case))
+}
+
+/// The same of a store in a heap of its own.
 fn holds(alloc: Global, limit: usize, team: usize, case: Case) -> Result<bool, Fail>
     requires limit { 0 < limit }
     requires team { team < 2 }
 {
     let heap = LocalHeap::new(alloc, 8192)?;
     let mut store: UndoStore<&LocalHeap> = UndoStore::build(&heap, 2, limit)?;
-    let second = one_move(&heap, 2)?;
-    if store.push(team, one_move(&heap, 1)?).is_err() {
-        return Ok(false);
-    }
-    let _blocks = take_all(&heap)?;
-    fill(&mut store, &heap);
-    Ok(match case {
-        Case::RoomOfAnother => serves_another(&mut store, second),
-        Case::NoRoom => comes_back(&mut store, second),
-        Case::Limit => takes_the_place(&mut store, second),
-    })
+    answers_when_full(&mut store, &heap, team, case)
 }
 
 #[test]

@@ -5,7 +5,7 @@ use lf_app::{Exit, FileTexts, Task, perform, perform_over};
 use lf_def::W_DEF;
 use lf_files::{Exports, Unwritten};
 use lf_lef::W_LEF;
-use lf_tests_floor::with_line;
+use lf_tests_texts::with_line;
 use lf_units::Sequence;
 use std::alloc::{AllocError, Global};
 use std::io;
@@ -346,28 +346,11 @@ fn a_file_that_cannot_be_read_is_a_fault(rt: HostRuntime) -> Result<(), Fail> {
     Ok(())
 }
 
-/// The entry that takes the place of the line of that number from 0: the first component of the sample stands in 14.
-fn entry_at<'a>(entries: &[&'a [u8]], number: usize) -> Option<&'a [u8]> {
-    match number.checked_sub(14) {
-        Some(place) => match entries.get(place) {
-            Some(entry) => Some(*entry),
-            None => None,
-        },
-        None => None,
-    }
-}
-
-/// The sample DEF text, whose first components have these entries.
+/// The sample DEF text, whose first components have these entries; the first of all stands in line 15.
 fn with_entries(alloc: Global, entries: &[&[u8]]) -> Result<Vec<u8>, AllocError> {
-    let mut text = Vec::new(alloc);
-    for (i, line) in W_DEF.split(|byte| *byte == b'\n').enumerate() {
-        if i > 0 {
-            text.push(b'\n')?;
-        }
-        match entry_at(entries, i) {
-            Some(entry) => text.extend_from_slice(entry)?,
-            None => text.extend_from_slice(line)?,
-        }
+    let mut text = Vec::from_slice(alloc, W_DEF)?;
+    for (i, entry) in entries.iter().enumerate() {
+        text = with_line(alloc, &text, 15 + i, entry)?;
     }
     Ok(text)
 }

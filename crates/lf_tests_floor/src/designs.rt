@@ -1,10 +1,12 @@
-//! The built-in design, read and loaded, and what its reports tell.
+//! Designs over the built-in LEF text and their floors, and what is known of the built-in one.
 
 ghost use Rattle.std.specs.Prelude.{◌<◌};
 
 use lf_def::{DefDoc, W_DEF, read_def};
+use lf_floor::Floor;
 use lf_frame::{Cell, Frame, Limits, Loaded, Place, load};
 use lf_lef::{Library, W_LEF, read_lef};
+use lf_legalize::PlainSeeker;
 use lf_orient::Orient;
 use lf_reports::{BrokenCell, Report, check_all, check_all_pairs, first_illegal};
 use lf_rules::{Broken, Rule};
@@ -13,32 +15,68 @@ use std::alloc::Global;
 use std::test::Fail;
 
 /// The design of a library and a document.
-fn load_on(
-    alloc: Global,
-    library: &Library,
-    document: &DefDoc,
-    limits: Limits,
-) -> Result<Loaded, Fail> {
-    match load(alloc, library, document, limits) {
+fn load_on(alloc: Global, library: &Library, document: &DefDoc) -> Result<Loaded, Fail> {
+    match load(alloc, library, document, Limits::standard()) {
         Ok(design) => Ok(design),
         Err(_) => Err(Fail::from("a design")),
     }
 }
 
 /// The design of a library and a DEF text.
-fn read_on(alloc: Global, library: &Library, def: &[u8], limits: Limits) -> Result<Loaded, Fail> {
+fn read_on(alloc: Global, library: &Library, def: &[u8]) -> Result<Loaded, Fail> {
     match read_def(alloc, def) {
-        Ok(document) => load_on(alloc, library, &document, limits),
+        Ok(document) => load_on(alloc, library, &document),
         Err(_) => Err(Fail::from("a DEF text")),
     }
 }
 
 /// The design of the built-in LEF text and this DEF text.
-pub fn design_of(alloc: Global, def: &[u8], limits: Limits) -> Result<Loaded, Fail> {
+fn design_of(alloc: Global, def: &[u8]) -> Result<Loaded, Fail> {
     let mut library = Library::new(alloc);
     match read_lef(&mut library, W_LEF) {
-        Ok(()) => read_on(alloc, &library, def, limits),
+        Ok(()) => read_on(alloc, &library, def),
         Err(_) => Err(Fail::from("a LEF text")),
+    }
+}
+
+/// The floor of the design of the built-in LEF text and this DEF text.
+pub fn floor_of(alloc: Global, def: &[u8]) -> Result<Floor<PlainSeeker>, Fail> {
+    let design = design_of(alloc, def)?;
+    Ok(Floor::start(alloc, design, PlainSeeker)?)
+}
+
+/// The floor of the built-in design.
+pub fn floor(alloc: Global) -> Result<Floor<PlainSeeker>, Fail> {
+    floor_of(alloc, W_DEF)
+}
+
+/// What is asked of a design.
+pub trait Asked {
+    /// Whether the design is as it is asked.
+    fn holds(&self, alloc: Global, design: &Loaded) -> Result<bool, Fail>;
+}
+
+/// Whether the design of the built-in LEF text and this DEF text is as it is asked.
+pub fn holds<A: Asked>(alloc: Global, def: &[u8], asked: &A) -> Result<bool, Fail> {
+    let design = design_of(alloc, def)?;
+    asked.holds(alloc, &design)
+}
+
+/// What is asked of the built-in design.
+#[derive(Clone, Copy)]
+enum Case {
+    Counts,
+    Searches,
+}
+
+impl Asked for Case {
+    fn holds(&self, alloc: Global, design: &Loaded) -> Result<bool, Fail> {
+        match self {
+            Case::Counts => {
+                Ok(is_built_in(&design.frame) && are_built_in(design.cells.as_slice()))
+            }
+            Case::Searches => search_alike_everywhere(alloc, design),
+        }
     }
 }
 
@@ -62,8 +100,7 @@ fn are_built_in(cells: &[Cell]) -> bool {
 
 #[test]
 fn the_built_in_design(rt: HostRuntime) -> Result<(), Fail> {
-    let design = design_of(rt.alloc(), W_DEF, Limits::standard())?;
-    assert!(rt; is_built_in(&design.frame) && are_built_in(design.cells.as_slice()));
+    assert!(rt; holds(rt.alloc(), W_DEF, &Case::Counts)?);
     Ok(())
 }
 
@@ -137,15 +174,9 @@ fn search_alike_everywhere(alloc: Global, design: &Loaded) -> Result<bool, Fail>
     Ok(design.cells.len() == 5)
 }
 
-/// The same of the built-in design.
-fn holds(alloc: Global) -> Result<bool, Fail> {
-    let design = design_of(alloc, W_DEF, Limits::standard())?;
-    search_alike_everywhere(alloc, &design)
-}
-
 #[test]
 fn both_searches_tell_the_same(rt: HostRuntime) -> Result<(), Fail> {
-    assert!(rt; holds(rt.alloc())?);
+    assert!(rt; holds(rt.alloc(), W_DEF, &Case::Searches)?);
     Ok(())
 }
 

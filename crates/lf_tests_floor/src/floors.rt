@@ -1,13 +1,13 @@
 //! The floor of all teams.
 
-use crate::designs::design_of;
-use crate::texts::with_line;
+use crate::designs::floor_of;
 use lf_def::W_DEF;
 use lf_floor::Floor;
-use lf_frame::{Limits, Place};
+use lf_frame::Place;
 use lf_legalize::PlainSeeker;
 use lf_orient::Orient;
 use lf_proto::{Action, Change, Command, Order, Reply, Request, RequestList, reply_text};
+use lf_tests_texts::with_line;
 use std::alloc::{AllocError, Global};
 use std::test::Fail;
 
@@ -15,11 +15,7 @@ use std::test::Fail;
 fn floor(alloc: Global) -> Result<Floor<PlainSeeker>, Fail> {
     let def = with_line(alloc, W_DEF, 15, b"- a1 INV + PLACED ( 0 0 ) N ;")?;
     let def = with_line(alloc, &def, 18, b"- b1 INV + PLACED ( 6000 0 ) N ;")?;
-    Ok(Floor::start(
-        alloc,
-        design_of(alloc, &def, Limits::standard())?,
-        PlainSeeker,
-    )?)
+    floor_of(alloc, &def)
 }
 
 /// The request of the first session of a team to unplace a cell.

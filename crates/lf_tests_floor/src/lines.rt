@@ -143,7 +143,7 @@ fn writes_broken_rules(rt: HostRuntime) -> Result<(), Fail> {
 }
 
 /// Whether the request is to the team of that name.
-pub fn is_to(request: &Request<'_>, name: &[u8]) -> bool {
+fn is_to(request: &Request<'_>, name: &[u8]) -> bool {
     match request {
         Command::Bye => false,
         Command::To { team, .. } => *team == name,

@@ -1,0 +1,282 @@
+//! Connections over readers and writers in memory.
+
+use crate::designs::floor;
+use crate::devices::{Log, Pieces};
+use lf_floor::Floor;
+use lf_legalize::PlainSeeker;
+use lf_server::{Ending, FromRead, ServeLimits, Served, ToWrite, serve};
+use std::alloc::{AllocError, Global};
+use std::test::Fail;
+
+/// How the devices of a connection behave, and its limits.
+#[derive(Clone, Copy)]
+pub struct Plan {
+    /// The most bytes of a read.
+    pub piece: usize,
+    /// The reads before one that fails.
+    pub good_reads: u32,
+    /// The most bytes of a write.
+    pub most: usize,
+    /// The writes before one that fails.
+    pub good_writes: u32,
+    /// The flushes before one that fails.
+    pub good_flushes: u32,
+    pub limits: ServeLimits,
+}
+
+/// Devices that never fail, and limits that are not met.
+pub const SOUND: Plan = Plan {
+    piece: 4096,
+    good_reads: u32::MAX,
+    most: 4096,
+    good_writes: u32::MAX,
+    good_flushes: u32::MAX,
+    limits: ServeLimits {
+        lines: 1_000,
+        reads: 100_000,
+    },
+};
+
+/// How a connection was served, and what was written, with a bar for each flush.
+#[derive(Drop)]
+pub struct Told {
+    pub served: Served,
+    pub log: Vec<u8>,
+}
+
+/// How a connection over the reader and the writer is served.
+fn served(
+    alloc: Global,
+    floor: &mut Floor<PlainSeeker>,
+    reader: &mut Pieces<'_>,
+    writer: &mut Log,
+    limits: ServeLimits,
+) -> Served {
+    let mut source = FromRead::new(reader);
+    let mut sink = ToWrite::new(writer);
+    serve(alloc, floor, &mut source, &mut sink, limits)
+}
+
+/// Serves these bytes.
+pub fn serve_bytes(
+    alloc: Global,
+    floor: &mut Floor<PlainSeeker>,
+    bytes: &[u8],
+    plan: &Plan,
+) -> Told {
+    let mut reader = Pieces {
+        bytes,
+        most: plan.piece,
+        good_reads: plan.good_reads,
+    };
+    let mut writer = Log {
+        taken: Vec::new(alloc),
+        most: plan.most,
+        good_writes: plan.good_writes,
+        good_flushes: plan.good_flushes,
+    };
+    let served = served(alloc, floor, &mut reader, &mut writer, plan.limits);
+    Told {
+        served,
+        log: writer.taken,
+    }
+}
+
+/// What is told where so many lines were acted on and so many replies written and flushed.
+pub fn counted(lines: u64, answered: u64, ending: Ending) -> Served {
+    Served {
+        lines,
+        answered,
+        ending,
+    }
+}
+
+/// Whether a connection over these bytes is served so on the floor, with this log.
+pub fn tells_on(
+    alloc: Global,
+    floor: &mut Floor<PlainSeeker>,
+    bytes: &[u8],
+    plan: &Plan,
+    served: Served,
+    log: &[u8],
+) -> bool {
+    let told = serve_bytes(alloc, floor, bytes, plan);
+    told.served == served && told.log.as_slice() == log
+}
+
+/// The same of the floor of the built-in design.
+pub fn tells(
+    alloc: Global,
+    bytes: &[u8],
+    plan: &Plan,
+    served: Served,
+    log: &[u8],
+) -> Result<bool, Fail> {
+    match floor(alloc) {
+        Ok(mut floor) => Ok(tells_on(alloc, &mut floor, bytes, plan, served, log)),
+        Err(fail) => Err(fail),
+    }
+}
+
+#[test]
+fn a_last_line_needs_no_line_feed(rt: HostRuntime) -> Result<(), Fail> {
+    let plan = Plan { piece: 1, ..SOUND };
+    let served = counted(2, 2, Ending::Done);
+    let log = b"ok 0 0\n|no 6 Unplaced a1\n|";
+    assert!(rt; tells(rt.alloc(), b"open A\nwhere A 0 a1", &plan, served, log)?);
+    Ok(())
+}
+
+#[test]
+fn a_reply_that_breaks_off_is_not_answered(rt: HostRuntime) -> Result<(), Fail> {
+    let plan = Plan {
+        most: 3,
+        good_writes: 1,
+        ..SOUND
+    };
+    let served = counted(1, 0, Ending::WriteFault);
+    assert!(rt; tells(rt.alloc(), b"open A\nopen A\n", &plan, served, b"ok ")?);
+    Ok(())
+}
+
+#[test]
+fn a_reader_that_fails_ends_it(rt: HostRuntime) -> Result<(), Fail> {
+    let plan = Plan {
+        good_reads: 1,
+        ..SOUND
+    };
+    let served = counted(1, 1, Ending::ReadFault);
+    assert!(rt; tells(rt.alloc(), b"open A\n", &plan, served, b"ok 0 0\n|")?);
+    Ok(())
+}
+
+#[test]
+fn no_line_behind_bye_is_acted_on(rt: HostRuntime) -> Result<(), Fail> {
+    let served = counted(1, 1, Ending::Bye);
+    assert!(rt; tells(rt.alloc(), b"bye\nopen A\n", &SOUND, served, b"ok\n|")?);
+    Ok(())
+}
+
+/// Whether a session of one connection is still open in the next connection to the floor.
+fn keeps_sessions(alloc: Global, floor: &mut Floor<PlainSeeker>) -> bool {
+    let first = counted(2, 2, Ending::Bye);
+    let next = counted(1, 1, Ending::Done);
+    tells_on(
+        alloc,
+        floor,
+        b"open A\n bye\t\r\n",
+        &SOUND,
+        first,
+        b"ok 0 0\n|ok\n|",
+    ) && tells_on(alloc, floor, b"open A\n", &SOUND, next, b"ok 1 0\n|")
+}
+
+/// The same of the floor of the built-in design.
+fn sessions_outlive(alloc: Global) -> Result<bool, Fail> {
+    match floor(alloc) {
+        Ok(mut floor) => Ok(keeps_sessions(alloc, &mut floor)),
+        Err(fail) => Err(fail),
+    }
+}
+
+#[test]
+fn sessions_outlive_connections(rt: HostRuntime) -> Result<(), Fail> {
+    assert!(rt; sessions_outlive(rt.alloc())?);
+    Ok(())
+}
+
+#[test]
+fn lines_are_limited(rt: HostRuntime) -> Result<(), Fail> {
+    let cases = [
+        (0, counted(0, 0, Ending::TooManyLines), b"".as_slice()),
+        (
+            1,
+            counted(1, 1, Ending::TooManyLines),
+            b"ok 0 0\n|".as_slice(),
+        ),
+        (
+            2,
+            counted(2, 2, Ending::Done),
+            b"ok 0 0\n|ok 1 0\n|".as_slice(),
+        ),
+    ];
+    for (lines, served, log) in cases {
+        let limits = ServeLimits {
+            lines,
+            ..SOUND.limits
+        };
+        let plan = Plan { limits, ..SOUND };
+        assert!(rt;
+            tells(rt.alloc(), b"open A\nopen A\n", &plan, served, log)?,
+            "{lines} lines"
+        );
+    }
+    Ok(())
+}
+
+#[test]
+fn reads_are_limited(rt: HostRuntime) -> Result<(), Fail> {
+    let cases = [
+        (3, counted(0, 0, Ending::ReadFault), b"".as_slice()),
+        (7, counted(1, 1, Ending::ReadFault), b"ok 0 0\n|".as_slice()),
+        (8, counted(1, 1, Ending::Done), b"ok 0 0\n|".as_slice()),
+    ];
+    for (reads, served, log) in cases {
+        let limits = ServeLimits {
+            reads,
+            ..SOUND.limits
+        };
+        let plan = Plan {
+            piece: 1,
+            limits,
+            ..SOUND
+        };
+        assert!(rt;
+            tells(rt.alloc(), b"open A\n", &plan, served, log)?,
+            "{reads} reads"
+        );
+    }
+    Ok(())
+}
+
+#[test]
+fn a_writer_that_takes_no_byte_has_failed(rt: HostRuntime) -> Result<(), Fail> {
+    let plan = Plan { most: 0, ..SOUND };
+    let served = counted(1, 0, Ending::WriteFault);
+    assert!(rt; tells(rt.alloc(), b"open A\n", &plan, served, b"")?);
+    Ok(())
+}
+
+/// Puts behind the lines one of `open A` and blanks, so many bytes in all, and a line feed.
+fn push_long_line(lines: &mut Vec<u8>, length: usize) -> Result<(), AllocError> {
+    let end = lines.len().saturating_add(length);
+    lines.extend_from_slice(b"open A")?;
+    lines.resize(end, b' ')?;
+    lines.push(b'\n')?;
+    Ok(())
+}
+
+/// Puts behind the lines some that are no requests, and around them two that are.
+fn push_odd_lines(lines: &mut Vec<u8>) -> Result<(), AllocError> {
+    lines.extend_from_slice(b"open A\n\nwhere A 0\nplace A 0 a1 2147483648 0 N\n")?;
+    push_long_line(lines, 4097)?;
+    push_long_line(lines, 4096)
+}
+
+/// What those lines are told.
+const REFUSED: &[u8] = b"ok 0 0
+|no 1 BadRequest
+|no 1 BadRequest
+|no 1 BadRequest
+|no 1 BadRequest
+|ok 1 0
+|";
+
+#[test]
+fn lines_that_are_no_requests_are_refused(rt: HostRuntime) -> Result<(), Fail> {
+    let mut lines = Vec::new(rt.alloc());
+    push_odd_lines(&mut lines)?;
+    let served = counted(6, 6, Ending::Done);
+    assert!(rt; tells(rt.alloc(), &lines, &SOUND, served, REFUSED)?);
+    Ok(())
+}
