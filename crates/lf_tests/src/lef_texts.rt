@@ -11,17 +11,26 @@ fn has(library: &Library, sites: usize, macros: usize) -> bool {
     library.sites().len() == sites && library.macros().len() == macros
 }
 
+/// Whether the text is read into the library, which has so many sites and macros then.
+fn reads(library: &mut Library, text: &[u8], sites: usize, macros: usize) -> bool {
+    read_lef(library, text).is_ok() && has(library, sites, macros)
+}
+
+/// Whether the text is refused for its end in the first line, and the library has so many sites and macros then.
+fn refuses(library: &mut Library, text: &[u8], sites: usize, macros: usize) -> bool {
+    let fault = read_lef(library, text).err();
+    fault == at_line(FaultNumber::UnexpectedEnd, 1) && has(library, sites, macros)
+}
+
 /// A text that is refused leaves the library as it was, whatever it held, and what is read next stands behind that.
 #[test]
 fn keeps_what_it_had(rt: HostRuntime) {
     let mut library = Library::new(rt.alloc());
-    assert!(rt; read_lef(&mut library, b"SITE s SIZE 1 BY 2 ; END s SITE s END s").is_ok());
-    assert!(rt; has(&library, 1, 0));
+    let first = b"SITE s SIZE 1 BY 2 ; END s SITE s END s";
+    assert!(rt; reads(&mut library, first, 1, 0));
     let refused = b"SITE t END t MACRO m END m SITE s SIZE 7 BY 8 ; END s BEGINEXT";
-    let fault = at_line(FaultNumber::UnexpectedEnd, 1);
-    assert!(rt; read_lef(&mut library, refused).err() == fault);
-    assert!(rt; has(&library, 1, 0) && library.find_site(b"t").is_none());
-    assert!(rt; read_lef(&mut library, b"SITE t END t MACRO m END m").is_ok());
+    assert!(rt; refuses(&mut library, refused, 1, 0) && library.find_site(b"t").is_none());
+    assert!(rt; reads(&mut library, b"SITE t END t MACRO m END m", 2, 1));
     assert!(rt; library.find_site(b"t") == Some(1) && library.find_macro(b"m") == Some(0));
 }
 

@@ -5,59 +5,77 @@ use lf_lex::{
     FaultNumber, LexFault, Lexer, LoadFault, ReadError, TokenKind, end_name, keyword, name, next,
     to_end, to_semicolon, to_word, token, word,
 };
-use std::test::Fail;
+
+/// Whether the next token is the quoted text, in its line and at its offsets.
+fn is_quoted(lexer: &mut Lexer<'_>) -> bool {
+    match lexer.next_token() {
+        Ok(Some(token)) => {
+            token.text == b"\"c \\\" d\"".as_slice()
+                && token.kind == TokenKind::Quoted
+                && (token.line, token.start, token.stop) == (2, 19, 27)
+        }
+        _ => false,
+    }
+}
+
+/// Whether the next token has this text.
+fn is_token(lexer: &mut Lexer<'_>, text: &[u8]) -> bool {
+    match lexer.next_token() {
+        Ok(Some(token)) => token.text == text,
+        _ => false,
+    }
+}
+
+/// Whether there is no next token for this fault, and none behind it either.
+fn stops_at(lexer: &mut Lexer<'_>, fault: LexFault) -> bool {
+    matches!(lexer.next_token(), Err(last) if last == fault)
+        && matches!(lexer.next_token(), Err(last) if last == fault)
+}
 
 /// A comment that holds quotation marks, an escaped mark in a quoted text, a semicolon inside a word,
 /// and a byte that no word may hold.
 #[test]
-fn gives_tokens_until_the_fault(rt: HostRuntime) -> Result<(), Fail> {
+fn gives_tokens_until_the_fault(rt: HostRuntime) {
     let mut lexer = Lexer::new(b"SIZE 0.2 # a ; \"b\n \"c \\\" d\"; x;y \x80");
-    let _ = lexer.next_token();
-    let _ = lexer.next_token();
-    match lexer.next_token() {
-        Ok(Some(token)) => {
-            assert_eq!(rt; token.text, b"\"c \\\" d\"".as_slice());
-            assert_eq!(rt; token.kind, TokenKind::Quoted);
-            assert_eq!(rt; token.line, 2);
-            assert_eq!(rt; token.start, 19);
-            assert_eq!(rt; token.stop, 27);
-        }
-        _ => return Err(Fail::from("a quoted token")),
-    }
-    let _ = lexer.next_token();
-    match lexer.next_token() {
-        Ok(Some(token)) => assert_eq!(rt; token.text, b"x;y".as_slice()),
-        _ => return Err(Fail::from("a word")),
-    }
-    let fault = LexFault::BadToken { line: 2 };
-    assert!(rt; matches!(lexer.next_token(), Err(last) if last == fault));
-    assert!(rt; matches!(lexer.next_token(), Err(last) if last == fault));
-    Ok(())
+    assert!(rt; is_token(&mut lexer, b"SIZE") && is_token(&mut lexer, b"0.2"));
+    assert!(rt; is_quoted(&mut lexer));
+    assert!(rt; is_token(&mut lexer, b";") && is_token(&mut lexer, b"x;y"));
+    assert!(rt; stops_at(&mut lexer, LexFault::BadToken { line: 2 }));
 }
 
 #[test]
 fn a_quoted_text_has_an_end(rt: HostRuntime) {
     let mut lexer = Lexer::new(b"\"a\n\n");
-    let fault = LexFault::UnexpectedEnd { line: 3 };
-    assert!(rt; matches!(lexer.next_token(), Err(last) if last == fault));
-    assert!(rt; matches!(lexer.next_token(), Err(last) if last == fault));
+    assert!(rt; stops_at(&mut lexer, LexFault::UnexpectedEnd { line: 3 }));
+}
+
+/// Whether a name with this text is read.
+fn reads_name(lexer: &mut Lexer<'_>, text: &[u8]) -> bool {
+    match name(lexer) {
+        Ok(token) => token.text == text,
+        Err(_) => false,
+    }
+}
+
+/// Whether what stands up to a semicolon, up to an END with its name, and up to a word is passed over.
+fn passes_over(lexer: &mut Lexer<'_>) -> bool {
+    to_semicolon(lexer).is_ok()
+        && to_end(lexer, b"core").is_ok()
+        && to_word(lexer, b"ENDEXT").is_ok()
+}
+
+/// Whether one more token is read, and then none.
+fn reads_the_last(lexer: &mut Lexer<'_>) -> bool {
+    matches!(next(lexer), Ok(Some(_))) && matches!(next(lexer), Ok(None))
 }
 
 #[test]
-fn reads_words(rt: HostRuntime) -> Result<(), Fail> {
+fn reads_words(rt: HostRuntime) {
     let mut lexer = Lexer::new(b"SIZE core a b ;\nx END y END core BEGINEXT ENDEXT z");
     assert!(rt; keyword(&mut lexer, b"SIZE").is_ok());
-    match name(&mut lexer) {
-        Ok(token) => assert_eq!(rt; token.text, b"core".as_slice()),
-        Err(_) => return Err(Fail::from("a name")),
-    }
-    assert!(rt; to_semicolon(&mut lexer).is_ok());
-    assert!(rt; to_end(&mut lexer, b"core").is_ok());
-    assert!(rt; to_word(&mut lexer, b"ENDEXT").is_ok());
-    assert!(rt; matches!(next(&mut lexer), Ok(Some(_))));
-    assert!(rt; matches!(next(&mut lexer), Ok(None)));
+    assert!(rt; reads_name(&mut lexer, b"core"));
+    assert!(rt; passes_over(&mut lexer) && reads_the_last(&mut lexer));
     assert_eq!(rt; lexer.end_line(), 2);
-    Ok(())
 }
 
 /// The refusal that a public reader would answer.
