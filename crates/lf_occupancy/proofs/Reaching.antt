@@ -17,10 +17,10 @@ use Rattle.lf_segments.specs.declared.rows_by_y.RowEntry.{RowEntry}
 use Rattle.lf_occupancy.specs.declared.lane.Lane.{Lane}
 use Rattle.lf_occupancy.specs.declared.strip.Strip.{Strip}
 use Rattle.lf_occupancy.specs.declared.strips.Strips.{Strips}
-use Rattle.lf_occupancy.specs.Lanes.{AreInOrder, HasRoom, IsLane, IsPruned, TakesOne, cell_box}
-use Rattle.lf_occupancy.specs.Strips.{AreChanged, AreKept, AreLanes, AreOrderly, AreRowsNear, AreStrips, Follows, KeepRoom}
+use Rattle.lf_occupancy.specs.Lanes.{AreInOrder, HasRoom, IsLane, IsPruned, TakesOne}
+use Rattle.lf_occupancy.specs.Strips.{AreChanged, AreKept, AreLanes, AreOrderly, AreRowsNear, AreStrips, Follows, KeepRoom, MeetsStrip}
 use Rattle.lf_occupancy.specs.Strips.{IsNear, IsPlaced, IsReached, PutsIn, CanTake, HaveRoom, counts_in, rooms_in}
-use Rattle.lf_occupancy.specs.Occupied.{GrowAtMost, MeetsStrip}
+use Rattle.lf_occupancy.specs.Occupied.{GrowAtMost, cell_box}
 use Rattle.lf_occupancy.proofs.Finds.{no_strip, some_lane}
 use Rattle.lf_occupancy.proofs.Lists.{maps_alike, pairs_filter}
 use Rattle.lf_occupancy.proofs.Changes.{room_kept}

@@ -15,9 +15,9 @@ use Rattle.lf_cells.specs.declared.cell.CellId.{CellId}
 use Rattle.lf_occupancy.specs.declared.lane.Entry.{Entry}
 use Rattle.lf_occupancy.specs.declared.lane.Lane.{Lane}
 use Rattle.lf_occupancy.specs.declared.strip.Strip.{Strip}
-use Rattle.lf_occupancy.specs.Lanes.{IsLane, LiesInBox, IsLeast, cell_box, x_range}
+use Rattle.lf_occupancy.specs.Lanes.{IsLane, LiesInBox, IsLeast, x_range}
 use Rattle.lf_occupancy.specs.Strips.{counts_in, AreFreeTo, AreLanes, AreLeft, LiesFree, LiesLeft, MeetsInOne}
-use Rattle.lf_occupancy.specs.Occupied.{AreCellsIn, AreCounted, box_at, AreFreeSpans, IsLeftOver, StandsBut}
+use Rattle.lf_occupancy.specs.Occupied.{AreCellsIn, AreCounted, box_at, AreFreeSpans, IsLeftOver, StandsBut, cell_box}
 use Rattle.lf_occupancy.specs.Occupied.{Occupied, IsFirstMet, IsFreeInRow, IsFreeOver, IsOther, IsStripOf, MeetsInStrips, across, over}
 use Rattle.lf_occupancy.proofs.Finds.{no_strip, some_lane}
 use Rattle.lf_occupancy.proofs.Leasts.{least_alike, least_from_none}

@@ -2,11 +2,11 @@
 
 ghost use Rattle.std.specs.Prelude.{AllPairs, IfSome, [], ◌≡◌, ◌≢◌, None, OnErr, OnOk, Some, length, slice_index_or};
 ghost use Rattle.lf_occupancy.specs.declared.lane.Lane.{Lane};
-ghost use Rattle.lf_occupancy.specs.Lanes.{IsPruned, cell_box};
-ghost use Rattle.lf_occupancy.specs.Strips.{AreChanged, AreKept, AreLanes, HaveRoomForAll, AreOrderly, AreStrips, Follows, HasCell, IsReached};
+ghost use Rattle.lf_occupancy.specs.Lanes.{IsPruned};
+ghost use Rattle.lf_occupancy.specs.Strips.{AreChanged, AreKept, AreLanes, HaveRoomForAll, AreOrderly, AreStrips, Follows, HasCell, IsReached, MeetsStrip};
 ghost use Rattle.lf_occupancy.specs.Strips.{IsReachedIn, CanTake, HaveAtMostOne, HaveRoom, StandOnce, KeepRoom, PutInRow, PutInRows, boxes_set};
 ghost use Rattle.lf_occupancy.specs.Strips.{counts_in, rooms_in};
-ghost use Rattle.lf_occupancy.specs.Occupied.{GrowAtMost, MeetsStrip, NoLess};
+ghost use Rattle.lf_occupancy.specs.Occupied.{GrowAtMost, NoLess, cell_box};
 
 use crate::boxes::{TeamBoxes, box_of_cell, has_cell, set_box};
 use crate::lane::{Lane, make_room, prune, put_in};

@@ -57,6 +57,10 @@ fn fill<'a>(store: &mut UndoStore<&'a LocalHeap>, heap: &'a LocalHeap)
 enum Case {
     /// The room that one team's entry had serves for another team's.
     RoomOfAnother,
+    /// Each of two entries that go leaves its room, whichever team is first to use it.
+    RoomsOfTwo,
+    /// Room is made where an entry went, and else refused.
+    RoomMade,
     /// An entry that finds no room comes back, and the team's others stand as before.
     NoRoom,
     /// At the limit the team's oldest entry goes.
@@ -68,6 +72,30 @@ fn serves_another<'a>(store: &mut UndoStore<&'a LocalHeap>, second: Moves<&'a Lo
 {
     let popped = store.pop(0);
     popped.is_some() && store.push(1, second).is_ok() && has_only(store, 1, 2)
+}
+
+fn serves_both<'a>(store: &mut UndoStore<&'a LocalHeap>, second: Moves<&'a LocalHeap>) -> bool
+    requires { length store.old.lists ≡ 2 }
+{
+    match (store.pop(0), store.pop(1)) {
+        (Some(first), Some(_)) => {
+            store.push(1, second).is_ok() && store.push(0, first).is_ok() && has_only(store, 1, 2)
+        }
+        _ => false,
+    }
+}
+
+fn is_made<'a>(store: &mut UndoStore<&'a LocalHeap>, second: Moves<&'a LocalHeap>) -> bool
+    requires { length store.old.lists ≡ 2 }
+{
+    if store.reserve(1).is_ok() {
+        return false;
+    }
+    let popped = store.pop(0);
+    popped.is_some()
+        && store.reserve(1).is_ok()
+        && store.push(1, second).is_ok()
+        && has_only(store, 1, 2)
 }
 
 fn comes_back<'a>(store: &mut UndoStore<&'a LocalHeap>, second: Moves<&'a LocalHeap>) -> bool
@@ -82,7 +110,7 @@ fn comes_back<'a>(store: &mut UndoStore<&'a LocalHeap>, second: Moves<&'a LocalH
 fn takes_the_place<'a>(store: &mut UndoStore<&'a LocalHeap>, second: Moves<&'a LocalHeap>) -> bool
     requires { length store.old.lists ≡ 2 }
 {
-    if store.push(1, second).is_err() || !has_only(store, 1, 2) {
+    if store.reserve(1).is_err() || store.push(1, second).is_err() || !has_only(store, 1, 2) {
         return false;
     }
     match store.pop(1) {
@@ -106,15 +134,44 @@ fn holds(alloc: Global, limit: usize, team: usize, case: Case) -> Result<bool, F
     fill(&mut store, &heap);
     Ok(match case {
         Case::RoomOfAnother => serves_another(&mut store, second),
+        Case::RoomsOfTwo => serves_both(&mut store, second),
+        Case::RoomMade => is_made(&mut store, second),
         Case::NoRoom => comes_back(&mut store, second),
         Case::Limit => takes_the_place(&mut store, second),
     })
 }
 
+/// Whether the first team's entry, which goes, leaves room for one of the second team that was made before.
+fn leaves_its_room(alloc: Global) -> Result<bool, Fail> {
+    let heap = LocalHeap::new(alloc, 8192)?;
+    let mut store: UndoStore<&LocalHeap> = UndoStore::build(&heap, 2, 1)?;
+    let second = one_move(&heap, 2)?;
+    if store.push(0, one_move(&heap, 1)?).is_err() {
+        return Ok(false);
+    }
+    let _blocks = take_all(&heap)?;
+    let popped = store.pop(0);
+    Ok(popped.is_some() && store.push(1, second).is_ok() && has_only(&store, 1, 2))
+}
+
+/// Whether an entry finds the room that was made for it while there was memory.
+fn finds_its_room(alloc: Global) -> Result<bool, Fail> {
+    let heap = LocalHeap::new(alloc, 8192)?;
+    let mut store: UndoStore<&LocalHeap> = UndoStore::build(&heap, 2, 1)?;
+    let second = one_move(&heap, 2)?;
+    store.reserve(1)?;
+    let _blocks = take_all(&heap)?;
+    Ok(store.push(1, second).is_ok() && has_only(&store, 1, 2))
+}
+
 #[test]
 fn entries_where_no_memory_is_left(rt: HostRuntime) -> Result<(), Fail> {
     assert!(rt; holds(rt.alloc(), 64, 0, Case::RoomOfAnother)?);
+    assert!(rt; holds(rt.alloc(), 64, 1, Case::RoomsOfTwo)?);
+    assert!(rt; holds(rt.alloc(), 64, 0, Case::RoomMade)?);
     assert!(rt; holds(rt.alloc(), 64, 1, Case::NoRoom)?);
     assert!(rt; holds(rt.alloc(), 1, 1, Case::Limit)?);
+    assert!(rt; leaves_its_room(rt.alloc())?);
+    assert!(rt; finds_its_room(rt.alloc())?);
     Ok(())
 }

@@ -4,8 +4,8 @@ use Rattle.std.proofs.lemmas.List.Elements.{All-weaker}
 use Rattle.std.proofs.lemmas.Result.{IfOk-weaker}
 use Rattle.lf_units.specs.declared.area.Rect.{Rect}
 use Rattle.lf_cells.specs.declared.cell.CellId.{CellId}
-use Rattle.lf_occupancy.specs.Occupied.{GrowAtMost, HasRoomFor, MeetsStrip, Occupied}
-use Rattle.lf_occupancy.specs.Strips.{HaveRoom, counts_in, rooms_in}
+use Rattle.lf_occupancy.specs.Occupied.{GrowAtMost, HasRoomFor, Occupied}
+use Rattle.lf_occupancy.specs.Strips.{HaveRoom, counts_in, rooms_in, MeetsStrip}
 use Rattle.lf_occupancy.proofs.Reaching.{counts_kept, lanes_kept, move_fits, rooms_kept}
 use Rattle.lf_occupancy.proofs.occupancy.Occupancy.reserve_for.Goals as goal
 
