@@ -1,0 +1,2 @@
+//! Where the cells of all teams stand on a frame: cells and strips, kept in step.
+#![tactic(auto)]
