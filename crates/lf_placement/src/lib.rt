@@ -1,2 +1,5 @@
 //! Where the cells of all teams stand on a frame: cells and strips, kept in step.
 #![tactic(auto)]
+
+mod strips;
+mod table;
