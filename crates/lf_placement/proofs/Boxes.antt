@@ -158,7 +158,7 @@ out_next team named n own a b c is put kept out = record { each = each; rest = k
 
 -- ---- cells are put where they are to stand, one after the other
 
-fits_still : (team : ℕ) (boxes : Boxes) (a b : Occupied) → a.strips ≡ b.strips → a.rooms ≡ b.rooms → FitIn b team boxes → FitIn a team boxes
+pub fits_still : (team : ℕ) (boxes : Boxes) (a b : Occupied) → a.strips ≡ b.strips → a.rooms ≡ b.rooms → FitIn b team boxes → FitIn a team boxes
 fits_still team boxes a b strips rooms fits =
     λ n g there of_team. rw rooms (fits n g (subst (λ (gs : List Strip). slice_get gs n ≡ Some g) strips there) of_team)
 
