@@ -1,5 +1,5 @@
 -- The steps of a change: its cells are taken out of the strips, moved in the table, and put back; no public clause cites it.
-use Rattle.std.specs.Prelude.{◌≡◌, ◌≢◌, ◌⊎◌, ℕ, ◌<◌, List, [], ◌∷◌, map, length, Option, None, option_and_then, slice_index}
+use Rattle.std.specs.Prelude.{◌≡◌, ◌≢◌, ◌⊎◌, ℕ, ◌<◌, List, [], ◌∷◌, map, length, Option, None, option_and_then, slice_get, slice_index, unwrap_or}
 use Rattle.std.specs.Option.{option_map}
 use Rattle.lf_units.specs.declared.area.Rect.{Rect}
 use Rattle.lf_floorplan.specs.declared.frame.Frame.{Frame}
@@ -7,7 +7,8 @@ use Rattle.lf_floorplan.specs.declared.place.Place.{Place}
 use Rattle.lf_rules.specs.Choice.{spot_of}
 use Rattle.lf_rules.specs.Team.{box_in}
 use Rattle.lf_cells.specs.declared.cell.Cell.{Cell}
-use Rattle.lf_cells.specs.Cells.{Cells, cells_of, moved}
+use Rattle.lf_cells.specs.declared.cell.CellId.{CellId}
+use Rattle.lf_cells.specs.Cells.{Cells, cells_of, id_in, moved}
 use Rattle.lf_occupancy.specs.Occupied.{ArePartOf, FitIn, Occupied, boxes_of, cell_box}
 use Rattle.lf_occupancy.specs.Floorplans.{box_of}
 use Rattle.lf_undo.specs.declared.moves.Move.{Move}
@@ -59,3 +60,7 @@ pub record MayStand (team : ℕ) (boxes : List (Option Rect)) (o : Occupied) : T
 -- what none of these names stands where it is to stand
 abbrev pub StandButFor : ℕ → List (Option Rect) → List ℕ → Occupied → Type 0
 StandButFor team boxes named o = (own : ℕ) → NameNot named (length named) own → cell_box (boxes_of o team) own ≡ cell_box boxes own
+
+-- the cell that a move names, and its box at the move's place; no box where there is no such cell
+abbrev pub asked_for : Frame → ℕ → List Cell → Move → CellId × Option Rect
+asked_for f team cells m = (unwrap_or (id_in cells team m.own) record { team = 0; own = 0 }, box_moved f (slice_get cells m.own) m.old)
