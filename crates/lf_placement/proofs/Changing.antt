@@ -28,10 +28,10 @@ use Rattle.lf_placement.proofs.Boxes.{fits_still}
 abbrev pub macs : List Cell → List ℕ
 macs cells = map (λ c. c.mac) cells
 
-first_same : {a b : Cell} {rest others : List Cell} → a ∷ rest ≡ b ∷ others → a ≡ b
+pub first_same : {a b : Cell} {rest others : List Cell} → a ∷ rest ≡ b ∷ others → a ≡ b
 first_same e = cc
 
-rest_same : {a b : Cell} {rest others : List Cell} → a ∷ rest ≡ b ∷ others → rest ≡ others
+pub rest_same : {a b : Cell} {rest others : List Cell} → a ∷ rest ≡ b ∷ others → rest ≡ others
 rest_same e = cc
 
 pub macs_same : (old new : List Cell) → SameButPlaces old new → macs new ≡ macs old

@@ -1,3 +1,4 @@
 pub mod Moves
 pub mod Boxes
 pub mod Changing
+pub mod Keeping
