@@ -1,0 +1,1 @@
+-- Room that is made for the boxes of moves is room for the cells at their places.
