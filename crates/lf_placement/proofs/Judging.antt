@@ -1,5 +1,5 @@
 -- What the tests of a cell at a place say of it.
-use Rattle.std.proofs.Common.{◌≡◌, ℕ, List, get_or, map, Option, Some, None, refl, ap, sym, subst, ◌∙◌}
+use Rattle.std.proofs.Common.{◌≡◌, ℕ, List, get_or, map, Option, Some, None, refl, ap, subst, ◌∙◌}
 use Rattle.std.specs.Prelude.{All, MatchOption, slice_get}
 use Rattle.std.specs.Option.{option_map}
 use Rattle.std.proofs.lemmas.Option.{get_or_from_slice_get, slice_get_within}
@@ -7,7 +7,7 @@ use Rattle.lf_units.specs.declared.area.Rect.{Rect}
 use Rattle.lf_floorplan.specs.declared.frame.Frame.{Frame}
 use Rattle.lf_floorplan.specs.declared.macros.Macro.{Macro}
 use Rattle.lf_floorplan.specs.declared.place.Place.{Place}
-use Rattle.lf_floorplan.specs.Boxes.{IsSized, macro_of}
+use Rattle.lf_floorplan.specs.Boxes.{macro_of}
 use Rattle.lf_floorplan.proofs.CellLemmas.{macro_there}
 use Rattle.lf_rtree.specs.declared.placed.Placed.{Placed}
 use Rattle.lf_rules.specs.declared.rule.Broken.{Broken}

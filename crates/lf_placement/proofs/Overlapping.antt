@@ -1,34 +1,28 @@
 -- The first cell that is met in the strips is the first other cell of the team that the box meets.
-use Rattle.std.proofs.Common.{◌≡◌, ◌≢◌, ℕ, ℤ, zero, suc, ◌+◌, ◌≤◌, List, [], ◌∷◌, map, get_or, Option, Some, None, refl, ap, sym, subst, ◌∙◌, arith}
+use Rattle.std.proofs.Common.{◌≡◌, ◌≢◌, ℕ, ℤ, zero, suc, ◌+◌, ◌≤◌, List, [], ◌∷◌, map, Option, Some, None, refl, ap, sym, subst, ◌∙◌, arith}
 use Rattle.std.specs.Prelude.{All, Any, Contains, option_and_then, slice_get}
 use Rattle.std.specs.Option.{option_map}
 use Rattle.std.proofs.lemmas.List.Elements.{All-nil, All-cons}
 use Rattle.std.proofs.lemmas.List.Sorted.{IsPermutation-refl}
-use Rattle.std.proofs.lemmas.Option.{get_or_from_slice_get, slice_get_within}
 use Rattle.lf_units.specs.declared.area.Rect.{Rect}
 use Rattle.lf_units.specs.Area.{Covers, SharesPoint}
 use Rattle.lf_floorplan.specs.declared.frame.Frame.{Frame}
-use Rattle.lf_floorplan.specs.declared.macros.Macro.{Macro}
 use Rattle.lf_floorplan.specs.declared.place.Place.{Place}
-use Rattle.lf_floorplan.specs.Boxes.{macro_of}
 use Rattle.lf_floorplan.specs.Standing.{StandsOn}
-use Rattle.lf_floorplan.proofs.CellLemmas.{macro_there}
 use Rattle.lf_rtree.specs.declared.placed.Placed.{Placed}
 use Rattle.lf_rtree.specs.Near.{IsLeastMet, IsNoneMet}
-use Rattle.lf_rules.specs.declared.rule.Broken.{Broken}
 use Rattle.lf_rules.specs.declared.rule.Rule.{Rule}
 use Rattle.lf_rules.specs.declared.rule.Rule.TheVariants.{Height, Row as RowRule, Stand, Orient as OrientRule, Rail as RailRule, Fence, Obstacle, Overlap}
 use Rattle.lf_rules.specs.Choice.{Spot, spot_of}
-use Rattle.lf_rules.specs.Legality.{Holds, IsFirstMet as IsFirstMetOf, Trial, box_of as box_of_trial, number_of, trial_of}
-use Rattle.lf_rules.specs.Legalizer.{IsVerdict, VerdictIsOne}
+use Rattle.lf_rules.specs.Legality.{Holds, IsFirstMet as IsFirstMetOf, Trial, box_of as box_of_trial, number_of}
+use Rattle.lf_rules.specs.Legalizer.{IsVerdict}
 use Rattle.lf_rules.specs.Team.{Member, box_in, boxes_beside, boxes_from, with_box}
 use Rattle.lf_rules.proofs.RuleLemmas.{OnRows, all_hold, overlap_broken}
 use Rattle.lf_reports.proofs.MetLemmas.{first_beside, none_beside}
 use Rattle.lf_cells.specs.declared.cell.Cell.{Cell}
 use Rattle.lf_cells.specs.declared.cell.CellId.{CellId}
-use Rattle.lf_cells.specs.declared.cell.Standing.{Standing}
-use Rattle.lf_cells.specs.Cells.{Cells, cell_at, cells_of, standing_of}
-use Rattle.lf_legalize.specs.Members.{IsSizedCell, member_of}
+use Rattle.lf_cells.specs.Cells.{Cells, cells_of}
+use Rattle.lf_legalize.specs.Members.{member_of}
 use Rattle.lf_occupancy.specs.declared.strip.Strip.{Strip}
 use Rattle.lf_occupancy.specs.Occupied.{IsFirstMet, MeetsInStrips, Occupied, box_at}
 use Rattle.lf_occupancy.specs.Floorplans.{IsOccupancyOf, StripsCover, box_of}
@@ -211,4 +205,3 @@ met_decides t table o id rect met of cover team beside at holds found = by met f
         (subst (λ (b : Rect). IsFirstMetOf b t.others own) at
         (subst (λ (bs : List Placed). IsFirstMetOf rect bs own) (sym are)
         (first_beside t.frame members all_boxes rect id.own own (IsPermutation-refl all_boxes) (least_in t.frame table o of id rect covered own meets least))))
-

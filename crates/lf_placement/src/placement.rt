@@ -128,9 +128,7 @@ impl Placement {
         requires { IsBrokenAlone self.now id place.now None }
         ensures { IsBrokenAt self.now id place.now (option_map (λ own. record { rule = Overlap; other = Some own }) result) }
     {
-        let standing = self
-            .cells
-            .standing(id.team as usize, id.own as usize)?;
+        let standing = self.cells.standing(id.team as usize, id.own as usize)?;
         let mac = &self.frame.macros.as_slice()[standing.mac];
         let rect = box_of(&self.frame, mac, place);
         strips_cover();
@@ -171,25 +169,13 @@ impl Placement {
         ensures { (l : Legalizer) → IfOk result (λ found. option_map spot_of found
             ≡ best_of l self.now.frame id.team (cells_of self.now.cells id.team) id.own target.now) }
     {
-        seeker.seek(
-            alloc,
-            &self.frame,
-            &self.cells,
-            &self.occupancy,
-            id,
-            target,
-        )
+        seeker.seek(alloc, &self.frame, &self.cells, &self.occupancy, id, target)
     }
 
     /// Makes the room that `make` asks where it makes these moves of the team's cells.
     ///
     /// `Err` where an allocation fails: then some room may have been made, and nothing else is changed.
-    pub fn reserve(
-        &mut self,
-        alloc: Global,
-        team: usize,
-        moves: &[Move],
-    ) -> Result<(), AllocError>
+    pub fn reserve(&mut self, alloc: Global, team: usize, moves: &[Move]) -> Result<(), AllocError>
         ensures ok { OnOk result (Fits self.new team (places_of (made moves.now (cells_of self.old.cells team)))) }
         ensures same { SameButRooms self.old self.new }
     {

@@ -1,4 +1,4 @@
-use Rattle.std.proofs.Common.{List, [], Option, get_or, length, subst, ap, sym, ◌∙◌}
+use Rattle.std.proofs.Common.{List, [], Option, get_or, length, subst, ap, ◌∙◌}
 use Rattle.std.specs.Prelude.{All, IfSome}
 use Rattle.lf_units.specs.declared.area.Rect.{Rect}
 use Rattle.lf_cells.specs.declared.cell.CellId.{CellId}

@@ -1,4 +1,4 @@
-use Rattle.std.proofs.Common.{◌≡◌, Option, List, get_or, sym, subst, ◌∙◌}
+use Rattle.std.proofs.Common.{◌≡◌, List, get_or, sym, subst}
 use Rattle.std.specs.Prelude.{None, Some, option_map}
 use Rattle.lf_floorplan.specs.declared.macros.Macro.{Macro}
 use Rattle.lf_rules.specs.declared.rule.Rule.TheVariants.{Overlap}

@@ -1,4 +1,4 @@
-use Rattle.std.proofs.Common.{subst, sym, ◌∙◌, ap}
+use Rattle.std.proofs.Common.{subst, sym, ◌∙◌}
 use Rattle.lf_cells.specs.Cells.{cells_of}
 use Rattle.lf_undo.specs.Entries.{taken_back}
 use Rattle.lf_placement.specs.Placings.{Fits, HaveMoved, Placing, SameButPlaces, places_of}
