@@ -1,5 +1,5 @@
 -- What the tests of a cell at a place say of it.
-use Rattle.std.proofs.Common.{◌≡◌, ℕ, List, get_or, map, Option, Some, None, refl, ap, subst, ◌∙◌}
+use Rattle.std.proofs.Common.{◌≡◌, ℕ, zero, suc, [], ◌∷◌, List, get_or, map, Option, Some, None, refl, ap, subst, ◌∙◌}
 use Rattle.std.specs.Prelude.{All, MatchOption, slice_get}
 use Rattle.std.specs.Option.{option_map}
 use Rattle.std.proofs.lemmas.Option.{get_or_from_slice_get, slice_get_within}
@@ -25,6 +25,7 @@ use Rattle.lf_legalize.specs.Members.{IsSizedCell, member_of}
 use Rattle.lf_occupancy.specs.Occupied.{IsFirstMet}
 use Rattle.lf_occupancy.specs.Floorplans.{IsOccupancyOf, StripsCover}
 use Rattle.lf_placement.specs.Placings.{IsBrokenAlone, IsBrokenAt, Placing}
+use Rattle.lf_placement.specs.Laws.{SameMacros}
 use Rattle.lf_placement.proofs.Overlapping.{met_decides}
 
 abbrev alone : Rule → Option Broken
@@ -84,3 +85,27 @@ met_at p id place standing mac rect met sized follows cover stands is box holds 
         let same : mac ≡ macro_of p.frame c.mac = macro_is p.frame (cells_of p.cells id.team) id.own c standing mac sized there at is in
         met_decides (trial_of p.frame id.team (macro_of p.frame c.mac) place others) p.cells p.held id rect met follows cover refl refl
         (subst (λ (m : Macro). rect ≡ box_of_trial (trial_of p.frame id.team m place others)) same box) (those others) first
+
+-- ---- what lasts while cells keep their macros
+
+mac_still : (old new : List Cell) (own : ℕ) → SameMacros old new
+    → option_map (λ (c : Cell). c.mac) (slice_get new own) ≡ option_map (λ (c : Cell). c.mac) (slice_get old own)
+mac_still [] [] own same = refl
+mac_still [] (c ∷ cs) own same = absurd cc
+mac_still (d ∷ ds) [] own same = absurd cc
+mac_still (d ∷ ds) (c ∷ cs) zero same = let mac : c.mac ≡ d.mac = cc in ap (λ (n : ℕ). Some n) mac
+mac_still (d ∷ ds) (c ∷ cs) (suc own) same = let rest : SameMacros ds cs = cc in mac_still ds cs own rest
+
+by_mac : (P : ℕ → Type 0) (N : Type 0) (a b : Option Cell) → option_map (λ (c : Cell). c.mac) b ≡ option_map (λ (c : Cell). c.mac) a
+    → MatchOption a N (λ c. P c.mac) → MatchOption b N (λ c. P c.mac)
+by_mac P N None None same held = held
+by_mac P N None (Some c) same held = absurd cc
+by_mac P N (Some d) None same held = absurd cc
+by_mac P N (Some d) (Some c) same held = let mac : c.mac ≡ d.mac = cc in rw mac held
+
+pub alone_lasts : (old new : Placing) (id : CellId) (place : Place) (broken : Option Rule) → new.frame ≡ old.frame
+    → SameMacros (cells_of old.cells id.team) (cells_of new.cells id.team) → IsBrokenAlone old id place broken → IsBrokenAlone new id place broken
+alone_lasts old new id place broken frame same held =
+    rw frame
+    (by_mac (λ mac. (others : List Placed) → IsFrameVerdict (trial_of old.frame id.team (macro_of old.frame mac) place others) broken) (broken ≡ no_rule)
+    (cell_at old.cells id) (cell_at new.cells id) (mac_still (cells_of old.cells id.team) (cells_of new.cells id.team) id.own same) held)

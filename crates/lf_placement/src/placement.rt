@@ -1,6 +1,6 @@
 //! Where the cells of all teams stand on a frame.
 
-ghost use Rattle.std.specs.Prelude.{◌≡◌, ℕ, List, None, OnOk, IfOk, Some, drop, map, option_map, take};
+ghost use Rattle.std.specs.Prelude.{◌≡◌, ◌≤◌, ℕ, List, length, None, OnOk, IfOk, Some, drop, map, option_map, take};
 ghost use Rattle.lf_segments.specs.Segments.{IsCut};
 ghost use Rattle.lf_reports.specs.Nearby.{IsIndexOf};
 ghost use Rattle.lf_rules.specs.declared.rule.Rule.TheVariants.{Overlap};
@@ -11,7 +11,7 @@ ghost use Rattle.lf_cells.specs.Cells.{as_committed, cells_of};
 ghost use Rattle.lf_cells.specs.Openings.{opening_cells, opening_components};
 ghost use Rattle.lf_legalize.specs.Members.{best_of};
 ghost use Rattle.lf_undo.specs.Entries.{taken_back};
-ghost use Rattle.lf_placement.specs.Placings.{Fits, HaveMoved, IsBrokenAlone, IsBrokenAt, KeepsRest, OtherCellsStay, SameButRooms};
+ghost use Rattle.lf_placement.specs.Placings.{AreSized, Fits, HaveMoved, IsBrokenAlone, IsBrokenAt, KeepsRest, OtherCellsStay, SameButRooms};
 ghost use Rattle.lf_placement.specs.Placings.{committed_of, made, places_of};
 
 use crate::build::tables_of;
@@ -233,6 +233,15 @@ impl Placement {
     {
         self.occupancy.boxes_fit();
         commit_places(&mut self.cells, team);
+    }
+
+    /// The macros of all cells are the frame's, of whole size, and no team has more than 4,000,000
+    /// cells.
+    pub fn cells_are_sized(&self)
+        ensures sized { AreSized self.now.frame self.now.cells }
+        ensures few { (team : ℕ) → length (cells_of self.now.cells team) ≤ 4000000 }
+    {
+        let _ = &self.cells;
     }
 
     /// The working places of each team fit.
