@@ -28,7 +28,8 @@ use Rattle.lf_occupancy.specs.declared.strip.Strip.{Strip}
 use Rattle.lf_occupancy.specs.declared.strips.Strips.{Strips}
 use Rattle.lf_occupancy.specs.Building.{AreBare, AreFilled, AreLaidOut, AreNowhere, IsBare}
 use Rattle.lf_occupancy.specs.Floorplans.{box_of, row_y, strip_of}
-use Rattle.lf_occupancy.specs.Lanes.{IsLane, cell_box}
+use Rattle.lf_occupancy.specs.Occupied.{cell_box}
+use Rattle.lf_occupancy.specs.Lanes.{IsLane}
 use Rattle.lf_occupancy.specs.Strips.{AreLanes, ComesBefore, IsPlaced}
 use Rattle.lf_occupancy.proofs.Laning.{box_other, box_same}
 

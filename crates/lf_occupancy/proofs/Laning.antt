@@ -12,7 +12,8 @@ use Rattle.lf_units.specs.Area.{Covers}
 use Rattle.lf_occupancy.specs.declared.lane.Entry.{Entry}
 use Rattle.lf_occupancy.specs.declared.lane.Lane.{Lane}
 use Rattle.lf_occupancy.specs.Lanes.{AreInOrder, HoldsPoint, IsInside, IsJoined, IsKept, IsLane, IsPruned, IsPutIn, IsWhole, IsWithinDef, LiesInBox}
-use Rattle.lf_occupancy.specs.Lanes.{cell_box, entry_for}
+use Rattle.lf_occupancy.specs.Occupied.{cell_box}
+use Rattle.lf_occupancy.specs.Lanes.{entry_for}
 use Rattle.lf_occupancy.proofs.Lists.{contains_filter, pairs_filter, pairs_append, pairs_cons}
 
 get_set_other : {X : Type 0} (xs : List X) (i k : ℕ) (x : X) → k ≢ i → slice_get (set xs i x) k ≡ slice_get xs k

@@ -13,7 +13,8 @@ use Rattle.lf_segments.specs.declared.rows_by_y.RowEntry.{RowEntry}
 use Rattle.lf_occupancy.specs.declared.lane.Entry.{Entry}
 use Rattle.lf_occupancy.specs.declared.lane.Lane.{Lane}
 use Rattle.lf_occupancy.specs.declared.strip.Strip.{Strip}
-use Rattle.lf_occupancy.specs.Lanes.{HasAtMostOne, IsLane, StandsAt, StandsNotFrom, cell_box, others_in}
+use Rattle.lf_occupancy.specs.Occupied.{cell_box}
+use Rattle.lf_occupancy.specs.Lanes.{HasAtMostOne, IsLane, StandsAt, StandsNotFrom, others_in}
 use Rattle.lf_occupancy.specs.Strips.{AreKept, AreLanes, HaveAtMostOne, IsReached, StandOnce}
 
 kept_one : (e : Entry) (es : List Entry) (own : ℕ) → e.own ≢ own → others_in (e ∷ es) own ≡ e ∷ others_in es own

@@ -9,7 +9,7 @@ use Rattle.lf_cells.specs.Cells.{Cells, cells_of, cell_at}
 use Rattle.lf_occupancy.specs.declared.lane.Lane.{Lane}
 use Rattle.lf_occupancy.specs.declared.strips.Strips.{Strips}
 use Rattle.lf_occupancy.specs.Floorplans.{box_of, strip_of}
-use Rattle.lf_occupancy.specs.Lanes.{cell_box}
+use Rattle.lf_occupancy.specs.Occupied.{cell_box}
 use Rattle.lf_occupancy.specs.Strips.{AreStrips}
 
 -- the strips of a frame's segments

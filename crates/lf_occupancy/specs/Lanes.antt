@@ -1,7 +1,7 @@
 -- The entries of one strip: one for the part of each cell's box that lies in it.
 use Rattle.std.specs.Prelude.{◌≡◌, ◌≢◌, ◌⊎◌, ◌↔◌, ◌==◌, ℕ, ◌+◌, ◌<◌, ◌≤◌, ℤ, pos, negsuc}
 use Rattle.std.specs.Prelude.{◌-ℤ◌, ◌≤ℤ◌, ◌<ℤ◌, List, ◌++◌, map, filter, not, length, All, AllPairs, Any}
-use Rattle.std.specs.Prelude.{Option, Some, IfSome, insert, IsSomeAnd, option_and_then, slice_get, slice_index_or}
+use Rattle.std.specs.Prelude.{Option, Some, IfSome, insert, IsSomeAnd, slice_index_or}
 use Rattle.std.specs.Int.{int_max}
 use Rattle.std.specs.Vec.{vec_len, vec_capacity}
 use Rattle.lf_units.specs.declared.area.Rect.{Rect}
@@ -9,6 +9,7 @@ use Rattle.lf_units.specs.Area.{Covers, SharesPoint}
 use Rattle.lf_spans.specs.declared.span.Span.{Span}
 use Rattle.lf_occupancy.specs.declared.lane.Entry.{Entry}
 use Rattle.lf_occupancy.specs.declared.lane.Lane.{Lane}
+use Rattle.lf_occupancy.specs.Occupied.{cell_box}
 
 -- the x range of a rectangle
 abbrev pub x_range : Rect → Span
@@ -29,10 +30,6 @@ pub record IsPart (a b part : Rect) : Type 0 where
 pub record HoldsPoint (own : ℕ) (x y : ℤ) (e : Entry) : Type 0 where
   pub is : e.own ≡ own
   pub covers : Covers e.area x y
-
--- the box of the cell of this position
-abbrev pub cell_box : List (Option Rect) → ℕ → Option Rect
-cell_box cells own = option_and_then (λ box. box) (slice_get cells own)
 
 -- the point lies in the rectangle and in the box of the cell
 pub record LiesInBox (cells : List (Option Rect)) (area : Rect) (own : ℕ) (x y : ℤ) : Type 0 where

@@ -1,6 +1,7 @@
--- What strips hold: the boxes of teams' cells, and what they leave free.
-use Rattle.std.specs.Prelude.{◌≡◌, ◌≢◌, ◌↔◌, ℕ, ◌+◌, ℤ, ◌≤◌, length, List}
-use Rattle.std.specs.Prelude.{◌<◌, AllPairs, Contains, [], Option, Some, Any, IsSomeAnd, MatchOption, option_and_then, slice_get, slice_index_or, slice_set}
+-- What stands in strips: the boxes of teams' cells, and what they leave free.
+use Rattle.std.specs.Prelude.{◌≡◌, ◌≢◌, ◌⊎◌, ◌↔◌, ℕ, ◌+◌, ℤ, ◌≤◌, Bool, false, ◌&&◌, int_lt, length, List}
+use Rattle.std.specs.Prelude.{[], Option, None, Some, Any, IsSomeAnd, MatchOption, count_by, option_and_then, slice_get, slice_index_or, slice_set}
+use Rattle.std.specs.Int.{int_max, int_min}
 use Rattle.lf_units.specs.declared.area.Rect.{Rect}
 use Rattle.lf_units.specs.Area.{Covers, SharesPoint}
 use Rattle.lf_spans.specs.declared.span.Span.{Span}
@@ -8,20 +9,23 @@ use Rattle.lf_spans.specs.Spans.{IsFilled, IsRising, LiesIn, LiesInOne}
 use Rattle.lf_cells.specs.declared.cell.CellId.{CellId}
 use Rattle.lf_occupancy.specs.declared.strip.Strip.{Strip}
 
--- the strips, for each team its cells' boxes in loading order, and for each strip how many entries it has and has room for
+-- the strips, for each team the boxes of its cells in loading order, and for each strip how many boxes it has room for
 pub record Occupied : Type 0 where
   pub strips : List Strip
   pub boxes : List (List (Option Rect))
-  pub entries : List ℕ
   pub rooms : List ℕ
 
 -- the boxes of a team's cells; none if there is no such team
 abbrev pub boxes_of : Occupied → ℕ → List (Option Rect)
 boxes_of o team = slice_index_or o.boxes team []
 
--- the box of the team's cell of that position; None if it has none, or there is no such cell
+-- the box of that position; None where that is none, or there is no such position
+abbrev pub cell_box : List (Option Rect) → ℕ → Option Rect
+cell_box boxes own = option_and_then (λ box. box) (slice_get boxes own)
+
+-- the box of the team's cell of that position; None where it stands nowhere, or there is no such cell
 abbrev pub box_at : Occupied → ℕ → ℕ → Option Rect
-box_at o team own = option_and_then (λ box. box) (slice_get (boxes_of o team) own)
+box_at o team own = cell_box (boxes_of o team) own
 
 -- the boxes, with this one for the cell
 abbrev pub boxes_with : Occupied → CellId → Option Rect → List (List (Option Rect))
@@ -92,33 +96,32 @@ IsFirstMet o id rect met =
     MatchOption met ((own : ℕ) → MeetsInStrips o id rect own → ⊥)
     (λ own. MeetsInStrips o id rect own × ((other : ℕ) → MeetsInStrips o id rect other → own ≤ other))
 
--- the strip of that number is of the team, and shares a point with the rectangle
-abbrev pub MeetsStrip : List Strip → ℕ → Rect → ℕ → Type 0
-MeetsStrip strips team rect n = IsSomeAnd (slice_get strips n) (λ g. (g.team ≡ team) × SharesPoint g.area rect)
+-- whether the box is there and shares a point with the strip's area, by the edges
+abbrev pub meets : Strip → Option Rect → Bool
+meets g None = false
+meets g (Some r) =
+    int_lt (int_max g.area.x1 r.x1) (int_min g.area.x2 r.x2) && int_lt (int_max g.area.y1 r.y1) (int_min g.area.y2 r.y2)
 
--- each strip of the team that shares a point with the rectangle has room for this many more entries
+-- how many of the boxes share a point with the strip's area
+abbrev pub count_in : Strip → List (Option Rect) → ℕ
+count_in g boxes = count_by (meets g) boxes
+
+-- these boxes of the team's cells fit: each strip of the team has room for as many as share a point with it
+abbrev pub FitIn : Occupied → ℕ → List (Option Rect) → Type 0
+FitIn o team boxes =
+    (n : ℕ) (g : Strip) → slice_get o.strips n ≡ Some g → g.team ≡ team → count_in g boxes ≤ slice_index_or o.rooms n 0
+
+-- each strip of the team that shares a point with the rectangle has room for its boxes and so many more
 abbrev pub HasRoomFor : Occupied → ℕ → Rect → ℕ → Type 0
-HasRoomFor o team rect more = (n : ℕ) → MeetsStrip o.strips team rect n → (slice_index_or o.entries n 0 + more) ≤ slice_index_or o.rooms n 0
+HasRoomFor o team rect more =
+    (n : ℕ) (g : Strip) → slice_get o.strips n ≡ Some g → g.team ≡ team → SharesPoint g.area rect →
+    (count_in g (boxes_of o team) + more) ≤ slice_index_or o.rooms n 0
 
--- of two lists of the same length, no number of the new one is greater by more than this
-pub record GrowAtMost (by : ℕ) (old new : List ℕ) : Type 0 where
-  pub many : length new ≡ length old
-  pub each : (n : ℕ) → slice_index_or new n 0 ≤ (slice_index_or old n 0 + by)
+-- the first boxes are part of the others: each is none or the other list's
+abbrev pub ArePartOf : List (Option Rect) → List (Option Rect) → Type 0
+ArePartOf part whole = (own : ℕ) → (cell_box part own ≡ None) ⊎ (cell_box part own ≡ cell_box whole own)
 
 -- of two lists of the same length, no number of the new one is less
-abbrev pub NoLess : List ℕ → List ℕ → Type 0
-NoLess old new = GrowAtMost 0 new old
-
--- the list names each cell of the strip's team whose box shares a point with the strip, once, and no other
-pub record AreCellsIn (o : Occupied) (g : Strip) (cells : List ℕ) : Type 0 where
-  pub once : AllPairs (λ a b. a ≢ b) cells
-  pub exact : (own : ℕ) → Contains cells own ↔ IsSomeAnd (box_at o g.team own) (λ box. SharesPoint g.area box)
-
--- there are this many of those cells
-abbrev pub IsCountIn : Occupied → Strip → ℕ → Type 0
-IsCountIn o g count = (cells : List ℕ) × (AreCellsIn o g cells × (length cells ≡ count))
-
--- `entries` counts, for each strip, the cells of its team whose boxes share a point with it
-pub record AreCounted (o : Occupied) : Type 0 where
-  pub many : length o.entries ≡ length o.strips
-  pub each : (n : ℕ) (d : Strip) → n < length o.strips → IsCountIn o (slice_index_or o.strips n d) (slice_index_or o.entries n 0)
+pub record NoLess (old new : List ℕ) : Type 0 where
+  pub many : length new ≡ length old
+  pub each : (n : ℕ) → slice_index_or old n 0 ≤ slice_index_or new n 0

@@ -1,11 +1,12 @@
 -- The order of strips, and how they are found.
 use Rattle.std.specs.Prelude.{◌≡◌, ◌≢◌, ◌⊎◌, ◌↔◌, ◌==◌, if◌then◌else◌, nat_lt, Bool, ℕ, ◌<◌, ◌≤◌, ℤ, pos, negsuc, ◌+ℤ◌, ◌≤ℤ◌, ◌<ℤ◌, List}
-use Rattle.std.specs.Prelude.{length, All, AllPairs, Any, IfSome}
+use Rattle.std.specs.Prelude.{length, All, AllPairs, Any, IfSome, IsSomeAnd, slice_get}
 use Rattle.std.specs.Prelude.{int_le, int_lt, Option, map, slice_index_or, slice_set, []}
 use Rattle.std.specs.Int.{int_max}
-use Rattle.std.specs.Vec.{vec_len, vec_capacity}
+use Rattle.std.specs.Vec.{vec_capacity}
 use Rattle.lf_cells.specs.declared.cell.CellId.{CellId}
 use Rattle.lf_units.specs.declared.area.Rect.{Rect}
+use Rattle.lf_units.specs.Area.{SharesPoint}
 use Rattle.lf_spans.specs.declared.span.Span.{Span}
 use Rattle.lf_spans.specs.Spans.{IsFilled, IsRising, LiesIn, LiesInOne, IsApart}
 use Rattle.lf_segments.specs.declared.rows_by_y.RowEntry.{RowEntry}
@@ -14,8 +15,8 @@ use Rattle.lf_segments.specs.RowsByY.{IsRunBetween}
 use Rattle.lf_occupancy.specs.declared.lane.Lane.{Lane}
 use Rattle.lf_occupancy.specs.declared.strip.Strip.{Strip}
 use Rattle.lf_occupancy.specs.declared.strips.Strips.{Strips}
-use Rattle.lf_occupancy.specs.Lanes.{HasAtMostOne, HasRoomOf, TakesOne, TakesPart, cell_box, IsInside, IsKept, IsLane, IsOrderly, IsPutIn, MeetsOne, others_in, spans_in}
-use Rattle.lf_occupancy.specs.Occupied.{MeetsStrip, across}
+use Rattle.lf_occupancy.specs.Lanes.{HasAtMostOne, HasRoomOf, TakesOne, TakesPart, IsInside, IsKept, IsLane, IsOrderly, IsPutIn, MeetsOne, others_in, spans_in}
+use Rattle.lf_occupancy.specs.Occupied.{across, cell_box}
 
 -- the order of strips: by row, then by team, then by x, without overlap
 abbrev pub ComesBefore : Strip → Strip → Type 0
@@ -146,7 +147,11 @@ Follows s id from to old new =
     (boxes : List (List (Option Rect))) → HasCell boxes id → cell_box (slice_index_or boxes id.team []) id.own ≡ from → AreLanes s.list.items boxes old →
     AreLanes s.list.items (boxes_set boxes id to) new
 
--- the chosen lanes have room for this many more entries
+-- the strip of that number is of the team, and shares a point with the rectangle
+abbrev pub MeetsStrip : List Strip → ℕ → Rect → ℕ → Type 0
+MeetsStrip strips team rect n = IsSomeAnd (slice_get strips n) (λ g. (g.team ≡ team) × SharesPoint g.area rect)
+
+-- the chosen lanes have room for so many more entries
 abbrev pub HaveRoom : (ℕ → Type 0) → ℕ → List Lane → Type 0
 HaveRoom Chosen more lanes = (n : ℕ) (e : Lane) → Chosen n → HasRoomOf more (slice_index_or lanes n e)
 
@@ -202,10 +207,6 @@ pub record AreLeft (strips : List Strip) (lanes : List Lane) (without : CellId) 
   pub rising : IsRising free
   pub exact : (s : Span) → IsFilled s → (LiesInOne free s ↔ LiesLeft strips lanes without n s)
 
--- how many entries each lane has
-abbrev pub counts_in : List Lane → List ℕ
-counts_in lanes = map (λ l. vec_len l.entries) lanes
-
--- for the box of each of the moves, the strips of the cell's team that it meets have room for this many more entries
+-- for the box of each of the moves, the strips of the cell's team that it meets have room for so many more entries
 abbrev pub HaveRoomForAll : List Strip → List (CellId × Option Rect) → ℕ → List Lane → Type 0
 HaveRoomForAll strips moves more lanes = All (λ m. IfSome m.1 (λ rect. HaveRoom (MeetsStrip strips m.0.team rect) more lanes)) moves

@@ -1,7 +1,7 @@
 //! The boxes of one team's cells.
 
 ghost use Rattle.std.specs.Prelude.{◌≡◌, ◌++◌, ◌∷◌, ◌↔◌, ◌<◌, [], IfOk, IsTrue, None, OnOk, length, replicate, slice_index_or, slice_set};
-ghost use Rattle.lf_occupancy.specs.Lanes.{cell_box};
+ghost use Rattle.lf_occupancy.specs.Occupied.{cell_box};
 ghost use Rattle.lf_occupancy.specs.Strips.{HasCell, boxes_set};
 
 use lf_cells::CellId;

@@ -98,10 +98,11 @@ fn finds_names_in_parts(rt: HostRuntime) -> Result<(), Fail> {
 
 /// Whether the table of one name stays as it is where no memory is left.
 fn stays<'a>(
+    alloc: Global,
     table: &mut NameTable<&'a LocalHeap>,
     heap: &'a LocalHeap,
 ) -> Result<bool, AllocError> {
-    let _blocks = take_all(heap)?;
+    let _blocks = take_all(alloc, heap)?;
     if Vec::<u8, &LocalHeap>::with_capacity(heap, 1).is_ok() || table.add(b"b").is_ok() {
         return Ok(false);
     }
@@ -109,9 +110,9 @@ fn stays<'a>(
 }
 
 /// Whether it does, and takes another name once memory is given back.
-fn stays_and_grows(heap: &LocalHeap) -> Result<bool, AllocError> {
+fn stays_and_grows(alloc: Global, heap: &LocalHeap) -> Result<bool, AllocError> {
     let mut table: NameTable<&LocalHeap> = NameTable::new(heap);
-    if table.add(b"a")? != Added::New(0) || !stays(&mut table, heap)? {
+    if table.add(b"a")? != Added::New(0) || !stays(alloc, &mut table, heap)? {
         return Ok(false);
     }
     Ok(table.add(b"b")? == Added::New(1))
@@ -121,7 +122,7 @@ fn stays_and_grows(heap: &LocalHeap) -> Result<bool, AllocError> {
 #[test]
 fn stays_as_it_was_where_memory_is_refused(rt: HostRuntime) -> Result<(), Fail> {
     let heap = LocalHeap::new(rt.alloc(), 4096)?;
-    assert!(rt; stays_and_grows(&heap)?);
+    assert!(rt; stays_and_grows(rt.alloc(), &heap)?);
     Ok(())
 }
 

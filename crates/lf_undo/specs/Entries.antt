@@ -18,6 +18,10 @@ abbrev pub entries_of : Places → List (List Move) → List Places
 entries_of places [] = []
 entries_of places (ms ∷ entries) = taken_back ms places ∷ entries_of (taken_back ms places) entries
 
+-- The moves, where the one of this position has another place.
+abbrev pub replaced : List Move → ℕ → Option Place → List Move
+replaced moves at old = slice_set moves at record { own = (slice_index_or moves at record { own = 0; old = None }).own; old = old }
+
 -- The moves that a cell's new place adds to those so far: one, with the place that the cell has.
 abbrev pub moves_with : List Move → Places → ℕ → List Move
 moves_with moves places own = moves ++ record { own = own; old = slice_index_or places own None } ∷ []

@@ -1,6 +1,7 @@
 //! What an undo entry keeps: the cells that a command moved, with the places that they had.
 
-ghost use Rattle.std.specs.Prelude.{◌≡◌, ◌++◌, ◌∷◌, [], OnOk, OnErr};
+ghost use Rattle.std.specs.Prelude.{◌≡◌, ◌++◌, ◌∷◌, ◌<◌, [], OnOk, OnErr, length};
+ghost use Rattle.lf_undo.specs.Entries.{replaced};
 
 use crate::stacks::Stacks;
 use lf_floorplan::Place;
@@ -50,6 +51,14 @@ impl<A: Allocator> Moves<A> {
     {
         self.moves.push(moved)?;
         Ok(())
+    }
+
+    /// Gives the move of that position another place. No memory is taken.
+    pub fn replace(&mut self, at: usize, old: Option<Place>)
+        requires { at < length self.old }
+        ensures { self.new ≡ replaced self.old at old }
+    {
+        self.moves[at].old = old;
     }
 
     /// The moves, in their order.

@@ -1,6 +1,6 @@
 use Rattle.std.proofs.Common.{◌≡◌, List, Option, get_or, [], sym, subst, refl, ap, ◌∙◌}
 use Rattle.lf_units.specs.declared.area.Rect.{Rect}
-use Rattle.lf_occupancy.specs.Lanes.{cell_box}
+use Rattle.lf_occupancy.specs.Occupied.{cell_box}
 use Rattle.lf_occupancy.specs.Strips.{AreLanes, HasCell}
 use Rattle.lf_occupancy.proofs.Ones.{lanes_have_one}
 use Rattle.lf_occupancy.proofs.change.remove_box.Goals as goal

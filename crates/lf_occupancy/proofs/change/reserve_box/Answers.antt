@@ -1,8 +1,7 @@
 use Rattle.std.proofs.Common.{Option, sym, subst}
 use Rattle.std.specs.Prelude.{IfSome}
 use Rattle.lf_units.specs.declared.area.Rect.{Rect}
-use Rattle.lf_occupancy.specs.Occupied.{MeetsStrip}
-use Rattle.lf_occupancy.specs.Strips.{HaveRoom}
+use Rattle.lf_occupancy.specs.Strips.{HaveRoom, MeetsStrip}
 use Rattle.lf_occupancy.proofs.Reaching.{room_of_met}
 use Rattle.lf_occupancy.proofs.change.reserve_box.Goals as goal
 

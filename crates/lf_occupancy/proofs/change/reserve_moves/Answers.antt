@@ -5,8 +5,7 @@ use Rattle.std.proofs.lemmas.List.Elements.{All-more, All-weaker}
 use Rattle.lf_units.specs.declared.area.Rect.{Rect}
 use Rattle.lf_cells.specs.declared.cell.CellId.{CellId}
 use Rattle.lf_occupancy.specs.declared.lane.Lane.{Lane}
-use Rattle.lf_occupancy.specs.Occupied.{MeetsStrip}
-use Rattle.lf_occupancy.specs.Strips.{HaveRoom}
+use Rattle.lf_occupancy.specs.Strips.{HaveRoom, MeetsStrip}
 use Rattle.lf_occupancy.proofs.Changes.{kept_same, kept_along}
 use Rattle.lf_occupancy.proofs.Reaching.{move_stays}
 use Rattle.lf_occupancy.proofs.change.reserve_moves.Goals as goal

@@ -1,7 +1,6 @@
 use Rattle.std.proofs.Common.{length, take}
 use Rattle.std.specs.Prelude.{All, IfSome}
-use Rattle.lf_occupancy.specs.Occupied.{MeetsStrip}
-use Rattle.lf_occupancy.specs.Strips.{AreKept, HaveRoom}
+use Rattle.lf_occupancy.specs.Strips.{AreKept, HaveRoom, MeetsStrip}
 use Rattle.lf_occupancy.proofs.change.reserve_moves.Given as goal
 
 -- all lanes hold what they held, and there is room for the moves passed

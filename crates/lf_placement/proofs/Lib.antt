@@ -1,0 +1,7 @@
+pub mod Moves
+pub mod Boxes
+pub mod Changing
+pub mod Keeping
+pub mod Overlapping
+pub mod Judging
+pub mod Counts

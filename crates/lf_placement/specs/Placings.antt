@@ -1,0 +1,120 @@
+-- Where the cells of all teams stand on a frame, and how moves change it.
+use Rattle.std.specs.Prelude.{◌≡◌, ◌≢◌, ◌≤◌, ℕ, All, List, [], ◌∷◌, map, length, MatchOption, Option, None}
+use Rattle.std.specs.Option.{option_map}
+use Rattle.lf_units.specs.declared.area.Rect.{Rect}
+use Rattle.lf_floorplan.specs.declared.frame.Frame.{Frame}
+use Rattle.lf_floorplan.specs.declared.place.Place.{Place}
+use Rattle.lf_floorplan.specs.Boxes.{macro_of}
+use Rattle.lf_rtree.specs.declared.placed.Placed.{Placed}
+use Rattle.lf_rules.specs.declared.rule.Broken.{Broken}
+use Rattle.lf_rules.specs.declared.rule.Rule.{Rule}
+use Rattle.lf_rules.specs.Choice.{spot_of}
+use Rattle.lf_rules.specs.Legality.{Trial, trial_of}
+use Rattle.lf_rules.specs.Legalizer.{IsVerdict}
+use Rattle.lf_rules.specs.Team.{box_in, boxes_beside}
+use Rattle.lf_reports.specs.Nearby.{IsFrameVerdict}
+use Rattle.lf_cells.specs.declared.cell.Cell.{Cell}
+use Rattle.lf_cells.specs.declared.cell.CellId.{CellId}
+use Rattle.lf_cells.specs.Cells.{Cells, cell_at, cells_of, moved}
+use Rattle.lf_occupancy.specs.Occupied.{FitIn, NoLess, Occupied}
+use Rattle.lf_occupancy.specs.Floorplans.{IsOccupancyOf}
+use Rattle.lf_undo.specs.declared.moves.Move.{Move}
+use Rattle.lf_undo.specs.Entries.{Places, taken_back}
+use Rattle.lf_legalize.specs.Members.{IsSizedCell, member_of}
+
+-- the frame, the cells of all teams, and what stands in the strips of the frame
+pub record Placing : Type 0 where
+  pub frame : Frame
+  pub cells : Cells
+  pub held : Occupied
+
+-- ---- places of a team's cells
+
+-- the working places of cells
+abbrev pub places_of : List Cell → Places
+places_of cells = map (λ c. c.working) cells
+
+-- their committed places
+abbrev pub committed_of : List Cell → Places
+committed_of cells = map (λ c. c.committed) cells
+
+-- the boxes of these cells, if they stood at these places
+abbrev pub boxes_at : Frame → List Cell → Places → List (Option Rect)
+boxes_at f [] places = []
+boxes_at f (c ∷ cs) [] = None ∷ boxes_at f cs []
+boxes_at f (c ∷ cs) (place ∷ places) = option_map (λ p. box_in f c.mac (spot_of p)) place ∷ boxes_at f cs places
+
+-- the team's cells have room at these places: each strip of the team for as many boxes as share a point with it
+abbrev pub Fits : Placing → ℕ → Places → Type 0
+Fits p team places = FitIn p.held team (boxes_at p.frame (cells_of p.cells team) places)
+
+-- ---- moves
+
+-- the cells after these moves, made in their order
+abbrev pub made : List Move → List Cell → List Cell
+made [] cells = cells
+made (m ∷ ms) cells = made ms (moved cells m.own m.old)
+
+-- a cell without its working place
+abbrev pub taken_up : Cell → Cell
+taken_up c = record c { working = None }
+
+-- the cells differ in their working places alone
+abbrev pub SameButPlaces : List Cell → List Cell → Type 0
+SameButPlaces old new = map taken_up new ≡ map taken_up old
+
+-- the moves have led from the cells before to those now: taken back they give the places before, and nothing but places differs
+pub record HaveMoved (before : List Cell) (moves : List Move) (now : List Cell) : Type 0 where
+  pub places : taken_back moves (places_of now) ≡ places_of before
+  pub same : SameButPlaces before now
+
+-- ---- what stays
+
+-- only the cells of the team of that number may differ
+pub record OtherCellsStay (number : ℕ) (old new : Cells) : Type 0 where
+  pub cells : (other : ℕ) → other ≢ number → cells_of new other ≡ cells_of old other
+  pub components : new.components ≡ old.components
+
+-- the frame, the components and the strips with their rooms stay
+pub record KeepsRest (old new : Placing) : Type 0 where
+  pub frame : new.frame ≡ old.frame
+  pub components : new.cells.components ≡ old.cells.components
+  pub strips : new.held.strips ≡ old.held.strips
+  pub rooms : new.held.rooms ≡ old.held.rooms
+
+-- only the rooms may differ, and none is less
+pub record SameButRooms (old new : Placing) : Type 0 where
+  pub frame : new.frame ≡ old.frame
+  pub cells : new.cells ≡ old.cells
+  pub strips : new.held.strips ≡ old.held.strips
+  pub boxes : new.held.boxes ≡ old.held.boxes
+  pub rooms : NoLess old.held.rooms new.held.rooms
+
+-- ---- what a placement keeps
+
+-- the macros of all cells are the frame's, of whole size
+abbrev pub AreSized : Frame → Cells → Type 0
+AreSized f cells = (team : ℕ) → All (IsSizedCell f) (cells_of cells team)
+
+-- so they are, no team has more than 4,000,000 cells, the strips hold the cells at their working places, and each team's committed places fit
+pub record IsPlacing (p : Placing) : Type 0 where
+  pub sized : AreSized p.frame p.cells
+  pub few : (team : ℕ) → length (cells_of p.cells team) ≤ 4000000
+  pub follows : IsOccupancyOf p.frame p.cells p.held
+  pub committed : (team : ℕ) → Fits p team (committed_of (cells_of p.cells team))
+
+-- ---- a cell at a place
+
+-- the trial of a cell at a place, beside the other placed cells of its team
+abbrev pub trial_at : Placing → CellId → Place → Cell → Trial
+trial_at p id place c = trial_of p.frame id.team (macro_of p.frame c.mac) place (boxes_beside p.frame (map member_of (cells_of p.cells id.team)) id.own)
+
+-- the first rule that the cell breaks there; None also where there is no such cell
+abbrev pub IsBrokenAt : Placing → CellId → Place → Option Broken → Type 0
+IsBrokenAt p id place broken = MatchOption (cell_at p.cells id) (broken ≡ None) (λ c. IsVerdict (trial_at p id place c) broken)
+
+-- the first of the rules but overlap that the cell breaks there, whatever else stands; None also where there is no such cell
+abbrev pub IsBrokenAlone : Placing → CellId → Place → Option Rule → Type 0
+IsBrokenAlone p id place broken =
+    MatchOption (cell_at p.cells id) (broken ≡ None)
+    (λ c. (others : List Placed) → IsFrameVerdict (trial_of p.frame id.team (macro_of p.frame c.mac) place others) broken)
