@@ -24,7 +24,7 @@ use crate::faults::{Exit, Fault, ending_fault, memory_fault, tell};
 use crate::lines::{LIMITS, answer_lines};
 use crate::texts::Texts;
 use lf_def::DefDoc;
-use lf_files::Exports;
+use lf_files::{Exports, Unwritten};
 use lf_floor::Floor;
 use lf_frame::Loaded;
 use lf_lef::Library;
@@ -176,7 +176,8 @@ fn export_to<E: Exports, F: Write>(
     };
     match exports.put(path, &text) {
         Ok(()) => Ok(()),
-        Err(_) => Err(tell(faults, &Fault::Unwritten)),
+        Err(Unwritten::File) => Err(tell(faults, &Fault::Unwritten)),
+        Err(Unwritten::OutOfMemory) => Err(tell(faults, &Fault::NoRoom)),
     }
 }
 

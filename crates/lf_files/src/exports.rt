@@ -5,20 +5,43 @@ ghost use Rattle.lf_files.specs.Shelf.{Put, Puts};
 
 use crate::replacing::{is_special, replace, write_through};
 use std::io;
+use std::io::ErrorKind;
 use std::rt::Files;
 
-/// A text was not put into its file, which is unchanged.
+/// Why a text was not put into its file, which is unchanged.
 #[derive(Clone, Copy, Debug, PartialEq, Eq)]
-pub struct Unwritten;
+pub enum Unwritten {
+    /// The file cannot be written.
+    File,
+    /// An allocation failed.
+    OutOfMemory,
+}
+
+/// Why a file was not written.
+fn unwritten_of(error: &io::Error) -> Unwritten
+{
+    if error.kind() == ErrorKind::OutOfMemory {
+        return Unwritten::OutOfMemory;
+    }
+    Unwritten::File
+}
 
 /// The result for a text that was written, or was not.
-fn told(written: io::Result<()>) -> Result<(), Unwritten>
+fn put_result(written: io::Result<()>) -> Result<(), Unwritten>
     ensures { IsOk result ↔ IsOk written }
 {
     match written {
         Ok(()) => Ok(()),
-        Err(_) => Err(Unwritten),
+        Err(error) => Err(unwritten_of(&error)),
     }
+}
+
+/// Writes the text to the file of that path, or to the device.
+fn write_to<T: Files + AllocGlobal>(files: &T, path: &str, text: &[u8]) -> io::Result<()> {
+    if is_special(files, path)? {
+        return write_through(files, path, text);
+    }
+    replace(files, path, text)
 }
 
 /// Where exported texts go, by the paths of their files.
@@ -47,11 +70,6 @@ impl<'a, T> FileExports<'a, T> {
 
 impl<'a, T: Files + AllocGlobal> Exports for FileExports<'a, T> {
     fn put(&mut self, path: &str, text: &[u8]) -> Result<(), Unwritten> {
-        let written = if is_special(self.files, path) {
-            write_through(self.files, path, text)
-        } else {
-            replace(self.files, path, text)
-        };
-        told(written)
+        put_result(write_to(self.files, path, text))
     }
 }

@@ -13,11 +13,20 @@ use std::{fs, io};
 /// How many names are tried for the new file.
 const TRIES: u32 = 1_000;
 
+/// What was found; none if the file is not there or cannot be looked at; `Err` if an allocation failed.
+fn found<T: Drop>(outcome: io::Result<T>) -> io::Result<Option<T>> {
+    match outcome {
+        Ok(it) => Ok(Some(it)),
+        Err(error) if error.kind() == ErrorKind::OutOfMemory => Err(error),
+        Err(_) => Ok(None),
+    }
+}
+
 /// Whether something other than a regular file has the path: a pipe or a device, which is written to as it is.
-pub(crate) fn is_special<T: Files>(files: &T, path: &str) -> bool {
-    match fs::metadata(files, path) {
-        Ok(found) => !found.is_file(),
-        Err(_) => false,
+pub(crate) fn is_special<T: Files>(files: &T, path: &str) -> io::Result<bool> {
+    match found(fs::metadata(files, path))? {
+        Some(known) => Ok(!known.is_file()),
+        None => Ok(false),
     }
 }
 
@@ -29,9 +38,9 @@ pub(crate) fn write_through<T: Files>(files: &T, path: &str, text: &[u8]) -> io:
 
 /// The path itself, or the one that it leads to by links, if there is a file.
 fn target_of<T: Files + AllocGlobal>(rt: &T, path: &str) -> io::Result<String> {
-    match fs::canonicalize(rt, path) {
-        Ok(target) => Ok(String::from_str(rt.alloc(), target.as_str())?),
-        Err(_) => Ok(String::from_str(rt.alloc(), path)?),
+    match found(fs::canonicalize(rt, path))? {
+        Some(target) => Ok(String::from_str(rt.alloc(), target.as_str())?),
+        None => Ok(String::from_str(rt.alloc(), path)?),
     }
 }
 
@@ -48,7 +57,7 @@ fn fill<T: Files>(files: &T, target: &str, file: &mut T::File, text: &[u8]) -> i
     ensures { OnOk result (Appends (⟦<T::File as Write>⟧.contents file.old) (⟦<T::File as Write>⟧.contents file.new) text.now) }
 {
     file.write_all(text)?;
-    if let Ok(older) = fs::metadata(files, target) {
+    if let Some(older) = found(fs::metadata(files, target))? {
         file.set_permissions(older.permissions())?;
     }
     file.sync_all()

@@ -43,14 +43,14 @@ impl<'a> Kept<'a> {
 impl<'a> Exports for Kept<'a> {
     fn put(&mut self, path: &str, text: &[u8]) -> Result<(), Unwritten> {
         if self.path != Some(path) {
-            return Err(Unwritten);
+            return Err(Unwritten::File);
         }
         match Vec::from_slice(self.alloc, text) {
             Ok(text) => {
                 self.text = Some(text);
                 Ok(())
             }
-            Err(_) => Err(Unwritten),
+            Err(_) => Err(Unwritten::OutOfMemory),
         }
     }
 }

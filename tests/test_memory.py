@@ -1,0 +1,316 @@
+"""Each growth of memory refused in turn, in the running program.
+
+No contract can say that memory is there, or that `OutOfMemory` is answered only where a growth was refused. A small library
+(refuse.c) that is preloaded into the program refuses growths by their number: the k-th of a command alone, and all from the k-th on.
+"""
+
+from __future__ import annotations
+
+import mmap
+import os
+import random
+import struct
+import subprocess
+import tempfile
+import unittest
+from collections.abc import Iterator
+from pathlib import Path
+
+from program import DEF, LEF, PROGRAM, TESTS, Session
+
+ALL = 2**63
+SHORT = "no 12 OutOfMemory"
+
+PLACES = [("place A 0 a1 0 0 N", "ok 1"), ("place A 0 a2 400 0 N", "ok 2"), ("place A 0 a3 800 0 N", "ok 3")]
+# Scripts over the small design: what is changed in its DEF text, by lines, and requests with their replies.
+SCRIPTS: list[tuple[str, dict[int, str], list[tuple[str, str]]]] = [
+    (
+        "reports",
+        {18: "- b1 INV + PLACED ( 0 0 ) N ;"},
+        [
+            ("place A 0 a1 0 0 N", "ok 1"),
+            ("check A 0", 'ok {"cells":3,"unplaced":2,"violations":[]}'),
+            ("check B 0", 'ok {"cells":1,"unplaced":0,"violations":[{"cell":"b1","rule":6}]}'),
+        ],
+    ),
+    (
+        "undo",
+        {},
+        [
+            *PLACES,
+            ("undo A 0", "ok 4"),
+            ("undo A 0", "ok 5"),
+            ("undo A 0", "ok 6"),
+            ("undo A 0", "no 9 NothingToUndo"),
+            ("legalize A 0 a3 0 0", "ok 7 0 0 N"),
+            ("unplace A 0 a3", "ok 8"),
+        ],
+    ),
+    (
+        "a tidy that finds no place",
+        {11: "- A ( 0 0 ) ( 800 2000 ) + TYPE FENCE ;"},
+        [("tidy A 0", "no 8 NoPlace a3"), ("where A 0 a1", "no 6 Unplaced a1"), ("undo A 0", "no 9 NothingToUndo")],
+    ),
+    (
+        "tidy, commit and revert",
+        {},
+        [
+            ("find A 0 a1 300 0", "ok 200 0 N"),
+            ("tidy A 0", "ok 1 3"),
+            ("commit A 0", "ok 2"),
+            ("unplace A 0 a1", "ok 3"),
+            ("unplace A 0 a1", "no 6 Unplaced a1"),
+            ("revert A 0", "ok 4"),
+            ("where A 0 a1", "ok 0 0 N"),
+        ],
+    ),
+    (
+        "swap",
+        {},
+        [
+            *PLACES,
+            ("swap A 0 a1 a2", "ok 4"),
+            ("where A 0 a1", "ok 400 0 N"),
+            ("undo A 0", "ok 5"),
+            ("swap A 0 a1 a3", "no 7 Illegal 8 a3 a2"),
+        ],
+    ),
+    (
+        "a team's text",
+        {},
+        [
+            ("place A 0 a1 0 0 N", "ok 1"),
+            ("commit A 0", "no 6 Unplaced a2"),
+            ("place A 0 b1 0 0 N", "no 5 NoCell"),
+            ("place A 0 zz 0 0 N", "no 5 NoCell"),
+        ],
+    ),
+]
+
+
+def changed(lines: dict[int, str]) -> str:
+    """The DEF text of the small design with other lines, numbered from 1."""
+    text = DEF.read_text().split("\n")
+    for number, line in lines.items():
+        text[number - 1] = line
+    return "\n".join(text)
+
+
+def random_design(source: random.Random) -> str:
+    """A design of two fences, and cells of one and two rows, some placed, some of them illegally."""
+    cells = [(f"{team}{n}", source.choice(("INV", "INV", "DBL"))) for team in "abg" for n in range(8)]
+    rows = [f"ROW r{n} core 0 {2000 * n} {'FS' if n % 2 else 'N'} DO 50 BY 1 STEP 200 0 ;" for n in range(6)]
+
+    def entry(name: str, mac: str) -> str:
+        spot = f"( {200 * source.randrange(46)} {2000 * source.randrange(5)} ) {source.choice(('N', 'FS'))}"
+        return f"- {name} {mac} + PLACED {spot} ;" if source.random() < 0.6 else f"- {name} {mac} ;"
+
+    return "\n".join(
+        [
+            "VERSION 5.8 ;\nDESIGN r ;\nUNITS DISTANCE MICRONS 1000 ;",
+            *rows,
+            "REGIONS 2 ;\n- A ( 0 0 ) ( 4000 8000 ) + TYPE FENCE ;\n- B ( 6000 0 ) ( 10000 12000 ) + TYPE FENCE ;\nEND REGIONS",
+            f"COMPONENTS {len(cells)} ;",
+            *(entry(*cell) for cell in cells),
+            "END COMPONENTS\nGROUPS 2 ;\n- ga a* + REGION A ;\n- gb b* + REGION B ;\nEND GROUPS\nEND DESIGN\n",
+        ]
+    )
+
+
+def random_requests(source: random.Random, count: int) -> list[str]:
+    """Requests of all teams, each by its session 0."""
+    found = []
+    for _ in range(count):
+        team = source.choice("AB-")
+        cell, other = (f"{ {'A': 'a', 'B': 'b', '-': 'g'}[team]}{source.randrange(8)}" for _ in range(2))
+        spot = f"{200 * source.randrange(50)} {2000 * source.randrange(6)}"
+        verb = source.choice(("place", "legalize", "unplace", "swap", "tidy", "undo", "revert", "commit", "check", "find", "def"))
+        rest = {
+            "place": f"{cell} {spot} {source.choice(('N', 'FS', 'FN'))}",
+            "legalize": f"{cell} {spot}",
+            "find": f"{cell} {spot}",
+            "unplace": cell,
+            "swap": f"{cell} {other}",
+        }.get(verb, "")
+        found.append(f"{verb} {team} 0 {rest}".strip())
+    return found
+
+
+class Refusing:
+    """The library that refuses, and the file by which it is steered."""
+
+    def __init__(self, folder: Path) -> None:
+        self.library = folder / "refuse.so"
+        words = ["cc", "-O2", "-fPIC", "-shared", "-o", str(self.library), str(TESTS / "refuse.c"), "-ldl"]
+        subprocess.run(words, check=True)
+        self.path = folder / "control"
+        self.path.write_bytes(bytes(32))
+        with open(self.path, "r+b") as file:
+            self.numbers = mmap.mmap(file.fileno(), 32)
+        self.environment = {**os.environ, "LD_PRELOAD": str(self.library), "REFUSE_CONTROL": str(self.path)}
+
+    def refuse(self, first: int, last: int) -> None:
+        """From now on the growths of these numbers are refused, the next one being 1."""
+        self.numbers[:] = struct.pack("=4Q", 0, first, last, 0)
+
+    def refused(self) -> int:
+        """How many growths were refused; none is from now on."""
+        _, _, _, count = struct.unpack("=4Q", self.numbers[:])
+        self.refuse(0, 0)
+        return count
+
+
+class GrowthsRefused(unittest.TestCase):
+    """Each command, each growth: the answer is OutOfMemory, no cell moves, and the command sent again is answered as ever."""
+
+    folder: tempfile.TemporaryDirectory[str]
+    refusing: Refusing
+
+    @classmethod
+    def setUpClass(cls) -> None:
+        cls.folder = tempfile.TemporaryDirectory(prefix="lefence-memory-")
+        cls.refusing = Refusing(Path(cls.folder.name))
+
+    @classmethod
+    def tearDownClass(cls) -> None:
+        cls.refusing.numbers.close()
+        cls.folder.cleanup()
+
+    def design(self, text: str) -> list[str]:
+        path = Path(self.folder.name) / "design.def"
+        path.write_text(text)
+        return ["replay", str(path), str(LEF)]
+
+    def open(self, words: list[str]) -> Session:
+        self.refusing.refuse(0, 0)
+        session = Session(words, self.refusing.environment)
+        for team in "AB-":
+            self.assertEqual(session.ask(f"open {team}"), "ok 0 0")
+        return session
+
+    def places(self, session: Session, cells: list[tuple[str, str]]) -> list[str]:
+        return [session.ask(f"where {team} 0 {cell}") for team, cell in cells]
+
+    def go(self, words: list[str], cells: list[tuple[str, str]], script: list[tuple[str, str]]) -> int:
+        """Answers the script once for each growth of each of its commands, and counts the growths that were refused."""
+        whole = 0
+        for last in (0, ALL):
+            session = self.open(words)
+            for line, reply in script:
+                before = self.places(session, cells)
+                number = 1
+                while True:
+                    self.refusing.refuse(number, last or number)
+                    answer = session.ask(line)
+                    refused = self.refusing.refused()
+                    if not refused:
+                        self.assertEqual(answer, reply, line)
+                        break
+                    whole += refused
+                    self.assertEqual(answer, SHORT, f"{line}, growth {number}")
+                    self.assertEqual(self.places(session, cells), before, f"{line}, growth {number}")
+                    number += 1
+            status, said = session.end()
+            self.assertEqual((status, said), (0, ""))
+        return whole
+
+    def sent_again(self, words: list[str], script: list[tuple[str, str]]) -> None:
+        """For each growth of each command a fresh program: the command sent again, and all later ones, are answered as ever."""
+        for at, (line, _) in enumerate(script):
+            number, is_left = 1, True
+            while is_left:
+                session = self.open(words)
+                for asked, reply in script[:at]:
+                    self.assertEqual(session.ask(asked), reply)
+                self.refusing.refuse(number, number)
+                answer = session.ask(line)
+                is_left = self.refusing.refused() > 0
+                later = script[at:] if is_left else script[at + 1 :]
+                self.assertEqual(answer, SHORT if is_left else script[at][1])
+                for asked, reply in later:
+                    self.assertEqual(session.ask(asked), reply, f"{line} was refused growth {number}")
+                session.end()
+                number += 1
+
+    def test_scripts(self) -> None:
+        cells = [("A", "a1"), ("A", "a2"), ("A", "a3"), ("B", "b1"), ("-", "g1")]
+        for name, lines, script in SCRIPTS:
+            with self.subTest(name):
+                words = self.design(changed(lines))
+                self.go(words, cells, script)
+                self.sent_again(words, script)
+
+    def test_random_designs(self) -> None:
+        cells = [(team, f"{letter}{n}") for team, letter in (("A", "a"), ("B", "b"), ("-", "g")) for n in range(8)]
+        for seed in range(4):
+            with self.subTest(seed=seed):
+                source = random.Random(seed)
+                words = self.design(random_design(source))
+                requests = random_requests(source, 40)
+                plain = self.open(words)
+                script = [(line, plain.ask(line)) for line in requests]
+                plain.end()
+                self.assertGreater(self.go(words, cells, script), 100)
+
+
+class StartsRefused(unittest.TestCase):
+    """Each growth from the start of the program on: 24 with status 1, or 12 to a command, or as ever; an exported file stays whole."""
+
+    @classmethod
+    def setUpClass(cls) -> None:
+        cls.folder = tempfile.TemporaryDirectory(prefix="lefence-memory-")
+        cls.refusing = Refusing(Path(cls.folder.name))
+
+    @classmethod
+    def tearDownClass(cls) -> None:
+        cls.refusing.numbers.close()
+        cls.folder.cleanup()
+
+    def run_with(self, words: list[str], lines: str, first: int, last: int) -> tuple[int, str, str, int]:
+        self.refusing.refuse(first, last)
+        ran = subprocess.run(
+            [str(PROGRAM), *words], env=self.refusing.environment, input=lines, capture_output=True, text=True, timeout=60
+        )
+        return ran.returncode, ran.stdout, ran.stderr, self.refusing.refused()
+
+    def numbers(self, words: list[str], lines: str) -> Iterator[tuple[int, int]]:
+        """The growths to be refused: each alone, and all from each on."""
+        self.refusing.refuse(0, 0)
+        subprocess.run([str(PROGRAM), *words], env=self.refusing.environment, input=lines, capture_output=True, text=True)
+        asked = struct.unpack("=4Q", self.refusing.numbers[:])[0]
+        self.assertGreater(asked, 100)
+        for number in range(1, asked + 1):
+            yield number, number
+            yield number, ALL
+
+    def test_check(self) -> None:
+        words = ["check", str(DEF), str(LEF)]
+        usual = self.run_with(words, "", 0, 0)[:3]
+        for first, last in self.numbers(words, ""):
+            status, written, said, refused = self.run_with(words, "", first, last)
+            if (status, written, said) != usual or refused:
+                self.assertEqual((status, written, said), (1, "", "lefence: 24 OutOfMemory\n"), f"growth {first}")
+
+    def test_replay_and_export(self) -> None:
+        target = Path(self.folder.name) / "new.def"
+        words = ["replay", str(DEF), str(LEF), "--export", str(target)]
+        lines = "open A\ntidy A 0\ncommit A 0\n"
+        target.write_text("")
+        usual = self.run_with(words, lines, 0, 0)[:3]
+        self.assertEqual(usual, (0, "ok 0 0\nok 1 3\nok 2\n", ""))
+        moved, unmoved = target.read_text(), DEF.read_text()
+        for first, last in self.numbers(words, lines):
+            target.write_text("old")
+            status, written, said, refused = self.run_with(words, lines, first, last)
+            self.assertGreater(refused, 0)
+            with self.subTest(growth=first, last=last):
+                if status == 0:
+                    self.assertIn(SHORT, written)
+                    self.assertIn(target.read_text(), (moved, unmoved))
+                else:
+                    self.assertEqual((status, said), (1, "lefence: 24 OutOfMemory\n"))
+                    self.assertEqual(target.read_text(), "old")
+
+
+if __name__ == "__main__":
+    unittest.main()
