@@ -11,6 +11,20 @@ fn refusal<'a>(rt: &HostRuntime, text: &'a [u8]) -> Option<LoadFault<'a>> {
     read_def(rt.alloc(), text).err()
 }
 
+/// Whether the fault is one of a text, numbered from 1 to 6, with its line.
+fn is_of_a_text(fault: LoadFault<'_>) -> bool {
+    let is_read = matches!(
+        fault.number,
+        FaultNumber::BadToken
+            | FaultNumber::UnexpectedEnd
+            | FaultNumber::Unexpected
+            | FaultNumber::BadNumber
+            | FaultNumber::WrongEnd
+            | FaultNumber::UnknownStatement
+    );
+    is_read && fault.line.is_some()
+}
+
 /// Each prefix that is shorter by two bytes or more is refused for a fault of the text; without its last
 /// line feed the text is read.
 #[test]
@@ -19,12 +33,25 @@ fn refuses_each_prefix(rt: HostRuntime) -> Result<(), Fail> {
     for byte in W_DEF {
         if prefix.len().saturating_add(1) < W_DEF.len() {
             let fault = refusal(&rt, &prefix);
-            assert!(rt; matches!(fault, Some(fault) if fault.line.is_some()));
+            assert!(rt; matches!(fault, Some(fault) if is_of_a_text(fault)));
         } else {
             assert!(rt; refusal(&rt, &prefix).is_none());
         }
         prefix.push(*byte)?;
     }
+    Ok(())
+}
+
+/// A comment may hold any byte that is no line feed.
+#[test]
+fn reads_over_any_comment(rt: HostRuntime) -> Result<(), Fail> {
+    let mut text = Vec::from_slice(rt.alloc(), b"# ")?;
+    for byte in 128..=255u8 {
+        text.push(byte)?;
+    }
+    text.push(b'\n')?;
+    text.extend_from_slice(W_DEF)?;
+    assert!(rt; refusal(&rt, &text).is_none());
     Ok(())
 }
 

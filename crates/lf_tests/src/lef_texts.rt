@@ -34,15 +34,32 @@ fn keeps_what_it_had(rt: HostRuntime) {
     assert!(rt; library.find_site(b"t") == Some(1) && library.find_macro(b"m") == Some(0));
 }
 
-/// Whether a text is read, or refused for a fault of its own and the library left with its one site.
+/// Whether the library has this one site, 3 by 4 microns, and no macro.
+fn has_the_old_site(library: &Library) -> bool {
+    match library.sites() {
+        [site] => {
+            site.name.is(b"old")
+                && !site.core
+                && (site.size.x, site.size.y) == (3_000_000, 4_000_000)
+                && (site.symmetry.x, site.symmetry.y) == (true, false)
+                && library.find_site(b"old") == Some(0)
+                && library.find_site(b"core").is_none()
+                && library.find_macro(b"INV").is_none()
+                && library.macros().is_empty()
+        }
+        _ => false,
+    }
+}
+
+/// Whether a text is read, or refused for a fault of its own and the library left as it was.
 fn leaves_the_library(alloc: Global, text: &[u8]) -> bool {
     let mut library = Library::new(alloc);
-    if read_lef(&mut library, b"SITE old END old").is_err() {
+    if read_lef(&mut library, b"SITE old SIZE 3 BY 4 ; SYMMETRY X ; END old").is_err() {
         return false;
     }
     match read_lef(&mut library, text) {
         Ok(()) => true,
-        Err(fault) => fault.line.is_some() && has(&library, 1, 0),
+        Err(fault) => fault.line.is_some() && has_the_old_site(&library),
     }
 }
 

@@ -1,14 +1,14 @@
 //! One script, in pieces of each size and with each call failing in turn.
 
-use crate::connections::{Plan, SOUND, counted, serve_bytes, tells};
-use crate::designs::floor;
+use crate::connections::{Plan, SOUND, counted, serve_bytes, tells_on};
+use crate::designs::floor_of_two_undos;
 use lf_floor::Floor;
 use lf_legalize::PlainSeeker;
 use lf_server::{Ending, Served};
 use std::alloc::Global;
 use std::test::Fail;
 
-/// Three cells are placed, and each is taken back.
+/// Three cells are placed, and two of them taken back.
 const SCRIPT: &[u8] = b"open A
 place A 0 a1 0 0 N
 place A 0 a2 400 0 N
@@ -16,27 +16,36 @@ place A 0 a3 800 0 N
 undo A 0
 undo A 0
 undo A 0
+where A 0 a1
+where A 0 a2
 ";
 
-/// What it is told, with a bar for each flush.
+/// The replies, with a bar for each flush.
 const LOG: &[u8] = b"ok 0 0
 |ok 1
 |ok 2
 |ok 3
 |ok 4
 |ok 5
-|ok 6
+|no 9 NothingToUndo
+|ok 0 0 N
+|no 6 Unplaced a2
 |";
+
+/// Whether the script in pieces of this size is answered so.
+fn is_answered(alloc: Global, piece: usize) -> Result<bool, Fail> {
+    let plan = Plan { piece, ..SOUND };
+    let served = counted(9, 9, Ending::Done);
+    match floor_of_two_undos(alloc) {
+        Ok(mut floor) => Ok(tells_on(alloc, &mut floor, SCRIPT, &plan, served, LOG)),
+        Err(fail) => Err(fail),
+    }
+}
 
 #[test]
 fn a_script_in_pieces_of_each_size_is_told_the_same(rt: HostRuntime) -> Result<(), Fail> {
     for piece in 1..=SCRIPT.len() {
-        let plan = Plan { piece, ..SOUND };
-        let served = counted(7, 7, Ending::Done);
-        assert!(rt;
-            tells(rt.alloc(), SCRIPT, &plan, served, LOG)?,
-            "{piece} bytes a read"
-        );
+        assert!(rt; is_answered(rt.alloc(), piece)?, "{piece} bytes a read");
     }
     Ok(())
 }
@@ -83,9 +92,9 @@ fn breaks_off_on(
     is_front(&told.log) && told.served == broken_off(bars(&told.log), ending)
 }
 
-/// The same of the floor of the built-in design.
+/// The same of the floor of the built-in design on which two changes can be undone.
 fn breaks_off(alloc: Global, plan: &Plan, ending: Ending) -> Result<bool, Fail> {
-    match floor(alloc) {
+    match floor_of_two_undos(alloc) {
         Ok(mut floor) => Ok(breaks_off_on(alloc, &mut floor, plan, ending)),
         Err(fail) => Err(fail),
     }
@@ -115,7 +124,7 @@ fn each_read_may_fail(rt: HostRuntime) -> Result<(), Fail> {
 
 #[test]
 fn each_write_may_fail(rt: HostRuntime) -> Result<(), Fail> {
-    for good_writes in 0..15u32 {
+    for good_writes in 0..29u32 {
         let plan = Plan {
             good_writes,
             ..SMALL
@@ -126,7 +135,7 @@ fn each_write_may_fail(rt: HostRuntime) -> Result<(), Fail> {
         );
     }
     let plan = Plan {
-        good_writes: 15,
+        good_writes: 29,
         ..SMALL
     };
     assert!(rt; breaks_off(rt.alloc(), &plan, Ending::Done)?);
@@ -135,7 +144,7 @@ fn each_write_may_fail(rt: HostRuntime) -> Result<(), Fail> {
 
 #[test]
 fn each_flush_may_fail(rt: HostRuntime) -> Result<(), Fail> {
-    for good_flushes in 0..7u32 {
+    for good_flushes in 0..9u32 {
         let plan = Plan {
             good_flushes,
             ..SMALL
@@ -146,7 +155,7 @@ fn each_flush_may_fail(rt: HostRuntime) -> Result<(), Fail> {
         );
     }
     let plan = Plan {
-        good_flushes: 7,
+        good_flushes: 9,
         ..SMALL
     };
     assert!(rt; breaks_off(rt.alloc(), &plan, Ending::Done)?);

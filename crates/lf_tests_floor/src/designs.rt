@@ -14,34 +14,48 @@ use lf_units::Name;
 use std::alloc::Global;
 use std::test::Fail;
 
-/// The design of a library and a document.
-fn load_on(alloc: Global, library: &Library, document: &DefDoc) -> Result<Loaded, Fail> {
-    match load(alloc, library, document, Limits::standard()) {
+/// The design of a library and a document within limits.
+fn load_on(
+    alloc: Global,
+    library: &Library,
+    document: &DefDoc,
+    limits: Limits,
+) -> Result<Loaded, Fail> {
+    match load(alloc, library, document, limits) {
         Ok(design) => Ok(design),
         Err(_) => Err(Fail::from("a design")),
     }
 }
 
-/// The design of a library and a DEF text.
-fn read_on(alloc: Global, library: &Library, def: &[u8]) -> Result<Loaded, Fail> {
+/// The design of a library and a DEF text within limits.
+fn read_on(alloc: Global, library: &Library, def: &[u8], limits: Limits) -> Result<Loaded, Fail> {
     match read_def(alloc, def) {
-        Ok(document) => load_on(alloc, library, &document),
+        Ok(document) => load_on(alloc, library, &document, limits),
         Err(_) => Err(Fail::from("a DEF text")),
     }
 }
 
-/// The design of the built-in LEF text and this DEF text.
-fn design_of(alloc: Global, def: &[u8]) -> Result<Loaded, Fail> {
+/// The design of the built-in LEF text and this DEF text within limits.
+fn design_of(alloc: Global, def: &[u8], limits: Limits) -> Result<Loaded, Fail> {
     let mut library = Library::new(alloc);
     match read_lef(&mut library, W_LEF) {
-        Ok(()) => read_on(alloc, &library, def),
+        Ok(()) => read_on(alloc, &library, def, limits),
         Err(_) => Err(Fail::from("a LEF text")),
     }
 }
 
 /// The floor of the design of the built-in LEF text and this DEF text.
 pub fn floor_of(alloc: Global, def: &[u8]) -> Result<Floor<PlainSeeker>, Fail> {
-    let design = design_of(alloc, def)?;
+    let design = design_of(alloc, def, Limits::standard())?;
+    Ok(Floor::start(alloc, design, PlainSeeker)?)
+}
+
+/// The floor of the built-in design, on which each team can undo two changes.
+pub fn floor_of_two_undos(alloc: Global) -> Result<Floor<PlainSeeker>, Fail> {
+    let Some(limits) = Limits::checked(65_535, 1_024, 4_000_000, 8, 2, 4_000_000_000) else {
+        return Err(Fail::from("limits"));
+    };
+    let design = design_of(alloc, W_DEF, limits)?;
     Ok(Floor::start(alloc, design, PlainSeeker)?)
 }
 
@@ -58,7 +72,7 @@ pub trait Asked {
 
 /// Whether the design of the built-in LEF text and this DEF text is as it is asked.
 pub fn holds<A: Asked>(alloc: Global, def: &[u8], asked: &A) -> Result<bool, Fail> {
-    let design = design_of(alloc, def)?;
+    let design = design_of(alloc, def, Limits::standard())?;
     asked.holds(alloc, &design)
 }
 
