@@ -1,30 +1,29 @@
 -- Which strips a rectangle reaches, and what becomes of the lanes when a cell's box changes.
 use Rattle.std.proofs.Common.{◌≡◌, ◌≢◌, ◌⊎◌, inl, inr, ℕ, ◌+◌, ◌<◌, ◌≤◌, ℤ, ◌≤ℤ◌, ◌<ℤ◌, List, [], ◌∷◌, ◌++◌, Option, Some, None, length, get_or}
-use Rattle.std.proofs.Common.{set, eqb, refl, sym, ap, subst, ◌∙◌, arith}
+use Rattle.std.proofs.Common.{set, refl, sym, ap, subst, ◌∙◌, arith}
 use Rattle.std.specs.Prelude.{AllPairs, Any, Contains, IfSome, IsSomeAnd, map, not}
 use Rattle.std.specs.Vec.{vec_capacity}
 use Rattle.std.proofs.lemmas.Bool.Decides.{eqb_tells}
 use Rattle.std.proofs.lemmas.Int.{ints}
 use Rattle.std.proofs.lemmas.List.{get_or-map, get_or_past, length-map}
 use Rattle.std.proofs.lemmas.Option.{slice_get-get_or, slice_get_past}
-use Rattle.std.proofs.lemmas.List.{get_or_default, get_or-set_same, get_or-set_other, set-set, length-set, length-append, get_or_append_left, get_or-append-add}
+use Rattle.std.proofs.lemmas.List.{get_or_default, get_or-set_same, get_or-set_other, set-set, length-append, get_or_append_left, get_or-append-add}
 use Rattle.std.proofs.lemmas.List.Elements.{All-contains, Contains-append_cases}
 use Rattle.lf_units.specs.declared.area.Rect.{Rect}
 use Rattle.lf_units.specs.Area.{Covers, SharesPoint}
 use Rattle.lf_spans.proofs.Anys.{any_nil, any_head, any_tail, any_cases}
-use Rattle.lf_cells.specs.declared.cell.CellId.{CellId}
 use Rattle.lf_segments.specs.declared.rows_by_y.RowEntry.{RowEntry}
 use Rattle.lf_occupancy.specs.declared.lane.Lane.{Lane}
 use Rattle.lf_occupancy.specs.declared.strip.Strip.{Strip}
 use Rattle.lf_occupancy.specs.declared.strips.Strips.{Strips}
-use Rattle.lf_occupancy.specs.Lanes.{AreInOrder, HasRoom, IsLane, IsPruned, TakesOne}
-use Rattle.lf_occupancy.specs.Strips.{AreChanged, AreKept, AreLanes, AreOrderly, AreRowsNear, AreStrips, Follows, KeepRoom, MeetsStrip}
+use Rattle.lf_occupancy.specs.Lanes.{IsLane, IsPruned}
+use Rattle.lf_occupancy.specs.Strips.{AreChanged, AreKept, AreLanes, AreOrderly, AreRowsNear, AreStrips, MeetsStrip}
 use Rattle.lf_occupancy.specs.Strips.{IsNear, IsPlaced, IsReached, PutsIn, CanTake, HaveRoom, rooms_in}
 use Rattle.lf_occupancy.specs.Occupied.{NoLess, cell_box}
 use Rattle.lf_occupancy.proofs.Finds.{no_strip, some_lane}
-use Rattle.lf_occupancy.proofs.Lists.{maps_alike, pairs_filter}
+use Rattle.lf_occupancy.proofs.Lists.{maps_alike}
 use Rattle.lf_occupancy.proofs.Changes.{room_kept}
-use Rattle.lf_occupancy.proofs.Laning.{box_same, lane_beside, lane_kept, lane_pruned, lane_put}
+use Rattle.lf_occupancy.proofs.Laning.{lane_beside, lane_kept, lane_pruned, lane_put}
 
 -- a strip that shares a point with the rectangle is reached
 pub point_is_reached : (s : Strips) (rect : Rect) (run : List RowEntry) (team n : ℕ) (d : Strip) (x y : ℤ) → AreStrips s →
@@ -282,71 +281,6 @@ once_in_run s rect run once rows i j d less within =
     let b = get_or-append-add front (run ++ rows.part.behind) j d ∙ get_or_append_left run rows.part.behind d j within in
     λ same. whole (length front + i) (length front + j) d (omega (arith, less)) (omega (arith, long, longer, within))
     (ap (λ (r : RowEntry). r.row) a ∙ same ∙ sym (ap (λ (r : RowEntry). r.row) b))
-
--- lanes that are pruned or stay the same still take one entry more
-pub room_out : (xs : List Strip) (run : List RowEntry) (team own : ℕ) (rect : Rect) (lanes new : List Lane) → length lanes ≡ length xs →
-    AreChanged (IsReached xs run team rect) (λ n. IsPruned own) lanes new → KeepRoom lanes new
-room_out xs run team own rect lanes new many changed = record {
-  many = changed.many;
-  each = λ n e within takes. elim (decide_reached xs run team rect n (omega (arith, within, many))) [
-    | inl reached ↦ pruned (get_or lanes n e) (get_or new n e) (changed.chosen n e within reached) takes
-    | inr never ↦ subst TakesOne (sym (changed.others n e within never)) takes
-  ];
-}
-  where
-    pruned : (a b : Lane) → IsPruned own a b → TakesOne a → TakesOne b
-    pruned a b p takes = record {
-      order = subst AreInOrder (sym p.entries) (pairs_filter (λ x y. x.area.x1 ≤ℤ y.area.x1) (λ x. not (eqb x.own own)) a.entries.items takes.order);
-      room = let f = p.fewer in let r = p.room in let h = takes.room in omega (arith, f, r, h);
-    }
-
-pub room_same : (lanes : List Lane) → KeepRoom lanes lanes
-room_same lanes = record { many = refl; each = λ n e within takes. takes }
-
--- lanes that hold what they held, take one entry more where there is room
-pub takes_after : (xs : List Strip) (run : List RowEntry) (team : ℕ) (rect : Rect) (old mid new : List Lane) → AreOrderly xs old → AreKept old mid →
-    ((n : ℕ) (e : Lane) → IsReached xs run team rect n → HasRoom (get_or mid n e)) → KeepRoom mid new →
-    (n : ℕ) (e : Lane) → IsReached xs run team rect n → TakesOne (get_or new n e)
-takes_after xs run team rect old mid new orderly kept room keep n e reached =
-    let within = reached.0 in
-    let many = orderly.many in
-    let same = kept.many in
-    keep.each n e (omega (arith, within, many, same)) record {
-      order = subst AreInOrder (sym (kept.each n e (omega (arith, within, many))).entries) (orderly.each n e within).order;
-      room = room n e reached;
-    }
-
--- the cell is taken out, and then put in
-pub lanes_replaced : (s : Strips) (id : CellId) (from : Option Rect) (rect : Rect) (run : List RowEntry) (old mid out new : List Lane) → AreStrips s →
-    AreRowsNear s.rows s.height rect run → AreKept old mid → Follows s id from None mid out →
-    AreChanged (IsReached s.list.items run id.team rect) (PutsIn s.list.items id.own rect) out new → Follows s id from (Some rect) old new
-lanes_replaced s id from rect run old mid out new strips rows kept follows changed boxes has is lanes =
-    subst (λ (bs : List (List (Option Rect))). AreLanes s.list.items bs new) (set_twice boxes id.team id.own None (Some rect) has.team)
-    (lanes_in s bare id.team id.own rect run out new strips rows has_team has_own none (follows boxes has is
-    (lanes_kept s.list.items boxes old mid kept lanes)) changed)
-  where
-    cells : List (Option Rect)
-    cells = get_or boxes id.team []
-
-    bare : List (List (Option Rect))
-    bare = set boxes id.team (set cells id.own None)
-
-    there : get_or bare id.team [] ≡ set cells id.own None
-    there = get_or-set_same boxes id.team (set cells id.own None) [] has.team
-
-    has_team : id.team < length bare
-    has_team = let h = has.team in omega (arith, h, length-set boxes id.team (set cells id.own None))
-
-    has_own : id.own < length (get_or bare id.team [])
-    has_own =
-        let h = has.own in
-        let long = ap (λ (cs : List (Option Rect)). length cs) there in
-        let nothing : Option Rect = None in
-        let same = length-set cells id.own nothing in
-        omega (arith, h, long, same)
-
-    none : cell_box (get_or bare id.team []) id.own ≡ None
-    none = ap (λ (cs : List (Option Rect)). cell_box cs id.own) there ∙ box_same cells id.own None has.own
 
 -- lanes that are pruned or stay the same have the room that they had
 pub rooms_out : (xs : List Strip) (run : List RowEntry) (team own : ℕ) (rect : Rect) (lanes new : List Lane) → length lanes ≡ length xs →

@@ -138,11 +138,6 @@ HasRoom l = vec_len l.entries < vec_capacity l.entries
 abbrev pub HasRoomOf : ℕ → Lane → Type 0
 HasRoomOf more l = (vec_len l.entries + more) ≤ vec_capacity l.entries
 
--- the lane's entries are in order, and it has room for one more
-pub record TakesOne (l : Lane) : Type 0 where
-  pub order : AreInOrder l.entries.items
-  pub room : HasRoom l
-
 -- the lane's entries are in order, and it has room for the part of the rectangle that lies in the area, if there is one
 pub record TakesPart (area rect : Rect) (l : Lane) : Type 0 where
   pub order : AreInOrder l.entries.items

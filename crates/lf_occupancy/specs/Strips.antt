@@ -15,7 +15,7 @@ use Rattle.lf_segments.specs.RowsByY.{IsRunBetween}
 use Rattle.lf_occupancy.specs.declared.lane.Lane.{Lane}
 use Rattle.lf_occupancy.specs.declared.strip.Strip.{Strip}
 use Rattle.lf_occupancy.specs.declared.strips.Strips.{Strips}
-use Rattle.lf_occupancy.specs.Lanes.{HasAtMostOne, HasRoomOf, TakesOne, TakesPart, IsInside, IsKept, IsLane, IsOrderly, IsPutIn, MeetsOne, others_in, spans_in}
+use Rattle.lf_occupancy.specs.Lanes.{HasAtMostOne, HasRoomOf, TakesPart, IsInside, IsKept, IsLane, IsOrderly, IsPutIn, MeetsOne, others_in, spans_in}
 use Rattle.lf_occupancy.specs.Occupied.{across, cell_box}
 
 -- the order of strips: by row, then by team, then by x, without overlap
@@ -126,11 +126,6 @@ pub record AreKept (old new : List Lane) : Type 0 where
 -- the strip's part of the cell's box is put into its lane
 abbrev pub PutsIn : List Strip → ℕ → Rect → ℕ → Lane → Lane → Type 0
 PutsIn strips own rect n old new = (d : Strip) → IsPutIn own rect (slice_index_or strips n d).area old new
-
--- a lane that had room for one more entry still has it
-pub record KeepRoom (old new : List Lane) : Type 0 where
-  pub many : length new ≡ length old
-  pub each : (n : ℕ) (e : Lane) → n < length old → TakesOne (slice_index_or old n e) → TakesOne (slice_index_or new n e)
 
 -- there is a cell of that id
 pub record HasCell (boxes : List (List (Option Rect))) (id : CellId) : Type 0 where

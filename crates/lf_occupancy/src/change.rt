@@ -4,7 +4,7 @@ ghost use Rattle.std.specs.Prelude.{AllPairs, IfSome, [], ◌≡◌, ◌≢◌, 
 ghost use Rattle.lf_occupancy.specs.declared.lane.Lane.{Lane};
 ghost use Rattle.lf_occupancy.specs.Lanes.{IsPruned};
 ghost use Rattle.lf_occupancy.specs.Strips.{AreChanged, AreKept, AreLanes, HaveRoomForAll, AreOrderly, AreStrips, Follows, HasCell, IsReached, MeetsStrip};
-ghost use Rattle.lf_occupancy.specs.Strips.{IsReachedIn, CanTake, HaveAtMostOne, HaveRoom, StandOnce, KeepRoom, PutInRow, PutInRows, boxes_set};
+ghost use Rattle.lf_occupancy.specs.Strips.{IsReachedIn, CanTake, HaveAtMostOne, HaveRoom, StandOnce, PutInRow, PutInRows, boxes_set};
 ghost use Rattle.lf_occupancy.specs.Strips.{rooms_in};
 ghost use Rattle.lf_occupancy.specs.Occupied.{NoLess, cell_box};
 
@@ -118,82 +118,11 @@ fn take_out(lanes: &mut Vec<Lane>, strips: &Strips, id: &CellId, old: &Option<Re
     requires many { length lanes.old.items ≡ length strips.now.list.items }
     requires one { StandOnce strips.now.list.items id.now old.now lanes.old.items }
     ensures follows { Follows strips.now id.now old.now None lanes.old.items lanes.new.items }
-    ensures room { KeepRoom lanes.old.items lanes.new.items }
     ensures rooms { rooms_in lanes.new.items ≡ rooms_in lanes.old.items }
 {
     if let Some(rect) = old {
         prune_rows(lanes, strips, rows_near(strips, rect), id, rect);
     }
-}
-
-/// Puts the cell into all strips that its new box reaches, after making room there, in place of its
-/// old box.
-fn replace_by(
-    lanes: &mut Vec<Lane>,
-    strips: &Strips,
-    id: &CellId,
-    old: &Option<Rect>,
-    rect: &Rect,
-) -> Result<(), AllocError>
-    requires strips { AreStrips strips.now }
-    requires lanes { AreOrderly strips.now.list.items lanes.old.items }
-    requires one { StandOnce strips.now.list.items id.now old.now lanes.old.items }
-    ensures ok { OnOk result (Follows strips.now id.now old.now (Some rect.now) lanes.old.items lanes.new.items) }
-    ensures err { OnErr result (AreKept lanes.old.items lanes.new.items) }
-    ensures rooms { NoLess (rooms_in lanes.old.items) (rooms_in lanes.new.items) }
-{
-    let rows = rows_near(strips, rect);
-    make_room_in_rows(lanes, strips, rows, id, rect, 1)?;
-    take_out(lanes, strips, id, old);
-    put_in_rows(lanes, strips, rows, id, rect);
-    Ok(())
-}
-
-/// Updates the lanes when the cell's old box is replaced. On `Err` they hold what they held.
-fn follow(
-    lanes: &mut Vec<Lane>,
-    strips: &Strips,
-    id: &CellId,
-    old: &Option<Rect>,
-    new: &Option<Rect>,
-) -> Result<(), AllocError>
-    requires strips { AreStrips strips.now }
-    requires lanes { AreOrderly strips.now.list.items lanes.old.items }
-    requires one { StandOnce strips.now.list.items id.now old.now lanes.old.items }
-    ensures ok { OnOk result (Follows strips.now id.now old.now new.now lanes.old.items lanes.new.items) }
-    ensures err { OnErr result (AreKept lanes.old.items lanes.new.items) }
-    ensures rooms { NoLess (rooms_in lanes.old.items) (rooms_in lanes.new.items) }
-{
-    if let Some(rect) = new {
-        return replace_by(lanes, strips, id, old, rect);
-    }
-    take_out(lanes, strips, id, old);
-    Ok(())
-}
-
-/// Gives the cell its new box, or none, and updates the lanes. On `Err`, or if there is no such cell,
-/// nothing is changed.
-pub(crate) fn move_box(
-    lanes: &mut Vec<Lane>,
-    boxes: &mut Vec<TeamBoxes>,
-    strips: &Strips,
-    id: &CellId,
-    rect: &Option<Rect>,
-) -> Result<(), AllocError>
-    requires strips { AreStrips strips.now }
-    requires lanes { AreLanes strips.now.list.items boxes.old.items lanes.old.items }
-    ensures lanes { AreLanes strips.now.list.items boxes.new.items lanes.new.items }
-    ensures ok { OnOk result (boxes.new.items ≡ boxes_set boxes.old.items id.now rect.now) }
-    ensures err { OnErr result (boxes.new.items ≡ boxes.old.items) }
-    ensures rooms { NoLess (rooms_in lanes.old.items) (rooms_in lanes.new.items) }
-{
-    if !has_cell(boxes, id) {
-        return Ok(());
-    }
-    let old = box_of_cell(boxes, id);
-    follow(lanes, strips, id, &old, rect)?;
-    set_box(boxes, id, rect);
-    Ok(())
 }
 
 /// Takes the cell's box away, and updates the lanes; if there is no such

@@ -10,7 +10,7 @@ ghost use Rattle.lf_occupancy.specs.Strips.{HasCell};
 
 use crate::boxes::TeamBoxes;
 use crate::build::{bare_lanes, fill, lay_out, no_boxes_of};
-use crate::change::{insert_box, move_box, remove_box, reserve_moves};
+use crate::change::{insert_box, remove_box, reserve_moves};
 use crate::find::{free_in_one, free_in_strips, least_met};
 use crate::lane::Lane;
 use crate::strips::Strips;
@@ -110,18 +110,6 @@ impl Occupancy {
         ensures { IsFirstMet self.now id rect.now result }
     {
         least_met(&self.strips, &self.lanes, &id, rect)
-    }
-
-    /// Gives the cell another box, or none; if there is no such cell, nothing changes. No strip loses
-    /// room. `Err` if an allocation fails: then strips may have gained room, and nothing else is
-    /// changed.
-    pub fn move_to(&mut self, id: CellId, rect: Option<Rect>) -> Result<(), AllocError>
-        ensures ok { OnOk result (self.new.boxes ≡ boxes_with self.old id rect) }
-        ensures err { OnErr result (self.new.boxes ≡ self.old.boxes) }
-        ensures strips { self.new.strips ≡ self.old.strips }
-        ensures rooms { NoLess self.old.rooms self.new.rooms }
-    {
-        move_box(&mut self.lanes, &mut self.boxes, &self.strips, &id, &rect)
     }
 
     /// Takes the cell's box away; if it has none, or there is no such cell,

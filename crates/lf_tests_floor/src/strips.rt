@@ -144,21 +144,24 @@ fn shows_what_is_near(
     Ok(other == Some(a1.own) && itself.is_none())
 }
 
-/// Whether a1 leaves its strip for another, and stands nowhere in the end.
+/// Whether a1 leaves its strip for another, beside a2, and stands nowhere in the end.
 fn follows_a_cell(
     alloc: Global,
     occupancy: &mut Occupancy,
     a1: &CellId,
     a2: &CellId,
-) -> Result<bool, Fail> {
-    occupancy.move_to(*a1, Some(inverter(0, 2000)))?;
+) -> Result<bool, Fail>
+    requires first { HasCell occupancy.old.boxes a1.now }
+    requires second { HasCell occupancy.old.boxes a2.now }
+{
+    put_both(occupancy, a1, a2, &inverter(0, 2000), &inverter(800, 2000))?;
     if !is_left(alloc, occupancy, LOWEST, a2, &[(0, 4000)])? {
         return Ok(false);
     }
     if !is_left(alloc, occupancy, ABOVE, a2, &[(400, 4000)])? {
         return Ok(false);
     }
-    occupancy.move_to(*a1, None)?;
+    occupancy.remove(*a1);
     Ok(is_left(alloc, occupancy, ABOVE, a2, &[(0, 4000)])?)
 }
 

@@ -1,5 +1,5 @@
 use Rattle.std.proofs.Common.{◌∙◌}
-use Rattle.lf_occupancy.proofs.Reaching.{lanes_out, lanes_without, once_in_run, room_out, room_same, rooms_out}
+use Rattle.lf_occupancy.proofs.Reaching.{lanes_out, lanes_without, once_in_run, rooms_out}
 use Rattle.lf_occupancy.proofs.Ones.{reached_has_one}
 use Rattle.lf_occupancy.proofs.change.take_out.Goals as goal
 
@@ -16,17 +16,9 @@ returns-in-Some-clause-follows c = λ boxes has from old.
     lanes_out c.args.strips.now boxes c.args.id.now.team c.args.id.now.own c.in-Some.rect c.rows_near.result.now c.args.lanes.now.items
     c.prune_rows.new.lanes.items c.requires.strips c.rows_near.ensures has.team has.own (from ∙ c.in-Some.is) old c.prune_rows.ensures
 
-pub returns-in-Some-clause-room : goal.returns-in-Some-clause-room
-returns-in-Some-clause-room c =
-    room_out c.args.strips.now.list.items c.rows_near.result.now c.args.id.now.team c.args.id.now.own c.in-Some.rect c.args.lanes.now.items
-    c.prune_rows.new.lanes.items c.requires.many c.prune_rows.ensures
-
 pub returns-in_default-clause-follows : goal.returns-in_default-clause-follows
 returns-in_default-clause-follows c = λ boxes has from old.
     lanes_without c.args.strips.now.list.items boxes c.args.id.now.team c.args.id.now.own c.args.lanes.now.items has.team has.own (from ∙ c.in_default.is) old
-
-pub returns-in_default-clause-room : goal.returns-in_default-clause-room
-returns-in_default-clause-room c = room_same c.args.lanes.now.items
 
 pub returns-in-Some-clause-rooms : goal.returns-in-Some-clause-rooms
 returns-in-Some-clause-rooms c =
