@@ -1,43 +1,25 @@
-//! What stands of all teams, in one table of each kind.
+//! The state of all teams, in one table of each kind.
 
 ghost use Rattle.std.specs.Prelude.{◌≡◌, ◌+◌, IfOk};
 ghost use Rattle.lf_segments.specs.Segments.{IsCut};
-ghost use Rattle.lf_floor.specs.Tables.{AreOpening, AreSized, Counts, Follows, HasRows, IsCurrent, IsFollowed, revision_of};
+ghost use Rattle.lf_floor.specs.Tables.{AreOpening, Counts, HasRows, IsCurrent, revision_of};
 
-use lf_cells::CellTable;
-use lf_floorplan::{Frame, Loaded};
-use lf_occupancy::Occupancy;
+use lf_floorplan::Loaded;
+use lf_placement::Placement;
 use lf_segments::Segments;
 use lf_sessions::SessionTable;
 use lf_undo::UndoStore;
 use std::alloc::{AllocError, Global};
 
-/// The cells, the undo entries, the session slots and the revisions of all teams: each table has a
-/// row for each team of the frame. And the occupancy that the cells give.
+/// The frame with the cells of all teams, and their undo entries, session slots and revisions: each
+/// table has a row for each team of the frame.
 #[derive(Drop)]
 pub(crate) struct Tables {
-    pub(crate) cells: CellTable,
-    /// What stands in the frame's strips; none where memory for it was refused, and then it is built
-    /// anew before the next look at it.
-    pub(crate) occupancy: Option<Occupancy>,
+    pub(crate) placement: Placement,
     pub(crate) undo: UndoStore,
     pub(crate) sessions: SessionTable,
     /// How many changes each team has made.
     pub(crate) revisions: Vec<u32>,
-}
-
-/// The occupancy of the cells; none where memory for it is refused.
-fn occupancy_of(
-    alloc: Global,
-    frame: &Frame,
-    segments: &Segments,
-    cells: &CellTable,
-) -> Option<Occupancy>
-    requires cut { IsCut frame.now segments.now }
-    requires sized { AreSized frame.now cells.now }
-    ensures { Follows frame.now cells.now result }
-{
-    Occupancy::build(alloc, frame, segments, cells).ok()
 }
 
 impl Tables {
@@ -45,23 +27,22 @@ impl Tables {
     /// is open.
     pub(crate) fn opening(
         alloc: Global,
-        loaded: &Loaded,
+        loaded: Loaded,
         segments: &Segments,
     ) -> Result<Tables, AllocError>
-        requires { IsCut loaded.now.frame segments.now }
-        ensures opening { IfOk result (λ tables. AreOpening loaded.now tables) }
-        ensures follows { IfOk result (λ tables. IsFollowed loaded.now.frame tables) }
+        requires { IsCut loaded.frame segments.now }
+        ensures { IfOk result (λ tables. AreOpening loaded tables) }
     {
         let teams = loaded.frame.teams.len() + 1;
-        let limits = &loaded.frame.limits;
-        let cells = CellTable::build(alloc, loaded)?;
-        let occupancy = occupancy_of(alloc, &loaded.frame, segments, &cells);
+        let undo = UndoStore::build(alloc, teams, loaded.frame.limits.undo as usize)?;
+        let sessions = SessionTable::build(alloc, teams, loaded.frame.limits.sessions)?;
+        let revisions = vec![in alloc; 0; teams]?;
+        let placement = Placement::build(alloc, loaded, segments)?;
         Ok(Tables {
-            cells,
-            occupancy,
-            undo: UndoStore::build(alloc, teams, limits.undo as usize)?,
-            sessions: SessionTable::build(alloc, teams, limits.sessions)?,
-            revisions: vec![in alloc; 0; teams]?,
+            placement,
+            undo,
+            sessions,
+            revisions,
         })
     }
 
@@ -75,7 +56,7 @@ impl Tables {
         }
     }
 
-    /// Counts one more change of the team, which the session has then seen, and tells the revision.
+    /// Counts one more change of the team, which the session has then seen, and returns the revision.
     pub(crate) fn count_change(&mut self, number: usize, session: u32) -> u32
         requires rows { HasRows number self.old }
         requires current { IsCurrent number session self.old }
