@@ -13,3 +13,5 @@ pub mod Covering
 pub mod Building
 pub mod Ranges
 pub mod Ones
+pub mod Counting
+pub mod Knowing

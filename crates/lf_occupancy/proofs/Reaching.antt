@@ -2,7 +2,7 @@
 use Rattle.std.proofs.Common.{◌≡◌, ◌≢◌, ◌⊎◌, inl, inr, ℕ, ◌+◌, ◌<◌, ◌≤◌, ℤ, ◌≤ℤ◌, ◌<ℤ◌, List, [], ◌∷◌, ◌++◌, Option, Some, None, length, get_or}
 use Rattle.std.proofs.Common.{set, eqb, refl, sym, ap, subst, ◌∙◌, arith}
 use Rattle.std.specs.Prelude.{AllPairs, Any, Contains, IfSome, IsSomeAnd, map, not}
-use Rattle.std.specs.Vec.{vec_capacity, vec_len}
+use Rattle.std.specs.Vec.{vec_capacity}
 use Rattle.std.proofs.lemmas.Bool.Decides.{eqb_tells}
 use Rattle.std.proofs.lemmas.Int.{ints}
 use Rattle.std.proofs.lemmas.List.{get_or-map, get_or_past, length-map}
@@ -19,8 +19,8 @@ use Rattle.lf_occupancy.specs.declared.strip.Strip.{Strip}
 use Rattle.lf_occupancy.specs.declared.strips.Strips.{Strips}
 use Rattle.lf_occupancy.specs.Lanes.{AreInOrder, HasRoom, IsLane, IsPruned, TakesOne}
 use Rattle.lf_occupancy.specs.Strips.{AreChanged, AreKept, AreLanes, AreOrderly, AreRowsNear, AreStrips, Follows, KeepRoom, MeetsStrip}
-use Rattle.lf_occupancy.specs.Strips.{IsNear, IsPlaced, IsReached, PutsIn, CanTake, HaveRoom, counts_in, rooms_in}
-use Rattle.lf_occupancy.specs.Occupied.{GrowAtMost, cell_box}
+use Rattle.lf_occupancy.specs.Strips.{IsNear, IsPlaced, IsReached, PutsIn, CanTake, HaveRoom, rooms_in}
+use Rattle.lf_occupancy.specs.Occupied.{NoLess, cell_box}
 use Rattle.lf_occupancy.proofs.Finds.{no_strip, some_lane}
 use Rattle.lf_occupancy.proofs.Lists.{maps_alike, pairs_filter}
 use Rattle.lf_occupancy.proofs.Changes.{room_kept}
@@ -362,39 +362,7 @@ rooms_out xs run team own rect lanes new many changed = maps_alike (λ (l : Lane
 order_of : (n m : ℕ) → (n < m) ⊎ (m ≤ n)
 order_of n m = grind arith
 
--- a number of each lane that is greater by no more than this
-pub maps_grow : (f : Lane → ℕ) (by : ℕ) (old new : List Lane) → length new ≡ length old →
-    ((n : ℕ) (e : Lane) → n < length old → f (get_or new n e) ≤ (f (get_or old n e) + by)) → GrowAtMost by (map f old) (map f new)
-maps_grow f by old new many each = record {
-  many = length-map new f ∙ many ∙ sym (length-map old f);
-  each = λ n. elim (order_of n (length old)) [
-    | inl within ↦
-        let e = some_lane old n within in
-        let a = get_or-map f old n e 0 within in
-        let b = get_or-map f new n e 0 (omega (arith, within, many)) in
-        let h = each n e within in
-        omega (arith, a, b, h)
-    | inr past ↦
-        let long = length-map new f in
-        let a = get_or_past (map f new) n 0 (omega (arith, past, many, long)) in
-        omega (arith, a)
-  ];
-}
-
-pub counts_same : (lanes : List Lane) → GrowAtMost 0 (counts_in lanes) (counts_in lanes)
-counts_same lanes = maps_grow (λ l. vec_len l.entries) 0 lanes lanes refl (λ n e within. omega arith)
-
-pub counts_out : (xs : List Strip) (run : List RowEntry) (team own : ℕ) (rect : Rect) (lanes new : List Lane) → length lanes ≡ length xs →
-    AreChanged (IsReached xs run team rect) (λ n. IsPruned own) lanes new → GrowAtMost 0 (counts_in lanes) (counts_in new)
-counts_out xs run team own rect lanes new many changed = maps_grow (λ l. vec_len l.entries) 0 lanes new changed.many each
-  where
-    each : (n : ℕ) (e : Lane) → n < length lanes → vec_len (get_or new n e).entries ≤ (vec_len (get_or lanes n e).entries + 0)
-    each n e within = elim (decide_reached xs run team rect n (omega (arith, within, many))) [
-      | inl reached ↦ let h = (changed.chosen n e within reached).fewer in omega (arith, h)
-      | inr never ↦ let h = ap (λ (l : Lane). vec_len l.entries) (changed.others n e within never) in omega (arith, h)
-    ]
-
--- lanes that take the parts of a box keep their room, and get one entry each at most
+-- lanes that take the parts of a box keep their room
 pub rooms_put : (xs : List Strip) (run : List RowEntry) (team own : ℕ) (rect : Rect) (lanes new : List Lane) → length lanes ≡ length xs →
     AreChanged (IsReached xs run team rect) (PutsIn xs own rect) lanes new → rooms_in new ≡ rooms_in lanes
 rooms_put xs run team own rect lanes new many changed = maps_alike (λ (l : Lane). vec_capacity l.entries) new lanes changed.many each
@@ -406,19 +374,6 @@ rooms_put xs run team own rect lanes new many changed = maps_alike (λ (l : Lane
         | inr same ↦ ap (λ (l : Lane). vec_capacity l.entries) same.1
       ]
       | inr never ↦ ap (λ (l : Lane). vec_capacity l.entries) (changed.others n e within never)
-    ]
-
-pub counts_put : (xs : List Strip) (run : List RowEntry) (team own : ℕ) (rect : Rect) (lanes new : List Lane) → length lanes ≡ length xs →
-    AreChanged (IsReached xs run team rect) (PutsIn xs own rect) lanes new → GrowAtMost 1 (counts_in lanes) (counts_in new)
-counts_put xs run team own rect lanes new many changed = maps_grow (λ l. vec_len l.entries) 1 lanes new changed.many each
-  where
-    each : (n : ℕ) (e : Lane) → n < length lanes → vec_len (get_or new n e).entries ≤ (vec_len (get_or lanes n e).entries + 1)
-    each n e within = elim (decide_reached xs run team rect n (omega (arith, within, many))) [
-      | inl reached ↦ elim (changed.chosen n e within reached no_strip).change [
-        | inl joined ↦ let h = joined.1.more in omega (arith, h)
-        | inr same ↦ let h = ap (λ (l : Lane). vec_len l.entries) same.1 in omega (arith, h)
-      ]
-      | inr never ↦ let h = ap (λ (l : Lane). vec_len l.entries) (changed.others n e within never) in omega (arith, h)
     ]
 
 -- a reached lane takes the part of the box where the strips that the box meets have room
@@ -463,31 +418,21 @@ pub move_stays : (xs : List Strip) (team : ℕ) (to : Option Rect) (more : ℕ) 
 move_stays xs team None more old new many kept room = tt
 move_stays xs team (Some rect) more old new many kept room = room_stays xs team rect more old new many kept room
 
--- room in lanes is room in the numbers of their entries and places
-pub room_of_lanes : (xs : List Strip) (team : ℕ) (rect : Rect) (more : ℕ) (lanes : List Lane) → length lanes ≡ length xs →
-    HaveRoom (MeetsStrip xs team rect) more lanes →
-    (n : ℕ) → MeetsStrip xs team rect n → (get_or (counts_in lanes) n 0 + more) ≤ get_or (rooms_in lanes) n 0
-room_of_lanes xs team rect more lanes many room n meets = elim (order_of n (length xs)) [
-  | inl within ↦
-      let e = some_lane lanes n (omega (arith, within, many)) in
-      let a = get_or-map (λ (l : Lane). vec_len l.entries) lanes n e 0 (omega (arith, within, many)) in
-      let b = get_or-map (λ (l : Lane). vec_capacity l.entries) lanes n e 0 (omega (arith, within, many)) in
-      let h = room n e meets in
-      omega (arith, a, b, h)
-  | inr past ↦ absurd (subst (λ (found : Option Strip). IsSomeAnd found (λ g. (g.team ≡ team) × SharesPoint g.area rect))
-      (slice_get_past xs n past) meets)
-]
-
--- lanes that hold what they held have as many entries, and no less room
-pub counts_kept : (old new : List Lane) → AreKept old new → counts_in new ≡ counts_in old
-counts_kept old new kept = maps_alike (λ (l : Lane). vec_len l.entries) new old kept.many (λ n e within. (kept.each n e within).many)
-
-pub rooms_kept : (old new : List Lane) → AreKept old new → GrowAtMost 0 (rooms_in new) (rooms_in old)
-rooms_kept old new kept = maps_grow (λ l. vec_capacity l.entries) 0 new old (sym kept.many)
-    (λ n e within. let m = kept.many in let h = (kept.each n e (omega (arith, m, within))).room in omega (arith, h))
-
-pub move_fits : (xs : List Strip) (team : ℕ) (to : Option Rect) (more : ℕ) (lanes : List Lane) → length lanes ≡ length xs →
-    IfSome to (λ rect. HaveRoom (MeetsStrip xs team rect) more lanes) →
-    IfSome to (λ rect. (n : ℕ) → MeetsStrip xs team rect n → (get_or (counts_in lanes) n 0 + more) ≤ get_or (rooms_in lanes) n 0)
-move_fits xs team None more lanes many room = tt
-move_fits xs team (Some rect) more lanes many room = room_of_lanes xs team rect more lanes many room
+-- lanes that hold what they held have no less room
+pub rooms_kept : (old new : List Lane) → AreKept old new → NoLess (rooms_in old) (rooms_in new)
+rooms_kept old new kept = record {
+  many = length-map new (λ (l : Lane). vec_capacity l.entries) ∙ kept.many ∙ sym (length-map old (λ (l : Lane). vec_capacity l.entries));
+  each = λ n. elim (order_of n (length old)) [
+    | inl within ↦
+        let many = kept.many in
+        let e = some_lane old n within in
+        let a = get_or-map (λ (l : Lane). vec_capacity l.entries) old n e 0 within in
+        let b = get_or-map (λ (l : Lane). vec_capacity l.entries) new n e 0 (omega (arith, within, many)) in
+        let h = (kept.each n e within).room in
+        omega (arith, a, b, h)
+    | inr past ↦
+        let long = length-map old (λ (l : Lane). vec_capacity l.entries) in
+        let a = get_or_past (map (λ (l : Lane). vec_capacity l.entries) old) n 0 (omega (arith, past, long)) in
+        omega (arith, a)
+  ];
+}

@@ -1,7 +1,7 @@
 -- What lanes tell of the boxes of teams' cells.
-use Rattle.std.proofs.Common.{refl, ◌≡◌, ◌⊎◌, inl, inr, ℕ, ◌<◌, ◌≤◌, ℤ, ◌<ℤ◌, List, [], Option, Some, None, length, get_or, sym, ap, subst, ◌∙◌, arith}
-use Rattle.std.specs.Prelude.{Any, Contains, IsSomeAnd, map, slice_get}
-use Rattle.std.specs.Vec.{vec_len}
+use Rattle.std.proofs.Common.{refl, ◌≡◌, ◌⊎◌, inl, inr, ℕ, zero, suc, ◌<◌, ◌≤◌, ℤ, ◌<ℤ◌, true, List, [], ◌∷◌, Option, Some, None, length, get_or, sym, ap, subst, ◌∙◌, arith}
+use Rattle.std.specs.Prelude.{Any, Contains, IfSome, IsSomeAnd, map, slice_get}
+use Rattle.std.specs.Vec.{vec_capacity, vec_len}
 use Rattle.std.proofs.lemmas.Bool.Decides.{eqb_tells}
 use Rattle.std.proofs.lemmas.Option.{slice_get-get_or, slice_get_past}
 use Rattle.std.proofs.lemmas.Int.{ints}
@@ -16,9 +16,10 @@ use Rattle.lf_occupancy.specs.declared.lane.Entry.{Entry}
 use Rattle.lf_occupancy.specs.declared.lane.Lane.{Lane}
 use Rattle.lf_occupancy.specs.declared.strip.Strip.{Strip}
 use Rattle.lf_occupancy.specs.Lanes.{IsLane, LiesInBox, IsLeast, x_range}
-use Rattle.lf_occupancy.specs.Strips.{counts_in, AreFreeTo, AreLanes, AreLeft, LiesFree, LiesLeft, MeetsInOne}
-use Rattle.lf_occupancy.specs.Occupied.{AreCellsIn, AreCounted, box_at, AreFreeSpans, IsLeftOver, StandsBut, cell_box}
+use Rattle.lf_occupancy.specs.Strips.{AreFreeTo, AreLanes, AreLeft, HaveRoom, LiesFree, LiesLeft, MeetsInOne, MeetsStrip, rooms_in}
+use Rattle.lf_occupancy.specs.Occupied.{AreFreeSpans, FitIn, HasRoomFor, IsLeftOver, StandsBut, boxes_of, cell_box, count_in, meets}
 use Rattle.lf_occupancy.specs.Occupied.{Occupied, IsFirstMet, IsFreeInRow, IsFreeOver, IsOther, IsStripOf, MeetsInStrips, across, over}
+use Rattle.lf_occupancy.proofs.Counting.{meets_shares, named_are_counted, shares_meets}
 use Rattle.lf_occupancy.proofs.Finds.{no_strip, some_lane}
 use Rattle.lf_occupancy.proofs.Leasts.{least_alike, least_from_none}
 use Rattle.lf_occupancy.proofs.Runs.{all_apart_each, apart_each, each_all_apart, each_apart}
@@ -258,14 +259,9 @@ spans_of_strip o lanes id n free are left = record {
       | inr past ↦ absurd (subst (λ (found : Option Strip). IsSomeAnd found (λ g. IsLeftOver o id g s)) (slice_get_past o.strips n past) some)
     ]
 
--- the cells whose entries stand in a lane are those whose boxes share a point with its strip
-some_box : (P : Rect → Type 0) (found : Option Rect) → IsSomeAnd found P → (box : Rect) × ((found ≡ Some box) × P box)
-some_box P None some = absurd some
-some_box P (Some box) some = (box, (refl, some))
-
-cells_in_lane : (o : Occupied) (g : Strip) (l : Lane) → IsLane (get_or o.boxes g.team []) g.area l →
-    AreCellsIn o g (map (λ (e : Entry). e.own) l.entries.items)
-cells_in_lane o g l lane = record { once = once; exact = λ own. (to own, back own) }
+-- a lane has an entry for each of its team's boxes that meet the strip, and no other
+lane_is_counted : (g : Strip) (boxes : List (Option Rect)) (l : Lane) → IsLane boxes g.area l → vec_len l.entries ≡ count_in g boxes
+lane_is_counted g boxes l lane = l.entries.ok.0 ∙ sym (length-map items (λ (e : Entry). e.own)) ∙ named_are_counted g boxes owns once (λ own. (to own, back own))
   where
     items : List Entry
     items = l.entries.items
@@ -284,44 +280,107 @@ cells_in_lane o g l lane = record { once = once; exact = λ own. (to own, back o
         let long = length-map items (λ (e : Entry). e.own) in
         lane.once i j none less (omega (arith, long, within)) (sym (own_at i d (omega (arith, less, within))) ∙ same ∙ own_at j d within)
 
-    to : (own : ℕ) → Contains owns own → IsSomeAnd (box_at o g.team own) (λ box. SharesPoint g.area box)
-    to own (k, within, is) =
-        let long = length-map items (λ (e : Entry). e.own) in
-        let e : Entry = get_or items k none in
-        let inner : k < length items = omega (arith, long, within) in
+    corner : (k : ℕ) → k < length items → LiesInBox boxes g.area (get_or items k none).own (get_or items k none).area.x1 (get_or items k none).area.y1
+    corner k inner =
         let w = (lane.whole k none inner).wide in
         let h = (lane.whole k none inner).high in
-        let lies = lane.told k none inner e.area.x1 e.area.y1
-        record { left = omega (arith, ints); right = w; bottom = omega (arith, ints); top = h } in
-        let At : ℕ → Type 0 = λ m. IsSomeAnd (box_at o g.team m) (λ box. SharesPoint g.area box) in
-        subst At (sym (own_at k own within) ∙ is)
-        (subst (λ (found : Option Rect). IsSomeAnd found (λ box. SharesPoint g.area box)) (sym lies.is)
-        record { x = e.area.x1; y = e.area.y1; in_first = lies.in_area; in_second = lies.in_box })
+        lane.told k none inner (get_or items k none).area.x1 (get_or items k none).area.y1
+        record { left = omega (arith, ints); right = w; bottom = omega (arith, ints); top = h }
 
-    back : (own : ℕ) → IsSomeAnd (box_at o g.team own) (λ box. SharesPoint g.area box) → Contains owns own
-    back own some =
+    met_at : (k : ℕ) → k < length items → meets g (cell_box boxes (get_or items k none).own) ≡ true
+    met_at k inner =
+        let lies = corner k inner in
+        ap (meets g) lies.is ∙ shares_meets g lies.box
+        record { x = (get_or items k none).area.x1; y = (get_or items k none).area.y1; in_first = lies.in_area; in_second = lies.in_box }
+
+    to : (own : ℕ) → Contains owns own → meets g (cell_box boxes own) ≡ true
+    to own (k, within, is) =
         let long = length-map items (λ (e : Entry). e.own) in
-        let b = some_box (λ box. SharesPoint g.area box) (box_at o g.team own) some in
-        let s = b.1.1 in
-        let found = lane.held own s.x s.y record { box = b.0; is = b.1.0; in_area = s.in_first; in_box = s.in_second } in
+        let At : ℕ → Type 0 = λ m. meets g (cell_box boxes m) ≡ true in
+        subst At (sym (own_at k own within) ∙ is) (met_at k (omega (arith, long, within)))
+
+    some_box : (found : Option Rect) → meets g found ≡ true → (box : Rect) × (found ≡ Some box)
+    some_box None met = absurd cc
+    some_box (Some box) met = (box, refl)
+
+    back : (own : ℕ) → meets g (cell_box boxes own) ≡ true → Contains owns own
+    back own met =
+        let long = length-map items (λ (e : Entry). e.own) in
+        let b = some_box (cell_box boxes own) met in
+        let s = meets_shares g b.0 (sym (ap (meets g) b.1) ∙ met) in
+        let found = lane.held own s.x s.y record { box = b.0; is = b.1; in_area = s.in_first; in_box = s.in_second } in
         let within = found.2 in
         let inner : found.0 < length owns = omega (arith, long, within) in
         (found.0, inner, get_or-map (λ (e : Entry). e.own) items found.0 found.1 own within ∙ ap (λ (e : Entry). e.own) found.3 ∙ found.4.is)
 
-pub entries_counted : (o : Occupied) (lanes : List Lane) → o.entries ≡ counts_in lanes → AreLanes o.strips o.boxes lanes → AreCounted o
-entries_counted o lanes are_counts are = record {
-  many = ap (λ (ns : List ℕ). length ns) are_counts ∙ length-map lanes (λ (l : Lane). vec_len l.entries) ∙ are.many;
-  each = λ n d within.
-      let many = are.many in
-      let inner : n < length lanes = omega (arith, many, within) in
-      let e = some_lane lanes n inner in
-      let l = get_or lanes n e in
-      let long : length l.entries.items ≡ vec_len l.entries = sym l.entries.ok.0 in (
-        map (λ (x : Entry). x.own) l.entries.items,
-        (
-          cells_in_lane o (get_or o.strips n d) l (are.each n d e within),
-          length-map l.entries.items (λ (x : Entry). x.own) ∙ long ∙ sym (get_or-map (λ (x : Lane). vec_len x.entries) lanes n e 0 inner)
-              ∙ ap (λ (ns : List ℕ). get_or ns n 0) (sym are_counts),
-        ),
-      );
-}
+-- what the lane of a strip has, in numbers
+record InNumbers (g : Strip) (boxes : List (Option Rect)) (places : ℕ) (l : Lane) : Type 0 where
+  count : vec_len l.entries ≡ count_in g boxes
+  room : vec_capacity l.entries ≡ places
+
+strip_is_within : (xs : List Strip) (n : ℕ) (g : Strip) → slice_get xs n ≡ Some g → (n < length xs) × ((d : Strip) → get_or xs n d ≡ g)
+strip_is_within [] n g is = absurd cc
+strip_is_within (x ∷ xs) zero g is = (omega arith, λ d. cc)
+strip_is_within (x ∷ xs) (suc n) g is = let h = strip_is_within xs n g is in let less = h.0 in (omega (arith, less), h.1)
+
+in_numbers : (xs : List Strip) (boxes : List (List (Option Rect))) (lanes : List Lane) (n : ℕ) (g : Strip) (team : ℕ) (e : Lane) →
+    AreLanes xs boxes lanes → slice_get xs n ≡ Some g → g.team ≡ team → InNumbers g (get_or boxes team []) (get_or (rooms_in lanes) n 0) (get_or lanes n e)
+in_numbers xs boxes lanes n g team e are is of_team =
+    let at = strip_is_within xs n g is in
+    let many = are.many in
+    let within = at.0 in
+    let At : Strip → Type 0 = λ q. IsLane (get_or boxes q.team []) q.area (get_or lanes n e) in
+    let lane : At g = subst At (at.1 g) (are.each n g e within) in
+    let Of : ℕ → Type 0 = λ t. IsLane (get_or boxes t []) g.area (get_or lanes n e) in
+    record {
+      count = lane_is_counted g (get_or boxes team []) (get_or lanes n e) (subst Of of_team lane);
+      room = sym (get_or-map (λ (l : Lane). vec_capacity l.entries) lanes n e 0 (omega (arith, many, within)));
+    }
+
+lane_at : (xs : List Strip) (boxes : List (List (Option Rect))) (lanes : List Lane) (n : ℕ) (g : Strip) → AreLanes xs boxes lanes → slice_get xs n ≡ Some g → Lane
+lane_at xs boxes lanes n g are is = let within = (strip_is_within xs n g is).0 in let many = are.many in some_lane lanes n (omega (arith, many, within))
+
+-- each strip has room for the boxes that meet it
+pub boxes_that_stand_fit : (o : Occupied) (lanes : List Lane) → o.rooms ≡ rooms_in lanes → AreLanes o.strips o.boxes lanes → (team : ℕ) →
+    FitIn o team (boxes_of o team)
+boxes_that_stand_fit o lanes rooms are team n g is of_team =
+    let e = lane_at o.strips o.boxes lanes n g are is in
+    let numbers = in_numbers o.strips o.boxes lanes n g team e are is of_team in
+    let a = numbers.count in
+    let b = numbers.room in
+    let c = ap (λ (ns : List ℕ). get_or ns n 0) rooms in
+    let most = (get_or lanes n e).entries.ok.1 in
+    omega (arith, a, b, c, most)
+
+-- room in lanes is room in what a contract sees
+pub room_is_seen : (o : Occupied) (lanes : List Lane) (team : ℕ) (rect : Rect) (more : ℕ) → o.rooms ≡ rooms_in lanes → AreLanes o.strips o.boxes lanes →
+    HaveRoom (MeetsStrip o.strips team rect) more lanes → HasRoomFor o team rect more
+room_is_seen o lanes team rect more rooms are room n g is of_team shares =
+    let e = lane_at o.strips o.boxes lanes n g are is in
+    let numbers = in_numbers o.strips o.boxes lanes n g team e are is of_team in
+    let a = numbers.count in
+    let b = numbers.room in
+    let c = ap (λ (ns : List ℕ). get_or ns n 0) rooms in
+    let h = room n e (subst (λ (found : Option Strip). IsSomeAnd found (λ q. (q.team ≡ team) × SharesPoint q.area rect)) (sym is) (of_team, shares)) in
+    omega (arith, a, b, c, h)
+
+pub seen_is_room : (o : Occupied) (lanes : List Lane) (team : ℕ) (rect : Rect) (more : ℕ) → o.rooms ≡ rooms_in lanes → AreLanes o.strips o.boxes lanes →
+    HasRoomFor o team rect more → HaveRoom (MeetsStrip o.strips team rect) more lanes
+seen_is_room o lanes team rect more rooms are room n e meets =
+    let found = some_strip (slice_get o.strips n) meets in
+    let numbers = in_numbers o.strips o.boxes lanes n found.0 team e are found.1.0 found.1.1.0 in
+    let a = numbers.count in
+    let b = numbers.room in
+    let c = ap (λ (ns : List ℕ). get_or ns n 0) rooms in
+    let h = room n found.0 found.1.0 found.1.1.0 found.1.1.1 in
+    omega (arith, a, b, c, h)
+  where
+    some_strip : (found : Option Strip) → IsSomeAnd found (λ q. (q.team ≡ team) × SharesPoint q.area rect) →
+        (g : Strip) × ((found ≡ Some g) × ((g.team ≡ team) × SharesPoint g.area rect))
+    some_strip None none = absurd none
+    some_strip (Some g) m = (g, (refl, m))
+
+pub move_is_seen : (o : Occupied) (lanes : List Lane) (team : ℕ) (to : Option Rect) (more : ℕ) → o.rooms ≡ rooms_in lanes → AreLanes o.strips o.boxes lanes →
+    IfSome to (λ rect. HaveRoom (MeetsStrip o.strips team rect) more lanes) → IfSome to (λ rect. HasRoomFor o team rect more)
+move_is_seen o lanes team None more rooms are room = tt
+move_is_seen o lanes team (Some rect) more rooms are room = room_is_seen o lanes team rect more rooms are room

@@ -3,7 +3,7 @@ use Rattle.std.specs.Prelude.{◌≡◌, ◌≢◌, ◌⊎◌, ◌↔◌, ◌==�
 use Rattle.std.specs.Prelude.{length, All, AllPairs, Any, IfSome, IsSomeAnd, slice_get}
 use Rattle.std.specs.Prelude.{int_le, int_lt, Option, map, slice_index_or, slice_set, []}
 use Rattle.std.specs.Int.{int_max}
-use Rattle.std.specs.Vec.{vec_len, vec_capacity}
+use Rattle.std.specs.Vec.{vec_capacity}
 use Rattle.lf_cells.specs.declared.cell.CellId.{CellId}
 use Rattle.lf_units.specs.declared.area.Rect.{Rect}
 use Rattle.lf_units.specs.Area.{SharesPoint}

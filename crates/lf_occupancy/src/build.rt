@@ -9,7 +9,7 @@ ghost use Rattle.lf_occupancy.specs.Floorplans.{HasSize, box_of, row_y, strip_of
 ghost use Rattle.lf_occupancy.specs.Strips.{AreLanes, AreStrips};
 
 use crate::boxes::TeamBoxes;
-use crate::change::move_box;
+use crate::change::settle;
 use crate::lane::Lane;
 use crate::strip::Strip;
 use crate::strips::Strips;
@@ -221,7 +221,7 @@ pub(crate) fn fill(
 {
     let order = by_place(alloc, cells, cells.all())?;
     for id in &order {
-        move_box(lanes, boxes, strips, id, &box_at_work(frame, cells, id))?;
+        settle(lanes, boxes, strips, id, &box_at_work(frame, cells, id))?;
     }
     Ok(())
 }

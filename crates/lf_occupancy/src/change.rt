@@ -5,8 +5,8 @@ ghost use Rattle.lf_occupancy.specs.declared.lane.Lane.{Lane};
 ghost use Rattle.lf_occupancy.specs.Lanes.{IsPruned};
 ghost use Rattle.lf_occupancy.specs.Strips.{AreChanged, AreKept, AreLanes, HaveRoomForAll, AreOrderly, AreStrips, Follows, HasCell, IsReached, MeetsStrip};
 ghost use Rattle.lf_occupancy.specs.Strips.{IsReachedIn, CanTake, HaveAtMostOne, HaveRoom, StandOnce, KeepRoom, PutInRow, PutInRows, boxes_set};
-ghost use Rattle.lf_occupancy.specs.Strips.{counts_in, rooms_in};
-ghost use Rattle.lf_occupancy.specs.Occupied.{GrowAtMost, NoLess, cell_box};
+ghost use Rattle.lf_occupancy.specs.Strips.{rooms_in};
+ghost use Rattle.lf_occupancy.specs.Occupied.{NoLess, cell_box};
 
 use crate::boxes::{TeamBoxes, box_of_cell, has_cell, set_box};
 use crate::lane::{Lane, make_room, prune, put_in};
@@ -120,7 +120,6 @@ fn take_out(lanes: &mut Vec<Lane>, strips: &Strips, id: &CellId, old: &Option<Re
     ensures follows { Follows strips.now id.now old.now None lanes.old.items lanes.new.items }
     ensures room { KeepRoom lanes.old.items lanes.new.items }
     ensures rooms { rooms_in lanes.new.items ≡ rooms_in lanes.old.items }
-    ensures entries { GrowAtMost 0 (counts_in lanes.old.items) (counts_in lanes.new.items) }
 {
     if let Some(rect) = old {
         prune_rows(lanes, strips, rows_near(strips, rect), id, rect);
@@ -141,7 +140,6 @@ fn replace_by(
     requires one { StandOnce strips.now.list.items id.now old.now lanes.old.items }
     ensures ok { OnOk result (Follows strips.now id.now old.now (Some rect.now) lanes.old.items lanes.new.items) }
     ensures err { OnErr result (AreKept lanes.old.items lanes.new.items) }
-    ensures entries { OnErr result (counts_in lanes.new.items ≡ counts_in lanes.old.items) }
     ensures rooms { NoLess (rooms_in lanes.old.items) (rooms_in lanes.new.items) }
 {
     let rows = rows_near(strips, rect);
@@ -164,7 +162,6 @@ fn follow(
     requires one { StandOnce strips.now.list.items id.now old.now lanes.old.items }
     ensures ok { OnOk result (Follows strips.now id.now old.now new.now lanes.old.items lanes.new.items) }
     ensures err { OnErr result (AreKept lanes.old.items lanes.new.items) }
-    ensures entries { OnErr result (counts_in lanes.new.items ≡ counts_in lanes.old.items) }
     ensures rooms { NoLess (rooms_in lanes.old.items) (rooms_in lanes.new.items) }
 {
     if let Some(rect) = new {
@@ -188,7 +185,6 @@ pub(crate) fn move_box(
     ensures lanes { AreLanes strips.now.list.items boxes.new.items lanes.new.items }
     ensures ok { OnOk result (boxes.new.items ≡ boxes_set boxes.old.items id.now rect.now) }
     ensures err { OnErr result (boxes.new.items ≡ boxes.old.items) }
-    ensures entries { OnErr result (counts_in lanes.new.items ≡ counts_in lanes.old.items) }
     ensures rooms { NoLess (rooms_in lanes.old.items) (rooms_in lanes.new.items) }
 {
     if !has_cell(boxes, id) {
@@ -213,7 +209,6 @@ pub(crate) fn remove_box(
     ensures lanes { AreLanes strips.now.list.items boxes.new.items lanes.new.items }
     ensures boxes { boxes.new.items ≡ boxes_set boxes.old.items id.now None }
     ensures rooms { rooms_in lanes.new.items ≡ rooms_in lanes.old.items }
-    ensures entries { GrowAtMost 0 (counts_in lanes.old.items) (counts_in lanes.new.items) }
 {
     if !has_cell(boxes, id) {
         return;
@@ -239,7 +234,6 @@ pub(crate) fn insert_box(
     ensures lanes { AreLanes strips.now.list.items boxes.new.items lanes.new.items }
     ensures boxes { boxes.new.items ≡ boxes_set boxes.old.items id.now (Some rect.now) }
     ensures rooms { rooms_in lanes.new.items ≡ rooms_in lanes.old.items }
-    ensures entries { GrowAtMost 1 (counts_in lanes.old.items) (counts_in lanes.new.items) }
 {
     put_in_rows(lanes, strips, rows_near(strips, rect), id, rect);
     set_box(boxes, id, &Some(*rect));
@@ -278,6 +272,31 @@ pub(crate) fn reserve_moves(
 {
     for (id, to) in moves {
         reserve_box(lanes, strips, id, to, moves.len())?;
+    }
+    Ok(())
+}
+
+/// Gives the cell this box, or none, after room was made for it, and lets the lanes follow; where there
+/// is no such cell, nothing changes. On `Err` it stands nowhere.
+pub(crate) fn settle(
+    lanes: &mut Vec<Lane>,
+    boxes: &mut Vec<TeamBoxes>,
+    strips: &Strips,
+    id: &CellId,
+    to: &Option<Rect>,
+) -> Result<(), AllocError>
+    requires strips { AreStrips strips.now }
+    requires lanes { AreLanes strips.now.list.items boxes.old.items lanes.old.items }
+    ensures lanes { AreLanes strips.now.list.items boxes.new.items lanes.new.items }
+    ensures ok { OnOk result (boxes.new.items ≡ boxes_set boxes.old.items id.now to.now) }
+{
+    if !has_cell(boxes, id) {
+        return Ok(());
+    }
+    remove_box(lanes, boxes, strips, id);
+    reserve_box(lanes, strips, id, to, 1)?;
+    if let Some(rect) = to {
+        insert_box(lanes, boxes, strips, id, rect);
     }
     Ok(())
 }

@@ -3,7 +3,7 @@
 ghost use Rattle.std.specs.Prelude.{ℕ, ◌≡◌, ◌≤ℤ◌, All, IfOk, IfSome, None, OnErr, OnOk, Some, length, negsuc};
 ghost use Rattle.lf_floorplan.specs.declared.frame.Frame.{Frame};
 ghost use Rattle.lf_segments.specs.Segments.{IsCut};
-ghost use Rattle.lf_occupancy.specs.Occupied.{box_at, boxes_with, AreCounted, AreFreeSpans, GrowAtMost, HasRoomFor, NoLess, IsFirstMet, IsFreeInRow};
+ghost use Rattle.lf_occupancy.specs.Occupied.{box_at, boxes_of, boxes_with, AreFreeSpans, FitIn, HasRoomFor, NoLess, IsFirstMet, IsFreeInRow};
 ghost use Rattle.lf_occupancy.specs.Floorplans.{HasSize, IsOccupancyOf};
 ghost use Rattle.lf_cells.specs.Cells.{cells_of};
 ghost use Rattle.lf_occupancy.specs.Strips.{HasCell};
@@ -23,8 +23,7 @@ use std::marker::Model;
 
 /// What stands in the strips of a frame: for each team the boxes of its cells, and for each strip the
 /// parts of those boxes that lie in it, in the order of their left edges. A strip is the area of a
-/// segment. A contract sees the strips, the boxes, and for each strip how many parts stand in it and
-/// for how many it has room.
+/// segment. A contract sees the strips, the boxes, and for each strip how many boxes it has room for.
 #[derive(Drop)]
 pub struct Occupancy {
     strips: Strips,
@@ -37,12 +36,11 @@ impl Model for Occupancy {
 
     ghost Value = { Occupied };
 
-    ghost use Rattle.lf_occupancy.specs.Strips.{AreLanes, AreStrips, counts_in, rooms_in};
+    ghost use Rattle.lf_occupancy.specs.Strips.{AreLanes, AreStrips, rooms_in};
 
     ghost view = { λ o. record {
       strips = o.strips.list.items;
       boxes = o.boxes.items;
-      entries = counts_in o.lanes.items;
       rooms = rooms_in o.lanes.items;
     } };
 
@@ -120,7 +118,6 @@ impl Occupancy {
     pub fn move_to(&mut self, id: CellId, rect: Option<Rect>) -> Result<(), AllocError>
         ensures ok { OnOk result (self.new.boxes ≡ boxes_with self.old id rect) }
         ensures err { OnErr result (self.new.boxes ≡ self.old.boxes) }
-        ensures kept { OnErr result (self.new.entries ≡ self.old.entries) }
         ensures strips { self.new.strips ≡ self.old.strips }
         ensures rooms { NoLess self.old.rooms self.new.rooms }
     {
@@ -133,14 +130,12 @@ impl Occupancy {
         ensures boxes { self.new.boxes ≡ boxes_with self.old id None }
         ensures strips { self.new.strips ≡ self.old.strips }
         ensures rooms { self.new.rooms ≡ self.old.rooms }
-        ensures entries { GrowAtMost 0 self.old.entries self.new.entries }
     {
         remove_box(&mut self.lanes, &mut self.boxes, &self.strips, &id);
     }
 
     /// Gives a cell that stands nowhere a box. No memory is taken: each strip of its team that shares a
-    /// point with the box has room for one entry more. Each strip keeps the room that it has, and gets
-    /// at most one entry.
+    /// point with the box has room for one more. Each strip keeps the room that it has.
     pub fn insert(&mut self, id: CellId, rect: &Rect)
         requires known { HasCell self.old.boxes id }
         requires nowhere { box_at self.old id.team id.own ≡ None }
@@ -148,28 +143,27 @@ impl Occupancy {
         ensures boxes { self.new.boxes ≡ boxes_with self.old id (Some rect.now) }
         ensures strips { self.new.strips ≡ self.old.strips }
         ensures rooms { self.new.rooms ≡ self.old.rooms }
-        ensures entries { GrowAtMost 1 self.old.entries self.new.entries }
     {
         insert_box(&mut self.lanes, &mut self.boxes, &self.strips, &id, rect);
     }
 
     /// Makes the room that `insert` asks where the moves are made in their order, each by taking the
-    /// cell away and giving it its box, if it has one: for as many entries as there are moves, in each
-    /// strip of a cell's team that shares a point with its box. What stands there stays. `Err` where
-    /// memory is refused: then some room may have been made, and nothing else is changed.
+    /// cell away and giving it its box, if it has one: for as many boxes more as there are moves, in
+    /// each strip of a cell's team that shares a point with its box. What stands there stays. `Err`
+    /// where memory is refused: then some room may have been made, and nothing else is changed.
     pub fn reserve_for(&mut self, moves: &[(CellId, Option<Rect>)]) -> Result<(), AllocError>
         ensures ok { OnOk result (All (λ m. IfSome m.1 (λ rect. HasRoomFor self.new m.0.team rect (length moves.now))) moves.now) }
         ensures boxes { self.new.boxes ≡ self.old.boxes }
         ensures strips { self.new.strips ≡ self.old.strips }
-        ensures entries { self.new.entries ≡ self.old.entries }
         ensures rooms { NoLess self.old.rooms self.new.rooms }
     {
         reserve_moves(&mut self.lanes, &self.strips, moves)
     }
 
-    /// The entries of each strip are as many as its team has cells whose boxes share a point with it.
-    pub fn entries_are_counted(&self)
-        ensures { AreCounted self.now }
+    /// The boxes that stand fit: each strip has room for as many of its team's boxes as share a point
+    /// with it.
+    pub fn boxes_fit(&self)
+        ensures { (team : ℕ) → FitIn self.now team (boxes_of self.now team) }
     {
         let _ = &self.lanes;
     }

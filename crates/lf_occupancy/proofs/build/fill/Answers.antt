@@ -15,8 +15,8 @@ loop-id-preserved c =
     let moved = subst (IsPermutation c.all.result.now) (sym c.deref-id-items.ensures.value) c.in_ok-order.ensures in
     let i = c.loop-id.id-index in
     record {
-      lanes = c.in_ok-move_box.ensures.lanes;
-      filled = subst (λ (bs : List (List (Option Rect))). AreFilled f cells (take (i + 1) ids) bs) (sym c.in_ok-move_box.ensures.ok)
+      lanes = c.in_ok-settle.ensures.lanes;
+      filled = subst (λ (bs : List (List (Option Rect))). AreFilled f cells (take (i + 1) ids) bs) (sym c.in_ok-settle.ensures.ok)
           (filled_further f cells ids i _ c.box_at_work.result c.loop-id.boxes.items (omega arith) (get_or_default ids i _ _
           (omega arith)) (ids_moved cells c.all.result.now ids c.all.ensures moved)
           c.box_at_work.ensures c.loop-id.invariant.filled);

@@ -1,7 +1,7 @@
 use Rattle.std.proofs.Common.{List, Option, sym, subst}
 use Rattle.lf_units.specs.declared.area.Rect.{Rect}
 use Rattle.lf_occupancy.specs.Strips.{AreLanes}
-use Rattle.lf_occupancy.proofs.Reaching.{counts_put, lanes_in, once_in_run, rooms_put, takes_parts}
+use Rattle.lf_occupancy.proofs.Reaching.{lanes_in, once_in_run, rooms_put, takes_parts}
 use Rattle.lf_occupancy.proofs.change.insert_box.Goals as goal
 
 pub put_in_rows-requires-clause-once : goal.put_in_rows-requires-clause-once
@@ -23,9 +23,4 @@ returns-clause-lanes c =
 pub returns-clause-rooms : goal.returns-clause-rooms
 returns-clause-rooms c =
     rooms_put c.args.strips.now.list.items c.rows_near.result.now c.args.id.now.team c.args.id.now.own c.args.rect.now c.args.lanes.now.items
-    c.put_in_rows.new.lanes.items c.requires.lanes.many c.put_in_rows.ensures
-
-pub returns-clause-entries : goal.returns-clause-entries
-returns-clause-entries c =
-    counts_put c.args.strips.now.list.items c.rows_near.result.now c.args.id.now.team c.args.id.now.own c.args.rect.now c.args.lanes.now.items
     c.put_in_rows.new.lanes.items c.requires.lanes.many c.put_in_rows.ensures

@@ -1,8 +1,8 @@
-use Rattle.std.proofs.Common.{ℕ, List, arith, rules, subst, sym, ◌∙◌}
+use Rattle.std.proofs.Common.{ℕ, List, arith, subst, sym, ◌∙◌}
 use Rattle.lf_occupancy.specs.Occupied.{NoLess}
 use Rattle.lf_occupancy.specs.Strips.{rooms_in}
 use Rattle.lf_occupancy.proofs.Ones.{ones_kept}
-use Rattle.lf_occupancy.proofs.Reaching.{counts_kept, lanes_replaced, once_in_run, rooms_kept, rooms_put, takes_after}
+use Rattle.lf_occupancy.proofs.Reaching.{lanes_replaced, once_in_run, rooms_kept, rooms_put, takes_after}
 use Rattle.lf_occupancy.proofs.change.replace_by.Goals as goal
 
 pub put_in_rows-requires-clause-once : goal.put_in_rows-requires-clause-once
@@ -39,8 +39,3 @@ returns-clause-rooms c =
     c.put_in_rows.new.lanes.items (c.take_out.ensures.room.many ∙ kept.many ∙ c.requires.lanes.many) c.put_in_rows.ensures in
     subst (λ (rooms : List ℕ). NoLess (rooms_in c.args.lanes.now.items) rooms) (sym (same ∙ c.take_out.ensures.rooms))
     (rooms_kept c.args.lanes.now.items made kept)
-
-pub returns-in_err-make_room_in_rows-clause-entries : goal.returns-in_err-make_room_in_rows-clause-entries
-returns-in_err-make_room_in_rows-clause-entries c =
-    let same = counts_kept c.args.lanes.now.items c.make_room_in_rows.new.lanes.items c.in_err-make_room_in_rows.ensures.kept in
-    search (rules, same)

@@ -1,5 +1,5 @@
 use Rattle.std.proofs.Common.{◌∙◌}
-use Rattle.lf_occupancy.proofs.Reaching.{lanes_out, lanes_without, once_in_run, room_out, room_same, rooms_out, counts_out, counts_same}
+use Rattle.lf_occupancy.proofs.Reaching.{lanes_out, lanes_without, once_in_run, room_out, room_same, rooms_out}
 use Rattle.lf_occupancy.proofs.Ones.{reached_has_one}
 use Rattle.lf_occupancy.proofs.change.take_out.Goals as goal
 
@@ -32,11 +32,3 @@ pub returns-in-Some-clause-rooms : goal.returns-in-Some-clause-rooms
 returns-in-Some-clause-rooms c =
     rooms_out c.args.strips.now.list.items c.rows_near.result.now c.args.id.now.team c.args.id.now.own c.in-Some.rect c.args.lanes.now.items
     c.prune_rows.new.lanes.items c.requires.many c.prune_rows.ensures
-
-pub returns-in-Some-clause-entries : goal.returns-in-Some-clause-entries
-returns-in-Some-clause-entries c =
-    counts_out c.args.strips.now.list.items c.rows_near.result.now c.args.id.now.team c.args.id.now.own c.in-Some.rect c.args.lanes.now.items
-    c.prune_rows.new.lanes.items c.requires.many c.prune_rows.ensures
-
-pub returns-in_default-clause-entries : goal.returns-in_default-clause-entries
-returns-in_default-clause-entries c = counts_same c.args.lanes.now.items
