@@ -1,0 +1,4 @@
+pub mod Moves
+pub mod Boxes
+pub mod Changing
+pub mod Keeping

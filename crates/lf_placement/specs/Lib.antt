@@ -1,1 +1,3 @@
 pub mod Placings
+pub mod Steps
+pub mod Laws

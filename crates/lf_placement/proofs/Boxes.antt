@@ -1,0 +1,285 @@
+-- Cells that are taken out of the strips and put back, by their boxes.
+use Rattle.std.proofs.Common.{◌≡◌, ◌≢◌, ◌⊎◌, inl, inr, ⊎_elim, ◌<◌, ◌≤◌, ℕ, zero, suc, ◌+◌, List, [], ◌∷◌, map, length, set, get_or, Option, Some, None, refl, ap, sym, subst, ◌∙◌, arith, below_more}
+use Rattle.std.specs.Prelude.{slice_get, option_and_then, option_map}
+use Rattle.std.proofs.lemmas.Bool.{cases_eq}
+use Rattle.std.proofs.lemmas.List.{get_or-set_other, length-map, length-set, set-set}
+use Rattle.lf_units.specs.declared.area.Rect.{Rect}
+use Rattle.lf_units.specs.Area.{SharesPoint}
+use Rattle.lf_floorplan.specs.declared.frame.Frame.{Frame}
+use Rattle.lf_cells.specs.declared.cell.Cell.{Cell}
+use Rattle.lf_cells.specs.declared.cell.CellId.{CellId}
+use Rattle.lf_cells.specs.Cells.{Cells, cell_at, cells_of, id_in, id_of, working_at}
+use Rattle.lf_occupancy.specs.declared.strip.Strip.{Strip}
+use Rattle.lf_occupancy.specs.Occupied.{ArePartOf, FitIn, HasRoomFor, Occupied, box_at, boxes_of, boxes_with, cell_box, count_in}
+use Rattle.lf_occupancy.specs.Strips.{HasCell}
+use Rattle.lf_occupancy.specs.Floorplans.{box_of}
+use Rattle.lf_occupancy.proofs.Counting.{part_leaves_room}
+use Rattle.lf_undo.specs.declared.moves.Move.{Move}
+use Rattle.lf_placement.specs.Steps.{IsOut, KeepsStrips, MayStand, StandButFor, TakesOut, box_moved, owns, working_boxes}
+use Rattle.lf_placement.proofs.Moves.{id_there}
+
+abbrev Boxes : Type 0
+Boxes = List (Option Rect)
+
+-- ---- one box
+
+set_past : (bs : Boxes) (own : ℕ) (x : Option Rect) → length bs ≤ own → set bs own x ≡ bs
+set_past [] own x past = refl
+set_past (b ∷ bs) zero x past = absurd (omega (arith, past))
+set_past (b ∷ bs) (suc own) x past = ap (λ (r : Boxes). b ∷ r) (set_past bs own x (omega (arith, past)))
+
+none_here : (bs : Boxes) (own : ℕ) → cell_box (set bs own None) own ≡ None
+none_here [] own = refl
+none_here (b ∷ bs) zero = refl
+none_here (b ∷ bs) (suc own) = none_here bs own
+
+set_none : (bs : Boxes) (own : ℕ) → cell_box bs own ≡ None → set bs own None ≡ bs
+set_none [] own none = refl
+set_none (b ∷ bs) zero none = ap (λ (x : Option Rect). x ∷ bs) (sym none)
+set_none (b ∷ bs) (suc own) none = ap (λ (r : Boxes). b ∷ r) (set_none bs own none)
+
+there_still : (bs : Boxes) (own k : ℕ) (x : Option Rect) → k ≢ own → cell_box (set bs own x) k ≡ cell_box bs k
+there_still [] own k x differ = refl
+there_still (b ∷ bs) zero zero x differ = absurd (differ refl)
+there_still (b ∷ bs) zero (suc k) x differ = refl
+there_still (b ∷ bs) (suc own) zero x differ = refl
+there_still (b ∷ bs) (suc own) (suc k) x differ = there_still bs own k x (λ same. differ (ap suc same))
+
+-- the box of one list, put into another of the same length
+box_here : (bs whole : Boxes) (own : ℕ) → length bs ≡ length whole → cell_box (set bs own (cell_box whole own)) own ≡ cell_box whole own
+box_here [] [] own many = refl
+box_here [] (w ∷ whole) own many = absurd (omega (arith, many))
+box_here (b ∷ bs) [] own many = absurd (omega (arith, many))
+box_here (b ∷ bs) (w ∷ whole) zero many = refl
+box_here (b ∷ bs) (w ∷ whole) (suc own) many = box_here bs whole own (omega (arith, many))
+
+boxes_alike : (bs whole : Boxes) → length bs ≡ length whole → ((own : ℕ) → cell_box bs own ≡ cell_box whole own) → bs ≡ whole
+boxes_alike [] [] many alike = refl
+boxes_alike [] (w ∷ whole) many alike = absurd (omega (arith, many))
+boxes_alike (b ∷ bs) [] many alike = absurd (omega (arith, many))
+boxes_alike (b ∷ bs) (w ∷ whole) many alike =
+    ap (λ (x : Option Rect). x ∷ bs) (alike 0) ∙ ap (λ (r : Boxes). w ∷ r) (boxes_alike bs whole (omega (arith, many)) (λ own. alike (suc own)))
+
+box_within : (bs : Boxes) (own : ℕ) (r : Rect) → cell_box bs own ≡ Some r → own < length bs
+box_within [] own r is = absurd cc
+box_within (b ∷ bs) zero r is = omega arith
+box_within (b ∷ bs) (suc own) r is = let h = box_within bs own r is in omega (arith, h)
+
+-- ---- boxes of cells
+
+box_read : (f : Frame) (cells : List Cell) (own : ℕ) → box_moved f (slice_get cells own) (working_at cells own) ≡ cell_box (map (box_of f) cells) own
+box_read f [] own = refl
+box_read f (c ∷ cs) zero = refl
+box_read f (c ∷ cs) (suc own) = box_read f cs own
+
+pub box_working : (f : Frame) (cells : Cells) (id : CellId) → box_moved f (cell_at cells id) (working_at (cells_of cells id.team) id.own)
+    ≡ cell_box (working_boxes f cells id.team) id.own
+box_working f cells id = box_read f (cells_of cells id.team) id.own
+
+none_past : (cells : List Cell) (own : ℕ) → slice_get cells own ≡ None → length cells ≤ own
+none_past [] own none = omega arith
+none_past (c ∷ cs) zero none = absurd cc
+none_past (c ∷ cs) (suc own) none = let h = none_past cs own none in omega (arith, h)
+
+no_cell : (cells : List Cell) (team own : ℕ) → id_in cells team own ≡ None → length cells ≤ own
+no_cell cells team own none = none_past cells own (go (slice_get cells own) none) where
+  go : (o : Option Cell) → option_map (λ (c : Cell). id_of team own) o ≡ None → o ≡ None
+  go None e = refl
+  go (Some c) e = absurd cc
+
+-- ---- one box of an occupancy
+
+-- what is written to the list of one number stands there; a number past the end has no list
+set_here : (rows : List Boxes) (k own : ℕ) (x : Option Rect) → get_or (set rows k (set (get_or rows k []) own x)) k [] ≡ set (get_or rows k []) own x
+set_here [] zero own x = refl
+set_here [] (suc k) own x = refl
+set_here (r ∷ rows) zero own x = refl
+set_here (r ∷ rows) (suc k) own x = set_here rows k own x
+
+pub box_put : (id : CellId) (x : Option Rect) (old new : Occupied) → new.boxes ≡ boxes_with old id x
+    → boxes_of new id.team ≡ set (boxes_of old id.team) id.own x
+box_put id x old new is = ap (λ (rows : List Boxes). get_or rows id.team []) is ∙ set_here old.boxes id.team id.own x
+
+pub keeps_put : (id : CellId) (x : Option Rect) (old new : Occupied) → new.boxes ≡ boxes_with old id x → new.strips ≡ old.strips → new.rooms ≡ old.rooms
+    → KeepsStrips id.team old new
+keeps_put id x old new is strips rooms = record {
+  many = ap {B = ℕ} (λ (bs : Boxes). length bs) (box_put id x old new is) ∙ length-set (boxes_of old id.team) id.own x;
+  boxes = λ other differ.
+      ap (λ (rows : List Boxes). get_or rows other []) is
+      ∙ get_or-set_other old.boxes id.team other (set (boxes_of old id.team) id.own x) [] differ;
+  strips = strips;
+  rooms = rooms;
+}
+
+pub keeps : (team : ℕ) (o : Occupied) → KeepsStrips team o o
+keeps team o = record { many = refl; boxes = λ other differ. refl; strips = refl; rooms = refl }
+
+pub keeps_through : (team : ℕ) (a b c : Occupied) → KeepsStrips team a b → KeepsStrips team b c → KeepsStrips team a c
+keeps_through team a b c first second = record {
+  many = second.many ∙ first.many;
+  boxes = λ other differ. second.boxes other differ ∙ first.boxes other differ;
+  strips = second.strips ∙ first.strips;
+  rooms = second.rooms ∙ first.rooms;
+}
+
+-- there is no cell there
+pub none_put : (team own : ℕ) (cells : List Cell) (x : Option Rect) (o : Occupied) → length (boxes_of o team) ≡ length cells → id_in cells team own ≡ None
+    → boxes_of o team ≡ set (boxes_of o team) own x
+none_put team own cells x o many none =
+    let past = no_cell cells team own none in
+    sym (set_past (boxes_of o team) own x (omega (arith, many, past)))
+
+-- ---- cells are taken out, one after the other
+
+pub out_first : (team : ℕ) (named : List ℕ) (o : Occupied) → TakesOut team named 0 o o
+out_first team named o = record { each = λ own. inr (λ k less. absurd (omega (arith, less)), refl); rest = keeps team o }
+
+pub out_next : (team : ℕ) (named : List ℕ) (n own : ℕ) (a b c : Occupied) → own ≡ get_or named n 0
+    → boxes_of c team ≡ set (boxes_of b team) own None → KeepsStrips team b c → TakesOut team named n a b → TakesOut team named (n + 1) a c
+out_next team named n own a b c is put kept out = record { each = each; rest = keeps_through team a b c out.rest kept } where
+  same_at : (k : ℕ) → k ≡ own → IsOut named (n + 1) (boxes_of a team) (boxes_of c team) k
+  same_at k same = inl (
+    λ never. never n (omega arith) (sym is ∙ sym same),
+    rw (put, same) (none_here (boxes_of b team) own)
+  )
+
+  step : (k : ℕ) → k ≢ own → IsOut named n (boxes_of a team) (boxes_of b team) k → IsOut named (n + 1) (boxes_of a team) (boxes_of c team) k
+  step k differ (inl (was, none)) = inl (
+    λ never. was (λ i less. never i (omega (arith, less))),
+    rw put (there_still (boxes_of b team) own k None differ ∙ none)
+  )
+  step k differ (inr (never, as_before)) = inr (
+    below_more (λ i. get_or named i 0 ≢ k) n never (λ same. differ (sym same ∙ sym is)),
+    rw put (there_still (boxes_of b team) own k None differ ∙ as_before)
+  )
+
+  each : (k : ℕ) → IsOut named (n + 1) (boxes_of a team) (boxes_of c team) k
+  each k = ⊎_elim (λ (same : k ≡ own). same_at k same) (λ (differ : k ≢ own). step k differ (out.each k)) (cases_eq k own)
+
+-- ---- cells are put where they are to stand, one after the other
+
+pub fits_still : (team : ℕ) (boxes : Boxes) (a b : Occupied) → a.strips ≡ b.strips → a.rooms ≡ b.rooms → FitIn b team boxes → FitIn a team boxes
+fits_still team boxes a b strips rooms fits =
+    λ n g there of_team. rw rooms (fits n g (subst (λ (gs : List Strip). slice_get gs n ≡ Some g) strips there) of_team)
+
+-- a cell is out
+pub may_without : (team own : ℕ) (boxes : Boxes) (a b : Occupied) → boxes_of b team ≡ set (boxes_of a team) own None → KeepsStrips team a b
+    → MayStand team boxes a → MayStand team boxes b
+may_without team own boxes a b put kept may = record {
+  many = kept.many ∙ may.many;
+  part = λ k. ⊎_elim (λ (same : k ≡ own). inl (rw (put, same) (none_here (boxes_of a team) own)))
+      (λ (differ : k ≢ own). rw (put, there_still (boxes_of a team) own k None differ) (may.part k)) (cases_eq k own);
+  fits = fits_still team boxes b a kept.strips kept.rooms may.fits;
+}
+
+-- a cell stands
+may_with : (team own : ℕ) (boxes : Boxes) (a b : Occupied) → boxes_of b team ≡ set (boxes_of a team) own (cell_box boxes own) → KeepsStrips team a b
+    → MayStand team boxes a → MayStand team boxes b
+may_with team own boxes a b put kept may = record {
+  many = kept.many ∙ may.many;
+  part = λ k. ⊎_elim (λ (same : k ≡ own). inr (rw (put, same) (box_here (boxes_of a team) boxes own may.many)))
+      (λ (differ : k ≢ own). rw (put, there_still (boxes_of a team) own k (cell_box boxes own) differ) (may.part k)) (cases_eq k own);
+  fits = fits_still team boxes b a kept.strips kept.rooms may.fits;
+}
+
+-- the cell of this box is one of those of the occupancy
+pub has_cell : (id : CellId) (boxes : Boxes) (o : Occupied) (r : Rect) → MayStand id.team boxes o → cell_box boxes id.own ≡ Some r → HasCell o.boxes id
+has_cell id boxes o r may is =
+    let many = may.many in
+    let own = box_within boxes id.own r is in
+    let within : id.own < length (boxes_of o id.team) = omega (arith, many, own) in
+    record { team = row_there o.boxes id.team within; own = within }
+  where
+    row_there : (rows : List Boxes) (k : ℕ) → id.own < length (get_or rows k []) → k < length rows
+    row_there [] k within = absurd (omega (arith, within))
+    row_there (r ∷ rows) zero within = omega arith
+    row_there (r ∷ rows) (suc k) within = let h = row_there rows k within in omega (arith, h)
+
+-- and there is room for it
+pub has_room : (id : CellId) (boxes : Boxes) (o : Occupied) (r : Rect) → MayStand id.team boxes o → box_at o id.team id.own ≡ None
+    → cell_box boxes id.own ≡ Some r → HasRoomFor o id.team r 1
+has_room id boxes o r may nowhere is = λ n g there of_team shares.
+    let more = part_leaves_room g (boxes_of o id.team) boxes id.own r may.part nowhere is shares in
+    let most = may.fits n g there of_team in
+    omega (arith, more, most)
+
+-- a cell that stands nowhere stays so
+pub none_put_in : (id : CellId) (boxes : Boxes) (o : Occupied) → cell_box boxes id.own ≡ None → box_at o id.team id.own ≡ None
+    → boxes_of o id.team ≡ set (boxes_of o id.team) id.own (cell_box boxes id.own)
+none_put_in id boxes o none nowhere = rw none (sym (set_none (boxes_of o id.team) id.own nowhere))
+
+pub nowhere_now : (id : CellId) (a b : Occupied) → b.boxes ≡ boxes_with a id None → box_at b id.team id.own ≡ None
+nowhere_now id a b is = rw (box_put id None a b is) (none_here (boxes_of a id.team) id.own)
+
+pub twice_put : (id : CellId) (x : Option Rect) (a b c : Occupied) → b.boxes ≡ boxes_with a id None
+    → boxes_of c id.team ≡ set (boxes_of b id.team) id.own x → boxes_of c id.team ≡ set (boxes_of a id.team) id.own x
+twice_put id x a b c out put =
+    put ∙ ap (λ (bs : Boxes). set bs id.own x) (box_put id None a b out) ∙ set-set (boxes_of a id.team) id.own None x
+
+-- so far these stand, and what the rest does not name
+pub record AreStanding (team : ℕ) (boxes : Boxes) (named : List ℕ) (n : ℕ) (old new : Occupied) : Type 0 where
+  pub may : MayStand team boxes new
+  pub rest : (own : ℕ) → ((k : ℕ) → n ≤ k → k < length named → get_or named k 0 ≢ own) → cell_box (boxes_of new team) own ≡ cell_box boxes own
+  pub kept : KeepsStrips team old new
+
+pub standing_first : (team : ℕ) (boxes : Boxes) (named : List ℕ) (o : Occupied) → MayStand team boxes o → StandButFor team boxes named o
+    → AreStanding team boxes named 0 o o
+standing_first team boxes named o may rest = record {
+  may = may;
+  rest = λ own never. rest own (λ k less. never k (omega arith) less);
+  kept = keeps team o;
+}
+
+pub standing_next : (team : ℕ) (boxes : Boxes) (named : List ℕ) (n own : ℕ) (a b c : Occupied) → own ≡ get_or named n 0
+    → boxes_of c team ≡ set (boxes_of b team) own (cell_box boxes own) → KeepsStrips team b c → AreStanding team boxes named n a b
+    → AreStanding team boxes named (n + 1) a c
+standing_next team boxes named n own a b c is put kept standing = record {
+  may = may_with team own boxes b c put kept standing.may;
+  rest = λ k never. ⊎_elim (λ (same : k ≡ own). rw (put, same) (box_here (boxes_of b team) boxes own standing.may.many))
+      (λ (differ : k ≢ own). rw put (there_still (boxes_of b team) own k (cell_box boxes own) differ
+      ∙ standing.rest k (λ i from within. at_or_behind k differ never i from within (cases_eq i n)))) (cases_eq k own);
+  kept = keeps_through team a b c standing.kept kept;
+}
+  where
+    at_or_behind : (k : ℕ) → k ≢ own → ((i : ℕ) → n + 1 ≤ i → i < length named → get_or named i 0 ≢ k) → (i : ℕ) → n ≤ i → i < length named
+        → (i ≡ n) ⊎ (i ≢ n) → get_or named i 0 ≢ k
+    at_or_behind k differ never i from within (inl same) = λ here. differ (sym here ∙ ap (λ (j : ℕ). get_or named j 0) same ∙ sym is)
+    at_or_behind k differ never i from within (inr other) = never i (omega (arith, from, other)) within
+
+pub all_stand : (team : ℕ) (boxes : Boxes) (named : List ℕ) (n : ℕ) (a b : Occupied) → length named ≤ n → AreStanding team boxes named n a b
+    → boxes_of b team ≡ boxes
+all_stand team boxes named n a b past standing =
+    boxes_alike (boxes_of b team) boxes standing.may.many (λ own. standing.rest own (λ k from within. absurd (omega (arith, past, from, within))))
+
+-- ---- by a team's number and a position
+
+team_is : (team own : ℕ) (cells : List Cell) (id : CellId) → Some id ≡ id_in cells team own → id ≡ id_of team own
+team_is team own cells id is = id_there cells team own id (sym is)
+
+-- the cell is out, and what is to stand is as it was
+pub may_out : (team own : ℕ) (f : Frame) (cells : Cells) (id : CellId) (a b : Occupied) → Some id ≡ id_in (cells_of cells team) team own
+    → b.boxes ≡ boxes_with a id None → b.strips ≡ a.strips → b.rooms ≡ a.rooms → MayStand team (working_boxes f cells team) a
+    → MayStand id.team (working_boxes f cells id.team) b
+may_out team own f cells id a b is out strips rooms may =
+    let same = ap {B = ℕ} (λ (i : CellId). i.team) (team_is team own (cells_of cells team) id is) in
+    may_without id.team id.own (working_boxes f cells id.team) a b (box_put id None a b out) (keeps_put id None a b out strips rooms)
+    (subst (λ (k : ℕ). MayStand k (working_boxes f cells k) a) (sym same) may)
+
+pub put_twice : (team own : ℕ) (f : Frame) (cells : Cells) (id : CellId) (a b c : Occupied) → Some id ≡ id_in (cells_of cells team) team own
+    → b.boxes ≡ boxes_with a id None → boxes_of c id.team ≡ set (boxes_of b id.team) id.own (cell_box (working_boxes f cells id.team) id.own)
+    → boxes_of c team ≡ set (boxes_of a team) own (cell_box (working_boxes f cells team) own)
+put_twice team own f cells id a b c is out put =
+    subst (λ (i : CellId). boxes_of c i.team ≡ set (boxes_of a i.team) i.own (cell_box (working_boxes f cells i.team) i.own))
+    (team_is team own (cells_of cells team) id is) (twice_put id (cell_box (working_boxes f cells id.team) id.own) a b c out put)
+
+pub keeps_twice : (team own : ℕ) (cells : List Cell) (id : CellId) (a b c : Occupied) → Some id ≡ id_in cells team own
+    → b.boxes ≡ boxes_with a id None → b.strips ≡ a.strips → b.rooms ≡ a.rooms → KeepsStrips id.team b c → KeepsStrips team a c
+keeps_twice team own cells id a b c is out strips rooms kept =
+    subst (λ (i : CellId). KeepsStrips i.team a c) (team_is team own cells id is)
+    (keeps_through id.team a b c (keeps_put id None a b out strips rooms) kept)
+
+-- the position that a move names
+pub own_there : (moves : List Move) (n : ℕ) (m : Move) → n < length moves → m ≡ get_or moves n m → m.own ≡ get_or (owns moves) n 0
+own_there [] n m within is = absurd (omega (arith, within))
+own_there (x ∷ ms) zero m within is = ap (λ (y : Move). y.own) is
+own_there (x ∷ ms) (suc n) m within is = own_there ms n m (omega (arith, within)) is

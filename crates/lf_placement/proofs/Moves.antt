@@ -1,0 +1,204 @@
+-- Moves of cells in a table, and what they are when they are taken back.
+use Rattle.std.proofs.Common.{◌≡◌, ◌≢◌, ◌<◌, ◌≤◌, ℕ, zero, suc, ◌+◌, List, [], ◌∷◌, ◌++◌, map, length, set, take, drop, get_or, Option, Some, None, refl, ap, sym, ◌∙◌, arith}
+use Rattle.std.specs.Prelude.{slice_get, option_map}
+use Rattle.std.proofs.lemmas.List.{length-map, take_more}
+use Rattle.lf_floorplan.specs.declared.place.Place.{Place}
+use Rattle.lf_cells.specs.declared.cell.Cell.{Cell}
+use Rattle.lf_cells.specs.declared.cell.CellId.{CellId}
+use Rattle.lf_cells.specs.Cells.{Cells, cells_of, id_in, id_of, moved, working_at}
+use Rattle.lf_undo.specs.declared.moves.Move.{Move}
+use Rattle.lf_undo.specs.Entries.{Places, replaced, taken_back}
+use Rattle.lf_undo.proofs.Undone.{undo_one_more}
+use Rattle.lf_placement.specs.Placings.{HaveMoved, OtherCellsStay, SameButPlaces, made, places_of, taken_up}
+use Rattle.lf_placement.specs.Steps.{made_back, owns}
+
+past_moved : (cells : List Cell) (own : ℕ) (place : Option Place) → slice_get cells own ≡ None → moved cells own place ≡ cells
+past_moved [] own place none = refl
+past_moved (c ∷ cs) zero place none = absurd cc
+past_moved (c ∷ cs) (suc own) place none = ap (λ (r : List Cell). c ∷ r) (past_moved cs own place none)
+
+-- there is no cell there to move
+pub none_moved : (cells : List Cell) (number own : ℕ) (place : Option Place) → id_in cells number own ≡ None → moved cells own place ≡ cells
+none_moved cells number own place none = past_moved cells own place (go (slice_get cells own) none) where
+  go : (o : Option Cell) → option_map (λ (c : Cell). id_of number own) o ≡ None → o ≡ None
+  go None e = refl
+  go (Some c) e = absurd cc
+
+pub id_there : (cells : List Cell) (number own : ℕ) (id : CellId) → id_in cells number own ≡ Some id → id ≡ id_of number own
+id_there cells number own id is = go (slice_get cells own) is where
+  go : (o : Option Cell) → option_map (λ (c : Cell). id_of number own) o ≡ Some id → id ≡ id_of number own
+  go None e = absurd cc
+  go (Some c) e = cc
+
+-- ---- what stays
+
+pub cells_stay : (number : ℕ) (cells : Cells) → OtherCellsStay number cells cells
+cells_stay number cells = record { cells = λ other differ. refl; components = refl }
+
+pub cells_through : (number : ℕ) (a b c : Cells) → OtherCellsStay number a b → OtherCellsStay number b c → OtherCellsStay number a c
+cells_through number a b c first second =
+    record { cells = λ other differ. second.cells other differ ∙ first.cells other differ; components = second.components ∙ first.components }
+
+-- ---- cells that differ in their working places alone
+
+pub same_moved : (cells : List Cell) (own : ℕ) (place : Option Place) → SameButPlaces cells (moved cells own place)
+same_moved [] own place = refl
+same_moved (c ∷ cs) zero place = refl
+same_moved (c ∷ cs) (suc own) place = ap (λ (r : List Cell). taken_up c ∷ r) (same_moved cs own place)
+
+pub same_made : (moves : List Move) (cells : List Cell) → SameButPlaces cells (made moves cells)
+same_made [] cells = refl
+same_made (m ∷ ms) cells = same_made ms (moved cells m.own m.old) ∙ same_moved cells m.own m.old
+
+pub same_back : (moves : List Move) (cells : List Cell) → SameButPlaces cells (made_back moves cells)
+same_back [] cells = refl
+same_back (m ∷ ms) cells = same_moved (made_back ms cells) m.own m.old ∙ same_back ms cells
+
+first_same : {a b : Cell} {rest others : List Cell} → a ∷ rest ≡ b ∷ others → a ≡ b
+first_same e = cc
+
+rest_same : {a b : Cell} {rest others : List Cell} → a ∷ rest ≡ b ∷ others → rest ≡ others
+rest_same e = cc
+
+first_place : {a b : Option Place} {rest others : Places} → a ∷ rest ≡ b ∷ others → a ≡ b
+first_place e = cc
+
+rest_places : {a b : Option Place} {rest others : Places} → a ∷ rest ≡ b ∷ others → rest ≡ others
+rest_places e = cc
+
+with_place : Cell → Option Place → Cell
+with_place c place = record c { working = place }
+
+back_with : (c : Cell) → with_place (taken_up c) c.working ≡ c
+unfolding with_place
+back_with c = refl
+
+-- cells of the same places that differ in nothing else are the same
+pub same_places : (old new : List Cell) → SameButPlaces old new → places_of new ≡ places_of old → new ≡ old
+same_places [] [] same places = refl
+same_places [] (c ∷ cs) same places = absurd cc
+same_places (d ∷ ds) [] same places = absurd cc
+same_places (d ∷ ds) (c ∷ cs) same places =
+    ap (λ (x : Cell). x ∷ cs)
+    (sym (back_with c) ∙ ap (λ (x : Cell). with_place x c.working) (first_same same) ∙ ap (with_place (taken_up d)) (first_place places) ∙ back_with d)
+    ∙ ap (λ (r : List Cell). d ∷ r) (same_places ds cs (rest_same same) (rest_places places))
+
+pub length_same : (old new : List Cell) → SameButPlaces old new → length new ≡ length old
+length_same old new same = sym (length-map new taken_up) ∙ ap (λ (cs : List Cell). length cs) same ∙ length-map old taken_up
+
+-- ---- moves
+
+pub places_moved : (cells : List Cell) (own : ℕ) (place : Option Place) → places_of (moved cells own place) ≡ set (places_of cells) own place
+places_moved [] own place = refl
+places_moved (c ∷ cs) zero place = refl
+places_moved (c ∷ cs) (suc own) place = ap (λ (r : Places). c.working ∷ r) (places_moved cs own place)
+
+pub places_back : (moves : List Move) (cells : List Cell) → places_of (made_back moves cells) ≡ taken_back moves (places_of cells)
+places_back [] cells = refl
+places_back (m ∷ ms) cells = places_moved (made_back ms cells) m.own m.old ∙ ap (λ (ps : Places). set ps m.own m.old) (places_back ms cells)
+
+place_there : (cells : List Cell) (own : ℕ) → get_or (places_of cells) own None ≡ working_at cells own
+place_there [] own = refl
+place_there (c ∷ cs) zero = refl
+place_there (c ∷ cs) (suc own) = place_there cs own
+
+-- one more cell moves, and its place is noted
+one_more : (before now : List Cell) (moves : List Move) (own : ℕ) (place old : Option Place) → old ≡ working_at now own → HaveMoved before moves now
+    → HaveMoved before (moves ++ record { own = own; old = old } ∷ []) (moved now own place)
+one_more before now moves own place old was have = record {
+  places =
+      ap (λ (o : Option Place). taken_back (moves ++ record { own = own; old = o } ∷ []) (places_of (moved now own place))) (was ∙ sym (place_there now own))
+      ∙ ap (taken_back (moves ++ record { own = own; old = get_or (places_of now) own None } ∷ [])) (places_moved now own place)
+      ∙ undo_one_more (places_of before) (places_of now) moves own place have.places;
+  same = same_moved now own place ∙ have.same;
+}
+
+-- moves that are taken back give the cells before
+pub have_back : (before now : List Cell) (moves : List Move) → HaveMoved before moves now → made_back moves now ≡ before
+have_back before now moves have =
+    same_places before (made_back moves now) (same_back moves now ∙ have.same) (places_back moves now ∙ have.places)
+
+-- ---- the loop that makes moves
+
+abbrev no_move : Move
+no_move = record { own = 0; old = None }
+
+-- the move of this position gives place to its note: those before it, and the others
+take_replaced : (moves : List Move) (at : ℕ) (old : Option Place) (next : Move) → at < length moves → next ≡ get_or moves at next
+    → take (at + 1) (replaced moves at old) ≡ take at moves ++ record { own = next.own; old = old } ∷ []
+take_replaced [] at old next within is = absurd (omega (arith, within))
+take_replaced (m ∷ ms) zero old next within is = ap (λ (x : Move). record { own = x.own; old = old } ∷ []) (sym is)
+take_replaced (m ∷ ms) (suc at) old next within is =
+    let more : suc at + 1 ≡ suc (at + 1) = omega arith in
+    rw more (ap (λ (r : List Move). m ∷ r) (take_replaced ms at old next (omega (arith, within)) is))
+
+drop_replaced : (moves : List Move) (at : ℕ) (old : Option Place) → drop (at + 1) (replaced moves at old) ≡ drop (at + 1) moves
+drop_replaced [] at old = refl
+drop_replaced (m ∷ ms) zero old = refl
+drop_replaced (m ∷ ms) (suc at) old = let more : suc at + 1 ≡ suc (at + 1) = omega arith in rw more (drop_replaced ms at old)
+
+owns_replaced : (moves : List Move) (at : ℕ) (old : Option Place) → owns (replaced moves at old) ≡ owns moves
+owns_replaced [] at old = refl
+owns_replaced (m ∷ ms) zero old = refl
+owns_replaced (m ∷ ms) (suc at) old = ap (λ (r : List ℕ). m.own ∷ r) (owns_replaced ms at old)
+
+drop_here : (moves : List Move) (at : ℕ) (next : Move) → at < length moves → next ≡ get_or moves at next → drop at moves ≡ next ∷ drop (at + 1) moves
+drop_here [] at next within is = absurd (omega (arith, within))
+drop_here (m ∷ ms) zero next within is = ap (λ (x : Move). x ∷ ms) (sym is)
+drop_here (m ∷ ms) (suc at) next within is = let more : suc at + 1 ≡ suc (at + 1) = omega arith in rw more (drop_here ms at next (omega (arith, within)) is)
+
+-- so far: from these cells the moves from here on lead to those cells, and the notes so far have led to these
+pub record IsMakingAt (start to now : List Cell) (given moves : List Move) (from at : ℕ) : Type 0 where
+  pub rest : made (drop at moves) now ≡ to
+  pub notes : (before : List Cell) → HaveMoved before (take from given) start → HaveMoved before (take at moves) now
+  pub owns : owns moves ≡ owns given
+
+pub making_next : (start to now : List Cell) (given moves : List Move) (from at : ℕ) (next : Move) (was : Option Place) → at < length moves
+    → next ≡ get_or moves at next → was ≡ working_at now next.own → IsMakingAt start to now given moves from at
+    → IsMakingAt start to (moved now next.own next.old) given (replaced moves at was) from (at + 1)
+making_next start to now given moves from at next was within is noted making = record {
+  rest = ap (λ (ms : List Move). made ms (moved now next.own next.old)) (drop_replaced moves at was)
+      ∙ ap (λ (ms : List Move). made ms now) (sym (drop_here moves at next within is)) ∙ making.rest;
+  notes = λ before have.
+      rw (take_replaced moves at was next within is)
+      (one_more before now (take at moves) next.own next.old was noted (making.notes before have));
+  owns = owns_replaced moves at was ∙ making.owns;
+}
+
+take_past : (moves : List Move) (at : ℕ) → length moves ≤ at → take at moves ≡ moves
+take_past [] zero past = refl
+take_past [] (suc at) past = refl
+take_past (m ∷ ms) zero past = absurd (omega (arith, past))
+take_past (m ∷ ms) (suc at) past = ap (λ (r : List Move). m ∷ r) (take_past ms at (omega (arith, past)))
+
+drop_past : (moves : List Move) (at : ℕ) → length moves ≤ at → drop at moves ≡ []
+drop_past [] zero past = refl
+drop_past [] (suc at) past = refl
+drop_past (m ∷ ms) zero past = absurd (omega (arith, past))
+drop_past (m ∷ ms) (suc at) past = drop_past ms at (omega (arith, past))
+
+-- all are made
+pub made_all : (start to now : List Cell) (given moves : List Move) (from at : ℕ) → length moves ≤ at → IsMakingAt start to now given moves from at
+    → (now ≡ to) × ((before : List Cell) → HaveMoved before (take from given) start → HaveMoved before moves now)
+made_all start to now given moves from at past making = (
+  ap (λ (ms : List Move). made ms now) (sym (drop_past moves at past)) ∙ making.rest,
+  λ before have. rw (take_past moves at past) at (making.notes before have)
+)
+
+-- ---- the loop that takes moves back
+
+made_back-append : (first second : List Move) (cells : List Cell) → made_back (first ++ second) cells ≡ made_back first (made_back second cells)
+made_back-append [] second cells = refl
+made_back-append (m ∷ first) second cells = ap (λ (cs : List Cell). moved cs m.own m.old) (made_back-append first second cells)
+
+-- the last of the moves that are left is taken back
+pub one_less : (now : List Cell) (moves : List Move) (n : ℕ) (m : Move) → n < length moves → m ≡ get_or moves n m
+    → made_back (take n moves) (moved now m.own m.old) ≡ made_back (take (n + 1) moves) now
+one_less now moves n m within read =
+    sym (made_back-append (take n moves) (m ∷ []) now)
+    ∙ ap (λ (x : Move). made_back (take n moves ++ x ∷ []) now) read
+    ∙ ap (λ (ms : List Move). made_back ms now) (sym (take_more moves n m within))
+
+pub owns_length : (moves given : List Move) → owns moves ≡ owns given → length moves ≡ length given
+owns_length moves given same =
+    sym (length-map moves (λ (m : Move). m.own)) ∙ ap (λ (ns : List ℕ). length ns) same ∙ length-map given (λ (m : Move). m.own)

@@ -1,0 +1,48 @@
+use Rattle.std.proofs.Common.{◌≡◌, List, ℕ, drop, length, map, subst, sym, ap, ◌∙◌}
+use Rattle.lf_cells.specs.Cells.{cells_of}
+use Rattle.lf_occupancy.specs.Occupied.{FitIn}
+use Rattle.lf_occupancy.specs.Floorplans.{box_of}
+use Rattle.lf_undo.specs.declared.moves.Move.{Move}
+use Rattle.lf_cells.specs.declared.cell.Cell.{Cell}
+use Rattle.lf_placement.specs.Placings.{made}
+use Rattle.lf_placement.specs.Steps.{StandButFor, owns}
+use Rattle.lf_placement.proofs.Moves.{length_same, same_made}
+use Rattle.lf_placement.proofs.Changing.{may_stand, others_made, owns_count, owns_from, sized_made, stand_but}
+use Rattle.lf_placement.proofs.moving.make_moves.Goals as goal
+
+pub stand-requires-clause-sized : goal.stand-requires-clause-sized
+stand-requires-clause-sized c =
+    sized_made c.args.frame.now (drop c.args.from c.args.moves.now) (cells_of c.args.cells.now c.args.team)
+    (cells_of c.make_in_table.new.cells c.args.team) c.make_in_table.ensures.own c.requires.sized
+
+pub stand-requires-clause-may : goal.stand-requires-clause-may
+stand-requires-clause-may c =
+    let f = c.args.frame.now in
+    let team = c.args.team in
+    let old = cells_of c.args.cells.now team in
+    let new = cells_of c.make_in_table.new.cells team in
+    let moves = c.moves_from.result.now in
+    let given = drop c.args.from c.args.moves.now in
+    let is : moves ≡ given = c.moves_from.ensures ∙ ap (λ (ms : List Move). drop c.args.from ms) c.as_slice.ensures in
+    let made_of : new ≡ made moves old = c.make_in_table.ensures.own ∙ ap (λ (ms : List Move). made ms old) (sym is) in
+    may_stand f team (owns moves) _ old new c.args.occupancy.now c.lift.new.occupancy (owns_count moves) (c.requires.held.boxes team)
+    (others_made moves old new made_of) c.lift.ensures
+    (ap {B = ℕ} (λ (cs : List Cell). length cs) c.make_in_table.ensures.own ∙ length_same old (made given old) (same_made given old))
+    (subst (λ (cs : List Cell). FitIn c.args.occupancy.now team (map (box_of f) cs)) (sym c.make_in_table.ensures.own) c.requires.fits)
+
+pub stand-requires-clause-rest : goal.stand-requires-clause-rest
+stand-requires-clause-rest c =
+    let f = c.args.frame.now in
+    let team = c.args.team in
+    let old = cells_of c.args.cells.now team in
+    let new = cells_of c.make_in_table.new.cells team in
+    let moves = c.moves_from.result.now in
+    let given = drop c.args.from c.args.moves.now in
+    let is : moves ≡ given = c.moves_from.ensures ∙ ap (λ (ms : List Move). drop c.args.from ms) c.as_slice.ensures in
+    let made_of : new ≡ made moves old = c.make_in_table.ensures.own ∙ ap (λ (ms : List Move). made ms old) (sym is) in
+    let then_is : drop c.args.from c.make_in_table.new.moves ≡ c.moves_from-2.result.now =
+    sym (c.moves_from-2.ensures ∙ ap (λ (ms : List Move). drop c.args.from ms) c.as_slice-2.ensures) in
+    subst (λ (named : List ℕ). StandButFor team (map (box_of f) new) named c.lift.new.occupancy)
+    (ap owns is ∙ owns_from c.args.moves.now c.make_in_table.new.moves c.args.from c.make_in_table.ensures.owns ∙ ap owns then_is)
+    (stand_but f team (owns moves) _ old new c.args.occupancy.now c.lift.new.occupancy (owns_count moves) (c.requires.held.boxes team)
+    (others_made moves old new made_of) c.lift.ensures)

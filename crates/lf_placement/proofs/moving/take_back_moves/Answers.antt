@@ -1,0 +1,42 @@
+use Rattle.std.proofs.Common.{◌≡◌, List, ℕ, length, map, subst, sym, ap, ◌∙◌}
+use Rattle.lf_cells.specs.declared.cell.Cell.{Cell}
+use Rattle.lf_cells.specs.Cells.{cells_of}
+use Rattle.lf_occupancy.specs.Occupied.{FitIn}
+use Rattle.lf_occupancy.specs.Floorplans.{box_of}
+use Rattle.lf_undo.specs.declared.moves.Move.{Move}
+use Rattle.lf_placement.specs.Steps.{StandButFor, made_back, owns}
+use Rattle.lf_placement.proofs.Moves.{length_same, same_back}
+use Rattle.lf_placement.proofs.Changing.{may_stand, others_back, owns_count, sized_back, stand_but}
+use Rattle.lf_placement.proofs.moving.take_back_moves.Goals as goal
+
+pub stand-requires-clause-sized : goal.stand-requires-clause-sized
+stand-requires-clause-sized c =
+    sized_back c.args.frame.now c.args.moves.now (cells_of c.args.cells.now c.args.team) (cells_of c.take_back_in_table.new.cells c.args.team)
+    c.take_back_in_table.ensures.own c.requires.sized
+
+pub stand-requires-clause-may : goal.stand-requires-clause-may
+stand-requires-clause-may c =
+    let f = c.args.frame.now in
+    let team = c.args.team in
+    let old = cells_of c.args.cells.now team in
+    let new = cells_of c.take_back_in_table.new.cells team in
+    let moves = c.as_slice.result.now in
+    let given = c.args.moves.now in
+    let back_of : new ≡ made_back moves old = c.take_back_in_table.ensures.own ∙ ap (λ (ms : List Move). made_back ms old) (sym c.as_slice.ensures) in
+    may_stand f team (owns moves) _ old new c.args.occupancy.now c.lift.new.occupancy (owns_count moves) (c.requires.held.boxes team)
+    (others_back moves old new back_of) c.lift.ensures
+    (ap {B = ℕ} (λ (cs : List Cell). length cs) c.take_back_in_table.ensures.own ∙ length_same old (made_back given old) (same_back given old))
+    (subst (λ (cs : List Cell). FitIn c.args.occupancy.now team (map (box_of f) cs)) (sym c.take_back_in_table.ensures.own) c.requires.fits)
+
+pub stand-requires-clause-rest : goal.stand-requires-clause-rest
+stand-requires-clause-rest c =
+    let f = c.args.frame.now in
+    let team = c.args.team in
+    let old = cells_of c.args.cells.now team in
+    let new = cells_of c.take_back_in_table.new.cells team in
+    let moves = c.as_slice.result.now in
+    let back_of : new ≡ made_back moves old = c.take_back_in_table.ensures.own ∙ ap (λ (ms : List Move). made_back ms old) (sym c.as_slice.ensures) in
+    subst (λ (named : List ℕ). StandButFor team (map (box_of f) new) named c.lift.new.occupancy)
+    (ap owns (c.as_slice.ensures ∙ sym c.as_slice-2.ensures))
+    (stand_but f team (owns moves) _ old new c.args.occupancy.now c.lift.new.occupancy (owns_count moves) (c.requires.held.boxes team)
+    (others_back moves old new back_of) c.lift.ensures)

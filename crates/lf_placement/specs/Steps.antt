@@ -1,0 +1,66 @@
+-- The steps of a change: its cells are taken out of the strips, moved in the table, and put back; no public clause cites it.
+use Rattle.std.specs.Prelude.{◌≡◌, ◌≢◌, ◌⊎◌, ℕ, ◌<◌, List, [], ◌∷◌, map, length, Option, None, option_and_then, slice_get, slice_index, unwrap_or}
+use Rattle.std.specs.Option.{option_map}
+use Rattle.lf_units.specs.declared.area.Rect.{Rect}
+use Rattle.lf_floorplan.specs.declared.frame.Frame.{Frame}
+use Rattle.lf_floorplan.specs.declared.place.Place.{Place}
+use Rattle.lf_rules.specs.Choice.{spot_of}
+use Rattle.lf_rules.specs.Team.{box_in}
+use Rattle.lf_cells.specs.declared.cell.Cell.{Cell}
+use Rattle.lf_cells.specs.declared.cell.CellId.{CellId}
+use Rattle.lf_cells.specs.Cells.{Cells, cells_of, id_in, moved}
+use Rattle.lf_occupancy.specs.Occupied.{ArePartOf, FitIn, Occupied, boxes_of, cell_box}
+use Rattle.lf_occupancy.specs.Floorplans.{box_of}
+use Rattle.lf_undo.specs.declared.moves.Move.{Move}
+
+-- the box of a cell at a place; None where there is no such cell, or it stands nowhere
+abbrev pub box_moved : Frame → Option Cell → Option Place → Option Rect
+box_moved f cell place = option_and_then (λ c. option_map (λ p. box_in f c.mac (spot_of p)) place) cell
+
+-- the boxes of the team's cells at their working places
+abbrev pub working_boxes : Frame → Cells → ℕ → List (Option Rect)
+working_boxes f cells team = map (box_of f) (cells_of cells team)
+
+-- the cells after these moves are taken back, the last one first
+abbrev pub made_back : List Move → List Cell → List Cell
+made_back [] cells = cells
+made_back (m ∷ ms) cells = moved (made_back ms cells) m.own m.old
+
+-- the positions that moves name
+abbrev pub owns : List Move → List ℕ
+owns moves = map (λ m. m.own) moves
+
+-- none of the first so many names this position
+abbrev pub NameNot : List ℕ → ℕ → ℕ → Type 0
+NameNot named count own = (k : ℕ) → k < count → slice_index named k ≢ own
+
+-- a named cell stands nowhere, and any other where it stood
+abbrev pub IsOut : List ℕ → ℕ → List (Option Rect) → List (Option Rect) → ℕ → Type 0
+IsOut named count old new own =
+    ((NameNot named count own → ⊥) × (cell_box new own ≡ None)) ⊎ (NameNot named count own × (cell_box new own ≡ cell_box old own))
+
+-- only boxes of this team may differ, and they are as many as before
+pub record KeepsStrips (team : ℕ) (old new : Occupied) : Type 0 where
+  pub many : length (boxes_of new team) ≡ length (boxes_of old team)
+  pub boxes : (other : ℕ) → other ≢ team → boxes_of new other ≡ boxes_of old other
+  pub strips : new.strips ≡ old.strips
+  pub rooms : new.rooms ≡ old.rooms
+
+-- the first so many of the named cells were taken out
+pub record TakesOut (team : ℕ) (named : List ℕ) (count : ℕ) (old new : Occupied) : Type 0 where
+  pub each : (own : ℕ) → IsOut named count (boxes_of old team) (boxes_of new team) own
+  pub rest : KeepsStrips team old new
+
+-- the team's boxes are part of these, which fit
+pub record MayStand (team : ℕ) (boxes : List (Option Rect)) (o : Occupied) : Type 0 where
+  pub many : length (boxes_of o team) ≡ length boxes
+  pub part : ArePartOf (boxes_of o team) boxes
+  pub fits : FitIn o team boxes
+
+-- what none of these names stands where it is to stand
+abbrev pub StandButFor : ℕ → List (Option Rect) → List ℕ → Occupied → Type 0
+StandButFor team boxes named o = (own : ℕ) → NameNot named (length named) own → cell_box (boxes_of o team) own ≡ cell_box boxes own
+
+-- the cell that a move names, and its box at the move's place; no box where there is no such cell
+abbrev pub asked_for : Frame → ℕ → List Cell → Move → CellId × Option Rect
+asked_for f team cells m = (unwrap_or (id_in cells team m.own) record { team = 0; own = 0 }, box_moved f (slice_get cells m.own) m.old)

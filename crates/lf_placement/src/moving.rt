@@ -1,0 +1,88 @@
+//! Moves of a team's cells, in the table and in the strips. All cells of a change are taken out of the
+//! strips first, and then all are put in: so no memory is taken where the cells fit at their new places.
+
+ghost use Rattle.std.specs.Prelude.{◌≡◌, All, List, drop, map, take};
+ghost use Rattle.lf_cells.specs.declared.cell.Cell.{Cell};
+ghost use Rattle.lf_cells.specs.Cells.{as_committed, cells_of};
+ghost use Rattle.lf_legalize.specs.Members.{IsSizedCell};
+ghost use Rattle.lf_occupancy.specs.Occupied.{FitIn};
+ghost use Rattle.lf_occupancy.specs.Floorplans.{IsOccupancyOf, box_of};
+ghost use Rattle.lf_placement.specs.Placings.{HaveMoved, OtherCellsStay, made};
+ghost use Rattle.lf_placement.specs.Steps.{made_back};
+
+use crate::strips::{lift, stand};
+use crate::table::{make_in_table, take_back_in_table};
+use lf_cells::CellTable;
+use lf_floorplan::Frame;
+use lf_occupancy::Occupancy;
+use lf_undo::{Move, Moves};
+
+/// The moves from that one on.
+fn moves_from(moves: &[Move], from: usize) -> &[Move]
+    ensures { result.now ≡ drop from moves.now }
+{
+    if from < moves.len() {
+        return &moves[from..];
+    }
+    &[]
+}
+
+/// Makes the moves from that one on, in their order, and leaves in each the place that its cell had.
+pub(crate) fn make_moves(
+    frame: &Frame,
+    cells: &mut CellTable,
+    occupancy: &mut Occupancy,
+    team: usize,
+    moves: &mut Moves,
+    from: usize,
+)
+    requires sized { All (IsSizedCell frame.now) (cells_of cells.old team) }
+    requires held { IsOccupancyOf frame.now cells.old occupancy.old }
+    requires fits { FitIn occupancy.old team (map (box_of frame.now) (made (drop from moves.old) (cells_of cells.old team))) }
+    ensures own { cells_of cells.new team ≡ made (drop from moves.old) (cells_of cells.old team) }
+    ensures moved { (before : List Cell) → HaveMoved before (take from moves.old) (cells_of cells.old team) → HaveMoved before moves.new (cells_of cells.new team) }
+    ensures others { OtherCellsStay team cells.old cells.new }
+    ensures held { IsOccupancyOf frame.now cells.new occupancy.new }
+    ensures strips { occupancy.new.strips ≡ occupancy.old.strips }
+    ensures rooms { occupancy.new.rooms ≡ occupancy.old.rooms }
+{
+    lift(occupancy, cells, team, moves_from(moves.as_slice(), from));
+    make_in_table(cells, team, moves, from);
+    stand(
+        frame,
+        occupancy,
+        cells,
+        team,
+        moves_from(moves.as_slice(), from),
+    );
+}
+
+/// Takes the moves back, the last one first.
+pub(crate) fn take_back_moves(
+    frame: &Frame,
+    cells: &mut CellTable,
+    occupancy: &mut Occupancy,
+    team: usize,
+    moves: &Moves,
+)
+    requires sized { All (IsSizedCell frame.now) (cells_of cells.old team) }
+    requires held { IsOccupancyOf frame.now cells.old occupancy.old }
+    requires fits { FitIn occupancy.old team (map (box_of frame.now) (made_back moves.now (cells_of cells.old team))) }
+    ensures own { cells_of cells.new team ≡ made_back moves.now (cells_of cells.old team) }
+    ensures others { OtherCellsStay team cells.old cells.new }
+    ensures held { IsOccupancyOf frame.now cells.new occupancy.new }
+    ensures strips { occupancy.new.strips ≡ occupancy.old.strips }
+    ensures rooms { occupancy.new.rooms ≡ occupancy.old.rooms }
+{
+    lift(occupancy, cells, team, moves.as_slice());
+    take_back_in_table(cells, team, moves);
+    stand(frame, occupancy, cells, team, moves.as_slice());
+}
+
+/// Makes the working places of the team's cells their committed ones.
+pub(crate) fn commit_places(cells: &mut CellTable, team: usize)
+    ensures own { cells_of cells.new team ≡ map as_committed (cells_of cells.old team) }
+    ensures others { OtherCellsStay team cells.old cells.new }
+{
+    cells.commit_team(team);
+}

@@ -1,0 +1,265 @@
+//! Where the cells of all teams stand on a frame.
+
+ghost use Rattle.std.specs.Prelude.{◌≡◌, ℕ, List, None, OnOk, IfOk, Some, drop, map, option_map, take};
+ghost use Rattle.lf_segments.specs.Segments.{IsCut};
+ghost use Rattle.lf_reports.specs.Nearby.{IsIndexOf};
+ghost use Rattle.lf_rules.specs.declared.rule.Rule.TheVariants.{Overlap};
+ghost use Rattle.lf_rules.specs.Choice.{spot_of};
+ghost use Rattle.lf_rules.specs.Legalizer.{Legalizer};
+ghost use Rattle.lf_cells.specs.declared.cell.Cell.{Cell};
+ghost use Rattle.lf_cells.specs.Cells.{as_committed, cells_of};
+ghost use Rattle.lf_cells.specs.Openings.{opening_cells, opening_components};
+ghost use Rattle.lf_legalize.specs.Members.{best_of};
+ghost use Rattle.lf_undo.specs.Entries.{taken_back};
+ghost use Rattle.lf_placement.specs.Placings.{Fits, HaveMoved, IsBrokenAlone, IsBrokenAt, KeepsRest, OtherCellsStay, SameButRooms};
+ghost use Rattle.lf_placement.specs.Placings.{committed_of, made, places_of};
+
+use crate::build::tables_of;
+use crate::moving::{commit_places, make_moves, take_back_moves};
+use crate::rooms::make_room;
+use lf_cells::{CellId, CellTable};
+use lf_floorplan::{Frame, Loaded, Place};
+use lf_legalize::Seeker;
+use lf_occupancy::{Occupancy, strips_cover};
+use lf_reports::{FrameIndex, broken_on_frame};
+use lf_rules::{Broken, Rule, box_of};
+use lf_segments::Segments;
+use lf_undo::{Move, Moves};
+use lf_units::Point;
+use std::alloc::{AllocError, Global};
+use std::marker::Model;
+
+/// The cells of all teams of a loaded design on its frame, and what stands in the strips of the frame:
+/// each cell's box at its working place.
+///
+/// No strip ever has less room, and each team's committed places fit. So a team can be sent back to
+/// places that it had without memory.
+#[derive(Drop)]
+pub struct Placement {
+    frame: Frame,
+    cells: CellTable,
+    occupancy: Occupancy,
+}
+
+impl Model for Placement {
+    ghost use Rattle.lf_placement.specs.Placings.{IsPlacing, Placing};
+
+    ghost Value = { Placing };
+
+    ghost view = { λ p. record { frame = p.frame; cells = p.cells; held = p.occupancy } };
+
+    ghost invariant = { λ p. IsPlacing record { frame = p.frame; cells = p.cells; held = p.occupancy } };
+}
+
+/// Overlap with the first of the team's other cells that the box meets; none where it meets none.
+fn overlap(met: Option<u32>) -> Option<Broken>
+    ensures { result ≡ option_map (λ own. record { rule = Overlap; other = Some own }) met }
+{
+    match met {
+        Some(own) => Some(Broken {
+            rule: Rule::Overlap,
+            other: Some(own),
+        }),
+        None => None,
+    }
+}
+
+impl Placement {
+    /// The placement of a design as it is loaded, with the segments of its frame.
+    ///
+    /// `Err` where an allocation fails; the design is then gone.
+    pub fn build(
+        alloc: Global,
+        loaded: Loaded,
+        segments: &Segments,
+    ) -> Result<Placement, AllocError>
+        requires { IsCut loaded.frame segments.now }
+        ensures frame { IfOk result (λ placement. placement.frame ≡ loaded.frame) }
+        ensures cells { IfOk result (λ placement. placement.cells.cells ≡ opening_cells loaded) }
+        ensures components { IfOk result (λ placement. placement.cells.components ≡ opening_components loaded) }
+    {
+        let tables = tables_of(alloc, &loaded, segments)?;
+        let Loaded { frame, cells: _ } = loaded;
+        Ok(Placement {
+            frame,
+            cells: tables.cells,
+            occupancy: tables.occupancy,
+        })
+    }
+
+    /// The frame of the design.
+    pub fn frame(&self) -> &Frame
+        ensures { result.now ≡ self.now.frame }
+    {
+        &self.frame
+    }
+
+    /// The cells of all teams.
+    pub fn cells(&self) -> &CellTable
+        ensures { result.now ≡ self.now.cells }
+    {
+        &self.cells
+    }
+
+    /// The first of the rules but overlap that the cell breaks at the place; none also where there is
+    /// no such cell.
+    ///
+    /// `Err` where an allocation fails.
+    pub fn broken_alone(
+        &self,
+        alloc: Global,
+        index: &FrameIndex,
+        id: CellId,
+        place: &Place,
+    ) -> Result<Option<Rule>, AllocError>
+        requires { IsIndexOf self.now.frame index.now }
+        ensures { IfOk result (λ broken. IsBrokenAlone self.now id place.now broken) }
+    {
+        let Some(standing) = self.cells.standing(id.team as usize, id.own as usize) else {
+            return Ok(None);
+        };
+        let mac = &self.frame.macros.as_slice()[standing.mac];
+        broken_on_frame(alloc, &self.frame, index, id.team as usize, mac, place)
+    }
+
+    /// The first of the team's other cells, by their positions, whose box shares a point with that of
+    /// the cell at the place, where it breaks no other rule. No memory is taken.
+    pub fn first_other(&self, id: CellId, place: &Place) -> Option<u32>
+        requires { IsBrokenAlone self.now id place.now None }
+        ensures { IsBrokenAt self.now id place.now (option_map (λ own. record { rule = Overlap; other = Some own }) result) }
+    {
+        let standing = self
+            .cells
+            .standing(id.team as usize, id.own as usize)?;
+        let mac = &self.frame.macros.as_slice()[standing.mac];
+        let rect = box_of(&self.frame, mac, place);
+        strips_cover();
+        self.occupancy.first_met(id, &rect)
+    }
+
+    /// The first rule that the cell breaks at the place beside the other cells of its team; none also
+    /// where there is no such cell.
+    ///
+    /// `Err` where an allocation fails.
+    pub fn first_broken(
+        &self,
+        alloc: Global,
+        index: &FrameIndex,
+        id: CellId,
+        place: &Place,
+    ) -> Result<Option<Broken>, AllocError>
+        requires { IsIndexOf self.now.frame index.now }
+        ensures { IfOk result (λ broken. IsBrokenAt self.now id place.now broken) }
+    {
+        if let Some(rule) = self.broken_alone(alloc, index, id, place)? {
+            return Ok(Some(Broken { rule, other: None }));
+        }
+        Ok(overlap(self.first_other(id, place)))
+    }
+
+    /// The best place of the cell for a target; none where it has none, or there is no such cell.
+    ///
+    /// `Err` where an allocation fails.
+    pub fn best_place<S: Seeker>(
+        &self,
+        alloc: Global,
+        seeker: &S,
+        id: CellId,
+        target: &Point,
+    ) -> Result<Option<Place>, AllocError>
+        requires { S.is_for seeker.now self.now.frame }
+        ensures { (l : Legalizer) → IfOk result (λ found. option_map spot_of found
+            ≡ best_of l self.now.frame id.team (cells_of self.now.cells id.team) id.own target.now) }
+    {
+        seeker.seek(
+            alloc,
+            &self.frame,
+            &self.cells,
+            &self.occupancy,
+            id,
+            target,
+        )
+    }
+
+    /// Makes the room that `make` asks where it makes these moves of the team's cells.
+    ///
+    /// `Err` where an allocation fails: then some room may have been made, and nothing else is changed.
+    pub fn reserve(
+        &mut self,
+        alloc: Global,
+        team: usize,
+        moves: &[Move],
+    ) -> Result<(), AllocError>
+        ensures ok { OnOk result (Fits self.new team (places_of (made moves.now (cells_of self.old.cells team)))) }
+        ensures same { SameButRooms self.old self.new }
+    {
+        make_room(
+            alloc,
+            &self.frame,
+            &self.cells,
+            &mut self.occupancy,
+            team,
+            moves,
+        )
+    }
+
+    /// Makes the moves of the team's cells from that one on, in their order, and leaves in each the
+    /// place that its cell had: so afterwards the moves are what takes them back. No memory is taken.
+    pub fn make(&mut self, team: usize, moves: &mut Moves, from: usize)
+        requires { Fits self.old team (places_of (made (drop from moves.old) (cells_of self.old.cells team))) }
+        ensures own { cells_of self.new.cells team ≡ made (drop from moves.old) (cells_of self.old.cells team) }
+        ensures moved { (before : List Cell) → HaveMoved before (take from moves.old) (cells_of self.old.cells team)
+            → HaveMoved before moves.new (cells_of self.new.cells team) }
+        ensures others { OtherCellsStay team self.old.cells self.new.cells }
+        ensures rest { KeepsRest self.old self.new }
+    {
+        make_moves(
+            &self.frame,
+            &mut self.cells,
+            &mut self.occupancy,
+            team,
+            moves,
+            from,
+        );
+    }
+
+    /// Takes moves of the team's cells back, the last one first. No memory is taken.
+    pub fn take_back(&mut self, team: usize, moves: &Moves)
+        requires { Fits self.old team (taken_back moves.now (places_of (cells_of self.old.cells team))) }
+        ensures own { (before : List Cell) → HaveMoved before moves.now (cells_of self.old.cells team) → cells_of self.new.cells team ≡ before }
+        ensures others { OtherCellsStay team self.old.cells self.new.cells }
+        ensures rest { KeepsRest self.old self.new }
+    {
+        take_back_moves(
+            &self.frame,
+            &mut self.cells,
+            &mut self.occupancy,
+            team,
+            moves,
+        );
+    }
+
+    /// Makes the working places of the team's cells their committed ones.
+    pub fn commit_team(&mut self, team: usize)
+        ensures own { cells_of self.new.cells team ≡ map as_committed (cells_of self.old.cells team) }
+        ensures others { OtherCellsStay team self.old.cells self.new.cells }
+        ensures rest { KeepsRest self.old self.new }
+    {
+        self.occupancy.boxes_fit();
+        commit_places(&mut self.cells, team);
+    }
+
+    /// The working places of each team fit.
+    pub fn places_stand(&self)
+        ensures { (team : ℕ) → Fits self.now team (places_of (cells_of self.now.cells team)) }
+    {
+        self.occupancy.boxes_fit();
+    }
+
+    /// The committed places of each team fit.
+    pub fn committed_fit(&self)
+        ensures { (team : ℕ) → Fits self.now team (committed_of (cells_of self.now.cells team)) }
+    {
+        let _ = &self.cells;
+    }
+}

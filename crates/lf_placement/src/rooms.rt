@@ -1,0 +1,75 @@
+//! Room for moves, before they are made.
+
+ghost use Rattle.std.specs.Prelude.{◌≡◌, All, IfOk, OnOk, map};
+ghost use Rattle.lf_cells.specs.Cells.{cells_of};
+ghost use Rattle.lf_legalize.specs.Members.{IsSizedCell};
+ghost use Rattle.lf_occupancy.specs.Occupied.{FitIn, NoLess};
+ghost use Rattle.lf_occupancy.specs.Floorplans.{IsOccupancyOf, box_of};
+ghost use Rattle.lf_placement.specs.Placings.{made};
+ghost use Rattle.lf_placement.specs.Steps.{asked_for};
+
+use crate::strips::box_at;
+use lf_cells::{CellId, CellTable};
+use lf_floorplan::Frame;
+use lf_occupancy::Occupancy;
+use lf_undo::Move;
+use lf_units::Rect;
+use std::alloc::{AllocError, Global};
+
+/// The cell that the move names, and its box at the move's place; no box where there is no such cell.
+fn asked_for(
+    frame: &Frame,
+    cells: &CellTable,
+    team: usize,
+    next: &Move,
+) -> (CellId, Option<Rect>)
+    requires { All (IsSizedCell frame.now) (cells_of cells.now team) }
+    ensures { result ≡ asked_for frame.now team (cells_of cells.now team) next.now }
+{
+    match cells.id_at(team, next.own as usize) {
+        Some(id) => (id, box_at(frame, cells, id, next.old)),
+        None => (CellId { team: 0, own: 0 }, None),
+    }
+}
+
+/// The cells that the moves name, and their boxes at the moves' places.
+fn all_asked_for(
+    alloc: Global,
+    frame: &Frame,
+    cells: &CellTable,
+    team: usize,
+    moves: &[Move],
+) -> Result<Vec<(CellId, Option<Rect>)>, AllocError>
+    requires { All (IsSizedCell frame.now) (cells_of cells.now team) }
+    ensures { IfOk result (λ list. list.items ≡ map (asked_for frame.now team (cells_of cells.now team)) moves.now) }
+{
+    let mut list = Vec::with_capacity(alloc, moves.len())?;
+    for next in moves {
+        list.push(asked_for(frame, cells, team, next))?;
+    }
+    Ok(list)
+}
+
+/// Makes the room that these moves of the team's cells need, where they are made in their order.
+///
+/// `Err` where an allocation fails: then some room may have been made, and nothing else is changed.
+pub(crate) fn make_room(
+    alloc: Global,
+    frame: &Frame,
+    cells: &CellTable,
+    occupancy: &mut Occupancy,
+    team: usize,
+    moves: &[Move],
+) -> Result<(), AllocError>
+    requires sized { All (IsSizedCell frame.now) (cells_of cells.now team) }
+    requires held { IsOccupancyOf frame.now cells.now occupancy.old }
+    ensures ok { OnOk result (FitIn occupancy.new team (map (box_of frame.now) (made moves.now (cells_of cells.now team)))) }
+    ensures boxes { occupancy.new.boxes ≡ occupancy.old.boxes }
+    ensures strips { occupancy.new.strips ≡ occupancy.old.strips }
+    ensures rooms { NoLess occupancy.old.rooms occupancy.new.rooms }
+{
+    let asked = all_asked_for(alloc, frame, cells, team, moves)?;
+    occupancy.reserve_for(asked.as_slice())?;
+    occupancy.boxes_fit();
+    Ok(())
+}
