@@ -36,7 +36,7 @@ pub(crate) fn broken_at<S>(
         ≡ broken_at (setting_at l around.now placement.now) (cells_of placement.now.cells around.now.number) id.own place.now) }
 {
     verdict_is_one();
-    placement.holds();
+    placement.cells_are_sized();
     placement.first_broken(around.alloc, around.index, id, place)
 }
 

@@ -21,6 +21,7 @@ impl Tables {
         requires { HasRows number self.old }
         ensures room { OnOk result (HasRoomFor self.new.undo number) }
         ensures grown { HaveGrown self.old self.new }
+        ensures placement { self.new.placement ≡ self.old.placement }
     {
         self.undo.reserve(number)
     }
@@ -55,10 +56,10 @@ impl Tables {
         ensures placement { self.new.placement ≡ self.old.placement }
         ensures others { OthersStay number self.old self.new }
     {
-        if self.undo.push(number, moves).is_err() {
-            unreachable!();
+        match self.undo.push(number, moves) {
+            Ok(()) => self.count_change(number, session),
+            Err(_) => unreachable!(),
         }
-        self.count_change(number, session)
     }
 
     /// Makes the moves, as a change of the team that the session makes and that can be undone, and

@@ -92,7 +92,7 @@ fn refusal_at(
         (broken_where (setting l placement.now.frame id.team) (cells_of placement.now.cells id.team) id.own) id.own }
 {
     verdict_is_one();
-    placement.holds();
+    placement.cells_are_sized();
     illegal_by(broken_beside(placement, id, place, alone), id.own)
 }
 

@@ -71,7 +71,7 @@ fn target_of<S>(
         ≡ target_at (setting_at l around.now placement.now) (cells_of placement.now.cells around.now.number) id.own) }
 {
     verdict_is_one();
-    placement.holds();
+    placement.cells_are_sized();
     let own = id.own as usize;
     if is_marked(marks, own) {
         return Ok(None);
@@ -168,9 +168,9 @@ fn send_all<S: Seeker>(
 {
     legalizer_is_there();
     tidy_keeps_legal();
-    placement.holds();
     let mut moved = 0;
     for own in 0..placement.cells().count_of(around.number) {
+        placement.cells_are_sized();
         match send(around, placement, moves, marks, own)? {
             Sent::Stays => {}
             Sent::Goes => moved += 1,
