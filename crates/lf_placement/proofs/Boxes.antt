@@ -1,16 +1,15 @@
 -- Cells that are taken out of the strips and put back, by their boxes.
 use Rattle.std.proofs.Common.{◌≡◌, ◌≢◌, ◌⊎◌, inl, inr, ⊎_elim, ◌<◌, ◌≤◌, ℕ, zero, suc, ◌+◌, List, [], ◌∷◌, map, length, set, get_or, Option, Some, None, refl, ap, sym, subst, ◌∙◌, arith, below_more}
-use Rattle.std.specs.Prelude.{slice_get, option_and_then, option_map}
+use Rattle.std.specs.Prelude.{slice_get, option_map}
 use Rattle.std.proofs.lemmas.Bool.{cases_eq}
-use Rattle.std.proofs.lemmas.List.{get_or-set_other, length-map, length-set, set-set}
+use Rattle.std.proofs.lemmas.List.{get_or-set_other, length-set, set-set}
 use Rattle.lf_units.specs.declared.area.Rect.{Rect}
-use Rattle.lf_units.specs.Area.{SharesPoint}
 use Rattle.lf_floorplan.specs.declared.frame.Frame.{Frame}
 use Rattle.lf_cells.specs.declared.cell.Cell.{Cell}
 use Rattle.lf_cells.specs.declared.cell.CellId.{CellId}
 use Rattle.lf_cells.specs.Cells.{Cells, cell_at, cells_of, id_in, id_of, working_at}
 use Rattle.lf_occupancy.specs.declared.strip.Strip.{Strip}
-use Rattle.lf_occupancy.specs.Occupied.{ArePartOf, FitIn, HasRoomFor, Occupied, box_at, boxes_of, boxes_with, cell_box, count_in}
+use Rattle.lf_occupancy.specs.Occupied.{FitIn, HasRoomFor, Occupied, box_at, boxes_of, boxes_with, cell_box}
 use Rattle.lf_occupancy.specs.Strips.{HasCell}
 use Rattle.lf_occupancy.specs.Floorplans.{box_of}
 use Rattle.lf_occupancy.proofs.Counting.{part_leaves_room}
@@ -140,17 +139,17 @@ out_next team named n own a b c is put kept out = record { each = each; rest = k
   same_at : (k : ℕ) → k ≡ own → IsOut named (n + 1) (boxes_of a team) (boxes_of c team) k
   same_at k same = inl (
     λ never. never n (omega arith) (sym is ∙ sym same),
-    rw (put, same) (none_here (boxes_of b team) own)
+    rw (put, same) (none_here (boxes_of b team) own),
   )
 
   step : (k : ℕ) → k ≢ own → IsOut named n (boxes_of a team) (boxes_of b team) k → IsOut named (n + 1) (boxes_of a team) (boxes_of c team) k
   step k differ (inl (was, none)) = inl (
     λ never. was (λ i less. never i (omega (arith, less))),
-    rw put (there_still (boxes_of b team) own k None differ ∙ none)
+    rw put (there_still (boxes_of b team) own k None differ ∙ none),
   )
   step k differ (inr (never, as_before)) = inr (
     below_more (λ i. get_or named i 0 ≢ k) n never (λ same. differ (sym same ∙ sym is)),
-    rw put (there_still (boxes_of b team) own k None differ ∙ as_before)
+    rw put (there_still (boxes_of b team) own k None differ ∙ as_before),
   )
 
   each : (k : ℕ) → IsOut named (n + 1) (boxes_of a team) (boxes_of c team) k

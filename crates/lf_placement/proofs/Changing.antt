@@ -1,9 +1,9 @@
 -- A change of a team: its cells are taken out, moved in the table, and put back.
-use Rattle.std.proofs.Common.{◌≡◌, ◌≢◌, ◌⊎◌, inl, inr, ⊎_elim, ◌<◌, ◌≤◌, ℕ, zero, suc, ◌+◌, List, [], ◌∷◌, map, length, set, drop, get_or, Option, Some, None, refl, ap, sym, subst, ◌∙◌, arith}
+use Rattle.std.proofs.Common.{◌≡◌, ◌≢◌, ◌⊎◌, inl, inr, ⊎_elim, ℕ, zero, suc, List, [], ◌∷◌, map, length, drop, Option, None, refl, ap, sym, subst, ◌∙◌, arith}
 use Rattle.std.specs.Prelude.{All, slice_get, option_and_then}
 use Rattle.std.specs.Option.{option_map}
 use Rattle.std.proofs.lemmas.Bool.{cases_eq}
-use Rattle.std.proofs.lemmas.List.{length-map, get_or-set_other}
+use Rattle.std.proofs.lemmas.List.{length-map}
 use Rattle.std.proofs.lemmas.List.Elements.{All-cons}
 use Rattle.lf_units.specs.declared.area.Rect.{Rect}
 use Rattle.lf_floorplan.specs.declared.frame.Frame.{Frame}
@@ -13,14 +13,13 @@ use Rattle.lf_rules.specs.Team.{box_in}
 use Rattle.lf_cells.specs.declared.cell.Cell.{Cell}
 use Rattle.lf_cells.specs.Cells.{Cells, as_committed, cells_of, moved}
 use Rattle.lf_legalize.specs.Members.{IsSizedCell}
-use Rattle.lf_occupancy.specs.declared.strip.Strip.{Strip}
 use Rattle.lf_occupancy.specs.Occupied.{FitIn, Occupied, boxes_of, cell_box}
 use Rattle.lf_occupancy.specs.Floorplans.{IsOccupancyOf, box_of}
 use Rattle.lf_undo.specs.declared.moves.Move.{Move}
 use Rattle.lf_undo.specs.Entries.{Places}
 use Rattle.lf_placement.specs.Placings.{OtherCellsStay, SameButPlaces, boxes_at, made, places_of}
 use Rattle.lf_placement.specs.Steps.{IsOut, KeepsStrips, MayStand, NameNot, StandButFor, TakesOut, made_back, owns}
-use Rattle.lf_placement.proofs.Moves.{length_same, same_back, same_made}
+use Rattle.lf_placement.proofs.Moves.{same_back, same_made}
 use Rattle.lf_placement.proofs.Boxes.{fits_still}
 
 -- ---- macros

@@ -1,5 +1,5 @@
 -- What a placement keeps, through each change.
-use Rattle.std.proofs.Common.{◌≡◌, ◌≢◌, ◌⊎◌, inl, inr, ⊎_elim, ◌<◌, ◌≤◌, ℕ, zero, suc, ◌+◌, List, [], ◌∷◌, map, filter, length, eqb, get_or, Bool, true, false, cond, Option, Some, None, refl, ap, sym, subst, ◌∙◌, arith}
+use Rattle.std.proofs.Common.{◌≡◌, ◌≢◌, ⊎_elim, ◌<◌, ◌≤◌, ℕ, zero, suc, List, [], ◌∷◌, map, filter, length, eqb, get_or, Bool, true, false, cond, Option, Some, refl, ap, sym, subst, ◌∙◌, arith}
 use Rattle.std.specs.Prelude.{All, slice_get, unwrap_or}
 use Rattle.std.proofs.lemmas.Bool.{cases_eq}
 use Rattle.std.proofs.lemmas.List.{length-map}
@@ -20,7 +20,7 @@ use Rattle.lf_occupancy.specs.Occupied.{FitIn, NoLess, Occupied, boxes_of}
 use Rattle.lf_occupancy.specs.Floorplans.{IsOccupancyOf, box_of}
 use Rattle.lf_undo.specs.declared.moves.Move.{Move}
 use Rattle.lf_undo.specs.Entries.{Places, taken_back}
-use Rattle.lf_placement.specs.Placings.{Fits, IsPlacing, OtherCellsStay, Placing, SameButPlaces, boxes_at, committed_of, made, places_of, taken_up}
+use Rattle.lf_placement.specs.Placings.{Fits, IsPlacing, OtherCellsStay, Placing, SameButPlaces, boxes_at, committed_of, made, places_of}
 use Rattle.lf_placement.specs.Steps.{made_back}
 use Rattle.lf_placement.specs.Laws.{SameMacros}
 use Rattle.lf_placement.proofs.Moves.{length_same, places_back, same_back, same_made}

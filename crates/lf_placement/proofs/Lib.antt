@@ -2,3 +2,6 @@ pub mod Moves
 pub mod Boxes
 pub mod Changing
 pub mod Keeping
+pub mod Overlapping
+pub mod Judging
+pub mod Counts

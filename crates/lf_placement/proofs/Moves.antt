@@ -1,11 +1,11 @@
 -- Moves of cells in a table, and what they are when they are taken back.
-use Rattle.std.proofs.Common.{◌≡◌, ◌≢◌, ◌<◌, ◌≤◌, ℕ, zero, suc, ◌+◌, List, [], ◌∷◌, ◌++◌, map, length, set, take, drop, get_or, Option, Some, None, refl, ap, sym, ◌∙◌, arith}
+use Rattle.std.proofs.Common.{◌≡◌, ◌<◌, ◌≤◌, ℕ, zero, suc, ◌+◌, List, [], ◌∷◌, ◌++◌, length, set, take, drop, get_or, Option, Some, None, refl, ap, sym, ◌∙◌, arith}
 use Rattle.std.specs.Prelude.{slice_get, option_map}
 use Rattle.std.proofs.lemmas.List.{length-map, take_more}
 use Rattle.lf_floorplan.specs.declared.place.Place.{Place}
 use Rattle.lf_cells.specs.declared.cell.Cell.{Cell}
 use Rattle.lf_cells.specs.declared.cell.CellId.{CellId}
-use Rattle.lf_cells.specs.Cells.{Cells, cells_of, id_in, id_of, moved, working_at}
+use Rattle.lf_cells.specs.Cells.{Cells, id_in, id_of, moved, working_at}
 use Rattle.lf_undo.specs.declared.moves.Move.{Move}
 use Rattle.lf_undo.specs.Entries.{Places, replaced, taken_back}
 use Rattle.lf_undo.proofs.Undone.{undo_one_more}
@@ -182,7 +182,7 @@ pub made_all : (start to now : List Cell) (given moves : List Move) (from at : �
     → (now ≡ to) × ((before : List Cell) → HaveMoved before (take from given) start → HaveMoved before moves now)
 made_all start to now given moves from at past making = (
   ap (λ (ms : List Move). made ms now) (sym (drop_past moves at past)) ∙ making.rest,
-  λ before have. rw (take_past moves at past) at (making.notes before have)
+  λ before have. rw (take_past moves at past) at (making.notes before have),
 )
 
 -- ---- the loop that takes moves back

@@ -1,10 +1,13 @@
--- Laws of what fits.
-use Rattle.std.specs.Prelude.{◌≡◌, ℕ, List, map}
+-- Laws of what lasts through changes.
+use Rattle.std.specs.Prelude.{◌≡◌, ℕ, List, map, Option}
+use Rattle.lf_floorplan.specs.declared.place.Place.{Place}
+use Rattle.lf_rules.specs.declared.rule.Rule.{Rule}
 use Rattle.lf_cells.specs.declared.cell.Cell.{Cell}
+use Rattle.lf_cells.specs.declared.cell.CellId.{CellId}
 use Rattle.lf_cells.specs.Cells.{as_committed, cells_of}
 use Rattle.lf_occupancy.specs.Occupied.{NoLess}
 use Rattle.lf_undo.specs.Entries.{Places}
-use Rattle.lf_placement.specs.Placings.{Fits, Placing, SameButPlaces}
+use Rattle.lf_placement.specs.Placings.{Fits, IsBrokenAlone, Placing, SameButPlaces}
 
 -- the cells have the same macros
 abbrev pub SameMacros : List Cell → List Cell → Type 0
@@ -15,6 +18,12 @@ abbrev pub FitsLast : Type 0
 FitsLast =
     (old new : Placing) (team : ℕ) (places : Places) → new.frame ≡ old.frame → new.held.strips ≡ old.held.strips → NoLess old.held.rooms new.held.rooms →
     SameMacros (cells_of old.cells team) (cells_of new.cells team) → Fits old team places → Fits new team places
+
+-- the first of the rules but overlap that a cell breaks at a place stays where the frame stays and its team's cells keep their macros
+abbrev pub AloneLasts : Type 0
+AloneLasts =
+    (old new : Placing) (id : CellId) (place : Place) (broken : Option Rule) → new.frame ≡ old.frame →
+    SameMacros (cells_of old.cells id.team) (cells_of new.cells id.team) → IsBrokenAlone old id place broken → IsBrokenAlone new id place broken
 
 -- cells keep their macros where nothing but their places differs, or their places are committed
 pub record MacrosStay : Type 0 where

@@ -9,5 +9,5 @@ mod rooms;
 mod strips;
 mod table;
 
-pub use laws::fits_last;
+pub use laws::{broken_alone_lasts, fits_last};
 pub use placement::Placement;

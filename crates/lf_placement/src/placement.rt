@@ -1,6 +1,6 @@
 //! Where the cells of all teams stand on a frame.
 
-ghost use Rattle.std.specs.Prelude.{◌≡◌, ℕ, List, None, OnOk, IfOk, Some, drop, map, option_map, take};
+ghost use Rattle.std.specs.Prelude.{◌≡◌, ◌≤◌, ℕ, List, length, None, OnOk, IfOk, Some, drop, map, option_map, take};
 ghost use Rattle.lf_segments.specs.Segments.{IsCut};
 ghost use Rattle.lf_reports.specs.Nearby.{IsIndexOf};
 ghost use Rattle.lf_rules.specs.declared.rule.Rule.TheVariants.{Overlap};
@@ -11,7 +11,7 @@ ghost use Rattle.lf_cells.specs.Cells.{as_committed, cells_of};
 ghost use Rattle.lf_cells.specs.Openings.{opening_cells, opening_components};
 ghost use Rattle.lf_legalize.specs.Members.{best_of};
 ghost use Rattle.lf_undo.specs.Entries.{taken_back};
-ghost use Rattle.lf_placement.specs.Placings.{Fits, HaveMoved, IsBrokenAlone, IsBrokenAt, KeepsRest, OtherCellsStay, SameButRooms};
+ghost use Rattle.lf_placement.specs.Placings.{AreSized, Fits, HaveMoved, IsBrokenAlone, IsBrokenAt, KeepsRest, OtherCellsStay, SameButRooms};
 ghost use Rattle.lf_placement.specs.Placings.{committed_of, made, places_of};
 
 use crate::build::tables_of;
@@ -128,9 +128,7 @@ impl Placement {
         requires { IsBrokenAlone self.now id place.now None }
         ensures { IsBrokenAt self.now id place.now (option_map (λ own. record { rule = Overlap; other = Some own }) result) }
     {
-        let standing = self
-            .cells
-            .standing(id.team as usize, id.own as usize)?;
+        let standing = self.cells.standing(id.team as usize, id.own as usize)?;
         let mac = &self.frame.macros.as_slice()[standing.mac];
         let rect = box_of(&self.frame, mac, place);
         strips_cover();
@@ -171,25 +169,13 @@ impl Placement {
         ensures { (l : Legalizer) → IfOk result (λ found. option_map spot_of found
             ≡ best_of l self.now.frame id.team (cells_of self.now.cells id.team) id.own target.now) }
     {
-        seeker.seek(
-            alloc,
-            &self.frame,
-            &self.cells,
-            &self.occupancy,
-            id,
-            target,
-        )
+        seeker.seek(alloc, &self.frame, &self.cells, &self.occupancy, id, target)
     }
 
     /// Makes the room that `make` asks where it makes these moves of the team's cells.
     ///
     /// `Err` where an allocation fails: then some room may have been made, and nothing else is changed.
-    pub fn reserve(
-        &mut self,
-        alloc: Global,
-        team: usize,
-        moves: &[Move],
-    ) -> Result<(), AllocError>
+    pub fn reserve(&mut self, alloc: Global, team: usize, moves: &[Move]) -> Result<(), AllocError>
         ensures ok { OnOk result (Fits self.new team (places_of (made moves.now (cells_of self.old.cells team)))) }
         ensures same { SameButRooms self.old self.new }
     {
@@ -247,6 +233,15 @@ impl Placement {
     {
         self.occupancy.boxes_fit();
         commit_places(&mut self.cells, team);
+    }
+
+    /// The macros of all cells are the frame's, of whole size, and no team has more than 4,000,000
+    /// cells.
+    pub fn cells_are_sized(&self)
+        ensures sized { AreSized self.now.frame self.now.cells }
+        ensures few { (team : ℕ) → length (cells_of self.now.cells team) ≤ 4000000 }
+    {
+        let _ = &self.cells;
     }
 
     /// The working places of each team fit.

@@ -17,12 +17,7 @@ use lf_units::Rect;
 use std::alloc::{AllocError, Global};
 
 /// The cell that the move names, and its box at the move's place; no box where there is no such cell.
-fn asked_for(
-    frame: &Frame,
-    cells: &CellTable,
-    team: usize,
-    next: &Move,
-) -> (CellId, Option<Rect>)
+fn asked_for(frame: &Frame, cells: &CellTable, team: usize, next: &Move) -> (CellId, Option<Rect>)
     requires { All (IsSizedCell frame.now) (cells_of cells.now team) }
     ensures { result ≡ asked_for frame.now team (cells_of cells.now team) next.now }
 {

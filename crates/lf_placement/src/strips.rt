@@ -73,13 +73,7 @@ fn put_in(frame: &Frame, occupancy: &mut Occupancy, cells: &CellTable, id: CellI
 }
 
 /// Puts the team's cell of that position to its working place, where there is such a cell.
-fn put_at_work(
-    frame: &Frame,
-    occupancy: &mut Occupancy,
-    cells: &CellTable,
-    team: usize,
-    own: u32,
-)
+fn put_at_work(frame: &Frame, occupancy: &mut Occupancy, cells: &CellTable, team: usize, own: u32)
     requires sized { All (IsSizedCell frame.now) (cells_of cells.now team) }
     requires may { MayStand team (working_boxes frame.now cells.now team) occupancy.old }
     ensures boxes { boxes_of occupancy.new team

@@ -68,7 +68,7 @@ fn stays_as_it_was_where_memory_is_refused(rt: HostRuntime) -> Result<(), Fail> 
     let heap = LocalHeap::new(rt.alloc(), 4096)?;
     let mut table: NameTable<&LocalHeap> = NameTable::new(&heap);
     assert_eq!(rt; table.add(b"a")?, Added::New(0));
-    let blocks = take_all(&heap)?;
+    let blocks = take_all(rt.alloc(), &heap)?;
     assert!(rt; Vec::<u8, &LocalHeap>::with_capacity(&heap, 1).is_err());
 
     assert!(rt; table.add(b"b").is_err());

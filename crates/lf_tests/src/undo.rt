@@ -57,7 +57,8 @@ fn fill<'a>(store: &mut UndoStore<&'a LocalHeap>, heap: &'a LocalHeap)
 enum Case {
     /// The room that one team's entry had serves for another team's.
     RoomOfAnother,
-    /// Each of two entries that go leaves its room, whichever team is first to use it.
+    /// Each of two entries that go leaves its room, whichever team is first to use it, also where all
+    /// memory is taken again.
     RoomsOfTwo,
     /// Room is made where an entry went, and else refused.
     RoomMade,
@@ -74,14 +75,21 @@ fn serves_another<'a>(store: &mut UndoStore<&'a LocalHeap>, second: Moves<&'a Lo
     popped.is_some() && store.push(1, second).is_ok() && has_only(store, 1, 2)
 }
 
-fn serves_both<'a>(store: &mut UndoStore<&'a LocalHeap>, second: Moves<&'a LocalHeap>) -> bool
+fn serves_both<'a>(
+    alloc: Global,
+    store: &mut UndoStore<&'a LocalHeap>,
+    heap: &'a LocalHeap,
+    second: Moves<&'a LocalHeap>,
+) -> Result<bool, Fail>
     requires { length store.old.lists ≡ 2 }
 {
     match (store.pop(0), store.pop(1)) {
         (Some(first), Some(_)) => {
-            store.push(1, second).is_ok() && store.push(0, first).is_ok() && has_only(store, 1, 2)
+            let _blocks = take_all(alloc, heap)?;
+            let both = store.push(1, second).is_ok() && store.push(0, first).is_ok();
+            Ok(both && has_only(store, 1, 2))
         }
-        _ => false,
+        _ => Ok(false),
     }
 }
 
@@ -130,15 +138,51 @@ fn holds(alloc: Global, limit: usize, team: usize, case: Case) -> Result<bool, F
     if store.push(team, one_move(&heap, 1)?).is_err() {
         return Ok(false);
     }
-    let _blocks = take_all(&heap)?;
+    let _blocks = take_all(alloc, &heap)?;
     fill(&mut store, &heap);
     Ok(match case {
         Case::RoomOfAnother => serves_another(&mut store, second),
-        Case::RoomsOfTwo => serves_both(&mut store, second),
+        Case::RoomsOfTwo => serves_both(alloc, &mut store, &heap, second)?,
         Case::RoomMade => is_made(&mut store, second),
         Case::NoRoom => comes_back(&mut store, second),
         Case::Limit => takes_the_place(&mut store, second),
     })
+}
+
+/// Puts an entry without moves on the stack of each team from the third on, until there is no room for
+/// one more: the last team that has an entry, which is the second where none of them has.
+fn fill_teams<'a>(store: &mut UndoStore<&'a LocalHeap>, heap: &'a LocalHeap) -> usize
+    requires { length store.old.lists ≡ 16 }
+    ensures teams { length store.new.lists ≡ 16 }
+    ensures last { result < 16 }
+{
+    let mut last = 1;
+    for team in 2..16 {
+        if store.push(team, Moves::new(heap)).is_err() {
+            return last;
+        }
+        last = team;
+    }
+    last
+}
+
+/// Whether a team's entry that goes leaves its room though another team, whose stack is at its limit,
+/// gets an entry, and all memory is taken again.
+fn stays_at_the_limit(alloc: Global) -> Result<bool, Fail> {
+    let heap = LocalHeap::new(alloc, 8192)?;
+    let mut store: UndoStore<&LocalHeap> = UndoStore::build(&heap, 16, 1)?;
+    let second = one_move(&heap, 2)?;
+    if store.push(1, one_move(&heap, 1)?).is_err() {
+        return Ok(false);
+    }
+    let _blocks = take_all(alloc, &heap)?;
+    let last = fill_teams(&mut store, &heap);
+    let popped = store.pop(last);
+    if popped.is_none() || store.push(1, second).is_err() {
+        return Ok(false);
+    }
+    let _rest = take_all(alloc, &heap)?;
+    Ok(store.push(last, Moves::new(&heap)).is_ok() && has_only(&store, 1, 2))
 }
 
 /// Whether the first team's entry, which goes, leaves room for one of the second team that was made before.
@@ -149,7 +193,7 @@ fn leaves_its_room(alloc: Global) -> Result<bool, Fail> {
     if store.push(0, one_move(&heap, 1)?).is_err() {
         return Ok(false);
     }
-    let _blocks = take_all(&heap)?;
+    let _blocks = take_all(alloc, &heap)?;
     let popped = store.pop(0);
     Ok(popped.is_some() && store.push(1, second).is_ok() && has_only(&store, 1, 2))
 }
@@ -160,7 +204,7 @@ fn finds_its_room(alloc: Global) -> Result<bool, Fail> {
     let mut store: UndoStore<&LocalHeap> = UndoStore::build(&heap, 2, 1)?;
     let second = one_move(&heap, 2)?;
     store.reserve(1)?;
-    let _blocks = take_all(&heap)?;
+    let _blocks = take_all(alloc, &heap)?;
     Ok(store.push(1, second).is_ok() && has_only(&store, 1, 2))
 }
 
@@ -171,6 +215,7 @@ fn entries_where_no_memory_is_left(rt: HostRuntime) -> Result<(), Fail> {
     assert!(rt; holds(rt.alloc(), 64, 0, Case::RoomMade)?);
     assert!(rt; holds(rt.alloc(), 64, 1, Case::NoRoom)?);
     assert!(rt; holds(rt.alloc(), 1, 1, Case::Limit)?);
+    assert!(rt; stays_at_the_limit(rt.alloc())?);
     assert!(rt; leaves_its_room(rt.alloc())?);
     assert!(rt; finds_its_room(rt.alloc())?);
     Ok(())

@@ -1,6 +1,6 @@
 -- Cells that are known to an occupancy, and room that is left when one of them is moved.
-use Rattle.std.proofs.Common.{◌≡◌, inl, inr, ℕ, ◌+◌, ◌<◌, ◌≤◌, ◌⊎◌, List, [], Option, None, length, get_or, set, map, refl, sym, ap, subst, ◌∙◌, arith}
-use Rattle.std.specs.Prelude.{All}
+use Rattle.std.proofs.Common.{◌≡◌, inl, inr, ℕ, ◌+◌, ◌<◌, ◌≤◌, ◌⊎◌, List, [], Option, Some, None, length, get_or, set, map, refl, sym, ap, subst, ◌∙◌, arith}
+use Rattle.std.specs.Prelude.{All, slice_get}
 use Rattle.std.proofs.lemmas.Bool.Decides.{eqb_tells}
 use Rattle.std.proofs.lemmas.List.{get_or-set_same, get_or-set_other, get_or_past, length-map, length-set}
 use Rattle.lf_units.specs.declared.area.Rect.{Rect}
@@ -8,10 +8,9 @@ use Rattle.lf_floorplan.specs.declared.frame.Frame.{Frame}
 use Rattle.lf_cells.specs.declared.cell.CellId.{CellId}
 use Rattle.lf_cells.specs.Cells.{Cells, cells_of}
 use Rattle.lf_occupancy.specs.Floorplans.{IsOccupancyOf, box_of}
-use Rattle.lf_occupancy.specs.Lanes.{cell_box}
-use Rattle.lf_occupancy.specs.Occupied.{GrowAtMost, HasRoomFor, MeetsStrip, Occupied, box_at, boxes_with}
+use Rattle.lf_occupancy.specs.Occupied.{HasRoomFor, Occupied, boxes_of, boxes_with, count_in}
 use Rattle.lf_occupancy.specs.Strips.{HasCell}
-use Rattle.lf_occupancy.proofs.Laning.{box_same}
+use Rattle.lf_occupancy.proofs.Counting.{with_is_one_more, without_is_no_more}
 use Rattle.lf_occupancy.specs.declared.strip.Strip.{Strip}
 
 inside_or_past : (a b : ℕ) → (a < b) ⊎ (b ≤ a)
@@ -30,39 +29,29 @@ has_cell f cells o id is within = record { team = team; own = own }
       | inr past ↦ let none = ap (λ (xs : List (Option Rect)). length xs) (get_or_past o.boxes id.team [] past) in absurd (omega (arith, none, own))
     ]
 
--- a cell that has another box leaves each cell known
-pub known_still : (boxes : List (List (Option Rect))) (id other : CellId) (box : Option Rect) → HasCell boxes id → HasCell boxes other →
-    HasCell (set boxes id.team (set (get_or boxes id.team []) id.own box)) other
-known_still boxes id other box this known = record {
-  team = let many = length-set boxes id.team changed in let inside = known.team in omega (arith, many, inside);
-  own = elim (eqb_tells other.team id.team) [
-    | inl same ↦
-        let there = ap (λ (xs : List (Option Rect)). length xs) (get_or-set_same boxes id.team changed [] this.team) ∙ length-set (get_or boxes id.team []) id.own box in
-        let At : ℕ → Type 0 = λ t. other.own < length (get_or (set boxes id.team changed) t []) in
-        let here : other.own < length (get_or boxes id.team []) = subst (λ (t : ℕ). other.own < length (get_or boxes t [])) same.1 known.own in
-        subst At (sym same.1) (omega (arith, there, here))
-    | inr apart ↦
-        let there = ap (λ (xs : List (Option Rect)). length xs) (get_or-set_other boxes id.team other.team changed [] apart.1) in
-        let here = known.own in
-        omega (arith, there, here)
-  ];
-}
-  where
-    changed : List (Option Rect)
-    changed = set (get_or boxes id.team []) id.own box
-
--- a cell that is taken away stands nowhere
-pub stands_nowhere : (boxes : List (List (Option Rect))) (id : CellId) → HasCell boxes id →
-    cell_box (get_or (set boxes id.team (set (get_or boxes id.team []) id.own None)) id.team []) id.own ≡ None
-stands_nowhere boxes id known =
-    ap (λ (xs : List (Option Rect)). cell_box xs id.own) (get_or-set_same boxes id.team (set (get_or boxes id.team []) id.own None) [] known.team)
-    ∙ box_same (get_or boxes id.team []) id.own None known.own
-
--- what room is left where strips and rooms are the same and entries have grown
-pub room_left : (old new : Occupied) (team : ℕ) (rect : Rect) (by more : ℕ) → new.strips ≡ old.strips → new.rooms ≡ old.rooms → GrowAtMost by old.entries new.entries →
-    HasRoomFor old team rect (more + by) → HasRoomFor new team rect more
-room_left old new team rect by more strips rooms grown room n meets =
-    let before = room n (subst (λ (ss : List Strip). MeetsStrip ss team rect n) strips meets) in
-    let grows = grown.each n in
+-- what room is left where strips and rooms are the same and no strip has more boxes than by so many
+pub room_left : (old new : Occupied) (team : ℕ) (rect : Rect) (by more : ℕ) → new.strips ≡ old.strips → new.rooms ≡ old.rooms →
+    ((g : Strip) → count_in g (boxes_of new team) ≤ count_in g (boxes_of old team) + by) → HasRoomFor old team rect (more + by) →
+    HasRoomFor new team rect more
+room_left old new team rect by more strips rooms grown room n g is of_team shares =
+    let before = room n g (ap (λ (ss : List Strip). slice_get ss n) (sym strips) ∙ is) of_team shares in
+    let grows = grown g in
     let same = ap (λ (xs : List ℕ). get_or xs n 0) rooms in
     omega (arith, before, grows, same)
+
+-- a cell that is taken away leaves no strip more boxes
+pub none_more : (old new : Occupied) (id : CellId) (team : ℕ) (g : Strip) → new.boxes ≡ boxes_with old id None →
+    count_in g (boxes_of new team) ≤ count_in g (boxes_of old team) + 0
+none_more old new id team g boxes =
+    let same = ap (λ (bs : List (List (Option Rect))). count_in g (get_or bs team [])) boxes in
+    let h = without_is_no_more g old.boxes id.team id.own team in
+    omega (arith, same, h)
+
+-- and one that is put in again one more at most
+pub one_more : (old mid new : Occupied) (id : CellId) (rect : Rect) (team : ℕ) (g : Strip) → mid.boxes ≡ boxes_with old id None →
+    new.boxes ≡ boxes_with mid id (Some rect) → count_in g (boxes_of new team) ≤ count_in g (boxes_of old team) + 1
+one_more old mid new id rect team g first second =
+    let a = none_more old mid id team g first in
+    let same = ap (λ (bs : List (List (Option Rect))). count_in g (get_or bs team [])) second in
+    let h = with_is_one_more g mid.boxes id.team id.own team (Some rect) in
+    omega (arith, a, same, h)

@@ -1,12 +1,13 @@
 //! What stands in the strips of the built-in design, where a1 stands at (400 0).
 
-ghost use Rattle.std.specs.Prelude.{◌≡◌, ◌<◌, ◌≤ℤ◌, pos, IfOk, IfSome, length};
+ghost use Rattle.std.specs.Prelude.{◌≡◌, ◌+◌, ◌<◌, ◌≤◌, ◌≤ℤ◌, ℕ, pos, IfOk, IfSome, length};
 ghost use Rattle.lf_cells.specs.Cells.{cells_of};
 ghost use Rattle.lf_cells.specs.Openings.{opening_cells};
 ghost use Rattle.lf_cells.specs.declared.cell.CellId.{CellId};
 ghost use Rattle.lf_occupancy.specs.Floorplans.{IsOccupancyOf};
-ghost use Rattle.lf_occupancy.specs.Occupied.{GrowAtMost, HasRoomFor};
+ghost use Rattle.lf_occupancy.specs.Occupied.{HasRoomFor, boxes_of, count_in};
 ghost use Rattle.lf_occupancy.specs.Strips.{HasCell};
+ghost use Rattle.lf_occupancy.specs.declared.strip.Strip.{Strip};
 
 use crate::designs::{design_of, with_line};
 use lf_cells::{CellId, CellTable};
@@ -90,7 +91,7 @@ fn put(occupancy: &mut Occupancy, id: &CellId, rect: &Rect)
     ensures known { (other : CellId) → HasCell occupancy.old.boxes other → HasCell occupancy.new.boxes other }
     ensures strips { occupancy.new.strips ≡ occupancy.old.strips }
     ensures rooms { occupancy.new.rooms ≡ occupancy.old.rooms }
-    ensures entries { GrowAtMost 1 occupancy.old.entries occupancy.new.entries }
+    ensures more { (team : ℕ) → (g : Strip) → count_in g (boxes_of occupancy.new team) ≤ count_in g (boxes_of occupancy.old team) + 1 }
 {
     occupancy.remove(*id);
     occupancy.insert(*id, rect);

@@ -1,6 +1,5 @@
-use Rattle.std.proofs.Common.{sym, length, ap, ◌∙◌, List, ℕ, Option}
+use Rattle.std.proofs.Common.{sym, ◌∙◌}
 use Rattle.std.proofs.lemmas.List.{length-map}
-use Rattle.lf_units.specs.declared.area.Rect.{Rect}
 use Rattle.lf_cells.specs.Cells.{cells_of}
 use Rattle.lf_occupancy.specs.Occupied.{cell_box}
 use Rattle.lf_occupancy.specs.Floorplans.{box_of}

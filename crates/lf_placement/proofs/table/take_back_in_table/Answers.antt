@@ -1,4 +1,4 @@
-use Rattle.std.proofs.Common.{◌≡◌, ◌<◌, ◌+◌, ◌-◌, ℕ, List, length, take, subst, ap, sym, ◌∙◌, arith}
+use Rattle.std.proofs.Common.{◌≡◌, ◌<◌, ◌+◌, ◌-◌, ℕ, length, take, ap, ◌∙◌, arith}
 use Rattle.lf_cells.specs.Cells.{cells_of}
 use Rattle.lf_placement.specs.Steps.{made_back}
 use Rattle.lf_placement.proofs.Moves.{cells_through, one_less}

@@ -1,9 +1,10 @@
 use Rattle.std.proofs.Common.{List, Option, refl, subst, sym, ap, ◌∙◌}
 use Rattle.lf_units.specs.declared.area.Rect.{Rect}
-use Rattle.lf_occupancy.specs.Lanes.{cell_box}
+use Rattle.lf_occupancy.specs.Occupied.{cell_box}
 use Rattle.lf_occupancy.specs.Strips.{HasCell}
 use Rattle.std.specs.Prelude.{None, [], slice_index_or}
-use Rattle.lf_tests_strips.proofs.Moves.{known_still, room_left, stands_nowhere}
+use Rattle.lf_occupancy.proofs.Knowing.{known_still, stands_nowhere}
+use Rattle.lf_tests_strips.proofs.Moves.{none_more, one_more, room_left}
 use Rattle.lf_tests_strips.proofs.strips.put.Goals as goal
 
 pub insert-requires-clause-known : goal.insert-requires-clause-known
@@ -20,5 +21,10 @@ insert-requires-clause-nowhere c =
 
 pub insert-requires-clause-room : goal.insert-requires-clause-room
 insert-requires-clause-room c =
-    room_left c.args.occupancy.now c.remove.new.self c.args.id.now.team c.args.rect.now 0 1 c.remove.ensures.strips c.remove.ensures.rooms c.remove.ensures.entries
-    c.requires.room
+    let id = c.args.id.now in
+    room_left c.args.occupancy.now c.remove.new.self id.team c.args.rect.now 0 1 c.remove.ensures.strips c.remove.ensures.rooms
+    (λ g. none_more c.args.occupancy.now c.remove.new.self id id.team g c.remove.ensures.boxes) c.requires.room
+
+pub returns-clause-more : goal.returns-clause-more
+returns-clause-more c = λ team g.
+    one_more c.args.occupancy.now c.remove.new.self c.insert.new.self c.args.id.now c.args.rect.now team g c.remove.ensures.boxes c.insert.ensures.boxes

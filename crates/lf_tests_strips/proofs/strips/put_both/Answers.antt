@@ -3,11 +3,11 @@ use Rattle.lf_tests_strips.proofs.Moves.{room_left}
 use Rattle.lf_tests_strips.proofs.strips.put_both.Goals as goal
 
 pub put-requires-clause-room : goal.put-requires-clause-room
-put-requires-clause-room c = λ n meets.
-    let room = (c.in_ok-reserve_for.ensures {u = tt}).ok 0 (c.args.first.now, None) (omega arith) n meets in
+put-requires-clause-room c = λ n g is of_team shares.
+    let room = (c.in_ok-reserve_for.ensures {u = tt}).ok 0 (c.args.first.now, None) (omega arith) n g is of_team shares in
     omega (arith, room)
 
 pub put-requires-2-clause-room : goal.put-requires-2-clause-room
 put-requires-2-clause-room c =
     room_left c.reserve_for.new.self c.put.new.occupancy c.args.second.now.team c.args.at_second.now 1 1 c.put.ensures.strips c.put.ensures.rooms
-    c.put.ensures.entries ((c.in_ok-reserve_for.ensures {u = tt}).ok 1 (c.args.first.now, None) (omega arith))
+    (λ g. c.put.ensures.more c.args.second.now.team g) ((c.in_ok-reserve_for.ensures {u = tt}).ok 1 (c.args.first.now, None) (omega arith))

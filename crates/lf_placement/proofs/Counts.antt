@@ -1,0 +1,134 @@
+-- Room that is made for the boxes of moves is room for the cells at the moves' places.
+use Rattle.std.proofs.Common.{◌≡◌, ◌⊎◌, inl, inr, ◌<◌, ◌≤◌, ℕ, zero, suc, ◌+◌, List, [], ◌∷◌, map, length, set, get_or, Bool, true, false, cond, Option, Some, None, refl, ap, sym, subst, ◌∙◌, arith}
+use Rattle.std.specs.Prelude.{All, Contains, IfSome, slice_get, option_map, unwrap_or}
+use Rattle.std.proofs.lemmas.List.{length-map}
+use Rattle.std.proofs.lemmas.List.Sums.{sum_by-cons}
+use Rattle.lf_units.specs.declared.area.Rect.{Rect}
+use Rattle.lf_floorplan.specs.declared.frame.Frame.{Frame}
+use Rattle.lf_floorplan.specs.declared.place.Place.{Place}
+use Rattle.lf_cells.specs.declared.cell.Cell.{Cell}
+use Rattle.lf_cells.specs.declared.cell.CellId.{CellId}
+use Rattle.lf_cells.specs.Cells.{id_of, moved}
+use Rattle.lf_occupancy.specs.declared.strip.Strip.{Strip}
+use Rattle.lf_occupancy.specs.Occupied.{FitIn, HasRoomFor, Occupied, boxes_of, count_in, meets}
+use Rattle.lf_occupancy.specs.Floorplans.{box_of}
+use Rattle.lf_occupancy.proofs.Counting.{meets_shares, set_is_one_more}
+use Rattle.lf_undo.specs.declared.moves.Move.{Move}
+use Rattle.lf_placement.specs.Placings.{made}
+use Rattle.lf_placement.specs.Steps.{asked_for, box_moved}
+
+one_more : (g : Strip) (b : Option Rect) (bs : List (Option Rect)) → count_in g (b ∷ bs) ≡ cond (meets g b) 1 0 + count_in g bs
+one_more g b bs = sum_by-cons (λ c. cond (meets g c) 1 0) b bs
+
+-- a box that does not meet the strip counts no more than the one that it replaces
+set_no_more : (g : Strip) (bs : List (Option Rect)) (own : ℕ) (b : Option Rect) → meets g b ≡ false → count_in g (set bs own b) ≤ count_in g bs
+set_no_more g [] own b apart = omega arith
+set_no_more g (x ∷ bs) zero b apart =
+    let before = one_more g x bs in
+    let after = one_more g b bs in
+    let none = ap {B = ℕ} (λ (t : Bool). cond t 1 0) apart in
+    omega (arith, before, after, none)
+set_no_more g (x ∷ bs) (suc own) b apart =
+    let rest = set_no_more g bs own b apart in
+    let before = one_more g x bs in
+    let after = one_more g x (set bs own b) in
+    omega (arith, rest, before, after)
+
+boxes_moved : (f : Frame) (cells : List Cell) (own : ℕ) (place : Option Place)
+    → map (box_of f) (moved cells own place) ≡ set (map (box_of f) cells) own (box_moved f (slice_get cells own) place)
+boxes_moved f [] own place = refl
+boxes_moved f (c ∷ cs) zero place = refl
+boxes_moved f (c ∷ cs) (suc own) place = ap (λ (r : List (Option Rect)). box_of f c ∷ r) (boxes_moved f cs own place)
+
+-- a cell has the same box at a place, whatever cell moved before
+box_still : (f : Frame) (cells : List Cell) (own k : ℕ) (place to : Option Place)
+    → box_moved f (slice_get (moved cells own place) k) to ≡ box_moved f (slice_get cells k) to
+box_still f [] own k place to = refl
+box_still f (c ∷ cs) zero zero place to = refl
+box_still f (c ∷ cs) zero (suc k) place to = refl
+box_still f (c ∷ cs) (suc own) zero place to = refl
+box_still f (c ∷ cs) (suc own) (suc k) place to = box_still f cs own k place to
+
+-- each move makes it one more at most
+count_made : (g : Strip) (f : Frame) (moves : List Move) (cells : List Cell)
+    → count_in g (map (box_of f) (made moves cells)) ≤ count_in g (map (box_of f) cells) + length moves
+count_made g f [] cells = omega arith
+count_made g f (m ∷ ms) cells =
+    let rest = count_made g f ms (moved cells m.own m.old) in
+    let is = ap (count_in g) (boxes_moved f cells m.own m.old) in
+    let one = set_is_one_more g (map (box_of f) cells) m.own (box_moved f (slice_get cells m.own) m.old) in
+    omega (arith, rest, is, one)
+
+-- one of the moves has a box that meets the strip
+record Meets (g : Strip) (f : Frame) (moves : List Move) (cells : List Cell) : Type 0 where
+  move : Move
+  among : Contains moves move
+  yes : meets g (box_moved f (slice_get cells move.own) move.old) ≡ true
+
+-- else it is no more
+meets_or_not : (g : Strip) (f : Frame) (moves : List Move) (cells : List Cell)
+    → Meets g f moves cells ⊎ (count_in g (map (box_of f) (made moves cells)) ≤ count_in g (map (box_of f) cells))
+meets_or_not g f [] cells = inr (omega arith)
+meets_or_not g f (m ∷ ms) cells = first (meets g (box_moved f (slice_get cells m.own) m.old)) refl (meets_or_not g f ms (moved cells m.own m.old)) where
+  later : meets g (box_moved f (slice_get cells m.own) m.old) ≡ false
+      → Meets g f ms (moved cells m.own m.old) ⊎ (count_in g (map (box_of f) (made ms (moved cells m.own m.old))) ≤ count_in g (map (box_of f) (moved cells m.own m.old)))
+      → Meets g f (m ∷ ms) cells ⊎ (count_in g (map (box_of f) (made ms (moved cells m.own m.old))) ≤ count_in g (map (box_of f) cells))
+  later apart (inl there) = inl record {
+    move = there.move;
+    among = (suc there.among.0, let h = there.among.1 in omega (arith, h), there.among.2);
+    yes = ap (meets g) (sym (box_still f cells m.own there.move.own m.old there.move.old)) ∙ there.yes;
+  }
+  later apart (inr most) =
+      let is = ap (count_in g) (boxes_moved f cells m.own m.old) in
+      let still = set_no_more g (map (box_of f) cells) m.own (box_moved f (slice_get cells m.own) m.old) apart in
+      inr (omega (arith, most, is, still))
+
+  first : (b : Bool) → meets g (box_moved f (slice_get cells m.own) m.old) ≡ b
+      → Meets g f ms (moved cells m.own m.old) ⊎ (count_in g (map (box_of f) (made ms (moved cells m.own m.old))) ≤ count_in g (map (box_of f) (moved cells m.own m.old)))
+      → Meets g f (m ∷ ms) cells ⊎ (count_in g (map (box_of f) (made ms (moved cells m.own m.old))) ≤ count_in g (map (box_of f) cells))
+  first true is rest = inl record { move = m; among = (0, omega arith, refl); yes = is }
+  first false is rest = later is rest
+
+map_at : {X Y : Type 0} (f : X → Y) (xs : List X) (i : ℕ) (d : Y) (e : X) → i < length xs → get_or (map f xs) i d ≡ f (get_or xs i e)
+map_at f [] i d e within = absurd (omega (arith, within))
+map_at f (x ∷ xs) zero d e within = refl
+map_at f (x ∷ xs) (suc i) d e within = map_at f xs i d e (omega (arith, within))
+
+abbrev no_id : CellId
+no_id = record { team = 0; own = 0 }
+
+-- the room that was made for a box that meets the strip
+room_there : (g : Strip) (f : Frame) (team own more n : ℕ) (o : Occupied) (c : Option Cell) (place : Option Place) → slice_get o.strips n ≡ Some g
+    → g.team ≡ team → meets g (box_moved f c place) ≡ true
+    → IfSome (box_moved f c place) (λ r. HasRoomFor o (unwrap_or (option_map (λ (x : Cell). id_of team own) c) no_id).team r more)
+    → (count_in g (boxes_of o team) + more) ≤ get_or o.rooms n 0
+room_there g f team own more n o None place there of_team met room = absurd cc
+room_there g f team own more n o (Some c) None there of_team met room = absurd cc
+room_there g f team own more n o (Some c) (Some p) there of_team met room = room n g there of_team (meets_shares g _ met)
+
+pub room_made : (f : Frame) (team : ℕ) (cells : List Cell) (moves : List Move) (o : Occupied) → boxes_of o team ≡ map (box_of f) cells
+    → FitIn o team (boxes_of o team)
+    → All (λ m. IfSome m.1 (λ r. HasRoomFor o m.0.team r (length (map (asked_for f team cells) moves)))) (map (asked_for f team cells) moves)
+    → FitIn o team (map (box_of f) (made moves cells))
+room_made f team cells moves o held fits room n g there of_team = go (meets_or_not g f moves cells) where
+  same : count_in g (boxes_of o team) ≡ count_in g (map (box_of f) cells)
+  same = ap (count_in g) held
+
+  count : length (map (asked_for f team cells) moves) ≡ length moves
+  count = length-map moves (asked_for f team cells)
+
+  go : Meets g f moves cells ⊎ (count_in g (map (box_of f) (made moves cells)) ≤ count_in g (map (box_of f) cells))
+      → count_in g (map (box_of f) (made moves cells)) ≤ get_or o.rooms n 0
+  go (inr most) = let before = fits n g there of_team in omega (arith, most, same, before)
+  go (inl one) =
+      let m = one.move in
+      let k = one.among.0 in
+      let inside = one.among.1 in
+      let within : k < length (map (asked_for f team cells) moves) = omega (arith, inside, count) in
+      let at : get_or (map (asked_for f team cells) moves) k (asked_for f team cells m) ≡ asked_for f team cells m =
+      map_at (asked_for f team cells) moves k (asked_for f team cells m) m inside ∙ ap (asked_for f team cells) one.among.2 in
+      let asked = subst (λ (a : CellId × Option Rect). IfSome a.1 (λ r. HasRoomFor o a.0.team r (length (map (asked_for f team cells) moves)))) at
+      (room k (asked_for f team cells m) within) in
+      let left = room_there g f team m.own (length (map (asked_for f team cells) moves)) n o (slice_get cells m.own) m.old there of_team one.yes asked in
+      let most = count_made g f moves cells in
+      omega (arith, left, most, same, count)

@@ -1,0 +1,11 @@
+use Rattle.std.proofs.Common.{ℕ, subst}
+use Rattle.lf_cells.specs.Cells.{cells_of}
+use Rattle.lf_placement.specs.Placings.{Fits, Placing, places_of}
+use Rattle.lf_placement.proofs.Keeping.{places_fit}
+use Rattle.lf_placement.proofs.placement.Placement.places_stand.Goals as goal
+
+pub returns : goal.returns
+returns c =
+    subst (λ (p : Placing). (team : ℕ) → Fits p team (places_of (cells_of p.cells team))) c.self.view_is
+    (places_fit record { frame = c.self.inside.frame; cells = c.self.inside.cells; held = c.self.inside.occupancy } c.self.invariant.follows
+    c.boxes_fit.ensures)
