@@ -1,6 +1,6 @@
 -- What fits still does where only places change, and room grows.
 use Rattle.std.proofs.Common.{◌≡◌, ◌≢◌, ℕ, ◌+◌, List, [], ◌∷◌, length, map, take, Option, Some, refl, ap, sym, ◌∙◌, subst, arith}
-use Rattle.std.specs.Prelude.{All}
+use Rattle.std.specs.Prelude.{All, slice_set}
 use Rattle.std.proofs.lemmas.List.Elements.{All-cons, All-take}
 use Rattle.lf_floorplan.specs.declared.place.Place.{Place}
 use Rattle.lf_cells.specs.declared.cell.Cell.{Cell}
@@ -16,7 +16,7 @@ use Rattle.lf_placement.proofs.Keeping.{last}
 use Rattle.lf_placement.proofs.Moves.{cells_stay, cells_through, same_made, same_places}
 use Rattle.lf_teams.specs.States.{TeamState}
 use Rattle.lf_floor.specs.declared.tables.Tables.{Tables}
-use Rattle.lf_floor.specs.Tables.{Counts, EntriesFit, HasRows, HaveGrown, KeepsRooms, OnlyMoves, OthersStay, cells_in, kept, own_team, team_with}
+use Rattle.lf_floor.specs.Tables.{Counts, EntriesFit, HasRows, HaveGrown, KeepsRooms, OnlyMoves, OthersStay, cells_in, kept, own_team, revision_of, team_with}
 
 -- ---- rooms
 
@@ -171,6 +171,9 @@ pub grown_team : (k : ℕ) (old new : Tables) → HaveGrown old new → own_team
 grown_team k old new grown =
     grown_with k (cells_in k new) old new grown ∙ ap (λ (cs : Cells). team_with k (cells_of cs k) old) grown.placement.cells
 
+pub grown_revision : (k : ℕ) (old new : Tables) → HaveGrown old new → revision_of new k ≡ revision_of old k
+grown_revision k old new grown = rw grown.revisions refl
+
 pub grown_kept : (k session : ℕ) (before now : List Cell) (old new : Tables) → HaveGrown old new
     → kept k session before now new ≡ kept k session before now old
 grown_kept k session before now old new grown =
@@ -179,7 +182,7 @@ grown_kept k session before now old new grown =
       cells = now;
       revision = s.revision + 1;
       entries = take old.undo.limit (places_of before ∷ s.entries);
-      slots = Rattle.std.specs.Prelude.slice_set s.slots session (Some (s.revision + 1));
+      slots = slice_set s.slots session (Some (s.revision + 1));
     }) (grown_with k before old new grown)
 
 pub grown_rows : (k : ℕ) (old new : Tables) → HaveGrown old new → HasRows k old → HasRows k new

@@ -96,11 +96,14 @@ alone_verdict t cells own place rule one sized is = go (slice_get cells own) ref
       the_verdict t cells own place (Some record { rule = rule; other = None }) (Some c) one sized there
       (verdict (boxes_beside t.frame (map member_of cells) own))
 
+abbrev first_broken : Rule → Option Broken
+first_broken rule = Some record { rule = rule; other = None }
+
 pub alone_first : (p : Placing) (id : CellId) (place : Place) (rule : Rule) (alone : Option Rule) → alone ≡ Some rule → IsBrokenAlone p id place alone
-    → IsBrokenAt p id place (Some record { rule = rule; other = None })
+    → IsBrokenAt p id place (first_broken rule)
 alone_first p id place rule alone is broken = go (cell_at p.cells id) (subst (λ (a : Option Rule). IsBrokenAlone p id place a) is broken) where
   go : (o : Option Cell)
       → MatchOption o (Some rule ≡ None) (λ c. (others : List Placed) → IsFrameVerdict (trial_of p.frame id.team (macro_of p.frame c.mac) place others) (Some rule))
-      → MatchOption o (Some (record { rule = rule; other = None }) ≡ None) (λ c. IsVerdict (trial_at p id place c) (Some record { rule = rule; other = None }))
+      → MatchOption o (first_broken rule ≡ None) (λ c. IsVerdict (trial_at p id place c) (first_broken rule))
   go None e = absurd cc
   go (Some c) verdict = verdict (boxes_beside p.frame (map member_of (cells_of p.cells id.team)) id.own)

@@ -4,7 +4,7 @@ use Rattle.std.specs.Prelude.{◌↔◌, slice_get, slice_set, slice_index_or, r
 use Rattle.std.specs.List.{range_with_len}
 use Rattle.std.proofs.lemmas.List.{length-set, length-replicate, get_or-replicate, get_or-set_same, get_or-set_other}
 use Rattle.std.proofs.lemmas.List.FromFn.{length-map-range_with_len, get_or-map-range_with_len, fill_by_all}
-use Rattle.std.proofs.lemmas.List.Elements.{All-nil}
+use Rattle.std.proofs.lemmas.List.Elements.{All-nil, All-set}
 use Rattle.std.proofs.lemmas.Bool.{cases_eq}
 use Rattle.std.proofs.lemmas.Option.{slice_get_read}
 use Rattle.lf_floorplan.specs.declared.frame.Frame.{Frame}
@@ -95,6 +95,31 @@ all_fit number old new others fit own other = ⊎_elim
     (λ (same : other ≡ number). rw same own)
     (λ (differ : other ≢ number). entries_stay other old new others.ground (others.teams other differ) (fit other))
     (cases_eq other number)
+
+-- the floor, where one team alone has changed
+pub floor_changed : (old new : Tables) (k : ℕ) → OthersStay k old new
+    → floor_in new ≡ floor_of (frame_of old) old.placement.cells.components (slice_set (teams_in old) k (own_team k new))
+floor_changed old new k others =
+    ap (λ (f : Frame). floor_of f new.placement.cells.components (teams_in new)) others.ground.frame
+    ∙ ap (λ (cs : List (List ℕ)). floor_of (frame_of old) cs (teams_in new)) others.components
+    ∙ ap (floor_of (frame_of old) old.placement.cells.components) (one_changed old new k others)
+
+pub tables_still : (old new : Tables) (k : ℕ) → OthersStay k old new → AreTables old → IsTeamOf (frame_of old) (own_team k new) → EntriesFit k new
+    → AreTables new
+tables_still old new k others are own fit =
+    let many : length (frame_of old).teams + 1 ≡ length (frame_of new).teams + 1 = ap (λ (f : Frame). length f.teams + 1) (sym others.ground.frame) in
+    record {
+      components = ap (λ (cs : List (List ℕ)). length cs) others.components ∙ are.components ∙ many;
+      undo = others.undo ∙ are.undo ∙ many;
+      sessions = others.sessions ∙ are.sessions ∙ many;
+      revisions = others.revisions ∙ are.revisions ∙ many;
+      limit = others.limit ∙ are.limit ∙ ap (λ (f : Frame). f.limits.undo) (sym others.ground.frame);
+      teams =
+          subst (λ (f : Frame). All (λ t. IsTeamOf f t) (teams_in new)) (sym others.ground.frame)
+          (subst (λ (ts : List TeamState). All (λ t. IsTeamOf (frame_of old) t) ts) (sym (one_changed old new k others))
+          (All-set (λ (t : TeamState). IsTeamOf (frame_of old) t) (teams_in old) k (own_team k new) own are.teams));
+      fit = all_fit k old new others are.fit fit;
+    }
 
 -- ---- the teams of a design as it is loaded
 

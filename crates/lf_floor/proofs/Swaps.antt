@@ -1,5 +1,5 @@
 -- What the swap of two cells comes to.
-use Rattle.std.proofs.Common.{◌≡◌, ◌≢◌, ◌⊎◌, inl, inr, ℕ, zero, suc, List, [], ◌∷◌, map, Option, Some, None, refl, ap, sym, ◌∙◌}
+use Rattle.std.proofs.Common.{◌≡◌, ◌≢◌, ◌⊎◌, inl, inr, ℕ, zero, suc, List, [], ◌∷◌, map, Option, Some, None, true, refl, ap, sym, ◌∙◌}
 use Rattle.std.specs.Prelude.{All}
 use Rattle.std.proofs.lemmas.Bool.{cases_eq}
 use Rattle.lf_floorplan.specs.declared.place.Place.{Place}
@@ -16,7 +16,7 @@ use Rattle.lf_placement.proofs.Changing.{macs_same, sized_in}
 use Rattle.lf_placement.proofs.Moves.{same_moved}
 use Rattle.lf_teams.specs.States.{TeamState}
 use Rattle.lf_teams.specs.Teams.{Setting, broken_at}
-use Rattle.lf_teams.specs.Outcomes.{recorded, refused}
+use Rattle.lf_teams.specs.Outcomes.{may_be_short, recorded, refused}
 use Rattle.lf_teams.specs.Changes.{broken_where, exchanged, swapped, swapped_from, swapped_own, swapped_unless}
 use Rattle.lf_floor.specs.declared.swap.Exchange.{Exchange}
 use Rattle.lf_floor.specs.Swapping.{IsExchange, exchange_moves, first_of, illegal_by, swap_refusal, swapped_here}
@@ -116,6 +116,15 @@ swap_accepted t session first second s is =
     go (Some broken) b e = absurd cc
     go None (Some broken) e = absurd cc
     go None None e = refl
+
+pub swap_short : (t : Setting) (session first second : ℕ) (s : TeamState) → may_be_short (swapped_here t session first second s).reply ≡ true
+swap_short t session first second s =
+    go (broken_where t (exchanged s.cells first second) first) (broken_where t (exchanged s.cells first second) second)
+  where
+    go : (a b : Option Broken) → may_be_short (swapped_unless a b t session first second (exchanged s.cells first second) s).reply ≡ true
+    go (Some broken) b = refl
+    go None (Some broken) = refl
+    go None None = refl
 
 -- the swap of two cells of the team that are placed
 pub swapped_is : (t : Setting) (session : ℕ) (first second : List ℕ) (a b : ℕ) (from to : Place) (s : TeamState) → Some a ≡ cell_named first s.cells

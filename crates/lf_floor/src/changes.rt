@@ -37,7 +37,7 @@ impl Tables {
         ensures others { OthersStay around.now.number self.old self.new }
         ensures fit { EntriesFit around.now.number self.new }
     {
-        let Some(id) = self.placement.cells().find_own(around.number, name) else {
+        let Some(id) = self.cell_named(around.number, name) else {
             return Ok(Reply::Refused(Refusal::NoCell));
         };
         if let Some(broken) = broken_at(around, &self.placement, id, place)? {
@@ -73,7 +73,7 @@ impl Tables {
         ensures others { OthersStay around.now.number self.old self.new }
         ensures fit { EntriesFit around.now.number self.new }
     {
-        let Some(id) = self.placement.cells().find_own(around.number, name) else {
+        let Some(id) = self.cell_named(around.number, name) else {
             return Ok(Reply::Refused(Refusal::NoCell));
         };
         let Some(place) = best_place(around, &self.placement, id, target)? else {
@@ -102,10 +102,10 @@ impl Tables {
         ensures others { OthersStay around.now.number self.old self.new }
         ensures fit { EntriesFit around.now.number self.new }
     {
-        let Some(id) = self.placement.cells().find_own(around.number, name) else {
+        let Some(id) = self.cell_named(around.number, name) else {
             return Ok(Reply::Refused(Refusal::NoCell));
         };
-        if self.placement.cells().working(id).is_none() {
+        if self.working(id).is_none() {
             return Ok(Reply::Refused(Refusal::Unplaced { cell: id.own }));
         }
         let revision = self.change_place(around.alloc, session, id, None)?;

@@ -168,8 +168,9 @@ impl<S: Seeker + Drop> Floor<S> {
         ensures printed { IfSome result (λ name. IsName name.now) }
     {
         let number = team_named(self.tables.placement.frame(), team)?;
-        let id = self.tables.placement.cells().id_at(number, own)?;
-        Some(self.tables.placement.cells().cell(id)?.name)
+        let cells = self.tables.placement.cells();
+        let id = cells.id_at(number, own)?;
+        Some(cells.cell(id)?.name)
     }
 
     /// All movable components, by the positions of their entries among all COMPONENTS of the DEF text,

@@ -24,10 +24,10 @@ impl Tables {
     pub(crate) fn locate(&self, number: usize, name: &[u8]) -> Reply
         ensures { Reaches (located name.now (own_team number self.now)) result (own_team number self.now) }
     {
-        let Some(id) = self.placement.cells().find_own(number, name) else {
+        let Some(id) = self.cell_named(number, name) else {
             return Reply::Refused(Refusal::NoCell);
         };
-        match self.placement.cells().working(id) {
+        match self.working(id) {
             Some(place) => Reply::At(place),
             None => Reply::Refused(Refusal::Unplaced { cell: id.own }),
         }
@@ -80,7 +80,7 @@ impl Tables {
             (found (setting_in l around.now self.now) name.now target.now (team_in around.now self.now))
             (team_in around.now self.now) (team_in around.now self.now)) }
     {
-        let Some(id) = self.placement.cells().find_own(around.number, name) else {
+        let Some(id) = self.cell_named(around.number, name) else {
             return Ok(Reply::Refused(Refusal::NoCell));
         };
         match best_place(around, &self.placement, id, target)? {

@@ -170,6 +170,8 @@ impl Tables {
     {
         let Exchange { first, second, from, to } = *exchange;
         let (alloc, index) = (around.alloc, around.index);
+        verdict_is_one();
+        self.placement.cells_are_sized();
         let alone = self.placement.broken_alone(alloc, index, first, &to)?;
         if let Some(rule) = alone {
             return Ok(Reply::Refused(Refusal::Illegal {
@@ -206,17 +208,16 @@ impl Tables {
         ensures others { OthersStay around.now.number self.old self.new }
         ensures fit { EntriesFit around.now.number self.new }
     {
-        let cells = self.placement.cells();
-        let Some(first) = cells.find_own(around.number, first) else {
+        let Some(first) = self.cell_named(around.number, first) else {
             return Ok(Reply::Refused(Refusal::NoCell));
         };
-        let Some(second) = cells.find_own(around.number, second) else {
+        let Some(second) = self.cell_named(around.number, second) else {
             return Ok(Reply::Refused(Refusal::NoCell));
         };
-        let Some(from) = cells.working(first) else {
+        let Some(from) = self.working(first) else {
             return Ok(Reply::Refused(Refusal::Unplaced { cell: first.own }));
         };
-        let Some(to) = cells.working(second) else {
+        let Some(to) = self.working(second) else {
             return Ok(Reply::Refused(Refusal::Unplaced { cell: second.own }));
         };
         let exchange = Exchange {

@@ -1,10 +1,12 @@
 //! The state of all teams, in one table of each kind.
 
-ghost use Rattle.std.specs.Prelude.{◌≡◌, ◌+◌, IfOk};
+ghost use Rattle.std.specs.Prelude.{◌≡◌, ◌+◌, IfOk, IfSome, option_map};
+ghost use Rattle.lf_cells.specs.Cells.{cell_named, working_at};
 ghost use Rattle.lf_segments.specs.Segments.{IsCut};
-ghost use Rattle.lf_floor.specs.Tables.{AreOpening, Counts, HasRows, IsCurrent, revision_of};
+ghost use Rattle.lf_floor.specs.Tables.{AreOpening, Counts, HasRows, IsCurrent, cells_in, revision_of};
 
-use lf_floorplan::Loaded;
+use lf_cells::CellId;
+use lf_floorplan::{Loaded, Place};
 use lf_placement::Placement;
 use lf_segments::Segments;
 use lf_sessions::SessionTable;
@@ -44,6 +46,21 @@ impl Tables {
             sessions,
             revisions,
         })
+    }
+
+    /// The team's cell of that name; none for another team's cell, as for one that no team has.
+    pub(crate) fn cell_named(&self, number: usize, name: &[u8]) -> Option<CellId>
+        ensures own { option_map (λ id. id.own) result ≡ cell_named name.now (cells_in number self.now) }
+        ensures team { IfSome result (λ id. id.team ≡ number) }
+    {
+        self.placement.cells().find_own(number, name)
+    }
+
+    /// The working place of a cell; none where it is unplaced, or there is no such cell.
+    pub(crate) fn working(&self, id: CellId) -> Option<Place>
+        ensures { result ≡ working_at (cells_in id.team self.now) id.own }
+    {
+        self.placement.cells().working(id)
     }
 
     /// How many changes the team has made.

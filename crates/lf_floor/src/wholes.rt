@@ -57,7 +57,8 @@ fn note_back(
     moves.push(Move {
         own: id.own,
         old: committed,
-    })
+    })?;
+    Ok(())
 }
 
 /// The moves of the team's cells to their committed places, of each cell that is elsewhere.

@@ -3,6 +3,3 @@ use Rattle.lf_floor.proofs.swap.broken_beside.Goals as goal
 
 pub returns-in-Some : goal.returns-in-Some
 returns-in-Some c = alone_first c.args.placement.now c.args.id c.args.place.now c.in-Some.rule c.args.alone c.in-Some.is c.requires
-
-pub first_other-requires-clause-stub : goal.first_other-requires-clause-stub
-first_other-requires-clause-stub c = ?

@@ -35,4 +35,4 @@ returns-in-None g c = λ l.
 pub returns-then-is_marked : goal.returns-then-is_marked
 returns-then-is_marked g c = λ l.
     legal_stays (setting_at l c.args.around.now c.args.placement.now) (cells_of c.args.placement.now.cells c.args.around.now.number) c.args.id.own
-    c.verdict_is_one.ensures (c.cells_are_sized.ensures c.args.around.now.number) (c.requires.marked c.args.id.own (c.if-is_marked.ensures refl))
+    c.verdict_is_one.ensures (c.cells_are_sized.ensures.sized c.args.around.now.number) (c.requires.marked c.args.id.own (c.if-is_marked.ensures refl))

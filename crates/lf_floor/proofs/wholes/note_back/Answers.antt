@@ -1,6 +1,6 @@
-use Rattle.std.proofs.Common.{◌≡◌, ℕ, sym, ap, ◌∙◌, None, subst}
+use Rattle.std.proofs.Common.{sym, ap, ◌∙◌}
 use Rattle.lf_cells.specs.declared.cell.CellId.{CellId}
-use Rattle.lf_cells.specs.Cells.{cells_of, committed_at, id_in, working_at}
+use Rattle.lf_cells.specs.Cells.{cells_of, committed_at, working_at}
 use Rattle.lf_placement.proofs.Moves.{id_there}
 use Rattle.lf_floor.proofs.Moves.{of_id}
 use Rattle.lf_floor.proofs.Reverting.{none_noted, one_noted, stays_noted}
@@ -21,4 +21,10 @@ returns-then-are_alike c =
     ∙ c.committed-committed.ensures ∙ of_id committed_at table c.args.number c.args.own c.in-Some.id id)
 
 pub returns : goal.returns
-returns c = ?
+returns c =
+    let table = c.args.cells.now in
+    let cells = cells_of table c.args.number in
+    let id = id_there cells c.args.number c.args.own c.in-Some.id (sym c.id_at.ensures ∙ c.in-Some.is) in
+    one_noted cells c.args.own c.args.moves.now c.push.new.self record { own = c.in-Some.id.own; old = c.committed-committed.result }
+    (ap (λ (i : CellId). i.own) id) (c.committed-committed.ensures ∙ of_id committed_at table c.args.number c.args.own c.in-Some.id id)
+    (c.in_ok-push.ensures {u = tt}).ok

@@ -4,12 +4,6 @@ use Rattle.lf_floor.proofs.Fitting.{kept_fit, only_made}
 use Rattle.lf_floor.proofs.Moves.{none_yet}
 use Rattle.lf_floor.proofs.tables.Tables.change_places.Goals as goal
 
-pub places_stand-requires : goal.places_stand-requires
-places_stand-requires c = ?
-
-pub make-requires-clause-stub : goal.make-requires-clause-stub
-make-requires-clause-stub c = ?
-
 pub returns-clause-fit : goal.returns-clause-fit
 returns-clause-fit c = λ fit.
     let k = c.args.number in

@@ -25,9 +25,6 @@ returns-in-Some-2-clause-ok g c = λ l.
     (sym c.in-Some-2.is ∙ c.in_ok-illegal.ensures {u = tt} l))
     record { reply_is = refl; team_is = refl }
 
-pub commit_team-requires : goal.commit_team-requires
-commit_team-requires g c = ?
-
 pub returns-clause-ok : goal.returns-clause-ok
 returns-clause-ok g c = λ l.
     committed_reaches (setting_in l c.args.around.now c.args.self.now) c.args.around.now.number c.args.session c.count_change.result c.args.self.now

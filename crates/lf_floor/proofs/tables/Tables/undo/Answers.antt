@@ -3,11 +3,8 @@ use Rattle.lf_floor.specs.Tables.{cells_in}
 use Rattle.lf_floor.proofs.Undoing.{cells_before, led_from, newest_fits, none_reaches, undone_fit, undone_moves, undone_reaches}
 use Rattle.lf_floor.proofs.tables.Tables.undo.Goals as goal
 
-pub take_back-requires-clause-stub : goal.take_back-requires-clause-stub
-take_back-requires-clause-stub c = ?
-
-pub take_back-requires-clause-fits : goal.take_back-requires-clause-fits
-take_back-requires-clause-fits c =
+pub take_back-requires : goal.take_back-requires
+take_back-requires c =
     newest_fits c.args.number c.args.session c.in-Some.moves c.args.self.now (c.in-Some.ensures {u = tt}).front c.requires.fit
 
 pub returns-in-Some-clause-team : goal.returns-in-Some-clause-team
