@@ -1,22 +1,21 @@
 -- What fits still does where only places change, and room grows.
-use Rattle.std.proofs.Common.{◌≡◌, ◌≢◌, ℕ, ◌+◌, List, [], ◌∷◌, length, map, take, Option, Some, refl, ap, sym, ◌∙◌, subst, arith}
+use Rattle.std.proofs.Common.{◌≡◌, ℕ, ◌+◌, List, ◌∷◌, length, map, take, Some, refl, ap, sym, ◌∙◌, subst, arith}
 use Rattle.std.specs.Prelude.{All, slice_set}
 use Rattle.std.proofs.lemmas.List.Elements.{All-cons, All-take}
-use Rattle.lf_floorplan.specs.declared.place.Place.{Place}
 use Rattle.lf_cells.specs.declared.cell.Cell.{Cell}
-use Rattle.lf_cells.specs.Cells.{Cells, as_committed, cells_of, moved}
+use Rattle.lf_cells.specs.Cells.{Cells, cells_of}
 use Rattle.lf_occupancy.specs.Occupied.{NoLess}
 use Rattle.lf_undo.specs.declared.moves.Move.{Move}
-use Rattle.lf_undo.specs.Stacks.{Stacks, stack_of}
-use Rattle.lf_undo.specs.Entries.{Places, entries_of, taken_back}
+use Rattle.lf_undo.specs.Stacks.{Stacks}
+use Rattle.lf_undo.specs.Entries.{Places, taken_back}
 use Rattle.lf_placement.specs.Laws.{SameMacros}
 use Rattle.lf_placement.specs.Placings.{Fits, HaveMoved, KeepsRest, OtherCellsStay, Placing, SameButPlaces, SameButRooms, made, places_of, taken_up}
-use Rattle.lf_placement.proofs.Changing.{macs_committed, macs_same}
+use Rattle.lf_placement.proofs.Changing.{macs_same}
 use Rattle.lf_placement.proofs.Keeping.{last}
-use Rattle.lf_placement.proofs.Moves.{cells_stay, cells_through, same_made, same_places}
+use Rattle.lf_placement.proofs.Moves.{cells_stay, cells_through, same_made}
 use Rattle.lf_teams.specs.States.{TeamState}
 use Rattle.lf_floor.specs.declared.tables.Tables.{Tables}
-use Rattle.lf_floor.specs.Tables.{Counts, EntriesFit, HasRows, HaveGrown, KeepsRooms, OnlyMoves, OthersStay, cells_in, kept, own_team, revision_of, team_with}
+use Rattle.lf_floor.specs.Tables.{EntriesFit, HasRows, HaveGrown, KeepsRooms, OnlyMoves, OthersStay, cells_in, kept, own_team, revision_of, team_with}
 
 -- ---- rooms
 

@@ -64,7 +64,12 @@ pub(crate) fn report_text<S>(
 {
     legalizer_is_there();
     let listed = listed_cells(around.alloc, around.number, tables.placement.cells())?;
-    let verdicts = verdicts_on(around.alloc, tables.placement.frame(), around.index, &listed)?;
+    let verdicts = verdicts_on(
+        around.alloc,
+        tables.placement.frame(),
+        around.index,
+        &listed,
+    )?;
     let report = report_by_verdicts(around.alloc, &listed, &verdicts)?;
     report_json(around.alloc, &report)
 }
@@ -84,7 +89,12 @@ fn team_verdicts<S>(
         AreVerdicts l (frame_of tables.now) (map (listed_of around.now.number) (cells_in around.now.number tables.now)) verdicts.items) }
 {
     let listed = listed_cells(around.alloc, around.number, tables.placement.cells())?;
-    verdicts_on(around.alloc, tables.placement.frame(), around.index, &listed)
+    verdicts_on(
+        around.alloc,
+        tables.placement.frame(),
+        around.index,
+        &listed,
+    )
 }
 
 /// The team's first cell in loading order that breaks a rule where it stands; none where no cell

@@ -59,7 +59,12 @@ impl Tables {
             (written (setting_in l around.now self.now) (team_in around.now self.now))
             (team_in around.now self.now) (team_in around.now self.now)) }
     {
-        let text = team_def(around.alloc, self.placement.frame(), self.placement.cells(), around.number)?;
+        let text = team_def(
+            around.alloc,
+            self.placement.frame(),
+            self.placement.cells(),
+            around.number,
+        )?;
         Ok(Reply::Def(Text::from_bytes(text)))
     }
 

@@ -99,11 +99,7 @@ fn refusal_at(
 /// Why two cells that were exchanged are refused, the first before the second, where the first keeps all
 /// rules but overlap, and `alone` is the first of these that the second breaks; none where neither breaks
 /// a rule.
-fn refusal_of(
-    placement: &Placement,
-    exchange: &Exchange,
-    alone: Option<Rule>,
-) -> Option<Refusal>
+fn refusal_of(placement: &Placement, exchange: &Exchange, alone: Option<Rule>) -> Option<Refusal>
     requires { IsExchanged placement.now exchange.now alone }
     ensures { (l : Legalizer) → result ≡ swap_refusal (setting l placement.now.frame exchange.now.first.team)
         (cells_of placement.now.cells exchange.now.first.team) exchange.now.first.own exchange.now.second.own }
@@ -168,7 +164,12 @@ impl Tables {
         ensures others { OthersStay around.now.number self.old self.new }
         ensures fit { EntriesFit around.now.number self.new }
     {
-        let Exchange { first, second, from, to } = *exchange;
+        let Exchange {
+            first,
+            second,
+            from,
+            to,
+        } = *exchange;
         let (alloc, index) = (around.alloc, around.index);
         verdict_is_one();
         self.placement.cells_are_sized();

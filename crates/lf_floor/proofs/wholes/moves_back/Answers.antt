@@ -1,4 +1,4 @@
-use Rattle.std.proofs.Common.{List, ap, ◌∙◌, refl, arith}
+use Rattle.std.proofs.Common.{List, ap, ◌∙◌, arith}
 use Rattle.lf_cells.specs.Cells.{cells_of}
 use Rattle.lf_undo.specs.declared.moves.Move.{Move}
 use Rattle.lf_placement.specs.Placings.{made}

@@ -1,12 +1,10 @@
 use Rattle.std.proofs.Common.{◌≡◌, ◌+◌, ℕ, List, Option, ap, map, refl, sym, subst, ◌∙◌}
-use Rattle.std.specs.Prelude.{slice_index_or}
 use Rattle.lf_floorplan.specs.declared.place.Place.{Place}
-use Rattle.lf_cells.specs.declared.cell.Cell.{Cell}
 use Rattle.lf_cells.specs.Cells.{Cells, cells_of}
 use Rattle.lf_proto.proofs.Fronts.{on_err_from}
 use Rattle.lf_placement.specs.Placings.{Fits, Placing, made, places_of}
 use Rattle.lf_teams.specs.Changes.{back_to_committed}
-use Rattle.lf_floor.specs.Tables.{cells_in, kept, revision_of, setting_in, team_in}
+use Rattle.lf_floor.specs.Tables.{cells_in, kept, setting_in, team_in}
 use Rattle.lf_floor.proofs.Ends.{reverted_reaches, reverted_short}
 use Rattle.lf_floor.proofs.Fitting.{grown_kept, grown_revision, grown_team}
 use Rattle.lf_floor.proofs.Reverting.{places_reverted}

@@ -18,7 +18,7 @@ returns-in-Some-clause-ok g c = λ l.
     let t = setting_in l c.args.around.now c.args.self.now in
     let cells = cells_in number c.args.self.now in
     let alone = alone_in p x.first x.to (Some c.in-Some.rule)
-        (subst (λ (a : Option Rule). IsBrokenAlone p x.first x.to a) c.in-Some.is (c.in_ok-alone.ensures {u = tt})) in
+    (subst (λ (a : Option Rule). IsBrokenAlone p x.first x.to a) c.in-Some.is (c.in_ok-alone.ensures {u = tt})) in
     rw (swap_refused t c.args.session x.first.own x.second.own (team_in c.args.around.now c.args.self.now) (Illegal c.in-Some.rule x.first.own None)
     (first_refused cells x.first.own x.second.own x.from x.to are.from are.to t c.in-Some.rule c.verdict_is_one.ensures (c.cells_are_sized.ensures.sized number)
     (subst (λ (n : ℕ). IsAloneIn p.frame n (cells_of p.cells n) x.first.own x.to (Some c.in-Some.rule)) are.first alone)))

@@ -1,7 +1,7 @@
-use Rattle.std.proofs.Common.{◌≡◌, ◌+◌, ℕ, List, ap, refl, sym, subst, ◌∙◌}
+use Rattle.std.proofs.Common.{◌+◌, ℕ, ap, refl, subst, ◌∙◌}
 use Rattle.lf_cells.specs.Cells.{cells_of}
 use Rattle.lf_proto.proofs.Fronts.{on_err_from}
-use Rattle.lf_placement.specs.Placings.{HaveMoved, Placing, SameButPlaces}
+use Rattle.lf_placement.specs.Placings.{Placing, SameButPlaces}
 use Rattle.lf_floor.specs.Tables.{cells_in, kept, own_team, setting_at, setting_in, team_in}
 use Rattle.lf_floor.specs.Tidying.{Tidies}
 use Rattle.lf_floor.proofs.Ends.{back_to, stuck_reaches, tidied_reaches, tidy_short}

@@ -1,4 +1,3 @@
-use Rattle.lf_cells.specs.Cells.{cells_of}
 use Rattle.lf_floor.specs.Tables.{cells_in}
 use Rattle.lf_floor.proofs.Undoing.{cells_before, led_from, newest_fits, none_reaches, undone_fit, undone_moves, undone_reaches}
 use Rattle.lf_floor.proofs.tables.Tables.undo.Goals as goal
