@@ -6,7 +6,7 @@ use Rattle.lf_reports.specs.declared.illegal.BrokenCell.{BrokenCell}
 use Rattle.lf_proto.specs.declared.reply.Reply.TheVariants.{Revision}
 use Rattle.lf_proto.specs.declared.reply.Refusal.TheVariants.{Illegal, Unplaced}
 use Rattle.lf_cells.specs.declared.cell.Cell.{Cell}
-use Rattle.lf_cells.specs.Cells.{Cells, as_committed, cells_of}
+use Rattle.lf_cells.specs.Cells.{as_committed, cells_of}
 use Rattle.lf_sessions.specs.Slots.{slots_of}
 use Rattle.lf_undo.specs.Entries.{entries_of}
 use Rattle.lf_undo.specs.Stacks.{stack_of}
@@ -15,7 +15,10 @@ use Rattle.lf_teams.specs.Teams.{Setting}
 use Rattle.lf_teams.specs.Outcomes.{Outcome, Reaches, RunsOut, changed, may_be_short, places_of, refused}
 use Rattle.lf_teams.specs.Changes.{broken_cells, committed, committed_unless, first_unplaced}
 use Rattle.lf_floor.specs.declared.tables.Tables.{Tables}
-use Rattle.lf_floor.specs.Tables.{Counts, HasRows, own_team, revision_of}
+use Rattle.lf_placement.specs.Placings.{KeepsRest, Placing}
+use Rattle.lf_placement.proofs.Changing.{macs_committed}
+use Rattle.lf_floor.specs.Tables.{Counts, EntriesFit, HasRows, cells_in, own_team, revision_of}
+use Rattle.lf_floor.proofs.Fitting.{entries_as, same_rooms}
 use Rattle.lf_floor.proofs.Ends.{counted_own, team_of}
 
 same_some : {X : Type 0} {x y : X} → Some x ≡ Some y → x ≡ y
@@ -56,13 +59,14 @@ places_stay : (cells : List Cell) → places_of (map as_committed cells) ≡ pla
 places_stay [] = refl
 places_stay (c ∷ cs) = ap (λ (r : List (Option Place)). c.working ∷ r) (places_stay cs)
 
-pub committed_reaches : (t : Setting) (k session revision : ℕ) (old new : Tables) (cells : Cells) → HasRows k old
-    → None ≡ first_unplaced (cells_of old.cells k) → None ≡ slice_get (broken_cells t (cells_of old.cells k)) 0
-    → cells_of cells k ≡ map as_committed (cells_of old.cells k) → Counts k session (record old { cells = cells }) new → revision ≡ revision_of old k + 1
+pub committed_reaches : (t : Setting) (k session revision : ℕ) (old new : Tables) (placing : Placing) → HasRows k old
+    → None ≡ first_unplaced (cells_in k old) → None ≡ slice_get (broken_cells t (cells_in k old)) 0
+    → cells_of placing.cells k ≡ map as_committed (cells_in k old) → Counts k session (record old { placement = placing }) new
+    → revision ≡ revision_of old k + 1
     → Reaches (committed t session (own_team k old)) (Revision revision) (own_team k new)
-committed_reaches t k session revision old new cells rows none first are counts told =
+committed_reaches t k session revision old new placing rows none first are counts told =
     let s = own_team k old in
-    let mid : Tables = record old { cells = cells } in
+    let mid : Tables = record old { placement = placing } in
     let now = map as_committed s.cells in
     let slots = slice_set (slots_of old.sessions k) session (Some (revision_of old k + 1)) in
     let outcome = none_broken t session s none first in
@@ -74,3 +78,15 @@ committed_reaches t k session revision old new cells rows none first are counts 
           ∙ ap (λ (ps : List (Option Place)). team_of now (revision_of old k + 1) (entries_of ps (stack_of old.undo k)) slots) (places_stay s.cells)
           ∙ ap (λ (o : Outcome). o.team) (sym outcome);
     }
+
+-- the entries are the same, and fit still
+pub committed_fit : (k session : ℕ) (old new : Tables) (placing : Placing) → HasRows k old → cells_of placing.cells k ≡ map as_committed (cells_in k old)
+    → KeepsRest old.placement placing → Counts k session (record old { placement = placing }) new → EntriesFit k old → EntriesFit k new
+committed_fit k session old new placing rows are rest counts fit =
+    let mid : Tables = record old { placement = placing } in
+    let entries : (own_team k new).entries ≡ (own_team k old).entries =
+    ap (λ (s : TeamState). s.entries) (counted_own k session mid new (record { undo = rows.undo; sessions = rows.sessions; revisions = rows.revisions }) counts)
+    ∙ ap (λ (cs : List Cell). entries_of (places_of cs) (stack_of old.undo k)) are
+    ∙ ap (λ (ps : List (Option Place)). entries_of ps (stack_of old.undo k)) (places_stay (cells_in k old)) in
+    entries_as k old new (rw counts.placement (same_rooms old.placement placing rest))
+    (rw (counts.placement, are) (macs_committed (cells_in k old))) entries fit

@@ -4,7 +4,7 @@ use Rattle.std.specs.Prelude.{slice_set, slice_index_or}
 use Rattle.std.proofs.lemmas.List.{length-set, get_or-set_same}
 use Rattle.lf_floorplan.specs.declared.place.Place.{Place}
 use Rattle.lf_cells.specs.declared.cell.Cell.{Cell}
-use Rattle.lf_cells.specs.Cells.{Cells, cells_of}
+use Rattle.lf_cells.specs.Cells.{cells_of}
 use Rattle.lf_sessions.specs.Slots.{slots_of}
 use Rattle.lf_undo.specs.declared.moves.Move.{Move}
 use Rattle.lf_undo.specs.Stacks.{Stacks, stack_of}
@@ -17,7 +17,8 @@ use Rattle.lf_teams.specs.Outcomes.{Reaches, RunsOut, changed, places_of, record
 use Rattle.lf_teams.specs.Teams.{Setting}
 use Rattle.lf_teams.specs.States.{TeamState}
 use Rattle.lf_floor.specs.declared.tables.Tables.{Tables}
-use Rattle.lf_floor.specs.Tables.{Counts, HasRows, HaveMoved, SameButPlaces, kept, own_team, revision_of, team_with}
+use Rattle.lf_placement.specs.Placings.{HaveMoved, Placing, SameButPlaces}
+use Rattle.lf_floor.specs.Tables.{Counts, HasRows, cells_in, kept, own_team, revision_of, team_with}
 use Rattle.lf_floor.specs.declared.tidy.Tidy.{Tidy}
 use Rattle.lf_floor.specs.declared.tidy.Tidy.TheVariants.{Done, Stopped}
 use Rattle.lf_floor.specs.Tidying.{Tidies}
@@ -51,10 +52,10 @@ counted_team k session cells old new rows counts =
 
 pub counted_own : (k session : ℕ) (old new : Tables) → HasRows k old → Counts k session old new
     → own_team k new
-    ≡ team_of (cells_of old.cells k) (revision_of old k + 1) (entries_of (places_of (cells_of old.cells k)) (stack_of old.undo k))
+    ≡ team_of (cells_in k old) (revision_of old k + 1) (entries_of (places_of (cells_in k old)) (stack_of old.undo k))
     (slice_set (slots_of old.sessions k) session (Some (revision_of old k + 1)))
 counted_own k session old new rows counts =
-    ap (λ (cs : Cells). team_with k (cells_of cs k) new) counts.cells ∙ counted_team k session (cells_of old.cells k) old new rows counts
+    ap (λ (p : Placing). team_with k (cells_of p.cells k) new) counts.placement ∙ counted_team k session (cells_in k old) old new rows counts
 
 -- ---- a stack changes
 
@@ -68,10 +69,10 @@ rows_by_undo k old undo same rows = record { undo = rw same rows.undo; sessions 
 -- the team whose moves are kept
 pub kept_team : (k session : ℕ) (before : List Cell) (moves : List Move) (old : Tables) (undo : Stacks (List Move)) (new : Tables) → HasRows k old
     → undo.lists ≡ slice_set old.undo.lists k (take old.undo.limit (moves ∷ stack_of old.undo k)) → Counts k session (record old { undo = undo }) new
-    → HaveMoved before moves (cells_of old.cells k) → own_team k new ≡ kept k session before (cells_of old.cells k) old
+    → HaveMoved before moves (cells_in k old) → own_team k new ≡ kept k session before (cells_in k old) old
 kept_team k session before moves old undo new rows lists counts have =
     let mid : Tables = record old { undo = undo } in
-    let now = cells_of old.cells k in
+    let now = cells_in k old in
     let stack = take old.undo.limit (moves ∷ stack_of old.undo k) in
     let same : length undo.lists ≡ length old.undo.lists = ap (λ (xs : List (List (List Move))). length xs) lists ∙ length-set old.undo.lists k stack in
     let slots = slice_set (slots_of old.sessions k) session (Some (revision_of old k + 1)) in
@@ -83,34 +84,29 @@ kept_team k session before moves old undo new rows lists counts have =
 
 -- ---- a change of a whole team
 
--- no move yet
-pub from_none : (before : List Cell) (moves : List Move) → moves ≡ [] → HaveMoved before moves before
-from_none before moves none = rw none record { places = refl; same = refl }
-
 -- the team that is kept is what the rules record
-pub recorded_team : (t : Setting) (k session : ℕ) (old new : Tables) (cells : Cells) → old.undo.limit ≡ t.frame.limits.undo
-    → own_team k new ≡ kept k session (cells_of old.cells k) (cells_of cells k) (record old { cells = cells })
-    → own_team k new ≡ (recorded t session (cells_of cells k) (own_team k old)).team
-recorded_team t k session old new cells limit is =
+pub recorded_team : (t : Setting) (k session : ℕ) (old new : Tables) (now : List Cell) → old.undo.limit ≡ t.frame.limits.undo
+    → own_team k new ≡ kept k session (cells_in k old) now old → own_team k new ≡ (recorded t session now (own_team k old)).team
+recorded_team t k session old new now limit is =
     let s = own_team k old in
-    is ∙ ap (λ (n : ℕ). (changed session (cells_of cells k) (take n (places_of s.cells ∷ s.entries)) s).team) limit
+    is ∙ ap (λ (n : ℕ). (changed session now (take n (places_of s.cells ∷ s.entries)) s).team) limit
 
 -- the team whose cells are back
-pub back_to : (k : ℕ) (old : Tables) (cells : Cells) → cells_of cells k ≡ cells_of old.cells k → own_team k (record old { cells = cells }) ≡ own_team k old
-back_to k old cells back = ap (λ (cs : List Cell). team_with k cs old) back
+pub back_to : (k : ℕ) (old : Tables) (placing : Placing) → cells_of placing.cells k ≡ cells_in k old
+    → own_team k (record old { placement = placing }) ≡ own_team k old
+back_to k old placing back = ap (λ (cs : List Cell). team_with k cs old) back
 
 -- ---- revert
 
-pub reverted_reaches : (t : Setting) (k session revision : ℕ) (old new : Tables) (cells : Cells) → old.undo.limit ≡ t.frame.limits.undo
-    → cells_of cells k ≡ map back_to_committed (cells_of old.cells k)
-    → own_team k new ≡ kept k session (cells_of old.cells k) (cells_of cells k) (record old { cells = cells }) → revision ≡ revision_of old k + 1
+pub reverted_reaches : (t : Setting) (k session revision : ℕ) (old new : Tables) (now : List Cell) → old.undo.limit ≡ t.frame.limits.undo
+    → now ≡ map back_to_committed (cells_in k old) → own_team k new ≡ kept k session (cells_in k old) now old → revision ≡ revision_of old k + 1
     → Reaches (reverted t session (own_team k old)) (Revision revision) (own_team k new)
 unfolding reverted
-reverted_reaches t k session revision old new cells limit back is told =
+reverted_reaches t k session revision old new now limit back is told =
     let s = own_team k old in
     record {
       reply_is = ap Revision told;
-      team_is = recorded_team t k session old new cells limit is ∙ ap (λ (cs : List Cell). (recorded t session cs s).team) back;
+      team_is = recorded_team t k session old new now limit is ∙ ap (λ (cs : List Cell). (recorded t session cs s).team) back;
     }
 
 pub reverted_short : (t : Setting) (session : ℕ) (s new : TeamState) → new ≡ s → RunsOut (reverted t session s) s new
@@ -119,15 +115,15 @@ reverted_short t session s new kept = record { kept = kept; may = refl }
 
 -- ---- tidy
 
-pub tidied_reaches : (t : Setting) (k session revision count : ℕ) (old new : Tables) (cells : Cells) (tidy : Tidy) → old.undo.limit ≡ t.frame.limits.undo
-    → Tidies t (cells_of old.cells k) (cells_of cells k) tidy → tidy ≡ Done count → SameButPlaces (cells_of old.cells k) (cells_of cells k)
-    → own_team k new ≡ kept k session (cells_of old.cells k) (cells_of cells k) (record old { cells = cells }) → revision ≡ revision_of old k + 1
+pub tidied_reaches : (t : Setting) (k session revision count : ℕ) (old new : Tables) (now : List Cell) (tidy : Tidy)
+    → old.undo.limit ≡ t.frame.limits.undo → Tidies t (cells_in k old) now tidy → tidy ≡ Done count → SameButPlaces (cells_in k old) now
+    → own_team k new ≡ kept k session (cells_in k old) now old → revision ≡ revision_of old k + 1
     → Reaches (tidied_team t session (own_team k old)) (TidyDone revision count) (own_team k new)
-tidied_reaches t k session revision count old new cells tidy limit tidies is same left told =
+tidied_reaches t k session revision count old new now tidy limit tidies is same left told =
     let s = own_team k old in
-    let outcome : tidied_team t session s ≡ telling (TidyDone (s.revision + 1) count) (recorded t session (cells_of cells k) s) =
-    tidied_done t session s (cells_of cells k) count (subst (λ (x : Tidy). Tidies t (cells_of old.cells k) (cells_of cells k) x) is tidies) same in
-    rw outcome record { reply_is = ap (λ (n : ℕ). TidyDone n count) told; team_is = recorded_team t k session old new cells limit left }
+    let outcome : tidied_team t session s ≡ telling (TidyDone (s.revision + 1) count) (recorded t session now s) =
+    tidied_done t session s now count (subst (λ (x : Tidy). Tidies t (cells_in k old) now x) is tidies) same in
+    rw outcome record { reply_is = ap (λ (n : ℕ). TidyDone n count) told; team_is = recorded_team t k session old new now limit left }
 
 pub stuck_reaches : (t : Setting) (session own : ℕ) (s new : TeamState) (mid : List Cell) (tidy : Tidy) → Tidies t s.cells mid tidy → tidy ≡ Stopped own
     → new ≡ s

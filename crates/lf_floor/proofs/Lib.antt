@@ -1,10 +1,10 @@
 pub mod Listing
 pub mod FirstIllegal
 pub mod Seeking
-pub mod Rows
 pub mod Moves
-pub mod Following
-pub mod Overlapping
+pub mod Fitting
+pub mod Rows
+pub mod Judging
 pub mod Swaps
 pub mod Undoing
 pub mod Unplaced

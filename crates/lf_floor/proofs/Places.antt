@@ -4,7 +4,6 @@ use Rattle.std.specs.Prelude.{Contains, option_and_then, option_map, slice_get}
 use Rattle.std.proofs.lemmas.List.{get_or_past, length-map}
 use Rattle.std.proofs.lemmas.List.Elements.{All-map, Contains-get_or}
 use Rattle.std.proofs.lemmas.Option.{get_or_from_slice_get, slice_get_within}
-use Rattle.lf_floorplan.specs.declared.frame.Frame.{Frame}
 use Rattle.lf_floorplan.specs.declared.place.Place.{Place}
 use Rattle.lf_cells.specs.declared.cell.Cell.{Cell}
 use Rattle.lf_cells.specs.declared.cell.CellId.{CellId}
@@ -15,7 +14,7 @@ use Rattle.lf_teams.specs.Places.{AreCommittedPlaces, IsCommittedAt, cell_in, en
 use Rattle.lf_teams.proofs.Openings.{map_at, pairs_map}
 use Rattle.lf_floor.specs.declared.tables.Tables.{Tables}
 use Rattle.lf_floor.specs.Entries.{committed_entry}
-use Rattle.lf_floor.specs.Tables.{AreTablesOf, floor_in, teams_in}
+use Rattle.lf_floor.specs.Tables.{AreTables, floor_in, teams_in}
 use Rattle.lf_floor.proofs.Rows.{count_teams, team_there}
 
 -- an element of a list, mapped, is an element of the mapped list
@@ -39,41 +38,41 @@ row_within rows number own position e = by (within_or_past number (length rows))
       let none : slice_get [] own ≡ Some position = ap (λ (row : List ℕ). slice_get row own) (sym (get_or_past rows number [] past)) ∙ e in
       absurd (cc)
 
-module _ (f : Frame) (tables : Tables) (of_frame : AreTablesOf f tables) where
-  cell_there : (number own : ℕ) → number < length tables.revisions.items → cell_in (floor_in f tables) number own ≡ cell_at tables.cells (id_of number own)
+module _ (tables : Tables) (are : AreTables tables) where
+  cell_there : (number own : ℕ) → number < length tables.revisions.items → cell_in (floor_in tables) number own ≡ cell_at tables.placement.cells (id_of number own)
   cell_there number own within = ap (λ (o : Option TeamState). option_and_then (λ (s : TeamState). slice_get s.cells own) o) (team_there tables number within)
 
-  cell_within : (number own : ℕ) (c : Cell) → cell_in (floor_in f tables) number own ≡ Some c → number < length tables.revisions.items
+  cell_within : (number own : ℕ) (c : Cell) → cell_in (floor_in tables) number own ≡ Some c → number < length tables.revisions.items
   cell_within number own c there =
       let found = some_team own c (slice_get (teams_in tables) number) there in
       rw (← count_teams tables) (slice_get_within (teams_in tables) number found.0 found.1)
 
-  entry_within : (number own position : ℕ) → entry_in (floor_in f tables) number own ≡ Some position → number < length tables.revisions.items
+  entry_within : (number own position : ℕ) → entry_in (floor_in tables) number own ≡ Some position → number < length tables.revisions.items
   entry_within number own position there =
-      omega (arith, row_within tables.cells.components number own position there, of_frame.components, of_frame.revisions)
+      omega (arith, row_within tables.placement.cells.components number own position there, are.components, are.revisions)
 
-  module _ (ids : List CellId) (all : AreAll tables.cells ids) where
+  module _ (ids : List CellId) (all : AreAll tables.placement.cells ids) where
     -- the entry of a cell that is there
-    entry_is : (id : CellId) (position : ℕ) (c : Cell) → component_at tables.cells id ≡ Some position → cell_at tables.cells id ≡ Some c
-        → committed_entry tables.cells id ≡ (position, c.committed)
+    entry_is : (id : CellId) (position : ℕ) (c : Cell) → component_at tables.placement.cells id ≡ Some position → cell_at tables.placement.cells id ≡ Some c
+        → committed_entry tables.placement.cells id ≡ (position, c.committed)
     entry_is id position c entry cell =
-        ap (λ (k : ℕ). (k, committed_at (cells_of tables.cells id.team) id.own))
-        (get_or_from_slice_get (components_of tables.cells id.team) id.own position 0 entry)
+        ap (λ (k : ℕ). (k, committed_at (cells_of tables.placement.cells id.team) id.own))
+        (get_or_from_slice_get (components_of tables.placement.cells id.team) id.own position 0 entry)
         ∙ ap (λ (o : Option Cell). (position, option_and_then (λ (d : Cell). d.committed) o)) cell
 
-    one_cell : (id : CellId) → Contains ids id → (c : Cell) × (cell_at tables.cells id ≡ Some c)
-    one_cell id there = one_some (cell_at tables.cells id) ((all.cells id).0 there)
+    one_cell : (id : CellId) → Contains ids id → (c : Cell) × (cell_at tables.placement.cells id ≡ Some c)
+    one_cell id there = one_some (cell_at tables.placement.cells id) ((all.cells id).0 there)
 
-    one_entry : (id : CellId) → Contains ids id → (position : ℕ) × (component_at tables.cells id ≡ Some position)
-    one_entry id there = one_some (component_at tables.cells id) ((all.entries id).0 there)
+    one_entry : (id : CellId) → Contains ids id → (position : ℕ) × (component_at tables.placement.cells id ≡ Some position)
+    one_entry id there = one_some (component_at tables.placement.cells id) ((all.entries id).0 there)
 
-    listed : (id : CellId) (position : ℕ) (c : Cell) → Contains ids id → component_at tables.cells id ≡ Some position → cell_at tables.cells id ≡ Some c
-        → Contains (map (committed_entry tables.cells) ids) (position, c.committed)
+    listed : (id : CellId) (position : ℕ) (c : Cell) → Contains ids id → component_at tables.placement.cells id ≡ Some position → cell_at tables.placement.cells id ≡ Some c
+        → Contains (map (committed_entry tables.placement.cells) ids) (position, c.committed)
     listed id position c there entry cell =
-        subst (λ (e : ℕ × Option Place). Contains (map (committed_entry tables.cells) ids) e) (entry_is id position c entry cell)
-        (contains_mapped (committed_entry tables.cells) ids id there)
+        subst (λ (e : ℕ × Option Place). Contains (map (committed_entry tables.placement.cells) ids) e) (entry_is id position c entry cell)
+        (contains_mapped (committed_entry tables.placement.cells) ids id there)
 
-    theirs : (id : CellId) → Contains ids id → (number : ℕ) × (own : ℕ) × IsCommittedAt (floor_in f tables) number own (committed_entry tables.cells id)
+    theirs : (id : CellId) → Contains ids id → (number : ℕ) × (own : ℕ) × IsCommittedAt (floor_in tables) number own (committed_entry tables.placement.cells id)
     theirs id there =
         let entry = one_entry id there in
         let cell = one_cell id there in
@@ -90,21 +89,21 @@ module _ (f : Frame) (tables : Tables) (of_frame : AreTablesOf f tables) where
         )
 
     -- those of all cells of the tables are those of the floor
-    pub all_places : AreCommittedPlaces (floor_in f tables) (map (committed_entry tables.cells) ids)
+    pub all_places : AreCommittedPlaces (floor_in tables) (map (committed_entry tables.placement.cells) ids)
     all_places = record {
-      rise = pairs_map (committed_entry tables.cells) (λ (a : ℕ × Option Place) (b : ℕ × Option Place). a.0 < b.0) ids all.rise;
+      rise = pairs_map (committed_entry tables.placement.cells) (λ (a : ℕ × Option Place) (b : ℕ × Option Place). a.0 < b.0) ids all.rise;
       theirs =
-          All-map (λ (e : ℕ × Option Place). (number : ℕ) × (own : ℕ) × IsCommittedAt (floor_in f tables) number own e) (committed_entry tables.cells) ids
+          All-map (λ (e : ℕ × Option Place). (number : ℕ) × (own : ℕ) × IsCommittedAt (floor_in tables) number own e) (committed_entry tables.placement.cells) ids
           (λ k d within. theirs (get_or ids k d) (Contains-get_or ids k d within));
       cells = λ number own c there.
           let cell = sym (cell_there number own (cell_within number own c there)) ∙ there in
           let id = id_of number own in
-          let held = (all.cells id).1 (some_is (cell_at tables.cells id) c cell) in
+          let held = (all.cells id).1 (some_is (cell_at tables.placement.cells id) c cell) in
           let entry = one_entry id held in
           (entry.0, entry.1, listed id entry.0 c held entry.1 cell);
       entries = λ number own position there.
           let id = id_of number own in
-          let held = (all.entries id).1 (some_is (component_at tables.cells id) position there) in
+          let held = (all.entries id).1 (some_is (component_at tables.placement.cells id) position there) in
           let cell = one_cell id held in
           (cell.0, cell_there number own (entry_within number own position there) ∙ cell.1, listed id position cell.0 held there cell.1);
     }

@@ -1,18 +1,19 @@
--- The teams of a floor, whose parts are in tables of all teams.
-use Rattle.std.proofs.Common.{◌≡◌, ◌≢◌, ◌<◌, ℕ, ◌+◌, List, [], length, map, set, get_or, Option, Some, None, ⊎_elim, refl, ap, sym, ◌∙◌, zero-add, subst}
+-- The teams of a floor, whose parts stand in tables of all teams.
+use Rattle.std.proofs.Common.{◌≡◌, ◌≢◌, ◌<◌, ℕ, zero, suc, ◌+◌, List, [], length, map, set, get_or, Option, Some, None, ⊎_elim, refl, ap, sym, ◌∙◌, zero-add, subst}
 use Rattle.std.specs.Prelude.{◌↔◌, slice_get, slice_set, slice_index_or, replicate, option_and_then, All}
 use Rattle.std.specs.List.{range_with_len}
 use Rattle.std.proofs.lemmas.List.{length-set, length-replicate, get_or-replicate, get_or-set_same, get_or-set_other}
 use Rattle.std.proofs.lemmas.List.FromFn.{length-map-range_with_len, get_or-map-range_with_len, fill_by_all}
+use Rattle.std.proofs.lemmas.List.Elements.{All-nil, All-set}
 use Rattle.std.proofs.lemmas.Bool.{cases_eq}
 use Rattle.std.proofs.lemmas.Option.{slice_get_read}
 use Rattle.lf_floorplan.specs.declared.frame.Frame.{Frame}
 use Rattle.lf_floorplan.specs.declared.loaded.Loaded.{Loaded}
+use Rattle.lf_placement.specs.Placings.{Fits}
 use Rattle.lf_cells.specs.declared.cell.Cell.{Cell}
-use Rattle.lf_cells.specs.Cells.{Cells, cells_of}
 use Rattle.lf_cells.specs.Openings.{own_cells, own_components}
 use Rattle.lf_undo.specs.Stacks.{stack_of}
-use Rattle.lf_undo.specs.Entries.{entries_of}
+use Rattle.lf_undo.specs.Entries.{Places, entries_of}
 use Rattle.lf_undo.specs.declared.moves.Move.{Move}
 use Rattle.lf_sessions.specs.Slots.{slots_of}
 use Rattle.lf_teams.specs.Outcomes.{places_of}
@@ -25,7 +26,8 @@ use Rattle.lf_teams.specs.Designs.{opening, opening_team, opening_teams}
 use Rattle.lf_teams.proofs.Loading.{loaded_committed, loaded_places}
 use Rattle.lf_teams.proofs.Openings.{opened_at, opening_whole}
 use Rattle.lf_floor.specs.declared.tables.Tables.{Tables}
-use Rattle.lf_floor.specs.Tables.{AreOpening, AreTablesOf, IsFollowed, IsServed, OtherCellsStay, OthersStay, floor_in, own_team, revision_of, team_with, teams_in}
+use Rattle.lf_floor.specs.Tables.{AreOpening, AreTables, EntriesFit, IsServed, OthersStay, cells_in, floor_in, frame_of, own_team, revision_of, team_with, teams_in}
+use Rattle.lf_floor.proofs.Fitting.{entries_stay}
 
 -- ---- one team among all
 
@@ -66,10 +68,10 @@ one_changed old new k others =
         (cases_eq i k)
 
 -- what is seen of a team of that number is what is seen of its cells
-pub cells_seen : {Y : Type 0} (F : List Cell → Option Y) (f : Frame) (tables : Tables) (view : FloorState) (team : List ℕ) (number : ℕ)
-    → floor_in f tables ≡ view → Some number ≡ team_number f team → number < length tables.revisions.items
-    → option_and_then (λ (s : TeamState). F s.cells) (state_of view team) ≡ F (cells_of tables.cells number)
-cells_seen {Y} F f tables view team number is named within =
+pub cells_seen : {Y : Type 0} (F : List Cell → Option Y) (tables : Tables) (view : FloorState) (team : List ℕ) (number : ℕ)
+    → floor_in tables ≡ view → Some number ≡ team_number (frame_of tables) team → number < length tables.revisions.items
+    → option_and_then (λ (s : TeamState). F s.cells) (state_of view team) ≡ F (cells_in number tables)
+cells_seen {Y} F tables view team number is named within =
     ap (λ (v : FloorState). seen v) (sym is)
     ∙ ap (λ (o : Option ℕ). option_and_then (λ (s : TeamState). F s.cells) (state_at (teams_in tables) o)) (sym named)
     ∙ ap (λ (o : Option TeamState). option_and_then (λ (s : TeamState). F s.cells) o) (team_there tables number within)
@@ -78,29 +80,53 @@ cells_seen {Y} F f tables view team number is named within =
     seen v = option_and_then (λ (s : TeamState). F s.cells) (state_of v team)
 
 -- the team of that number is served
-pub served : (f : Frame) (tables : Tables) (number : ℕ) → AreTablesOf f tables → All (λ t. IsTeamOf f t) (teams_in tables) → number < length f.teams + 1
-    → IsFollowed f tables → IsServed f number tables
-served f tables number of_frame teams within follows = record {
-  rows = record { undo = rw of_frame.undo within; sessions = rw of_frame.sessions within; revisions = rw of_frame.revisions within };
-  limit = of_frame.limit;
-  team = each_team (λ t. IsTeamOf f t) tables number teams (rw of_frame.revisions within);
-  follows = follows;
+pub served : (tables : Tables) (number : ℕ) → AreTables tables → number < length (frame_of tables).teams + 1 → IsServed number tables
+served tables number are within = record {
+  rows = record { undo = rw are.undo within; sessions = rw are.sessions within; revisions = rw are.revisions within };
+  limit = are.limit;
+  team = each_team (λ t. IsTeamOf (frame_of tables) t) tables number are.teams (rw are.revisions within);
+  fit = are.fit number;
 }
 
--- ---- what stays
+-- where the team's entries fit, and the others have not changed, all fit
+pub all_fit : (number : ℕ) (old new : Tables) → OthersStay number old new → ((other : ℕ) → EntriesFit other old) → EntriesFit number new
+    → (other : ℕ) → EntriesFit other new
+all_fit number old new others fit own other = ⊎_elim
+    (λ (same : other ≡ number). rw same own)
+    (λ (differ : other ≢ number). entries_stay other old new others.ground (others.teams other differ) (fit other))
+    (cases_eq other number)
 
-pub others_stay : (number : ℕ) (tables : Tables) → OthersStay number tables tables
-others_stay number tables =
-    record { teams = λ other differ. refl; components = refl; undo = refl; sessions = refl; revisions = refl; limit = refl }
+-- the floor, where one team alone has changed
+pub floor_changed : (old new : Tables) (k : ℕ) → OthersStay k old new
+    → floor_in new ≡ floor_of (frame_of old) old.placement.cells.components (slice_set (teams_in old) k (own_team k new))
+floor_changed old new k others =
+    ap (λ (f : Frame). floor_of f new.placement.cells.components (teams_in new)) others.ground.frame
+    ∙ ap (λ (cs : List (List ℕ)). floor_of (frame_of old) cs (teams_in new)) others.components
+    ∙ ap (floor_of (frame_of old) old.placement.cells.components) (one_changed old new k others)
 
-pub cells_stay : (number : ℕ) (cells : Cells) → OtherCellsStay number cells cells
-cells_stay number cells = record { cells = λ other differ. refl; components = refl }
-
-pub cells_through : (number : ℕ) (a b c : Cells) → OtherCellsStay number a b → OtherCellsStay number b c → OtherCellsStay number a c
-cells_through number a b c ab bc =
-    record { cells = λ other differ. bc.cells other differ ∙ ab.cells other differ; components = bc.components ∙ ab.components }
+pub tables_still : (old new : Tables) (k : ℕ) → OthersStay k old new → AreTables old → IsTeamOf (frame_of old) (own_team k new) → EntriesFit k new
+    → AreTables new
+tables_still old new k others are own fit =
+    let many : length (frame_of old).teams + 1 ≡ length (frame_of new).teams + 1 = ap (λ (f : Frame). length f.teams + 1) (sym others.ground.frame) in
+    record {
+      components = ap (λ (cs : List (List ℕ)). length cs) others.components ∙ are.components ∙ many;
+      undo = others.undo ∙ are.undo ∙ many;
+      sessions = others.sessions ∙ are.sessions ∙ many;
+      revisions = others.revisions ∙ are.revisions ∙ many;
+      limit = others.limit ∙ are.limit ∙ ap (λ (f : Frame). f.limits.undo) (sym others.ground.frame);
+      teams =
+          subst (λ (f : Frame). All (λ t. IsTeamOf f t) (teams_in new)) (sym others.ground.frame)
+          (subst (λ (ts : List TeamState). All (λ t. IsTeamOf (frame_of old) t) ts) (sym (one_changed old new k others))
+          (All-set (λ (t : TeamState). IsTeamOf (frame_of old) t) (teams_in old) k (own_team k new) own are.teams));
+      fit = all_fit k old new others are.fit fit;
+    }
 
 -- ---- the teams of a design as it is loaded
+
+replicate_each : (n k : ℕ) → get_or (replicate {A = List (List Move)} n []) k [] ≡ []
+replicate_each zero k = refl
+replicate_each (suc n) zero = refl
+replicate_each (suc n) (suc k) = replicate_each n k
 
 module _ (design : Loaded) (tables : Tables) (opens : AreOpening design tables) where
   abbrev pub count : ℕ
@@ -111,7 +137,7 @@ module _ (design : Loaded) (tables : Tables) (opens : AreOpening design tables) 
 
   opened_team : (k : ℕ) → k < count → own_team k tables ≡ opening_team design k
   opened_team k within =
-      let cells : cells_of tables.cells k ≡ own_cells k design.cells =
+      let cells : cells_in k tables ≡ own_cells k design.cells =
       ap (λ (cs : List (List Cell)). slice_index_or cs k []) opens.cells
       ∙ get_or-map-range_with_len (λ (number : ℕ). own_cells number design.cells) 0 count k k [] within (zero-add k) in
       let revision : revision_of tables k ≡ 0 = ap (λ (xs : List ℕ). slice_index_or xs k 0) opens.revisions ∙ get_or-replicate count k 0 0 within in
@@ -132,24 +158,39 @@ module _ (design : Loaded) (tables : Tables) (opens : AreOpening design tables) 
       (sym (fill_by_all (λ (number : ℕ). own_team number tables) (opening_teams design 0 count) count d (opening_whole design).0
       (λ k within. opened_at design 0 count k d within ∙ ap (λ (n : ℕ). opening_team design n) (zero-add k) ∙ sym (opened_team k within))))
 
-  pub opened_tables : AreTablesOf design.frame tables
+  -- there is no entry yet
+  no_entries : (k : ℕ) → EntriesFit k tables
+  no_entries k =
+      subst (λ (stack : List (List Move)). All (λ (places : Places). Fits tables.placement k places) (entries_of (places_of (cells_in k tables)) stack))
+      (sym (ap (λ (xs : List (List (List Move))). slice_index_or xs k []) opens.undo ∙ replicate_each count k)) (All-nil (λ (places : Places). Fits tables.placement k places))
+
+  teams_are : count ≡ length (frame_of tables).teams + 1
+  teams_are = ap (λ (f : Frame). length f.teams + 1) (sym opens.frame)
+
+  pub opened_tables : AreTables tables
   opened_tables = record {
     components =
         ap (λ (cs : List (List ℕ)). length cs) opens.components
-        ∙ length-map-range_with_len (λ (number : ℕ). own_components number design.cells) 0 count;
-    undo = ap (λ (xs : List (List (List Move))). length xs) opens.undo ∙ length-replicate count [];
-    sessions = ap (λ (xs : List (List (Option ℕ))). length xs) opens.sessions ∙ length-replicate count (replicate design.frame.limits.sessions None);
-    revisions = revisions_are;
-    limit = opens.limit;
+        ∙ length-map-range_with_len (λ (number : ℕ). own_components number design.cells) 0 count
+        ∙ teams_are;
+    undo = ap (λ (xs : List (List (List Move))). length xs) opens.undo ∙ length-replicate count [] ∙ teams_are;
+    sessions =
+        ap (λ (xs : List (List (Option ℕ))). length xs) opens.sessions ∙ length-replicate count (replicate design.frame.limits.sessions None) ∙ teams_are;
+    revisions = revisions_are ∙ teams_are;
+    limit = opens.limit ∙ ap (λ (f : Frame). f.limits.undo) (sym opens.frame);
+    teams =
+        rw opens.frame (subst (λ (ts : List TeamState). All (λ t. IsTeamOf design.frame t) ts) (sym opened_teams) (opening_whole design).1);
+    fit = no_entries;
   }
 
-  pub opened_floor : floor_in design.frame tables ≡ opening design
+  pub opened_floor : floor_in tables ≡ opening design
   opened_floor =
-      ap (floor_of design.frame tables.cells.components) opened_teams
+      ap (λ (f : Frame). floor_of f tables.placement.cells.components (teams_in tables)) opens.frame
+      ∙ ap (floor_of design.frame tables.placement.cells.components) opened_teams
       ∙ ap (λ (cs : List (List ℕ)). floor_of design.frame cs (opening_teams design 0 count)) opens.components
 
-  pub opened_as_loaded : StandAsLoaded design (floor_in design.frame tables)
+  pub opened_as_loaded : StandAsLoaded design (floor_in tables)
   opened_as_loaded = subst (λ (f : FloorState). StandAsLoaded design f) (sym opened_floor) (loaded_places design)
 
-  pub opened_legal : IsCommittedLegal (floor_in design.frame tables) ↔ IsFullyLegal design.frame (loaded_design design)
+  pub opened_legal : IsCommittedLegal (floor_in tables) ↔ IsFullyLegal design.frame (loaded_design design)
   opened_legal = subst (λ (f : FloorState). IsCommittedLegal f ↔ IsFullyLegal design.frame (loaded_design design)) (sym opened_floor) (loaded_committed design)

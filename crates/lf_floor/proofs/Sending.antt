@@ -20,7 +20,7 @@ use Rattle.lf_legalize.specs.Members.{member_of, best_of}
 use Rattle.lf_floor.specs.declared.tidy.Tidy.TheVariants.{Done, Stopped}
 use Rattle.lf_teams.specs.States.{TeamState}
 use Rattle.lf_teams.specs.Outcomes.{places_of, refused, recorded, telling, may_be_short}
-use Rattle.lf_floor.specs.Tables.{SameButPlaces}
+use Rattle.lf_placement.specs.Placings.{SameButPlaces}
 use Rattle.lf_teams.specs.Teams.{Setting, broken_at, broken_by}
 use Rattle.lf_teams.specs.Looks.{lifted_cell, place_of_spot}
 use Rattle.lf_teams.specs.Changes.{restored, places_in, tidied_by, tidied_team}

@@ -1,20 +1,18 @@
--- The teams of a floor, whose cells, undo entries, session slots and revisions are in one table of each kind for all teams.
-use Rattle.std.specs.Prelude.{◌≡◌, ◌≢◌, ℕ, ◌+◌, ◌<◌, All, IfSome, List, [], length, map, replicate, take, ◌∷◌, Option, None, Some, slice_index_or, slice_set}
+-- The teams of a floor, of which cells, undo entries, session slots and revisions stand in one table of each kind for all teams.
+use Rattle.std.specs.Prelude.{◌≡◌, ◌≢◌, ℕ, ◌+◌, ◌<◌, All, List, [], length, map, replicate, take, ◌∷◌, None, Some, slice_index_or, slice_set}
 use Rattle.std.specs.List.{range_with_len}
 use Rattle.lf_floorplan.specs.declared.frame.Frame.{Frame}
 use Rattle.lf_floorplan.specs.declared.loaded.Loaded.{Loaded}
 use Rattle.lf_rules.specs.Legalizer.{Legalizer}
 use Rattle.lf_cells.specs.declared.cell.Cell.{Cell}
-use Rattle.lf_cells.specs.Cells.{Cells, cells_of}
+use Rattle.lf_cells.specs.Cells.{cells_of}
 use Rattle.lf_cells.specs.Openings.{opening_cells, opening_components}
-use Rattle.lf_legalize.specs.Members.{IsSizedCell}
 use Rattle.lf_reports.specs.Nearby.{IsIndexOf}
-use Rattle.lf_occupancy.specs.Occupied.{Occupied}
-use Rattle.lf_occupancy.specs.Floorplans.{IsOccupancyOf}
+use Rattle.lf_occupancy.specs.Occupied.{NoLess}
+use Rattle.lf_placement.specs.Placings.{Fits, OtherCellsStay, Placing, SameButPlaces, SameButRooms}
 use Rattle.lf_sessions.specs.Slots.{seen_at, slots_of, with_slot}
 use Rattle.lf_undo.specs.Stacks.{stack_of}
-use Rattle.lf_undo.specs.Entries.{entries_of, taken_back}
-use Rattle.lf_undo.specs.declared.moves.Move.{Move}
+use Rattle.lf_undo.specs.Entries.{entries_of}
 use Rattle.lf_teams.specs.States.{FloorState, TeamState}
 use Rattle.lf_teams.specs.Steps.{floor_of}
 use Rattle.lf_teams.specs.Teams.{IsTeamOf, Setting, setting}
@@ -23,6 +21,14 @@ use Rattle.lf_floor.specs.declared.surroundings.Surroundings.{Surroundings}
 use Rattle.lf_floor.specs.declared.tables.Tables.{Tables}
 
 -- ---- one team among all
+
+-- the frame of all teams
+abbrev pub frame_of : Tables → Frame
+frame_of tables = tables.placement.frame
+
+-- the cells of the team of that number
+abbrev pub cells_in : ℕ → Tables → List Cell
+cells_in number tables = cells_of tables.placement.cells number
 
 -- how many changes the team of that number has made
 abbrev pub revision_of : Tables → ℕ → ℕ
@@ -40,47 +46,33 @@ team_with number cells tables =
 
 -- the team of that number, with its cells in the table
 abbrev pub own_team : ℕ → Tables → TeamState
-own_team number tables = team_with number (cells_of tables.cells number) tables
+own_team number tables = team_with number (cells_in number tables) tables
 
 -- the team in its surroundings
 abbrev pub team_in : {S : Type 0} → Surroundings S → Tables → TeamState
 team_in around tables = own_team around.number tables
 
--- the setting that a team's surroundings are, with a legalizer
-abbrev pub setting_in : {S : Type 0} → Legalizer → Surroundings S → Setting
-setting_in l around = setting l around.frame.now around.number
+-- the setting that a team's surroundings are, with a legalizer and the frame of the cells
+abbrev pub setting_at : {S : Type 0} → Legalizer → Surroundings S → Placing → Setting
+setting_at l around placing = setting l placing.frame around.number
+
+-- so they are with the tables
+abbrev pub setting_in : {S : Type 0} → Legalizer → Surroundings S → Tables → Setting
+setting_in l around tables = setting_at l around tables.placement
 
 -- all teams
 abbrev pub teams_in : Tables → List TeamState
 teams_in tables = map (λ number. own_team number tables) (range_with_len 0 (length tables.revisions.items))
 
--- the floor that the tables are, in that frame
-abbrev pub floor_in : Frame → Tables → FloorState
-floor_in f tables = floor_of f tables.cells.components (teams_in tables)
+-- the floor that the tables are
+abbrev pub floor_in : Tables → FloorState
+floor_in tables = floor_of (frame_of tables) tables.placement.cells.components (teams_in tables)
 
 -- ---- what a verb may rely on, and what it leaves
 
--- the macros of all cells are the frame's, of whole size
-abbrev pub AreSized : Frame → Cells → Type 0
-AreSized f cells = (team : ℕ) → All (IsSizedCell f) (cells_of cells team)
-
--- the cells are so, and the occupancy, if there is one, is of this frame, and holds the working places of this table's cells
-pub record Follows (f : Frame) (cells : Cells) (occupancy : Option Occupied) : Type 0 where
-  pub sized : AreSized f cells
-  pub holds : IfSome occupancy (λ o. IsOccupancyOf f cells o)
-
--- the macros of the team's cells are the frame's, of whole size, and the occupancy follows the cells
-pub record IsHeld (f : Frame) (number : ℕ) (cells : Cells) (occupancy : Option Occupied) : Type 0 where
-  pub sized : All (IsSizedCell f) (cells_of cells number)
-  pub follows : Follows f cells occupancy
-
--- the occupancy of the tables follows their cells
-abbrev pub IsFollowed : Frame → Tables → Type 0
-IsFollowed f tables = Follows f tables.cells tables.occupancy
-
 -- the index is the frame's
-pub record IsReady {S : Type 0} (around : Surroundings S) : Type 0 where
-  pub index : IsIndexOf around.frame.now around.index.now
+abbrev pub IsReady : {S : Type 0} → Surroundings S → Tables → Type 0
+IsReady around tables = IsIndexOf (frame_of tables) around.index.now
 
 -- each table has a row for the team of that number
 pub record HasRows (number : ℕ) (tables : Tables) : Type 0 where
@@ -88,68 +80,74 @@ pub record HasRows (number : ℕ) (tables : Tables) : Type 0 where
   pub sessions : number < length tables.sessions
   pub revisions : number < length tables.revisions.items
 
--- the tables have a row for each team of the frame, and an undo stack takes as many entries as the limits allow
-pub record AreTablesOf (f : Frame) (tables : Tables) : Type 0 where
-  pub components : length tables.cells.components ≡ length f.teams + 1
-  pub undo : length tables.undo.lists ≡ length f.teams + 1
-  pub sessions : length tables.sessions ≡ length f.teams + 1
-  pub revisions : length tables.revisions.items ≡ length f.teams + 1
-  pub limit : tables.undo.limit ≡ f.limits.undo
+-- the team's cells fit at the places before each of its undo entries
+abbrev pub EntriesFit : ℕ → Tables → Type 0
+EntriesFit number tables = All (Fits tables.placement number) (own_team number tables).entries
+
+-- the tables have a row for each team of the frame, an undo stack takes as many entries as the limits allow, each team is one of the frame,
+-- and the places before each entry fit
+pub record AreTables (tables : Tables) : Type 0 where
+  pub components : length tables.placement.cells.components ≡ length (frame_of tables).teams + 1
+  pub undo : length tables.undo.lists ≡ length (frame_of tables).teams + 1
+  pub sessions : length tables.sessions ≡ length (frame_of tables).teams + 1
+  pub revisions : length tables.revisions.items ≡ length (frame_of tables).teams + 1
+  pub limit : tables.undo.limit ≡ (frame_of tables).limits.undo
+  pub teams : All (λ t. IsTeamOf (frame_of tables) t) (teams_in tables)
+  pub fit : (number : ℕ) → EntriesFit number tables
 
 -- the session has seen the team's revision, and the next revision fits into 32 bits
 pub record IsCurrent (number session : ℕ) (tables : Tables) : Type 0 where
   pub seen : seen_at (slots_of tables.sessions number) session ≡ Some (revision_of tables number)
   pub left : revision_of tables number < 4294967295
 
--- the tables have a row for the team of that number, which is one of the frame, an undo stack takes as many entries as the limits
--- allow, and the occupancy follows the cells
-pub record IsServed (f : Frame) (number : ℕ) (tables : Tables) : Type 0 where
+-- the tables have a row for the team of that number, which is one of the frame, an undo stack takes as many entries as the limits allow, and
+-- the places before each of the team's entries fit
+pub record IsServed (number : ℕ) (tables : Tables) : Type 0 where
   pub rows : HasRows number tables
-  pub limit : tables.undo.limit ≡ f.limits.undo
-  pub team : IsTeamOf f (own_team number tables)
-  pub follows : IsFollowed f tables
+  pub limit : tables.undo.limit ≡ (frame_of tables).limits.undo
+  pub team : IsTeamOf (frame_of tables) (own_team number tables)
+  pub fit : EntriesFit number tables
 
--- the same, and the session may change the team
-pub record CanChange (f : Frame) (number session : ℕ) (tables : Tables) : Type 0 where
-  pub served : IsServed f number tables
+-- and the session may change the team
+pub record CanChange (number session : ℕ) (tables : Tables) : Type 0 where
+  pub served : IsServed number tables
   pub current : IsCurrent number session tables
 
--- only the cells of the team of that number may differ
-pub record OtherCellsStay (number : ℕ) (old new : Cells) : Type 0 where
-  pub cells : (other : ℕ) → other ≢ number → cells_of new other ≡ cells_of old other
-  pub components : new.components ≡ old.components
+-- the frame and the strips stay, and no room is less
+pub record KeepsRooms (old new : Placing) : Type 0 where
+  pub frame : new.frame ≡ old.frame
+  pub strips : new.held.strips ≡ old.held.strips
+  pub rooms : NoLess old.held.rooms new.held.rooms
 
--- only the team of that number may differ, and the tables keep their rows
+-- so it is, and but for the rooms only working places of that team's cells differ
+pub record OnlyMoves (number : ℕ) (old new : Placing) : Type 0 where
+  pub ground : KeepsRooms old new
+  pub same : SameButPlaces (cells_of old.cells number) (cells_of new.cells number)
+  pub others : OtherCellsStay number old.cells new.cells
+
+-- only the team of that number may differ, the tables keep their rows, and no room is less
 pub record OthersStay (number : ℕ) (old new : Tables) : Type 0 where
   pub teams : (other : ℕ) → other ≢ number → own_team other new ≡ own_team other old
-  pub components : new.cells.components ≡ old.cells.components
+  pub components : new.placement.cells.components ≡ old.placement.cells.components
+  pub ground : KeepsRooms old.placement new.placement
   pub undo : length new.undo.lists ≡ length old.undo.lists
   pub sessions : length new.sessions ≡ length old.sessions
   pub revisions : length new.revisions.items ≡ length old.revisions.items
   pub limit : new.undo.limit ≡ old.undo.limit
 
+-- there may be more room, and nothing else differs
+pub record HaveGrown (old new : Tables) : Type 0 where
+  pub placement : SameButRooms old.placement new.placement
+  pub undo : new.undo ≡ record old.undo { room = new.undo.room }
+  pub sessions : new.sessions ≡ old.sessions
+  pub revisions : new.revisions ≡ old.revisions
+
 -- one more change of the team is counted, which this session has seen
 pub record Counts (number session : ℕ) (old new : Tables) : Type 0 where
-  pub cells : new.cells ≡ old.cells
-  pub occupancy : new.occupancy ≡ old.occupancy
+  pub placement : new.placement ≡ old.placement
   pub undo : new.undo ≡ old.undo
   pub sessions : new.sessions ≡ with_slot old.sessions number session (Some (revision_of old number + 1))
   pub revisions : new.revisions.items ≡ slice_set old.revisions.items number (revision_of old number + 1)
-
--- ---- changes that can be undone
-
--- a cell without its working place
-abbrev pub taken_up : Cell → Cell
-taken_up c = record c { working = None }
-
--- the cells differ in their working places alone
-abbrev pub SameButPlaces : List Cell → List Cell → Type 0
-SameButPlaces old new = map taken_up new ≡ map taken_up old
-
--- the moves lead from the cells before to those now: taken back they give the places before, and only places differ
-pub record HaveMoved (before : List Cell) (moves : List Move) (now : List Cell) : Type 0 where
-  pub places : taken_back moves (places_of now) ≡ places_of before
-  pub same : SameButPlaces before now
 
 -- the team after a change that the session makes, from the cells before to those now: the places before are its newest undo entry
 abbrev pub kept : ℕ → ℕ → List Cell → List Cell → Tables → TeamState
@@ -160,8 +158,9 @@ kept number session before now tables =
 -- ---- the tables of a design as it is loaded
 
 pub record AreOpening (design : Loaded) (tables : Tables) : Type 0 where
-  pub cells : tables.cells.cells ≡ opening_cells design
-  pub components : tables.cells.components ≡ opening_components design
+  pub frame : frame_of tables ≡ design.frame
+  pub cells : tables.placement.cells.cells ≡ opening_cells design
+  pub components : tables.placement.cells.components ≡ opening_components design
   pub undo : tables.undo.lists ≡ replicate (length design.frame.teams + 1) []
   pub limit : tables.undo.limit ≡ design.frame.limits.undo
   pub sessions : tables.sessions ≡ replicate (length design.frame.teams + 1) (replicate design.frame.limits.sessions None)

@@ -4,7 +4,7 @@ ghost use Rattle.std.specs.Prelude.{◌≡◌, IfOk, OnErr};
 ghost use Rattle.lf_rules.specs.Legalizer.{Legalizer};
 ghost use Rattle.lf_teams.specs.Outcomes.{Reaches, RunsOut};
 ghost use Rattle.lf_teams.specs.Changes.{legalized, placed, unplaced};
-ghost use Rattle.lf_floor.specs.Tables.{CanChange, IsFollowed, IsReady, OthersStay, setting_in, team_in};
+ghost use Rattle.lf_floor.specs.Tables.{CanChange, EntriesFit, IsReady, OthersStay, frame_of, setting_in, team_in};
 
 use crate::cell::{best_place, broken_at};
 use crate::surroundings::Surroundings;
@@ -26,34 +26,28 @@ impl Tables {
         name: &[u8],
         place: &Place,
     ) -> Result<Reply, AllocError>
-        requires change { CanChange around.now.frame.now around.now.number session self.old }
-        requires ready { IsReady around.now }
+        requires change { CanChange around.now.number session self.old }
+        requires ready { IsReady around.now self.old }
         ensures ok { (l : Legalizer) → IfOk result (λ reply. Reaches
-            (placed (setting_in l around.now) session name.now place.now (team_in around.now self.old))
+            (placed (setting_in l around.now self.old) session name.now place.now (team_in around.now self.old))
             reply (team_in around.now self.new)) }
         ensures err { (l : Legalizer) → OnErr result (RunsOut
-            (placed (setting_in l around.now) session name.now place.now (team_in around.now self.old))
+            (placed (setting_in l around.now self.old) session name.now place.now (team_in around.now self.old))
             (team_in around.now self.old) (team_in around.now self.new)) }
         ensures others { OthersStay around.now.number self.old self.new }
-        ensures follows { IsFollowed around.now.frame.now self.new }
+        ensures fit { EntriesFit around.now.number self.new }
     {
-        let Some(id) = self.cells.find_own(around.number, name) else {
+        let Some(id) = self.cell_named(around.number, name) else {
             return Ok(Reply::Refused(Refusal::NoCell));
         };
-        if let Some(broken) = broken_at(
-            around,
-            &self.cells,
-            &mut self.occupancy,
-            id.own as usize,
-            place,
-        )? {
+        if let Some(broken) = broken_at(around, &self.placement, id, place)? {
             return Ok(Reply::Refused(Refusal::Illegal {
                 rule: broken.rule,
                 cell: id.own,
                 other: broken.other,
             }));
         }
-        let revision = self.change_place(around.alloc, around.frame, session, id, Some(*place))?;
+        let revision = self.change_place(around.alloc, session, id, Some(*place))?;
         Ok(Reply::Revision(revision))
     }
 
@@ -67,25 +61,25 @@ impl Tables {
         name: &[u8],
         target: &Point,
     ) -> Result<Reply, AllocError>
-        requires change { CanChange around.now.frame.now around.now.number session self.old }
-        requires ready { IsReady around.now }
-        requires made { S.is_for around.now.seeker.now around.now.frame.now }
+        requires change { CanChange around.now.number session self.old }
+        requires ready { IsReady around.now self.old }
+        requires made { S.is_for around.now.seeker.now (frame_of self.old) }
         ensures ok { (l : Legalizer) → IfOk result (λ reply. Reaches
-            (legalized (setting_in l around.now) session name.now target.now (team_in around.now self.old))
+            (legalized (setting_in l around.now self.old) session name.now target.now (team_in around.now self.old))
             reply (team_in around.now self.new)) }
         ensures err { (l : Legalizer) → OnErr result (RunsOut
-            (legalized (setting_in l around.now) session name.now target.now (team_in around.now self.old))
+            (legalized (setting_in l around.now self.old) session name.now target.now (team_in around.now self.old))
             (team_in around.now self.old) (team_in around.now self.new)) }
         ensures others { OthersStay around.now.number self.old self.new }
-        ensures follows { IsFollowed around.now.frame.now self.new }
+        ensures fit { EntriesFit around.now.number self.new }
     {
-        let Some(id) = self.cells.find_own(around.number, name) else {
+        let Some(id) = self.cell_named(around.number, name) else {
             return Ok(Reply::Refused(Refusal::NoCell));
         };
-        let Some(place) = best_place(around, &self.cells, &mut self.occupancy, id, target)? else {
+        let Some(place) = best_place(around, &self.placement, id, target)? else {
             return Ok(Reply::Refused(Refusal::NoPlace { cell: id.own }));
         };
-        let revision = self.change_place(around.alloc, around.frame, session, id, Some(place))?;
+        let revision = self.change_place(around.alloc, session, id, Some(place))?;
         Ok(Reply::Legalized { revision, place })
     }
 
@@ -98,23 +92,23 @@ impl Tables {
         session: u32,
         name: &[u8],
     ) -> Result<Reply, AllocError>
-        requires { CanChange around.now.frame.now around.now.number session self.old }
+        requires { CanChange around.now.number session self.old }
         ensures ok { IfOk result (λ reply. Reaches
-            (unplaced around.now.frame.now.limits session name.now (team_in around.now self.old))
+            (unplaced (frame_of self.old).limits session name.now (team_in around.now self.old))
             reply (team_in around.now self.new)) }
         ensures err { OnErr result (RunsOut
-            (unplaced around.now.frame.now.limits session name.now (team_in around.now self.old))
+            (unplaced (frame_of self.old).limits session name.now (team_in around.now self.old))
             (team_in around.now self.old) (team_in around.now self.new)) }
         ensures others { OthersStay around.now.number self.old self.new }
-        ensures follows { IsFollowed around.now.frame.now self.new }
+        ensures fit { EntriesFit around.now.number self.new }
     {
-        let Some(id) = self.cells.find_own(around.number, name) else {
+        let Some(id) = self.cell_named(around.number, name) else {
             return Ok(Reply::Refused(Refusal::NoCell));
         };
-        if self.cells.working(id).is_none() {
+        if self.working(id).is_none() {
             return Ok(Reply::Refused(Refusal::Unplaced { cell: id.own }));
         }
-        let revision = self.change_place(around.alloc, around.frame, session, id, None)?;
+        let revision = self.change_place(around.alloc, session, id, None)?;
         Ok(Reply::Revision(revision))
     }
 }

@@ -9,7 +9,7 @@ ghost use Rattle.lf_rules.specs.FullyLegal.{IsFullyLegal};
 ghost use Rattle.lf_proto.specs.Commands.{command_of, order_of};
 ghost use Rattle.lf_teams.specs.States.{TeamState};
 ghost use Rattle.lf_teams.specs.Places.{AreCommittedPlaces};
-ghost use Rattle.lf_floor.specs.Tables.{AreTablesOf, IsFollowed, IsReady, floor_in, teams_in};
+ghost use Rattle.lf_floor.specs.Tables.{AreTables, IsReady, floor_in, frame_of};
 ghost use Rattle.lf_teams.specs.Teams.{IsTeamOf, team_number, state_of};
 ghost use Rattle.lf_teams.specs.Outcomes.{name_at};
 ghost use Rattle.lf_cells.specs.Cells.{working_at};
@@ -40,25 +40,21 @@ use std::marker::Model;
 #[derive(Drop)]
 pub struct Floor<S: Seeker> {
     alloc: Global,
-    frame: Frame,
     index: FrameIndex,
     seeker: S,
     tables: Tables,
 }
 
 impl<S: Seeker> Model for Floor<S> {
-    ghost use Rattle.std.specs.Prelude.{All};
     ghost use Rattle.lf_teams.specs.States.{FloorState};
-    ghost use Rattle.lf_floor.specs.Tables.{AreTablesOf, IsFollowed, floor_in, teams_in};
+    ghost use Rattle.lf_floor.specs.Tables.{AreTables, floor_in, frame_of};
     ghost use Rattle.lf_reports.specs.Nearby.{IsIndexOf};
-    ghost use Rattle.lf_teams.specs.Teams.{IsTeamOf};
 
     ghost Value = { FloorState };
 
-    ghost view = { λ f. floor_in f.frame f.tables };
+    ghost view = { λ f. floor_in f.tables };
 
-    ghost invariant = { λ f. AreTablesOf f.frame f.tables × All (λ t. IsTeamOf f.frame t) (teams_in f.tables) × IsFollowed f.frame f.tables
-        × IsIndexOf f.frame f.index × S.is_for f.seeker f.frame };
+    ghost invariant = { λ f. AreTables f.tables × IsIndexOf (frame_of f.tables) f.index × S.is_for f.seeker (frame_of f.tables) };
 }
 
 /// Whether this is the name of the team outside all fences.
@@ -103,22 +99,17 @@ fn serve_at<S: Seeker>(
     tables: &mut Tables,
     order: &Order<&[u8]>,
 ) -> Result<Reply, AllocError>
-    requires within { around.now.number < length around.now.frame.now.teams + 1 }
-    requires tables { AreTablesOf around.now.frame.now tables.old }
-    requires teams { All (λ t. IsTeamOf around.now.frame.now t) (teams_in tables.old) }
-    requires follows { IsFollowed around.now.frame.now tables.old }
-    requires ready { IsReady around.now }
-    requires made { S.is_for around.now.seeker.now around.now.frame.now }
+    requires within { around.now.number < length (frame_of tables.old).teams + 1 }
+    requires tables { AreTables tables.old }
+    requires ready { IsReady around.now tables.old }
+    requires made { S.is_for around.now.seeker.now (frame_of tables.old) }
     ensures ok { (l : Legalizer) → IfOk result (λ reply. Gives
-        (answer_at (Some around.now.number) l (floor_in around.now.frame.now tables.old) (order_of order.now))
-        reply (floor_in around.now.frame.now tables.new)) }
+        (answer_at (Some around.now.number) l (floor_in tables.old) (order_of order.now)) reply (floor_in tables.new)) }
     ensures err { (l : Legalizer) → OnErr result (StaysShort
-        (answer_at (Some around.now.number) l (floor_in around.now.frame.now tables.old) (order_of order.now))
-        (floor_in around.now.frame.now tables.old) (floor_in around.now.frame.now tables.new)) }
+        (answer_at (Some around.now.number) l (floor_in tables.old) (order_of order.now)) (floor_in tables.old) (floor_in tables.new)) }
     ensures takes { OnErr result (takes_memory (order_of order.now) ≡ true) }
-    ensures tables { AreTablesOf around.now.frame.now tables.new }
-    ensures teams { All (λ t. IsTeamOf around.now.frame.now t) (teams_in tables.new) }
-    ensures follows { IsFollowed around.now.frame.now tables.new }
+    ensures frame { frame_of tables.new ≡ frame_of tables.old }
+    ensures tables { AreTables tables.new }
 {
     legalizer_is_there();
     tables.serve(around, order)
@@ -149,11 +140,9 @@ impl<S: Seeker + Drop> Floor<S> {
         ensures legal { IfOk result (λ floor. IsCommittedLegal floor ↔ IsFullyLegal loaded.frame (loaded_design loaded)) }
     {
         let index = FrameIndex::build(alloc, &loaded.frame)?;
-        let tables = Tables::opening(alloc, &loaded, &index.segments)?;
-        let Loaded { frame, cells: _ } = loaded;
+        let tables = Tables::opening(alloc, loaded, &index.segments)?;
         Ok(Floor {
             alloc,
-            frame,
             index,
             seeker,
             tables,
@@ -166,8 +155,8 @@ impl<S: Seeker + Drop> Floor<S> {
     pub fn place_of(&self, team: &[u8], own: usize) -> Option<Place>
         ensures { result ≡ option_and_then (λ s. working_at s.cells own) (state_of self.now team.now) }
     {
-        let number = team_named(&self.frame, team)?;
-        self.tables.cells.standing(number, own)?.working
+        let number = team_named(self.tables.placement.frame(), team)?;
+        self.tables.placement.cells().standing(number, own)?.working
     }
 
     /// The name of the team's cell of that position in loading order, the first at 0. Replies name
@@ -178,9 +167,10 @@ impl<S: Seeker + Drop> Floor<S> {
         ensures name { option_map (λ name. name.now) result ≡ option_and_then (λ s. name_at s.cells own) (state_of self.now team.now) }
         ensures printed { IfSome result (λ name. IsName name.now) }
     {
-        let number = team_named(&self.frame, team)?;
-        let id = self.tables.cells.id_at(number, own)?;
-        Some(self.tables.cells.cell(id)?.name)
+        let number = team_named(self.tables.placement.frame(), team)?;
+        let cells = self.tables.placement.cells();
+        let id = cells.id_at(number, own)?;
+        Some(cells.cell(id)?.name)
     }
 
     /// All movable components: the positions of their entries among all COMPONENTS of the DEF text,
@@ -190,7 +180,7 @@ impl<S: Seeker + Drop> Floor<S> {
     pub fn committed_places(&self) -> Result<Vec<(usize, Option<Place>)>, AllocError>
         ensures { IfOk result (λ places. AreCommittedPlaces self.now places.items) }
     {
-        all_committed(self.alloc, &self.tables.cells)
+        all_committed(self.alloc, self.tables.placement.cells())
     }
 
     /// The invariant of the type: each team is one of the frame.
@@ -210,12 +200,11 @@ impl<S: Seeker + Drop> Floor<S> {
         match request {
             Command::Bye => Ok(Reply::Done),
             Command::To { team, order } => {
-                let Some(number) = team_named(&self.frame, team) else {
+                let Some(number) = team_named(self.tables.placement.frame(), team) else {
                     return Ok(Reply::Refused(Refusal::NoTeam));
                 };
                 let around = Surroundings {
                     alloc: self.alloc,
-                    frame: &self.frame,
                     index: &self.index,
                     seeker: &self.seeker,
                     number,

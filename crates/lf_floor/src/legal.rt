@@ -1,18 +1,17 @@
 //! Which rule each of a team's cells breaks where it stands, and which cells stand legally.
 
-ghost use Rattle.std.specs.Prelude.{◌≡◌, ◌≤◌, All, IfOk, IsTrue, Some, length, map, option_map, slice_get, true};
-ghost use Rattle.lf_floorplan.specs.Bounds.{IsName};
+ghost use Rattle.std.specs.Prelude.{◌≡◌, IfOk, IsTrue, Some, length, map, option_map, slice_get, true};
 ghost use Rattle.lf_rules.specs.Legalizer.{Legalizer};
 ghost use Rattle.lf_cells.specs.Cells.{cells_of};
-ghost use Rattle.lf_legalize.specs.Members.{IsSizedCell};
 ghost use Rattle.lf_reports.specs.Reports.{AreVerdicts, named, report_of};
 ghost use Rattle.lf_proto.specs.ReportText.{report_text};
-ghost use Rattle.lf_teams.specs.Teams.{listed_of};
+ghost use Rattle.lf_teams.specs.Teams.{IsTeamOf, listed_of};
 ghost use Rattle.lf_teams.specs.Changes.{broken_cells};
 ghost use Rattle.lf_floor.specs.Marking.{AreMarked, IsJudged};
-ghost use Rattle.lf_floor.specs.Tables.{IsReady, setting_in};
+ghost use Rattle.lf_floor.specs.Tables.{IsReady, cells_in, frame_of, setting_in, team_in};
 
 use crate::surroundings::Surroundings;
+use crate::tables::Tables;
 use lf_cells::CellTable;
 use lf_proto::{Text, report_json};
 use lf_reports::{BrokenCell, first_illegal, report_by_verdicts, verdicts_on};
@@ -53,21 +52,24 @@ fn listed_cells(
 
 /// The text of the report of the team's cells at their working places.
 ///
-/// `Err` if an allocation fails.
+/// `Err` where an allocation fails.
 pub(crate) fn report_text<S>(
     around: &Surroundings<'_, S>,
-    cells: &CellTable,
+    tables: &Tables,
 ) -> Result<Text, AllocError>
-    requires sized { All (IsSizedCell around.now.frame.now) (cells_of cells.now around.now.number) }
-    requires printed { All (λ c. IsName c.name) (cells_of cells.now around.now.number) }
-    requires few { length (cells_of cells.now around.now.number) ≤ 4000000 }
-    requires ready { IsReady around.now }
+    requires team { IsTeamOf (frame_of tables.now) (team_in around.now tables.now) }
+    requires ready { IsReady around.now tables.now }
     ensures { IfOk result (λ text. (l : Legalizer) → text ≡ report_text
-        (report_of l around.now.frame.now (map (listed_of around.now.number) (cells_of cells.now around.now.number)))) }
+        (report_of l (frame_of tables.now) (map (listed_of around.now.number) (cells_in around.now.number tables.now)))) }
 {
     legalizer_is_there();
-    let listed = listed_cells(around.alloc, around.number, cells)?;
-    let verdicts = verdicts_on(around.alloc, around.frame, around.index, &listed)?;
+    let listed = listed_cells(around.alloc, around.number, tables.placement.cells())?;
+    let verdicts = verdicts_on(
+        around.alloc,
+        tables.placement.frame(),
+        around.index,
+        &listed,
+    )?;
     let report = report_by_verdicts(around.alloc, &listed, &verdicts)?;
     report_json(around.alloc, &report)
 }
@@ -75,38 +77,39 @@ pub(crate) fn report_text<S>(
 /// For each of the team's cells, in loading order, the first rule that it breaks where it stands; none if
 /// it breaks no rule, or is unplaced.
 ///
-/// `Err` if an allocation fails.
+/// `Err` where an allocation fails.
 fn team_verdicts<S>(
     around: &Surroundings<'_, S>,
-    cells: &CellTable,
+    tables: &Tables,
 ) -> Result<Vec<Option<Broken>>, AllocError>
-    requires sized { All (IsSizedCell around.now.frame.now) (cells_of cells.now around.now.number) }
-    requires printed { All (λ c. IsName c.name) (cells_of cells.now around.now.number) }
-    requires few { length (cells_of cells.now around.now.number) ≤ 4000000 }
-    requires ready { IsReady around.now }
-    ensures count { IfOk result (λ verdicts. length verdicts.items ≡ length (cells_of cells.now around.now.number)) }
+    requires team { IsTeamOf (frame_of tables.now) (team_in around.now tables.now) }
+    requires ready { IsReady around.now tables.now }
+    ensures count { IfOk result (λ verdicts. length verdicts.items ≡ length (cells_in around.now.number tables.now)) }
     ensures each { (l : Legalizer) → IfOk result (λ verdicts.
-        AreVerdicts l around.now.frame.now (map (listed_of around.now.number) (cells_of cells.now around.now.number)) verdicts.items) }
+        AreVerdicts l (frame_of tables.now) (map (listed_of around.now.number) (cells_in around.now.number tables.now)) verdicts.items) }
 {
-    let listed = listed_cells(around.alloc, around.number, cells)?;
-    verdicts_on(around.alloc, around.frame, around.index, &listed)
+    let listed = listed_cells(around.alloc, around.number, tables.placement.cells())?;
+    verdicts_on(
+        around.alloc,
+        tables.placement.frame(),
+        around.index,
+        &listed,
+    )
 }
 
 /// The team's first cell in loading order that breaks a rule where it stands; none if no cell
 /// does.
 ///
-/// `Err` if an allocation fails.
+/// `Err` where an allocation fails.
 pub(crate) fn first_broken_cell<S>(
     around: &Surroundings<'_, S>,
-    cells: &CellTable,
+    tables: &Tables,
 ) -> Result<Option<BrokenCell>, AllocError>
-    requires sized { All (IsSizedCell around.now.frame.now) (cells_of cells.now around.now.number) }
-    requires printed { All (λ c. IsName c.name) (cells_of cells.now around.now.number) }
-    requires few { length (cells_of cells.now around.now.number) ≤ 4000000 }
-    requires ready { IsReady around.now }
-    ensures { (l : Legalizer) → IfOk result (λ first. first ≡ slice_get (broken_cells (setting_in l around.now) (cells_of cells.now around.now.number)) 0) }
+    requires team { IsTeamOf (frame_of tables.now) (team_in around.now tables.now) }
+    requires ready { IsReady around.now tables.now }
+    ensures { (l : Legalizer) → IfOk result (λ first. first ≡ slice_get (broken_cells (setting_in l around.now tables.now) (cells_in around.now.number tables.now)) 0) }
 {
-    let verdicts = team_verdicts(around, cells)?;
+    let verdicts = team_verdicts(around, tables)?;
     Ok(first_illegal(&verdicts))
 }
 
@@ -128,19 +131,18 @@ fn stands_legal(cells: &CellTable, number: usize, verdicts: &[Option<Broken>], o
 
 /// For each of the team's cells whether it is placed, and team-legal where it stands.
 ///
-/// `Err` if an allocation fails.
+/// `Err` where an allocation fails.
 pub(crate) fn legal_marks<S>(
     around: &Surroundings<'_, S>,
-    cells: &CellTable,
+    tables: &Tables,
 ) -> Result<Vec<bool>, AllocError>
-    requires sized { All (IsSizedCell around.now.frame.now) (cells_of cells.now around.now.number) }
-    requires printed { All (λ c. IsName c.name) (cells_of cells.now around.now.number) }
-    requires few { length (cells_of cells.now around.now.number) ≤ 4000000 }
-    requires ready { IsReady around.now }
-    ensures { IfOk result (λ marks. AreMarked around.now.frame.now around.now.number (cells_of cells.now around.now.number) marks.items) }
+    requires team { IsTeamOf (frame_of tables.now) (team_in around.now tables.now) }
+    requires ready { IsReady around.now tables.now }
+    ensures { IfOk result (λ marks. AreMarked (frame_of tables.now) around.now.number (cells_in around.now.number tables.now) marks.items) }
 {
     legalizer_is_there();
-    let verdicts = team_verdicts(around, cells)?;
+    let verdicts = team_verdicts(around, tables)?;
+    let cells = tables.placement.cells();
     let count = cells.count_of(around.number);
     let mut marks = Vec::with_capacity(around.alloc, count)?;
     for own in 0..count {

@@ -12,7 +12,6 @@ mod floor;
 mod keeping;
 mod legal;
 mod looks;
-mod moving;
 mod sessions;
 mod surroundings;
 mod swap;

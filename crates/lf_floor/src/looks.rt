@@ -3,7 +3,7 @@
 ghost use Rattle.std.specs.Prelude.{IfOk, OnErr};
 ghost use Rattle.lf_rules.specs.Legalizer.{Legalizer};
 ghost use Rattle.lf_teams.specs.Teams.{IsTeamOf};
-ghost use Rattle.lf_floor.specs.Tables.{IsFollowed, IsReady, OthersStay, own_team, setting_in, team_in};
+ghost use Rattle.lf_floor.specs.Tables.{IsReady, frame_of, own_team, setting_in, team_in};
 ghost use Rattle.lf_teams.specs.Outcomes.{Reaches, RunsOut};
 ghost use Rattle.lf_teams.specs.Looks.{checked, found, located, written};
 
@@ -24,10 +24,10 @@ impl Tables {
     pub(crate) fn locate(&self, number: usize, name: &[u8]) -> Reply
         ensures { Reaches (located name.now (own_team number self.now)) result (own_team number self.now) }
     {
-        let Some(id) = self.cells.find_own(number, name) else {
+        let Some(id) = self.cell_named(number, name) else {
             return Reply::Refused(Refusal::NoCell);
         };
-        match self.cells.working(id) {
+        match self.working(id) {
             Some(place) => Reply::At(place),
             None => Reply::Refused(Refusal::Unplaced { cell: id.own }),
         }
@@ -36,16 +36,16 @@ impl Tables {
     /// Answers the report of the team's cells at their working places.
     #[tactic(auto, unfolding(lf_teams::specs::Looks::checked))]
     pub(crate) fn check<S>(&self, around: &Surroundings<'_, S>) -> Result<Reply, AllocError>
-        requires team { IsTeamOf around.now.frame.now (team_in around.now self.now) }
-        requires ready { IsReady around.now }
+        requires team { IsTeamOf (frame_of self.now) (team_in around.now self.now) }
+        requires ready { IsReady around.now self.now }
         ensures ok { (l : Legalizer) → IfOk result (λ reply. Reaches
-            (checked (setting_in l around.now) (team_in around.now self.now))
+            (checked (setting_in l around.now self.now) (team_in around.now self.now))
             reply (team_in around.now self.now)) }
         ensures err { (l : Legalizer) → OnErr result (RunsOut
-            (checked (setting_in l around.now) (team_in around.now self.now))
+            (checked (setting_in l around.now self.now) (team_in around.now self.now))
             (team_in around.now self.now) (team_in around.now self.now)) }
     {
-        let text = report_text(around, &self.cells)?;
+        let text = report_text(around, self)?;
         Ok(Reply::Report(text))
     }
 
@@ -53,13 +53,18 @@ impl Tables {
     #[tactic(auto, unfolding(lf_teams::specs::Looks::written))]
     pub(crate) fn write_def<S>(&self, around: &Surroundings<'_, S>) -> Result<Reply, AllocError>
         ensures ok { (l : Legalizer) → IfOk result (λ reply. Reaches
-            (written (setting_in l around.now) (team_in around.now self.now))
+            (written (setting_in l around.now self.now) (team_in around.now self.now))
             reply (team_in around.now self.now)) }
         ensures err { (l : Legalizer) → OnErr result (RunsOut
-            (written (setting_in l around.now) (team_in around.now self.now))
+            (written (setting_in l around.now self.now) (team_in around.now self.now))
             (team_in around.now self.now) (team_in around.now self.now)) }
     {
-        let text = team_def(around.alloc, around.frame, &self.cells, around.number)?;
+        let text = team_def(
+            around.alloc,
+            self.placement.frame(),
+            self.placement.cells(),
+            around.number,
+        )?;
         Ok(Reply::Def(Text::from_bytes(text)))
     }
 
@@ -67,28 +72,23 @@ impl Tables {
     /// if no place is team-legal.
     #[tactic(auto, unfolding(lf_teams::specs::Looks::found))]
     pub(crate) fn find<S: Seeker>(
-        &mut self,
+        &self,
         around: &Surroundings<'_, S>,
         name: &[u8],
         target: &Point,
     ) -> Result<Reply, AllocError>
-        requires team { IsTeamOf around.now.frame.now (team_in around.now self.old) }
-        requires follows { IsFollowed around.now.frame.now self.old }
-        requires ready { IsReady around.now }
-        requires made { S.is_for around.now.seeker.now around.now.frame.now }
+        requires { S.is_for around.now.seeker.now (frame_of self.now) }
         ensures ok { (l : Legalizer) → IfOk result (λ reply. Reaches
-            (found (setting_in l around.now) name.now target.now (team_in around.now self.old))
-            reply (team_in around.now self.new)) }
+            (found (setting_in l around.now self.now) name.now target.now (team_in around.now self.now))
+            reply (team_in around.now self.now)) }
         ensures err { (l : Legalizer) → OnErr result (RunsOut
-            (found (setting_in l around.now) name.now target.now (team_in around.now self.old))
-            (team_in around.now self.old) (team_in around.now self.new)) }
-        ensures others { OthersStay around.now.number self.old self.new }
-        ensures follows { IsFollowed around.now.frame.now self.new }
+            (found (setting_in l around.now self.now) name.now target.now (team_in around.now self.now))
+            (team_in around.now self.now) (team_in around.now self.now)) }
     {
-        let Some(id) = self.cells.find_own(around.number, name) else {
+        let Some(id) = self.cell_named(around.number, name) else {
             return Ok(Reply::Refused(Refusal::NoCell));
         };
-        match best_place(around, &self.cells, &mut self.occupancy, id, target)? {
+        match best_place(around, &self.placement, id, target)? {
             Some(place) => Ok(Reply::At(place)),
             None => Ok(Reply::Refused(Refusal::NoPlace { cell: id.own })),
         }

@@ -1,11 +1,10 @@
 //! Sessions: what `open`, `close` and `sync` do.
 
 ghost use Rattle.std.specs.Prelude.{◌≡◌, ◌≢◌, None};
-ghost use Rattle.lf_floorplan.specs.declared.frame.Frame.{Frame};
 ghost use Rattle.lf_sessions.specs.Slots.{seen_at, slots_of};
 ghost use Rattle.lf_teams.specs.Outcomes.{Reaches};
 ghost use Rattle.lf_teams.specs.Sessions.{closed, opened, synced};
-ghost use Rattle.lf_floor.specs.Tables.{IsFollowed, OthersStay, own_team};
+ghost use Rattle.lf_floor.specs.Tables.{EntriesFit, OthersStay, own_team};
 
 use crate::tables::Tables;
 use lf_proto::{Refusal, Reply};
@@ -16,7 +15,7 @@ impl Tables {
     pub(crate) fn open(&mut self, number: usize) -> Reply
         ensures team { Reaches (opened (own_team number self.old)) result (own_team number self.new) }
         ensures others { OthersStay number self.old self.new }
-        ensures follows { (f : Frame) → IsFollowed f self.old → IsFollowed f self.new }
+        ensures fit { EntriesFit number self.old → EntriesFit number self.new }
     {
         let revision = self.revision(number);
         match self.sessions.take_slot(number, revision) {
@@ -31,7 +30,7 @@ impl Tables {
         requires { seen_at (slots_of self.old.sessions number) session ≢ None }
         ensures team { Reaches (closed session (own_team number self.old)) result (own_team number self.new) }
         ensures others { OthersStay number self.old self.new }
-        ensures follows { (f : Frame) → IsFollowed f self.old → IsFollowed f self.new }
+        ensures fit { EntriesFit number self.old → EntriesFit number self.new }
     {
         self.sessions.free_slot(number, session);
         Reply::Done
@@ -43,7 +42,7 @@ impl Tables {
         requires { seen_at (slots_of self.old.sessions number) session ≢ None }
         ensures team { Reaches (synced session (own_team number self.old)) result (own_team number self.new) }
         ensures others { OthersStay number self.old self.new }
-        ensures follows { (f : Frame) → IsFollowed f self.old → IsFollowed f self.new }
+        ensures fit { EntriesFit number self.old → EntriesFit number self.new }
     {
         let revision = self.revision(number);
         self.sessions.set_seen(number, session, revision);

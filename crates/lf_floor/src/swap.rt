@@ -1,209 +1,195 @@
 //! What `swap` does.
 
-ghost use Rattle.std.specs.Prelude.{◌≡◌, ◌<◌, ◌≤◌, All, List, IfOk, OnErr, OnOk, length};
+ghost use Rattle.std.specs.Prelude.{◌≡◌, IfOk, None, OnErr, Some};
 ghost use Rattle.lf_rules.specs.Legalizer.{Legalizer};
-ghost use Rattle.lf_cells.specs.declared.cell.Cell.{Cell};
-ghost use Rattle.lf_cells.specs.Cells.{cells_of};
-ghost use Rattle.lf_legalize.specs.Members.{IsSizedCell};
+ghost use Rattle.lf_cells.specs.Cells.{cells_of, working_at};
+ghost use Rattle.lf_undo.specs.Stacks.{HasRoomFor};
+ghost use Rattle.lf_placement.specs.Placings.{Fits, IsBrokenAlone, IsBrokenAt, made, places_of};
 ghost use Rattle.lf_teams.specs.Outcomes.{Reaches, RunsOut};
-ghost use Rattle.lf_teams.specs.Changes.{broken_where, exchanged, swapped};
-ghost use Rattle.lf_floor.specs.Tables.{CanChange, Follows, IsFollowed, IsHeld, IsReady};
-ghost use Rattle.lf_floor.specs.Tables.{HaveMoved, OtherCellsStay, OthersStay, SameButPlaces, setting_in, team_in};
-ghost use Rattle.lf_floor.specs.Swapping.{illegal_by, swap_refusal, swapped_here};
+ghost use Rattle.lf_teams.specs.Teams.{setting};
+ghost use Rattle.lf_teams.specs.Changes.{broken_where, swapped};
+ghost use Rattle.lf_floor.specs.Tables.{CanChange, EntriesFit, IsReady, OthersStay, cells_in, frame_of, own_team, setting_in, team_in};
+ghost use Rattle.lf_floor.specs.Swapping.{IsExchange, IsExchanged, exchange_moves, illegal_by, swap_refusal, swapped_here};
 
-use crate::cell::broken_at;
-use crate::moving::{shift, take_back};
 use crate::surroundings::Surroundings;
 use crate::tables::Tables;
-use lf_cells::{CellId, CellTable};
-use lf_floorplan::{Frame, Place};
-use lf_occupancy::Occupancy;
+use lf_cells::CellId;
+use lf_floorplan::Place;
+use lf_placement::Placement;
 use lf_proto::{Refusal, Reply};
-use lf_rules::Broken;
-use lf_undo::Moves;
-use std::alloc::AllocError;
+use lf_rules::{Broken, Rule, verdict_is_one};
+use lf_undo::{Move, Moves};
+use std::alloc::{AllocError, Global};
 
-/// The first rule that the team's cell of that position breaks where it stands; an unplaced cell
-/// breaks none.
-fn broken_where<S>(
-    around: &Surroundings<'_, S>,
-    cells: &CellTable,
-    occupancy: &mut Option<Occupancy>,
-    own: u32,
-) -> Result<Option<Broken>, AllocError>
-    requires sized { All (IsSizedCell around.now.frame.now) (cells_of cells.now around.now.number) }
-    requires few { length (cells_of cells.now around.now.number) ≤ 4000000 }
-    requires follows { Follows around.now.frame.now cells.now occupancy.old }
-    requires ready { IsReady around.now }
-    ensures is { (l : Legalizer) → IfOk result (λ broken. broken ≡ broken_where (setting_in l around.now) (cells_of cells.now around.now.number) own) }
-    ensures follows { Follows around.now.frame.now cells.now occupancy.new }
-{
-    let Some(standing) = cells.standing(around.number, own as usize) else {
-        return Ok(None);
-    };
-    let Some(place) = standing.working else {
-        return Ok(None);
-    };
-    broken_at(around, cells, occupancy, own as usize, &place)
-}
-
-/// Exchanges the places of two cells of the team, and notes the moves.
-fn exchange(
-    frame: &Frame,
-    cells: &mut CellTable,
-    occupancy: &mut Option<Occupancy>,
-    moves: &mut Moves,
+/// Two cells of a team, and the place of each, where the other is to go.
+#[derive(Clone, Copy)]
+struct Exchange {
     first: CellId,
     second: CellId,
-) -> Result<(), AllocError>
-    requires team { second.team ≡ first.team }
-    requires held { IsHeld frame.now first.team cells.old occupancy.old }
-    ensures own { OnOk result (cells_of cells.new first.team ≡ exchanged (cells_of cells.old first.team) first.own second.own) }
-    ensures moved { (before : List Cell) → HaveMoved before moves.old (cells_of cells.old first.team) →
-        HaveMoved before moves.new (cells_of cells.new first.team) }
-    ensures same { SameButPlaces (cells_of cells.old first.team) (cells_of cells.new first.team) }
-    ensures others { OtherCellsStay first.team cells.old cells.new }
-    ensures held { IsHeld frame.now first.team cells.new occupancy.new }
-{
-    let to_second = cells.working(second);
-    let to_first = cells.working(first);
-    shift(frame, cells, occupancy, moves, first, to_second)?;
-    shift(frame, cells, occupancy, moves, second, to_first)
+    from: Place,
+    to: Place,
 }
 
-/// Why the team's cell of that position is refused where it stands; none if it breaks no rule.
-fn refusal_at<S>(
-    around: &Surroundings<'_, S>,
-    cells: &CellTable,
-    occupancy: &mut Option<Occupancy>,
-    own: u32,
-) -> Result<Option<Refusal>, AllocError>
-    requires sized { All (IsSizedCell around.now.frame.now) (cells_of cells.now around.now.number) }
-    requires few { length (cells_of cells.now around.now.number) ≤ 4000000 }
-    requires follows { Follows around.now.frame.now cells.now occupancy.old }
-    requires ready { IsReady around.now }
-    ensures is { (l : Legalizer) → IfOk result (λ refusal. refusal ≡ illegal_by
-        (broken_where (setting_in l around.now) (cells_of cells.now around.now.number) own) own) }
-    ensures follows { Follows around.now.frame.now cells.now occupancy.new }
+/// The moves of the exchange.
+fn exchange_moves(alloc: Global, exchange: &Exchange) -> Result<Moves, AllocError>
+    ensures { IfOk result (λ moves. moves ≡ exchange_moves exchange.now) }
 {
-    match broken_where(around, cells, occupancy, own)? {
-        Some(broken) => Ok(Some(Refusal::Illegal {
-            rule: broken.rule,
-            cell: own,
-            other: broken.other,
-        })),
-        None => Ok(None),
+    let mut moves = Moves::new(alloc);
+    moves.push(Move {
+        own: exchange.first.own,
+        old: Some(exchange.to),
+    })?;
+    moves.push(Move {
+        own: exchange.second.own,
+        old: Some(exchange.from),
+    })?;
+    Ok(moves)
+}
+
+/// The first rule that a cell breaks at the place, where `alone` is the first of those but overlap.
+fn broken_beside(
+    placement: &Placement,
+    id: CellId,
+    place: &Place,
+    alone: Option<Rule>,
+) -> Option<Broken>
+    requires { IsBrokenAlone placement.now id place.now alone }
+    ensures { IsBrokenAt placement.now id place.now result }
+{
+    if let Some(rule) = alone {
+        return Some(Broken { rule, other: None });
     }
+    let own = placement.first_other(id, place)?;
+    Some(Broken {
+        rule: Rule::Overlap,
+        other: Some(own),
+    })
 }
 
-/// Why two cells of the team are refused where they stand, the first before the second; none if
-/// neither breaks a rule.
-fn refusal_of<S>(
-    around: &Surroundings<'_, S>,
-    cells: &CellTable,
-    occupancy: &mut Option<Occupancy>,
-    first: u32,
-    second: u32,
-) -> Result<Option<Refusal>, AllocError>
-    requires sized { All (IsSizedCell around.now.frame.now) (cells_of cells.now around.now.number) }
-    requires few { length (cells_of cells.now around.now.number) ≤ 4000000 }
-    requires follows { Follows around.now.frame.now cells.now occupancy.old }
-    requires ready { IsReady around.now }
-    ensures is { (l : Legalizer) → IfOk result (λ refusal. refusal
-        ≡ swap_refusal (setting_in l around.now) (cells_of cells.now around.now.number) first second) }
-    ensures follows { Follows around.now.frame.now cells.now occupancy.new }
+/// Why a cell is refused that breaks this rule.
+fn illegal_by(broken: Option<Broken>, own: u32) -> Option<Refusal>
+    ensures { result ≡ illegal_by broken own }
 {
-    match refusal_at(around, cells, occupancy, first)? {
-        Some(refusal) => Ok(Some(refusal)),
-        None => refusal_at(around, cells, occupancy, second),
+    let broken = broken?;
+    Some(Refusal::Illegal {
+        rule: broken.rule,
+        cell: own,
+        other: broken.other,
+    })
+}
+
+/// Why a cell is refused at this place, which is its working place, where `alone` is the first rule but
+/// overlap that it breaks there; none where it breaks no rule.
+fn refusal_at(
+    placement: &Placement,
+    id: CellId,
+    place: &Place,
+    alone: Option<Rule>,
+) -> Option<Refusal>
+    requires alone { IsBrokenAlone placement.now id place.now alone }
+    requires there { working_at (cells_of placement.now.cells id.team) id.own ≡ Some place.now }
+    ensures { (l : Legalizer) → result ≡ illegal_by
+        (broken_where (setting l placement.now.frame id.team) (cells_of placement.now.cells id.team) id.own) id.own }
+{
+    verdict_is_one();
+    placement.cells_are_sized();
+    illegal_by(broken_beside(placement, id, place, alone), id.own)
+}
+
+/// Why two cells that were exchanged are refused, the first before the second, where the first keeps all
+/// rules but overlap, and `alone` is the first of these that the second breaks; none where neither breaks
+/// a rule.
+fn refusal_of(placement: &Placement, exchange: &Exchange, alone: Option<Rule>) -> Option<Refusal>
+    requires { IsExchanged placement.now exchange.now alone }
+    ensures { (l : Legalizer) → result ≡ swap_refusal (setting l placement.now.frame exchange.now.first.team)
+        (cells_of placement.now.cells exchange.now.first.team) exchange.now.first.own exchange.now.second.own }
+{
+    match refusal_at(placement, exchange.first, &exchange.to, None) {
+        Some(refusal) => Some(refusal),
+        None => refusal_at(placement, exchange.second, &exchange.from, alone),
     }
-}
-
-/// Exchanges the places of two cells of the team, and returns why they are refused there, if they
-/// are.
-fn try_exchange<S>(
-    around: &Surroundings<'_, S>,
-    cells: &mut CellTable,
-    occupancy: &mut Option<Occupancy>,
-    moves: &mut Moves,
-    first: CellId,
-    second: CellId,
-) -> Result<Option<Refusal>, AllocError>
-    requires teams { (first.team ≡ around.now.number) × (second.team ≡ around.now.number) }
-    requires held { IsHeld around.now.frame.now around.now.number cells.old occupancy.old }
-    requires few { length (cells_of cells.old around.now.number) ≤ 4000000 }
-    requires ready { IsReady around.now }
-    ensures own { OnOk result (cells_of cells.new around.now.number ≡ exchanged (cells_of cells.old around.now.number) first.own second.own) }
-    ensures refusal { (l : Legalizer) → IfOk result (λ refusal. refusal
-        ≡ swap_refusal (setting_in l around.now) (cells_of cells.new around.now.number) first.own second.own) }
-    ensures moved { (before : List Cell) → HaveMoved before moves.old (cells_of cells.old around.now.number) →
-        HaveMoved before moves.new (cells_of cells.new around.now.number) }
-    ensures others { OtherCellsStay around.now.number cells.old cells.new }
-    ensures held { IsHeld around.now.frame.now around.now.number cells.new occupancy.new }
-{
-    exchange(around.frame, cells, occupancy, moves, first, second)?;
-    refusal_of(around, cells, occupancy, first.own, second.own)
 }
 
 impl Tables {
-    /// Exchanges the places of two placed cells of the team; `Illegal` if one of them breaks a
-    /// rule then.
-    fn swap_placed<S>(
+    /// Exchanges two cells by their moves, for which there is room; `Illegal`, and the moves are taken back,
+    /// where one of them breaks a rule then. No memory is taken.
+    fn exchange(
         &mut self,
-        around: &Surroundings<'_, S>,
         session: u32,
-        first: CellId,
-        second: CellId,
-    ) -> Result<Reply, AllocError>
-        requires change { CanChange around.now.frame.now around.now.number session self.old }
-        requires ready { IsReady around.now }
-        requires teams { (first.team ≡ around.now.number) × (second.team ≡ around.now.number) }
-        ensures ok { (l : Legalizer) → IfOk result (λ reply. Reaches
-            (swapped_here (setting_in l around.now) session first.own second.own (team_in around.now self.old))
-            reply (team_in around.now self.new)) }
-        ensures err { OnErr result (team_in around.now self.new ≡ team_in around.now self.old) }
-        ensures others { OthersStay around.now.number self.old self.new }
-        ensures follows { IsFollowed around.now.frame.now self.new }
+        exchange: &Exchange,
+        moves: Moves,
+        alone: Option<Rule>,
+    ) -> Reply
+        requires change { CanChange exchange.now.first.team session self.old }
+        requires room { HasRoomFor self.old.undo exchange.now.first.team }
+        requires fits { Fits self.old.placement exchange.now.first.team (places_of (made moves (cells_in exchange.now.first.team self.old))) }
+        requires are { IsExchange exchange.now.first.team (cells_in exchange.now.first.team self.old) exchange.now }
+        requires moves { moves ≡ exchange_moves exchange.now }
+        requires first { IsBrokenAlone self.old.placement exchange.now.first exchange.now.to None }
+        requires second { IsBrokenAlone self.old.placement exchange.now.second exchange.now.from alone }
+        ensures team { (l : Legalizer) → Reaches
+            (swapped_here (setting l (frame_of self.old) exchange.now.first.team) session exchange.now.first.own exchange.now.second.own
+            (own_team exchange.now.first.team self.old)) result (own_team exchange.now.first.team self.new) }
+        ensures others { OthersStay exchange.now.first.team self.old self.new }
+        ensures fit { EntriesFit exchange.now.first.team self.new }
     {
-        let mut moves = Moves::new(around.alloc);
-        match try_exchange(
-            around,
-            &mut self.cells,
-            &mut self.occupancy,
-            &mut moves,
-            first,
-            second,
-        ) {
-            Ok(None) => {
-                let revision = self.keep(around.frame, around.number, session, moves)?;
-                Ok(Reply::Revision(revision))
-            }
-            Ok(Some(refusal)) => {
-                take_back(
-                    around.frame,
-                    &mut self.cells,
-                    &mut self.occupancy,
-                    around.number,
-                    &moves,
-                );
-                Ok(Reply::Refused(refusal))
-            }
-            Err(error) => {
-                take_back(
-                    around.frame,
-                    &mut self.cells,
-                    &mut self.occupancy,
-                    around.number,
-                    &moves,
-                );
-                Err(error)
+        let number = exchange.first.team as usize;
+        let mut moves = moves;
+        self.placement.places_stand();
+        self.placement.make(number, &mut moves, 0);
+        match refusal_of(&self.placement, exchange, alone) {
+            None => Reply::Revision(self.keep(number, session, moves)),
+            Some(refusal) => {
+                self.placement.take_back(number, &moves);
+                Reply::Refused(refusal)
             }
         }
     }
 
-    /// Exchanges the places of two cells: `NoCell` if the team has none of a name, else
-    /// `Unplaced` if one has no place, else `Illegal` if one breaks a rule at its new
-    /// place; each for the first cell before the second.
+    /// Exchanges the places of two placed cells of the team; `Illegal` where one of them breaks a rule
+    /// then. Nothing is exchanged where the first breaks one wherever the other cells are.
+    fn swap_placed<S>(
+        &mut self,
+        around: &Surroundings<'_, S>,
+        session: u32,
+        exchange: &Exchange,
+    ) -> Result<Reply, AllocError>
+        requires change { CanChange around.now.number session self.old }
+        requires ready { IsReady around.now self.old }
+        requires are { IsExchange around.now.number (cells_in around.now.number self.old) exchange.now }
+        ensures ok { (l : Legalizer) → IfOk result (λ reply. Reaches
+            (swapped_here (setting_in l around.now self.old) session exchange.now.first.own exchange.now.second.own (team_in around.now self.old))
+            reply (team_in around.now self.new)) }
+        ensures err { OnErr result (team_in around.now self.new ≡ team_in around.now self.old) }
+        ensures others { OthersStay around.now.number self.old self.new }
+        ensures fit { EntriesFit around.now.number self.new }
+    {
+        let Exchange {
+            first,
+            second,
+            from,
+            to,
+        } = *exchange;
+        let (alloc, index) = (around.alloc, around.index);
+        verdict_is_one();
+        self.placement.cells_are_sized();
+        let alone = self.placement.broken_alone(alloc, index, first, &to)?;
+        if let Some(rule) = alone {
+            return Ok(Reply::Refused(Refusal::Illegal {
+                rule,
+                cell: first.own,
+                other: None,
+            }));
+        }
+        let alone = self.placement.broken_alone(alloc, index, second, &from)?;
+        let moves = exchange_moves(alloc, exchange)?;
+        self.make_room_for(alloc, around.number, moves.as_slice())?;
+        Ok(self.exchange(session, exchange, moves, alone))
+    }
+
+    /// Exchanges the places of two cells: `NoCell` where the team has none of a name, else
+    /// `Unplaced` where one is unplaced, else `Illegal` where one breaks a rule at its new
+    /// place; in each the first before the second.
     #[tactic(auto, unfolding(lf_teams::specs::Changes::swapped))]
     pub(crate) fn swap<S>(
         &mut self,
@@ -212,29 +198,35 @@ impl Tables {
         first: &[u8],
         second: &[u8],
     ) -> Result<Reply, AllocError>
-        requires change { CanChange around.now.frame.now around.now.number session self.old }
-        requires ready { IsReady around.now }
+        requires change { CanChange around.now.number session self.old }
+        requires ready { IsReady around.now self.old }
         ensures ok { (l : Legalizer) → IfOk result (λ reply. Reaches
-            (swapped (setting_in l around.now) session first.now second.now (team_in around.now self.old))
+            (swapped (setting_in l around.now self.old) session first.now second.now (team_in around.now self.old))
             reply (team_in around.now self.new)) }
         ensures err { (l : Legalizer) → OnErr result (RunsOut
-            (swapped (setting_in l around.now) session first.now second.now (team_in around.now self.old))
+            (swapped (setting_in l around.now self.old) session first.now second.now (team_in around.now self.old))
             (team_in around.now self.old) (team_in around.now self.new)) }
         ensures others { OthersStay around.now.number self.old self.new }
-        ensures follows { IsFollowed around.now.frame.now self.new }
+        ensures fit { EntriesFit around.now.number self.new }
     {
-        let Some(first) = self.cells.find_own(around.number, first) else {
+        let Some(first) = self.cell_named(around.number, first) else {
             return Ok(Reply::Refused(Refusal::NoCell));
         };
-        let Some(second) = self.cells.find_own(around.number, second) else {
+        let Some(second) = self.cell_named(around.number, second) else {
             return Ok(Reply::Refused(Refusal::NoCell));
         };
-        if self.cells.working(first).is_none() {
+        let Some(from) = self.working(first) else {
             return Ok(Reply::Refused(Refusal::Unplaced { cell: first.own }));
-        }
-        if self.cells.working(second).is_none() {
+        };
+        let Some(to) = self.working(second) else {
             return Ok(Reply::Refused(Refusal::Unplaced { cell: second.own }));
-        }
-        self.swap_placed(around, session, first, second)
+        };
+        let exchange = Exchange {
+            first,
+            second,
+            from,
+            to,
+        };
+        self.swap_placed(around, session, &exchange)
     }
 }

@@ -1,43 +1,27 @@
 //! The state of all teams, in one table of each kind.
 
-ghost use Rattle.std.specs.Prelude.{◌≡◌, ◌+◌, IfOk};
+ghost use Rattle.std.specs.Prelude.{◌≡◌, ◌+◌, IfOk, IfSome, option_map};
+ghost use Rattle.lf_cells.specs.Cells.{cell_named, working_at};
 ghost use Rattle.lf_segments.specs.Segments.{IsCut};
-ghost use Rattle.lf_floor.specs.Tables.{AreOpening, AreSized, Counts, Follows, HasRows, IsCurrent, IsFollowed, revision_of};
+ghost use Rattle.lf_floor.specs.Tables.{AreOpening, Counts, HasRows, IsCurrent, cells_in, revision_of};
 
-use lf_cells::CellTable;
-use lf_floorplan::{Frame, Loaded};
-use lf_occupancy::Occupancy;
+use lf_cells::CellId;
+use lf_floorplan::{Loaded, Place};
+use lf_placement::Placement;
 use lf_segments::Segments;
 use lf_sessions::SessionTable;
 use lf_undo::UndoStore;
 use std::alloc::{AllocError, Global};
 
-/// The cells, the undo entries, the session slots and the revisions of all teams: each table has a
-/// row for each team of the frame. And the occupancy by the cells.
+/// The frame with the cells of all teams, and their undo entries, session slots and revisions: each
+/// table has a row for each team of the frame.
 #[derive(Drop)]
 pub(crate) struct Tables {
-    pub(crate) cells: CellTable,
-    /// The cells in the frame's strips; none after an allocation for it failed, until it is built
-    /// anew for its next use.
-    pub(crate) occupancy: Option<Occupancy>,
+    pub(crate) placement: Placement,
     pub(crate) undo: UndoStore,
     pub(crate) sessions: SessionTable,
     /// How many changes each team has made.
     pub(crate) revisions: Vec<u32>,
-}
-
-/// The occupancy of the cells; none if an allocation for it fails.
-fn occupancy_of(
-    alloc: Global,
-    frame: &Frame,
-    segments: &Segments,
-    cells: &CellTable,
-) -> Option<Occupancy>
-    requires cut { IsCut frame.now segments.now }
-    requires sized { AreSized frame.now cells.now }
-    ensures { Follows frame.now cells.now result }
-{
-    Occupancy::build(alloc, frame, segments, cells).ok()
 }
 
 impl Tables {
@@ -45,24 +29,38 @@ impl Tables {
     /// is open.
     pub(crate) fn opening(
         alloc: Global,
-        loaded: &Loaded,
+        loaded: Loaded,
         segments: &Segments,
     ) -> Result<Tables, AllocError>
-        requires { IsCut loaded.now.frame segments.now }
-        ensures opening { IfOk result (λ tables. AreOpening loaded.now tables) }
-        ensures follows { IfOk result (λ tables. IsFollowed loaded.now.frame tables) }
+        requires { IsCut loaded.frame segments.now }
+        ensures { IfOk result (λ tables. AreOpening loaded tables) }
     {
         let teams = loaded.frame.teams.len() + 1;
-        let limits = &loaded.frame.limits;
-        let cells = CellTable::build(alloc, loaded)?;
-        let occupancy = occupancy_of(alloc, &loaded.frame, segments, &cells);
+        let undo = UndoStore::build(alloc, teams, loaded.frame.limits.undo as usize)?;
+        let sessions = SessionTable::build(alloc, teams, loaded.frame.limits.sessions)?;
+        let revisions = vec![in alloc; 0; teams]?;
+        let placement = Placement::build(alloc, loaded, segments)?;
         Ok(Tables {
-            cells,
-            occupancy,
-            undo: UndoStore::build(alloc, teams, limits.undo as usize)?,
-            sessions: SessionTable::build(alloc, teams, limits.sessions)?,
-            revisions: vec![in alloc; 0; teams]?,
+            placement,
+            undo,
+            sessions,
+            revisions,
         })
+    }
+
+    /// The team's cell of that name; none for another team's cell, as for one that no team has.
+    pub(crate) fn cell_named(&self, number: usize, name: &[u8]) -> Option<CellId>
+        ensures own { option_map (λ id. id.own) result ≡ cell_named name.now (cells_in number self.now) }
+        ensures team { IfSome result (λ id. id.team ≡ number) }
+    {
+        self.placement.cells().find_own(number, name)
+    }
+
+    /// The working place of a cell; none where it is unplaced, or there is no such cell.
+    pub(crate) fn working(&self, id: CellId) -> Option<Place>
+        ensures { result ≡ working_at (cells_in id.team self.now) id.own }
+    {
+        self.placement.cells().working(id)
     }
 
     /// How many changes the team has made.

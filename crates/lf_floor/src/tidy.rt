@@ -1,32 +1,30 @@
 //! What `tidy` does.
 
-ghost use Rattle.std.specs.Prelude.{◌≡◌, ◌≤◌, All, List, IfOk, OnErr, length};
-ghost use Rattle.lf_floorplan.specs.Bounds.{IsName};
+ghost use Rattle.std.specs.Prelude.{◌≡◌, List, IfOk, OnErr, OnOk};
 ghost use Rattle.lf_rules.specs.Legalizer.{Legalizer};
+ghost use Rattle.lf_reports.specs.Nearby.{IsIndexOf};
 ghost use Rattle.lf_cells.specs.declared.cell.Cell.{Cell};
-ghost use Rattle.lf_cells.specs.Cells.{cells_of};
-ghost use Rattle.lf_legalize.specs.Members.{IsSizedCell};
+ghost use Rattle.lf_cells.specs.Cells.{cells_of, moved};
+ghost use Rattle.lf_placement.specs.Placings.{HaveMoved};
 ghost use Rattle.lf_teams.specs.Outcomes.{Reaches, RunsOut};
 ghost use Rattle.lf_teams.specs.Changes.{tidied_team};
-ghost use Rattle.lf_floor.specs.Tables.{CanChange, Follows, IsFollowed, IsHeld, IsReady};
-ghost use Rattle.lf_floor.specs.Tables.{HaveMoved, OtherCellsStay, OthersStay, SameButPlaces, setting_in, team_in};
+ghost use Rattle.lf_floor.specs.Tables.{CanChange, EntriesFit, IsReady, OnlyMoves, OthersStay, frame_of, setting_at, setting_in, team_in};
 ghost use Rattle.lf_floor.specs.Marking.{AreMarked};
 ghost use Rattle.lf_floor.specs.Tidying.{Sends, Tidies, target_at};
 
 use crate::cell::{best_place, broken_at};
 use crate::legal::{is_marked, legal_marks};
-use crate::moving::{shift, take_back};
 use crate::surroundings::Surroundings;
 use crate::tables::Tables;
-use lf_cells::CellTable;
+use lf_cells::CellId;
 use lf_floorplan::Place;
 use lf_legalize::{Seeker, anchor};
-use lf_occupancy::Occupancy;
+use lf_placement::Placement;
 use lf_proto::{Refusal, Reply};
 use lf_rules::{legalizer_is_there, tidy_keeps_legal, verdict_is_one};
-use lf_undo::Moves;
+use lf_undo::{Move, Moves};
 use lf_units::Point;
-use std::alloc::AllocError;
+use std::alloc::{AllocError, Global};
 
 /// What became of one cell.
 #[derive(Clone, Copy)]
@@ -58,70 +56,92 @@ fn corner(place: &Place) -> Point
     }
 }
 
-/// The target to which the team's cell of that position is tidied: the anchor if it is unplaced, its own
-/// corner if it breaks a rule; none if it stays, as each marked cell does.
+/// Where the team's cell of that id is tidied to: the anchor where it is unplaced, its own corner where
+/// it breaks a rule; none where it stays, as each marked cell does.
 fn target_of<S>(
     around: &Surroundings<'_, S>,
-    cells: &CellTable,
-    occupancy: &mut Option<Occupancy>,
+    placement: &Placement,
     marks: &[bool],
-    own: usize,
+    id: CellId,
 ) -> Result<Option<Point>, AllocError>
-    requires sized { All (IsSizedCell around.now.frame.now) (cells_of cells.now around.now.number) }
-    requires few { length (cells_of cells.now around.now.number) ≤ 4000000 }
-    requires marked { AreMarked around.now.frame.now around.now.number (cells_of cells.now around.now.number) marks.now }
-    requires follows { Follows around.now.frame.now cells.now occupancy.old }
-    requires ready { IsReady around.now }
-    ensures is { (l : Legalizer) → IfOk result (λ target. target ≡ target_at (setting_in l around.now) (cells_of cells.now around.now.number) own) }
-    ensures follows { Follows around.now.frame.now cells.now occupancy.new }
+    requires team { id.team ≡ around.now.number }
+    requires marked { AreMarked placement.now.frame around.now.number (cells_of placement.now.cells around.now.number) marks.now }
+    requires ready { IsIndexOf placement.now.frame around.now.index.now }
+    ensures { (l : Legalizer) → IfOk result (λ target. target
+        ≡ target_at (setting_at l around.now placement.now) (cells_of placement.now.cells around.now.number) id.own) }
 {
     verdict_is_one();
+    placement.cells_are_sized();
+    let own = id.own as usize;
     if is_marked(marks, own) {
         return Ok(None);
     }
-    let Some(standing) = cells.standing(around.number, own) else {
+    let Some(standing) = placement.cells().standing(around.number, own) else {
         return Ok(None);
     };
     let Some(place) = standing.working else {
-        return Ok(Some(anchor(around.frame, around.number)));
+        return Ok(Some(anchor(placement.frame(), around.number)));
     };
-    match broken_at(around, cells, occupancy, own, &place)? {
+    match broken_at(around, placement, id, &place)? {
         Some(_) => Ok(Some(corner(&place))),
         None => Ok(None),
     }
 }
 
-/// Sends the team's cell of that position to its best place, unless it stays.
+/// Moves one cell, for which room is made first, and puts the move with the place that the cell had behind
+/// the others.
+///
+/// `Err` where an allocation fails; then no cell has moved.
+fn move_one(
+    alloc: Global,
+    placement: &mut Placement,
+    moves: &mut Moves,
+    id: CellId,
+    place: Option<Place>,
+) -> Result<(), AllocError>
+    ensures own { OnOk result (cells_of placement.new.cells id.team ≡ moved (cells_of placement.old.cells id.team) id.own place) }
+    ensures moved { (before : List Cell) → HaveMoved before moves.old (cells_of placement.old.cells id.team) →
+        HaveMoved before moves.new (cells_of placement.new.cells id.team) }
+    ensures only { OnlyMoves id.team placement.old placement.new }
+{
+    let number = id.team as usize;
+    let next = Move {
+        own: id.own,
+        old: place,
+    };
+    placement.reserve(alloc, number, &[next])?;
+    let from = moves.as_slice().len();
+    moves.push(next)?;
+    placement.make(number, moves, from);
+    Ok(())
+}
+
+/// Sends the team's cell of that position to its best place, where it does not stay.
 fn send<S: Seeker>(
     around: &Surroundings<'_, S>,
-    cells: &mut CellTable,
-    occupancy: &mut Option<Occupancy>,
+    placement: &mut Placement,
     moves: &mut Moves,
     marks: &[bool],
     own: usize,
 ) -> Result<Sent, AllocError>
-    requires held { IsHeld around.now.frame.now around.now.number cells.old occupancy.old }
-    requires few { length (cells_of cells.old around.now.number) ≤ 4000000 }
-    requires marked { AreMarked around.now.frame.now around.now.number (cells_of cells.old around.now.number) marks.now }
-    requires ready { IsReady around.now }
-    requires made { S.is_for around.now.seeker.now around.now.frame.now }
-    ensures ok { (l : Legalizer) → IfOk result (λ sent. Sends (setting_in l around.now) own (cells_of cells.old around.now.number)
-        (cells_of cells.new around.now.number) sent) }
-    ensures same { SameButPlaces (cells_of cells.old around.now.number) (cells_of cells.new around.now.number) }
-    ensures moved { (before : List Cell) → HaveMoved before moves.old (cells_of cells.old around.now.number) →
-        HaveMoved before moves.new (cells_of cells.new around.now.number) }
-    ensures others { OtherCellsStay around.now.number cells.old cells.new }
-    ensures held { IsHeld around.now.frame.now around.now.number cells.new occupancy.new }
+    requires marked { AreMarked placement.old.frame around.now.number (cells_of placement.old.cells around.now.number) marks.now }
+    requires ready { IsIndexOf placement.old.frame around.now.index.now }
+    requires made { S.is_for around.now.seeker.now placement.old.frame }
+    ensures ok { (l : Legalizer) → IfOk result (λ sent. Sends (setting_at l around.now placement.old) own
+        (cells_of placement.old.cells around.now.number) (cells_of placement.new.cells around.now.number) sent) }
+    ensures moved { (before : List Cell) → HaveMoved before moves.old (cells_of placement.old.cells around.now.number) →
+        HaveMoved before moves.new (cells_of placement.new.cells around.now.number) }
+    ensures only { OnlyMoves around.now.number placement.old placement.new }
 {
-    let Some(target) = target_of(around, cells, occupancy, marks, own)? else {
+    let Some(id) = placement.cells().id_at(around.number, own) else {
         return Ok(Sent::Stays);
     };
-    let Some(id) = cells.id_at(around.number, own) else {
+    let Some(target) = target_of(around, placement, marks, id)? else {
         return Ok(Sent::Stays);
     };
-    match best_place(around, cells, occupancy, id, &target)? {
+    match best_place(around, placement, id, &target)? {
         Some(place) => {
-            shift(around.frame, cells, occupancy, moves, id, Some(place))?;
+            move_one(around.alloc, placement, moves, id, Some(place))?;
             Ok(Sent::Goes)
         }
         None => Ok(Sent::Nowhere),
@@ -130,32 +150,28 @@ fn send<S: Seeker>(
 
 /// Tidies the team's cells in loading order, up to the first that has no best place.
 ///
-/// Those that stand legally are marked first: they stay so while others are sent, and are not tested again.
+/// The marked ones are placed and team-legal: they stay so while others are sent, and are not tested again.
 fn send_all<S: Seeker>(
     around: &Surroundings<'_, S>,
-    cells: &mut CellTable,
-    occupancy: &mut Option<Occupancy>,
+    placement: &mut Placement,
     moves: &mut Moves,
+    marks: &[bool],
 ) -> Result<Tidy, AllocError>
-    requires held { IsHeld around.now.frame.now around.now.number cells.old occupancy.old }
-    requires printed { All (λ c. IsName c.name) (cells_of cells.old around.now.number) }
-    requires few { length (cells_of cells.old around.now.number) ≤ 4000000 }
-    requires ready { IsReady around.now }
-    requires made { S.is_for around.now.seeker.now around.now.frame.now }
-    ensures ok { (l : Legalizer) → IfOk result (λ tidy. Tidies (setting_in l around.now) (cells_of cells.old around.now.number)
-        (cells_of cells.new around.now.number) tidy) }
-    ensures same { SameButPlaces (cells_of cells.old around.now.number) (cells_of cells.new around.now.number) }
-    ensures moved { (before : List Cell) → HaveMoved before moves.old (cells_of cells.old around.now.number) →
-        HaveMoved before moves.new (cells_of cells.new around.now.number) }
-    ensures others { OtherCellsStay around.now.number cells.old cells.new }
-    ensures held { IsHeld around.now.frame.now around.now.number cells.new occupancy.new }
+    requires marked { AreMarked placement.old.frame around.now.number (cells_of placement.old.cells around.now.number) marks.now }
+    requires ready { IsIndexOf placement.old.frame around.now.index.now }
+    requires made { S.is_for around.now.seeker.now placement.old.frame }
+    ensures ok { (l : Legalizer) → IfOk result (λ tidy. Tidies (setting_at l around.now placement.old)
+        (cells_of placement.old.cells around.now.number) (cells_of placement.new.cells around.now.number) tidy) }
+    ensures moved { (before : List Cell) → HaveMoved before moves.old (cells_of placement.old.cells around.now.number) →
+        HaveMoved before moves.new (cells_of placement.new.cells around.now.number) }
+    ensures only { OnlyMoves around.now.number placement.old placement.new }
 {
     legalizer_is_there();
     tidy_keeps_legal();
-    let marks = legal_marks(around, cells)?;
     let mut moved = 0;
-    for own in 0..cells.count_of(around.number) {
-        match send(around, cells, occupancy, moves, &marks, own)? {
+    for own in 0..placement.cells().count_of(around.number) {
+        placement.cells_are_sized();
+        match send(around, placement, moves, marks, own)? {
             Sent::Stays => {}
             Sent::Goes => moved += 1,
             Sent::Nowhere => return Ok(Tidy::Stopped(own as u32)),
@@ -174,42 +190,33 @@ impl Tables {
         around: &Surroundings<'_, S>,
         session: u32,
     ) -> Result<Reply, AllocError>
-        requires change { CanChange around.now.frame.now around.now.number session self.old }
-        requires ready { IsReady around.now }
-        requires made { S.is_for around.now.seeker.now around.now.frame.now }
+        requires change { CanChange around.now.number session self.old }
+        requires ready { IsReady around.now self.old }
+        requires made { S.is_for around.now.seeker.now (frame_of self.old) }
         ensures ok { (l : Legalizer) → IfOk result (λ reply. Reaches
-            (tidied_team (setting_in l around.now) session (team_in around.now self.old))
+            (tidied_team (setting_in l around.now self.old) session (team_in around.now self.old))
             reply (team_in around.now self.new)) }
         ensures err { (l : Legalizer) → OnErr result (RunsOut
-            (tidied_team (setting_in l around.now) session (team_in around.now self.old))
+            (tidied_team (setting_in l around.now self.old) session (team_in around.now self.old))
             (team_in around.now self.old) (team_in around.now self.new)) }
         ensures others { OthersStay around.now.number self.old self.new }
-        ensures follows { IsFollowed around.now.frame.now self.new }
+        ensures fit { EntriesFit around.now.number self.new }
     {
+        let marks = legal_marks(around, self)?;
+        self.make_room(around.number)?;
+        self.placement.places_stand();
         let mut moves = Moves::new(around.alloc);
-        match send_all(around, &mut self.cells, &mut self.occupancy, &mut moves) {
+        match send_all(around, &mut self.placement, &mut moves, &marks) {
             Ok(Tidy::Done(moved)) => {
-                let revision = self.keep(around.frame, around.number, session, moves)?;
+                let revision = self.keep(around.number, session, moves);
                 Ok(Reply::Tidied { revision, moved })
             }
             Ok(Tidy::Stopped(cell)) => {
-                take_back(
-                    around.frame,
-                    &mut self.cells,
-                    &mut self.occupancy,
-                    around.number,
-                    &moves,
-                );
+                self.placement.take_back(around.number, &moves);
                 Ok(Reply::Refused(Refusal::NoPlace { cell }))
             }
             Err(error) => {
-                take_back(
-                    around.frame,
-                    &mut self.cells,
-                    &mut self.occupancy,
-                    around.number,
-                    &moves,
-                );
+                self.placement.take_back(around.number, &moves);
                 Err(error)
             }
         }

@@ -8,7 +8,7 @@ ghost use Rattle.lf_proto.specs.Commands.{action_of, change_of, order_of};
 ghost use Rattle.lf_sessions.specs.Slots.{seen_at, slots_of};
 ghost use Rattle.lf_teams.specs.Outcomes.{Reaches, RunsOut};
 ghost use Rattle.lf_teams.specs.Verbs.{outcome_by_slot, outcome_of, outcome_of_change, outcome_within, takes_memory, unless_spent, unless_stale};
-ghost use Rattle.lf_floor.specs.Tables.{CanChange, IsFollowed, IsReady, IsServed, OthersStay, setting_in, team_in};
+ghost use Rattle.lf_floor.specs.Tables.{CanChange, EntriesFit, IsReady, IsServed, OthersStay, frame_of, setting_in, team_in};
 
 use crate::surroundings::Surroundings;
 use crate::tables::Tables;
@@ -24,17 +24,17 @@ impl Tables {
         session: u32,
         change: &Change<&[u8]>,
     ) -> Result<Reply, AllocError>
-        requires change { CanChange around.now.frame.now around.now.number session self.old }
-        requires ready { IsReady around.now }
-        requires made { S.is_for around.now.seeker.now around.now.frame.now }
+        requires change { CanChange around.now.number session self.old }
+        requires ready { IsReady around.now self.old }
+        requires made { S.is_for around.now.seeker.now (frame_of self.old) }
         ensures ok { (l : Legalizer) → IfOk result (λ reply. Reaches
-            (outcome_of_change (setting_in l around.now) session (change_of change.now) (team_in around.now self.old))
+            (outcome_of_change (setting_in l around.now self.old) session (change_of change.now) (team_in around.now self.old))
             reply (team_in around.now self.new)) }
         ensures err { (l : Legalizer) → OnErr result (RunsOut
-            (outcome_of_change (setting_in l around.now) session (change_of change.now) (team_in around.now self.old))
+            (outcome_of_change (setting_in l around.now self.old) session (change_of change.now) (team_in around.now self.old))
             (team_in around.now self.old) (team_in around.now self.new)) }
         ensures others { OthersStay around.now.number self.old self.new }
-        ensures follows { IsFollowed around.now.frame.now self.new }
+        ensures fit { EntriesFit around.now.number self.new }
         ensures takes { OnErr result (takes_memory (Within session (Changing (change_of change.now))) ≡ true) }
     {
         match change {
@@ -43,7 +43,7 @@ impl Tables {
             Change::Tidy => self.tidy(around, session),
             Change::Unplace { cell } => self.unplace(around, session, cell),
             Change::Swap { first, second } => self.swap(around, session, first, second),
-            Change::Undo => Ok(self.undo(around.frame, around.number, session)),
+            Change::Undo => Ok(self.undo(around.number, session)),
             Change::Commit => self.commit(around, session),
             Change::Revert => self.revert(around, session),
         }
@@ -59,25 +59,25 @@ impl Tables {
         seen: u32,
         change: &Change<&[u8]>,
     ) -> Result<Reply, AllocError>
-        requires served { IsServed around.now.frame.now around.now.number self.old }
+        requires served { IsServed around.now.number self.old }
         requires open { seen_at (slots_of self.old.sessions around.now.number) session ≡ Some seen }
-        requires ready { IsReady around.now }
-        requires made { S.is_for around.now.seeker.now around.now.frame.now }
+        requires ready { IsReady around.now self.old }
+        requires made { S.is_for around.now.seeker.now (frame_of self.old) }
         ensures ok { (l : Legalizer) → IfOk result (λ reply. Reaches
-            (unless_stale seen (setting_in l around.now) session (change_of change.now) (team_in around.now self.old))
+            (unless_stale seen (setting_in l around.now self.old) session (change_of change.now) (team_in around.now self.old))
             reply (team_in around.now self.new)) }
         ensures err { (l : Legalizer) → OnErr result (RunsOut
-            (unless_stale seen (setting_in l around.now) session (change_of change.now) (team_in around.now self.old))
+            (unless_stale seen (setting_in l around.now self.old) session (change_of change.now) (team_in around.now self.old))
             (team_in around.now self.old) (team_in around.now self.new)) }
         ensures others { OthersStay around.now.number self.old self.new }
-        ensures follows { IsFollowed around.now.frame.now self.new }
+        ensures fit { EntriesFit around.now.number self.new }
         ensures takes { OnErr result (takes_memory (Within session (Changing (change_of change.now))) ≡ true) }
     {
         let revision = self.revision(around.number);
         if seen != revision {
             return Ok(Reply::Refused(Refusal::Stale { revision }));
         }
-        if revision >= around.frame.limits.revisions {
+        if revision >= self.placement.frame().limits.revisions {
             return Ok(Reply::Refused(Refusal::RevisionsSpent));
         }
         self.apply(around, session, change)
@@ -91,18 +91,18 @@ impl Tables {
         seen: u32,
         action: &Action<&[u8]>,
     ) -> Result<Reply, AllocError>
-        requires served { IsServed around.now.frame.now around.now.number self.old }
+        requires served { IsServed around.now.number self.old }
         requires open { seen_at (slots_of self.old.sessions around.now.number) session ≡ Some seen }
-        requires ready { IsReady around.now }
-        requires made { S.is_for around.now.seeker.now around.now.frame.now }
+        requires ready { IsReady around.now self.old }
+        requires made { S.is_for around.now.seeker.now (frame_of self.old) }
         ensures ok { (l : Legalizer) → IfOk result (λ reply. Reaches
-            (outcome_within seen (setting_in l around.now) session (action_of action.now) (team_in around.now self.old))
+            (outcome_within seen (setting_in l around.now self.old) session (action_of action.now) (team_in around.now self.old))
             reply (team_in around.now self.new)) }
         ensures err { (l : Legalizer) → OnErr result (RunsOut
-            (outcome_within seen (setting_in l around.now) session (action_of action.now) (team_in around.now self.old))
+            (outcome_within seen (setting_in l around.now self.old) session (action_of action.now) (team_in around.now self.old))
             (team_in around.now self.old) (team_in around.now self.new)) }
         ensures others { OthersStay around.now.number self.old self.new }
-        ensures follows { IsFollowed around.now.frame.now self.new }
+        ensures fit { EntriesFit around.now.number self.new }
         ensures takes { OnErr result (takes_memory (Within session (action_of action.now)) ≡ true) }
     {
         match action {
@@ -125,17 +125,17 @@ impl Tables {
         around: &Surroundings<'_, S>,
         order: &Order<&[u8]>,
     ) -> Result<Reply, AllocError>
-        requires served { IsServed around.now.frame.now around.now.number self.old }
-        requires ready { IsReady around.now }
-        requires made { S.is_for around.now.seeker.now around.now.frame.now }
+        requires served { IsServed around.now.number self.old }
+        requires ready { IsReady around.now self.old }
+        requires made { S.is_for around.now.seeker.now (frame_of self.old) }
         ensures ok { (l : Legalizer) → IfOk result (λ reply. Reaches
-            (outcome_of (setting_in l around.now) (order_of order.now) (team_in around.now self.old))
+            (outcome_of (setting_in l around.now self.old) (order_of order.now) (team_in around.now self.old))
             reply (team_in around.now self.new)) }
         ensures err { (l : Legalizer) → OnErr result (RunsOut
-            (outcome_of (setting_in l around.now) (order_of order.now) (team_in around.now self.old))
+            (outcome_of (setting_in l around.now self.old) (order_of order.now) (team_in around.now self.old))
             (team_in around.now self.old) (team_in around.now self.new)) }
         ensures others { OthersStay around.now.number self.old self.new }
-        ensures follows { IsFollowed around.now.frame.now self.new }
+        ensures fit { EntriesFit around.now.number self.new }
         ensures takes { OnErr result (takes_memory (order_of order.now) ≡ true) }
     {
         match order {

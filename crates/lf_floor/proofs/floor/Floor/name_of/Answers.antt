@@ -1,10 +1,12 @@
-use Rattle.std.proofs.Common.{sym, ◌∙◌, ap, List}
+use Rattle.std.proofs.Common.{◌≡◌, ◌<◌, ◌+◌, length, sym, ◌∙◌, ap, List, Some, subst}
 use Rattle.std.specs.Prelude.{option_map}
+use Rattle.lf_floorplan.specs.declared.frame.Frame.{Frame}
 use Rattle.lf_cells.specs.declared.cell.Cell.{Cell}
 use Rattle.lf_cells.specs.declared.cell.CellFacts.{CellFacts}
-use Rattle.lf_cells.specs.Cells.{cells_of}
+use Rattle.lf_cells.specs.Cells.{Cells, cell_at, cells_of, id_in}
 use Rattle.lf_teams.specs.Outcomes.{name_at}
-use Rattle.lf_teams.specs.Teams.{IsTeamOf}
+use Rattle.lf_teams.specs.Teams.{IsTeamOf, team_number}
+use Rattle.lf_floor.specs.Tables.{cells_in, frame_of}
 use Rattle.lf_floor.proofs.Seeking.{names_none, name_told, name_printed}
 use Rattle.lf_floor.proofs.Rows.{cells_seen, each_team}
 use Rattle.lf_floor.proofs.floor.Floor.name_of.Goals as goal
@@ -14,24 +16,33 @@ returns-in_err-id-clause-name g c =
     let i = c.self.inside in
     let number = c.in_ok-number.number in
     ap (option_map (λ name. name.now)) c.from_residual-in_err-id.ensures
-    ∙ sym (cells_seen (λ (cells : List Cell). name_at cells c.args.own) i.frame i.tables c.args.self.now c.args.team.now number
-    c.self.view_is c.in_ok-number.ensures.found (rw c.self.invariant.0.revisions c.in_ok-number.ensures.within)
-    ∙ names_none (cells_of i.tables.cells number) number c.args.own (sym c.id_at.ensures ∙ c.in_err-id.was {u = tt}))
+    ∙ sym (cells_seen (λ (cells : List Cell). name_at cells c.args.own) i.tables c.args.self.now c.args.team.now number
+    c.self.view_is (subst (λ (f : Frame). Some number ≡ team_number f c.args.team.now) c.frame.ensures c.in_ok-number.ensures.found)
+    (rw c.self.invariant.0.revisions (subst (λ (f : Frame). number < length f.teams + 1) c.frame.ensures c.in_ok-number.ensures.within))
+    ∙ names_none (cells_in number i.tables) number c.args.own
+    (subst (λ (cs : Cells). id_in (cells_of cs number) number c.args.own ≡ Rattle.std.proofs.Common.None) c.cells-cells.ensures
+    (sym c.id_at.ensures ∙ c.in_err-id.was {u = tt})))
 
 pub returns-clause-name : goal.returns-clause-name
 returns-clause-name g c =
     let i = c.self.inside in
     let number = c.in_ok-number.number in
-    name_told i.tables.cells number c.args.own c.in_ok-id.id c.in_ok-cell.field-0 (sym c.id_at.ensures ∙ c.in_ok-id.was {u = tt})
-    (ap (option_map (λ (f : CellFacts). f.name.now)) (sym (c.in_ok-cell.was {u = tt})) ∙ c.cell.ensures.name)
-    ∙ sym (cells_seen (λ (cells : List Cell). name_at cells c.args.own) i.frame i.tables c.args.self.now c.args.team.now number
-    c.self.view_is c.in_ok-number.ensures.found (rw c.self.invariant.0.revisions c.in_ok-number.ensures.within))
+    name_told i.tables.placement.cells number c.args.own c.in_ok-id.id c.in_ok-cell.field-0
+    (subst (λ (cs : Cells). id_in (cells_of cs number) number c.args.own ≡ Some c.in_ok-id.id) c.cells-cells.ensures (sym c.id_at.ensures ∙ c.in_ok-id.was {u = tt}))
+    (ap (option_map (λ (f : CellFacts). f.name.now)) (sym (c.in_ok-cell.was {u = tt}))
+    ∙ c.cell.ensures.name ∙ ap (λ (cs : Cells). option_map (λ (d : Cell). d.name) (cell_at cs c.in_ok-id.id)) c.cells-cells.ensures)
+    ∙ sym (cells_seen (λ (cells : List Cell). name_at cells c.args.own) i.tables c.args.self.now c.args.team.now number
+    c.self.view_is (subst (λ (f : Frame). Some number ≡ team_number f c.args.team.now) c.frame.ensures c.in_ok-number.ensures.found)
+    (rw c.self.invariant.0.revisions (subst (λ (f : Frame). number < length f.teams + 1) c.frame.ensures c.in_ok-number.ensures.within)))
 
 pub returns-clause-printed : goal.returns-clause-printed
 returns-clause-printed g c =
     let i = c.self.inside in
     let number = c.in_ok-number.number in
-    name_printed (cells_of i.tables.cells number) c.args.own c.in_ok-cell.field-0.name.now
-    (each_team (λ t. IsTeamOf i.frame t) i.tables number c.self.invariant.1 (rw c.self.invariant.0.revisions c.in_ok-number.ensures.within)).printed
-    (name_told i.tables.cells number c.args.own c.in_ok-id.id c.in_ok-cell.field-0 (sym c.id_at.ensures ∙ c.in_ok-id.was {u = tt})
-    (ap (option_map (λ (f : CellFacts). f.name.now)) (sym (c.in_ok-cell.was {u = tt})) ∙ c.cell.ensures.name))
+    name_printed (cells_in number i.tables) c.args.own c.in_ok-cell.field-0.name.now
+    (each_team (λ t. IsTeamOf (frame_of i.tables) t) i.tables number c.self.invariant.0.teams
+    (rw c.self.invariant.0.revisions (subst (λ (f : Frame). number < length f.teams + 1) c.frame.ensures c.in_ok-number.ensures.within))).printed
+    (name_told i.tables.placement.cells number c.args.own c.in_ok-id.id c.in_ok-cell.field-0
+    (subst (λ (cs : Cells). id_in (cells_of cs number) number c.args.own ≡ Some c.in_ok-id.id) c.cells-cells.ensures (sym c.id_at.ensures ∙ c.in_ok-id.was {u = tt}))
+    (ap (option_map (λ (f : CellFacts). f.name.now)) (sym (c.in_ok-cell.was {u = tt}))
+    ∙ c.cell.ensures.name ∙ ap (λ (cs : Cells). option_map (λ (d : Cell). d.name) (cell_at cs c.in_ok-id.id)) c.cells-cells.ensures))

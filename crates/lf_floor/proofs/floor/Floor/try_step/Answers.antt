@@ -1,5 +1,8 @@
+use Rattle.std.proofs.Common.{◌≡◌, Some, None, subst}
 use Rattle.std.proofs.lemmas.Result.{IfOk-weaker}
+use Rattle.lf_floorplan.specs.declared.frame.Frame.{Frame}
 use Rattle.lf_proto.specs.Commands.{order_of}
+use Rattle.lf_teams.specs.Teams.{team_number}
 use Rattle.lf_floor.specs.Tables.{floor_in}
 use Rattle.lf_teams.proofs.Answering.{bye_answers, none_answers, some_answers, some_short}
 use Rattle.lf_teams.proofs.Serving.{on_err_both}
@@ -10,22 +13,25 @@ returns-in-Bye-clause-ok g c = λ l. rw c.in-Bye.is (bye_answers l c.args.self.n
 
 pub returns-in_default-clause-ok : goal.returns-in_default-clause-ok
 returns-in_default-clause-ok g c = λ l.
-    let old = floor_in c.self.inside.frame c.self.inside.tables in
+    let old = floor_in c.self.inside.tables in
     rw (← c.self.view_is, c.in-To.is)
-    (none_answers l old c.in-To.team.now (order_of c.in-To.order) (c.in_default.ensures {u = tt}).found)
+    (none_answers l old c.in-To.team.now (order_of c.in-To.order)
+    (subst (λ (f : Frame). ◌≡◌ {A = Rattle.std.proofs.Common.Option Rattle.std.proofs.Common.ℕ} None (team_number f c.in-To.team.now)) c.frame.ensures (c.in_default.ensures {u = tt}).found))
 
 pub returns-in-Some-clause-ok : goal.returns-in-Some-clause-ok
 returns-in-Some-clause-ok g c = λ l.
-    let old = floor_in c.self.inside.frame c.self.inside.tables in
-    let new = floor_in c.self.inside.frame c.serve_at.new.tables in
+    let old = floor_in c.self.inside.tables in
+    let new = floor_in c.serve_at.new.tables in
     rw (← c.self.view_is, c.in-To.is) (IfOk-weaker c.serve_at.result _ _
-    (λ reply given. some_answers l old new c.in-To.team.now (order_of c.in-To.order) c.in-Some.number reply (c.in-Some.ensures {u = tt}).found given)
+    (λ reply given. some_answers l old new c.in-To.team.now (order_of c.in-To.order) c.in-Some.number reply
+    (subst (λ (f : Frame). Some c.in-Some.number ≡ team_number f c.in-To.team.now) c.frame.ensures (c.in-Some.ensures {u = tt}).found) given)
     (c.serve_at.ensures.ok l))
 
 pub returns-in-Some-clause-err : goal.returns-in-Some-clause-err
 returns-in-Some-clause-err g c = λ l.
-    let old = floor_in c.self.inside.frame c.self.inside.tables in
-    let new = floor_in c.self.inside.frame c.serve_at.new.tables in
+    let old = floor_in c.self.inside.tables in
+    let new = floor_in c.serve_at.new.tables in
     rw (← c.self.view_is, c.in-To.is) (on_err_both c.serve_at.result
     (λ takes short. some_short l old new c.in-To.team.now (order_of c.in-To.order) c.in-Some.number
-    (c.in-Some.ensures {u = tt}).found takes short) c.serve_at.ensures.takes (c.serve_at.ensures.err l))
+    (subst (λ (f : Frame). Some c.in-Some.number ≡ team_number f c.in-To.team.now) c.frame.ensures (c.in-Some.ensures {u = tt}).found) takes short)
+    c.serve_at.ensures.takes (c.serve_at.ensures.err l))

@@ -1,29 +1,51 @@
+use Rattle.std.proofs.Common.{◌≡◌, ◌+◌, ℕ, List, Option, ap, map, refl, sym, subst, ◌∙◌}
+use Rattle.lf_floorplan.specs.declared.place.Place.{Place}
+use Rattle.lf_cells.specs.Cells.{Cells, cells_of}
 use Rattle.lf_proto.proofs.Fronts.{on_err_from}
-use Rattle.lf_cells.specs.Cells.{cells_of}
-use Rattle.lf_floor.specs.Tables.{own_team, setting_in, team_in}
-use Rattle.lf_floor.proofs.Ends.{back_to, from_none, reverted_reaches, reverted_short}
+use Rattle.lf_placement.specs.Placings.{Fits, Placing, made, places_of}
+use Rattle.lf_teams.specs.Changes.{back_to_committed}
+use Rattle.lf_floor.specs.Tables.{cells_in, kept, setting_in, team_in}
+use Rattle.lf_floor.proofs.Ends.{reverted_reaches, reverted_short}
+use Rattle.lf_floor.proofs.Fitting.{grown_kept, grown_revision, grown_team}
+use Rattle.lf_floor.proofs.Reverting.{places_reverted}
 use Rattle.lf_floor.proofs.tables.Tables.revert.Goals as goal
 
-pub returns-in_err-revision-in-Ok-clause-err : goal.returns-in_err-revision-in-Ok-clause-err
-returns-in_err-revision-in-Ok-clause-err g c = λ l.
-    let before = cells_of c.args.self.now.cells c.args.around.now.number in
-    let have = c.move_back.ensures.moved before (from_none before c.new-moves.result c.new-moves.ensures) in
-    on_err_from c.from_residual.result (reverted_short (setting_in l c.args.around.now) c.args.session (team_in c.args.around.now c.args.self.now)
-    (team_in c.args.around.now c.keep.new.self) ((c.in_err-revision-in-Ok.ensures {u = tt}).err before have))
+pub returns-in_err-moves-clause-err : goal.returns-in_err-moves-clause-err
+returns-in_err-moves-clause-err g c = λ l.
+    let s = team_in c.args.around.now c.args.self.now in
+    on_err_from c.from_residual.result (reverted_short (setting_in l c.args.around.now c.args.self.now) c.args.session s s refl)
 
-pub returns-in_ok-revision-in-Ok-clause-ok : goal.returns-in_ok-revision-in-Ok-clause-ok
-returns-in_ok-revision-in-Ok-clause-ok g c = λ l.
-    let number = c.args.around.now.number in
-    let before = cells_of c.args.self.now.cells number in
-    let have = c.move_back.ensures.moved before (from_none before c.new-moves.result c.new-moves.ensures) in
-    let done = c.in_ok-revision-in-Ok.ensures {u = tt} in
-    reverted_reaches (setting_in l c.args.around.now) number c.args.session c.in_ok-revision-in-Ok.revision c.args.self.now c.keep.new.self c.move_back.new.cells
-    c.requires.served.limit (c.in-Ok.ensures {u = tt}).own (done.ok before have) done.revision
+pub returns-in_err-make_room-clause-err : goal.returns-in_err-make_room-clause-err
+returns-in_err-make_room-clause-err g c = λ l.
+    let old = c.args.self.now in
+    let new = c.make_room.new.self in
+    on_err_from c.from_residual-in_err-make_room.result
+    (reverted_short (setting_in l c.args.around.now old) c.args.session (team_in c.args.around.now old) (team_in c.args.around.now new)
+    (grown_team c.args.around.now.number old new c.make_room.ensures.grown))
 
-pub returns-in-Err-clause-err : goal.returns-in-Err-clause-err
-returns-in-Err-clause-err g c = λ l.
+pub change_places-requires-clause-fits : goal.change_places-requires-clause-fits
+change_places-requires-clause-fits g c =
     let number = c.args.around.now.number in
-    let before = cells_of c.args.self.now.cells number in
-    let have = c.move_back.ensures.moved before (from_none before c.new-moves.result c.new-moves.ensures) in
-    reverted_short (setting_in l c.args.around.now) c.args.session (team_in c.args.around.now c.args.self.now) (own_team number record c.args.self.now { cells = c.take_back.new.cells })
-    (back_to number c.args.self.now c.take_back.new.cells (c.take_back.ensures.own before have))
+    let p = c.args.self.now.placement in
+    let cells = cells_of p.cells number in
+    let moves = c.in_ok-moves.moves in
+    let back : made moves cells ≡ map back_to_committed cells =
+    subst (λ (cs : Cells). made moves (cells_of cs number) ≡ map back_to_committed (cells_of cs number)) c.cells.ensures (c.in_ok-moves.ensures {u = tt}) in
+    subst (λ (q : Placing). Fits q number (places_of (made moves (cells_of q.cells number)))) (sym c.make_room.ensures.placement)
+    (subst (λ (places : List (Option Place)). Fits p number places) (sym (places_reverted cells (made moves cells) back)) (c.committed_fit.ensures number))
+
+pub returns-clause-ok : goal.returns-clause-ok
+returns-clause-ok g c = λ l.
+    let number = c.args.around.now.number in
+    let old = c.args.self.now in
+    let mid = c.make_room.new.self in
+    let cells = cells_in number old in
+    let moves = c.in_ok-moves.moves in
+    let back : made moves cells ≡ map back_to_committed cells =
+    subst (λ (cs : Cells). made moves (cells_of cs number) ≡ map back_to_committed (cells_of cs number)) c.cells.ensures (c.in_ok-moves.ensures {u = tt}) in
+    reverted_reaches (setting_in l c.args.around.now old) number c.args.session c.change_places.result old c.change_places.new.self (made moves cells)
+    c.requires.served.limit back
+    (c.change_places.ensures.team
+    ∙ ap (λ (p : Placing). kept number c.args.session (cells_of p.cells number) (made moves (cells_of p.cells number)) mid) c.make_room.ensures.placement
+    ∙ grown_kept number c.args.session cells (made moves cells) old mid c.make_room.ensures.grown)
+    (c.change_places.ensures.revision ∙ ap (λ (n : ℕ). n + 1) (grown_revision number old mid c.make_room.ensures.grown))

@@ -7,7 +7,7 @@ use Rattle.lf_floor.proofs.tables.Tables.serve.Goals as goal
 
 pub returns-in-Some-clause-ok : goal.returns-in-Some-clause-ok
 returns-in-Some-clause-ok g c = λ l.
-    let t = setting_in l c.args.around.now in
+    let t = setting_in l c.args.around.now c.args.self.now in
     let s = team_in c.args.around.now c.args.self.now in
     let session = c.in-Within.session in
     let action = action_of c.in-Within.action in

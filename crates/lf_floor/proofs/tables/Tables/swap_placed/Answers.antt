@@ -1,21 +1,34 @@
-use Rattle.std.proofs.Common.{List, refl, ap, sym, subst, ◌∙◌}
-use Rattle.lf_cells.specs.declared.cell.Cell.{Cell}
+use Rattle.std.proofs.Common.{ℕ, Some, None, Option, refl, subst}
 use Rattle.lf_cells.specs.Cells.{cells_of}
-use Rattle.lf_undo.specs.declared.moves.Move.{Move}
-use Rattle.lf_floor.specs.Swapping.{swap_refusal}
-use Rattle.lf_floor.specs.Tables.{HaveMoved, setting_in, team_in, team_with}
-use Rattle.lf_floor.proofs.Moves.{none_yet}
-use Rattle.lf_floor.proofs.Swaps.{swap_refused}
+use Rattle.lf_rules.specs.declared.rule.Rule.{Rule}
+use Rattle.lf_proto.specs.declared.reply.Refusal.TheVariants.{Illegal}
+use Rattle.lf_placement.specs.Placings.{IsBrokenAlone}
+use Rattle.lf_floor.specs.Tables.{cells_in, setting_in, team_in}
+use Rattle.lf_floor.proofs.Fitting.{only_grown}
+use Rattle.lf_floor.proofs.Judging.{IsAloneIn, alone_in, alone_moved}
+use Rattle.lf_floor.proofs.Swaps.{first_refused, swap_refused}
 use Rattle.lf_floor.proofs.tables.Tables.swap_placed.Goals as goal
 
-pub returns-in-Ok-Some-clause-ok : goal.returns-in-Ok-Some-clause-ok
-returns-in-Ok-Some-clause-ok g c = λ l.
-    let t = setting_in l c.args.around.now in
+pub returns-in-Some-clause-ok : goal.returns-in-Some-clause-ok
+returns-in-Some-clause-ok g c = λ l.
+    let x = c.args.exchange.now in
+    let are = c.requires.are in
     let number = c.args.around.now.number in
-    let before = cells_of c.args.self.now.cells number in
-    let tried = c.in-Ok-Some.ensures {u = tt} in
-    let none = subst (λ (ms : List Move). HaveMoved before ms before) (sym c.new-moves.ensures) (none_yet before) in
-    let back = c.take_back.ensures.own before (c.try_exchange.ensures.moved before none) in
-    rw (swap_refused t c.args.session c.args.first.own c.args.second.own (team_in c.args.around.now c.args.self.now) c.in-Ok-Some.refusal
-    (sym c.in-Ok-Some.field-0-is ∙ tried.refusal l ∙ ap (λ (cs : List Cell). swap_refusal t cs c.args.first.own c.args.second.own) tried.own))
-    record { reply_is = refl; team_is = ap (λ (cs : List Cell). team_with number cs c.args.self.now) back }
+    let p = c.args.self.now.placement in
+    let t = setting_in l c.args.around.now c.args.self.now in
+    let cells = cells_in number c.args.self.now in
+    let alone = alone_in p x.first x.to (Some c.in-Some.rule)
+    (subst (λ (a : Option Rule). IsBrokenAlone p x.first x.to a) c.in-Some.is (c.in_ok-alone.ensures {u = tt})) in
+    rw (swap_refused t c.args.session x.first.own x.second.own (team_in c.args.around.now c.args.self.now) (Illegal c.in-Some.rule x.first.own None)
+    (first_refused cells x.first.own x.second.own x.from x.to are.from are.to t c.in-Some.rule c.verdict_is_one.ensures (c.cells_are_sized.ensures.sized number)
+    (subst (λ (n : ℕ). IsAloneIn p.frame n (cells_of p.cells n) x.first.own x.to (Some c.in-Some.rule)) are.first alone)))
+    record { reply_is = refl; team_is = refl }
+
+pub exchange-requires-clause-first : goal.exchange-requires-clause-first
+exchange-requires-clause-first g c =
+    let x = c.args.exchange.now in
+    let number = c.args.around.now.number in
+    let p = c.args.self.now.placement in
+    let q = c.make_room_for.new.self.placement in
+    alone_moved number p q x.first x.to None c.requires.are.first (only_grown number p q c.make_room_for.ensures.grown.placement)
+    (subst (λ (a : Option Rule). IsBrokenAlone p x.first x.to a) c.in_default.is (c.in_ok-alone.ensures {u = tt}))

@@ -1,41 +1,92 @@
+use Rattle.std.proofs.Common.{◌+◌, ℕ, ap, refl, subst, ◌∙◌}
 use Rattle.lf_cells.specs.Cells.{cells_of}
 use Rattle.lf_proto.proofs.Fronts.{on_err_from}
-use Rattle.lf_floor.specs.Tables.{own_team, setting_in, team_in}
-use Rattle.lf_floor.proofs.Ends.{back_to, from_none, stuck_reaches, tidied_reaches, tidy_short}
+use Rattle.lf_placement.specs.Placings.{Placing, SameButPlaces}
+use Rattle.lf_floor.specs.Tables.{cells_in, kept, own_team, setting_at, setting_in, team_in}
+use Rattle.lf_floor.specs.Tidying.{Tidies}
+use Rattle.lf_floor.proofs.Ends.{back_to, stuck_reaches, tidied_reaches, tidy_short}
+use Rattle.lf_floor.proofs.Fitting.{back_fits, fit_grown, grown_kept, grown_revision, grown_team, kept_fit}
+use Rattle.lf_floor.proofs.Moves.{from_none}
 use Rattle.lf_floor.proofs.tables.Tables.tidy.Goals as goal
 
-pub returns-in_err-revision-in-Ok-Done-clause-err : goal.returns-in_err-revision-in-Ok-Done-clause-err
-returns-in_err-revision-in-Ok-Done-clause-err g c = λ l.
-    let before = cells_of c.args.self.now.cells c.args.around.now.number in
-    let have = c.send_all.ensures.moved before (from_none before c.new-moves.result c.new-moves.ensures) in
-    on_err_from c.from_residual.result (tidy_short (setting_in l c.args.around.now) c.args.session (team_in c.args.around.now c.args.self.now)
-    (team_in c.args.around.now c.keep.new.self) ((c.in_err-revision-in-Ok-Done.ensures {u = tt}).err before have))
+pub returns-in_err-marks-clause-err : goal.returns-in_err-marks-clause-err
+returns-in_err-marks-clause-err g c = λ l.
+    let s = team_in c.args.around.now c.args.self.now in
+    on_err_from c.from_residual.result (tidy_short (setting_in l c.args.around.now c.args.self.now) c.args.session s s refl)
 
-pub returns-in_ok-revision-in-Ok-Done-clause-ok : goal.returns-in_ok-revision-in-Ok-Done-clause-ok
-returns-in_ok-revision-in-Ok-Done-clause-ok g c = λ l.
+pub returns-in_err-make_room-clause-err : goal.returns-in_err-make_room-clause-err
+returns-in_err-make_room-clause-err g c = λ l.
+    let old = c.args.self.now in
+    let new = c.make_room.new.self in
+    on_err_from c.from_residual-in_err-make_room.result
+    (tidy_short (setting_in l c.args.around.now old) c.args.session (team_in c.args.around.now old) (team_in c.args.around.now new)
+    (grown_team c.args.around.now.number old new c.make_room.ensures.grown))
+
+pub returns-in-Ok-Done-clause-ok : goal.returns-in-Ok-Done-clause-ok
+returns-in-Ok-Done-clause-ok g c = λ l.
     let number = c.args.around.now.number in
-    let before = cells_of c.args.self.now.cells number in
+    let old = c.args.self.now in
+    let mid = c.make_room.new.self in
+    let before = cells_in number mid in
+    let now = cells_of c.send_all.new.placement.cells number in
+    let still = c.make_room.ensures.placement in
     let have = c.send_all.ensures.moved before (from_none before c.new-moves.result c.new-moves.ensures) in
-    let done = c.in_ok-revision-in-Ok-Done.ensures {u = tt} in
-    tidied_reaches (setting_in l c.args.around.now) number c.args.session c.in_ok-revision-in-Ok-Done.revision c.in-Ok-Done.moved c.args.self.now c.keep.new.self
-    c.send_all.new.cells c.in-Ok-Done.field-0 c.requires.change.served.limit ((c.in-Ok-Done.ensures {u = tt}).ok l) c.in-Ok-Done.field-0-is c.send_all.ensures.same
-    (done.ok before have) done.revision
+    tidied_reaches (setting_in l c.args.around.now old) number c.args.session c.keep-revision.result c.in-Ok-Done.moved old c.keep-revision.new.self now
+    c.in-Ok-Done.field-0 c.requires.change.served.limit
+    (subst (λ (p : Placing). Tidies (setting_at l c.args.around.now p) (cells_of p.cells number) now c.in-Ok-Done.field-0) still ((c.in-Ok-Done.ensures {u = tt}).ok l))
+    c.in-Ok-Done.field-0-is
+    (subst (λ (p : Placing). SameButPlaces (cells_of p.cells number) now) still c.send_all.ensures.only.same)
+    (c.keep-revision.ensures.team before have
+    ∙ ap (λ (p : Placing). kept number c.args.session (cells_of p.cells number) now mid) still
+    ∙ grown_kept number c.args.session (cells_in number old) now old mid c.make_room.ensures.grown)
+    (c.keep-revision.ensures.revision ∙ ap (λ (n : ℕ). n + 1) (grown_revision number old mid c.make_room.ensures.grown))
+
+pub returns-in-Ok-Done-clause-fit : goal.returns-in-Ok-Done-clause-fit
+returns-in-Ok-Done-clause-fit g c =
+    let number = c.args.around.now.number in
+    let old = c.args.self.now in
+    let mid = c.make_room.new.self in
+    let before = cells_in number mid in
+    kept_fit number c.args.session (cells_of c.send_all.new.placement.cells number) mid c.keep-revision.new.self
+    (rw c.keep-revision.ensures.placement c.send_all.ensures.only) (c.places_stand.ensures number)
+    (c.keep-revision.ensures.team before (c.send_all.ensures.moved before (from_none before c.new-moves.result c.new-moves.ensures)))
+    (fit_grown number old mid c.make_room.ensures.grown c.requires.change.served.fit)
+
+pub take_back-requires : goal.take_back-requires
+take_back-requires g c =
+    let number = c.args.around.now.number in
+    let before = cells_in number c.make_room.new.self in
+    back_fits number c.send_all.new.moves before c.make_room.new.self.placement c.send_all.new.placement c.send_all.ensures.only (c.places_stand.ensures number)
+    (c.send_all.ensures.moved before (from_none before c.new-moves.result c.new-moves.ensures))
+
+pub take_back-requires-in-Err : goal.take_back-requires-in-Err
+take_back-requires-in-Err g c =
+    let number = c.args.around.now.number in
+    let before = cells_in number c.make_room.new.self in
+    back_fits number c.send_all.new.moves before c.make_room.new.self.placement c.send_all.new.placement c.send_all.ensures.only (c.places_stand.ensures number)
+    (c.send_all.ensures.moved before (from_none before c.new-moves.result c.new-moves.ensures))
 
 pub returns-in-Ok-Stopped-clause-ok : goal.returns-in-Ok-Stopped-clause-ok
 returns-in-Ok-Stopped-clause-ok g c = λ l.
     let number = c.args.around.now.number in
-    let before = cells_of c.args.self.now.cells number in
+    let old = c.args.self.now in
+    let mid = c.make_room.new.self in
+    let before = cells_in number mid in
+    let now = cells_of c.send_all.new.placement.cells number in
     let have = c.send_all.ensures.moved before (from_none before c.new-moves.result c.new-moves.ensures) in
-    stuck_reaches (setting_in l c.args.around.now) c.args.session c.in-Ok-Stopped.cell (team_in c.args.around.now c.args.self.now)
-    (own_team number record c.args.self.now { cells = c.take_back.new.cells }) (cells_of c.send_all.new.cells number) c.in-Ok-Stopped.field-0
-    ((c.in-Ok-Stopped.ensures {u = tt}).ok l) c.in-Ok-Stopped.field-0-is
-    (back_to number c.args.self.now c.take_back.new.cells (c.take_back.ensures.own before have))
+    stuck_reaches (setting_in l c.args.around.now old) c.args.session c.in-Ok-Stopped.cell (team_in c.args.around.now old)
+    (own_team number record mid { placement = c.take_back.new.self }) now c.in-Ok-Stopped.field-0
+    (subst (λ (p : Placing). Tidies (setting_at l c.args.around.now p) (cells_of p.cells number) now c.in-Ok-Stopped.field-0) c.make_room.ensures.placement
+    ((c.in-Ok-Stopped.ensures {u = tt}).ok l)) c.in-Ok-Stopped.field-0-is
+    (back_to number mid c.take_back.new.self (c.take_back.ensures.own before have) ∙ grown_team number old mid c.make_room.ensures.grown)
 
-pub returns-in-Err-clause-err : goal.returns-in-Err-clause-err
-returns-in-Err-clause-err g c = λ l.
+pub returns-clause-err : goal.returns-clause-err
+returns-clause-err g c = λ l.
     let number = c.args.around.now.number in
-    let before = cells_of c.args.self.now.cells number in
+    let old = c.args.self.now in
+    let mid = c.make_room.new.self in
+    let before = cells_in number mid in
     let have = c.send_all.ensures.moved before (from_none before c.new-moves.result c.new-moves.ensures) in
-    tidy_short (setting_in l c.args.around.now) c.args.session (team_in c.args.around.now c.args.self.now)
-    (own_team number record c.args.self.now { cells = c.take_back-in-Err.new.cells })
-    (back_to number c.args.self.now c.take_back-in-Err.new.cells (c.take_back-in-Err.ensures.own before have))
+    tidy_short (setting_in l c.args.around.now old) c.args.session (team_in c.args.around.now old)
+    (own_team number record mid { placement = c.take_back-in-Err.new.self })
+    (back_to number mid c.take_back-in-Err.new.self (c.take_back-in-Err.ensures.own before have) ∙ grown_team number old mid c.make_room.ensures.grown)
