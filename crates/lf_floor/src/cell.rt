@@ -23,7 +23,7 @@ use std::alloc::AllocError;
 /// The first rule that the team's cell of that id breaks at the place, beside the others of its team;
 /// none where there is no such cell.
 ///
-/// `Err` where an allocation fails.
+/// `Err` if an allocation fails.
 pub(crate) fn broken_at<S>(
     around: &Surroundings<'_, S>,
     placement: &Placement,
@@ -42,7 +42,7 @@ pub(crate) fn broken_at<S>(
 
 /// The best place of the team's cell of that id for a target; none if it has none.
 ///
-/// `Err` where an allocation fails.
+/// `Err` if an allocation fails.
 pub(crate) fn best_place<S: Seeker>(
     around: &Surroundings<'_, S>,
     placement: &Placement,

@@ -16,7 +16,7 @@ use std::alloc::{AllocError, Global};
 impl Tables {
     /// Makes room for one more undo entry of the team.
     ///
-    /// `Err` where an allocation fails.
+    /// `Err` if an allocation fails.
     pub(crate) fn make_room(&mut self, number: usize) -> Result<(), AllocError>
         requires { HasRows number self.old }
         ensures room { OnOk result (HasRoomFor self.new.undo number) }
@@ -28,7 +28,7 @@ impl Tables {
 
     /// Makes room for one more undo entry of the team, and for its cells where the moves lead them.
     ///
-    /// `Err` where an allocation fails.
+    /// `Err` if an allocation fails.
     pub(crate) fn make_room_for(
         &mut self,
         alloc: Global,
@@ -63,7 +63,7 @@ impl Tables {
     }
 
     /// Makes the moves, as a change of the team that the session makes and that can be undone, and
-    /// returns the revision. No memory is taken.
+    /// returns the revision. It allocates nothing.
     pub(crate) fn change_places(&mut self, number: usize, session: u32, moves: Moves) -> u32
         requires rows { HasRows number self.old }
         requires current { IsCurrent number session self.old }
@@ -84,7 +84,7 @@ impl Tables {
     /// Moves one cell of the team, as a change that the session makes and that can be undone, and
     /// returns the revision.
     ///
-    /// `Err` where an allocation fails; then no team has changed.
+    /// `Err` if an allocation fails; then no team has changed.
     pub(crate) fn change_place(
         &mut self,
         alloc: Global,

@@ -52,7 +52,7 @@ fn listed_cells(
 
 /// The text of the report of the team's cells at their working places.
 ///
-/// `Err` where an allocation fails.
+/// `Err` if an allocation fails.
 pub(crate) fn report_text<S>(
     around: &Surroundings<'_, S>,
     tables: &Tables,
@@ -77,7 +77,7 @@ pub(crate) fn report_text<S>(
 /// For each of the team's cells, in loading order, the first rule that it breaks where it stands; none if
 /// it breaks no rule, or is unplaced.
 ///
-/// `Err` where an allocation fails.
+/// `Err` if an allocation fails.
 fn team_verdicts<S>(
     around: &Surroundings<'_, S>,
     tables: &Tables,
@@ -100,7 +100,7 @@ fn team_verdicts<S>(
 /// The team's first cell in loading order that breaks a rule where it stands; none if no cell
 /// does.
 ///
-/// `Err` where an allocation fails.
+/// `Err` if an allocation fails.
 pub(crate) fn first_broken_cell<S>(
     around: &Surroundings<'_, S>,
     tables: &Tables,
@@ -131,7 +131,7 @@ fn stands_legal(cells: &CellTable, number: usize, verdicts: &[Option<Broken>], o
 
 /// For each of the team's cells whether it is placed, and team-legal where it stands.
 ///
-/// `Err` where an allocation fails.
+/// `Err` if an allocation fails.
 pub(crate) fn legal_marks<S>(
     around: &Surroundings<'_, S>,
     tables: &Tables,

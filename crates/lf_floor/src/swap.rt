@@ -112,7 +112,7 @@ fn refusal_of(placement: &Placement, exchange: &Exchange, alone: Option<Rule>) -
 
 impl Tables {
     /// Exchanges two cells by their moves, for which there is room; `Illegal`, and the moves are taken back,
-    /// where one of them breaks a rule then. No memory is taken.
+    /// where one of them breaks a rule then. It allocates nothing.
     fn exchange(
         &mut self,
         session: u32,

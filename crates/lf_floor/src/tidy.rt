@@ -91,7 +91,7 @@ fn target_of<S>(
 /// Moves one cell, for which room is made first, and puts the move with the place that the cell had behind
 /// the others.
 ///
-/// `Err` where an allocation fails; then no cell has moved.
+/// `Err` if an allocation fails; then no cell has moved.
 fn move_one(
     alloc: Global,
     placement: &mut Placement,

@@ -95,7 +95,7 @@ impl Tables {
     }
 
     /// Takes the moves of the team's newest undo entry back, unchecked, and that entry away;
-    /// `NothingToUndo` where there is none. No memory is taken.
+    /// `NothingToUndo` where there is none. It allocates nothing.
     pub(crate) fn undo(&mut self, number: usize, session: u32) -> Reply
         requires rows { HasRows number self.old }
         requires current { IsCurrent number session self.old }

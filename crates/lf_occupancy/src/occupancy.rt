@@ -122,7 +122,7 @@ impl Occupancy {
         remove_box(&mut self.lanes, &mut self.boxes, &self.strips, &id);
     }
 
-    /// Gives a cell that stands nowhere a box. No memory is taken: each strip of its team that shares a
+    /// Gives a cell without a box this one. It allocates nothing: each strip of its team that shares a
     /// point with the box has room for one more. Each strip keeps the room that it has.
     pub fn insert(&mut self, id: CellId, rect: &Rect)
         requires known { HasCell self.old.boxes id }
@@ -135,10 +135,10 @@ impl Occupancy {
         insert_box(&mut self.lanes, &mut self.boxes, &self.strips, &id, rect);
     }
 
-    /// Makes the room that `insert` asks where the moves are made in their order, each by taking the
-    /// cell away and giving it its box, if it has one: for as many boxes more as there are moves, in
-    /// each strip of a cell's team that shares a point with its box. What stands there stays. `Err`
-    /// where memory is refused: then some room may have been made, and nothing else is changed.
+    /// Makes the room that `insert` needs if the moves are made in their order, each by removing the
+    /// cell's box and inserting its new one, if it has one: for as many more boxes as there are moves, in
+    /// each strip of a cell's team that shares a point with its box. The boxes are unchanged. `Err`
+    /// if an allocation fails: then strips may have gained room, and nothing else is changed.
     pub fn reserve_for(&mut self, moves: &[(CellId, Option<Rect>)]) -> Result<(), AllocError>
         ensures ok { OnOk result (All (λ m. IfSome m.1 (λ rect. HasRoomFor self.new m.0.team rect (length moves.now))) moves.now) }
         ensures boxes { self.new.boxes ≡ self.old.boxes }

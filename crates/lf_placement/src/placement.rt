@@ -67,7 +67,7 @@ fn overlap(met: Option<u32>) -> Option<Broken>
 impl Placement {
     /// The placement of a design as it is loaded, with the segments of its frame.
     ///
-    /// `Err` where an allocation fails; the design is then gone.
+    /// `Err` if an allocation fails; the design is then gone.
     pub fn build(
         alloc: Global,
         loaded: Loaded,
@@ -104,7 +104,7 @@ impl Placement {
     /// The first of the rules but overlap that the cell breaks at the place; none also where there is
     /// no such cell.
     ///
-    /// `Err` where an allocation fails.
+    /// `Err` if an allocation fails.
     pub fn broken_alone(
         &self,
         alloc: Global,
@@ -123,7 +123,7 @@ impl Placement {
     }
 
     /// The first of the team's other cells, by their positions, whose box shares a point with that of
-    /// the cell at the place, where it breaks no other rule. No memory is taken.
+    /// the cell at the place, where it breaks no other rule. It allocates nothing.
     pub fn first_other(&self, id: CellId, place: &Place) -> Option<u32>
         requires { IsBrokenAlone self.now id place.now None }
         ensures { IsBrokenAt self.now id place.now (option_map (λ own. record { rule = Overlap; other = Some own }) result) }
@@ -138,7 +138,7 @@ impl Placement {
     /// The first rule that the cell breaks at the place beside the other cells of its team; none also
     /// where there is no such cell.
     ///
-    /// `Err` where an allocation fails.
+    /// `Err` if an allocation fails.
     pub fn first_broken(
         &self,
         alloc: Global,
@@ -157,7 +157,7 @@ impl Placement {
 
     /// The best place of the cell for a target; none where it has none, or there is no such cell.
     ///
-    /// `Err` where an allocation fails.
+    /// `Err` if an allocation fails.
     pub fn best_place<S: Seeker>(
         &self,
         alloc: Global,
@@ -174,7 +174,7 @@ impl Placement {
 
     /// Makes the room that `make` asks where it makes these moves of the team's cells.
     ///
-    /// `Err` where an allocation fails: then some room may have been made, and nothing else is changed.
+    /// `Err` if an allocation fails: then some room may have been made, and nothing else is changed.
     pub fn reserve(&mut self, alloc: Global, team: usize, moves: &[Move]) -> Result<(), AllocError>
         ensures ok { OnOk result (Fits self.new team (places_of (made moves.now (cells_of self.old.cells team)))) }
         ensures same { SameButRooms self.old self.new }
@@ -190,7 +190,7 @@ impl Placement {
     }
 
     /// Makes the moves of the team's cells from that one on, in their order, and leaves in each the
-    /// place that its cell had: so afterwards the moves are what takes them back. No memory is taken.
+    /// place that its cell had: so afterwards the moves are what takes them back. It allocates nothing.
     pub fn make(&mut self, team: usize, moves: &mut Moves, from: usize)
         requires { Fits self.old team (places_of (made (drop from moves.old) (cells_of self.old.cells team))) }
         ensures own { cells_of self.new.cells team ≡ made (drop from moves.old) (cells_of self.old.cells team) }
@@ -209,7 +209,7 @@ impl Placement {
         );
     }
 
-    /// Takes moves of the team's cells back, the last one first. No memory is taken.
+    /// Takes moves of the team's cells back, the last one first. It allocates nothing.
     pub fn take_back(&mut self, team: usize, moves: &Moves)
         requires { Fits self.old team (taken_back moves.now (places_of (cells_of self.old.cells team))) }
         ensures own { (before : List Cell) → HaveMoved before moves.now (cells_of self.old.cells team) → cells_of self.new.cells team ≡ before }

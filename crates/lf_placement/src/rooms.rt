@@ -47,7 +47,7 @@ fn all_asked_for(
 
 /// Makes the room that these moves of the team's cells need, where they are made in their order.
 ///
-/// `Err` where an allocation fails: then some room may have been made, and nothing else is changed.
+/// `Err` if an allocation fails: then some room may have been made, and nothing else is changed.
 pub(crate) fn make_room(
     alloc: Global,
     frame: &Frame,

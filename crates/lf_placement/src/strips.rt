@@ -86,7 +86,7 @@ fn put_at_work(frame: &Frame, occupancy: &mut Occupancy, cells: &CellTable, team
     }
 }
 
-/// Puts the cells of the moves to their working places. No memory is taken.
+/// Puts the cells of the moves to their working places. It allocates nothing.
 pub(crate) fn stand(
     frame: &Frame,
     occupancy: &mut Occupancy,

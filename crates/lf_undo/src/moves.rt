@@ -53,7 +53,7 @@ impl<A: Allocator> Moves<A> {
         Ok(())
     }
 
-    /// Gives the move of that position another place. No memory is taken.
+    /// Gives the move of that position another place. It allocates nothing.
     pub fn replace(&mut self, at: usize, old: Option<Place>)
         requires { at < length self.old }
         ensures { self.new ≡ replaced self.old at old }
