@@ -18,8 +18,7 @@ pub enum Unwritten {
 }
 
 /// Why a file was not written.
-fn unwritten_of(error: &io::Error) -> Unwritten
-{
+fn unwritten_of(error: &io::Error) -> Unwritten {
     if error.kind() == ErrorKind::OutOfMemory {
         return Unwritten::OutOfMemory;
     }
