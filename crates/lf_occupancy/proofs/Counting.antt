@@ -1,7 +1,7 @@
 -- How many boxes share a point with a strip.
 use Rattle.std.proofs.Common.{◌≡◌, ◌≢◌, ◌⊎◌, inl, inr, ℕ, zero, suc, ◌+◌, ◌<◌, ◌≤◌, ℤ, ◌<ℤ◌, Bool, true, false, cond, List, [], ◌∷◌, Option, Some, None, arith}
 use Rattle.std.proofs.Common.{length, get_or, set, take, eqb, ltb, int_lt, refl, sym, ap, subst, ◌∙◌}
-use Rattle.std.specs.Prelude.{AllPairs, Contains, ◌&&◌, ◌↔◌, count_by}
+use Rattle.std.specs.Prelude.{AllPairs, Contains, ◌&&◌, ◌↔◌, count_by, slice_get}
 use Rattle.std.specs.Int.{int_max, int_min}
 use Rattle.std.proofs.lemmas.Bool.Decides.{eqb_tells, nat_tests}
 use Rattle.std.proofs.lemmas.Int.{ints, clamps}
@@ -9,7 +9,7 @@ use Rattle.std.proofs.lemmas.List.Sums.{sum_by-cons, count_by_more_yes, count_by
 use Rattle.lf_units.specs.declared.area.Rect.{Rect}
 use Rattle.lf_units.specs.Area.{SharesPoint}
 use Rattle.lf_occupancy.specs.declared.strip.Strip.{Strip}
-use Rattle.lf_occupancy.specs.Occupied.{ArePartOf, cell_box, count_in, meets}
+use Rattle.lf_occupancy.specs.Occupied.{ArePartOf, FitIn, HasRoomFor, NoLess, Occupied, boxes_of, cell_box, count_in, meets}
 
 -- 1 for true
 abbrev one_if : Bool → ℕ
@@ -129,6 +129,22 @@ part_leaves_room g (b ∷ bs) (c ∷ cs) (suc own) r p none is shares =
     let after = one_more g c cs in
     omega (arith, rest, first, before, after)
 
+-- so a box that is lacking has room in each strip that it meets, where the whole fits
+pub part_has_room : (o : Occupied) (team : ℕ) (whole : List (Option Rect)) (own : ℕ) (r : Rect) → FitIn o team whole → ArePartOf (boxes_of o team) whole →
+    cell_box (boxes_of o team) own ≡ None → cell_box whole own ≡ Some r → HasRoomFor o team r 1
+part_has_room o team whole own r fits part none is n g at of_team shares =
+    let most = fits n g at of_team in
+    let less = part_leaves_room g (boxes_of o team) whole own r part none is shares in
+    omega (arith, most, less)
+
+-- what fits still does where no room is less
+pub fits_still : (old new : Occupied) (team : ℕ) (boxes : List (Option Rect)) → new.strips ≡ old.strips → NoLess old.rooms new.rooms → FitIn old team boxes →
+    FitIn new team boxes
+fits_still old new team boxes strips rooms fits n g at of_team =
+    let most = fits n g (ap (λ (xs : List Strip). slice_get xs n) (sym strips) ∙ at) of_team in
+    let no_less = rooms.each n in
+    omega (arith, most, no_less)
+
 -- another box of one cell makes it one more at most
 pub set_is_one_more : (g : Strip) (boxes : List (Option Rect)) (own : ℕ) (box : Option Rect) → count_in g (set boxes own box) ≤ count_in g boxes + 1
 set_is_one_more g [] own box = omega arith
@@ -147,18 +163,19 @@ set_is_one_more g (b ∷ bs) (suc own) box =
     let after = one_more g b (set bs own box) in
     omega (arith, before, after, rest)
 
--- and none instead of it makes it no more
-pub set_none_is_no_more : (g : Strip) (boxes : List (Option Rect)) (own : ℕ) → count_in g (set boxes own None) ≤ count_in g boxes
-set_none_is_no_more g [] own = omega arith
-set_none_is_no_more g (b ∷ bs) zero =
-    let none : Option Rect = None in
+-- and one that does not meet the strip no more
+pub set_apart_is_no_more : (g : Strip) (boxes : List (Option Rect)) (own : ℕ) (box : Option Rect) → meets g box ≡ false →
+    count_in g (set boxes own box) ≤ count_in g boxes
+set_apart_is_no_more g [] own box apart = omega arith
+set_apart_is_no_more g (b ∷ bs) zero box apart =
     let before = one_more g b bs in
-    let after = one_more g none bs in
-    omega (arith, before, after)
-set_none_is_no_more g (b ∷ bs) (suc own) =
-    let rest = set_none_is_no_more g bs own in
+    let after = one_more g box bs in
+    let none = ap one_if apart in
+    omega (arith, before, after, none)
+set_apart_is_no_more g (b ∷ bs) (suc own) box apart =
+    let rest = set_apart_is_no_more g bs own box apart in
     let before = one_more g b bs in
-    let after = one_more g b (set bs own None) in
+    let after = one_more g b (set bs own box) in
     omega (arith, before, after, rest)
 
 -- the same of the boxes of each team, where one cell has another box
@@ -173,7 +190,7 @@ with_is_one_more g (bs ∷ rest) (suc of) own (suc team) box = with_is_one_more 
 pub without_is_no_more : (g : Strip) (boxes : List (List (Option Rect))) (of own team : ℕ) →
     count_in g (get_or (set boxes of (set (get_or boxes of []) own None)) team []) ≤ count_in g (get_or boxes team [])
 without_is_no_more g [] of own team = omega arith
-without_is_no_more g (bs ∷ rest) zero own zero = set_none_is_no_more g bs own
+without_is_no_more g (bs ∷ rest) zero own zero = set_apart_is_no_more g bs own None refl
 without_is_no_more g (bs ∷ rest) zero own (suc team) = omega arith
 without_is_no_more g (bs ∷ rest) (suc of) own zero = omega arith
 without_is_no_more g (bs ∷ rest) (suc of) own (suc team) = without_is_no_more g rest of own team

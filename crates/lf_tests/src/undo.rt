@@ -57,9 +57,6 @@ fn fill<'a>(store: &mut UndoStore<&'a LocalHeap>, heap: &'a LocalHeap)
 enum Case {
     /// The room that one team's entry had serves for another team's.
     RoomOfAnother,
-    /// Each of two entries that go leaves its room, whichever team is first to use it, also where all
-    /// memory is taken again.
-    RoomsOfTwo,
     /// Room is made where an entry went, and else refused.
     RoomMade,
     /// An entry that finds no room comes back, and the team's others stand as before.
@@ -73,24 +70,6 @@ fn serves_another<'a>(store: &mut UndoStore<&'a LocalHeap>, second: Moves<&'a Lo
 {
     let popped = store.pop(0);
     popped.is_some() && store.push(1, second).is_ok() && has_only(store, 1, 2)
-}
-
-fn serves_both<'a>(
-    alloc: Global,
-    store: &mut UndoStore<&'a LocalHeap>,
-    heap: &'a LocalHeap,
-    second: Moves<&'a LocalHeap>,
-) -> Result<bool, Fail>
-    requires { length store.old.lists ≡ 2 }
-{
-    match (store.pop(0), store.pop(1)) {
-        (Some(first), Some(_)) => {
-            let _blocks = take_all(alloc, heap)?;
-            let both = store.push(1, second).is_ok() && store.push(0, first).is_ok();
-            Ok(both && has_only(store, 1, 2))
-        }
-        _ => Ok(false),
-    }
 }
 
 fn is_made<'a>(store: &mut UndoStore<&'a LocalHeap>, second: Moves<&'a LocalHeap>) -> bool
@@ -142,11 +121,30 @@ fn holds(alloc: Global, limit: usize, team: usize, case: Case) -> Result<bool, F
     fill(&mut store, &heap);
     Ok(match case {
         Case::RoomOfAnother => serves_another(&mut store, second),
-        Case::RoomsOfTwo => serves_both(alloc, &mut store, &heap, second)?,
         Case::RoomMade => is_made(&mut store, second),
         Case::NoRoom => comes_back(&mut store, second),
         Case::Limit => takes_the_place(&mut store, second),
     })
+}
+
+/// Whether each of two entries that go leaves its room: they go while there is memory, and others come
+/// where there is none.
+fn leave_their_rooms(alloc: Global) -> Result<bool, Fail> {
+    let heap = LocalHeap::new(alloc, 8192)?;
+    let mut store: UndoStore<&LocalHeap> = UndoStore::build(&heap, 2, 64)?;
+    let second = one_move(&heap, 2)?;
+    if store.push(1, one_move(&heap, 1)?).is_err() {
+        return Ok(false);
+    }
+    let blocks = take_all(alloc, &heap)?;
+    fill(&mut store, &heap);
+    drop(blocks);
+    let (Some(first), Some(_)) = (store.pop(0), store.pop(1)) else {
+        return Ok(false);
+    };
+    let _blocks = take_all(alloc, &heap)?;
+    let both = store.push(1, second).is_ok() && store.push(0, first).is_ok();
+    Ok(both && has_only(&store, 1, 2))
 }
 
 /// Puts an entry without moves on the stack of each team from the third on, until there is no room for
@@ -166,8 +164,8 @@ fn fill_teams<'a>(store: &mut UndoStore<&'a LocalHeap>, heap: &'a LocalHeap) -> 
     last
 }
 
-/// Whether a team's entry that goes leaves its room though another team, whose stack is at its limit,
-/// gets an entry, and all memory is taken again.
+/// Whether a team's entry that goes leaves its room, though then another team, whose stack is at its
+/// limit, gets an entry: both while there is memory, and another entry comes where there is none.
 fn stays_at_the_limit(alloc: Global) -> Result<bool, Fail> {
     let heap = LocalHeap::new(alloc, 8192)?;
     let mut store: UndoStore<&LocalHeap> = UndoStore::build(&heap, 16, 1)?;
@@ -175,13 +173,14 @@ fn stays_at_the_limit(alloc: Global) -> Result<bool, Fail> {
     if store.push(1, one_move(&heap, 1)?).is_err() {
         return Ok(false);
     }
-    let _blocks = take_all(alloc, &heap)?;
+    let blocks = take_all(alloc, &heap)?;
     let last = fill_teams(&mut store, &heap);
+    drop(blocks);
     let popped = store.pop(last);
     if popped.is_none() || store.push(1, second).is_err() {
         return Ok(false);
     }
-    let _rest = take_all(alloc, &heap)?;
+    let _blocks = take_all(alloc, &heap)?;
     Ok(store.push(last, Moves::new(&heap)).is_ok() && has_only(&store, 1, 2))
 }
 
@@ -211,10 +210,10 @@ fn finds_its_room(alloc: Global) -> Result<bool, Fail> {
 #[test]
 fn entries_where_no_memory_is_left(rt: HostRuntime) -> Result<(), Fail> {
     assert!(rt; holds(rt.alloc(), 64, 0, Case::RoomOfAnother)?);
-    assert!(rt; holds(rt.alloc(), 64, 1, Case::RoomsOfTwo)?);
     assert!(rt; holds(rt.alloc(), 64, 0, Case::RoomMade)?);
     assert!(rt; holds(rt.alloc(), 64, 1, Case::NoRoom)?);
     assert!(rt; holds(rt.alloc(), 1, 1, Case::Limit)?);
+    assert!(rt; leave_their_rooms(rt.alloc())?);
     assert!(rt; stays_at_the_limit(rt.alloc())?);
     assert!(rt; leaves_its_room(rt.alloc())?);
     assert!(rt; finds_its_room(rt.alloc())?);

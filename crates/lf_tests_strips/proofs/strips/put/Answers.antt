@@ -1,4 +1,4 @@
-use Rattle.std.proofs.Common.{List, Option, refl, subst, sym, ap, ◌∙◌}
+use Rattle.std.proofs.Common.{List, Option, subst, sym, ap, ◌∙◌}
 use Rattle.lf_units.specs.declared.area.Rect.{Rect}
 use Rattle.lf_occupancy.specs.Occupied.{cell_box}
 use Rattle.lf_occupancy.specs.Strips.{HasCell}
