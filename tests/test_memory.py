@@ -312,5 +312,31 @@ class StartsRefused(unittest.TestCase):
                     self.assertEqual(target.read_text(), "old")
 
 
+class RunsRefused(unittest.TestCase):
+    """A list of requests that is answered by `Floor::run`: no growth is refused without an answer that says so."""
+
+    def test_run(self) -> None:
+        program = TESTS.parent / "crates/lf_tests_floor/out/lf_tests_floor_tests"
+        with tempfile.TemporaryDirectory(prefix="lefence-memory-") as folder:
+            refusing = Refusing(Path(folder))
+
+            def ran(first: int, last: int) -> tuple[int, str, int, int]:
+                refusing.refuse(first, last)
+                words = [str(program), "floors::runs_requests"]
+                done = subprocess.run(words, env=refusing.environment, capture_output=True, text=True, timeout=60)
+                asked = struct.unpack("=4Q", refusing.numbers[:])[0]
+                return done.returncode, done.stdout + done.stderr, asked, refusing.refused()
+
+            status, said, asked, _ = ran(0, 0)
+            self.assertEqual(status, 0, said)
+            self.assertGreater(asked, 100)
+            for number in range(1, asked + 1):
+                for last in (number, ALL):
+                    status, said, _, refused = ran(number, last)
+                    self.assertGreater(refused, 0)
+                    self.assertNotEqual(status, 0, f"growth {number}")
+            refusing.numbers.close()
+
+
 if __name__ == "__main__":
     unittest.main()
