@@ -20,6 +20,10 @@ from program import DEF, LEF, PROGRAM, TESTS, Session
 
 ALL = 2**63
 SHORT = "no 12 OutOfMemory"
+# The first growths are those of the command line, which can do without some; and how a task ends that found no memory, before
+# its design was loaded or for the buffers of its lines.
+WORDS = 20
+NOT_DONE = [(1, "lefence: 24 OutOfMemory\n"), (3, "lefence: OutOfMemory\n")]
 
 PLACES = [("place A 0 a1 0 0 N", "ok 1"), ("place A 0 a2 400 0 N", "ok 2"), ("place A 0 a3 800 0 N", "ok 3")]
 # Scripts over the small design: what is changed in its DEF text, by lines, and requests with their replies.
@@ -160,8 +164,8 @@ class Refusing:
         return count
 
 
-class GrowthsRefused(unittest.TestCase):
-    """Each command, each growth: the answer is OutOfMemory, no cell moves, and the command sent again is answered as ever."""
+class WithRefusals(unittest.TestCase):
+    """Tests that steer one refusing library, in a folder of their own."""
 
     folder: tempfile.TemporaryDirectory[str]
     refusing: Refusing
@@ -175,6 +179,27 @@ class GrowthsRefused(unittest.TestCase):
     def tearDownClass(cls) -> None:
         cls.refusing.numbers.close()
         cls.folder.cleanup()
+
+    def run_with(self, words: list[str], lines: str, first: int, last: int) -> tuple[int, str, str, int]:
+        """Runs a program over these lines with these growths refused: its status, what it wrote, and how many were refused."""
+        self.refusing.refuse(first, last)
+        environment = self.refusing.environment
+        ran = subprocess.run(words, env=environment, input=lines, capture_output=True, text=True, timeout=60)
+        return ran.returncode, ran.stdout, ran.stderr, self.refusing.refused()
+
+    def numbers(self, words: list[str], lines: str) -> Iterator[tuple[int, int]]:
+        """The growths to be refused: each alone, and all from each on."""
+        self.refusing.refuse(0, 0)
+        subprocess.run(words, env=self.refusing.environment, input=lines, capture_output=True, text=True)
+        asked = struct.unpack("=4Q", self.refusing.numbers[:])[0]
+        self.assertGreater(asked, 100)
+        for number in range(1, asked + 1):
+            yield number, number
+            yield number, ALL
+
+
+class GrowthsRefused(WithRefusals):
+    """Each command, each growth: the answer is OutOfMemory, no cell moves, and the command sent again is answered as ever."""
 
     def design(self, text: str) -> list[str]:
         path = Path(self.folder.name) / "design.def"
@@ -253,47 +278,21 @@ class GrowthsRefused(unittest.TestCase):
                 self.assertGreater(self.go(words, cells, script), 100)
 
 
-class StartsRefused(unittest.TestCase):
-    """Each growth from the start of the program on: 24 with status 1, or 12 to a command, or as ever; an exported file stays whole."""
-
-    @classmethod
-    def setUpClass(cls) -> None:
-        cls.folder = tempfile.TemporaryDirectory(prefix="lefence-memory-")
-        cls.refusing = Refusing(Path(cls.folder.name))
-
-    @classmethod
-    def tearDownClass(cls) -> None:
-        cls.refusing.numbers.close()
-        cls.folder.cleanup()
-
-    def run_with(self, words: list[str], lines: str, first: int, last: int) -> tuple[int, str, str, int]:
-        self.refusing.refuse(first, last)
-        ran = subprocess.run(
-            [str(PROGRAM), *words], env=self.refusing.environment, input=lines, capture_output=True, text=True, timeout=60
-        )
-        return ran.returncode, ran.stdout, ran.stderr, self.refusing.refused()
-
-    def numbers(self, words: list[str], lines: str) -> Iterator[tuple[int, int]]:
-        """The growths to be refused: each alone, and all from each on."""
-        self.refusing.refuse(0, 0)
-        subprocess.run([str(PROGRAM), *words], env=self.refusing.environment, input=lines, capture_output=True, text=True)
-        asked = struct.unpack("=4Q", self.refusing.numbers[:])[0]
-        self.assertGreater(asked, 100)
-        for number in range(1, asked + 1):
-            yield number, number
-            yield number, ALL
+class StartsRefused(WithRefusals):
+    """Each growth from the start of the program on: it ends so, or answers a command so; an exported file stays whole."""
 
     def test_check(self) -> None:
-        words = ["check", str(DEF), str(LEF)]
+        words = [str(PROGRAM), "check", str(DEF), str(LEF)]
         usual = self.run_with(words, "", 0, 0)[:3]
         for first, last in self.numbers(words, ""):
             status, written, said, refused = self.run_with(words, "", first, last)
-            if (status, written, said) != usual or refused:
-                self.assertEqual((status, written, said), (1, "", "lefence: 24 OutOfMemory\n"), f"growth {first}")
+            self.assertGreater(refused, 0)
+            if (status, written, said) != usual or first > WORDS:
+                self.assertEqual((written, (status, said)), ("", NOT_DONE[0]), f"growth {first}")
 
     def test_replay_and_export(self) -> None:
         target = Path(self.folder.name) / "new.def"
-        words = ["replay", str(DEF), str(LEF), "--export", str(target)]
+        words = [str(PROGRAM), "replay", str(DEF), str(LEF), "--export", str(target)]
         lines = "open A\ntidy A 0\ncommit A 0\n"
         target.write_text("")
         usual = self.run_with(words, lines, 0, 0)[:3]
@@ -305,37 +304,22 @@ class StartsRefused(unittest.TestCase):
             self.assertGreater(refused, 0)
             with self.subTest(growth=first, last=last):
                 if status == 0:
-                    self.assertIn(SHORT, written)
+                    self.assertTrue(SHORT in written or first <= WORDS, written)
                     self.assertIn(target.read_text(), (moved, unmoved))
                 else:
-                    self.assertEqual((status, said), (1, "lefence: 24 OutOfMemory\n"))
+                    self.assertIn((status, said), NOT_DONE)
                     self.assertEqual(target.read_text(), "old")
 
 
-class RunsRefused(unittest.TestCase):
+class RunsRefused(WithRefusals):
     """A list of requests that is answered by `Floor::run`: no growth is refused without an answer that says so."""
 
     def test_run(self) -> None:
-        program = TESTS.parent / "crates/lf_tests_floor/out/lf_tests_floor_tests"
-        with tempfile.TemporaryDirectory(prefix="lefence-memory-") as folder:
-            refusing = Refusing(Path(folder))
-
-            def ran(first: int, last: int) -> tuple[int, str, int, int]:
-                refusing.refuse(first, last)
-                words = [str(program), "floors::runs_requests"]
-                done = subprocess.run(words, env=refusing.environment, capture_output=True, text=True, timeout=60)
-                asked = struct.unpack("=4Q", refusing.numbers[:])[0]
-                return done.returncode, done.stdout + done.stderr, asked, refusing.refused()
-
-            status, said, asked, _ = ran(0, 0)
-            self.assertEqual(status, 0, said)
-            self.assertGreater(asked, 100)
-            for number in range(1, asked + 1):
-                for last in (number, ALL):
-                    status, said, _, refused = ran(number, last)
-                    self.assertGreater(refused, 0)
-                    self.assertNotEqual(status, 0, f"growth {number}")
-            refusing.numbers.close()
+        words = [str(TESTS.parent / "crates/lf_tests_floor/out/lf_tests_floor_tests"), "floors::runs_requests"]
+        for first, last in self.numbers(words, ""):
+            status, _, _, refused = self.run_with(words, "", first, last)
+            self.assertGreater(refused, 0)
+            self.assertNotEqual(status, 0, f"growth {first}")
 
 
 if __name__ == "__main__":
