@@ -27,18 +27,31 @@ def kind_of(process: Path, words: list[str]) -> str:
     return "edits" if is_edit else "proof"
 
 
-def running() -> dict[tuple[int, str], tuple[str, str, float]]:
-    """Each check that runs, by its number and start: its crate, its kind, and the seconds that it and its ended children took."""
-    found = {}
+def below(root: int) -> list[tuple[Path, list[str]]]:
+    """The processes that the one of this number started, and those that they did, each with the fields of its state."""
+    fields: dict[int, list[str]] = {}
     for process in Path("/proc").glob("[0-9]*"):
         try:
+            fields[int(process.name)] = (process / "stat").read_text().rpartition(")")[2].split()
+        except OSError:
+            continue
+    found, seen = [root], [root]
+    while found:
+        found = [number for number, it in fields.items() if int(it[1]) in found]
+        seen += found
+    return [(Path(f"/proc/{it}"), fields[it]) for it in seen[1:]]
+
+
+def running(root: int) -> dict[tuple[Path, str], tuple[str, str, float]]:
+    """Each check that runs for the command: its crate, its kind, and the seconds that it and its ended children took."""
+    found = {}
+    for process, fields in below(root):
+        try:
             words = (process / "cmdline").read_bytes().decode(errors="replace").split("\0")
-            if not words[0].endswith("/rattle") or "--crate-name" not in words:
-                continue
-            fields = (process / "stat").read_text().rpartition(")")[2].split()
-            seconds = sum(map(int, fields[11:15])) / TICKS
-            crate = words[words.index("--crate-name") + 1]
-            found[int(process.name), fields[19]] = (crate, kind_of(process, words), seconds)
+            if words[0].endswith("/rattle") and "--crate-name" in words:
+                seconds = sum(map(int, fields[11:15])) / TICKS
+                crate = words[words.index("--crate-name") + 1]
+                found[process, fields[19]] = (crate, kind_of(process, words), seconds)
         except (OSError, IndexError, ValueError):
             continue
     return found
@@ -51,7 +64,7 @@ def main(words: list[str]) -> int:
     start, checks = time.monotonic(), {}
     command = subprocess.Popen(words)
     while command.poll() is None:
-        checks |= running()
+        checks |= running(command.pid)
         time.sleep(1)
     taken: dict[str, dict[str, float]] = defaultdict(lambda: dict.fromkeys(KINDS, 0.0))
     for crate, kind, seconds in checks.values():
