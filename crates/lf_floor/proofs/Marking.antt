@@ -2,7 +2,7 @@
 use Rattle.std.proofs.Common.{◌≡◌, ◌∙◌, ◌⊎◌, ℕ, zero, suc, ◌+◌, List, [], ◌∷◌, ◌++◌, length, map, Bool, true, Option, Some, None, inl, inr, refl, sym, ap, subst, arith}
 use Rattle.std.specs.Prelude.{All, IsSome, MatchOption, slice_get, option_map, option_and_then}
 use Rattle.std.proofs.lemmas.List.Elements.{All-map}
-use Rattle.std.proofs.lemmas.Option.{get_or_from_slice_get, slice_get-map, slice_get_within}
+use Rattle.std.proofs.lemmas.Option.{get_or_from_slice_get, slice_get-map}
 use Rattle.lf_floorplan.specs.declared.frame.Frame.{Frame}
 use Rattle.lf_floorplan.specs.declared.place.Place.{Place}
 use Rattle.lf_floorplan.specs.Boxes.{IsSized, macro_of}
@@ -21,10 +21,7 @@ use Rattle.lf_teams.proofs.Standing.{some_one}
 use Rattle.lf_floor.specs.Marking.{AreMarked, IsJudged}
 use Rattle.lf_floor.specs.Tidying.{target_at}
 use Rattle.lf_floor.proofs.FirstIllegal.{broken_listed}
-
-sized_there : (f : Frame) (cells : List Cell) (own : ℕ) (c : Cell) → All (IsSizedCell f) cells → slice_get cells own ≡ Some c → IsSizedCell f c
-sized_there f cells own c all there =
-    subst (λ (x : Cell). IsSizedCell f x) (get_or_from_slice_get cells own c c there) (all own c (slice_get_within cells own c there))
+use Rattle.lf_floor.proofs.Judging.{sized_there}
 
 -- ---- a cell whose verdict says that it breaks no rule
 

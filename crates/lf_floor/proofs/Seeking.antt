@@ -13,6 +13,7 @@ use Rattle.lf_cells.specs.declared.cell.CellId.{CellId}
 use Rattle.lf_cells.specs.declared.cell.CellFacts.{CellFacts}
 use Rattle.lf_cells.specs.Cells.{Cells, cell_at, cells_of, id_in, id_of, standing_of}
 use Rattle.lf_legalize.specs.Members.{best_of}
+use Rattle.lf_placement.proofs.Moves.{id_there}
 use Rattle.lf_floorplan.specs.Bounds.{IsName}
 use Rattle.lf_teams.specs.Outcomes.{name_at}
 use Rattle.lf_teams.specs.Teams.{Setting}
@@ -54,13 +55,7 @@ names_none cells number own none = go (slice_get cells own) none where
   go None e = refl
   go (Some c) e = absurd cc
 
-pub id_there : (cells : List Cell) (number own : ℕ) (id : CellId) → id_in cells number own ≡ Some id → id ≡ id_of number own
-id_there cells number own id is = go (slice_get cells own) is where
-  go : (o : Option Cell) → option_map (λ (c : Cell). id_of number own) o ≡ Some id → id ≡ id_of number own
-  go None e = absurd cc
-  go (Some c) e = sym (some_one e)
-
--- a name that is returned is that of an existing cell
+-- a name that is told is that of a cell that is there
 pub name_printed : (cells : List Cell) (own : ℕ) (name : List ℕ) → All (λ c. IsName c.name) cells → Some name ≡ name_at cells own → IsName name
 name_printed cells own name printed is = go (slice_get cells own) refl is where
   go : (o : Option Cell) → slice_get cells own ≡ o → Some name ≡ option_map (λ (c : Cell). c.name) o → IsName name

@@ -1,18 +1,15 @@
 -- What the swap of two cells comes to.
 use Rattle.std.proofs.Common.{◌≡◌, ◌≢◌, ◌⊎◌, inl, inr, ℕ, zero, suc, List, [], ◌∷◌, Option, Some, None, true, refl, ap, sym, ◌∙◌}
-use Rattle.std.specs.Prelude.{All}
+use Rattle.std.specs.Prelude.{option_and_then}
 use Rattle.std.proofs.lemmas.Bool.{cases_eq}
 use Rattle.lf_floorplan.specs.declared.place.Place.{Place}
 use Rattle.lf_rules.specs.declared.rule.Broken.{Broken}
 use Rattle.lf_rules.specs.declared.rule.Rule.{Rule}
-use Rattle.lf_rules.specs.Legalizer.{VerdictIsOne}
 use Rattle.lf_proto.specs.declared.reply.Refusal.{Refusal}
 use Rattle.lf_proto.specs.declared.reply.Refusal.TheVariants.{Illegal}
 use Rattle.lf_cells.specs.declared.cell.Cell.{Cell}
 use Rattle.lf_cells.specs.Cells.{cell_named, moved, working_at}
-use Rattle.lf_legalize.specs.Members.{IsSizedCell}
 use Rattle.lf_placement.specs.Placings.{SameButPlaces, made}
-use Rattle.lf_placement.proofs.Changing.{macs_same, sized_in}
 use Rattle.lf_placement.proofs.Moves.{same_moved}
 use Rattle.lf_teams.specs.States.{TeamState}
 use Rattle.lf_teams.specs.Teams.{Setting, broken_at}
@@ -20,7 +17,7 @@ use Rattle.lf_teams.specs.Outcomes.{may_be_short, recorded, refused}
 use Rattle.lf_teams.specs.Changes.{broken_where, exchanged, swapped, swapped_from, swapped_own, swapped_unless}
 use Rattle.lf_floor.specs.declared.swap.Exchange.{Exchange}
 use Rattle.lf_floor.specs.Swapping.{IsExchange, exchange_moves, first_of, illegal_by, swap_refusal, swapped_here}
-use Rattle.lf_floor.proofs.Judging.{IsAloneIn, alone_same, alone_verdict}
+use Rattle.lf_floor.proofs.Judging.{first_broken}
 
 some_same : {X : Type 0} {x y : X} → Some x ≡ Some y → x ≡ y
 some_same e = cc
@@ -67,26 +64,21 @@ module _ (cells : List Cell) (a b : ℕ) (from to : Place) (from_is : working_at
   pub second_there : working_at (moved half b (Some from)) b ≡ Some from
   second_there = second_now
 
-  same_both : SameButPlaces cells (moved half b (Some from))
+  pub same_both : SameButPlaces cells (moved half b (Some from))
   same_both = same_moved half b (Some from) ∙ same_moved cells a (Some to)
 
-  -- the first cell breaks a rule wherever the others are
-  pub first_refused : (t : Setting) (rule : Rule) → VerdictIsOne → All (λ d. IsSizedCell t.frame d) cells
-      → IsAloneIn t.frame t.number cells a to (Some rule) → Some (Illegal rule a None) ≡ swap_refusal t (exchanged cells a b) a b
-  first_refused t rule one sized alone =
-      let now = moved half b (Some from) in
-      let verdict : Some record { rule = rule; other = None } ≡ broken_at t now a to =
-      alone_verdict t now a to rule one (sized_in t.frame cells now (macs_same cells now same_both) sized)
-      (alone_same t.frame t.number cells now a to (Some rule) same_both alone) in
-      ap (λ (broken : Option Broken). first_of (illegal_by broken a) (illegal_by (broken_where t now b) b)) (verdict ∙ sym (where_is now))
+  -- the first cell breaks this rule there
+  pub first_refused : (t : Setting) (rule : Rule) → first_broken rule ≡ broken_at t (moved half b (Some from)) a to
+      → Some (Illegal rule a None) ≡ swap_refusal t (exchanged cells a b) a b
+  first_refused t rule verdict =
+      ap (λ (broken : Option Broken). first_of (illegal_by broken a) (illegal_by (broken_where t (moved half b (Some from)) b) b))
+      (verdict ∙ sym (by (working_at (moved half b (Some from)) a) first_there))
       ∙ ap (λ (cs : List Cell). swap_refusal t cs a b) moved_both
     where
-      by : (o : Option Place) (cs : List Cell) → o ≡ Some to → Rattle.std.specs.Prelude.option_and_then (λ (p : Place). broken_at t cs a p) o ≡ broken_at t cs a to
-      by None cs e = absurd cc
-      by (Some p) cs e = ap (λ (q : Place). broken_at t cs a q) (some_same e)
-
-      where_is : (cs : List Cell) → broken_where t (moved half b (Some from)) a ≡ broken_at t (moved half b (Some from)) a to
-      where_is cs = by (working_at (moved half b (Some from)) a) (moved half b (Some from)) first_there
+      by : (o : Option Place) → o ≡ Some to
+          → option_and_then (λ (p : Place). broken_at t (moved half b (Some from)) a p) o ≡ broken_at t (moved half b (Some from)) a to
+      by None e = absurd cc
+      by (Some p) e = ap (λ (q : Place). broken_at t (moved half b (Some from)) a q) (some_same e)
 
 pub exchange_made : (number : ℕ) (x : Exchange) (cells : List Cell) → IsExchange number cells x
     → made (exchange_moves x) cells ≡ exchanged cells x.first.own x.second.own
