@@ -20,9 +20,9 @@ from program import DEF, LEF, PROGRAM, TESTS, Session
 
 ALL = 2**63
 SHORT = "no 12 OutOfMemory"
-# The first growths are those of the command line, which can do without some; and how a task ends that found no memory, before
-# its design was loaded or for the buffers of its lines.
-WORDS = 20
+# How many growths a task can do without: one of the command line, and one of a report.
+SPARED = 2
+# How a task ends that found no memory: before its lines, or for the buffers of its lines.
 NOT_DONE = [(1, "lefence: 24 OutOfMemory\n"), (3, "lefence: OutOfMemory\n")]
 
 PLACES = [("place A 0 a1 0 0 N", "ok 1"), ("place A 0 a2 400 0 N", "ok 2"), ("place A 0 a3 800 0 N", "ok 3")]
@@ -279,16 +279,20 @@ class GrowthsRefused(WithRefusals):
 
 
 class StartsRefused(WithRefusals):
-    """Each growth from the start of the program on: it ends so, or answers a command so; an exported file stays whole."""
+    """Each growth from the start of the program on: it ends or answers a command so; an older exported file stays whole."""
 
     def test_check(self) -> None:
         words = [str(PROGRAM), "check", str(DEF), str(LEF)]
         usual = self.run_with(words, "", 0, 0)[:3]
+        spared = []
         for first, last in self.numbers(words, ""):
             status, written, said, refused = self.run_with(words, "", first, last)
             self.assertGreater(refused, 0)
-            if (status, written, said) != usual or first > WORDS:
+            if (status, written, said) == usual:
+                spared.append(first)
+            else:
                 self.assertEqual((written, (status, said)), ("", NOT_DONE[0]), f"growth {first}")
+        self.assertLessEqual(len(spared), SPARED, spared)
 
     def test_replay_and_export(self) -> None:
         target = Path(self.folder.name) / "new.def"
@@ -298,17 +302,22 @@ class StartsRefused(WithRefusals):
         usual = self.run_with(words, lines, 0, 0)[:3]
         self.assertEqual(usual, (0, "ok 0 0\nok 1 3\nok 2\n", ""))
         moved, unmoved = target.read_text(), DEF.read_text()
+        spared = []
         for first, last in self.numbers(words, lines):
             target.write_text("old")
             status, written, said, refused = self.run_with(words, lines, first, last)
             self.assertGreater(refused, 0)
             with self.subTest(growth=first, last=last):
-                if status == 0:
-                    self.assertTrue(SHORT in written or first <= WORDS, written)
+                if (status, written, said) == usual:
+                    spared.append(first)
+                    self.assertEqual(target.read_text(), moved)
+                elif status == 0:
+                    self.assertIn(SHORT, written)
                     self.assertIn(target.read_text(), (moved, unmoved))
                 else:
                     self.assertIn((status, said), NOT_DONE)
                     self.assertEqual(target.read_text(), "old")
+        self.assertLessEqual(len(spared), SPARED, spared)
 
 
 class RunsRefused(WithRefusals):
