@@ -60,11 +60,14 @@ def lines_of_build() -> Iterator[str]:
     with open(OUT / "build.log", "w", encoding="utf-8") as log:
         words = ["rt", "run"]
         build = subprocess.Popen(words, cwd=OUT.parent, stdin=subprocess.DEVNULL, stdout=subprocess.PIPE, stderr=subprocess.STDOUT, text=True, errors="replace")
-        for line in build.stdout or ():
-            log.write(line)
-            log.flush()
-            yield line
-        yield f"status {build.wait()}"
+        try:
+            for line in build.stdout or ():
+                log.write(line)
+                log.flush()
+                yield line
+            yield f"status {build.wait()}"
+        finally:
+            build.terminate()
 
 
 def main() -> int:
@@ -90,4 +93,8 @@ def main() -> int:
 
 
 if __name__ == "__main__":
-    sys.exit(main())
+    try:
+        sys.exit(main())
+    except KeyboardInterrupt:
+        print("lefence: interrupted; the build goes on from here when it is started again", file=sys.stderr)
+        sys.exit(130)
