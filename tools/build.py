@@ -34,10 +34,9 @@ def newest(crate: str) -> float:
     return max((it.stat().st_mtime for it in files), default=0.0)
 
 
-def waiting() -> list[str]:
+def waiting(listing: str) -> list[str]:
     """The crates that are to be built: those without a library newer than its sources, and all above them."""
     found: list[str] = []
-    listing = (TOP / "crates.txt").read_text(encoding="utf-8")
     listed = lines_of(listing)
     for crate in below(["lefence"], listing):
         stamp = TOP / "crates" / crate / "out/rlib/stamp"
@@ -72,7 +71,8 @@ def lines_of_build() -> Iterator[str]:
 
 def main() -> int:
     OUT.mkdir(parents=True, exist_ok=True)
-    left, before = waiting(), seconds_before()
+    listing = (TOP / "crates.txt").read_text(encoding="utf-8")
+    left, before = waiting(listing), seconds_before()
     taken: dict[str, float] = {}
     since, status = time.monotonic(), "status 1"
     print(f"lefence: proving and building {len(left)} crates, the log is {OUT}/build.log", file=sys.stderr)
@@ -80,7 +80,9 @@ def main() -> int:
         ended = ENDED.match(status)
         if ended and ended[1] in left:
             now = time.monotonic()
-            left.remove(ended[1])
+            # (what it is made of is there, though it may have been taken over from another checkout without a word)
+            done = below([ended[1]], listing)
+            left = [it for it in left if it not in done]
             taken[ended[1]], since = now - since, now
             minutes = sum(before.get(it, 60.0) for it in left) / 60
             print(f"lefence: {ended[1]} is proved; {len(left)} crates are left, some {minutes:.0f} minutes", file=sys.stderr)
