@@ -20,7 +20,8 @@ from program import DEF, LEF, PROGRAM, TESTS, Session
 
 ALL = 2**63
 SHORT = "no 12 OutOfMemory"
-# How many growths a task can do without: one of the command line, and one of a report.
+# How many growths a task can do without: one of the command line, and of a check the first one behind loading, for the list of the
+# cells' places. What was refused alone is then asked for again.
 SPARED = 2
 # How a task ends that found no memory: before its lines, or for the buffers of its lines.
 NOT_DONE = [(1, "lefence: 24 OutOfMemory\n"), (3, "lefence: OutOfMemory\n")]
