@@ -1,0 +1,57 @@
+//! A frame with what is looked up of it, lent as a pair.
+
+ghost use Rattle.std.specs.Prelude.{◌≡◌};
+ghost use Rattle.lf_segments.specs.Grounds.{IsGroundOf};
+
+use crate::ground::Ground;
+use lf_floorplan::{Frame, Near};
+use lf_units::Rect;
+use std::marker::Model;
+
+/// A frame with its look-ups. A contract sees the frame.
+#[derive(Drop)]
+pub struct Plan<'a> {
+    frame: &'a Frame,
+    index: &'a Ground,
+}
+
+impl<'a> Model for Plan<'a> {
+    ghost use Rattle.lf_floorplan.specs.declared.frame.Frame.{Frame};
+    ghost use Rattle.lf_segments.specs.Grounds.{IsGroundOf};
+
+    ghost Value = { Frame };
+
+    ghost view = { λ p. p.frame.now };
+
+    ghost invariant = { λ p. IsGroundOf p.frame.now p.index.now };
+}
+
+impl<'a> Plan<'a> {
+    /// The pair of a frame and its look-ups.
+    pub fn new(frame: &'a Frame, index: &'a Ground) -> Plan<'a>
+        requires { IsGroundOf frame.now index.now }
+        ensures { result ≡ frame.now }
+    {
+        Plan { frame, index }
+    }
+}
+
+impl<'a> Near for Plan<'a> {
+    ghost of = { λ p. p };
+
+    fn frame(&self) -> &Frame {
+        self.frame
+    }
+
+    fn row_at(&self, y: i64, x: i64) -> Option<usize> {
+        todo!()
+    }
+
+    fn keeps_ground(&self, team: usize, rect: &Rect) -> bool {
+        todo!()
+    }
+
+    fn keeps_clear(&self, team: usize, rect: &Rect) -> bool {
+        todo!()
+    }
+}
