@@ -4,3 +4,4 @@ pub mod GroundLemmas
 pub mod CellLemmas
 pub mod SizeBounds
 pub mod ObstacleLemmas
+pub mod RowAtLemmas

@@ -1,5 +1,5 @@
 -- Teams, their ground and the obstacles (DEF REGIONS, BLOCKAGES).
-use Rattle.std.specs.Prelude.{◌≡◌, ◌≢◌, ℕ, ℤ, ◌≤◌, All, length, slice_get, MatchOption}
+use Rattle.std.specs.Prelude.{◌≡◌, ◌≢◌, ℕ, ℤ, ◌≤◌, All, Any, length, slice_get, MatchOption}
 use Rattle.lf_units.specs.declared.area.Rect.{Rect}
 use Rattle.lf_units.specs.Area.{Covers, SharesPoint, CoveredBy}
 use Rattle.lf_floorplan.specs.declared.frame.Frame.{Frame}
@@ -24,6 +24,10 @@ StaysInGround f team box = (x y : ℤ) → Covers box x y → InGround f team x 
 -- no point of the box is in an obstacle
 abbrev pub IsClear : Frame → Rect → Type 0
 IsClear f box = All (λ obstacle. SharesPoint box obstacle → ⊥) f.obstacles
+
+-- the box shares a point with a soft blockage
+abbrev pub MeetsSoft : Frame → Rect → Type 0
+MeetsSoft f box = Any (λ r. SharesPoint box r) f.soft
 
 -- each point is ground of exactly one team
 pub record PointHasOneTeam : Type 0 where

@@ -1,6 +1,6 @@
 -- A box that stands on rows (DEF ROW): its height in sites, its bottom row, and the rows above that one.
-use Rattle.std.specs.Prelude.{◌≡◌, ℕ, zero, suc, pos, ◌≤◌, ◌<◌, ◌+ℤ◌, ◌-ℤ◌, ◌*ℤ◌, ◌≤ℤ◌, ◌<ℤ◌, Contains}
-use Rattle.std.specs.Option.{option_map}
+use Rattle.std.specs.Prelude.{◌≡◌, ℕ, ℤ, zero, suc, pos, ◌≤◌, ◌<◌, ◌+ℤ◌, ◌-ℤ◌, ◌*ℤ◌, ◌≤ℤ◌, ◌<ℤ◌, All, Contains, MatchOption, Option, Some, slice_get}
+use Rattle.std.specs.Option.{ForSome, option_map}
 use Rattle.lf_units.specs.declared.area.Rect.{Rect}
 use Rattle.lf_orient.specs.declared.Rail.{Rail}
 use Rattle.lf_orient.specs.Orientation.{rail_below, other_rail}
@@ -19,6 +19,16 @@ pub record IsRowOfBox (f : Frame) (box : Rect) (j : ℕ) (r : Row) : Type 0 wher
   pub at_level : r.y ≡ box.y1 +ℤ (pos j *ℤ f.pitch.y)
   pub left : r.x ≤ℤ box.x1
   pub right : box.x2 ≤ℤ (row_area f.pitch r).x2
+
+-- the row lies at this y and extends over x
+pub record ExtendsOver (f : Frame) (y x : ℤ) (r : Row) : Type 0 where
+  pub at_level : r.y ≡ y
+  pub left : r.x ≤ℤ x
+  pub right : x <ℤ (row_area f.pitch r).x2
+
+-- the row of core sites at this y that extends over x, by its position; None if there is none
+abbrev pub IsRowAt : Frame → ℤ → ℤ → Option ℕ → Type 0
+IsRowAt f y x found = MatchOption found (All (λ r. ExtendsOver f y x r → ⊥) f.rows) (λ n. ForSome (slice_get f.rows n) (ExtendsOver f y x))
 
 -- the bottom row of the box: a row of core sites that is its row 0, and whose x grid holds the box's x
 pub record IsBottomRow (f : Frame) (box : Rect) (r : Row) : Type 0 where
@@ -61,3 +71,9 @@ pub record StandsOn (f : Frame) (box : Rect) : Type 0 where
 pub record StandingIsOne : Type 0 where
   pub height : (f : Frame) (box : Rect) (j k : ℕ) → IsSitesHigh f box j → IsSitesHigh f box k → j ≡ k
   pub bottom : (f : Frame) (box : Rect) (r s : Row) → box.x1 <ℤ box.x2 → IsBottomRow f box r → IsBottomRow f box s → r ≡ s
+
+-- at most one row of a frame lies at a y and extends over an x
+abbrev pub RowAtIsOne : Type 0
+RowAtIsOne =
+    (f : Frame) (y x : ℤ) (m n : ℕ) (r s : Row) → slice_get f.rows m ≡ Some r → slice_get f.rows n ≡ Some s → ExtendsOver f y x r → ExtendsOver f y x s →
+    m ≡ n

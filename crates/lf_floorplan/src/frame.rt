@@ -1,7 +1,7 @@
 //! The frame, with what loading has checked.
 
 ghost use Rattle.std.specs.Prelude.{◌≡◌, ℕ, ◌<◌, ◌≤◌, All, length};
-ghost use Rattle.lf_floorplan.specs.Bounds.{IsWithin, IsLefSize};
+ghost use Rattle.lf_floorplan.specs.Bounds.{IsDefRect, IsWithin, IsLefSize};
 ghost use Rattle.lf_floorplan.specs.Obstacles.{IsObstacle};
 ghost use Rattle.lf_floorplan.specs.Rows.{IsPitch, IsHeeded, RowsApart};
 ghost use Rattle.lf_floorplan.specs.Fences.{IsFence, FencesNamed, FencesApart};
@@ -28,6 +28,9 @@ pub struct Frame {
     pub teams: Sequence<Team>,
     /// The boxes of FIXED components, and then the placement blockages, in database units.
     pub obstacles: Sequence<Rect>,
+    /// The rectangles of the soft placement blockages, in the order of the DEF text, in database units. A search for a best
+    /// place keeps clear of them; they are no obstacles.
+    pub soft: Sequence<Rect>,
     /// All macros of the LEF texts, used or not.
     pub macros: Sequence<Macro>,
     /// The header of the DEF text.
@@ -45,5 +48,6 @@ pub struct Frame {
     pub ghost fences_named: { FencesNamed teams },
     pub ghost fences_apart: { FencesApart teams },
     pub ghost obstacles_in_range: { All (IsObstacle header.units macros) obstacles },
+    pub ghost soft_in_def: { All IsDefRect soft },
     pub ghost macros_in_lef: { All (λ m. IsLefSize m.size × IsLefSize m.origin) macros },
 }

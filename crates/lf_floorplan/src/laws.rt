@@ -3,7 +3,7 @@
 ghost use Rattle.lf_floorplan.specs.Sizes.{TurnsBack};
 ghost use Rattle.lf_floorplan.specs.Design.{CellIsSized};
 ghost use Rattle.lf_floorplan.specs.Ground.{ObstaclesStayNear, PointHasOneTeam, TeamsStayApart};
-ghost use Rattle.lf_floorplan.specs.Standing.{StandingIsOne};
+ghost use Rattle.lf_floorplan.specs.Standing.{RowAtIsOne, StandingIsOne};
 
 /// Turning a size twice by the same orientation gives the size back.
 pub fn size_turns_back()
@@ -29,6 +29,11 @@ pub fn obstacles_stay_near()
 /// A box has one height in sites and one bottom row.
 pub fn standing_is_one()
     ensures { StandingIsOne }
+{}
+
+/// At most one row of a frame lies at a y and extends over an x.
+pub fn row_at_is_one()
+    ensures { RowAtIsOne }
 {}
 
 /// The macro of a cell has a size that is whole in database units and above 0.

@@ -9,6 +9,7 @@ mod limits;
 mod loaded;
 mod macros;
 mod measure;
+mod near;
 mod parts;
 mod place;
 mod sites;
@@ -17,12 +18,13 @@ mod sizes;
 pub use design::{is_sized, mac_at};
 pub use frame::Frame;
 pub use laws::{
-    cell_is_sized, obstacles_stay_near, point_has_one_team, size_turns_back, standing_is_one,
-    teams_stay_apart,
+    cell_is_sized, obstacles_stay_near, point_has_one_team, row_at_is_one, size_turns_back,
+    standing_is_one, teams_stay_apart,
 };
 pub use limits::Limits;
 pub use loaded::{Cell, Loaded};
 pub use macros::Macro;
+pub use near::Near;
 pub use parts::{Header, Row, Team};
 pub use place::Place;
 pub use sites::Site;

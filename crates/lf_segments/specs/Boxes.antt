@@ -32,16 +32,16 @@ frame_boxes f = fence_boxes 0 f.teams ++ map (numbered (length f.teams)) f.obsta
 abbrev pub IsMetAt : List Placed → ℕ → ℤ → ℤ → Type 0
 IsMetAt boxes own x y = Any (λ p. (p.own ≡ own) × Covers p.rect x y) boxes
 
--- the boxes determine which fences cover the point and whether an obstacle does
-pub record Tell (f : Frame) (boxes : List Placed) (x y : ℤ) : Type 0 where
+-- the boxes determine which fences cover the point and whether one of the obstacles does
+pub record Tell (f : Frame) (obstacles : List Rect) (boxes : List Placed) (x y : ℤ) : Type 0 where
   pub fence : (team : ℕ) → team < length f.teams → (InGround f team x y ↔ IsMetAt boxes team x y)
-  pub obstacle : Any (λ r. Covers r x y) f.obstacles ↔ IsMetAt boxes (length f.teams) x y
+  pub obstacle : Any (λ r. Covers r x y) obstacles ↔ IsMetAt boxes (length f.teams) x y
 
--- boxes that share a point with the row, and determine the fences and obstacles at each of its points
-pub record AreBoxesOf (f : Frame) (r : Row) (boxes : List Placed) : Type 0 where
+-- boxes that share a point with the row, and determine the fences and these obstacles at each of its points
+pub record AreBoxesOf (f : Frame) (obstacles : List Rect) (r : Row) (boxes : List Placed) : Type 0 where
   pub known : All (λ p. p.own ≤ length f.teams) boxes
   pub near : All (λ p. SharesPoint (row_area f.pitch r) p.rect) boxes
-  pub tell : (x y : ℤ) → Covers (row_area f.pitch r) x y → Tell f boxes x y
+  pub tell : (x y : ℤ) → Covers (row_area f.pitch r) x y → Tell f obstacles boxes x y
 
 -- boxes in order of their numbers
 abbrev pub AreSorted : List Placed → Type 0
@@ -80,23 +80,23 @@ abbrev pub segment_of : ℕ → ℕ → Span → Segment
 segment_of row team s = record { row = row; team = team; span = s }
 
 -- the row's segments of the teams below a number
-pub record IsCutOfRow (f : Frame) (number : ℕ) (r : Row) (limit : ℕ) (segments : List Segment) : Type 0 where
+pub record IsCutOfRow (f : Frame) (obstacles : List Rect) (number : ℕ) (r : Row) (limit : ℕ) (segments : List Segment) : Type 0 where
   pub known : All (λ g. (g.row ≡ number) × ((g.team < limit) × IsFilled g.span)) segments
   pub in_order : AllPairs ComesFirst segments
-  pub exact : (team : ℕ) (s : Span) → team < limit → IsFilled s → (LiesInSegment segments number team s ↔ ((x : ℤ) → Holds s x → IsOpen f r team x))
+  pub exact : (team : ℕ) (s : Span) → team < limit → IsFilled s → (LiesInSegment segments number team s ↔ ((x : ℤ) → Holds s x → IsOpen f obstacles r team x))
 
 -- the maximal spans of a row that are clear of obstacles
-pub record AreClear (f : Frame) (r : Row) (spans : List Span) : Type 0 where
+pub record AreClear (f : Frame) (obstacles : List Rect) (r : Row) (spans : List Span) : Type 0 where
   pub rising : IsRising spans
-  pub exact : (s : Span) → IsFilled s → (LiesInOne spans s ↔ ((x : ℤ) → Holds s x → IsClearAt f r x))
+  pub exact : (s : Span) → IsFilled s → (LiesInOne spans s ↔ ((x : ℤ) → Holds s x → IsClearAt f obstacles r x))
 
 -- the maximal spans of a row that the team may use
-pub record AreOpen (f : Frame) (r : Row) (team : ℕ) (spans : List Span) : Type 0 where
+pub record AreOpen (f : Frame) (obstacles : List Rect) (r : Row) (team : ℕ) (spans : List Span) : Type 0 where
   pub rising : IsRising spans
-  pub exact : (s : Span) → IsFilled s → (LiesInOne spans s ↔ ((x : ℤ) → Holds s x → IsOpen f r team x))
+  pub exact : (s : Span) → IsFilled s → (LiesInOne spans s ↔ ((x : ℤ) → Holds s x → IsOpen f obstacles r team x))
 
 -- the row's segments of the teams below a number are appended
-pub record AddsRow (f : Frame) (number : ℕ) (r : Row) (limit : ℕ) (old new : List Segment) : Type 0 where
+pub record AddsRow (f : Frame) (obstacles : List Rect) (number : ℕ) (r : Row) (limit : ℕ) (old new : List Segment) : Type 0 where
   pub added : List Segment
   pub is : new ≡ old ++ added
-  pub cut : IsCutOfRow f number r limit added
+  pub cut : IsCutOfRow f obstacles number r limit added

@@ -1,12 +1,13 @@
 -- Laws on segments: a wide box on rows stays in a team's ground and clear of obstacles iff it lies in the team's segments.
-use Rattle.std.specs.Prelude.{◌≡◌, ◌↔◌, ℕ, ◌<◌, ◌<ℤ◌, List, Some, slice_get}
+use Rattle.std.specs.Prelude.{◌≡◌, ◌↔◌, ℕ, ◌<◌, ◌<ℤ◌, All, List, Some, slice_get}
 use Rattle.lf_units.specs.declared.area.Rect.{Rect}
+use Rattle.lf_units.specs.Area.{SharesPoint}
 use Rattle.lf_floorplan.specs.declared.frame.Frame.{Frame}
 use Rattle.lf_floorplan.specs.declared.parts.Row.{Row}
-use Rattle.lf_floorplan.specs.Ground.{StaysInGround, IsClear}
+use Rattle.lf_floorplan.specs.Ground.{StaysInGround}
 use Rattle.lf_floorplan.specs.Standing.{IsSitesHigh, IsBottomRow, Carries, StandsOn}
 use Rattle.lf_segments.specs.declared.segment.Segment.{Segment}
-use Rattle.lf_segments.specs.Segments.{IsCut, LiesInSegment}
+use Rattle.lf_segments.specs.Segments.{IsCutBeside, LiesInSegment}
 use Rattle.lf_segments.specs.Boxes.{across}
 
 -- in each row that carries the box, its x range lies in one segment of the team
@@ -15,12 +16,13 @@ LiesInSegments f segments team box =
     (k : ℕ) (bottom : Row) (j n : ℕ) (r : Row) → IsSitesHigh f box k → IsBottomRow f box bottom → j < k → slice_get f.rows n ≡ Some r →
     Carries f box bottom j r → LiesInSegment segments n team (across box)
 
--- a wide box that stands on rows stays in the team's ground and clear of obstacles iff it lies in the team's segments
+-- a wide box that stands on rows stays in the team's ground and clear of these obstacles iff it lies in the team's segments beside
+-- them
 abbrev pub SegmentsDecide : Type 0
 SegmentsDecide =
-    (f : Frame) (segments : List Segment) (team : ℕ) (box : Rect) → IsCut f segments → StandsOn f box → box.x1 <ℤ box.x2 →
-    ((StaysInGround f team box × IsClear f box) ↔ LiesInSegments f segments team box)
+    (f : Frame) (obstacles : List Rect) (segments : List Segment) (team : ℕ) (box : Rect) → IsCutBeside f obstacles segments → StandsOn f box →
+    box.x1 <ℤ box.x2 → ((StaysInGround f team box × All (λ o. SharesPoint box o → ⊥) obstacles) ↔ LiesInSegments f segments team box)
 
--- a frame has only one list of segments
+-- a frame has only one list of segments beside the same obstacles
 abbrev pub CutIsOne : Type 0
-CutIsOne = (f : Frame) (a b : List Segment) → IsCut f a → IsCut f b → a ≡ b
+CutIsOne = (f : Frame) (obstacles : List Rect) (a b : List Segment) → IsCutBeside f obstacles a → IsCutBeside f obstacles b → a ≡ b

@@ -3,3 +3,6 @@ pub mod Boxes
 pub mod Laws
 pub mod RowsByY
 pub mod RowStarts
+pub mod Strips
+pub mod Soft
+pub mod Grounds

@@ -1,5 +1,6 @@
 -- Segments: the spans of rows that a team may use.
 use Rattle.std.specs.Prelude.{◌≡◌, ◌⊎◌, ◌↔◌, ℕ, ℤ, ◌<◌, ◌≤ℤ◌, ◌<ℤ◌, List, ◌++◌, All, AllPairs, Any, Some, length, slice_get}
+use Rattle.lf_units.specs.declared.area.Rect.{Rect}
 use Rattle.lf_units.specs.Area.{Covers}
 use Rattle.lf_spans.specs.declared.span.Span.{Span}
 use Rattle.lf_spans.specs.Spans.{Holds, IsFilled, LiesIn}
@@ -9,15 +10,15 @@ use Rattle.lf_floorplan.specs.Rows.{row_area}
 use Rattle.lf_floorplan.specs.Ground.{IsTeam, InGround}
 use Rattle.lf_segments.specs.declared.segment.Segment.{Segment}
 
--- the row extends over x, and none of its points there is in an obstacle
-pub record IsClearAt (f : Frame) (r : Row) (x : ℤ) : Type 0 where
+-- the row extends over x, and none of its points there is in one of the obstacles
+pub record IsClearAt (f : Frame) (obstacles : List Rect) (r : Row) (x : ℤ) : Type 0 where
   pub left : r.x ≤ℤ x
   pub right : x <ℤ (row_area f.pitch r).x2
-  pub clear : (y : ℤ) → Covers (row_area f.pitch r) x y → All (λ obstacle. Covers obstacle x y → ⊥) f.obstacles
+  pub clear : (y : ℤ) → Covers (row_area f.pitch r) x y → All (λ obstacle. Covers obstacle x y → ⊥) obstacles
 
 -- the team may use the row at x: the row is clear there, and each of its points there is the team's ground
-pub record IsOpen (f : Frame) (r : Row) (team : ℕ) (x : ℤ) : Type 0 where
-  pub clear : IsClearAt f r x
+pub record IsOpen (f : Frame) (obstacles : List Rect) (r : Row) (team : ℕ) (x : ℤ) : Type 0 where
+  pub clear : IsClearAt f obstacles r x
   pub ground : (y : ℤ) → Covers (row_area f.pitch r) x y → InGround f team x y
 
 -- the segment is the team's, in the row of this number
@@ -43,13 +44,17 @@ pub record IsSegment (f : Frame) (g : Segment) : Type 0 where
   pub team_known : IsTeam f g.team
   pub filled : IsFilled g.span
 
--- the segments of a frame, in one list: a filled span lies in a segment of a row and a team iff the team may use the row at each
--- of its numbers. So segments are maximal
-pub record IsCut (f : Frame) (segments : List Segment) : Type 0 where
+-- the segments of a frame's rows beside these obstacles, in one list: a filled span lies in a segment of a row and a team iff the
+-- team may use the row at each of its numbers. So segments are maximal
+pub record IsCutBeside (f : Frame) (obstacles : List Rect) (segments : List Segment) : Type 0 where
   pub known : All (IsSegment f) segments
   pub in_order : AllPairs ComesBefore segments
   pub exact : (n : ℕ) (r : Row) (team : ℕ) (s : Span) → slice_get f.rows n ≡ Some r → IsFilled s →
-      (LiesInSegment segments n team s ↔ ((x : ℤ) → Holds s x → IsOpen f r team x))
+      (LiesInSegment segments n team s ↔ ((x : ℤ) → Holds s x → IsOpen f obstacles r team x))
+
+-- the segments of a frame: those beside its obstacles
+abbrev pub IsCut : Frame → List Segment → Type 0
+IsCut f segments = IsCutBeside f f.obstacles segments
 
 -- the run of a list that has a property, from the n-th on: nothing before it has the property, and nothing after it
 pub record IsRunFrom (P : Segment → Type 0) (segments : List Segment) (n : ℕ) (run : List Segment) : Type 0 where

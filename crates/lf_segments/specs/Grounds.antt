@@ -1,0 +1,69 @@
+-- What of a frame is looked up by where it lies: its rows, what each team may use of them, and the soft blockages over that.
+use Rattle.std.specs.Prelude.{◌≡◌, ◌↔◌, ℕ, ℤ, ◌≤ℤ◌, List, All, Any, Some, length, map, slice_get, slice_index_or, []}
+use Rattle.std.specs.Int.{int_max, int_min}
+use Rattle.lf_units.specs.declared.area.Rect.{Rect}
+use Rattle.lf_units.specs.Area.{Covers}
+use Rattle.lf_spans.specs.declared.span.Span.{Span}
+use Rattle.lf_spans.specs.Spans.{Holds, IsFilled, IsRising, LiesIn, LiesInOne}
+use Rattle.lf_floorplan.specs.Bounds.{IsNearDefRect}
+use Rattle.lf_floorplan.specs.Rows.{row_area}
+use Rattle.lf_floorplan.specs.declared.frame.Frame.{Frame}
+use Rattle.lf_segments.specs.declared.segment.Segment.{Segment}
+use Rattle.lf_segments.specs.declared.rows_by_y.RowEntry.{RowEntry}
+use Rattle.lf_segments.specs.declared.strip.Strip.{Strip}
+use Rattle.lf_segments.specs.RowsByY.{IsRowsByY}
+use Rattle.lf_segments.specs.Segments.{IsCut, IsCutBeside}
+use Rattle.lf_segments.specs.Strips.{strip_of}
+
+-- what is looked up: the rows in order of y, the segments, the segments as if there were no obstacles, the areas of the segments, for
+-- each segment the spans under soft blockages, the rectangle that all rows lie in, and the height of a row
+pub record Lookups : Type 0 where
+  pub rows : List RowEntry
+  pub segments : List Segment
+  pub land : List Segment
+  pub strips : List Strip
+  pub soft : List (List Span)
+  pub extent : Rect
+  pub height : ℤ
+
+-- no point of the inner rectangle lies outside the outer one
+pub record IsInside (inner outer : Rect) : Type 0 where
+  pub left : outer.x1 ≤ℤ inner.x1
+  pub lower : outer.y1 ≤ℤ inner.y1
+  pub right : inner.x2 ≤ℤ outer.x2
+  pub upper : inner.y2 ≤ℤ outer.y2
+
+-- the rectangle holds all rows of the frame
+pub record IsExtentOf (f : Frame) (extent : Rect) : Type 0 where
+  pub near : IsNearDefRect extent
+  pub rows : All (λ r. IsInside (row_area f.pitch r) extent) f.rows
+
+-- the smallest rectangle that holds both
+abbrev pub hull : Rect → Rect → Rect
+hull a b = record { x1 = int_min a.x1 b.x1; y1 = int_min a.y1 b.y1; x2 = int_max a.x2 b.x2; y2 = int_max a.y2 b.y2 }
+
+-- a point of the area with this x lies in a soft blockage
+pub record IsSoftAt (f : Frame) (area : Rect) (x : ℤ) : Type 0 where
+  pub y : ℤ
+  pub covers : Covers area x y
+  pub soft : Any (λ r. Covers r x y) f.soft
+
+-- the maximal spans of a segment's numbers at which a point of its strip lies in a soft blockage
+pub record AreSoftSpans (f : Frame) (g : Segment) (spans : List Span) : Type 0 where
+  pub rising : IsRising spans
+  pub exact : (s : Span) → IsFilled s → (LiesInOne spans s ↔ (LiesIn s g.span × ((x : ℤ) → Holds s x → IsSoftAt f (strip_of f g).area x)))
+
+-- the soft spans of each segment
+pub record AreSoft (f : Frame) (segments : List Segment) (soft : List (List Span)) : Type 0 where
+  pub many : length soft ≡ length segments
+  pub each : (n : ℕ) (g : Segment) → slice_get segments n ≡ Some g → AreSoftSpans f g (slice_index_or soft n [])
+
+-- the look-ups are those of the frame
+pub record IsGroundOf (f : Frame) (g : Lookups) : Type 0 where
+  pub rows : IsRowsByY f g.rows
+  pub segments : IsCut f g.segments
+  pub land : IsCutBeside f [] g.land
+  pub strips : g.strips ≡ map (strip_of f) g.segments
+  pub soft : AreSoft f g.segments g.soft
+  pub extent : IsExtentOf f g.extent
+  pub height : g.height ≡ f.pitch.y

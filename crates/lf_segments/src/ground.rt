@@ -1,0 +1,124 @@
+//! What of a frame is looked up by where it lies, built once for a frame.
+
+ghost use Rattle.std.specs.Prelude.{◌≡◌, IfOk, slice_index_or, []};
+ghost use Rattle.lf_segments.specs.Grounds.{IsGroundOf};
+ghost use Rattle.lf_segments.specs.Strips.{AreNear, AreRowsNear, AreStrips};
+
+use crate::rows_by_y::{RowEntry, RowsByY};
+use crate::segments::Segments;
+use crate::soft::SoftSpans;
+use crate::strip::Strip;
+use crate::strips::{NearStrips, near_strips, rows_near};
+use lf_floorplan::Frame;
+use lf_units::{Rect, Span};
+use std::alloc::{AllocError, Global};
+use std::marker::Model;
+
+/// What of a frame is looked up by where it lies: its rows, the segments of its teams and the strips of those, the segments as if
+/// there were no obstacles, and what soft blockages cover of the segments.
+///
+/// A contract sees the lists. Only `build` allocates; each look-up is by bisection.
+#[derive(Drop)]
+pub struct Ground {
+    rows: RowsByY,
+    segments: Segments,
+    land: Segments,
+    strips: Vec<Strip>,
+    soft: SoftSpans,
+    extent: Rect,
+    height: i64,
+}
+
+impl Model for Ground {
+    ghost use Rattle.std.specs.Prelude.{◌≡◌};
+    ghost use Rattle.lf_segments.specs.Grounds.{Lookups};
+    ghost use Rattle.lf_segments.specs.RowStarts.{rows_of};
+    ghost use Rattle.lf_segments.specs.Strips.{AreStrips, rows_in};
+
+    ghost Value = { Lookups };
+
+    ghost view = { λ g. record {
+      rows = g.rows;
+      segments = g.segments;
+      land = g.land;
+      strips = g.strips.items;
+      soft = g.soft;
+      extent = g.extent;
+      height = g.height;
+    } };
+
+    ghost invariant = { λ g. AreStrips g.rows g.height g.strips.items × (rows_in g.strips.items ≡ rows_of g.segments) };
+}
+
+impl Ground {
+    /// The look-ups of the frame. `Err` if an allocation fails.
+    pub fn build(alloc: Global, frame: &Frame) -> Result<Self, AllocError>
+        ensures { IfOk result (λ index. IsGroundOf frame.now index) }
+    {
+        Err(AllocError)
+    }
+
+    /// The segments.
+    pub fn segments(&self) -> &Segments
+        ensures { result.now ≡ self.now.segments }
+    {
+        &self.segments
+    }
+
+    /// The segments as if there were no obstacles: the part of each row that is a team's ground.
+    pub fn land(&self) -> &Segments
+        ensures { result.now ≡ self.now.land }
+    {
+        &self.land
+    }
+
+    /// The strips of the segments, in their order.
+    pub fn strips(&self) -> &[Strip]
+        ensures { result.now ≡ self.now.strips }
+    {
+        &self.strips
+    }
+
+    /// The rows in order of y.
+    pub fn rows(&self) -> &RowsByY
+        ensures { result.now ≡ self.now.rows }
+    {
+        &self.rows
+    }
+
+    /// The rectangle that all rows lie in, in database units.
+    pub fn extent(&self) -> &Rect
+        ensures { result.now ≡ self.now.extent }
+    {
+        &self.extent
+    }
+
+    /// The spans of the segment of that number at which a point of its strip lies in a soft blockage, in database units, from left
+    /// to right; none if there is no such segment.
+    pub fn soft_of(&self, segment: usize) -> &[Span]
+        ensures { result.now ≡ slice_index_or self.now.soft segment [] }
+    {
+        self.soft.of_segment(segment)
+    }
+
+    /// The numbers of the strips of a row and a team that overlap a range of x.
+    pub fn near(&self, row: usize, team: usize, lo: &i64, hi: &i64) -> NearStrips
+        ensures { AreNear self.now.strips row team lo.now hi.now result.start result.end }
+    {
+        near_strips(&self.strips, &self.segments, row, team, lo, hi)
+    }
+
+    /// The entries of the rows whose strips may share a point with the rectangle.
+    pub fn rows_near(&self, rect: &Rect) -> &[RowEntry]
+        ensures { AreRowsNear self.now.rows self.now.height rect.now result.now }
+    {
+        rows_near(&self.rows, &self.height, rect)
+    }
+
+    /// The strips are in order, and each lies on its row.
+    pub fn strips_are_placed(&self)
+        ensures { AreStrips self.now.rows self.now.height self.now.strips }
+    {
+        let _ = &self.strips;
+    }
+}
