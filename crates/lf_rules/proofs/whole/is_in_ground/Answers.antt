@@ -1,7 +1,7 @@
 use Rattle.std.proofs.Common.{refl, sym, ◌∙◌, rules}
 use Rattle.std.proofs.lemmas.Option.{slice_get_read, slice_get_past}
 use Rattle.lf_rules.proofs.GroundLemmas.{no_ground, stays_in_open, open_of_stays}
-use Rattle.lf_rules.proofs.first.is_in_ground.Goals as goal
+use Rattle.lf_rules.proofs.whole.is_in_ground.Goals as goal
 
 pub returns-in-Some : goal.returns-in-Some
 returns-in-Some c =
