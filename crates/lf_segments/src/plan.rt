@@ -1,9 +1,13 @@
 //! A frame with what is looked up of it, lent as a pair.
 
-ghost use Rattle.std.specs.Prelude.{◌≡◌};
+ghost use Rattle.std.specs.Prelude.{◌≡◌, ◌↔◌, ◌<ℤ◌, IsTrue};
+ghost use Rattle.lf_floorplan.specs.Ground.{IsClear, StaysInGround};
+ghost use Rattle.lf_floorplan.specs.Standing.{StandsOn};
 ghost use Rattle.lf_segments.specs.Grounds.{IsGroundOf};
 
 use crate::ground::Ground;
+use crate::laws::lies_in_segments;
+use crate::on_rows::{lies_in, row_at};
 use lf_floorplan::{Frame, Near};
 use lf_units::Rect;
 use std::marker::Model;
@@ -26,6 +30,29 @@ impl<'a> Model for Plan<'a> {
     ghost invariant = { λ p. IsGroundOf p.frame.now p.index.now };
 }
 
+/// Whether every point of the box, which stands on rows, is ground of the team.
+fn keeps_ground(frame: &Frame, index: &Ground, team: usize, rect: &Rect) -> bool
+    requires index { IsGroundOf frame.now index.now }
+    requires wide { rect.now.x1 <ℤ rect.now.x2 }
+    requires stands { StandsOn frame.now rect.now }
+    ensures { IsTrue result ↔ StaysInGround frame.now team rect.now }
+{
+    lies_in_segments();
+    lies_in(frame, index.rows(), index.land(), team, rect)
+}
+
+/// Whether no point of the box, which stands on rows in the team's ground, is in an obstacle.
+fn keeps_clear(frame: &Frame, index: &Ground, team: usize, rect: &Rect) -> bool
+    requires index { IsGroundOf frame.now index.now }
+    requires wide { rect.now.x1 <ℤ rect.now.x2 }
+    requires stands { StandsOn frame.now rect.now }
+    requires inside { StaysInGround frame.now team rect.now }
+    ensures { IsTrue result ↔ IsClear frame.now rect.now }
+{
+    lies_in_segments();
+    lies_in(frame, index.rows(), index.segments(), team, rect)
+}
+
 impl<'a> Plan<'a> {
     /// The pair of a frame and its look-ups.
     pub fn new(frame: &'a Frame, index: &'a Ground) -> Plan<'a>
@@ -33,6 +60,13 @@ impl<'a> Plan<'a> {
         ensures { result ≡ frame.now }
     {
         Plan { frame, index }
+    }
+
+    /// The look-ups of the frame.
+    pub fn index(&self) -> &Ground
+        ensures { IsGroundOf self.now result.now }
+    {
+        self.index
     }
 }
 
@@ -44,14 +78,14 @@ impl<'a> Near for Plan<'a> {
     }
 
     fn row_at(&self, y: i64, x: i64) -> Option<usize> {
-        todo!()
+        row_at(self.frame, self.index.rows(), &y, &x)
     }
 
     fn keeps_ground(&self, team: usize, rect: &Rect) -> bool {
-        todo!()
+        keeps_ground(self.frame, self.index, team, rect)
     }
 
     fn keeps_clear(&self, team: usize, rect: &Rect) -> bool {
-        todo!()
+        keeps_clear(self.frame, self.index, team, rect)
     }
 }
