@@ -1,7 +1,8 @@
 //! Which row lies at a point, and whether a box that stands on rows lies in segments of them. Each look-up is by bisection.
 
-ghost use Rattle.std.specs.Prelude.{◌≡◌, ◌↔◌, ◌<◌, ◌+ℤ◌, ◌*ℤ◌, ◌≤ℤ◌, ◌<ℤ◌, All, AllPairs, Contains, IsTrue, MatchOption, Some, pos, slice_get};
+ghost use Rattle.std.specs.Prelude.{◌≡◌, ◌↔◌, ◌≤◌, ◌+ℤ◌, ◌*ℤ◌, ◌≤ℤ◌, ◌<ℤ◌, All, AllPairs, IsTrue, MatchOption, Some, pos, slice_get};
 ghost use Rattle.std.specs.Option.{IsSomeAnd};
+ghost use Rattle.lf_floorplan.specs.Bounds.{IsDefNumber};
 ghost use Rattle.lf_floorplan.specs.Rows.{IsHeeded, row_area};
 ghost use Rattle.lf_floorplan.specs.Standing.{ExtendsOver, StandsOn};
 ghost use Rattle.lf_segments.specs.Boxes.{across};
@@ -10,9 +11,10 @@ ghost use Rattle.lf_segments.specs.RowsByY.{IsEntryOf, IsRowsByY};
 ghost use Rattle.lf_segments.specs.Segments.{ComesBefore, LiesInSegment};
 
 use crate::rows_by_y::{RowEntry, RowsByY};
+use crate::segment::Segment;
 use crate::segments::Segments;
 use lf_floorplan::{Frame, Row};
-use lf_units::Rect;
+use lf_units::{Point, Rect};
 
 /// The row of an entry.
 fn row_of<'a>(frame: &'a Frame, entry: &RowEntry) -> &'a Row
@@ -37,11 +39,20 @@ pub(crate) fn row_at(frame: &Frame, rows: &RowsByY, y: &i64, x: &i64) -> Option<
     ensures { MatchOption result (All (λ r. ExtendsOver frame.now y.now x.now r → ⊥) frame.now.rows)
         (λ n. IsSomeAnd (slice_get frame.now.rows n) (ExtendsOver frame.now y.now x.now)) }
 {
-    let entry = rows.last_at(y, x)?;
+    let Some(entry) = rows.last_at(y, x) else {
+        return None;
+    };
     if ends_by(frame, row_of(frame, entry), x) {
         return None;
     }
     Some(entry.row)
+}
+
+/// Whether the box ends where the segment ends or left of it.
+fn ends_in(rect: &Rect, segment: &Segment) -> bool
+    ensures { IsTrue result ↔ (rect.now.x2 ≤ℤ segment.now.span.hi) }
+{
+    rect.x2 <= segment.span.hi
 }
 
 /// Whether the box's x range lies in one segment of the row and the team. Segments are in order.
@@ -53,10 +64,7 @@ fn lies_in_one(segments: &Segments, row: usize, team: usize, rect: &Rect) -> boo
     let Some(number) = segments.segment_at(row, team, rect.x1) else {
         return false;
     };
-    match segments.as_slice().get(number) {
-        Some(segment) => rect.x2 <= segment.span.hi,
-        None => false,
-    }
+    ends_in(rect, &segments.as_slice()[number])
 }
 
 /// Whether a row at this y carries the box's x range and has it in one segment of the team.
@@ -79,13 +87,15 @@ fn lies_at(
     }
 }
 
-/// The y of the rows this many levels above the lower edge of the box.
-fn level_y(frame: &Frame, rect: &Rect, level: u32) -> i64
-    requires stands { StandsOn frame.now rect.now }
-    requires few { level < 8 }
-    ensures { result ≡ rect.now.y1 +ℤ (pos level *ℤ frame.now.pitch.y) }
+/// The y this many site heights above y.
+fn level_above(y: &i64, pitch: &Point, level: u32) -> i64
+    requires from { IsDefNumber y.now }
+    requires high { pos 0 <ℤ pitch.now.y }
+    requires low { pitch.now.y ≤ℤ pos 20000000000 }
+    requires few { level ≤ 8 }
+    ensures { result ≡ y.now +ℤ (pos level *ℤ pitch.now.y) }
 {
-    rect.y1 + i64::from(level) * frame.pitch.y
+    *y + i64::from(level) * pitch.y
 }
 
 /// Whether the box, which stands on rows, lies in one segment of the team in each row that carries it. It is at most 8 rows
@@ -104,7 +114,7 @@ pub(crate) fn lies_in(
     ensures { IsTrue result ↔ LiesInSegments frame.now segments.now team rect.now }
 {
     for level in 0..8 {
-        let y = level_y(frame, rect, level);
+        let y = level_above(&rect.y1, &frame.pitch, level);
         if rect.y2 <= y {
             return true;
         }
