@@ -64,7 +64,10 @@ fn lies_in_one(segments: &Segments, row: usize, team: usize, rect: &Rect) -> boo
     let Some(number) = segments.segment_at(row, team, rect.x1) else {
         return false;
     };
-    ends_in(rect, &segments.as_slice()[number])
+    match segments.as_slice().get(number) {
+        Some(segment) => ends_in(rect, segment),
+        None => false,
+    }
 }
 
 /// Whether a row at this y carries the box's x range and has it in one segment of the team.
