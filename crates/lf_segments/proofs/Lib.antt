@@ -12,5 +12,6 @@ pub mod OrderLemmas
 pub mod RangeLemmas
 pub mod StripLemmas
 pub mod ExtentLemmas
+pub mod SoftLemmas
 pub mod LastLemmas
 pub mod OnRowLemmas

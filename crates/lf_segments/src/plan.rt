@@ -3,13 +3,15 @@
 ghost use Rattle.std.specs.Prelude.{◌≡◌, ◌↔◌, ◌<ℤ◌, IsTrue};
 ghost use Rattle.lf_floorplan.specs.Ground.{IsClear, StaysInGround};
 ghost use Rattle.lf_floorplan.specs.Standing.{StandsOn};
-ghost use Rattle.lf_segments.specs.Grounds.{IsGroundOf};
+ghost use Rattle.lf_segments.specs.Grounds.{IsExtentOf, IsGroundOf};
+ghost use Rattle.lf_segments.specs.Plans.{AreRowsAt, AreRowsBetween, IsSoftOf};
 
 use crate::ground::Ground;
-use crate::laws::lies_in_segments;
+use crate::laws::{cut_is_one, lies_in_segments};
 use crate::on_rows::{lies_in, row_at};
+use crate::rows_by_y::RowEntry;
 use lf_floorplan::{Frame, Near};
-use lf_units::Rect;
+use lf_units::{Rect, Span};
 use std::marker::Model;
 
 /// A frame with its look-ups. A contract sees the frame.
@@ -53,6 +55,31 @@ fn keeps_clear(frame: &Frame, index: &Ground, team: usize, rect: &Rect) -> bool
     lies_in(frame, index.rows(), index.segments(), team, rect)
 }
 
+/// The rows at y.
+fn rows_at<'a>(frame: &Frame, index: &'a Ground, y: &i64) -> &'a [RowEntry]
+    requires { IsGroundOf frame.now index.now }
+    ensures { AreRowsAt frame.now y.now result.now }
+{
+    index.rows().at(*y)
+}
+
+/// The rows from one y on and below another.
+fn rows_between<'a>(frame: &Frame, index: &'a Ground, from: &i64, to: &i64) -> &'a [RowEntry]
+    requires { IsGroundOf frame.now index.now }
+    ensures { AreRowsBetween frame.now from.now to.now result.now }
+{
+    index.rows().between(*from, *to)
+}
+
+/// The spans of a segment under soft blockages.
+fn soft_of<'a>(frame: &Frame, index: &'a Ground, segment: usize) -> &'a [Span]
+    requires { IsGroundOf frame.now index.now }
+    ensures { IsSoftOf frame.now segment result.now }
+{
+    cut_is_one();
+    index.soft_of(segment)
+}
+
 impl<'a> Plan<'a> {
     /// The pair of a frame and its look-ups.
     pub fn new(frame: &'a Frame, index: &'a Ground) -> Plan<'a>
@@ -67,6 +94,35 @@ impl<'a> Plan<'a> {
         ensures { IsGroundOf self.now result.now }
     {
         self.index
+    }
+
+    /// The rows at this y, in database units, in order of x. They are found by bisection.
+    pub fn rows_at(&self, y: i64) -> &[RowEntry]
+        ensures { AreRowsAt self.now y result.now }
+    {
+        rows_at(self.frame, self.index, &y)
+    }
+
+    /// The rows from one y on and below another, in database units, in order of y and then of x. They are found by bisection.
+    pub fn rows_between(&self, from: i64, to: i64) -> &[RowEntry]
+        ensures { AreRowsBetween self.now from to result.now }
+    {
+        rows_between(self.frame, self.index, &from, &to)
+    }
+
+    /// The rectangle that all rows lie in, in database units.
+    pub fn extent(&self) -> &Rect
+        ensures { IsExtentOf self.now result.now }
+    {
+        self.index.extent()
+    }
+
+    /// The spans of the segment of that number that lie under soft blockages, in database units, from left to right; none if there
+    /// is no such segment. Segments are numbered as in `Segments::cut` of the frame.
+    pub fn soft_of(&self, segment: usize) -> &[Span]
+        ensures { IsSoftOf self.now segment result.now }
+    {
+        soft_of(self.frame, self.index, segment)
     }
 }
 
