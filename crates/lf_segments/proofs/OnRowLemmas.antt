@@ -25,7 +25,9 @@ use Rattle.lf_floorplan.proofs.RowAtLemmas.{row_at_one}
 use Rattle.lf_segments.specs.declared.rows_by_y.RowEntry.{RowEntry}
 use Rattle.lf_segments.specs.declared.segment.Segment.{Segment}
 use Rattle.lf_segments.specs.Boxes.{across}
-use Rattle.lf_segments.specs.Laws.{LiesAt, LiesInSegments, SegmentsDecide}
+use Rattle.lf_segments.specs.Grounds.{IsGroundOf, Lookups}
+use Rattle.lf_segments.specs.Laws.{CutIsOne, LiesAt, LiesInSegments, SegmentsDecide}
+use Rattle.lf_segments.specs.Plans.{IsSoftOf}
 use Rattle.lf_segments.specs.RowsByY.{BeginsBy, IsEntryOf, IsLastAt, IsRowsByY}
 use Rattle.lf_segments.specs.Segments.{ComesBefore, IsAt, IsCutBeside, LiesInSegment}
 use Rattle.lf_segments.proofs.OneLemmas.{one_at}
@@ -287,3 +289,28 @@ pub clear_of : (f : Frame) (xs : List Segment) (team : ℕ) (box : Rect) (b : Bo
 clear_of f xs team box b decide cut stands wide inside answer =
     let both = decide f f.obstacles xs team box cut stands wide in
     (λ yes. (both.1 (answer.0 yes)).1, λ clear. answer.1 (both.0 (inside, clear)))
+
+-- ---- soft spans by the number of a segment
+
+past_end : (xs : List Segment) (n : ℕ) → slice_get xs n ≡ None → length xs ≤ n
+past_end xs n none = elim order [
+  | inl past ↦ past
+  | inr less ↦
+      let d : Segment = record { row = 0; team = 0; span = record { lo = pos 0; hi = pos 0 } } in
+      let some : slice_get xs n ≡ Some (get_or xs n d) = slice_get-get_or xs n d less in
+      absurd cc
+]
+  where
+    order : (length xs ≤ n) ⊎ (n < length xs)
+    order = grind arith
+
+pub soft_of_ground : (f : Frame) (g : Lookups) (n : ℕ) → CutIsOne → IsGroundOf f g → IsSoftOf f n (get_or g.soft n [])
+soft_of_ground f g n one is = record {
+  there = λ xs s cut stands.
+      is.soft.each n s (subst (λ (ys : List Segment). slice_get ys n ≡ Some s) (one f f.obstacles xs g.segments cut is.segments) stands);
+  past = λ xs cut none.
+      let same : length xs ≡ length g.segments = ap (λ (ys : List Segment). length ys) (one f f.obstacles xs g.segments cut is.segments) in
+      let behind = past_end xs n none in
+      let many = is.soft.many in
+      get_or-eq_default g.soft [] (omega (arith, same, behind, many));
+}
