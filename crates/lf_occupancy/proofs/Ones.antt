@@ -12,7 +12,7 @@ use Rattle.lf_cells.specs.declared.cell.CellId.{CellId}
 use Rattle.lf_segments.specs.declared.rows_by_y.RowEntry.{RowEntry}
 use Rattle.lf_occupancy.specs.declared.lane.Entry.{Entry}
 use Rattle.lf_occupancy.specs.declared.lane.Lane.{Lane}
-use Rattle.lf_occupancy.specs.declared.strip.Strip.{Strip}
+use Rattle.lf_segments.specs.declared.strip.Strip.{Strip}
 use Rattle.lf_occupancy.specs.Occupied.{cell_box}
 use Rattle.lf_occupancy.specs.Lanes.{HasAtMostOne, IsLane, StandsAt, StandsNotFrom, others_in}
 use Rattle.lf_occupancy.specs.Strips.{AreKept, AreLanes, HaveAtMostOne, IsReached, StandOnce}

@@ -6,4 +6,4 @@ use Rattle.lf_occupancy.proofs.occupancy.Occupancy.boxes_fit.Goals as goal
 pub returns : goal.returns
 returns c =
     subst (λ (o : Occupied). (team : ℕ) → FitIn o team (boxes_of o team)) c.self.view_is
-    (boxes_that_stand_fit _ c.self.inside.lanes.items refl c.self.invariant.1)
+    (boxes_that_stand_fit _ c.self.inside.lanes.items refl c.self.invariant)

@@ -5,5 +5,5 @@ use Rattle.lf_occupancy.proofs.occupancy.Occupancy.insert.Goals as goal
 
 pub insert_box-requires-clause-room : goal.insert_box-requires-clause-room
 insert_box-requires-clause-room c =
-    seen_is_room _ c.self.inside.lanes.items c.args.id.team c.args.rect.now 1 refl c.self.invariant.1
+    seen_is_room _ c.self.inside.lanes.items c.args.id.team c.args.rect.now 1 refl c.self.invariant
     (subst (λ (o : Occupied). HasRoomFor o c.args.id.team c.args.rect.now 1) (sym c.self.view_is) c.requires.room)
