@@ -223,7 +223,7 @@ free_on_carrier s bottom window p j n r held on legal less there carries = recor
     Free g = IsStripOf n s.id.team g × IsFreeOver s.occupancy.now s.id g (reach s p.x)
 
     lies : LiesInSegment s.occupancy.now.index.segments n s.id.team (reach s p.x)
-    lies = segments_hold f s.occupancy.now.index.segments s.id.team (upright_box s p) held.index.segments legal.stands (filled s p.x) legal.ground legal.clear
+    lies = segments_hold f f.obstacles s.occupancy.now.index.segments s.id.team (upright_box s p) held.index.segments legal.stands (filled s p.x) legal.ground legal.clear
         s.height bottom j n r (sites_high s p) on.bottom less there carries
 
     point : (g : Segment) (x y : ℤ) → g.row ≡ n → Covers (over (strip_of f g) (reach s p.x)) x y → Covers (upright_box s p) x y

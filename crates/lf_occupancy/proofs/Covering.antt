@@ -51,7 +51,7 @@ module _ (f : Frame) (o : Occupied) (team : ℕ) (box : Rect) (plan : IsGroundOf
   wide = let low = covers.left in let high = covers.right in omega (arith, ints, low, high)
 
   in_one : InSegment f o.index.segments team box x y
-  in_one = in_segment f o.index.segments team box stands (segments_hold f o.index.segments team box plan.segments stands wide ground clear) x y covers
+  in_one = in_segment f o.index.segments team box stands (segments_hold f f.obstacles o.index.segments team box plan.segments stands wide ground clear) x y covers
 
   abbrev Found : Strip → Type 0
   Found g = (g.team ≡ team) × Covers g.area x y
