@@ -54,12 +54,13 @@ fn team_limit(ids: &[CellId]) -> usize
 }
 
 /// A box for each cell of the table, each none.
+#[tactic(auto, using(lf_cells::proofs::TeamIds::ids_many))]
 pub(crate) fn no_boxes_of(alloc: Global, cells: &CellTable) -> Result<Vec<TeamBoxes>, AllocError>
     ensures { IfOk result (λ boxes. AreNowhere cells.now boxes.items) }
 {
     let mut boxes = Vec::new(alloc);
     for team in 0..team_limit(cells.all()) {
-        boxes.push(TeamBoxes::empty(alloc, cells.count_of(team))?)?;
+        boxes.push(TeamBoxes::empty(alloc, cells.cells_of(team).len())?)?;
     }
     Ok(boxes)
 }
@@ -69,7 +70,7 @@ fn box_at_work(frame: &Frame, cells: &CellTable, id: &CellId) -> Option<Rect>
     requires { (team : ℕ) → All (HasSize frame.now) (cells_of cells.now team) }
     ensures { (c : Cell) → cell_at cells.now id.now ≡ Some c → result ≡ box_of frame.now c }
 {
-    let standing = cells.standing(id.team as usize, id.own as usize)?;
+    let standing = cells.standing(*id)?;
     let place = standing.working?;
     Some(solid_box(frame, &frame.macros.as_slice()[standing.mac], &place))
 }
@@ -86,7 +87,7 @@ pub(crate) struct Waiting {
 fn waiting_cell(cells: &CellTable, id: &CellId) -> Waiting
     ensures { result.id ≡ id.now }
 {
-    let standing = cells.standing(id.team as usize, id.own as usize);
+    let standing = cells.standing(*id);
     match standing.and_then(|standing| standing.working) {
         Some(place) => Waiting {
             id: *id,
