@@ -7,8 +7,8 @@ use Rattle.lf_occupancy.proofs.Reaching.{lanes_orderly}
 use Rattle.lf_occupancy.proofs.Views.{first_of_least}
 use Rattle.lf_occupancy.proofs.occupancy.Occupancy.first_met.Goals as goal
 
-pub least_met-requires-clause-lanes : goal.least_met-requires-clause-lanes
-least_met-requires-clause-lanes c =
+pub least_met-requires : goal.least_met-requires
+least_met-requires c =
     let o = c.self.inside in
     subst (λ (ls : List Lane). AreOrderly o.index.strips ls) (sym c.deref.ensures.value)
     (lanes_orderly o.index.strips o.boxes.items o.lanes.items c.self.invariant)

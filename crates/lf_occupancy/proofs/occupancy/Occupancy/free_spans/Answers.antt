@@ -7,8 +7,8 @@ use Rattle.lf_occupancy.proofs.Reaching.{lanes_orderly}
 use Rattle.lf_occupancy.proofs.Views.{spans_of_strip}
 use Rattle.lf_occupancy.proofs.occupancy.Occupancy.free_spans.Goals as goal
 
-pub free_in_one-requires-clause-lanes : goal.free_in_one-requires-clause-lanes
-free_in_one-requires-clause-lanes c =
+pub free_in_one-requires : goal.free_in_one-requires
+free_in_one-requires c =
     let o = c.self.inside in
     subst (λ (ls : List Lane). AreOrderly o.index.strips ls) (sym c.deref.ensures.value)
     (lanes_orderly o.index.strips o.boxes.items o.lanes.items c.self.invariant)
