@@ -1,6 +1,6 @@
 //! A team's own cells where they stand.
 
-ghost use Rattle.std.specs.Prelude.{◌≡◌, ◌≤◌, length, IfOk, is_none, option_map};
+ghost use Rattle.std.specs.Prelude.{◌≡◌, IfOk, is_none, option_map};
 ghost use Rattle.lf_rules.specs.Choice.{spot_of};
 ghost use Rattle.lf_rules.specs.Legalizer.{Legalizer};
 ghost use Rattle.lf_reports.specs.Nearby.{IsIndexOf};
@@ -62,23 +62,19 @@ pub(crate) fn best_place<S: Seeker>(
 /// The position of the team's first unplaced cell, in loading order, found without allocating; none
 /// if every cell is placed.
 pub(crate) fn first_unplaced(cells: &CellTable, number: usize) -> Option<u32>
-    requires { length (cells_of cells.now number) ≤ 4000000 }
     ensures { result ≡ first_unplaced (cells_of cells.now number) }
 {
-    for own in 0..cells.count_of(number) {
-        if is_unplaced(cells, number, own) {
-            return Some(own as u32);
+    for id in cells.cells_of(number) {
+        if is_unplaced(cells, *id) {
+            return Some(id.own);
         }
     }
     None
 }
 
-/// Whether the team's cell of that position is unplaced.
-fn is_unplaced(cells: &CellTable, number: usize, own: usize) -> bool
-    ensures { result ≡ is_none (working_at (cells_of cells.now number) own) }
+/// Whether the cell is unplaced.
+fn is_unplaced(cells: &CellTable, id: CellId) -> bool
+    ensures { result ≡ is_none (working_at (cells_of cells.now id.team) id.own) }
 {
-    match cells.standing(number, own) {
-        Some(standing) => standing.working.is_none(),
-        None => true,
-    }
+    cells.working(id).is_none()
 }

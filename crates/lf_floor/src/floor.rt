@@ -156,7 +156,7 @@ impl<S: Seeker + Drop> Floor<S> {
         ensures { result ≡ option_and_then (λ s. working_at s.cells own) (state_of self.now team.now) }
     {
         let number = team_named(self.tables.placement.frame(), team)?;
-        self.tables.placement.cells().standing(number, own)?.working
+        self.tables.working(self.tables.cell_at(number, own)?)
     }
 
     /// The name of the team's cell of that position in loading order, the first at 0. Replies name
@@ -168,9 +168,8 @@ impl<S: Seeker + Drop> Floor<S> {
         ensures printed { IfSome result (λ name. IsName name.now) }
     {
         let number = team_named(self.tables.placement.frame(), team)?;
-        let cells = self.tables.placement.cells();
-        let id = cells.id_at(number, own)?;
-        Some(cells.cell(id)?.name)
+        let id = self.tables.cell_at(number, own)?;
+        Some(self.tables.placement.cells().cell(id)?.name)
     }
 
     /// All movable components: the positions of their entries among all COMPONENTS of the DEF text,

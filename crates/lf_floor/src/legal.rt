@@ -12,21 +12,20 @@ ghost use Rattle.lf_floor.specs.Tables.{IsReady, cells_in, frame_of, setting_in,
 
 use crate::surroundings::Surroundings;
 use crate::tables::Tables;
-use lf_cells::CellTable;
+use lf_cells::{CellId, CellTable};
 use lf_proto::{Text, report_json};
 use lf_reports::{BrokenCell, first_illegal, report_by_verdicts, verdicts_on};
 use lf_rules::{Broken, Listed, legalizer_is_there};
 use std::alloc::{AllocError, Global};
 
-/// The team's cell of that position, as its report lists it; none if the team has no such cell.
-fn listed(cells: &CellTable, number: usize, own: usize) -> Option<Listed<&[u8]>>
-    ensures { option_map named result ≡ option_map (listed_of number) (slice_get (cells_of cells.now number) own) }
+/// A cell, as its team's report lists it; none if there is no such cell.
+fn listed(cells: &CellTable, id: CellId) -> Option<Listed<&[u8]>>
+    ensures { option_map named result ≡ option_map (listed_of id.team) (slice_get (cells_of cells.now id.team) id.own) }
 {
-    let id = cells.id_at(number, own)?;
     let facts = cells.cell(id)?;
     Some(Listed {
         name: facts.name,
-        team: number,
+        team: id.team as usize,
         mac: facts.mac,
         place: cells.working(id),
     })
@@ -41,8 +40,8 @@ fn listed_cells(
     ensures { IfOk result (λ listed. map named listed.items ≡ map (listed_of number) (cells_of cells.now number)) }
 {
     let mut all = Vec::new(alloc);
-    for own in 0..cells.count_of(number) {
-        let Some(cell) = listed(cells, number, own) else {
+    for id in cells.cells_of(number) {
+        let Some(cell) = listed(cells, *id) else {
             unreachable!();
         };
         all.push(cell)?;
@@ -114,16 +113,13 @@ pub(crate) fn first_broken_cell<S>(
 }
 
 /// Whether the cell is placed, and breaks no rule by its verdict.
-fn stands_legal(cells: &CellTable, number: usize, verdicts: &[Option<Broken>], own: usize) -> bool
-    ensures { IsTrue result → IsJudged (cells_of cells.now number) verdicts.now own }
+fn stands_legal(cells: &CellTable, id: CellId, verdicts: &[Option<Broken>]) -> bool
+    ensures { IsTrue result → IsJudged (cells_of cells.now id.team) verdicts.now id.own }
 {
-    let Some(standing) = cells.standing(number, own) else {
-        return false;
-    };
-    if standing.working.is_none() {
+    if cells.working(id).is_none() {
         return false;
     }
-    match verdicts.get(own) {
+    match verdicts.get(id.own as usize) {
         Some(verdict) => verdict.is_none(),
         None => false,
     }
@@ -143,10 +139,10 @@ pub(crate) fn legal_marks<S>(
     legalizer_is_there();
     let verdicts = team_verdicts(around, tables)?;
     let cells = tables.placement.cells();
-    let count = cells.count_of(around.number);
-    let mut marks = Vec::with_capacity(around.alloc, count)?;
-    for own in 0..count {
-        marks.push(stands_legal(cells, around.number, &verdicts, own))?;
+    let ids = cells.cells_of(around.number);
+    let mut marks = Vec::with_capacity(around.alloc, ids.len())?;
+    for id in ids {
+        marks.push(stands_legal(cells, *id, &verdicts))?;
     }
     Ok(marks)
 }

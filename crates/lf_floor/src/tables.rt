@@ -1,7 +1,7 @@
 //! The state of all teams, in one table of each kind.
 
 ghost use Rattle.std.specs.Prelude.{◌≡◌, ◌+◌, IfOk, IfSome, option_map};
-ghost use Rattle.lf_cells.specs.Cells.{cell_named, working_at};
+ghost use Rattle.lf_cells.specs.Cells.{cell_named, id_in, working_at};
 ghost use Rattle.lf_segments.specs.Segments.{IsCut};
 ghost use Rattle.lf_floor.specs.Tables.{AreOpening, Counts, HasRows, IsCurrent, cells_in, revision_of};
 
@@ -54,6 +54,17 @@ impl Tables {
         ensures team { IfSome result (λ id. id.team ≡ number) }
     {
         self.placement.cells().find_own(number, name)
+    }
+
+    /// The team's cell of that position; none if the team has no such cell.
+    #[tactic(auto, using(lf_cells::proofs::TeamIds::ids_get))]
+    pub(crate) fn cell_at(&self, number: usize, own: usize) -> Option<CellId>
+        ensures { result ≡ id_in (cells_in number self.now) number own }
+    {
+        match self.placement.cells().cells_of(number).get(own) {
+            Some(id) => Some(*id),
+            None => None,
+        }
     }
 
     /// The working place of a cell; none where it is unplaced, or there is no such cell.

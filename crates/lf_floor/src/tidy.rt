@@ -72,11 +72,10 @@ fn target_of<S>(
 {
     verdict_is_one();
     placement.cells_are_sized();
-    let own = id.own as usize;
-    if is_marked(marks, own) {
+    if is_marked(marks, id.own as usize) {
         return Ok(None);
     }
-    let Some(standing) = placement.cells().standing(around.number, own) else {
+    let Some(standing) = placement.cells().standing(id) else {
         return Ok(None);
     };
     let Some(place) = standing.working else {
@@ -116,26 +115,24 @@ fn move_one(
     Ok(())
 }
 
-/// Sends the team's cell of that position to its best place, where it does not stay.
+/// Sends the team's cell of that id to its best place, where it does not stay.
 fn send<S: Seeker>(
     around: &Surroundings<'_, S>,
     placement: &mut Placement,
     moves: &mut Moves,
     marks: &[bool],
-    own: usize,
+    id: CellId,
 ) -> Result<Sent, AllocError>
+    requires team { id.team ≡ around.now.number }
     requires marked { AreMarked placement.old.frame around.now.number (cells_of placement.old.cells around.now.number) marks.now }
     requires ready { IsIndexOf placement.old.frame around.now.index.now }
     requires made { S.is_for around.now.seeker.now placement.old.frame }
-    ensures ok { (l : Legalizer) → IfOk result (λ sent. Sends (setting_at l around.now placement.old) own
+    ensures ok { (l : Legalizer) → IfOk result (λ sent. Sends (setting_at l around.now placement.old) id.own
         (cells_of placement.old.cells around.now.number) (cells_of placement.new.cells around.now.number) sent) }
     ensures moved { (before : List Cell) → HaveMoved before moves.old (cells_of placement.old.cells around.now.number) →
         HaveMoved before moves.new (cells_of placement.new.cells around.now.number) }
     ensures only { OnlyMoves around.now.number placement.old placement.new }
 {
-    let Some(id) = placement.cells().id_at(around.number, own) else {
-        return Ok(Sent::Stays);
-    };
     let Some(target) = target_of(around, placement, marks, id)? else {
         return Ok(Sent::Stays);
     };
@@ -169,12 +166,13 @@ fn send_all<S: Seeker>(
     legalizer_is_there();
     tidy_keeps_legal();
     let mut moved = 0;
-    for own in 0..placement.cells().count_of(around.number) {
+    for own in 0..placement.cells().cells_of(around.number).len() {
         placement.cells_are_sized();
-        match send(around, placement, moves, marks, own)? {
+        let id = placement.cells().cells_of(around.number)[own];
+        match send(around, placement, moves, marks, id)? {
             Sent::Stays => {}
             Sent::Goes => moved += 1,
-            Sent::Nowhere => return Ok(Tidy::Stopped(own as u32)),
+            Sent::Nowhere => return Ok(Tidy::Stopped(id.own)),
         }
     }
     Ok(Tidy::Done(moved))

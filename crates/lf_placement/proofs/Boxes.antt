@@ -7,14 +7,14 @@ use Rattle.lf_units.specs.declared.area.Rect.{Rect}
 use Rattle.lf_floorplan.specs.declared.frame.Frame.{Frame}
 use Rattle.lf_cells.specs.declared.cell.Cell.{Cell}
 use Rattle.lf_cells.specs.declared.cell.CellId.{CellId}
-use Rattle.lf_cells.specs.Cells.{Cells, cell_at, cells_of, id_in, id_of, working_at}
+use Rattle.lf_cells.specs.Cells.{Cells, cells_of, id_in, id_of, working_at}
 use Rattle.lf_occupancy.specs.declared.strip.Strip.{Strip}
 use Rattle.lf_occupancy.specs.Occupied.{FitIn, HasRoomFor, Occupied, box_at, boxes_of, boxes_with, cell_box}
 use Rattle.lf_occupancy.specs.Strips.{HasCell}
 use Rattle.lf_occupancy.specs.Floorplans.{box_of}
 use Rattle.lf_occupancy.proofs.Counting.{part_leaves_room}
 use Rattle.lf_undo.specs.declared.moves.Move.{Move}
-use Rattle.lf_placement.specs.Steps.{IsOut, KeepsStrips, MayStand, StandButFor, TakesOut, box_moved, owns, working_boxes}
+use Rattle.lf_placement.specs.Steps.{IsOut, KeepsStrips, MayStand, TakesOut, box_moved, owns, working_boxes}
 use Rattle.lf_placement.proofs.Moves.{id_there}
 
 abbrev Boxes : Type 0
@@ -71,10 +71,6 @@ box_read f [] own = refl
 box_read f (c ∷ cs) zero = refl
 box_read f (c ∷ cs) (suc own) = box_read f cs own
 
-pub box_working : (f : Frame) (cells : Cells) (id : CellId) → box_moved f (cell_at cells id) (working_at (cells_of cells id.team) id.own)
-    ≡ cell_box (working_boxes f cells id.team) id.own
-box_working f cells id = box_read f (cells_of cells id.team) id.own
-
 none_past : (cells : List Cell) (own : ℕ) → slice_get cells own ≡ None → length cells ≤ own
 none_past [] own none = omega arith
 none_past (c ∷ cs) zero none = absurd cc
@@ -129,9 +125,6 @@ none_put team own cells x o many none =
     sym (set_past (boxes_of o team) own x (omega (arith, many, past)))
 
 -- ---- cells are taken out, one after the other
-
-pub out_first : (team : ℕ) (named : List ℕ) (o : Occupied) → TakesOut team named 0 o o
-out_first team named o = record { each = λ own. inr (λ k less. absurd (omega (arith, less)), refl); rest = keeps team o }
 
 pub out_next : (team : ℕ) (named : List ℕ) (n own : ℕ) (a b c : Occupied) → own ≡ get_or named n 0
     → boxes_of c team ≡ set (boxes_of b team) own None → KeepsStrips team b c → TakesOut team named n a b → TakesOut team named (n + 1) a c
@@ -220,14 +213,6 @@ pub record AreStanding (team : ℕ) (boxes : Boxes) (named : List ℕ) (n : ℕ)
   pub may : MayStand team boxes new
   pub rest : (own : ℕ) → ((k : ℕ) → n ≤ k → k < length named → get_or named k 0 ≢ own) → cell_box (boxes_of new team) own ≡ cell_box boxes own
   pub kept : KeepsStrips team old new
-
-pub standing_first : (team : ℕ) (boxes : Boxes) (named : List ℕ) (o : Occupied) → MayStand team boxes o → StandButFor team boxes named o
-    → AreStanding team boxes named 0 o o
-standing_first team boxes named o may rest = record {
-  may = may;
-  rest = λ own never. rest own (λ k less. never k (omega arith) less);
-  kept = keeps team o;
-}
 
 pub standing_next : (team : ℕ) (boxes : Boxes) (named : List ℕ) (n own : ℕ) (a b c : Occupied) → own ≡ get_or named n 0
     → boxes_of c team ≡ set (boxes_of b team) own (cell_box boxes own) → KeepsStrips team b c → AreStanding team boxes named n a b

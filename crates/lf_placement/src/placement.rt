@@ -115,7 +115,7 @@ impl Placement {
         requires { IsIndexOf self.now.frame index.now }
         ensures { IfOk result (λ broken. IsBrokenAlone self.now id place.now broken) }
     {
-        let Some(standing) = self.cells.standing(id.team as usize, id.own as usize) else {
+        let Some(standing) = self.cells.standing(id) else {
             return Ok(None);
         };
         let mac = &self.frame.macros.as_slice()[standing.mac];
@@ -128,7 +128,7 @@ impl Placement {
         requires { IsBrokenAlone self.now id place.now None }
         ensures { IsBrokenAt self.now id place.now (option_map (λ own. record { rule = Overlap; other = Some own }) result) }
     {
-        let standing = self.cells.standing(id.team as usize, id.own as usize)?;
+        let standing = self.cells.standing(id)?;
         let mac = &self.frame.macros.as_slice()[standing.mac];
         let rect = box_of(&self.frame, mac, place);
         strips_cover();

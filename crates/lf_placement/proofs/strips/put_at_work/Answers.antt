@@ -29,4 +29,4 @@ pub returns-in_default-clause-boxes : goal.returns-in_default-clause-boxes
 returns-in_default-clause-boxes c =
     let cells = cells_of c.args.cells.now c.args.team in
     none_put c.args.team c.args.own cells (cell_box (working_boxes c.args.frame.now c.args.cells.now c.args.team) c.args.own) c.args.occupancy.now
-    (c.requires.may.many ∙ length-map cells (box_of c.args.frame.now)) (sym c.id_at.ensures ∙ c.in_default.is)
+    (c.requires.may.many ∙ length-map cells (box_of c.args.frame.now)) (sym c.cell_of.ensures ∙ c.in_default.is)
