@@ -23,7 +23,7 @@ use Rattle.lf_cells.specs.declared.cell.Cell.{Cell}
 use Rattle.lf_cells.specs.declared.cell.CellId.{CellId}
 use Rattle.lf_cells.specs.Cells.{Cells, cells_of}
 use Rattle.lf_legalize.specs.Members.{member_of}
-use Rattle.lf_occupancy.specs.declared.strip.Strip.{Strip}
+use Rattle.lf_segments.specs.declared.strip.Strip.{Strip}
 use Rattle.lf_occupancy.specs.Occupied.{IsFirstMet, MeetsInStrips, Occupied, box_at}
 use Rattle.lf_occupancy.specs.Floorplans.{IsOccupancyOf, StripsCover, box_of}
 
@@ -118,7 +118,7 @@ module _ (f : Frame) (table : Cells) (o : Occupied) (of : IsOccupancyOf f table 
   placed_is k m p there at =
       box_is k ∙ ap (λ (x : Option Member). option_and_then (box_of_member f) x) there ∙ ap (λ (x : Option Spot). option_map (box_in f m.mac) x) at
 
-  module _ (covered : (x y : ℤ) → Covers rect x y → Any (λ (g : Strip). (g.team ≡ id.team) × Covers g.area x y) o.strips) where
+  module _ (covered : (x y : ℤ) → Covers rect x y → Any (λ (g : Strip). (g.team ≡ id.team) × Covers g.area x y) o.index.strips) where
     -- a box that is met is met in the strips
     meets_in : (k : ℕ) (box : Rect) → k ≢ id.own → box_at o id.team k ≡ Some box → SharesPoint rect box → MeetsInStrips o id rect k
     meets_in k box other stands shares = record {
@@ -188,10 +188,10 @@ met_decides t table o id rect met of cover team beside at holds found = by met f
     are : t.others ≡ boxes_beside t.frame members id.own
     are = beside ∙ ap (λ (n : ℕ). boxes_beside t.frame (map member_of (cells_of table n)) id.own) (sym team)
 
-    covered : (x y : ℤ) → Covers rect x y → Any (λ (g : Strip). (g.team ≡ id.team) × Covers g.area x y) o.strips
+    covered : (x y : ℤ) → Covers rect x y → Any (λ (g : Strip). (g.team ≡ id.team) × Covers g.area x y) o.index.strips
     covered x y inside =
-        subst (λ (n : ℕ). Any (λ (g : Strip). (g.team ≡ n) × Covers g.area x y) o.strips) (sym team)
-        (cover t.frame o t.team (box_of_trial t) of.strips (stands_on t holds) (holds Fence (omega arith)) (holds Obstacle (omega arith)) x y
+        subst (λ (n : ℕ). Any (λ (g : Strip). (g.team ≡ n) × Covers g.area x y) o.index.strips) (sym team)
+        (cover t.frame o t.team (box_of_trial t) of.index (stands_on t holds) (holds Fence (omega arith)) (holds Obstacle (omega arith)) x y
         (subst (λ (b : Rect). Covers b x y) at inside))
 
     by : (m : Option ℕ) → IsFirstMet o id rect m → IsVerdict t (option_map (λ own. record { rule = Overlap; other = Some own }) m)

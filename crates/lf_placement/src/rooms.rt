@@ -61,7 +61,7 @@ pub(crate) fn make_room(
     requires held { IsOccupancyOf frame.now cells.now occupancy.old }
     ensures ok { OnOk result (FitIn occupancy.new team (map (box_of frame.now) (made moves.now (cells_of cells.now team)))) }
     ensures boxes { occupancy.new.boxes ≡ occupancy.old.boxes }
-    ensures strips { occupancy.new.strips ≡ occupancy.old.strips }
+    ensures index { occupancy.new.index ≡ occupancy.old.index }
     ensures rooms { NoLess occupancy.old.rooms occupancy.new.rooms }
 {
     let asked = all_asked_for(alloc, frame, cells, team, moves)?;
