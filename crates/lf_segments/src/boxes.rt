@@ -10,7 +10,11 @@ use lf_units::Rect;
 use std::alloc::{AllocError, Global};
 
 /// Appends rectangles, each with this number.
-pub(crate) fn push_rects(boxes: &mut Vec<Placed>, own: u32, rects: &[Rect]) -> Result<(), AllocError>
+pub(crate) fn push_rects(
+    boxes: &mut Vec<Placed>,
+    own: u32,
+    rects: &[Rect],
+) -> Result<(), AllocError>
     ensures { OnOk result (boxes.new.items ≡ boxes.old.items ++ map (numbered own) rects.now) }
 {
     for rect in rects {

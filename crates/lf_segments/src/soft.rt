@@ -101,11 +101,7 @@ fn push_piece(
 
 impl SoftSpans {
     /// For each strip the spans at which a point of it lies in a soft blockage of the frame.
-    pub(crate) fn build(
-        alloc: Global,
-        frame: &Frame,
-        strips: &[Strip],
-    ) -> Result<Self, AllocError>
+    pub(crate) fn build(alloc: Global, frame: &Frame, strips: &[Strip]) -> Result<Self, AllocError>
         requires { All (λ g. g.area.x1 <ℤ g.area.x2) strips.now }
         ensures { IfOk result (AreSoftOver frame.now strips.now) }
     {

@@ -10,5 +10,5 @@ returns-clause-pieces c =
     let starts = c.args.starts.now.items in
     let more = c.args.more.now in
     ap (λ (xs : List Span). pieces xs c.push.new.self.items) c.in_ok-extend_from_slice.ensures.items
-    ∙ ap (λ (ns : List ℕ). pieces (spans ++ more) ns) (c.in_ok-push.ensures.items ∙ ap (λ (n : ℕ). starts ++ n ∷ []) (c.len.ensures ∙ ap (λ (xs : List Span). length xs) c.as_slice.ensures.value))
+    ∙ ap (λ (ns : List ℕ). pieces (spans ++ more) ns) (c.in_ok-push.ensures.items ∙ ap (λ (xs : List Span). starts ++ length xs ∷ []) c.as_slice.ensures.value)
     ∙ pieces_more spans more starts c.requires.within
