@@ -1,7 +1,8 @@
-use Rattle.std.proofs.Common.{◌++◌, ◌+◌, ◌<◌, ◌≡◌, List, length, get_or, ap, sym, ◌∙◌, drop, arith, subst}
+use Rattle.std.proofs.Common.{◌++◌, ◌+◌, ◌<◌, ◌≤◌, ◌≡◌, List, length, get_or, ap, sym, ◌∙◌, drop, arith, subst}
 use Rattle.std.specs.Prelude.{All, slice_get}
-use Rattle.std.proofs.lemmas.List.{append_assoc, get_or_default}
+use Rattle.std.proofs.lemmas.List.{append-nil, append_assoc, at_drop_all, get_or_default}
 use Rattle.lf_rtree.specs.declared.placed.Placed.{Placed}
+use Rattle.lf_cells.specs.declared.cell.Cell.{Cell}
 use Rattle.lf_cells.specs.declared.cell.CellId.{CellId}
 use Rattle.lf_cells.specs.Cells.{cells_of, id_of}
 use Rattle.lf_cells.proofs.TeamIds.{ids_long, ids_read}
@@ -43,4 +44,14 @@ loop-other-preserved c =
     ∙ ap (λ (id : CellId). c.loop-other.others.items ++ beside_one f own id.own (slice_get (cells_of table id.team) id.own)) other)
     ∙ append_assoc c.loop-other.others.items one rest
     ∙ ap (λ (bs : List Placed). c.loop-other.others.items ++ bs) (sym (beside_step f own k cells within))
+    ∙ c.loop-other.invariant
+
+pub returns : goal.returns
+returns c =
+    let cells = cells_of c.args.cells.now c.args.id.team in
+    let k = c.loop-other.other-index in
+    let others = c.loop-other.others.items in
+    let past : length cells ≤ k = omega
+    (arith, c.loop-other-test.false, ids_long c.args.id.team cells c.cells_of-other-items.result.now c.cells_of-other-items.ensures) in
+    sym (append-nil others) ∙ sym (at_drop_all (λ (xs : List Cell). others ++ beside_from c.args.frame.now c.args.id.own k xs) cells k past)
     ∙ c.loop-other.invariant
