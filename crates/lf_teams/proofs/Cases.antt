@@ -16,10 +16,10 @@ use Rattle.lf_cells.specs.Cells.{cell_named, moved, working_at, as_committed}
 use Rattle.lf_legalize.specs.Members.{member_of}
 use Rattle.lf_proto.specs.declared.request.Order.{Order}
 use Rattle.lf_proto.specs.declared.request.Order.TheVariants.{Open, Within}
-use Rattle.lf_proto.specs.declared.request.Action.{Action}
-use Rattle.lf_proto.specs.declared.request.Action.TheVariants.{Close, Sync, Check, Def, Where, Find, Change as Changing}
-use Rattle.lf_proto.specs.declared.request.Change.{Change}
-use Rattle.lf_proto.specs.declared.request.Change.TheVariants.{Place as PlaceAt, Legalize, Tidy, Unplace, Swap, Undo, Commit, Revert}
+use Rattle.lf_proto.specs.declared.verb.Action.{Action}
+use Rattle.lf_proto.specs.declared.verb.Action.TheVariants.{Close, Sync, Check, Def, Where, Find, Change as Changing}
+use Rattle.lf_proto.specs.declared.verb.Change.{Change}
+use Rattle.lf_proto.specs.declared.verb.Change.TheVariants.{Place as PlaceAt, Legalize, Tidy, Unplace, Swap, Undo, Commit, Revert}
 use Rattle.lf_teams.specs.Outcomes.{Outcome, is_short, refused, changed, recorded, telling}
 use Rattle.lf_teams.specs.Sessions.{with_slot, seen_at, opened, opened_at, closed, synced}
 use Rattle.lf_teams.specs.Looks.{checked, written, located, located_own, located_at, best_at, found, found_own, found_at}

@@ -4,8 +4,8 @@ use Rattle.lf_floorplan.specs.declared.place.Place.{Place}
 use Rattle.lf_rules.specs.Team.{Member, StandsLegal}
 use Rattle.lf_proto.specs.declared.request.Order.{Order}
 use Rattle.lf_proto.specs.declared.request.Order.TheVariants.{Within}
-use Rattle.lf_proto.specs.declared.request.Action.TheVariants.{Change as Changing}
-use Rattle.lf_proto.specs.declared.request.Change.TheVariants.{Commit}
+use Rattle.lf_proto.specs.declared.verb.Action.TheVariants.{Change as Changing}
+use Rattle.lf_proto.specs.declared.verb.Change.TheVariants.{Commit}
 use Rattle.lf_cells.specs.declared.cell.Cell.{Cell}
 use Rattle.lf_cells.specs.Cells.{as_committed}
 use Rattle.lf_legalize.specs.Members.{member_of}

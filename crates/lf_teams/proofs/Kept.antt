@@ -14,7 +14,7 @@ use Rattle.lf_teams.specs.Teams.{Setting, IsTeamOf}
 use Rattle.lf_legalize.specs.Members.{IsSizedCell}
 use Rattle.lf_proto.specs.declared.request.Order.{Order}
 use Rattle.lf_proto.specs.declared.request.Order.TheVariants.{Open, Within}
-use Rattle.lf_proto.specs.declared.request.Action.TheVariants.{Close, Sync, Check, Def, Where, Find, Change as Changing}
+use Rattle.lf_proto.specs.declared.verb.Action.TheVariants.{Close, Sync, Check, Def, Where, Find, Change as Changing}
 use Rattle.lf_teams.specs.Outcomes.{Outcome, is_short, refused, places_of, changed, with_entry, recorded}
 use Rattle.lf_cells.specs.Cells.{moved, working_at, as_committed}
 use Rattle.lf_teams.specs.Sessions.{with_slot, seen_at}

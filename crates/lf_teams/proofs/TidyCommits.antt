@@ -13,8 +13,8 @@ use Rattle.lf_rules.specs.Team.{StandsLegal}
 use Rattle.lf_proto.specs.declared.request.Command.{Command}
 use Rattle.lf_proto.specs.declared.request.Order.{Order}
 use Rattle.lf_proto.specs.declared.request.Order.TheVariants.{Within}
-use Rattle.lf_proto.specs.declared.request.Action.TheVariants.{Change as Changing}
-use Rattle.lf_proto.specs.declared.request.Change.TheVariants.{Tidy, Commit}
+use Rattle.lf_proto.specs.declared.verb.Action.TheVariants.{Change as Changing}
+use Rattle.lf_proto.specs.declared.verb.Change.TheVariants.{Tidy, Commit}
 use Rattle.lf_proto.specs.declared.reply.Reply.{Reply}
 use Rattle.lf_proto.specs.declared.reply.Refusal.TheVariants.{Stale, RevisionsSpent}
 use Rattle.lf_cells.specs.declared.cell.Cell.{Cell}

@@ -5,9 +5,9 @@ use Rattle.lf_floorplan.specs.declared.place.Place.{Place}
 use Rattle.lf_rules.specs.Tidy.{Tidied, Stuck, tidied}
 use Rattle.lf_proto.specs.declared.request.Order.{Order}
 use Rattle.lf_proto.specs.declared.request.Order.TheVariants.{Open, Within}
-use Rattle.lf_proto.specs.declared.request.Action.TheVariants.{Close, Sync, Check, Def, Where, Find, Change as Changing}
-use Rattle.lf_proto.specs.declared.request.Change.{Change}
-use Rattle.lf_proto.specs.declared.request.Change.TheVariants.{Tidy, Undo, Commit, Revert}
+use Rattle.lf_proto.specs.declared.verb.Action.TheVariants.{Close, Sync, Check, Def, Where, Find, Change as Changing}
+use Rattle.lf_proto.specs.declared.verb.Change.{Change}
+use Rattle.lf_proto.specs.declared.verb.Change.TheVariants.{Tidy, Undo, Commit, Revert}
 use Rattle.lf_teams.specs.Outcomes.{Outcome, refused, with_entry, places_of, recorded}
 use Rattle.lf_teams.specs.Verbs.{outcome_of, outcome_of_change, unless_spent, outcome_by_slot, outcome_of}
 use Rattle.lf_teams.specs.Sessions.{seen_at}

@@ -14,9 +14,9 @@ use Rattle.lf_legalize.specs.Members.{IsSizedCell, member_of}
 use Rattle.lf_cells.specs.Cells.{cell_named, moved, working_at}
 use Rattle.lf_proto.specs.declared.request.Order.{Order}
 use Rattle.lf_proto.specs.declared.request.Order.TheVariants.{Open, Within}
-use Rattle.lf_proto.specs.declared.request.Action.TheVariants.{Close, Sync, Check, Def, Where, Find, Change as Changing}
-use Rattle.lf_proto.specs.declared.request.Change.{Change}
-use Rattle.lf_proto.specs.declared.request.Change.TheVariants.{Place as PlaceAt, Legalize, Tidy, Swap, Commit}
+use Rattle.lf_proto.specs.declared.verb.Action.TheVariants.{Close, Sync, Check, Def, Where, Find, Change as Changing}
+use Rattle.lf_proto.specs.declared.verb.Change.{Change}
+use Rattle.lf_proto.specs.declared.verb.Change.TheVariants.{Place as PlaceAt, Legalize, Tidy, Swap, Commit}
 use Rattle.lf_teams.specs.Outcomes.{Outcome, refused}
 use Rattle.lf_teams.specs.Looks.{best_at}
 use Rattle.lf_teams.specs.Changes.{broken_where, exchanged}

@@ -9,10 +9,10 @@ use Rattle.std.specs.Prelude.{ℕ, Bool, true, false, List, Option, Some, None, 
 use Rattle.lf_floorplan.specs.declared.place.Place.{Place}
 use Rattle.lf_proto.specs.declared.request.Order.{Order}
 use Rattle.lf_proto.specs.declared.request.Order.TheVariants.{Open, Within}
-use Rattle.lf_proto.specs.declared.request.Action.{Action}
-use Rattle.lf_proto.specs.declared.request.Action.TheVariants.{Close, Sync, Check, Def, Where, Find, Change as Changing}
-use Rattle.lf_proto.specs.declared.request.Change.{Change}
-use Rattle.lf_proto.specs.declared.request.Change.TheVariants.{Place as PlaceAt, Legalize, Tidy, Unplace, Swap, Undo, Commit, Revert}
+use Rattle.lf_proto.specs.declared.verb.Action.{Action}
+use Rattle.lf_proto.specs.declared.verb.Action.TheVariants.{Close, Sync, Check, Def, Where, Find, Change as Changing}
+use Rattle.lf_proto.specs.declared.verb.Change.{Change}
+use Rattle.lf_proto.specs.declared.verb.Change.TheVariants.{Place as PlaceAt, Legalize, Tidy, Unplace, Swap, Undo, Commit, Revert}
 use Rattle.lf_proto.specs.declared.reply.Refusal.TheVariants.{NoSession, Stale, RevisionsSpent}
 use Rattle.lf_teams.specs.States.{TeamState}
 use Rattle.lf_teams.specs.Teams.{Setting}

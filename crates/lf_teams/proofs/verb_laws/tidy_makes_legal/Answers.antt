@@ -1,6 +1,6 @@
 use Rattle.lf_proto.specs.declared.request.Order.TheVariants.{Within}
-use Rattle.lf_proto.specs.declared.request.Action.TheVariants.{Change as Changing}
-use Rattle.lf_proto.specs.declared.request.Change.TheVariants.{Tidy}
+use Rattle.lf_proto.specs.declared.verb.Action.TheVariants.{Change as Changing}
+use Rattle.lf_proto.specs.declared.verb.Change.TheVariants.{Tidy}
 use Rattle.lf_teams.proofs.VerbLegal.{verb_legal}
 use Rattle.lf_teams.proofs.verb_laws.tidy_makes_legal.Goals as goal
 
