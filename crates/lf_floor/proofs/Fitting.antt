@@ -23,15 +23,15 @@ no_less : (rooms : List ℕ) → NoLess rooms rooms
 no_less rooms = record { many = refl; each = λ n. omega arith }
 
 pub same_rooms : (old new : Placing) → KeepsRest old new → KeepsRooms old new
-same_rooms old new rest = record { frame = rest.frame; strips = rest.strips; rooms = rw rest.rooms (no_less old.held.rooms) }
+same_rooms old new rest = record { frame = rest.frame; index = rest.index; rooms = rw rest.rooms (no_less old.held.rooms) }
 
 pub rooms_stay : (old new : Placing) → new ≡ old → KeepsRooms old new
-rooms_stay old new same = rw same record { frame = refl; strips = refl; rooms = no_less old.held.rooms }
+rooms_stay old new same = rw same record { frame = refl; index = refl; rooms = no_less old.held.rooms }
 
 pub rooms_through : (a b c : Placing) → KeepsRooms a b → KeepsRooms b c → KeepsRooms a c
 rooms_through a b c ab bc = record {
   frame = bc.frame ∙ ab.frame;
-  strips = bc.strips ∙ ab.strips;
+  index = bc.index ∙ ab.index;
   rooms = record { many = bc.rooms.many ∙ ab.rooms.many; each = λ n. let x = ab.rooms.each n in let y = bc.rooms.each n in omega (arith, x, y) };
 }
 
@@ -49,7 +49,7 @@ only_through k a b c ab bc = record {
 
 pub only_grown : (k : ℕ) (old new : Placing) → SameButRooms old new → OnlyMoves k old new
 only_grown k old new grown = record {
-  ground = record { frame = grown.frame; strips = grown.strips; rooms = grown.rooms };
+  ground = record { frame = grown.frame; index = grown.index; rooms = grown.rooms };
   same = ap (λ (cs : Cells). map taken_up (cells_of cs k)) grown.cells;
   others = record {
     cells = λ other differ. ap (λ (cs : Cells). cells_of cs other) grown.cells;
@@ -70,11 +70,11 @@ only_made k moves old new are others rest =
 
 pub fits_only : (k : ℕ) (old new : Placing) (places : Places) → OnlyMoves k old new → Fits old k places → Fits new k places
 fits_only k old new places only fits =
-    last old new k places only.ground.frame only.ground.strips only.ground.rooms (macs_same (cells_of old.cells k) (cells_of new.cells k) only.same) fits
+    last old new k places only.ground.frame only.ground.index only.ground.rooms (macs_same (cells_of old.cells k) (cells_of new.cells k) only.same) fits
 
 pub fits_as : (k : ℕ) (old new : Placing) (places : Places) → KeepsRooms old new → SameMacros (cells_of old.cells k) (cells_of new.cells k) → Fits old k places
     → Fits new k places
-fits_as k old new places ground macros fits = last old new k places ground.frame ground.strips ground.rooms macros fits
+fits_as k old new places ground macros fits = last old new k places ground.frame ground.index ground.rooms macros fits
 
 -- entries that stay fit still
 pub entries_as : (k : ℕ) (old new : Tables) → KeepsRooms old.placement new.placement → SameMacros (cells_in k old) (cells_in k new)
@@ -154,7 +154,7 @@ pub others_grown : (k : ℕ) (old new : Tables) → HaveGrown old new → Others
 others_grown k old new grown = record {
   teams = λ other differ. grown_team other old new grown;
   components = ap (λ (cs : Cells). cs.components) grown.placement.cells;
-  ground = record { frame = grown.placement.frame; strips = grown.placement.strips; rooms = grown.placement.rooms };
+  ground = record { frame = grown.placement.frame; index = grown.placement.index; rooms = grown.placement.rooms };
   undo = ap (λ (ls : List (List (List Move))). length ls) (lists_grown old.undo new.undo grown.undo);
   sessions = ap (λ ss. length ss) grown.sessions;
   revisions = ap (λ rs. length rs.items) grown.revisions;

@@ -8,7 +8,7 @@ ghost use Rattle.lf_proto.specs.Verbs.{change_of};
 ghost use Rattle.lf_teams.specs.Outcomes.{Reaches, RunsOut};
 ghost use Rattle.lf_teams.specs.Changes.{legalized, outcome_of_change, placed, unplaced};
 ghost use Rattle.lf_teams.specs.Verbs.{takes_memory};
-ghost use Rattle.lf_floor.specs.Tables.{CanChange, EntriesFit, IsReady, OthersStay, frame_of, setting_in, team_in};
+ghost use Rattle.lf_floor.specs.Tables.{CanChange, EntriesFit, OthersStay, frame_of, setting_in, team_in};
 
 use crate::cell::{best_place, broken_at};
 use crate::surroundings::Surroundings;
@@ -28,8 +28,6 @@ impl Tables {
         change: &Change<&[u8]>,
     ) -> Result<Reply, AllocError>
         requires change { CanChange around.now.number session self.old }
-        requires ready { IsReady around.now self.old }
-        requires made { S.is_for around.now.seeker.now (frame_of self.old) }
         ensures ok { (l : Legalizer) → IfOk result (λ reply. Reaches
             (outcome_of_change (setting_in l around.now self.old) session (change_of change.now) (team_in around.now self.old))
             reply (team_in around.now self.new)) }
@@ -63,7 +61,6 @@ impl Tables {
         place: &Place,
     ) -> Result<Reply, AllocError>
         requires change { CanChange around.now.number session self.old }
-        requires ready { IsReady around.now self.old }
         ensures ok { (l : Legalizer) → IfOk result (λ reply. Reaches
             (placed (setting_in l around.now self.old) session name.now place.now (team_in around.now self.old))
             reply (team_in around.now self.new)) }
@@ -76,7 +73,7 @@ impl Tables {
         let Some(id) = self.cell_named(around.number, name) else {
             return Ok(Reply::Refused(Refusal::NoCell));
         };
-        if let Some(broken) = broken_at(around, &self.placement, id, place)? {
+        if let Some(broken) = broken_at(&self.placement, id, place) {
             return Ok(Reply::Refused(Refusal::Illegal {
                 rule: broken.rule,
                 cell: id.own,
@@ -98,8 +95,6 @@ impl Tables {
         target: &Point,
     ) -> Result<Reply, AllocError>
         requires change { CanChange around.now.number session self.old }
-        requires ready { IsReady around.now self.old }
-        requires made { S.is_for around.now.seeker.now (frame_of self.old) }
         ensures ok { (l : Legalizer) → IfOk result (λ reply. Reaches
             (legalized (setting_in l around.now self.old) session name.now target.now (team_in around.now self.old))
             reply (team_in around.now self.new)) }

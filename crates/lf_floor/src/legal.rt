@@ -8,7 +8,7 @@ ghost use Rattle.lf_proto.specs.ReportText.{report_text};
 ghost use Rattle.lf_teams.specs.Teams.{IsTeamOf, listed_of};
 ghost use Rattle.lf_teams.specs.Changes.{broken_cells};
 ghost use Rattle.lf_floor.specs.Marking.{AreMarked, IsJudged};
-ghost use Rattle.lf_floor.specs.Tables.{IsReady, cells_in, frame_of, setting_in, team_in};
+ghost use Rattle.lf_floor.specs.Tables.{cells_in, frame_of, setting_in, team_in};
 
 use crate::surroundings::Surroundings;
 use crate::tables::Tables;
@@ -57,18 +57,12 @@ pub(crate) fn report_text<S>(
     tables: &Tables,
 ) -> Result<Text, AllocError>
     requires team { IsTeamOf (frame_of tables.now) (team_in around.now tables.now) }
-    requires ready { IsReady around.now tables.now }
     ensures { IfOk result (λ text. (l : Legalizer) → text ≡ report_text
         (report_of l (frame_of tables.now) (map (listed_of around.now.number) (cells_in around.now.number tables.now)))) }
 {
     legalizer_is_there();
     let listed = listed_cells(around.alloc, around.number, tables.placement.cells())?;
-    let verdicts = verdicts_on(
-        around.alloc,
-        tables.placement.frame(),
-        around.index,
-        &listed,
-    )?;
+    let verdicts = verdicts_on(around.alloc, &tables.placement.plan(), &listed)?;
     let report = report_by_verdicts(around.alloc, &listed, &verdicts)?;
     report_json(around.alloc, &report)
 }
@@ -82,18 +76,12 @@ fn team_verdicts<S>(
     tables: &Tables,
 ) -> Result<Vec<Option<Broken>>, AllocError>
     requires team { IsTeamOf (frame_of tables.now) (team_in around.now tables.now) }
-    requires ready { IsReady around.now tables.now }
     ensures count { IfOk result (λ verdicts. length verdicts.items ≡ length (cells_in around.now.number tables.now)) }
     ensures each { (l : Legalizer) → IfOk result (λ verdicts.
         AreVerdicts l (frame_of tables.now) (map (listed_of around.now.number) (cells_in around.now.number tables.now)) verdicts.items) }
 {
     let listed = listed_cells(around.alloc, around.number, tables.placement.cells())?;
-    verdicts_on(
-        around.alloc,
-        tables.placement.frame(),
-        around.index,
-        &listed,
-    )
+    verdicts_on(around.alloc, &tables.placement.plan(), &listed)
 }
 
 /// The team's first cell in loading order that breaks a rule where it stands; none if no cell
@@ -105,7 +93,6 @@ pub(crate) fn first_broken_cell<S>(
     tables: &Tables,
 ) -> Result<Option<BrokenCell>, AllocError>
     requires team { IsTeamOf (frame_of tables.now) (team_in around.now tables.now) }
-    requires ready { IsReady around.now tables.now }
     ensures { (l : Legalizer) → IfOk result (λ first. first ≡ slice_get (broken_cells (setting_in l around.now tables.now) (cells_in around.now.number tables.now)) 0) }
 {
     let verdicts = team_verdicts(around, tables)?;
@@ -133,7 +120,6 @@ pub(crate) fn legal_marks<S>(
     tables: &Tables,
 ) -> Result<Vec<bool>, AllocError>
     requires team { IsTeamOf (frame_of tables.now) (team_in around.now tables.now) }
-    requires ready { IsReady around.now tables.now }
     ensures { IfOk result (λ marks. AreMarked (frame_of tables.now) around.now.number (cells_in around.now.number tables.now) marks.items) }
 {
     legalizer_is_there();

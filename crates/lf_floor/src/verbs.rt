@@ -9,7 +9,7 @@ ghost use Rattle.lf_proto.specs.Verbs.{action_of, change_of};
 ghost use Rattle.lf_sessions.specs.Slots.{seen_at, slots_of};
 ghost use Rattle.lf_teams.specs.Outcomes.{Reaches, RunsOut};
 ghost use Rattle.lf_teams.specs.Verbs.{outcome_by_slot, outcome_of, outcome_within, takes_memory, unless_spent, unless_stale};
-ghost use Rattle.lf_floor.specs.Tables.{EntriesFit, IsReady, IsServed, OthersStay, frame_of, setting_in, team_in};
+ghost use Rattle.lf_floor.specs.Tables.{EntriesFit, IsServed, OthersStay, frame_of, setting_in, team_in};
 
 use crate::surroundings::Surroundings;
 use crate::tables::Tables;
@@ -30,8 +30,6 @@ impl Tables {
     ) -> Result<Reply, AllocError>
         requires served { IsServed around.now.number self.old }
         requires open { seen_at (slots_of self.old.sessions around.now.number) session ≡ Some seen }
-        requires ready { IsReady around.now self.old }
-        requires made { S.is_for around.now.seeker.now (frame_of self.old) }
         ensures ok { (l : Legalizer) → IfOk result (λ reply. Reaches
             (unless_stale seen (setting_in l around.now self.old) session (change_of change.now) (team_in around.now self.old))
             reply (team_in around.now self.new)) }
@@ -62,8 +60,6 @@ impl Tables {
     ) -> Result<Reply, AllocError>
         requires served { IsServed around.now.number self.old }
         requires open { seen_at (slots_of self.old.sessions around.now.number) session ≡ Some seen }
-        requires ready { IsReady around.now self.old }
-        requires made { S.is_for around.now.seeker.now (frame_of self.old) }
         ensures ok { (l : Legalizer) → IfOk result (λ reply. Reaches
             (outcome_within seen (setting_in l around.now self.old) session (action_of action.now) (team_in around.now self.old))
             reply (team_in around.now self.new)) }
@@ -95,8 +91,6 @@ impl Tables {
         order: &Order<&[u8]>,
     ) -> Result<Reply, AllocError>
         requires served { IsServed around.now.number self.old }
-        requires ready { IsReady around.now self.old }
-        requires made { S.is_for around.now.seeker.now (frame_of self.old) }
         ensures ok { (l : Legalizer) → IfOk result (λ reply. Reaches
             (outcome_of (setting_in l around.now self.old) (order_of order.now) (team_in around.now self.old))
             reply (team_in around.now self.new)) }

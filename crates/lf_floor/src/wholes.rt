@@ -7,7 +7,7 @@ ghost use Rattle.lf_placement.specs.Placings.{made};
 ghost use Rattle.lf_teams.specs.Outcomes.{Reaches, RunsOut};
 ghost use Rattle.lf_teams.specs.Changes.{back_to_committed, committed, reverted, undone};
 ghost use Rattle.lf_floor.specs.Reverting.{IsNotedBack};
-ghost use Rattle.lf_floor.specs.Tables.{CanChange, EntriesFit, HasRows, IsCurrent, IsReady, OthersStay, own_team, setting_in, team_in};
+ghost use Rattle.lf_floor.specs.Tables.{CanChange, EntriesFit, HasRows, IsCurrent, OthersStay, own_team, setting_in, team_in};
 
 use crate::cell::first_unplaced;
 use crate::legal::first_broken_cell;
@@ -112,7 +112,6 @@ impl Tables {
         session: u32,
     ) -> Result<Reply, AllocError>
         requires change { CanChange around.now.number session self.old }
-        requires ready { IsReady around.now self.old }
         ensures ok { (l : Legalizer) → IfOk result (λ reply. Reaches
             (committed (setting_in l around.now self.old) session (team_in around.now self.old)) reply (team_in around.now self.new)) }
         ensures err { (l : Legalizer) → OnErr result (RunsOut

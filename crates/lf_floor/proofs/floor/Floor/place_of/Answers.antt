@@ -16,7 +16,7 @@ returns-in_err-cell_at g c =
     c.from_residual-in_err-cell_at.ensures
     ∙ sym (cells_seen (λ (cells : List Cell). working_at cells c.args.own) i.tables c.args.self.now c.args.team.now number
     c.self.view_is (subst (λ (f : Frame). Some number ≡ team_number f c.args.team.now) c.frame.ensures c.in_ok-number.ensures.found)
-    (rw c.self.invariant.0.revisions (subst (λ (f : Frame). number < length f.teams + 1) c.frame.ensures c.in_ok-number.ensures.within))
+    (rw c.self.invariant.revisions (subst (λ (f : Frame). number < length f.teams + 1) c.frame.ensures c.in_ok-number.ensures.within))
     ∙ none_works (cells_in number i.tables) number c.args.own (sym c.cell_at.ensures ∙ c.in_err-cell_at.was {u = tt}))
 
 pub returns : goal.returns
@@ -28,4 +28,4 @@ returns g c =
     (id_there (cells_in number i.tables) number c.args.own c.in_ok-cell_at.field-0 (sym c.cell_at.ensures ∙ c.in_ok-cell_at.was {u = tt}))
     ∙ sym (cells_seen (λ (cells : List Cell). working_at cells c.args.own) i.tables c.args.self.now c.args.team.now number
     c.self.view_is (subst (λ (f : Frame). Some number ≡ team_number f c.args.team.now) c.frame.ensures c.in_ok-number.ensures.found)
-    (rw c.self.invariant.0.revisions (subst (λ (f : Frame). number < length f.teams + 1) c.frame.ensures c.in_ok-number.ensures.within)))
+    (rw c.self.invariant.revisions (subst (λ (f : Frame). number < length f.teams + 1) c.frame.ensures c.in_ok-number.ensures.within)))
