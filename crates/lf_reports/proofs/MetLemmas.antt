@@ -11,17 +11,13 @@ use Rattle.lf_rtree.specs.declared.placed.Placed.{Placed}
 use Rattle.lf_rtree.specs.Near.{IsLeastMet, IsNoneMet}
 use Rattle.lf_floorplan.specs.declared.frame.Frame.{Frame}
 use Rattle.lf_rules.specs.Choice.{Spot}
-use Rattle.lf_floorplan.specs.Ground.{StaysInGround, IsClear}
 use Rattle.lf_rules.specs.declared.rule.Rule.{Rule}
-use Rattle.lf_floorplan.specs.Standing.{StandsOn}
-use Rattle.lf_rules.specs.declared.rule.Rule.TheVariants.{Overlap}
-use Rattle.lf_rules.specs.Legality.{Trial, IsFirstMet, IsFirstBroken, box_of}
+use Rattle.lf_rules.specs.declared.rule.Rule.TheVariants.{Fence, Obstacle, Overlap}
+use Rattle.lf_rules.specs.Legality.{Trial, Holds, IsFirstMet, IsFirstBroken, box_of, number_of}
 use Rattle.lf_rules.specs.Legalizer.{IsVerdict}
-use Rattle.lf_reports.specs.Nearby.{IsFrameVerdict, IsRowVerdict, IsAreaVerdict}
 use Rattle.lf_rules.specs.Team.{Member, box_in, with_box, boxes_from, boxes_beside}
 use Rattle.lf_rules.proofs.BesideLemmas.{filtered_hold}
-use Rattle.lf_rules.proofs.LegalParts.{KeepsFrame}
-use Rattle.lf_rules.proofs.RuleLemmas.{OnRows, all_at, fence_not, frame_at, obstacle_not, overlap_not, rows_stand}
+use Rattle.lf_rules.proofs.RuleLemmas.{OnRows, by_number, rows_held, fence_at, fence_not, obstacle_at, obstacle_not, overlap_not, all_at}
 
 -- each later box has a greater number
 abbrev Rise : List Placed → Type 0
@@ -135,62 +131,13 @@ none_beside f cells tree box but same none =
 
 -- ---- the verdict
 
--- the rule on rows that is the first broken
-rows_broken : (t : Trial) (verdict : Option Rule) (rule : Rule) → verdict ≡ Some rule → IsRowVerdict t verdict →
-    IsFirstBroken t record { rule = rule; other = None }
-rows_broken t verdict rule is said = subst (IsRowVerdict t) is said
-
--- a rule but overlap that is the first broken
-pub frame_broken : (t : Trial) (verdict : Option Rule) (rule : Rule) → verdict ≡ Some rule → IsFrameVerdict t verdict →
-    IsFirstBroken t record { rule = rule; other = None }
-frame_broken t verdict rule is said = subst (IsFrameVerdict t) is said
-
--- where all rules but overlap hold, the cell that is met decides
-pub met_verdict : (t : Trial) (cells : List Member) (own : ℕ) (tree : List Placed) (box : Rect) (frame_said : Option Rule) (met : Option ℕ) →
-    t.others ≡ boxes_beside t.frame cells own → box ≡ box_of t → frame_said ≡ None → IsFrameVerdict t frame_said →
+-- where all rules but overlap hold, the least number that is met in a tree of the cells' boxes decides
+pub met_in_tree : (t : Trial) (cells : List Member) (own : ℕ) (tree : List Placed) (box : Rect) (verdict : Option Rule) (met : Option ℕ) →
+    t.others ≡ boxes_beside t.frame cells own → box ≡ box_of t → verdict ≡ None → IsFrameVerdict t verdict →
     IsPermutation (boxes_from t.frame 0 cells) tree →
     MatchOption met (IsNoneMet tree box own) (IsLeastMet tree box own) → IsVerdict t (option_map (λ other. record { rule = Overlap; other = Some other }) met)
-met_verdict t cells own tree box frame_said met beside at none said same found = by met found
+met_in_tree t cells own tree box verdict met beside at none said same found = met_verdict t box verdict met at none said (by met found)
   where
-    holds : KeepsFrame t
-    holds = subst (IsFrameVerdict t) none said
-
-    by : (m : Option ℕ) → MatchOption m (IsNoneMet tree box own) (IsLeastMet tree box own) →
-        IsVerdict t (option_map (λ other. record { rule = Overlap; other = Some other }) m)
-    by None none_met =
-        all_at t box at holds (subst (All (λ p. SharesPoint box p.rect → ⊥)) (sym beside) (none_beside t.frame cells tree box own same none_met))
-    by (Some other) least =
-        overlap_not t box other at holds
-        (subst (λ (boxes : List Placed). IsFirstMet box boxes other) (sym beside) (first_beside t.frame cells tree box own other same least))
-
--- ---- the rules but overlap
-
--- the rule on ground or obstacles that is the first broken
-areas_broken : (t : Trial) (box : Rect) (rows areas : Option Rule) (rule : Rule) → box ≡ box_of t → rows ≡ None → areas ≡ Some rule → IsRowVerdict t rows →
-    IsAreaVerdict t.frame t.team box areas → IsFirstBroken t record { rule = rule; other = None }
-areas_broken t box rows areas rule at no_rows is rows_said said =
-    let held : OnRows t = subst (IsRowVerdict t) no_rows rows_said in
-    let told : IsAreaVerdict t.frame t.team box (Some rule) = subst (IsAreaVerdict t.frame t.team box) is said in
-    elim told [
-      | inl fence ↦ subst (λ (r : Rule). IsFirstBroken t record { rule = r; other = None }) (sym fence.0) (fence_not t box at held fence.1)
-      | inr obstacle ↦ subst (λ (r : Rule). IsFirstBroken t record { rule = r; other = None }) (sym obstacle.0) (obstacle_not t box at held obstacle.1 obstacle.2)
-    ]
-
--- the rule on rows that is the first broken
-pub rows_decide : (t : Trial) (verdict : Option Rule) (rule : Rule) → verdict ≡ Some rule → IsRowVerdict t verdict → IsFrameVerdict t (Some rule)
-rows_decide t verdict rule is said = rows_broken t verdict rule is said
-
--- where those hold, the rules on ground and obstacles decide
-pub areas_decide : (t : Trial) (box : Rect) (rows areas : Option Rule) → box ≡ box_of t → rows ≡ None → IsRowVerdict t rows →
-    IsAreaVerdict t.frame t.team box areas → IsFrameVerdict t areas
-areas_decide t box rows areas at no_rows rows_said said = by areas refl
-  where
-    by : (verdict : Option Rule) → areas ≡ verdict → IsFrameVerdict t verdict
-    by (Some rule) is = areas_broken t box rows areas rule at no_rows is rows_said said
-    by None is =
-        let both : StaysInGround t.frame t.team box × IsClear t.frame box = subst (IsAreaVerdict t.frame t.team box) is said in
-        frame_at t box at (subst (IsRowVerdict t) no_rows rows_said) both.0 both.1
-
--- where the rules on rows hold, the box stands on rows
-pub stands_on : (t : Trial) (box : Rect) (rows : Option Rule) → box ≡ box_of t → rows ≡ None → IsRowVerdict t rows → StandsOn t.frame box
-stands_on t box rows at no_rows said = subst (StandsOn t.frame) (sym at) (rows_stand t (subst (IsRowVerdict t) no_rows said))
+    by : (m : Option ℕ) → MatchOption m (IsNoneMet tree box own) (IsLeastMet tree box own) → MatchOption m (ApartAt t box) (λ other. IsFirstMet box t.others other)
+    by None none_met = subst (All (λ p. SharesPoint box p.rect → ⊥)) (sym beside) (none_beside t.frame cells tree box own same none_met)
+    by (Some other) least = subst (λ (boxes : List Placed). IsFirstMet box boxes other) (sym beside) (first_beside t.frame cells tree box own other same least)

@@ -12,10 +12,6 @@ use Rattle.lf_rules.specs.Legalizer.{Legalizer, IsVerdict, VerdictIsOne}
 use Rattle.lf_rules.specs.Team.{boxes_from}
 use Rattle.lf_reports.specs.Reports.{IsListed, named, member_of, trial_among, broken_among, violation_of, violation_by, violation_at}
 
--- the boxes of the cells from that number on, but for the cell `own`
-abbrev pub beside_from : Frame → ℕ → ℕ → List (Listed (Bor (List ℕ))) → List Placed
-beside_from f own n cells = filter (λ p. not (eqb p.own own)) (boxes_from f n (map member_of (map named cells)))
-
 -- a verdict on the cell's trial is what every legalizer says
 pub broken_is : (l : Legalizer) (f : Frame) (cells : List (Listed (List ℕ))) (own : ℕ) (c : Listed (List ℕ)) (place : Place) (found : Option Broken) →
     VerdictIsOne → IsListed f c → IsVerdict (trial_among f cells own c place) found → found ≡ l.first_broken (trial_among f cells own c place)

@@ -1,6 +1,7 @@
 -- The only row that lies at a y and extends over an x is the only one that may carry a box there.
-use Rattle.std.proofs.Common.{◌≡◌, ℕ, ℤ, pos, negsuc, ◌+ℤ◌, ◌*ℤ◌, ◌<◌, ◌<ℤ◌, length, Some, None, refl, sym, ◌∙◌, ap, subst, arith, slice_get}
+use Rattle.std.proofs.Common.{◌≡◌, ℕ, ℤ, pos, negsuc, ◌+ℤ◌, ◌*ℤ◌, ◌<◌, ◌<ℤ◌, length, Option, Some, None, refl, sym, ◌∙◌, ap, subst, arith, slice_get}
 use Rattle.std.specs.Prelude.{All, Contains}
+use Rattle.std.specs.Option.{IsSomeAnd}
 use Rattle.std.proofs.lemmas.Int.{ints}
 use Rattle.std.proofs.lemmas.Option.{slice_get_read, slice_get_within, get_or_from_slice_get}
 use Rattle.std.proofs.lemmas.List.Elements.{All-contains}
@@ -17,15 +18,24 @@ use Rattle.lf_rules.specs.Solid.{IsOnlyRow}
 pub no_row : (f : Frame) (p : Point) → IsRowAt f p.y p.x None → IsOnlyRow f p None
 no_row f p none s there over = All-contains (λ r. ExtendsOver f p.y p.x r → ⊥) f.rows s none there over
 
+-- the row at that position
+there : (f : Frame) (p : Point) (n : ℕ) → IsRowAt f p.y p.x (Some n) → (r : Row) × (slice_get f.rows n ≡ Some r) × ExtendsOver f p.y p.x r
+there f p n found = by (slice_get f.rows n) refl found
+  where
+    by : (o : Option Row) → slice_get f.rows n ≡ o → IsSomeAnd o (ExtendsOver f p.y p.x) → (r : Row) × (slice_get f.rows n ≡ Some r) × ExtendsOver f p.y p.x r
+    by None at none = absurd none
+    by (Some r) at over = (r, at, over)
+
 pub row_within : (f : Frame) (p : Point) (n : ℕ) → IsRowAt f p.y p.x (Some n) → n < length f.rows
-row_within f p n (r, at, over) = slice_get_within f.rows n r at
+row_within f p n found = let row = there f p n found in slice_get_within f.rows n row.0 row.1
 
 pub only_row : (f : Frame) (p : Point) (n : ℕ) (r : Row) → slice_get f.rows n ≡ Some r → IsRowAt f p.y p.x (Some n) → IsOnlyRow f p (Some r)
-only_row f p n r at (q, at_q, over_q) = (
+only_row f p n r at found = (
   (n, slice_get_within f.rows n r at, get_or_from_slice_get f.rows n r r at),
-  λ s there over.
-      let at_s : slice_get f.rows there.0 ≡ Some s = slice_get_read f.rows (length f.rows) there.0 s refl there.1 (sym there.2) in
-      let same : n ≡ there.0 = row_at_one f p.y p.x n there.0 q s at_q at_s over_q over in
+  λ s has over.
+      let row = there f p n found in
+      let at_s : slice_get f.rows has.0 ≡ Some s = slice_get_read f.rows (length f.rows) has.0 s refl has.1 (sym has.2) in
+      let same : n ≡ has.0 = row_at_one f p.y p.x n has.0 row.0 s row.1 at_s row.2 over in
       let both : Some s ≡ Some r = sym at_s ∙ ap (slice_get f.rows) (sym same) ∙ at in
       cc,
 )

@@ -6,4 +6,4 @@ pub returns-then-extends_over : goal.returns-then-extends_over
 returns-then-extends_over c =
     let at : slice_get c.args.frame.now.rows c.loop-number.number ≡ Some c.row-item.result =
     slice_get_read c.args.frame.now.rows _ c.loop-number.number c.row-item.result refl (search rules) (search rules) in
-    (c.row-item.result, at, c.if-extends_over.ensures.0 refl)
+    rw at (c.if-extends_over.ensures.0 refl)
