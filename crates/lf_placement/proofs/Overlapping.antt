@@ -17,7 +17,7 @@ use Rattle.lf_rules.specs.Legalizer.{IsVerdict}
 use Rattle.lf_rules.specs.Team.{Member, box_in, boxes_beside, boxes_from, with_box}
 use Rattle.lf_rules.proofs.LegalParts.{KeepsFrame, StandsInFrame, frame_meant, legal_by_parts}
 use Rattle.lf_rules.proofs.RuleLemmas.{overlap_broken}
-use Rattle.lf_reports.proofs.MetLemmas.{first_beside, none_beside}
+use Rattle.lf_rules.proofs.LeastMet.{first_beside, none_beside}
 use Rattle.lf_cells.specs.declared.cell.Cell.{Cell}
 use Rattle.lf_cells.specs.declared.cell.CellId.{CellId}
 use Rattle.lf_cells.specs.Cells.{Cells, cells_of}

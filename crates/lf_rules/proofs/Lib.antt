@@ -16,3 +16,4 @@ pub mod BesideLemmas
 pub mod TidyLemmas
 pub mod DesignLemmas
 pub mod KeptLemmas
+pub mod LeastMet
