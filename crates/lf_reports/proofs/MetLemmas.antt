@@ -1,5 +1,5 @@
 -- The least number that is met is the first other cell that is met: the boxes of cells stand in the order of their numbers.
-use Rattle.std.proofs.Common.{◌≡◌, ◌≢◌, inl, inr, ℕ, zero, suc, ◌+◌, ◌<◌, ◌≤◌, Bool, true, false, cond, not, eqb, List, [], ◌∷◌, Option, Some, None, refl, sym, ◌∙◌, ap, subst, arith}
+use Rattle.std.proofs.Common.{◌≡◌, ◌≢◌, ℕ, zero, suc, ◌+◌, ◌<◌, ◌≤◌, Bool, true, false, cond, not, eqb, List, [], ◌∷◌, Option, Some, None, refl, sym, ◌∙◌, ap, subst, arith}
 use Rattle.std.specs.Prelude.{All, Contains, IsPermutation, filter, take, MatchOption}
 use Rattle.std.specs.Option.{option_map}
 use Rattle.std.proofs.lemmas.Bool.Decides.{nat_tests}
@@ -12,12 +12,12 @@ use Rattle.lf_rtree.specs.Near.{IsLeastMet, IsNoneMet}
 use Rattle.lf_floorplan.specs.declared.frame.Frame.{Frame}
 use Rattle.lf_rules.specs.Choice.{Spot}
 use Rattle.lf_rules.specs.declared.rule.Rule.{Rule}
-use Rattle.lf_rules.specs.declared.rule.Rule.TheVariants.{Fence, Obstacle, Overlap}
-use Rattle.lf_rules.specs.Legality.{Trial, Holds, IsFirstMet, IsFirstBroken, box_of, number_of}
+use Rattle.lf_rules.specs.declared.rule.Rule.TheVariants.{Overlap}
+use Rattle.lf_rules.specs.Legality.{Trial, IsFirstMet, IsFrameVerdict, box_of}
 use Rattle.lf_rules.specs.Legalizer.{IsVerdict}
 use Rattle.lf_rules.specs.Team.{Member, box_in, with_box, boxes_from, boxes_beside}
 use Rattle.lf_rules.proofs.BesideLemmas.{filtered_hold}
-use Rattle.lf_rules.proofs.RuleLemmas.{OnRows, by_number, rows_held, fence_at, fence_not, obstacle_at, obstacle_not, overlap_not, all_at}
+use Rattle.lf_rules.proofs.RuleLemmas.{ApartAt, met_verdict}
 
 -- each later box has a greater number
 abbrev Rise : List Placed → Type 0
