@@ -1,5 +1,5 @@
 -- The last of the rows at a y that do not begin right of an x.
-use Rattle.std.proofs.Common.{◌≡◌, ◌⊎◌, inl, inr, ℕ, ℤ, ◌+◌, ◌-◌, ◌<◌, ◌≤◌, ◌≤ℤ◌, ◌<ℤ◌, true, false, refl, List, length, get_or, sym, ap, subst, ◌∙◌, arith, int_le, int_lt}
+use Rattle.std.proofs.Common.{◌≡◌, ◌⊎◌, inl, inr, ℕ, ℤ, ◌-◌, ◌<◌, ◌≤◌, ◌≤ℤ◌, ◌<ℤ◌, true, false, refl, List, length, get_or, sym, ap, subst, ◌∙◌, arith, int_le, int_lt}
 use Rattle.std.specs.Prelude.{Bool, AllPairs, if◌then◌else◌}
 use Rattle.std.specs.List.Sorted.{IsPartitionedBy, IsPartitionPoint}
 use Rattle.std.proofs.lemmas.Int.{ints}

@@ -1,17 +1,15 @@
 -- Which row lies at a point, and whether a box that stands on rows lies in segments of them.
 use Rattle.std.proofs.Common.{◌≡◌, ◌⊎◌, inl, inr, ℕ, ℤ, suc, pos, negsuc, ◌*◌, ◌<◌, ◌≤◌, ◌+ℤ◌, ◌*ℤ◌, ◌≤ℤ◌, ◌<ℤ◌, refl, List, [], Option, Some, None, length}
 use Rattle.std.proofs.Common.{get_or, slice_get, sym, ap, subst, ◌∙◌, arith}
-use Rattle.std.specs.Prelude.{All, AllPairs, Any, Bool, Contains, IsTrue, ◌↔◌}
+use Rattle.std.specs.Prelude.{All, AllPairs, Bool, Contains, IsTrue, ◌↔◌}
 use Rattle.std.specs.Option.{IsSomeAnd}
 use Rattle.std.proofs.Math.ListN.{get_or-eq_default}
 use Rattle.std.proofs.Math.Nat.{mul-le-mul_right}
 use Rattle.std.proofs.lemmas.Int.{ints}
-use Rattle.std.proofs.lemmas.List.{get_or_default}
-use Rattle.std.proofs.lemmas.List.Elements.{All-contains, All-nil, Contains-get_or}
+use Rattle.std.proofs.lemmas.List.Elements.{All-contains, All-nil}
 use Rattle.std.proofs.lemmas.Option.{get_or_from_slice_get, slice_get-get_or, slice_get_within}
 use Rattle.lf_units.specs.declared.area.Rect.{Rect}
 use Rattle.lf_units.specs.Area.{SharesPoint}
-use Rattle.lf_spans.specs.declared.span.Span.{Span}
 use Rattle.lf_spans.specs.Spans.{Holds, LiesIn}
 use Rattle.lf_spans.specs.Steps.{In}
 use Rattle.lf_spans.proofs.Edges.{in_of_lies}

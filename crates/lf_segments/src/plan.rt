@@ -90,28 +90,28 @@ impl<'a> Plan<'a> {
     }
 
     /// The look-ups of the frame.
-    pub fn index(&self) -> &Ground
+    pub fn index(&self) -> &'a Ground
         ensures { IsGroundOf self.now result.now }
     {
         self.index
     }
 
     /// The rows at this y, in database units, in order of x. They are found by bisection.
-    pub fn rows_at(&self, y: i64) -> &[RowEntry]
+    pub fn rows_at(&self, y: i64) -> &'a [RowEntry]
         ensures { AreRowsAt self.now y result.now }
     {
         rows_at(self.frame, self.index, &y)
     }
 
     /// The rows from one y on and below another, in database units, in order of y and then of x. They are found by bisection.
-    pub fn rows_between(&self, from: i64, to: i64) -> &[RowEntry]
+    pub fn rows_between(&self, from: i64, to: i64) -> &'a [RowEntry]
         ensures { AreRowsBetween self.now from to result.now }
     {
         rows_between(self.frame, self.index, &from, &to)
     }
 
     /// The rectangle that all rows lie in, in database units.
-    pub fn extent(&self) -> &Rect
+    pub fn extent(&self) -> &'a Rect
         ensures { IsExtentOf self.now result.now }
     {
         self.index.extent()
@@ -119,7 +119,7 @@ impl<'a> Plan<'a> {
 
     /// The spans of the segment of that number that lie under soft blockages, in database units, from left to right; none if there
     /// is no such segment. Segments are numbered as in `Segments::cut` of the frame.
-    pub fn soft_of(&self, segment: usize) -> &[Span]
+    pub fn soft_of(&self, segment: usize) -> &'a [Span]
         ensures { IsSoftOf self.now segment result.now }
     {
         soft_of(self.frame, self.index, segment)

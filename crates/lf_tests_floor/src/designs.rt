@@ -11,6 +11,7 @@ use lf_legalize::PlainSeeker;
 use lf_orient::Orient;
 use lf_reports::{BrokenCell, Report, Violation, check_all, first_illegal};
 use lf_rules::{Broken, Placed, Rule, box_of, first_broken};
+use lf_tests_texts::with_line;
 use lf_units::Rect;
 use std::alloc::Global;
 use std::test::Fail;
@@ -77,10 +78,11 @@ pub fn holds<A: Asked>(alloc: Global, def: &[u8], asked: &A) -> Result<bool, Fai
     asked.holds(alloc, &design)
 }
 
-/// What is asked of the built-in design.
+/// What is asked of the built-in design, or of one with soft blockages.
 #[derive(Clone, Copy)]
 enum Case {
     Counts,
+    SoftBlockages,
     Searches,
 }
 
@@ -90,6 +92,7 @@ impl Asked for Case {
             Case::Counts => {
                 Ok(is_built_in(&design.frame) && are_built_in(design.cells.as_slice()))
             }
+            Case::SoftBlockages => Ok(has_soft_blockages(&design.frame)),
             Case::Searches => search_alike_everywhere(alloc, design),
         }
     }
@@ -100,7 +103,43 @@ fn is_built_in(frame: &Frame) -> bool {
     frame.rows.len() == 4
         && frame.teams.len() == 2
         && frame.obstacles.len() == 1
+        && frame.soft.is_empty()
         && frame.macros.len() == 2
+}
+
+/// The line of the blockage of the built-in design, with soft ones before and behind it: rectangles that touch, overlap and have
+/// no area, and one that is PARTIAL too.
+const SOFT_LINES: &[u8] = b"- PLACEMENT + SOFT RECT ( 400 2000 ) ( 0 0 ) RECT ( 400 0 ) ( 600 2000 ) ;
+- PLACEMENT + SOFT + PARTIAL 0.5 RECT ( 0 0 ) ( 200 200 ) ;
+- PLACEMENT RECT ( 4000 0 ) ( 4400 2000 ) ;
+- PLACEMENT + PARTIAL 0.5 + SOFT RECT ( 1 1 ) ( 2 2 ) ;
+- PLACEMENT + SOFT RECT ( 300 -5 ) ( 500 70 ) RECT ( 9 9 ) ( 9 9 ) ;";
+
+/// The rectangles of those that are soft and not PARTIAL, in the order of the text.
+const SOFT_RECTS: [(i64, i64, i64, i64); 4] = [
+    (0, 0, 400, 2000),
+    (400, 0, 600, 2000),
+    (300, -5, 500, 70),
+    (9, 9, 9, 9),
+];
+
+/// Whether the rectangles are these.
+fn are_rects(rects: &[Rect], wanted: &[(i64, i64, i64, i64)]) -> bool {
+    if rects.len() != wanted.len() {
+        return false;
+    }
+    for (rect, corners) in rects.iter().zip(wanted.iter()) {
+        if (rect.x1, rect.y1, rect.x2, rect.y2) != *corners {
+            return false;
+        }
+    }
+    true
+}
+
+/// Whether the frame has those soft blockages, and none of them is an obstacle.
+fn has_soft_blockages(frame: &Frame) -> bool {
+    are_rects(frame.soft.as_slice(), &SOFT_RECTS)
+        && are_rects(frame.obstacles.as_slice(), &[(4000, 0, 4400, 2000)])
 }
 
 /// Whether the cells are of the teams of the built-in design.
@@ -116,6 +155,13 @@ fn are_built_in(cells: &[Cell]) -> bool {
 #[test]
 fn the_built_in_design(rt: HostRuntime) -> Result<(), Fail> {
     assert!(rt; holds(rt.alloc(), W_DEF, &Case::Counts)?);
+    Ok(())
+}
+
+#[test]
+fn soft_blockages(rt: HostRuntime) -> Result<(), Fail> {
+    let def = with_line(rt.alloc(), W_DEF, 26, SOFT_LINES)?;
+    assert!(rt; holds(rt.alloc(), &def, &Case::SoftBlockages)?);
     Ok(())
 }
 

@@ -1,4 +1,3 @@
-use Rattle.std.proofs.Common.{false, true, ◌≡◌}
 use Rattle.lf_segments.proofs.OnRowLemmas.{at_row_lies, lies_at_row, no_row_lies}
 use Rattle.lf_segments.proofs.on_rows.lies_at.Goals as goal
 
