@@ -1,25 +1,18 @@
 -- Where all rules but overlap hold, the least number that is met in a tree of the cells' boxes decides.
-use Rattle.std.proofs.Common.{◌≡◌, ◌≢◌, inl, inr, ℕ, zero, suc, ◌+◌, ◌<◌, ◌≤◌, Bool, true, false, cond, not, eqb, List, [], ◌∷◌, Option, Some, None, refl, sym, ◌∙◌, ap, subst, arith}
-use Rattle.std.specs.Prelude.{All, Contains, IsPermutation, filter, take, MatchOption}
+use Rattle.std.proofs.Common.{◌≡◌, ℕ, List, Option, Some, None, sym, subst}
+use Rattle.std.specs.Prelude.{All, IsPermutation, MatchOption}
 use Rattle.std.specs.Option.{option_map}
-use Rattle.std.proofs.lemmas.Bool.Decides.{nat_tests}
-use Rattle.std.proofs.lemmas.List.Elements.{All-nil, All-cons, All-head, All-tail, All-weaker, All-contains}
-use Rattle.std.proofs.lemmas.List.Sorted.{All-permutation, Contains-permutation, IsPermutation-sym}
 use Rattle.lf_units.specs.declared.area.Rect.{Rect}
 use Rattle.lf_units.specs.Area.{SharesPoint}
 use Rattle.lf_rtree.specs.declared.placed.Placed.{Placed}
 use Rattle.lf_rtree.specs.Near.{IsLeastMet, IsNoneMet}
-use Rattle.lf_floorplan.specs.declared.frame.Frame.{Frame}
-use Rattle.lf_rules.specs.Choice.{Spot}
 use Rattle.lf_rules.specs.declared.rule.Rule.{Rule}
-use Rattle.lf_rules.specs.declared.rule.Rule.TheVariants.{Fence, Obstacle, Overlap}
-use Rattle.lf_rules.specs.Legality.{Trial, Holds, IsFirstMet, IsFirstBroken, box_of, number_of}
+use Rattle.lf_rules.specs.declared.rule.Rule.TheVariants.{Overlap}
+use Rattle.lf_rules.specs.Legality.{Trial, IsFirstMet, IsFrameVerdict, box_of}
 use Rattle.lf_rules.specs.Legalizer.{IsVerdict}
-use Rattle.lf_rules.specs.Team.{Member, box_in, with_box, boxes_from, boxes_beside}
+use Rattle.lf_rules.specs.Team.{boxes_from, boxes_beside}
 use Rattle.lf_rules.proofs.LeastMet.{first_beside, none_beside}
-use Rattle.lf_rules.proofs.RuleLemmas.{OnRows, by_number, rows_held, fence_at, fence_not, obstacle_at, obstacle_not, overlap_not, all_at}
-
--- ---- the verdict
+use Rattle.lf_rules.proofs.RuleLemmas.{ApartAt, met_verdict}
 
 -- where all rules but overlap hold, the least number that is met in a tree of the cells' boxes decides
 pub met_in_tree : (t : Trial) (cells : List Member) (own : ℕ) (tree : List Placed) (box : Rect) (verdict : Option Rule) (met : Option ℕ) →

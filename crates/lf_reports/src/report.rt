@@ -60,11 +60,12 @@ fn broken_at(
     ensures { (cells : List Member) → IsPermutation (boxes_from plan.now 0 cells) boxes.now →
         IsVerdict (trial_of plan.now cell.now.team (macro_of plan.now cell.now.mac) place.now (boxes_beside plan.now cells own)) result }
 {
-    let mac = macro_in(plan.frame(), cell);
+    let frame = plan.frame();
+    let mac = macro_in(frame, cell);
     if let Some(rule) = broken_alone(plan, cell.team, mac, place) {
         return Some(Broken { rule, other: None });
     }
-    overlap_with(boxes.least_met(&box_of(plan.frame(), mac, place), own))
+    overlap_with(boxes.least_met(&box_of(frame, mac, place), own))
 }
 
 /// The first rule that the cell of that number breaks where it stands, beside the other placed cells.
@@ -209,7 +210,8 @@ fn verdicts_in(
     let mut verdicts = no_verdicts(alloc, cells.len())?;
     for (number, placed) in boxes.iter().enumerate() {
         let own = placed.own as usize;
-        put_verdict(plan, tree, cells, own, &fetched[number], &mut verdicts);
+        let cell = &fetched[number];
+        put_verdict(plan, tree, cells, own, cell, &mut verdicts);
     }
     Ok(verdicts)
 }
@@ -330,6 +332,18 @@ fn report_on(alloc: Global, plan: &Plan<'_>, cells: &[Listed<&[u8]>]) -> Result<
     report_by_verdicts(alloc, cells, &verdicts)
 }
 
+/// The report of these cells on a frame of which nothing is looked up yet.
+fn report_of(alloc: Global, frame: &Frame, cells: &[Listed<&[u8]>]) -> Result<Report, AllocError>
+    requires listed { All (λ c. IsListed frame.now (named c)) cells.now }
+    requires few { length cells.now ≤ 4000000 }
+    ensures report { (l : Legalizer) → IfOk result (λ report. report ≡ report_of l frame.now (map named cells.now)) }
+    ensures legal { IfOk result (λ report. IsClean report ↔ IsFullyLegal frame.now (map standing_of (map named cells.now))) }
+    ensures told { IfOk result (λ report. All IsTold report.violations) }
+{
+    let index = Ground::build(alloc, frame)?;
+    report_on(alloc, &Plan::new(frame, &index), cells)
+}
+
 /// The cells of a design at these places.
 fn listed_cells<'a>(
     alloc: Global,
@@ -366,7 +380,6 @@ pub fn check_all(
     ensures told { IfOk result (λ report. All IsTold report.violations) }
 {
     cell_is_sized();
-    let index = Ground::build(alloc, &loaded.frame)?;
     let cells = listed_cells(alloc, loaded.cells.as_slice(), places)?;
-    report_on(alloc, &Plan::new(&loaded.frame, &index), &cells)
+    report_of(alloc, &loaded.frame, &cells)
 }

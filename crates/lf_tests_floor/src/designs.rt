@@ -12,7 +12,7 @@ use lf_orient::Orient;
 use lf_reports::{BrokenCell, Report, Violation, check_all, first_illegal};
 use lf_rules::{Broken, Placed, Rule, box_of, first_broken};
 use lf_tests_texts::with_line;
-use lf_units::{Name, Rect};
+use lf_units::Rect;
 use std::alloc::Global;
 use std::test::Fail;
 

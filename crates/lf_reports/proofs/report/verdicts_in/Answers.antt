@@ -27,7 +27,7 @@ fetch-requires c =
 
 -- the cell at the loop's number is the one of its box
 there : (c : goal.After-verdicts-in-loop-number-1) →
-    slice_get (map named c.args.cells.now) (get_or c.args.boxes.now c.loop-number.number nowhere).own ≡ Some (named c.index-fetched-number.result.now)
+    slice_get (map named c.args.cells.now) (get_or c.args.boxes.now c.loop-number.number nowhere).own ≡ Some (named c.index-cell.result.now)
 there c =
     let cells = map named c.args.cells.now in
     let items = c.in_ok-fetched.fetched.items in
@@ -37,15 +37,15 @@ there c =
     sym (length-map items named) ∙ sym (length-map (map named items) Some) ∙ ap length same ∙ length-map c.args.boxes.now (λ p. slice_get cells p.own) in
     let below : number < length c.args.boxes.now = c.loop-number-test.true in
     let within : number < length items = omega (arith, long, below) in
-    let read : slice_get items number ≡ Some c.index-fetched-number.result.now = slice_get_read items _ number c.index-fetched-number.result.now refl within c.index-fetched-number.ensures in
-    fetched_at cells (map named items) c.args.boxes.now number nowhere (named c.index-fetched-number.result.now) same below (slice_get-map named items number ∙ ap (option_map named) read)
+    let read : slice_get items number ≡ Some c.index-cell.result.now = slice_get_read items _ number c.index-cell.result.now refl within c.index-cell.ensures in
+    fetched_at cells (map named items) c.args.boxes.now number nowhere (named c.index-cell.result.now) same below (slice_get-map named items number ∙ ap (option_map named) read)
 
 pub put_verdict-requires-clause-there : goal.put_verdict-requires-clause-there
 put_verdict-requires-clause-there c = there c
 
 pub put_verdict-requires-clause-this : goal.put_verdict-requires-clause-this
 put_verdict-requires-clause-this c =
-    listed_there c.args.plan.now c.args.cells.now (get_or c.args.boxes.now c.loop-number.number nowhere).own (named c.index-fetched-number.result.now) c.requires.listed (there c)
+    listed_there c.args.plan.now c.args.cells.now (get_or c.args.boxes.now c.loop-number.number nowhere).own (named c.index-cell.result.now) c.requires.listed (there c)
 
 pub loop-number-init : goal.loop-number-init
 loop-number-init c =

@@ -1,8 +1,6 @@
 use Rattle.std.proofs.Common.{◌≡◌, ◌∙◌, ap, sym, subst}
-use Rattle.std.specs.Prelude.{Contains}
 use Rattle.lf_units.specs.declared.area.Point.{Point}
 use Rattle.lf_floorplan.specs.declared.frame.Frame.{Frame}
-use Rattle.lf_floorplan.specs.Rows.{IsHeeded}
 use Rattle.lf_floorplan.specs.Standing.{Carries}
 use Rattle.lf_rules.proofs.RowsAt.{foot, none_carries, one_carries}
 use Rattle.lf_rules.proofs.rows.is_carried.Goals as goal
