@@ -180,6 +180,7 @@ frame_same i xs ys same f is = record {
   rows = is.rows;
   teams = is.teams;
   obstacles = is.obstacles ∙ obstacles_same i xs ys same;
+  soft = is.soft;
   macros = is.macros;
   header = is.header;
   limits = is.limits;

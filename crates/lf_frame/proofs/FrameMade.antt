@@ -1,7 +1,7 @@
 -- The parts of an accepted design make a frame.
 use Rattle.std.proofs.Common.{◌≡◌, ◌≢◌, ℕ, ℤ, pos, ◌<ℤ◌, ◌≤ℤ◌, ◌⊎◌, inl, inr, ◌<◌, ◌≤◌, length, Bool, true, false, List, map, get_or, Option, None, Some}
 use Rattle.std.proofs.Common.{refl, arith}
-use Rattle.std.specs.Prelude.{All, AllPairs, Any, Contains, IsSome, IfSome, filter, filter_map, flat_map, cond, ◌||◌}
+use Rattle.std.specs.Prelude.{All, AllPairs, Any, Contains, IsSome, IfSome, filter, filter_map, flat_map, cond, ◌||◌, ◌&&◌, not}
 use Rattle.std.specs.Str.{bytes_eq}
 use Rattle.std.proofs.lemmas.Bool.{false≢true}
 use Rattle.std.proofs.lemmas.Grind.{merely}
@@ -37,7 +37,7 @@ use Rattle.lf_refusals.specs.Loading.{at_place, is_heeded, frame_row, macro_name
 use Rattle.lf_refusals.specs.Refusals.{IsTurned, MeetsEarlierRow, EndsTooFar, BearsEarlierFence, BearsGroundName, SharePoint, MeetsEarlierFence, IsRowTooMany}
 use Rattle.lf_refusals.specs.Refusals.{IsFenceTooMany}
 use Rattle.lf_refusals.specs.Findings.{Inputs, units_in, core_in, NameOfFirst, IsAccepted}
-use Rattle.lf_frame.specs.Loads.{frame_team, location, IsSizedIn, FixedIsSized, fixed_box, blocked, obstacles_in, AreInRange}
+use Rattle.lf_frame.specs.Loads.{frame_team, location, IsSizedIn, FixedIsSized, fixed_box, blocked, softly_blocked, obstacles_in, soft_in, AreInRange}
 use Rattle.lf_refusals.proofs.Gathered.{none_of_name, pairs_from_none, all_kept, pairs_kept, few_kept, all_filter_map, all_flat_map}
 use Rattle.lf_refusals.proofs.CoreLemmas.{pitch_of_core, core_heeded}
 use Rattle.lf_frame.proofs.Accepted.{of_core, of_pitch, first_nothing, fixed_sized}
@@ -163,6 +163,18 @@ obstacles_in_range i range a =
     (all_flat_map Obstacle blocked i.document.blockages (λ k d within. blocked_obstacles (units_in i) i.library.macros (get_or i.document.blockages k d)
     (range.blockages k d within)))
 
+softly_blocked_in_def : (b : Blockage) → IsBlockage b → All IsDefRect (softly_blocked b)
+softly_blocked_in_def b range = by (b.soft && not b.partial) refl
+  where
+    by : (t : Bool) → (b.soft && not b.partial) ≡ t → All IsDefRect (softly_blocked b)
+    by false is = rw is (All-nil IsDefRect)
+    by true is = rw is (All-weaker IsRect IsDefRect def_rect b.rects range.rects)
+
+soft_in_def : (i : Inputs) → AreInRange i → All IsDefRect (soft_in i)
+soft_in_def i range =
+    all_flat_map IsDefRect softly_blocked i.document.blockages
+    (λ k d within. softly_blocked_in_def (get_or i.document.blockages k d) (range.blockages k d within))
+
 macros_in_lef : (macros : List Macro) → All IsMacro macros → All (λ m. IsLefSize m.size × IsLefSize m.origin) macros
 macros_in_lef macros range = All-weaker IsMacro (λ m. IsLefSize m.size × IsLefSize m.origin) (λ m is. (lef_size m.size is.size, lef_size m.origin is.origin)) macros range
 
@@ -186,8 +198,8 @@ few_fences i a =
     let behind_rows = (first_nothing (a TooMany)).1 in
     few_kept frame_team is_fence i.limits.fences i.document.regions (none_of_name {breaks = IsFenceTooMany i.limits.fences} (first_nothing behind_rows).0)
 
--- what a frame keeps of the rows that are of core sites, the fences, the obstacles and the macros of an accepted design with this
--- core site
+-- what a frame keeps of the rows that are of core sites, the fences, the obstacles, the soft blockages and the macros of an accepted
+-- design with this core site
 pub record IsFrameKept (i : Inputs) (core : Site) : Type 0 where
   pub site_in_lef : IsLefSize core.size
   pub pitch_whole : IsPitch (units_in i) core.size (size_in_dbu (units_in i) core.size)
@@ -200,6 +212,7 @@ pub record IsFrameKept (i : Inputs) (core : Site) : Type 0 where
   pub fences_named : FencesNamed (map frame_team (fences i.document.regions))
   pub fences_apart : FencesApart (map frame_team (fences i.document.regions))
   pub obstacles_in_range : All (IsObstacle (units_in i) i.library.macros) (obstacles_in i)
+  pub soft_in_def : All IsDefRect (soft_in i)
   pub macros_in_lef : All (λ m. IsLefSize m.size × IsLefSize m.origin) i.library.macros
 
 pub frame_kept : (i : Inputs) (core : Site) → AreInRange i → IsAccepted i → core_in i ≡ Some core → HasRange core.size → has_size core.size ≡ true →
@@ -220,5 +233,6 @@ frame_kept i core range a is site sized whole =
       fences_named = fences_named i.document.regions (none_of_name (a SecondRegion));
       fences_apart = fences_apart i.document.regions (none_of_name (a FencesOverlap));
       obstacles_in_range = obstacles_in_range i range a;
+      soft_in_def = soft_in_def i range;
       macros_in_lef = macros_in_lef i.library.macros range.macros;
     }

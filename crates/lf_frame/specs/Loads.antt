@@ -1,5 +1,5 @@
 -- What loading returns: the frame, and the movable cells with their teams.
-use Rattle.std.specs.Prelude.{◌≡◌, ℕ, cond, true, ◌||◌, List, [], ◌++◌, map, filter, filter_map, flat_map, Option, Some, None, option_map, IfSome, IsSome, pos, ◌<ℤ◌, All}
+use Rattle.std.specs.Prelude.{◌≡◌, ℕ, cond, true, ◌||◌, ◌&&◌, not, List, [], ◌++◌, map, filter, filter_map, flat_map, Option, Some, None, option_map, IfSome, IsSome, pos, ◌<ℤ◌, All}
 use Rattle.std.specs.List.{AllZip, enumerate_from}
 use Rattle.std.specs.Option.{option_and_then}
 use Rattle.lf_units.specs.declared.area.Rect.{Rect}
@@ -62,9 +62,17 @@ fixed_box library units c =
 abbrev pub blocked : Blockage → List Rect
 blocked b = cond (b.soft || b.partial) [] b.rects
 
+-- the rectangles of a placement blockage that is SOFT and not PARTIAL
+abbrev pub softly_blocked : Blockage → List Rect
+softly_blocked b = cond (b.soft && not b.partial) b.rects []
+
 -- the obstacles: the boxes of FIXED components, and then the rectangles of blockages
 abbrev pub obstacles_in : Inputs → List Rect
 obstacles_in i = filter_map (fixed_box i.library (units_in i)) i.document.components ++ flat_map blocked i.document.blockages
+
+-- the rectangles of the soft blockages
+abbrev pub soft_in : Inputs → List Rect
+soft_in i = flat_map softly_blocked i.document.blockages
 
 -- the ranges that texts keep of names, lengths and coordinates
 pub record AreInRange (i : Inputs) : Type 0 where
@@ -82,6 +90,7 @@ pub record IsFrameOf (i : Inputs) (f : Frame) : Type 0 where
   pub rows : f.rows ≡ map frame_row (filter (is_heeded f.site) i.document.rows)
   pub teams : f.teams ≡ map frame_team (fences i.document.regions)
   pub obstacles : f.obstacles ≡ obstacles_in i
+  pub soft : f.soft ≡ soft_in i
   pub macros : f.macros ≡ i.library.macros
   pub header : f.header ≡ header_in i
   pub limits : f.limits ≡ i.limits

@@ -5,7 +5,7 @@ ghost use Rattle.lf_def.specs.Ranges.{IsCoordinate, IsRow, IsComponent, IsLocati
 ghost use Rattle.lf_floorplan.specs.Sizes.{turned, box_at, size_in_dbu};
 ghost use Rattle.lf_claims.specs.Teams.{fences};
 ghost use Rattle.lf_refusals.specs.Loading.{is_heeded as is_heeded_row, frame_row as frame_row_of};
-ghost use Rattle.lf_frame.specs.Loads.{IsSizedIn, FixedIsSized, frame_team as frame_team_of, location as location_of, as_location, fixed_box as fixed_box_of, blocked};
+ghost use Rattle.lf_frame.specs.Loads.{IsSizedIn, FixedIsSized, frame_team as frame_team_of, location as location_of, as_location, fixed_box as fixed_box_of, blocked, softly_blocked};
 
 use lf_claims::{is_fence, is_fixed};
 use lf_def::{Blockage, Component, Header as DefHeader, Location, Region, Row as DefRow};
@@ -209,11 +209,11 @@ pub(crate) fn fixed_boxes(
 }
 
 /// Appends copies of the rectangles.
-fn push_rects(rects: &[Rect], obstacles: &mut Sequence<Rect>) -> Result<(), AllocError>
-    ensures { OnOk result (obstacles.new ≡ obstacles.old ++ rects.now) }
+fn push_rects(rects: &[Rect], all: &mut Sequence<Rect>) -> Result<(), AllocError>
+    ensures { OnOk result (all.new ≡ all.old ++ rects.now) }
 {
     for rect in rects {
-        obstacles.push(*rect)?;
+        all.push(*rect)?;
     }
     Ok(())
 }
@@ -239,4 +239,28 @@ pub(crate) fn push_blockages(
         push_blockage(blockage, obstacles)?;
     }
     Ok(())
+}
+
+/// Appends the rectangles of a placement blockage that is SOFT and not PARTIAL.
+fn push_soft(blockage: &Blockage, soft: &mut Sequence<Rect>) -> Result<(), AllocError>
+    ensures { OnOk result (soft.new ≡ soft.old ++ softly_blocked blockage.now) }
+{
+    if !blockage.soft || blockage.partial {
+        return Ok(());
+    }
+    push_rects(blockage.rects.as_slice(), soft)
+}
+
+/// The rectangles of the placement blockages that are SOFT and not PARTIAL, in the order of the text.
+pub(crate) fn soft_rects(
+    alloc: Global,
+    blockages: &[Blockage],
+) -> Result<Sequence<Rect>, AllocError>
+    ensures { IfOk result (λ soft. soft ≡ flat_map softly_blocked blockages.now) }
+{
+    let mut soft = Sequence::new(alloc);
+    for blockage in blockages {
+        push_soft(blockage, &mut soft)?;
+    }
+    Ok(soft)
 }

@@ -11,6 +11,7 @@ ghost use Rattle.lf_frame.specs.Loads.{fixed_box, blocked, FixedIsSized, AreInRa
 use crate::cells::movable_cells;
 use crate::copies::{
     copy_header, copy_macros, copy_site, fence_teams, fixed_boxes, heeded_rows, push_blockages,
+    soft_rects,
 };
 use lf_claims::{ClaimTable, claim_table};
 use lf_def::DefDoc;
@@ -65,6 +66,7 @@ fn frame_of(
         rows: heeded_rows(alloc, document.rows.as_slice(), core)?,
         teams: fence_teams(alloc, document.regions.as_slice())?,
         obstacles: obstacles_of(alloc, library, document, units)?,
+        soft: soft_rects(alloc, document.blockages.as_slice())?,
         macros: copy_macros(alloc, library.macros())?,
         header: copy_header(alloc, &document.header, units)?,
         limits: *limits,

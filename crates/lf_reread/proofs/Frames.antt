@@ -13,7 +13,7 @@ use Rattle.lf_floorplan.specs.declared.parts.Header.{Header}
 use Rattle.lf_floorplan.specs.declared.parts.Row.{Row}
 use Rattle.lf_floorplan.specs.declared.parts.Team.{Team}
 use Rattle.lf_floorplan.specs.declared.sites.Site.{Site}
-use Rattle.lf_floorplan.specs.Bounds.{IsWithin, IsLefSize}
+use Rattle.lf_floorplan.specs.Bounds.{IsDefRect, IsWithin, IsLefSize}
 use Rattle.lf_floorplan.specs.Obstacles.{IsObstacle}
 use Rattle.lf_floorplan.specs.Rows.{IsPitch, IsHeeded, RowsApart}
 use Rattle.lf_floorplan.specs.Fences.{IsFence, FencesNamed, FencesApart}
@@ -28,6 +28,7 @@ record Fields : Type 0 where
   rows : List Row
   teams : List Team
   obstacles : List Rect
+  soft : List Rect
   macros : List Macro
   header : Header
   limits : Limits
@@ -36,7 +37,8 @@ abbrev Kept : Fields → Type 0
 Kept x =
     IsWithin x.header.units 20000 × IsLefSize x.site.size × IsPitch x.header.units x.site.size x.pitch × (0 < length x.rows) × (length x.rows ≤ x.limits.rows)
     × All (λ r. IsHeeded x.pitch r) x.rows × RowsApart x.pitch x.rows × (length x.teams ≤ x.limits.fences) × All IsFence x.teams × FencesNamed x.teams
-    × FencesApart x.teams × All (IsObstacle x.header.units x.macros) x.obstacles × All (λ m. IsLefSize m.size × IsLefSize m.origin) x.macros
+    × FencesApart x.teams × All (IsObstacle x.header.units x.macros) x.obstacles × All IsDefRect x.soft
+    × All (λ m. IsLefSize m.size × IsLefSize m.origin) x.macros
 
 abbrev frame_with : ((x : Fields) × Kept x) → Frame
 frame_with (x, k) = record {
@@ -45,6 +47,7 @@ frame_with (x, k) = record {
   rows = x.rows;
   teams = x.teams;
   obstacles = x.obstacles;
+  soft = x.soft;
   macros = x.macros;
   header = x.header;
   limits = x.limits;
@@ -60,7 +63,8 @@ frame_with (x, k) = record {
   fences_named = k.9;
   fences_apart = k.10;
   obstacles_in_range = k.11;
-  macros_in_lef = k.12;
+  soft_in_def = k.12;
+  macros_in_lef = k.13;
 }
 
 abbrev fields_of : Frame → Fields
@@ -70,6 +74,7 @@ fields_of f = record {
   rows = f.rows;
   teams = f.teams;
   obstacles = f.obstacles;
+  soft = f.soft;
   macros = f.macros;
   header = f.header;
   limits = f.limits;
@@ -89,6 +94,7 @@ kept_of f = (
   f.fences_named,
   f.fences_apart,
   f.obstacles_in_range,
+  f.soft_in_def,
   f.macros_in_lef,
 )
 
@@ -116,6 +122,7 @@ frame_is_one i f g a b =
     let rows : f.rows ≡ g.rows = a.rows ∙ ap (λ (s : Site). map frame_row (filter (is_heeded s) i.document.rows)) site ∙ sym b.rows in
     let teams : f.teams ≡ g.teams = a.teams ∙ sym b.teams in
     let obstacles : f.obstacles ≡ g.obstacles = a.obstacles ∙ sym b.obstacles in
+    let soft : f.soft ≡ g.soft = a.soft ∙ sym b.soft in
     let macros : f.macros ≡ g.macros = a.macros ∙ sym b.macros in
     let limits : f.limits ≡ g.limits = a.limits ∙ sym b.limits in
     let whole : IsPitch f.header.units f.site.size g.pitch = rw (header, site) g.pitch_whole in
@@ -126,6 +133,7 @@ frame_is_one i f g a b =
       rows = rows d;
       teams = teams d;
       obstacles = obstacles d;
+      soft = soft d;
       macros = macros d;
       header = header d;
       limits = limits d;

@@ -1,6 +1,9 @@
 pub mod GroundLemmas
 pub mod CoverLemmas
+pub mod LegalParts
 pub mod RuleLemmas
+pub mod RowsAt
+pub mod WalkLemmas
 pub mod Deciding
 pub mod Verdicts
 pub mod ChoiceLemmas
@@ -13,3 +16,4 @@ pub mod BesideLemmas
 pub mod TidyLemmas
 pub mod DesignLemmas
 pub mod KeptLemmas
+pub mod LeastMet

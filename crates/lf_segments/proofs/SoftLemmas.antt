@@ -1,5 +1,5 @@
 -- What soft blockages cover of strips; and lists of spans that stand one after the other in one list.
-use Rattle.std.proofs.Common.{◌≡◌, ◌⊎◌, inl, inr, ℕ, zero, suc, ℤ, ◌+◌, ◌-◌, ◌<◌, ◌≤◌, ◌<ℤ◌, List, [], ◌∷◌, ◌++◌, Some, length, get_or, slice_get, take, drop, map}
+use Rattle.std.proofs.Common.{◌≡◌, ◌⊎◌, inl, inr, ℕ, zero, suc, ℤ, ◌+◌, ◌-◌, ◌<◌, ◌≤◌, List, [], ◌∷◌, ◌++◌, length, get_or, take, drop, map}
 use Rattle.std.proofs.Common.{refl, sym, ap, subst, ◌∙◌, arith}
 use Rattle.std.specs.Prelude.{All, Any, Contains, IsPermutation}
 use Rattle.std.proofs.Math.ListN.{get_or-map}
@@ -21,7 +21,7 @@ use Rattle.lf_floorplan.specs.declared.frame.Frame.{Frame}
 use Rattle.lf_segments.specs.declared.segment.Segment.{Segment}
 use Rattle.lf_segments.specs.declared.strip.Strip.{Strip}
 use Rattle.lf_segments.specs.Boxes.{across, numbered}
-use Rattle.lf_segments.specs.Grounds.{AreSoft, AreSoftSpans}
+use Rattle.lf_segments.specs.Grounds.{AreSoft}
 use Rattle.lf_segments.specs.Soft.{AreMetSpans, AreSoftIn, AreSoftOver, IsSoftAt, pieces, soft_boxes}
 use Rattle.lf_segments.specs.Strips.{strip_of}
 use Rattle.lf_segments.proofs.TreeLemmas.{map_there, of_map}

@@ -89,7 +89,7 @@ impl Ground {
     pub fn strips(&self) -> &[Strip]
         ensures { result.now ≡ self.now.strips }
     {
-        &self.strips
+        self.strips.as_slice()
     }
 
     /// The rows in order of y.

@@ -34,6 +34,7 @@ invariant_of-result c =
     let rows = rw c.as_slice-2.ensures at (c.in_ok-heeded_rows.ensures {u = tt}) in
     let teams = rw c.as_slice-3.ensures at (c.in_ok-fence_teams.ensures {u = tt}) in
     let obstacles = rw c.units_of-units.ensures.units at (c.in_ok-obstacles_of.ensures {u = tt}) in
+    let soft = rw c.as_slice-4.ensures at (c.in_ok-soft_rects.ensures {u = tt}) in
     let macros = rw c.macros.ensures.macros at (c.in_ok-copy_macros.ensures {u = tt}) in
     let header = rw c.units_of-units.ensures.units at (c.in_ok-copy_header.ensures {u = tt}) in
     record {
@@ -49,5 +50,6 @@ invariant_of-result c =
       fences_named = rw teams kept.fences_named;
       fences_apart = rw teams kept.fences_apart;
       obstacles_in_range = rw (obstacles, header, macros) kept.obstacles_in_range;
+      soft_in_def = rw soft kept.soft_in_def;
       macros_in_lef = rw macros kept.macros_in_lef;
     }

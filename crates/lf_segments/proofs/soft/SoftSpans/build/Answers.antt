@@ -1,6 +1,6 @@
-use Rattle.std.proofs.Common.{◌≡◌, List, [], ◌∷◌, ◌++◌, ap, subst, ◌∙◌, arith}
+use Rattle.std.proofs.Common.{List, [], ◌∷◌, ◌++◌, ap, ◌∙◌, arith}
 use Rattle.lf_spans.specs.declared.span.Span.{Span}
-use Rattle.lf_segments.specs.Soft.{AreSoftIn, pieces}
+use Rattle.lf_segments.specs.Soft.{pieces}
 use Rattle.lf_segments.proofs.SoftLemmas.{soft_more}
 use Rattle.lf_segments.proofs.soft.SoftSpans.build.Goals as goal
 
