@@ -11,7 +11,6 @@ use lf_floorplan::Place;
 use lf_undo::Moves;
 
 /// The team's cell of that position; none where there is no such cell.
-#[tactic(auto, using(lf_cells::proofs::TeamIds::ids_get))]
 pub(crate) fn cell_of(cells: &CellTable, team: usize, own: u32) -> Option<CellId>
     ensures { result ≡ id_in (cells_of cells.now team) team own }
 {

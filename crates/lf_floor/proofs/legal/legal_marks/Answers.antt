@@ -1,4 +1,5 @@
-use Rattle.std.proofs.Common.{◌≡◌, List, Option, subst}
+use Rattle.std.proofs.Common.{◌≡◌, List, Option, subst, get_or}
+use Rattle.std.proofs.lemmas.List.{get_or_default}
 use Rattle.lf_rules.specs.declared.rule.Broken.{Broken}
 use Rattle.lf_cells.specs.declared.cell.CellId.{CellId}
 use Rattle.lf_cells.specs.Cells.{Cells, cells_of, id_of}
@@ -8,14 +9,19 @@ use Rattle.lf_floor.specs.Tables.{cells_in, frame_of, setting_in}
 use Rattle.lf_floor.proofs.Marking.{judged_stands, one_longer, one_more_mark}
 use Rattle.lf_floor.proofs.legal.legal_marks.Goals as goal
 
+abbrev no_id : CellId
+no_id = record { team = 0; own = 0 }
+
 pub loop-id-preserved : goal.loop-id-preserved
 loop-id-preserved g c =
     let number = c.args.around.now.number in
     let cells = cells_in number c.args.tables.now in
     let table = c.cells-cells.result.now in
     let k = c.loop-id.id-index in
-    let id : c.id-item.result ≡ id_of number k =
-    ids_read number k (cells_of table number) c.cells_of-ids.result.now c.id-item.result c.cells_of-ids.ensures c.loop-id-test.true c.id-item.is in
+    let ids = c.cells_of-ids.result.now in
+    let id : get_or ids k no_id ≡ id_of number k =
+    ids_read number k (cells_of table number) ids (get_or ids k no_id) c.cells_of-ids.ensures c.loop-id-test.true
+    (get_or_default ids k no_id (get_or ids k no_id) c.loop-id-test.true) in
     let l = c.legalizer_is_there.ensures in
     let old = c.loop-id.marks.items in
     let mark = c.stands_legal.result in

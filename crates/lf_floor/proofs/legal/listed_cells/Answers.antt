@@ -1,7 +1,7 @@
-use Rattle.std.proofs.Common.{◌≡◌, ◌<◌, ◌++◌, ◌∷◌, [], ℕ, zero, suc, List, length, Some, None, map, ap, subst, sym, ◌∙◌, arith}
+use Rattle.std.proofs.Common.{◌≡◌, ◌<◌, ◌++◌, ◌∷◌, [], ℕ, zero, suc, List, length, Some, None, map, ap, subst, sym, ◌∙◌, arith, get_or}
 use Rattle.std.specs.Borrow.{Bor}
 use Rattle.std.specs.Prelude.{option_map, slice_get}
-use Rattle.std.proofs.lemmas.List.{map-append}
+use Rattle.std.proofs.lemmas.List.{get_or_default, map-append}
 use Rattle.lf_rules.specs.declared.report.Listed.{Listed}
 use Rattle.lf_cells.specs.declared.cell.CellId.{CellId}
 use Rattle.lf_cells.specs.Cells.{cells_of, id_of}
@@ -10,6 +10,9 @@ use Rattle.lf_reports.specs.Reports.{named}
 use Rattle.lf_teams.specs.Teams.{listed_of}
 use Rattle.lf_floor.proofs.Seeking.{one_more_told}
 use Rattle.lf_floor.proofs.legal.listed_cells.Goals as goal
+
+abbrev no_id : CellId
+no_id = record { team = 0; own = 0 }
 
 none_listed : {X Y : Type 0} (f : X → Y) (xs : List X) (k : ℕ) → k < length xs → None ≡ option_map f (slice_get xs k) → ⊥
 none_listed f [] k within none = omega (arith, within)
@@ -21,9 +24,11 @@ unreachable-requires c =
     let table = c.args.cells.now in
     let k = c.loop-id.id-index in
     let cells = cells_of table c.args.number in
-    let id : c.id-item.result ≡ id_of c.args.number k =
-    ids_read c.args.number k cells c.cells_of.result.now c.id-item.result c.cells_of.ensures c.loop-id-test.true c.id-item.is in
-    let within : k < length cells = omega (arith, c.loop-id-test.true, ids_long c.args.number cells c.cells_of.result.now c.cells_of.ensures) in
+    let ids = c.cells_of-id-items.result.now in
+    let id : get_or ids k no_id ≡ id_of c.args.number k =
+    ids_read c.args.number k cells ids (get_or ids k no_id) c.cells_of-id-items.ensures c.loop-id-test.true
+    (get_or_default ids k no_id (get_or ids k no_id) c.loop-id-test.true) in
+    let within : k < length cells = omega (arith, c.loop-id-test.true, ids_long c.args.number cells c.cells_of-id-items.result.now c.cells_of-id-items.ensures) in
     none_listed (listed_of c.args.number) cells k within
     (ap (option_map named) (sym c.in_default.is)
     ∙ subst (λ (i : CellId). option_map named c.listed.result ≡ option_map (listed_of i.team) (slice_get (cells_of table i.team) i.own)) id c.listed.ensures)
@@ -33,8 +38,10 @@ loop-id-preserved c =
     let table = c.args.cells.now in
     let k = c.loop-id.id-index in
     let cells = cells_of table c.args.number in
-    let id : c.id-item.result ≡ id_of c.args.number k =
-    ids_read c.args.number k cells c.cells_of.result.now c.id-item.result c.cells_of.ensures c.loop-id-test.true c.id-item.is in
+    let ids = c.cells_of-id-items.result.now in
+    let id : get_or ids k no_id ≡ id_of c.args.number k =
+    ids_read c.args.number k cells ids (get_or ids k no_id) c.cells_of-id-items.ensures c.loop-id-test.true
+    (get_or_default ids k no_id (get_or ids k no_id) c.loop-id-test.true) in
     ap (λ (ls : List (Listed (Bor (List ℕ)))). map named ls) (c.in_ok-push.ensures {u = tt}).items
     ∙ map-append named c.loop-id.all.items (c.in-Some.cell ∷ [])
     ∙ ap (λ (ls : List (Listed (List ℕ))). ls ++ named c.in-Some.cell ∷ []) c.loop-id.invariant

@@ -19,7 +19,7 @@ verdicts_on-requires-clause-listed g c =
     let told : map named c.in_ok-listed.listed.items ≡ map (listed_of c.args.around.now.number) cells =
     subst (λ (cs : Cells). map named c.in_ok-listed.listed.items ≡ map (listed_of c.args.around.now.number) (cells_of cs c.args.around.now.number)) c.cells.ensures
     (c.in_ok-listed.ensures {u = tt}) in
-    rw c.frame.ensures (lent_listed (frame_of c.args.tables.now) c.args.around.now.number cells c.deref.result.now
+    rw c.plan.ensures (lent_listed (frame_of c.args.tables.now) c.args.around.now.number cells c.deref.result.now
     (lent_are c.args.around.now.number cells c.deref.result.now c.in_ok-listed.listed.items c.deref.ensures.value told)
     c.requires.team.sized c.requires.team.printed)
 
@@ -40,7 +40,7 @@ report_json-requires g c =
     (c.in_ok-listed.ensures {u = tt}) in
     c.in_ok-report.ensures.told l f
     (lent_verdicts l f c.deref.result.now c.deref-2.result.now c.in_ok-listed.listed.items c.deref-3.result.now c.in_ok-verdicts.verdicts.items
-    c.deref.ensures.value c.deref-2.ensures.value c.deref-3.ensures.value (subst (λ (h : Frame). AreVerdicts l h (map named c.deref.result.now) c.in_ok-verdicts.verdicts.items) c.frame.ensures (c.in_ok-verdicts.ensures.each l)))
+    c.deref.ensures.value c.deref-2.ensures.value c.deref-3.ensures.value (subst (λ (h : Frame). AreVerdicts l h (map named c.deref.result.now) c.in_ok-verdicts.verdicts.items) c.plan.ensures (c.in_ok-verdicts.ensures.each l)))
     (lent_listed f c.args.around.now.number cells c.deref-2.result.now
     (lent_are c.args.around.now.number cells c.deref-2.result.now c.in_ok-listed.listed.items c.deref-2.ensures.value told)
     c.requires.team.sized c.requires.team.printed)
@@ -56,5 +56,5 @@ returns g c =
     IfOk-weaker c.report_json.result _ _
     (λ text is l. is ∙ ap report_text (c.in_ok-report.ensures.report l f
     (lent_verdicts l f c.deref.result.now c.deref-2.result.now c.in_ok-listed.listed.items c.deref-3.result.now c.in_ok-verdicts.verdicts.items
-    c.deref.ensures.value c.deref-2.ensures.value c.deref-3.ensures.value (subst (λ (h : Frame). AreVerdicts l h (map named c.deref.result.now) c.in_ok-verdicts.verdicts.items) c.frame.ensures (c.in_ok-verdicts.ensures.each l)))
+    c.deref.ensures.value c.deref-2.ensures.value c.deref-3.ensures.value (subst (λ (h : Frame). AreVerdicts l h (map named c.deref.result.now) c.in_ok-verdicts.verdicts.items) c.plan.ensures (c.in_ok-verdicts.ensures.each l)))
     ∙ ap (λ (cs : List (Listed (List ℕ))). report_of l f cs) are)) c.report_json.ensures

@@ -16,7 +16,7 @@ verdicts_on-requires-clause-listed g c =
     let told : map named c.in_ok-listed.listed.items ≡ map (listed_of c.args.around.now.number) cells =
     subst (λ (cs : Cells). map named c.in_ok-listed.listed.items ≡ map (listed_of c.args.around.now.number) (cells_of cs c.args.around.now.number)) c.cells.ensures
     (c.in_ok-listed.ensures {u = tt}) in
-    rw c.frame.ensures (lent_listed (frame_of c.args.tables.now) c.args.around.now.number cells c.deref.result.now
+    rw c.plan.ensures (lent_listed (frame_of c.args.tables.now) c.args.around.now.number cells c.deref.result.now
     (lent_are c.args.around.now.number cells c.deref.result.now c.in_ok-listed.listed.items c.deref.ensures.value told)
     c.requires.team.sized c.requires.team.printed)
 
@@ -40,5 +40,5 @@ returns-clause-each g c = λ l.
     let are = lent_are c.args.around.now.number cells c.deref.result.now c.in_ok-listed.listed.items c.deref.ensures.value told in
     IfOk-weaker c.verdicts_on.result _ _
     (λ verdicts each. subst (λ (cs : List (Listed (List ℕ))). AreVerdicts l (frame_of c.args.tables.now) cs verdicts.items) are
-    (subst (λ (f : Frame). AreVerdicts l f (map named c.deref.result.now) verdicts.items) c.frame.ensures each))
+    (subst (λ (f : Frame). AreVerdicts l f (map named c.deref.result.now) verdicts.items) c.plan.ensures each))
     (c.verdicts_on.ensures.each l)

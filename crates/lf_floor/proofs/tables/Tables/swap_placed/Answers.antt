@@ -25,7 +25,7 @@ returns-in-Some-clause-ok g c = λ l.
     let verdict : first_broken rule ≡ broken_at (setting l p.frame k) now x.first.own x.to =
     alone_anywhere l p x.first x.to x.from rule now c.verdict_is_one.ensures (c.cells_are_sized.ensures.sized k) here.from
     (same_both cells x.first.own x.second.own x.from x.to here.from here.to)
-    (subst (λ (a : Option Rule). IsBrokenAlone p x.first x.to a) c.in-Some.is (c.in_ok-alone.ensures {u = tt})) in
+    (subst (λ (a : Option Rule). IsBrokenAlone p x.first x.to a) c.in-Some.is c.broken_alone-alone.ensures) in
     rw (swap_refused (setting_in l c.args.around.now c.args.self.now) c.args.session x.first.own x.second.own (team_in c.args.around.now c.args.self.now)
     (Illegal rule x.first.own None)
     (first_refused (cells_in number c.args.self.now) x.first.own x.second.own x.from x.to are.from are.to
@@ -41,4 +41,4 @@ exchange-requires-clause-first g c =
     let p = c.args.self.now.placement in
     let q = c.make_room_for.new.self.placement in
     alone_moved number p q x.first x.to None c.requires.are.first (only_grown number p q c.make_room_for.ensures.grown.placement)
-    (subst (λ (a : Option Rule). IsBrokenAlone p x.first x.to a) c.in_default.is (c.in_ok-alone.ensures {u = tt}))
+    (subst (λ (a : Option Rule). IsBrokenAlone p x.first x.to a) c.in_default.is c.broken_alone-alone.ensures)
