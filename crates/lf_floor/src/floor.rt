@@ -46,7 +46,7 @@ pub struct Floor<S: Seeker> {
 impl<S: Seeker> Model for Floor<S> {
     ghost use Rattle.lf_teams.specs.States.{FloorState};
     ghost use Rattle.lf_floor.specs.Tables.{AreTables, floor_in};
-    
+
     ghost Value = { FloorState };
 
     ghost view = { λ f. floor_in f.tables };

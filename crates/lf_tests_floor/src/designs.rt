@@ -109,7 +109,8 @@ fn is_built_in(frame: &Frame) -> bool {
 
 /// The line of the blockage of the built-in design, with soft ones before and behind it: rectangles that touch, overlap and have
 /// no area, and one that is PARTIAL too.
-const SOFT_LINES: &[u8] = b"- PLACEMENT + SOFT RECT ( 400 2000 ) ( 0 0 ) RECT ( 400 0 ) ( 600 2000 ) ;
+const SOFT_LINES: &[u8] =
+    b"- PLACEMENT + SOFT RECT ( 400 2000 ) ( 0 0 ) RECT ( 400 0 ) ( 600 2000 ) ;
 - PLACEMENT + SOFT + PARTIAL 0.5 RECT ( 0 0 ) ( 200 200 ) ;
 - PLACEMENT RECT ( 4000 0 ) ( 4400 2000 ) ;
 - PLACEMENT + PARTIAL 0.5 + SOFT RECT ( 1 1 ) ( 2 2 ) ;
