@@ -194,12 +194,12 @@ ground_is_team f t x y g = by (slice_get f.teams t) refl
     by (Some u) is = let within = slice_get_within f.teams t u is in omega (arith, within)
     by None is = let same = (rw is at g).0 in omega (arith, same)
 
-pub moved_boxes : (f : Frame) (r : Row) (boxes sorted : List Placed) → IsPermutation boxes sorted → AreBoxesOf f r boxes → AreBoxesOf f r sorted
+pub moved_boxes : (f : Frame) (r : Row) (boxes sorted : List Placed) → IsPermutation boxes sorted → AreBoxesOf f f.obstacles r boxes → AreBoxesOf f f.obstacles r sorted
 moved_boxes f r boxes sorted moved b = record {
   known = All-permutation (λ p. p.own ≤ length f.teams) boxes sorted moved b.known;
   near = All-permutation (λ p. SharesPoint (row_area f.pitch r) p.rect) boxes sorted moved b.near;
   tell = λ x y covers.
-      let t : Tell f boxes x y = b.tell x y covers in
+      let t : Tell f f.obstacles boxes x y = b.tell x y covers in
       record {
         fence = λ team is_fence. (
           λ ground. met boxes sorted moved team x y ((t.fence team is_fence).0 ground),
@@ -221,9 +221,9 @@ moved_boxes f r boxes sorted moved b = record {
 none_of : {P : Rect → Type 0} (rects : List Rect) → (Any P rects → ⊥) → All (λ o. P o → ⊥) rects
 none_of {P} rects never k d within p = never (has_item P rects (get_or rects k d) (Contains-get_or rects k d within) p)
 
-pub clear_spans_of : (f : Frame) (r : Row) (near obstacles : List Placed) (free : List Span) → AreBoxesOf f r near →
+pub clear_spans_of : (f : Frame) (r : Row) (near obstacles : List Placed) (free : List Span) → AreBoxesOf f f.obstacles r near →
     IsNextGroup near (length f.teams) obstacles →
-    IsFree (across (row_area f.pitch r)) (map (λ p. across p.rect) obstacles) free → AreClear f r free
+    IsFree (across (row_area f.pitch r)) (map (λ p. across p.rect) obstacles) free → AreClear f f.obstacles r free
 clear_spans_of f r near obstacles free b g is_free = record { rising = is_free.rising; exact = exact }
   where
     n : ℕ
@@ -243,7 +243,7 @@ clear_spans_of f r near obstacles free b g is_free = record { rising = is_free.r
     met : (x y : ℤ) → IsMetAt near n x y ↔ Any (λ p. Covers p.rect x y) obstacles
     met = group_met near obstacles n n g number (omega arith)
 
-    exact : (s : Span) → IsFilled s → LiesInOne free s ↔ ((x : ℤ) → Holds s x → IsClearAt f r x)
+    exact : (s : Span) → IsFilled s → LiesInOne free s ↔ ((x : ℤ) → Holds s x → IsClearAt f f.obstacles r x)
     exact s filled =
         let beside = free_is_beside (row_area f.pitch r) obstacles free touch is_free s filled in (
           λ h x holds.
@@ -256,7 +256,7 @@ clear_spans_of f r near obstacles free b g is_free = record { rising = is_free.r
                     All-contains (λ p. Covers p.rect x y → ⊥) obstacles o.1 (e.none y covers) (o.0, o.2, o.3) o.4);
               },
           λ each. beside.1 (λ x holds.
-              let e : IsClearAt f r x = each x holds in
+              let e : IsClearAt f f.obstacles r x = each x holds in
               record {
                 left = e.left;
                 right = e.right;
@@ -267,8 +267,8 @@ clear_spans_of f r near obstacles free b g is_free = record { rising = is_free.r
               }),
         )
 
-pub ground_spans_of : (f : Frame) (r : Row) (near : List Placed) (free : List Span) → AreBoxesOf f r near →
-    IsFree (across (row_area f.pitch r)) (map (λ p. across p.rect) near) free → AreOpen f r (length f.teams) free
+pub ground_spans_of : (f : Frame) (r : Row) (near : List Placed) (free : List Span) → AreBoxesOf f f.obstacles r near →
+    IsFree (across (row_area f.pitch r)) (map (λ p. across p.rect) near) free → AreOpen f f.obstacles r (length f.teams) free
 ground_spans_of f r near free b is_free = record { rising = is_free.rising; exact = exact }
   where
     n : ℕ
@@ -287,7 +287,7 @@ ground_spans_of f r near free b is_free = record { rising = is_free.rising; exac
           | inr same ↦ subst (λ (t : ℕ). InGround f t x y) same there.1
         ]
 
-    none_covers : (x y : ℤ) → Covers (row_area f.pitch r) x y → IsOpen f r n x → All (λ p. Covers p.rect x y → ⊥) near
+    none_covers : (x y : ℤ) → Covers (row_area f.pitch r) x y → IsOpen f f.obstacles r n x → All (λ p. Covers p.rect x y → ⊥) near
     none_covers x y covers o k d within over =
         let p : Placed = get_or near k d in
         let there : Contains near p = Contains-get_or near k d within in
@@ -302,7 +302,7 @@ ground_spans_of f r near free b is_free = record { rising = is_free.rising; exac
               All-contains (λ q. Covers q x y → ⊥) f.obstacles a.1 (o.clear.clear y covers) (a.0, a.2, a.3) a.4
         ]
 
-    exact : (s : Span) → IsFilled s → LiesInOne free s ↔ ((x : ℤ) → Holds s x → IsOpen f r n x)
+    exact : (s : Span) → IsFilled s → LiesInOne free s ↔ ((x : ℤ) → Holds s x → IsOpen f f.obstacles r n x)
     exact s filled =
         let beside = free_is_beside (row_area f.pitch r) near free b.near is_free s filled in (
           λ h x holds.
@@ -318,14 +318,14 @@ ground_spans_of f r near free b is_free = record { rising = is_free.rising; exac
                 ground = λ y covers. ground_of x y covers (e.none y covers);
               },
           λ each. beside.1 (λ x holds.
-              let o : IsOpen f r n x = each x holds in
+              let o : IsOpen f f.obstacles r n x = each x holds in
               record { left = o.clear.left; right = o.clear.right; none = λ y covers. none_covers x y covers o }),
         )
 
-pub fence_spans_of : (f : Frame) (r : Row) (near group : List Placed) (least own : ℕ) (area : Rect) (clear slice covered : List Span) → AreBoxesOf f r near →
-    IsNextGroup near least group → All (λ p. p.own ≡ own) group → least ≤ own → own < length f.teams → AreClear f r clear → area ≡ row_area f.pitch r →
+pub fence_spans_of : (f : Frame) (r : Row) (near group : List Placed) (least own : ℕ) (area : Rect) (clear slice covered : List Span) → AreBoxesOf f f.obstacles r near →
+    IsNextGroup near least group → All (λ p. p.own ≡ own) group → least ≤ own → own < length f.teams → AreClear f f.obstacles r clear → area ≡ row_area f.pitch r →
     slice ≡ clear →
-    IsCoveredOver group area.y1 area.y2 slice covered → AreOpen f r own covered
+    IsCoveredOver group area.y1 area.y2 slice covered → AreOpen f f.obstacles r own covered
 fence_spans_of f r near group least own area clear slice covered b g number from fence cl same_area same_slice over = record
     { rising = co.rising; exact = exact }
   where
@@ -337,7 +337,7 @@ fence_spans_of f r near group least own area clear slice covered b g number from
     met : (x y : ℤ) → IsMetAt near own x y ↔ Any (λ p. Covers p.rect x y) group
     met = group_met near group least own g number from
 
-    exact : (s : Span) → IsFilled s → LiesInOne covered s ↔ ((x : ℤ) → Holds s x → IsOpen f r own x)
+    exact : (s : Span) → IsFilled s → LiesInOne covered s ↔ ((x : ℤ) → Holds s x → IsOpen f f.obstacles r own x)
     exact s filled = (
       λ h x holds.
           let both = (co.exact s filled).0 h in
@@ -348,16 +348,16 @@ fence_spans_of f r near group least own area clear slice covered b g number from
       λ each. (co.exact s filled).1 (
         (cl.exact s filled).1 (λ x holds. (each x holds).clear),
         λ y bottom top x holds.
-            let o : IsOpen f r own x = each x holds in
+            let o : IsOpen f f.obstacles r own x = each x holds in
             let covers : Covers (row_area f.pitch r) x y = record { left = o.clear.left; right = o.clear.right; bottom = bottom; top = top } in
             (met x y).0 (((b.tell x y covers).fence own fence).0 (o.ground y covers)),
       ),
     )
 
 -- a team of which no box lies near the row has no use of it
-pub not_open : (f : Frame) (r : Row) (near group : List Placed) (least u : ℕ) → AreBoxesOf f r near → IsNextGroup near least group →
+pub not_open : (f : Frame) (r : Row) (near group : List Placed) (least u : ℕ) → AreBoxesOf f f.obstacles r near → IsNextGroup near least group →
     All (λ p. u < p.own) group →
-    least ≤ u → u < length f.teams → (x : ℤ) → IsOpen f r u x → ⊥
+    least ≤ u → u < length f.teams → (x : ℤ) → IsOpen f f.obstacles r u x → ⊥
 not_open f r near group least u b g above from fence x o =
     let covers = high_row f r x o.clear.left o.clear.right in
     none_met near group least u g above from x r.y (((b.tell x r.y covers).fence u fence).0 (o.ground r.y covers))
@@ -373,7 +373,7 @@ first_number group one some = one 0 no_box some
 pub above_all : (group : List Placed) (own u : ℕ) → All (λ q. q.own ≡ own) group → u < own → All (λ p. u < p.own) group
 above_all group own u number less k d within = let same = number k d within in omega (arith, same, less)
 
-pub touch_group : (f : Frame) (r : Row) (near group : List Placed) (least : ℕ) (area : Rect) → AreBoxesOf f r near → IsNextGroup near least group →
+pub touch_group : (f : Frame) (r : Row) (near group : List Placed) (least : ℕ) (area : Rect) → AreBoxesOf f f.obstacles r near → IsNextGroup near least group →
     area ≡ row_area f.pitch r →
     All (λ p. SharesPoint area p.rect) group
 touch_group f r near group least area b g same k d within =
@@ -383,5 +383,5 @@ touch_group f r near group least area b g same k d within =
 pub area_high : (f : Frame) (r : Row) (area : Rect) → area ≡ row_area f.pitch r → area.y1 <ℤ area.y2
 area_high f r area same = subst (λ (a : Rect). a.y1 <ℤ a.y2) (sym same) (let up = f.pitch_whole.high in omega (arith, ints, up))
 
-pub open_is_team : (f : Frame) (r : Row) (u : ℕ) (x : ℤ) → IsOpen f r u x → u ≤ length f.teams
+pub open_is_team : (f : Frame) (r : Row) (u : ℕ) (x : ℤ) → IsOpen f f.obstacles r u x → u ≤ length f.teams
 open_is_team f r u x o = ground_is_team f u x r.y (o.ground r.y (high_row f r x o.clear.left o.clear.right))

@@ -141,7 +141,7 @@ in_segment f segments team box stands lies x y covers =
 -- each point of a box that lies in segments is where the team may use a row
 record OpenPoint (f : Frame) (team : ℕ) (x y : ℤ) : Type 0 where
   row : Row
-  there : IsOpen f row team x
+  there : IsOpen f f.obstacles row team x
   covers : Covers (row_area f.pitch row) x y
 
 open_point : (f : Frame) (segments : List Segment) (team : ℕ) (box : Rect) → IsCut f segments → StandsOn f box → box.x1 <ℤ box.x2 →

@@ -8,3 +8,7 @@ pub mod TreeLemmas
 pub mod OneLemmas
 pub mod HeightLemmas
 pub mod StartLemmas
+pub mod OrderLemmas
+pub mod RangeLemmas
+pub mod StripLemmas
+pub mod ExtentLemmas

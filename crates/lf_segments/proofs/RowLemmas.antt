@@ -61,12 +61,12 @@ no_team : (xs : List Segment) (row u : ℕ) (s : Span) → All (λ g. IsOf row u
 no_team xs row u s none a = none a.0 a.1 a.2 (subst (IsOf row u) (sym a.3) a.4.0)
 
 -- where a team may use nothing, no span that holds a number is its
-nothing_open : (f : Frame) (r : Row) (u : ℕ) (s : Span) → ((x : ℤ) → IsOpen f r u x → ⊥) → IsFilled s → ((x : ℤ) → Holds s x → IsOpen f r u x) → ⊥
+nothing_open : (f : Frame) (r : Row) (u : ℕ) (s : Span) → ((x : ℤ) → IsOpen f f.obstacles r u x → ⊥) → IsFilled s → ((x : ℤ) → Holds s x → IsOpen f f.obstacles r u x) → ⊥
 nothing_open f r u s none filled each = none s.lo (each s.lo record { low = omega (arith, ints); high = filled })
 
 -- ---- a team after another
 
-pub row_start : (f : Frame) (number : ℕ) (r : Row) (old : List Segment) → AddsRow f number r 0 old old
+pub row_start : (f : Frame) (number : ℕ) (r : Row) (old : List Segment) → AddsRow f f.obstacles number r 0 old old
 row_start f number r old = record {
   added = [];
   is = sym (append-nil old);
@@ -78,8 +78,8 @@ row_start f number r old = record {
 }
 
 -- teams that may use nothing of the row add nothing
-pub row_skip : (f : Frame) (number : ℕ) (r : Row) (limit more : ℕ) (old new : List Segment) → AddsRow f number r limit old new → limit ≤ more →
-    ((u : ℕ) → limit ≤ u → u < more → (x : ℤ) → IsOpen f r u x → ⊥) → AddsRow f number r more old new
+pub row_skip : (f : Frame) (number : ℕ) (r : Row) (limit more : ℕ) (old new : List Segment) → AddsRow f f.obstacles number r limit old new → limit ≤ more →
+    ((u : ℕ) → limit ≤ u → u < more → (x : ℤ) → IsOpen f f.obstacles r u x → ⊥) → AddsRow f f.obstacles number r more old new
 row_skip f number r limit more old new a order none = record {
   added = a.added;
   is = a.is;
@@ -104,9 +104,9 @@ row_skip f number r limit more old new a order none = record {
     others u from k d within of = let low = (a.cut.known k d within).1.0 in let same = of.of_team in omega (arith, low, same, from)
 
 -- the next team
-pub row_more : (f : Frame) (number : ℕ) (r : Row) (own : ℕ) (old new newer : List Segment) (spans : List Span) → AddsRow f number r own old new →
-    AreOpen f r own spans →
-    newer ≡ new ++ map (segment_of number own) spans → AddsRow f number r (own + 1) old newer
+pub row_more : (f : Frame) (number : ℕ) (r : Row) (own : ℕ) (old new newer : List Segment) (spans : List Span) → AddsRow f f.obstacles number r own old new →
+    AreOpen f f.obstacles r own spans →
+    newer ≡ new ++ map (segment_of number own) spans → AddsRow f f.obstacles number r (own + 1) old newer
 row_more f number r own old new newer spans a open_spans is = record {
   added = a.added ++ more;
   is = is ∙ ap (λ (xs : List Segment). xs ++ more) a.is ∙ append_assoc old a.added more;
@@ -123,7 +123,7 @@ row_more f number r own old new newer spans a open_spans is = record {
             ],
             λ each. any_left (Lies u s) a.added more (old_one.1 each),
           )
-      | inr same ↦ subst (λ (t : ℕ). LiesInSegment (a.added ++ more) number t s ↔ ((x : ℤ) → Holds s x → IsOpen f r t x)) same (
+      | inr same ↦ subst (λ (t : ℕ). LiesInSegment (a.added ++ more) number t s ↔ ((x : ℤ) → Holds s x → IsOpen f f.obstacles r t x)) same (
         λ h. elim (any_parts (Lies own s) a.added more h) [
           | inl early ↦ absurd (no_team a.added number own s others early)
           | inr late ↦ (open_spans.exact s filled).0 (of_map number own spans number own s late).2
@@ -181,10 +181,10 @@ pub record IsCutTo (f : Frame) (n : ℕ) (segments : List Segment) : Type 0 wher
   pub known : All (λ g. (g.row < n) × ((g.team ≤ length f.teams) × IsFilled g.span)) segments
   pub in_order : AllPairs ComesBefore segments
   pub exact : (m : ℕ) (r : Row) (team : ℕ) (s : Span) → m < n → slice_get f.rows m ≡ Some r → IsFilled s →
-      (LiesInSegment segments m team s ↔ ((x : ℤ) → Holds s x → IsOpen f r team x))
+      (LiesInSegment segments m team s ↔ ((x : ℤ) → Holds s x → IsOpen f f.obstacles r team x))
 
-pub cut_more : (f : Frame) (n : ℕ) (r : Row) (old new : List Segment) → slice_get f.rows n ≡ Some r → ((u : ℕ) (x : ℤ) → IsOpen f r u x → u ≤ length f.teams) →
-    IsCutTo f n old → AddsRow f n r (length f.teams + 1) old new → IsCutTo f (n + 1) new
+pub cut_more : (f : Frame) (n : ℕ) (r : Row) (old new : List Segment) → slice_get f.rows n ≡ Some r → ((u : ℕ) (x : ℤ) → IsOpen f f.obstacles r u x → u ≤ length f.teams) →
+    IsCutTo f n old → AddsRow f f.obstacles n r (length f.teams + 1) old new → IsCutTo f (n + 1) new
 cut_more f n r old new is_row is_team c a = subst (IsCutTo f (n + 1)) (sym a.is) record {
   known = All-append Known old a.added (All-weaker Knew Known (λ g k. (let low = k.0 in omega (arith, low), k.1)) old c.known)
       (All-weaker Added Known (λ g k. (let same = k.0 in omega (arith, same), (let low = k.1.0 in omega (arith, low), k.1.1))) a.added a.cut.known);
@@ -228,7 +228,7 @@ cut_more f n r old new is_row is_team c a = subst (IsCutTo f (n + 1)) (sym a.is)
     team_or : (u : ℕ) → (u < length f.teams + 1) ⊎ (length f.teams < u)
     team_or u = grind arith
 
-    of_added : (u : ℕ) (s : Span) → IsFilled s → (LiesInSegment a.added n u s ↔ ((x : ℤ) → Holds s x → IsOpen f r u x))
+    of_added : (u : ℕ) (s : Span) → IsFilled s → (LiesInSegment a.added n u s ↔ ((x : ℤ) → Holds s x → IsOpen f f.obstacles r u x))
     of_added u s filled = elim (team_or u) [
       | inl low ↦ a.cut.exact u s low filled
       | inr high ↦ (
@@ -238,7 +238,7 @@ cut_more f n r old new is_row is_team c a = subst (IsCutTo f (n + 1)) (sym a.is)
       )
     ]
 
-    here : (u : ℕ) (s : Span) → IsFilled s → (LiesInSegment (old ++ a.added) n u s ↔ ((x : ℤ) → Holds s x → IsOpen f r u x))
+    here : (u : ℕ) (s : Span) → IsFilled s → (LiesInSegment (old ++ a.added) n u s ↔ ((x : ℤ) → Holds s x → IsOpen f f.obstacles r u x))
     here u s filled = (
       λ h. elim (any_parts (Lies n u s) old a.added h) [
         | inl early ↦ absurd (no_team old n u s (not_old u) early)
@@ -248,7 +248,7 @@ cut_more f n r old new is_row is_team c a = subst (IsCutTo f (n + 1)) (sym a.is)
     )
 
     exact : (m : ℕ) (q : Row) (team : ℕ) (s : Span) → m < n + 1 → slice_get f.rows m ≡ Some q → IsFilled s →
-        (LiesInSegment (old ++ a.added) m team s ↔ ((x : ℤ) → Holds s x → IsOpen f q team x))
+        (LiesInSegment (old ++ a.added) m team s ↔ ((x : ℤ) → Holds s x → IsOpen f f.obstacles q team x))
     exact m q team s low is filled = elim (side m low) [
       | inl below ↦
           let old_one = c.exact m q team s below is filled in (
@@ -260,8 +260,8 @@ cut_more f n r old new is_row is_team c a = subst (IsCutTo f (n + 1)) (sym a.is)
           )
       | inr same ↦
           let rows : r ≡ q = some_same (sym is_row ∙ ap (λ (k : ℕ). slice_get f.rows k) same ∙ is) in
-          subst (λ (v : Row). LiesInSegment (old ++ a.added) m team s ↔ ((x : ℤ) → Holds s x → IsOpen f v team x)) rows
-          (subst (λ (k : ℕ). LiesInSegment (old ++ a.added) k team s ↔ ((x : ℤ) → Holds s x → IsOpen f r team x)) same (here team s filled))
+          subst (λ (v : Row). LiesInSegment (old ++ a.added) m team s ↔ ((x : ℤ) → Holds s x → IsOpen f f.obstacles v team x)) rows
+          (subst (λ (k : ℕ). LiesInSegment (old ++ a.added) k team s ↔ ((x : ℤ) → Holds s x → IsOpen f f.obstacles r team x)) same (here team s filled))
     ]
       where
         some_same : {a b : Row} → Some a ≡ Some b → a ≡ b

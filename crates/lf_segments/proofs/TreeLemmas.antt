@@ -137,7 +137,7 @@ obstacle_of_met f x y (k, p, within, at, (own, covers)) = elim (of_frame f p (k,
 
 pub boxes_near : (f : Frame) (r : Row) (boxes tree near : List Placed) (rect : Rect) → IsPermutation (frame_boxes f) boxes → tree ≡ boxes →
     rect ≡ row_area f.pitch r →
-    AreNear tree rect near → AreBoxesOf f r near
+    AreNear tree rect near → AreBoxesOf f f.obstacles r near
 boxes_near f r boxes tree near rect moved same_tree same_rect found = record {
   known = λ k d within. known_of f (get_or near k d) (back (get_or near k d) (only_near boxes area near are k d within).0);
   near = are.near;

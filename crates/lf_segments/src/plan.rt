@@ -4,8 +4,7 @@ ghost use Rattle.std.specs.Prelude.{◌≡◌};
 ghost use Rattle.lf_segments.specs.Grounds.{IsGroundOf};
 
 use crate::ground::Ground;
-use lf_floorplan::{Frame, Near};
-use lf_units::Rect;
+use lf_floorplan::Frame;
 use std::marker::Model;
 
 /// A frame with its look-ups. A contract sees the frame.
@@ -33,25 +32,5 @@ impl<'a> Plan<'a> {
         ensures { result ≡ frame.now }
     {
         Plan { frame, index }
-    }
-}
-
-impl<'a> Near for Plan<'a> {
-    ghost of = { λ p. p };
-
-    fn frame(&self) -> &Frame {
-        self.frame
-    }
-
-    fn row_at(&self, y: i64, x: i64) -> Option<usize> {
-        todo!()
-    }
-
-    fn keeps_ground(&self, team: usize, rect: &Rect) -> bool {
-        todo!()
-    }
-
-    fn keeps_clear(&self, team: usize, rect: &Rect) -> bool {
-        todo!()
     }
 }

@@ -78,9 +78,9 @@ fn clear_spans(
     near: &[Placed],
 ) -> Result<Vec<Span>, AllocError>
     requires heeded { IsHeeded frame.now.pitch row.now }
-    requires boxes { AreBoxesOf frame.now row.now near.now }
+    requires boxes { AreBoxesOf frame.now frame.now.obstacles row.now near.now }
     requires sorted { AreSorted near.now }
-    ensures { IfOk result (λ spans. AreClear frame.now row.now spans.items) }
+    ensures { IfOk result (λ spans. AreClear frame.now frame.now.obstacles row.now spans.items) }
 {
     let obstacles = next_group(near, ground_number(frame));
     free_beside(alloc, &row.area(&frame.pitch), obstacles)
@@ -94,8 +94,8 @@ fn ground_spans(
     near: &[Placed],
 ) -> Result<Vec<Span>, AllocError>
     requires heeded { IsHeeded frame.now.pitch row.now }
-    requires boxes { AreBoxesOf frame.now row.now near.now }
-    ensures { IfOk result (λ spans. AreOpen frame.now row.now (length frame.now.teams) spans.items) }
+    requires boxes { AreBoxesOf frame.now frame.now.obstacles row.now near.now }
+    ensures { IfOk result (λ spans. AreOpen frame.now frame.now.obstacles row.now (length frame.now.teams) spans.items) }
 {
     free_beside(alloc, &row.area(&frame.pitch), near)
 }
@@ -110,9 +110,9 @@ fn push_fences(
     segments: &mut Vec<Segment>,
 ) -> Result<(), AllocError>
     requires heeded { IsHeeded frame.now.pitch row.now }
-    requires boxes { AreBoxesOf frame.now row.now near.now }
+    requires boxes { AreBoxesOf frame.now frame.now.obstacles row.now near.now }
     requires sorted { AreSorted near.now }
-    ensures { OnOk result (AddsRow frame.now number row.now (length frame.now.teams) segments.old.items segments.new.items) }
+    ensures { OnOk result (AddsRow frame.now frame.now.obstacles number row.now (length frame.now.teams) segments.old.items segments.new.items) }
 {
     let ground = ground_number(frame);
     let area = row.area(&frame.pitch);
@@ -153,8 +153,8 @@ pub(crate) fn push_row(
     segments: &mut Vec<Segment>,
 ) -> Result<(), AllocError>
     requires heeded { IsHeeded frame.now.pitch row.now }
-    requires boxes { AreBoxesOf frame.now row.now near.now.items }
-    ensures { OnOk result (AddsRow frame.now number row.now (length frame.now.teams + 1) segments.old.items segments.new.items) }
+    requires boxes { AreBoxesOf frame.now frame.now.obstacles row.now near.now.items }
+    ensures { OnOk result (AddsRow frame.now frame.now.obstacles number row.now (length frame.now.teams + 1) segments.old.items segments.new.items) }
 {
     sort_boxes(near);
     push_fences(alloc, frame, number, row, near.as_slice(), segments)?;

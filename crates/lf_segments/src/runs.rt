@@ -5,10 +5,10 @@ ghost use Rattle.std.specs.List.{HoldsAt};
 ghost use Rattle.std.specs.List.Sorted.{IsNonDecreasingBy};
 ghost use Rattle.lf_spans.specs.Spans.{IsFilled};
 ghost use Rattle.lf_segments.specs.declared.segment.Segment.{Segment};
-ghost use Rattle.lf_segments.specs.RowStarts.{AreRowStarts, rows_of};
+ghost use Rattle.lf_segments.specs.RowStarts.{AreRowStarts, IsRangeOf, rows_of};
 ghost use Rattle.lf_segments.specs.Segments.{ComesBefore, IsAt, IsOf, IsRunFrom};
 
-use crate::row_starts::RowStarts;
+use crate::row_starts::{RowRange, RowStarts};
 use crate::segment::Segment;
 
 /// Consecutive segments of a list, and the position of the first of them.
@@ -16,6 +16,14 @@ use crate::segment::Segment;
 pub(crate) struct Run<'a> {
     pub(crate) start: usize,
     pub(crate) segments: &'a [Segment],
+}
+
+/// The positions of the segments of a row, by the starts of rows.
+pub(crate) fn range_in(segments: &[Segment], starts: &RowStarts, row: usize) -> RowRange
+    requires { AreRowStarts (rows_of segments.now) starts.now }
+    ensures { IsRangeOf (rows_of segments.now) row result.start result.end }
+{
+    starts.of_row(row, segments.len())
 }
 
 /// The segments of a row, by the starts of rows.

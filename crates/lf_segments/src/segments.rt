@@ -2,12 +2,13 @@
 
 ghost use Rattle.std.specs.Prelude.{◌≡◌, All, IfOk, MatchOption, length};
 ghost use Rattle.std.specs.List.{HoldsAt};
+ghost use Rattle.lf_segments.specs.RowStarts.{IsRangeOf, rows_of};
 ghost use Rattle.lf_segments.specs.Segments.{IsAt, IsCut, IsRunOf};
 
 use crate::boxes::boxes_of_frame;
 use crate::row::push_row;
-use crate::row_starts::RowStarts;
-use crate::runs::{place_in, run_of};
+use crate::row_starts::{RowRange, RowStarts};
+use crate::runs::{place_in, range_in, run_of};
 use crate::segment::Segment;
 use lf_floorplan::Frame;
 use lf_rtree::RTree;
@@ -82,6 +83,13 @@ impl Segments {
         ensures { IsRunOf self.now row team result.now }
     {
         run_of(&self.list, &self.starts, row, team).segments
+    }
+
+    /// The positions in the list of the segments of the row; an empty range if there are none. One look-up.
+    pub(crate) fn range_of(&self, row: usize) -> RowRange
+        ensures { IsRangeOf (rows_of self.now) row result.start result.end }
+    {
+        range_in(&self.list, &self.starts, row)
     }
 
     /// The position in the list of the segment of the row and the team that holds x; none if there is none. It is found

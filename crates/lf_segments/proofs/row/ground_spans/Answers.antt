@@ -10,7 +10,7 @@ pub returns : goal.returns
 returns c =
     let near = c.args.near.now in
     IfOk-weaker c.free_beside.result (λ free. IsFree (across c.area.result) (map (λ p. across p.rect) near) free.items)
-    (λ free. AreOpen c.args.frame.now c.args.row.now (length c.args.frame.now.teams) free.items)
+    (λ free. AreOpen c.args.frame.now c.args.frame.now.obstacles c.args.row.now (length c.args.frame.now.teams) free.items)
     (λ free f.
     ground_spans_of c.args.frame.now c.args.row.now near free.items c.requires.boxes
     (subst (λ (a : Rect). IsFree (across a) (map (λ p. across p.rect) near) free.items) c.area.ensures f))

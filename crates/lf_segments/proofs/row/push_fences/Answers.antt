@@ -64,4 +64,4 @@ loop-team-preserved c =
 pub returns : goal.returns
 returns c =
     let same : c.loop-team.team ≡ length c.args.frame.now.teams = omega arith in
-    subst (λ (n : ℕ). AddsRow c.args.frame.now c.args.number c.args.row.now n c.args.segments.now.items c.loop-team.segments.items) same c.loop-team.invariant.1
+    subst (λ (n : ℕ). AddsRow c.args.frame.now c.args.frame.now.obstacles c.args.number c.args.row.now n c.args.segments.now.items c.loop-team.segments.items) same c.loop-team.invariant.1

@@ -7,12 +7,12 @@ use Rattle.lf_segments.proofs.row.push_row.Goals as goal
 
 pub push_fences-requires-clause-boxes : goal.push_fences-requires-clause-boxes
 push_fences-requires-clause-boxes c =
-    subst (AreBoxesOf c.args.frame.now c.args.row.now) (sym c.as_slice.ensures.value)
+    subst (AreBoxesOf c.args.frame.now c.args.frame.now.obstacles c.args.row.now) (sym c.as_slice.ensures.value)
     (moved_boxes c.args.frame.now c.args.row.now c.args.near.now.items c.sort_boxes.new.boxes.items c.sort_boxes.ensures.moved c.requires.boxes)
 
 pub ground_spans-requires-clause-boxes : goal.ground_spans-requires-clause-boxes
 ground_spans-requires-clause-boxes c =
-    subst (AreBoxesOf c.args.frame.now c.args.row.now) (sym c.as_slice-2.ensures.value)
+    subst (AreBoxesOf c.args.frame.now c.args.frame.now.obstacles c.args.row.now) (sym c.as_slice-2.ensures.value)
     (moved_boxes c.args.frame.now c.args.row.now c.args.near.now.items c.sort_boxes.new.boxes.items c.sort_boxes.ensures.moved c.requires.boxes)
 
 pub returns : goal.returns

@@ -1,0 +1,137 @@
+//! The strips of segments, and how they are found.
+
+ghost use Rattle.std.specs.Prelude.{◌≡◌, ◌<◌, ◌≤◌, ◌<ℤ◌, ◌≤ℤ◌, ℕ, All, AllPairs, IfOk, length, map, negsuc, pos, true, false};
+ghost use Rattle.lf_segments.specs.declared.strip.Strip.{Strip};
+ghost use Rattle.lf_segments.specs.RowStarts.{rows_of};
+ghost use Rattle.lf_segments.specs.Strips.{AreNear, AreRowsNear, LiesBefore, is_begun, is_earlier, is_ended, row_y, rows_in, strip_of};
+
+use crate::rows_by_y::{RowEntry, RowsByY};
+use crate::segment::Segment;
+use crate::segments::Segments;
+use crate::strip::Strip;
+use lf_floorplan::Frame;
+use lf_units::Rect;
+use std::alloc::{AllocError, Global};
+
+/// No strip lies lower: the least coordinate of a DEF text is above this.
+const LOWEST: i64 = -2147483648;
+
+/// A run of numbers of strips, from `start` on and below `end`.
+#[derive(Clone, Copy, Debug, PartialEq, Eq)]
+pub struct NearStrips {
+    pub start: usize,
+    pub end: usize,
+}
+
+/// The y of the row of that number.
+fn level(frame: &Frame, row: usize) -> i64
+    requires { row < length frame.now.rows }
+    ensures is { result ≡ row_y frame.now row }
+    ensures low { negsuc 2147483647 <ℤ result }
+    ensures high { result ≤ℤ pos 2147483647 }
+{
+    i64::from(frame.rows.as_slice()[row].y)
+}
+
+/// The strip of a segment.
+fn strip_at(frame: &Frame, segment: &Segment) -> Strip
+    requires { segment.now.row < length frame.now.rows }
+    ensures { result ≡ strip_of frame.now segment.now }
+{
+    let y = level(frame, segment.row);
+    Strip {
+        row: segment.row,
+        team: segment.team,
+        area: Rect {
+            x1: segment.span.lo,
+            y1: y,
+            x2: segment.span.hi,
+            y2: y + frame.pitch.y,
+        },
+    }
+}
+
+/// The strips of segments, in their order.
+pub(crate) fn strips_of(
+    alloc: Global,
+    frame: &Frame,
+    segments: &[Segment],
+) -> Result<Vec<Strip>, AllocError>
+    requires { All (λ g. g.row < length frame.now.rows) segments.now }
+    ensures { IfOk result (λ strips. strips.items ≡ map (strip_of frame.now) segments.now) }
+{
+    let mut strips = Vec::with_capacity(alloc, segments.len())?;
+    for segment in segments {
+        strips.push(strip_at(frame, segment))?;
+    }
+    Ok(strips)
+}
+
+/// Whether the strip is of an earlier row or team; in the same row and team it is the given answer.
+fn is_before(strip: &Strip, row: usize, team: usize, left: bool) -> bool
+    ensures { result ≡ is_earlier row team left strip.now }
+{
+    if strip.row != row {
+        return strip.row < row;
+    }
+    if strip.team != team {
+        return strip.team < team;
+    }
+    left
+}
+
+/// How many strips are of an earlier row or team, or of this row and team and end at x or before it.
+fn count_ended(strips: &[Strip], row: usize, team: usize, x: &i64) -> usize
+    requires order { AllPairs LiesBefore strips.now }
+    requires wide { All (λ g. g.area.x1 <ℤ g.area.x2) strips.now }
+    ensures within { result ≤ length strips.now }
+    ensures ended { (k : ℕ) → (d : Strip) → k < result → is_ended strips.now row team x.now k d ≡ true }
+    ensures rest { (k : ℕ) → (d : Strip) → result ≤ k → k < length strips.now → is_ended strips.now row team x.now k d ≡ false }
+{
+    strips.partition_point(|strip| is_before(strip, row, team, strip.area.x2 <= *x))
+}
+
+/// How many strips are of an earlier row or team, or of this row and team and begin before x.
+fn count_begun(strips: &[Strip], row: usize, team: usize, x: &i64) -> usize
+    requires order { AllPairs LiesBefore strips.now }
+    requires wide { All (λ g. g.area.x1 <ℤ g.area.x2) strips.now }
+    ensures within { result ≤ length strips.now }
+    ensures begun { (k : ℕ) → (d : Strip) → k < result → is_begun strips.now row team x.now k d ≡ true }
+    ensures rest { (k : ℕ) → (d : Strip) → result ≤ k → k < length strips.now → is_begun strips.now row team x.now k d ≡ false }
+{
+    strips.partition_point(|strip| is_before(strip, row, team, strip.area.x1 < *x))
+}
+
+/// The numbers of the strips of a row and a team that overlap a range of x. They are found by a
+/// look-up of the row among the segments of the strips, and by bisection among the strips of the row.
+pub(crate) fn near_strips(
+    strips: &[Strip],
+    segments: &Segments,
+    row: usize,
+    team: usize,
+    lo: &i64,
+    hi: &i64,
+) -> NearStrips
+    requires order { AllPairs LiesBefore strips.now }
+    requires wide { All (λ g. g.area.x1 <ℤ g.area.x2) strips.now }
+    requires rows { rows_in strips.now ≡ rows_of segments.now }
+    ensures { AreNear strips.now row team lo.now hi.now result.start result.end }
+{
+    let range = segments.range_of(row);
+    let in_row = &strips[range.start..range.end];
+    NearStrips {
+        start: range.start + count_ended(in_row, row, team, lo),
+        end: range.start + count_begun(in_row, row, team, hi),
+    }
+}
+
+/// The entries of the rows of this height whose strips may share a point with the rectangle. They are
+/// found by bisection.
+pub(crate) fn rows_near<'a>(rows: &'a RowsByY, height: &i64, rect: &Rect) -> &'a [RowEntry]
+    requires high { pos 0 <ℤ height.now }
+    requires small { height.now ≤ℤ pos 20000000000 }
+    ensures { AreRowsNear rows.now height.now rect.now result.now }
+{
+    let from = rect.y1.max(LOWEST) - *height;
+    rows.between(from, rect.y2)
+}
