@@ -14,19 +14,19 @@ use Rattle.lf_floorplan.specs.declared.loaded.Cell.{Cell}
 use Rattle.lf_floorplan.specs.declared.place.Place.{Place}
 use Rattle.lf_floorplan.specs.Bounds.{IsName}
 use Rattle.lf_floorplan.specs.Design.{IsCell, CellIsSized}
-use Rattle.lf_rules.specs.declared.rule.Rule.TheVariants.{Height, Row as RowRule, Stand, Orient as OrientRule, Rail as RailRule, Fence, Obstacle, Overlap}
 use Rattle.lf_rules.specs.declared.rule.Broken.{Broken}
 use Rattle.lf_rules.specs.declared.report.Listed.{Listed}
 use Rattle.lf_rules.specs.declared.report.Violation.{Violation}
 use Rattle.lf_rules.specs.declared.report.Report.{Report}
 use Rattle.lf_rules.specs.Legality.{Trial, IsTeamLegal}
 use Rattle.lf_rules.specs.Legalizer.{Legalizer, IsVerdict}
-use Rattle.lf_rules.specs.Choice.{Spot, spot_of, Lifted, IsLegalAt}
+use Rattle.lf_rules.specs.Choice.{Spot, spot_of, Lifted, IsLegalAt, trial_at}
 use Rattle.lf_rules.specs.Team.{Member, box_in, lifted_from}
-use Rattle.lf_rules.specs.FullyLegal.{Standing, standing_at, KeepsRules, StandApart, IsFullyLegal}
+use Rattle.lf_rules.specs.FullyLegal.{Standing, alone_at, standing_at, KeepsRules, StandApart, IsFullyLegal}
 use Rattle.lf_rules.specs.Reports.{IsTold, IsClean}
 use Rattle.lf_reports.specs.Reports.{named, member_of, standing_of, name_among, listed_at, trial_among, broken_among, violation_of, violation_by, violation_at, violations_in, report_of, IsListed}
 use Rattle.lf_rules.proofs.BesideLemmas.{beside_hold}
+use Rattle.lf_rules.proofs.LegalParts.{frame_beside, legal_by_parts}
 use Rattle.lf_rules.proofs.TidyLemmas.{turn, Clear, clear_of_legal}
 use Rattle.lf_rules.proofs.DesignLemmas.{keeps}
 
@@ -212,14 +212,12 @@ to_legal l f cells all clean = record {
 -- a cell that keeps rules 1 to 7 and is clear of the others is legal
 legal_of : (f : Frame) (cells : Cells) (own : ℕ) (c : Listed (List ℕ)) (p : Spot) → KeepsRules f (standing_of c) p →
     Clear f (map member_of cells) own (box_in f c.mac p) → IsLegalAt (lifted_among f cells own c) p
-legal_of f cells own c p kept clear Height = kept Height (omega arith)
-legal_of f cells own c p kept clear RowRule = kept RowRule (omega arith)
-legal_of f cells own c p kept clear Stand = kept Stand (omega arith)
-legal_of f cells own c p kept clear OrientRule = kept OrientRule (omega arith)
-legal_of f cells own c p kept clear RailRule = kept RailRule (omega arith)
-legal_of f cells own c p kept clear Fence = kept Fence (omega arith)
-legal_of f cells own c p kept clear Obstacle = kept Obstacle (omega arith)
-legal_of f cells own c p kept clear Overlap = beside_hold (λ rect. SharesPoint (box_in f c.mac p) rect → ⊥) f (map member_of cells) own clear
+legal_of f cells own c p kept clear =
+    let lifted = lifted_among f cells own c in
+    (legal_by_parts (trial_at lifted p)).1 (
+      frame_beside (alone_at f (standing_of c) p) lifted.others kept,
+      beside_hold (λ rect. SharesPoint (box_in f c.mac p) rect → ⊥) f (map member_of cells) own clear,
+    )
 
 -- each cell of a fully legal design is clear of the others
 legal_clear : (f : Frame) (cells : Cells) → IsFullyLegal f (map standing_of cells) → (own : ℕ) (c : Listed (List ℕ)) (p : Spot) → slice_get cells own ≡ Some c →

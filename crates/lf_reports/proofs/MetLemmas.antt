@@ -14,13 +14,14 @@ use Rattle.lf_rules.specs.Choice.{Spot}
 use Rattle.lf_floorplan.specs.Ground.{StaysInGround, IsClear}
 use Rattle.lf_rules.specs.declared.rule.Rule.{Rule}
 use Rattle.lf_floorplan.specs.Standing.{StandsOn}
-use Rattle.lf_rules.specs.declared.rule.Rule.TheVariants.{Fence, Obstacle, Overlap}
-use Rattle.lf_rules.specs.Legality.{Trial, Holds, IsFirstMet, IsFirstBroken, box_of, number_of}
+use Rattle.lf_rules.specs.declared.rule.Rule.TheVariants.{Overlap}
+use Rattle.lf_rules.specs.Legality.{Trial, IsFirstMet, IsFirstBroken, box_of}
 use Rattle.lf_rules.specs.Legalizer.{IsVerdict}
 use Rattle.lf_reports.specs.Nearby.{IsFrameVerdict, IsRowVerdict, IsAreaVerdict}
 use Rattle.lf_rules.specs.Team.{Member, box_in, with_box, boxes_from, boxes_beside}
 use Rattle.lf_rules.proofs.BesideLemmas.{filtered_hold}
-use Rattle.lf_rules.proofs.RuleLemmas.{OnRows, by_number, rows_held, fence_at, fence_not, obstacle_at, obstacle_not, overlap_not, all_at}
+use Rattle.lf_rules.proofs.LegalParts.{KeepsFrame}
+use Rattle.lf_rules.proofs.RuleLemmas.{OnRows, all_at, fence_not, frame_at, obstacle_not, overlap_not, rows_stand}
 
 -- each later box has a greater number
 abbrev Rise : List Placed → Type 0
@@ -151,24 +152,15 @@ pub met_verdict : (t : Trial) (cells : List Member) (own : ℕ) (tree : List Pla
     MatchOption met (IsNoneMet tree box own) (IsLeastMet tree box own) → IsVerdict t (option_map (λ other. record { rule = Overlap; other = Some other }) met)
 met_verdict t cells own tree box frame_said met beside at none said same found = by met found
   where
-    holds : (r : Rule) → number_of r ≤ 7 → Holds t r
+    holds : KeepsFrame t
     holds = subst (IsFrameVerdict t) none said
-
-    held : OnRows t
-    held = rows_held t (λ r below. holds r (omega (arith, below)))
-
-    stays : StaysInGround t.frame t.team box
-    stays = subst (StaysInGround t.frame t.team) (sym at) (holds Fence (omega arith))
-
-    clear : IsClear t.frame box
-    clear = subst (IsClear t.frame) (sym at) (holds Obstacle (omega arith))
 
     by : (m : Option ℕ) → MatchOption m (IsNoneMet tree box own) (IsLeastMet tree box own) →
         IsVerdict t (option_map (λ other. record { rule = Overlap; other = Some other }) m)
     by None none_met =
-        all_at t box at held stays clear (subst (All (λ p. SharesPoint box p.rect → ⊥)) (sym beside) (none_beside t.frame cells tree box own same none_met))
+        all_at t box at holds (subst (All (λ p. SharesPoint box p.rect → ⊥)) (sym beside) (none_beside t.frame cells tree box own same none_met))
     by (Some other) least =
-        overlap_not t box other at held stays clear
+        overlap_not t box other at holds
         (subst (λ (boxes : List Placed). IsFirstMet box boxes other) (sym beside) (first_beside t.frame cells tree box own other same least))
 
 -- ---- the rules but overlap
@@ -177,19 +169,12 @@ met_verdict t cells own tree box frame_said met beside at none said same found =
 areas_broken : (t : Trial) (box : Rect) (rows areas : Option Rule) (rule : Rule) → box ≡ box_of t → rows ≡ None → areas ≡ Some rule → IsRowVerdict t rows →
     IsAreaVerdict t.frame t.team box areas → IsFirstBroken t record { rule = rule; other = None }
 areas_broken t box rows areas rule at no_rows is rows_said said =
-    let held : OnRows t = rows_held t (subst (IsRowVerdict t) no_rows rows_said) in
+    let held : OnRows t = subst (IsRowVerdict t) no_rows rows_said in
     let told : IsAreaVerdict t.frame t.team box (Some rule) = subst (IsAreaVerdict t.frame t.team box) is said in
     elim told [
       | inl fence ↦ subst (λ (r : Rule). IsFirstBroken t record { rule = r; other = None }) (sym fence.0) (fence_not t box at held fence.1)
       | inr obstacle ↦ subst (λ (r : Rule). IsFirstBroken t record { rule = r; other = None }) (sym obstacle.0) (obstacle_not t box at held obstacle.1 obstacle.2)
     ]
-
--- those on rows hold, and those on ground and obstacles
-but_overlap : (t : Trial) (box : Rect) → box ≡ box_of t → OnRows t → StaysInGround t.frame t.team box → IsClear t.frame box →
-    (r : Rule) → number_of r ≤ 7 → Holds t r
-but_overlap t box at held stays clear r below =
-    by_number t 8 (λ _. held.height) (λ _. held.row) (λ _. held.stand) (λ _. held.orient) (λ _. held.rail)
-    (λ _. fence_at t box at stays) (λ _. obstacle_at t box at clear) (λ l. absurd (omega (arith, l))) r (omega (arith, below))
 
 -- the rule on rows that is the first broken
 pub rows_decide : (t : Trial) (verdict : Option Rule) (rule : Rule) → verdict ≡ Some rule → IsRowVerdict t verdict → IsFrameVerdict t (Some rule)
@@ -204,11 +189,8 @@ areas_decide t box rows areas at no_rows rows_said said = by areas refl
     by (Some rule) is = areas_broken t box rows areas rule at no_rows is rows_said said
     by None is =
         let both : StaysInGround t.frame t.team box × IsClear t.frame box = subst (IsAreaVerdict t.frame t.team box) is said in
-        but_overlap t box at (rows_held t (subst (IsRowVerdict t) no_rows rows_said)) both.0 both.1
+        frame_at t box at (subst (IsRowVerdict t) no_rows rows_said) both.0 both.1
 
 -- where the rules on rows hold, the box stands on rows
 pub stands_on : (t : Trial) (box : Rect) (rows : Option Rule) → box ≡ box_of t → rows ≡ None → IsRowVerdict t rows → StandsOn t.frame box
-stands_on t box rows at no_rows said = subst (StandsOn t.frame) (sym at) (record { height = held.height; row = held.row; stand = held.stand })
-  where
-    held : OnRows t
-    held = rows_held t (subst (IsRowVerdict t) no_rows said)
+stands_on t box rows at no_rows said = subst (StandsOn t.frame) (sym at) (rows_stand t (subst (IsRowVerdict t) no_rows said))

@@ -6,10 +6,11 @@ use Rattle.std.proofs.lemmas.List.Elements.{All-nil, All-cons}
 use Rattle.std.proofs.lemmas.List.Kept.{AllPairs-cons}
 use Rattle.lf_floorplan.specs.declared.frame.Frame.{Frame}
 use Rattle.lf_floorplan.proofs.GroundLemmas.{teams_apart}
-use Rattle.lf_rules.specs.declared.rule.Rule.TheVariants.{Height, Row as RowRule, Stand, Orient as OrientRule, Rail as RailRule, Fence, Obstacle, Overlap}
-use Rattle.lf_rules.specs.Choice.{Spot, IsLegalAt}
+use Rattle.lf_rules.specs.declared.rule.Rule.TheVariants.{Fence}
+use Rattle.lf_rules.specs.Choice.{Spot, IsLegalAt, trial_at}
 use Rattle.lf_rules.specs.Team.{Member, box_in, lifted_from, StandsLegal}
 use Rattle.lf_rules.specs.FullyLegal.{Standing, KeepsRules, StandApart, IsFullyLegal, standing_in, with_team, standing_from}
+use Rattle.lf_rules.proofs.LegalParts.{frame_beside, legal_by_parts}
 use Rattle.lf_rules.proofs.TidyLemmas.{clear_of_legal}
 
 -- what holds of each cell of the team and of the others holds of all
@@ -40,14 +41,9 @@ team_pairs R team (m ∷ cells) rest within beyond pairs =
 
 -- a team-legal cell keeps rules 1 to 7 alone
 pub keeps : (f : Frame) (team : ℕ) (cells : List Member) (own : ℕ) (m : Member) (p : Spot) → IsLegalAt (lifted_from f team cells own m.mac) p → KeepsRules f (standing_in team m) p
-keeps f team cells own m p legal Height few = legal Height
-keeps f team cells own m p legal RowRule few = legal RowRule
-keeps f team cells own m p legal Stand few = legal Stand
-keeps f team cells own m p legal OrientRule few = legal OrientRule
-keeps f team cells own m p legal RailRule few = legal RailRule
-keeps f team cells own m p legal Fence few = legal Fence
-keeps f team cells own m p legal Obstacle few = legal Obstacle
-keeps f team cells own m p legal Overlap few = absurd (omega arith)
+keeps f team cells own m p legal =
+    let t = trial_at (lifted_from f team cells own m.mac) p in
+    frame_beside t [] ((legal_by_parts t).0 legal).0
 
 -- a cell that stands legal is placed, and legal at its place
 placed_there : (P : Spot → Type 0) (place : Option Spot) → MatchOption place ⊥ P → IsSome place

@@ -1,5 +1,6 @@
 pub mod GroundLemmas
 pub mod CoverLemmas
+pub mod LegalParts
 pub mod RuleLemmas
 pub mod Deciding
 pub mod Verdicts

@@ -8,7 +8,6 @@ use Rattle.lf_units.specs.declared.area.Point.{Point}
 use Rattle.lf_units.specs.Area.{SharesPoint}
 use Rattle.lf_floorplan.specs.declared.frame.Frame.{Frame}
 use Rattle.lf_floorplan.specs.Boxes.{IsSized, macro_of}
-use Rattle.lf_rules.specs.declared.rule.Rule.TheVariants.{Height, Row as RowRule, Stand, Orient as OrientRule, Rail as RailRule, Fence, Obstacle, Overlap}
 use Rattle.lf_rtree.specs.declared.placed.Placed.{Placed}
 use Rattle.lf_rules.specs.declared.rule.Broken.{Broken}
 use Rattle.lf_rules.specs.Legality.{IsApart}
@@ -17,18 +16,14 @@ use Rattle.lf_rules.specs.Legalizer.{Legalizer, IsVerdict}
 use Rattle.lf_rules.specs.Team.{Member, box_in, boxes_beside, lifted_from, StandsLegal}
 use Rattle.lf_rules.specs.Tidy.{Tidied, Going, Stuck, target_of, sent_to, tidied_to, tidied_own, tidy_cell, tidied_from, tidied, point_of}
 use Rattle.lf_rules.proofs.BesideLemmas.{beside_hold, beside_each}
+use Rattle.lf_rules.proofs.LegalParts.{beside, frame_beside, legal_by_parts}
 
 -- rules 1 to 7 do not ask for the other cells
 beside_others : (c : Lifted) (others : List Placed) (p : Spot) → IsLegalAt c p →
     IsApart (trial_at (record c { others = others }) p) → IsLegalAt (record c { others = others }) p
-beside_others c others p legal apart Height = legal Height
-beside_others c others p legal apart RowRule = legal RowRule
-beside_others c others p legal apart Stand = legal Stand
-beside_others c others p legal apart OrientRule = legal OrientRule
-beside_others c others p legal apart RailRule = legal RailRule
-beside_others c others p legal apart Fence = legal Fence
-beside_others c others p legal apart Obstacle = legal Obstacle
-beside_others c others p legal apart Overlap = apart
+beside_others c others p legal apart =
+    let parts = (legal_by_parts (trial_at c p)).0 legal in
+    (legal_by_parts (beside (trial_at c p) others)).1 (frame_beside (trial_at c p) others parts.0, apart)
 
 pub turn : (a b : Rect) → SharesPoint a b → SharesPoint b a
 turn a b m = record { x = m.x; y = m.y; in_first = m.in_second; in_second = m.in_first }
@@ -39,7 +34,7 @@ Clear f cells own box = (k : ℕ) (m : Member) (p : Spot) → (k ≡ own → ⊥
 
 -- a legal place meets none
 pub clear_of_legal : (f : Frame) (team : ℕ) (cells : List Member) (own mac : ℕ) (p : Spot) → IsLegalAt (lifted_from f team cells own mac) p → Clear f cells own (box_in f mac p)
-clear_of_legal f team cells own mac p legal = beside_each (λ rect. SharesPoint (box_in f mac p) rect → ⊥) f cells own (legal Overlap)
+clear_of_legal f team cells own mac p legal = beside_each (λ rect. SharesPoint (box_in f mac p) rect → ⊥) f cells own ((legal_by_parts (trial_at (lifted_from f team cells own mac) p)).0 legal).1
 
 -- a place that was legal among other cells is so among these if it meets none
 legal_of_clear : (f : Frame) (team : ℕ) (old new : List Member) (own mac : ℕ) (p : Spot) → IsLegalAt (lifted_from f team old own mac) p →

@@ -10,16 +10,16 @@ use Rattle.lf_orient.specs.declared.Orient.TheVariants.{N, W, S, E, FN, FW, FS, 
 use Rattle.lf_orient.specs.declared.Symmetry.{Symmetry}
 use Rattle.lf_orient.specs.Orientation.{is_allowed, EqualUnder, rail_below, flipped_over_x, flipped_over_y}
 use Rattle.lf_floorplan.specs.declared.parts.Row.{Row}
-use Rattle.lf_rules.specs.declared.rule.Rule.TheVariants.{Height, Row as RowRule, Stand, Orient as OrientRule, Rail as RailRule, Fence, Obstacle, Overlap}
 use Rattle.lf_rtree.specs.declared.placed.Placed.{Placed}
 use Rattle.lf_rules.specs.declared.rule.Broken.{Broken}
-use Rattle.lf_rules.specs.Legality.{IsFirstMet, Trial, IsFirstBroken, Holds, box_of}
+use Rattle.lf_rules.specs.Legality.{IsFirstMet, Trial, IsFirstBroken, box_of}
 use Rattle.lf_floorplan.specs.Boxes.{IsSized, size_of}
 use Rattle.lf_floorplan.specs.Sizes.{turned}
 use Rattle.lf_floorplan.specs.Standing.{Carries}
 use Rattle.lf_rules.specs.Legalizer.{IsVerdict}
 use Rattle.lf_floorplan.proofs.SizeBounds.{IsSmall, small_pitch, turned_small, sized_pitch}
-use Rattle.lf_rules.proofs.RuleLemmas.{Found, OnRows, on_rows, by_number, row_broken, stand_broken, orient_broken, rail_broken, fence_broken, obstacle_broken, overlap_broken, all_hold}
+use Rattle.lf_rules.proofs.RuleLemmas.{Found, OnRows, on_rows, frame_of, height_broken, row_broken, stand_broken, orient_broken, rail_broken, fence_broken, obstacle_broken, overlap_broken}
+use Rattle.lf_rules.proofs.LegalParts.{legal_by_parts}
 use Rattle.lf_rules.proofs.Deciding.{Settles, both, either, implied, turned_round, each, each_below, some_height, some_bottom, some_carrying, same_rail, shares, all_in_ground, same_count}
 
 truth : (b : Bool) → Settles (IsTrue b)
@@ -79,25 +79,29 @@ first_or_none box (p ∷ ps) = elim (shares box p.rect) [
 abbrev Verdict : Trial → Type 0
 Verdict t = (v : Option Broken) × IsVerdict t v
 
+-- the answer that this rule is the first broken
+broke : {t : Trial} {b : Broken} → IsFirstBroken t b → Verdict t
+broke {b = b} is = (Some b, is)
+
 on_areas : (t : Trial) → OnRows t → Verdict t
 on_areas t rows = elim (all_in_ground t.frame t.team (box_of t)) [
-  | inr n ↦ (Some record { rule = Fence; other = None }, fence_broken t rows n)
+  | inr n ↦ broke (fence_broken t rows n)
   | inl g ↦ elim (each (λ o. SharesPoint (box_of t) o → ⊥) (λ o. elim (shares (box_of t) o) [ inl m ↦ inr (λ c. c m) | inr c ↦ inl c ]) t.frame.obstacles) [
-    | inr n ↦ (Some record { rule = Obstacle; other = None }, obstacle_broken t rows g n)
+    | inr n ↦ broke (obstacle_broken t rows g n)
     | inl o ↦ elim (first_or_none (box_of t) t.others) [
-      | inl m ↦ (Some record { rule = Overlap; other = Some m.0 }, overlap_broken t m.0 rows g o m.1)
-      | inr v ↦ (None, all_hold t rows g o v)
+      | inl m ↦ broke (overlap_broken t m.0 (frame_of t rows g o) m.1)
+      | inr v ↦ (None, (legal_by_parts t).1 (frame_of t rows g o, v))
     ]
   ]
 ]
 
 on_found : (t : Trial) (k : ℕ) (r : Row) → Found t (box_of t) k r → Verdict t
 on_found t k r found = elim (each_below (λ j. (s : Row) × Carries t.frame (box_of t) r j s) (λ j. some_carrying t.frame (box_of t) r j) k) [
-  | inr n ↦ (Some record { rule = Stand; other = None }, stand_broken t (box_of t) k r found n)
+  | inr n ↦ broke (stand_broken t (box_of t) k r found n)
   | inl s ↦ elim (both (truth (is_allowed t.mac.symmetry t.orient)) (implied (same_count (k % 2) 1) (equal_under t.frame.site.symmetry t.orient r.orient))) [
-    | inr n ↦ (Some record { rule = OrientRule; other = None }, orient_broken t (box_of t) k r found s n)
+    | inr n ↦ broke (orient_broken t (box_of t) k r found s n)
     | inl o ↦ elim (implied (same_count (k % 2) 0) (same_rail (rail_below r.orient) (Some t.mac.rail))) [
-      | inr n ↦ (Some record { rule = RailRule; other = None }, rail_broken t (box_of t) k r found s o n)
+      | inr n ↦ broke (rail_broken t (box_of t) k r found s o n)
       | inl p ↦ on_areas t (on_rows t (box_of t) k r found s o p)
     ]
   ]
@@ -107,20 +111,12 @@ pub verdict_there : (t : Trial) → IsSized t.frame t.mac → Verdict t
 verdict_there t sized =
     let small : IsSmall (turned (size_of t.frame t.mac) t.orient) = turned_small _ _ (small_pitch _ _ _ (sized_pitch _ _ sized)) in
     elim (some_height t.frame (box_of t)) [
-      | inr n ↦ (Some record { rule = Height; other = None }, height_broken t n)
+      | inr n ↦ broke (height_broken t n)
       | inl h ↦ elim (some_bottom t.frame (box_of t)) [
-        | inr n ↦ (Some record { rule = RowRule; other = None }, row_broken t (box_of t) refl h.0 h.1 (λ r b. n (r, b)))
+        | inr n ↦ broke (row_broken t (box_of t) refl h.0 h.1 (λ r b. n (r, b)))
         | inl b ↦ on_found t h.0 b.0 record { box_is = refl; wide = wider t.x _ small.wide; tall = h.1; bottom = b.1 }
       ]
     ]
   where
     wider : (x w : ℤ) → pos 0 <ℤ w → x <ℤ (x +ℤ w)
     wider x w h = omega (arith, ints)
-
-    height_broken : (t : Trial) → (Holds t Height → ⊥) → IsFirstBroken t record { rule = Height; other = None }
-    height_broken t n = record {
-      broken = n;
-      lesser = by_number t 1 (λ l. absurd (omega arith)) (λ l. absurd (omega arith)) (λ l. absurd (omega arith)) (λ l. absurd (omega arith))
-          (λ l. absurd (omega arith)) (λ l. absurd (omega arith)) (λ l. absurd (omega arith)) (λ l. absurd (omega arith));
-      other = λ e. cc;
-    }

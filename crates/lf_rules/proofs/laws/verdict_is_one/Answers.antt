@@ -1,15 +1,16 @@
-use Rattle.std.proofs.Common.{◌≡◌, ◌⊎◌, ℕ, zero, suc, ◌<◌, List, length, get_or, take, Option, Some, None, inl, inr, refl, sym, ◌∙◌, ap, subst, arith}
+use Rattle.std.proofs.Common.{◌≡◌, ◌⊎◌, ℕ, ◌<◌, List, length, get_or, take, Option, Some, None, inl, inr, refl, sym, ◌∙◌, ap, subst, arith}
 use Rattle.std.specs.Prelude.{slice_get, MatchOption, ◌≢◌}
 use Rattle.std.proofs.lemmas.Option.{slice_get_within, get_or_from_slice_get}
 use Rattle.lf_units.specs.declared.area.Rect.{Rect}
 use Rattle.lf_rules.specs.declared.rule.Rule.{Rule}
-use Rattle.lf_rules.specs.declared.rule.Rule.TheVariants.{Height, Row as RowRule, Stand, Orient as OrientRule, Rail as RailRule, Fence, Obstacle, Overlap}
+use Rattle.lf_rules.specs.declared.rule.Rule.TheVariants.{Overlap}
 use Rattle.lf_rules.specs.declared.rule.Broken.{Broken}
 use Rattle.lf_units.specs.Area.{SharesPoint}
 use Rattle.std.proofs.lemmas.Grind.{common_steps}
 use Rattle.lf_rtree.specs.declared.placed.Placed.{Placed}
 use Rattle.lf_rules.specs.Legality.{IsFirstMet, Trial, IsFirstBroken, number_of, box_of}
 use Rattle.lf_rules.specs.Legalizer.{IsVerdict}
+use Rattle.lf_rules.proofs.LegalParts.{rule_same}
 use Rattle.lf_rules.proofs.laws.verdict_is_one.Goals as goal
 
 rule_one : (t : Trial) (a b : Broken) → IsFirstBroken t a → IsFirstBroken t b → number_of a.rule ≡ number_of b.rule
@@ -20,31 +21,6 @@ rule_one t a b p q = elim order [
   where
     order : (number_of a.rule < number_of b.rule) ⊎ ((number_of a.rule ≡ number_of b.rule) ⊎ (number_of b.rule < number_of a.rule))
     order = grind arith
-
--- a rule from its number
-abbrev rule_at : ℕ → Rule
-rule_at zero = Overlap
-rule_at (suc zero) = Height
-rule_at (suc (suc zero)) = RowRule
-rule_at (suc (suc (suc zero))) = Stand
-rule_at (suc (suc (suc (suc zero)))) = OrientRule
-rule_at (suc (suc (suc (suc (suc zero))))) = RailRule
-rule_at (suc (suc (suc (suc (suc (suc zero)))))) = Fence
-rule_at (suc (suc (suc (suc (suc (suc (suc zero))))))) = Obstacle
-rule_at (suc (suc (suc (suc (suc (suc (suc (suc n)))))))) = Overlap
-
-back : (r : Rule) → rule_at (number_of r) ≡ r
-back Height = refl
-back RowRule = refl
-back Stand = refl
-back OrientRule = refl
-back RailRule = refl
-back Fence = refl
-back Obstacle = refl
-back Overlap = refl
-
-rule_same : (a b : Rule) → number_of a ≡ number_of b → a ≡ b
-rule_same a b e = sym (back a) ∙ ap rule_at e ∙ back b
 
 -- no cell that is met is before the first that is met
 earlier : (box : Rect) (others : List Placed) (own i : ℕ) (cell : Placed) (b : IsFirstMet box others own) → i < b.place →

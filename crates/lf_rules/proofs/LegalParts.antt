@@ -1,0 +1,131 @@
+-- A place is team-legal exactly where it keeps the frame's rules and is apart from the team's other cells; and a rule
+-- is the first broken where each lesser one holds. Here alone the eight rules are listed.
+use Rattle.std.proofs.Common.{◌≡◌, ◌≢◌, ◌⊎◌, ◌↔◌, ℕ, zero, suc, ◌+◌, ◌<◌, ◌≤◌, List, None, inl, inr, refl, sym, ◌∙◌, ap, subst, arith}
+use Rattle.lf_floorplan.specs.Ground.{StaysInGround, IsClear}
+use Rattle.lf_floorplan.specs.Standing.{StandsOn}
+use Rattle.lf_rtree.specs.declared.placed.Placed.{Placed}
+use Rattle.lf_rules.specs.declared.rule.Rule.{Rule}
+use Rattle.lf_rules.specs.declared.rule.Rule.TheVariants.{Height, Row as RowRule, Stand, Orient as OrientRule, Rail as RailRule, Fence, Obstacle, Overlap}
+use Rattle.lf_rules.specs.Legality.{Trial, box_of, Holds, IsApart, IsOnRail, IsOriented, IsTeamLegal, number_of, IsFirstBroken}
+
+-- each lesser rule holds
+abbrev pub HoldsBelow : Trial → Rule → Type 0
+HoldsBelow t r = (s : Rule) → number_of s < number_of r → Holds t s
+
+-- the frame's rules hold: those of numbers up to 7
+abbrev pub KeepsFrame : Trial → Type 0
+KeepsFrame t = (r : Rule) → number_of r ≤ 7 → Holds t r
+
+-- ---- the rules and their numbers
+
+-- a rule from its number
+abbrev rule_at : ℕ → Rule
+rule_at zero = Overlap
+rule_at (suc zero) = Height
+rule_at (suc (suc zero)) = RowRule
+rule_at (suc (suc (suc zero))) = Stand
+rule_at (suc (suc (suc (suc zero)))) = OrientRule
+rule_at (suc (suc (suc (suc (suc zero))))) = RailRule
+rule_at (suc (suc (suc (suc (suc (suc zero)))))) = Fence
+rule_at (suc (suc (suc (suc (suc (suc (suc zero))))))) = Obstacle
+rule_at (suc (suc (suc (suc (suc (suc (suc (suc n)))))))) = Overlap
+
+-- a rule's number is from 1 to 8, and tells the rule
+record IsNumbered (r : Rule) : Type 0 where
+  back : rule_at (number_of r) ≡ r
+  least : 1 ≤ number_of r
+  most : number_of r ≤ 8
+
+numbered : (r : Rule) → IsNumbered r
+numbered Height = record { back = refl; least = omega arith; most = omega arith }
+numbered RowRule = record { back = refl; least = omega arith; most = omega arith }
+numbered Stand = record { back = refl; least = omega arith; most = omega arith }
+numbered OrientRule = record { back = refl; least = omega arith; most = omega arith }
+numbered RailRule = record { back = refl; least = omega arith; most = omega arith }
+numbered Fence = record { back = refl; least = omega arith; most = omega arith }
+numbered Obstacle = record { back = refl; least = omega arith; most = omega arith }
+numbered Overlap = record { back = refl; least = omega arith; most = omega arith }
+
+-- rules of one number are one
+pub rule_same : (a b : Rule) → number_of a ≡ number_of b → a ≡ b
+rule_same a b e = sym (numbered a).back ∙ ap rule_at e ∙ (numbered b).back
+
+-- no rule is lesser than the first
+pub none_below : (t : Trial) → HoldsBelow t Height
+none_below t s less = let least = (numbered s).least in absurd (omega (arith, less, least))
+
+-- where a rule holds and each lesser one, each holds that is lesser than the next
+pub next_below : (t : Trial) (r next : Rule) → number_of next ≡ number_of r + 1 → HoldsBelow t r → Holds t r → HoldsBelow t next
+next_below t r next is below held s less = elim order [
+  | inl lesser ↦ below s lesser
+  | inr same ↦ subst (Holds t) (sym (rule_same s r same)) held
+]
+  where
+    order : (number_of s < number_of r) ⊎ (number_of s ≡ number_of r)
+    order = grind (arith, less, is)
+
+-- ---- the first broken rule
+
+-- a rule but overlap that is broken is the first broken where each lesser one holds
+pub first_broken_by : (t : Trial) (r : Rule) → HoldsBelow t r → (Holds t r → ⊥) → r ≢ Overlap → IsFirstBroken t record { rule = r; other = None }
+first_broken_by t r below not_so other = record { broken = not_so; lesser = below; other = other }
+
+-- ---- a legal place in two parts
+
+pub frame_below : (t : Trial) → HoldsBelow t Overlap → KeepsFrame t
+frame_below t below r few = below r (omega (arith, few))
+
+pub below_overlap : (t : Trial) → KeepsFrame t → HoldsBelow t Overlap
+below_overlap t keeps r less = keeps r (omega (arith, less))
+
+all_hold : (t : Trial) → KeepsFrame t → IsApart t → IsTeamLegal t
+all_hold t keeps apart r = elim order [
+  | inl few ↦ keeps r few
+  | inr last ↦ subst (Holds t) (sym (rule_same r Overlap last)) apart
+]
+  where
+    order : (number_of r ≤ 7) ⊎ (number_of r ≡ 8)
+    order = let most = (numbered r).most in grind (arith, most)
+
+-- a place is team-legal exactly where it keeps the frame's rules and is apart
+pub legal_by_parts : (t : Trial) → IsTeamLegal t ↔ (KeepsFrame t × IsApart t)
+legal_by_parts t = (λ legal. ((λ r few. legal r), legal Overlap), λ parts. all_hold t parts.0 parts.1)
+
+-- ---- the frame's rules by their meaning
+
+-- what the frame's rules say: where the box stands, how it is turned, and which ground it covers
+pub record StandsInFrame (t : Trial) : Type 0 where
+  pub stands : StandsOn t.frame (box_of t)
+  pub oriented : IsOriented t
+  pub on_rail : IsOnRail t
+  pub ground : StaysInGround t.frame t.team (box_of t)
+  pub clear : IsClear t.frame (box_of t)
+
+pub frame_kept : (t : Trial) → StandsInFrame t → KeepsFrame t
+frame_kept t s Height few = s.stands.height
+frame_kept t s RowRule few = s.stands.row
+frame_kept t s Stand few = s.stands.stand
+frame_kept t s OrientRule few = s.oriented
+frame_kept t s RailRule few = s.on_rail
+frame_kept t s Fence few = s.ground
+frame_kept t s Obstacle few = s.clear
+frame_kept t s Overlap few = absurd (omega (arith, few))
+
+pub frame_meant : (t : Trial) → KeepsFrame t → StandsInFrame t
+frame_meant t keeps = record {
+  stands = record { height = keeps Height (omega arith); row = keeps RowRule (omega arith); stand = keeps Stand (omega arith) };
+  oriented = keeps OrientRule (omega arith);
+  on_rail = keeps RailRule (omega arith);
+  ground = keeps Fence (omega arith);
+  clear = keeps Obstacle (omega arith);
+}
+
+-- the same cell at the same place, with these other cells beside it
+abbrev pub beside : Trial → List Placed → Trial
+beside t others = record t { others = others }
+
+-- the frame's rules do not ask for the other cells
+pub frame_beside : (t : Trial) (others : List Placed) → KeepsFrame t → KeepsFrame (beside t others)
+frame_beside t others keeps =
+    let s = frame_meant t keeps in
+    frame_kept (beside t others) record { stands = s.stands; oriented = s.oriented; on_rail = s.on_rail; ground = s.ground; clear = s.clear }
