@@ -1,4 +1,4 @@
-//! The best place of a cell: of all places that are legal for it, the one of least key for a target.
+//! The best place of a cell: of all places that are legal for it and off soft blockages, the one of least key for a target.
 #![tactic(auto)]
 
 mod extent;

@@ -9,6 +9,7 @@ mod report;
 mod rows;
 mod rule;
 mod size;
+mod soft;
 
 pub use cover::is_covered;
 pub use first::{first_broken, is_on_rail, is_oriented};
@@ -23,3 +24,4 @@ pub use report::{Listed, Report, Violation};
 pub use rows::{carries, height_in_sites, is_bottom_row};
 pub use rule::{Broken, Rule};
 pub use size::{box_of, solid_box};
+pub use soft::meets_soft;

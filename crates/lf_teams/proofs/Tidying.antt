@@ -155,7 +155,7 @@ module _ (t : Setting) (cells : List Cell) (sized : All (λ c. IsSizedCell t.fra
       by : (o : Option Spot) → IsChoice lifted target o → IsChoice lifted target (option_map spot_of (option_and_then place_of_spot o))
       by None choice = choice
       by (Some p) choice =
-          let place = place_is in_range lifted p whole choice.legal in
+          let place = place_is in_range lifted p whole choice.may_go.legal in
           subst (λ (q : Option Spot). IsChoice lifted target q) (sym (ap (λ (q : Option Place). option_map spot_of q) place.1 ∙ ap (λ (s : Spot). Some s) place.2)) choice
 
   -- the place that is found is team-legal
@@ -163,7 +163,7 @@ module _ (t : Setting) (cells : List Cell) (sized : All (λ c. IsSizedCell t.fra
       → IsLegalAt (lifted_cell t cells own c) (spot_of place)
   best_legal own c target place there is =
       let choice = subst (λ (o : Option Place). IsChoice (lifted_cell t cells own c) target (option_map spot_of o)) is (best_choice own c target there) in
-      choice.legal
+      choice.may_go.legal
 
 -- ---- what a commit has tested
 

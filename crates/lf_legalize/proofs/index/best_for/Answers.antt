@@ -15,8 +15,8 @@ use Rattle.lf_legalize.proofs.index.best_for.Goals as goal
 pub returns-in_default : goal.returns-in_default
 returns-in_default c =
     let none = rw c.mac_at-of_cell.ensures at c.in_default.ensures in
-    λ p legal. none_legal (lifted_from c.args.frame.now c.args.id.team (map member_of (cells_of c.args.cells.now c.args.id.team)) c.args.id.own c.args.mac) p
-    (λ k high. none k high) legal
+    λ p may. none_legal (lifted_from c.args.frame.now c.args.id.team (map member_of (cells_of c.args.cells.now c.args.id.team)) c.args.id.own c.args.mac) p
+    (λ k high. none k high) may.legal
 
 pub invariant_of-search : goal.invariant_of-search
 invariant_of-search c = record {
@@ -36,12 +36,12 @@ pub nearest-requires-clause-small : goal.nearest-requires-clause-small
 nearest-requires-clause-small c = farthest_small c.args.seeker.now.extent c.farthest_in.result c.requires.made.extent.near c.farthest_in.ensures
 
 pub nearest-requires-clause-all : goal.nearest-requires-clause-all
-nearest-requires-clause-all c = λ p legal.
+nearest-requires-clause-all c = λ p may.
     within_extent c.args.seeker.now.extent c.args.target.now c.nearest_point-near.result p c.farthest_in.result
     c.nearest_point-near.ensures c.farthest_in.ensures
     (lies_in (lifted_from c.args.frame.now c.args.id.team (map member_of (cells_of c.args.cells.now c.args.id.team)) c.args.id.own c.args.mac)
     c.args.seeker.now.extent p
-    c.requires.sized c.requires.made.extent legal)
+    c.requires.sized c.requires.made.extent may.legal)
 
 pub returns : goal.returns
 returns c =
@@ -50,5 +50,5 @@ returns c =
     (λ (found : Option Place). IsChoice cell c.nearest_point-near.result (option_map spot_of found))
     (λ (found : Option Place). IsChoice cell c.args.target.now (option_map spot_of found))
     (λ found. choice_for cell c.args.seeker.now.extent c.args.target.now c.nearest_point-near.result (option_map spot_of found) c.nearest_point-near.ensures
-    (λ p legal. lies_in cell c.args.seeker.now.extent p c.requires.sized c.requires.made.extent legal))
+    (λ p may. lies_in cell c.args.seeker.now.extent p c.requires.sized c.requires.made.extent may.legal))
     c.nearest.ensures

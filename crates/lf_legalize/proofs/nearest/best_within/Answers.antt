@@ -27,7 +27,7 @@ returns c =
     chosen_near (IsOnEntries c.args.search.now.frame.now c.args.search.now.size c.between-run.result.now (length c.between-run.result.now))
     (lifted_in c.args.search.now)
     c.args.search.now.target.now c.args.reach (option_map spot_of c.loop-entry.best)
-    (all_seen c.args.search.now c.between-run.result.now c.args.reach _ _ c.runs_have_rows.ensures.between c.requires.rows c.between-run.ensures
+    (λ p may. all_seen c.args.search.now c.between-run.result.now c.args.reach _ _ c.runs_have_rows.ensures.between c.requires.rows c.between-run.ensures
     (omega (arith, ints, c.requires.small, c.requires.near.up.low, c.requires.near.up.high))
-    (omega (arith, ints, c.requires.small, c.requires.near.up.low, c.requires.near.up.high)))
+    (omega (arith, ints, c.requires.small, c.requires.near.up.low, c.requires.near.up.high)) p may.legal)
     (rw (← all) c.loop-entry.invariant)
