@@ -5,3 +5,4 @@ pub mod Filling
 pub mod Owners
 pub mod Opened
 pub mod Looks
+pub mod TeamIds

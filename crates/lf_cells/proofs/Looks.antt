@@ -7,7 +7,7 @@ use Rattle.lf_cells.specs.declared.cell.CellId.{CellId}
 use Rattle.lf_cells.specs.declared.slots.Slot.{Slot}
 use Rattle.lf_cells.specs.declared.parts.Parts.{Parts}
 use Rattle.lf_cells.specs.declared.cell.Standing.{Standing}
-use Rattle.lf_cells.specs.Cells.{Cells, id_of, id_in, cell_at, component_at, standing_of, working_at, committed_at, cells_of}
+use Rattle.lf_cells.specs.Cells.{Cells, cell_at, component_at, standing_of, working_at, committed_at, cells_of}
 use Rattle.lf_cells.specs.Slots.{cell_in, labels, labels_in, slot_at, label_at, AreIndexed, table_of}
 use Rattle.lf_cells.proofs.Lists.{map_at}
 
@@ -40,17 +40,6 @@ pub name_there : (p : Parts) (id : CellId) (s : Slot) → AreIndexed p → slot_
 name_there p id s indexed there =
     let within : s.label < length p.owners.items = slice_get_within p.owners.items s.label id (owner_is p id s indexed there) in
     slice_get-get_or p.names s.label [] (omega (arith, within, indexed.many))
-
--- the id of a cell is that of its slot
-pub id_is : (p : Parts) (table : Cells) (team own : ℕ) (s : Slot) → table_of p ≡ table → slot_at p.teams.items (id_of team own) ≡ Some s
-    → id_in (cells_of table team) team own ≡ Some (id_of team own)
-id_is p table team own s view there =
-    ap (option_map (λ (c : Cell). id_of team own)) (cell_is p table (id_of team own) view ∙ ap (option_map (cell_in p.names)) there)
-
-pub id_past : (p : Parts) (table : Cells) (team own : ℕ) → table_of p ≡ table → slot_at p.teams.items (id_of team own) ≡ None
-    → id_in (cells_of table team) team own ≡ None
-id_past p table team own view there =
-    ap (option_map (λ (c : Cell). id_of team own)) (cell_is p table (id_of team own) view ∙ ap (option_map (cell_in p.names)) there)
 
 pub working_is : (p : Parts) (table : Cells) (id : CellId) (s : Option Slot) → table_of p ≡ table → s ≡ slot_at p.teams.items id
     → working_at (cells_of table id.team) id.own ≡ option_and_then (λ (x : Slot). x.working) s

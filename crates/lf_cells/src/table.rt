@@ -1,7 +1,7 @@
 //! The table of all teams' cells.
 
 ghost use Rattle.std.specs.Prelude.{◌≡◌, ◌+◌, ◌<◌, [], IfOk, IfSome, length, map, option_map, slice_get, slice_set};
-ghost use Rattle.lf_cells.specs.Cells.{AreAll, cells_of, cell_named, cell_at, component_at, id_in, ids_of};
+ghost use Rattle.lf_cells.specs.Cells.{AreAll, cells_of, cell_named, cell_at, component_at, ids_of};
 ghost use Rattle.lf_cells.specs.Cells.{standing_of, working_at, committed_at, moved, as_committed};
 ghost use Rattle.lf_cells.specs.Openings.{opening_cells, opening_components};
 
@@ -61,16 +61,6 @@ impl CellTable {
         None
     }
 
-    /// How many cells the team has; 0 if there is no such team.
-    pub fn count_of(&self, team: usize) -> usize
-        ensures { result ≡ length (cells_of self.now team) }
-    {
-        match self.parts.teams.get(team) {
-            Some(slots) => slots.len(),
-            None => 0,
-        }
-    }
-
     /// The ids of the team's cells, in loading order; none if there is no such team.
     pub fn cells_of(&self, team: usize) -> &[CellId]
         ensures { result.now ≡ ids_of team (cells_of self.now team) }
@@ -83,15 +73,6 @@ impl CellTable {
         ensures { AreAll self.now result.now }
     {
         self.parts.owners.as_slice()
-    }
-
-    /// The id of the team's cell of that position, the first at 0; none if the team has no such cell, or there is no
-    /// such team.
-    pub fn id_at(&self, team: usize, own: usize) -> Option<CellId>
-        ensures { result ≡ id_in (cells_of self.now team) team own }
-    {
-        let slot = self.parts.slot(team, own)?;
-        Some(self.parts.owners[slot.label as usize])
     }
 
     /// What no command changes of a cell; none if there is no such cell.
@@ -108,12 +89,11 @@ impl CellTable {
         })
     }
 
-    /// The macro and working place of the team's cell of that position, the first at 0; none if the team has no such
-    /// cell, or there is no such team.
-    pub fn standing(&self, team: usize, own: usize) -> Option<Standing>
-        ensures { result ≡ option_map standing_of (slice_get (cells_of self.now team) own) }
+    /// The macro and working place of a cell; none if there is no such cell.
+    pub fn standing(&self, id: CellId) -> Option<Standing>
+        ensures { result ≡ option_map standing_of (slice_get (cells_of self.now id.team) id.own) }
     {
-        let slot = self.parts.slot(team, own)?;
+        let slot = self.parts.slot(id.team as usize, id.own as usize)?;
         Some(Standing {
             mac: slot.mac,
             working: slot.working,

@@ -17,7 +17,8 @@ use Rattle.lf_rules.specs.declared.rule.Rule.TheVariants.{Height, Row as RowRule
 use Rattle.lf_rules.specs.Legality.{Holds}
 use Rattle.lf_rules.specs.Choice.{Spot, Lifted, IsLegalAt, MayGo, IsChoice, Precedes, distance, trial_at}
 use Rattle.lf_rules.proofs.SiteLemmas.{legal_upright}
-use Rattle.lf_legalize.specs.Extents.{IsInside, IsExtentOf, IsNearestPoint, IsNearDefPoint, IsWithin}
+use Rattle.lf_segments.specs.Grounds.{IsInside, IsExtentOf}
+use Rattle.lf_legalize.specs.Extents.{IsNearestPoint, IsNearDefPoint, IsWithin}
 use Rattle.lf_legalize.specs.Indexes.{IsHeightOf}
 use Rattle.lf_legalize.proofs.Rounds.{upright_size}
 

@@ -20,9 +20,10 @@ use Rattle.lf_floorplan.specs.Standing.{changed}
 use Rattle.lf_segments.specs.declared.segment.Segment.{Segment}
 use Rattle.lf_segments.specs.Segments.{IsCut, IsOf, IsOpen, IsSegment, LiesInSegment}
 use Rattle.lf_cells.specs.declared.cell.CellId.{CellId}
-use Rattle.lf_occupancy.specs.declared.strip.Strip.{Strip}
+use Rattle.lf_segments.specs.declared.strip.Strip.{Strip}
 use Rattle.lf_occupancy.specs.Occupied.{Occupied, IsFreeInRow, IsFreeOver, IsStripOf}
-use Rattle.lf_occupancy.specs.Floorplans.{HasStripsOf, strip_of}
+use Rattle.lf_segments.specs.Grounds.{IsGroundOf}
+use Rattle.lf_segments.specs.Strips.{strip_of}
 use Rattle.lf_legalize.specs.declared.row_search.RowSearch.{RowSearch}
 use Rattle.lf_legalize.specs.Levels.{AddsRow, AreFreeOn, AreLevels, IsFreeOnOne, IsFreeOnRow, IsLevel, IsLevelRow, IsRailed}
 
@@ -72,10 +73,10 @@ segment_of_strip f o id n s segments a =
     (λ g both. (record { in_row = both.0.in_row; of_team = both.0.of_team }, both.1.within))
     segments (any_mapped (strip_of f) (λ g. IsStripOf n id.team g × IsFreeOver o id g s) segments a)
 
-pub lies_in_segment : (f : Frame) (o : Occupied) (id : CellId) (window : Span) (n : ℕ) (s : Span) (h : HasStripsOf f o) → IsFreeOnRow o id window n s →
-    LiesInSegment h.segments n id.team s
+pub lies_in_segment : (f : Frame) (o : Occupied) (id : CellId) (window : Span) (n : ℕ) (s : Span) IsGroundOf f o.index → IsFreeOnRow o id window n s →
+    LiesInSegment o.index.segments n id.team s
 lies_in_segment f o id window n s h free =
-    segment_of_strip f o id n s h.segments
+    segment_of_strip f o id n s o.index.segments
     (subst (λ (gs : List Strip). Any (λ g. IsStripOf n id.team g × IsFreeOver o id g s) gs) h.strips free.in_strip)
 
 number_known : (f : Frame) (segments : List Segment) (n team : ℕ) (s : Span) → IsCut f segments → LiesInSegment segments n team s → n < length f.rows
@@ -85,12 +86,12 @@ number_known f segments n team s cut (k, g, below, is, both) =
     let within : g.row < length f.rows = known.row_known in
     omega (arith, same, within)
 
-pub open_over : (f : Frame) (o : Occupied) (id : CellId) (window : Span) (n : ℕ) (s : Span) → HasStripsOf f o → IsFilled s → IsFreeOnRow o id window n s →
+pub open_over : (f : Frame) (o : Occupied) (id : CellId) (window : Span) (n : ℕ) (s : Span) → IsGroundOf f o.index → IsFilled s → IsFreeOnRow o id window n s →
     IsOpenOver f id.team n s
 open_over f o id window n s h filled free =
     let lies = lies_in_segment f o id window n s h free in
-    let there = row_there f.rows n (number_known f h.segments n id.team s h.cut lies) in
-    record { row = there.0; stands = there.1; is_open = (h.cut.exact n there.0 id.team s there.1 filled).0 lies }
+    let there = row_there f.rows n (number_known f o.index.segments n id.team s h.segments lies) in
+    record { row = there.0; stands = there.1; is_open = (h.segments.exact n there.0 id.team s there.1 filled).0 lies }
 
 -- a free span lies within its row
 pub record IsOverRow (f : Frame) (n : ℕ) (s : Span) : Type 0 where
@@ -99,7 +100,7 @@ pub record IsOverRow (f : Frame) (n : ℕ) (s : Span) : Type 0 where
   pub left : row.x ≤ℤ s.lo
   pub right : s.hi ≤ℤ (row_area f.pitch row).x2
 
-pub over_row : (f : Frame) (o : Occupied) (id : CellId) (window : Span) (n : ℕ) (s : Span) → HasStripsOf f o → IsFilled s → IsFreeOnRow o id window n s →
+pub over_row : (f : Frame) (o : Occupied) (id : CellId) (window : Span) (n : ℕ) (s : Span) → IsGroundOf f o.index → IsFilled s → IsFreeOnRow o id window n s →
     IsOverRow f n s
 over_row f o id window n s h filled free =
     let there = open_over f o id window n s h filled free in
@@ -129,7 +130,7 @@ free_as First Second o id window xs same free = record {
   );
 }
 
-spans_left : (First Second : ℕ → Type 0) (f : Frame) (o : Occupied) (id : CellId) (window : Span) (xs ys : List Span) → HasStripsOf f o →
+spans_left : (First Second : ℕ → Type 0) (f : Frame) (o : Occupied) (id : CellId) (window : Span) (xs ys : List Span) → IsGroundOf f o.index →
     LieLeft f First Second → AreFreeOn First o id window xs → AreFreeOn Second o id window ys → All (λ x. All (λ y. x.hi ≤ℤ y.lo) ys) xs
 spans_left First Second f o id window xs ys h left first second i d below j e under =
     let x = get_or xs i d in
@@ -143,7 +144,7 @@ spans_left First Second f o id window xs ys h left first second i d below j e un
     let to = b.left in
     omega (arith, ints, between, from, to)
 
-pub free_append : (First Second : ℕ → Type 0) (f : Frame) (o : Occupied) (id : CellId) (window : Span) (xs ys : List Span) → HasStripsOf f o →
+pub free_append : (First Second : ℕ → Type 0) (f : Frame) (o : Occupied) (id : CellId) (window : Span) (xs ys : List Span) → IsGroundOf f o.index →
     LieLeft f First Second → AreFreeOn First o id window xs → AreFreeOn Second o id window ys → AreFreeOn (λ n. First n ⊎ Second n) o id window (xs ++ ys)
 free_append First Second f o id window xs ys h left first second = record {
   rising = rising_append xs ys first.rising second.rising (spans_left First Second f o id window xs ys h left first second);

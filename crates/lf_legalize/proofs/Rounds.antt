@@ -111,8 +111,8 @@ on_any f size run n p any on = record {
 }
 
 -- a legal place within the reach stands on a row of the run
-pub all_seen : (s : RowSearch) (run : List RowEntry) (reach : ℕ) (from to : ℤ) → RunBetweenHasRows → IsRowsByY s.frame.now s.rows.now →
-    IsRunBetween s.rows.now from to run → from ≤ℤ (s.target.now.y -ℤ pos reach) → (s.target.now.y +ℤ pos reach) <ℤ to →
+pub all_seen : (s : RowSearch) (run : List RowEntry) (reach : ℕ) (from to : ℤ) → RunBetweenHasRows → IsRowsByY s.frame.now s.occupancy.now.index.rows →
+    IsRunBetween s.occupancy.now.index.rows from to run → from ≤ℤ (s.target.now.y -ℤ pos reach) → (s.target.now.y +ℤ pos reach) <ℤ to →
     (p : Spot) → IsLegalAt (lifted_in s) p → IsWithin s.target.now reach p → IsOnEntries s.frame.now s.size run (length run) p
 all_seen s run reach from to law rows between low high p legal within =
     let stands = stands_on_row s p legal in
@@ -121,7 +121,7 @@ all_seen s run reach from to law rows between low high p legal within =
     let near : unsigned_abs (p.y -ℤ s.target.now.y) ≤ reach = omega (arith, within) in
     let above = abs_above (p.y -ℤ s.target.now.y) reach near in
     let below = abs_below (p.y -ℤ s.target.now.y) reach near in
-    let both = law s.frame.now s.rows.now run from to stands.0 on.row rows between on.there in
+    let both = law s.frame.now s.occupancy.now.index.rows run from to stands.0 on.row rows between on.there in
     let any = both.1 (omega (arith, ints, level, above, below, low, high), omega (arith, ints, level, above, below, low, high)) in
     on_any s.frame.now s.size run stands.0 p any on
 

@@ -61,7 +61,7 @@ level_bounded s own bottom window j spans occupied level k d within =
     let t = get_or spans k d in
     let some = level.rising.filled k d within in
     let one = (level.exact t some).0 (own_one spans k d within) in
-    let at = over_row s.frame.now s.occupancy.now s.id window one.number t occupied.strips some one.free in
+    let at = over_row s.frame.now s.occupancy.now s.id window one.number t occupied.index some one.free in
     bounded_row s one.number at.row t at.stands some at.left at.right
 
 pub grid_is : (s : RowSearch) (own : ℕ) (bottom : Row) → slice_get s.frame.now.rows own ≡ Some bottom → IsGrid (grid_of bottom.x s.frame.now.pitch.x)

@@ -32,9 +32,10 @@ use Rattle.lf_rules.specs.Team.{box_in, boxes_beside}
 use Rattle.lf_rules.proofs.BesideLemmas.{beside_hold}
 use Rattle.lf_rules.proofs.SiteLemmas.{one_of_four}
 use Rattle.lf_cells.specs.Cells.{cells_of}
-use Rattle.lf_occupancy.specs.declared.strip.Strip.{Strip}
+use Rattle.lf_segments.specs.declared.strip.Strip.{Strip}
 use Rattle.lf_occupancy.specs.Occupied.{IsFreeOver, IsOther, IsStripOf}
-use Rattle.lf_occupancy.specs.Floorplans.{IsOccupancyOf, row_y, strip_of}
+use Rattle.lf_segments.specs.Strips.{row_y, strip_of}
+use Rattle.lf_occupancy.specs.Floorplans.{IsOccupancyOf}
 use Rattle.lf_legalize.specs.declared.row_search.RowSearch.{RowSearch}
 use Rattle.lf_legalize.specs.Members.{member_of}
 use Rattle.lf_legalize.specs.RowSearches.{IsOnRowIn, lifted_in}
@@ -99,7 +100,7 @@ held_at s own bottom window lists x there levels fits j less =
 pub open_at : (s : RowSearch) (own : ℕ) (bottom : Row) (window : Span) (x : ℤ) (j : ℕ) → IsOccupancyOf s.frame.now s.cells.now s.occupancy.now →
     (h : IsHeldAt s own bottom window x j) → (v : ℤ) → Holds (reach s x) v → IsOpen s.frame.now h.row s.id.team v
 open_at s own bottom window x j held h v holds =
-    let o = open_over s.frame.now s.occupancy.now s.id window h.number (reach s x) held.strips (filled s x) h.free in
+    let o = open_over s.frame.now s.occupancy.now s.id window h.number (reach s x) held.index (filled s x) h.free in
     subst (λ (r : Row). IsOpen s.frame.now r s.id.team v) (same_row s.frame.now h.number o.row h.row o.stands h.stands) (o.is_open v holds)
 
 pub left_at : (s : RowSearch) (own : ℕ) (bottom : Row) (window : Span) (x : ℤ) (j : ℕ) → IsOccupancyOf s.frame.now s.cells.now s.occupancy.now →
@@ -263,7 +264,7 @@ is_clear s own bottom window x o free m d within shares =
 met_at : (s : RowSearch) (own : ℕ) (bottom : Row) (window : Span) (x px py : ℤ) (k : ℕ) (rect : Rect) → IsOccupancyOf s.frame.now s.cells.now s.occupancy.now →
     (p : IsPointOf s own bottom window x px py) → Holds (reach s x) px → IsOther s.occupancy.now s.id k rect → Covers rect px py → ⊥
 met_at s own bottom window x px py k rect occupied p holds other covers =
-    by (any_mapped (strip_of f) Free occupied.strips.segments (subst (Any Free) occupied.strips.strips p.held.free.in_strip))
+    by (any_mapped (strip_of f) Free s.occupancy.now.index.segments (subst (Any Free) occupied.index.strips p.held.free.in_strip))
   where
     f : Frame
     f = s.frame.now
@@ -271,7 +272,7 @@ met_at s own bottom window x px py k rect occupied p holds other covers =
     Free : Strip → Type 0
     Free g = IsStripOf p.held.number s.id.team g × IsFreeOver s.occupancy.now s.id g (reach s x)
 
-    by : Any (λ (g : Segment). Free (strip_of f g)) occupied.strips.segments → ⊥
+    by : Any (λ (g : Segment). Free (strip_of f g)) s.occupancy.now.index.segments → ⊥
     by (i, g, below, is, free) =
         let number : g.row ≡ p.held.number = free.0.in_row in
         let at : row_y f g.row ≡ p.held.row.y = ap (row_y f) number ∙ row_y_is f p.held.number p.held.row p.held.stands in

@@ -36,9 +36,10 @@ use Rattle.lf_rules.proofs.SiteLemmas.{OneOfFour, legal_upright}
 use Rattle.lf_cells.specs.declared.cell.Cell.{Cell}
 use Rattle.lf_cells.specs.declared.cell.CellId.{CellId}
 use Rattle.lf_cells.specs.Cells.{Cells, cells_of}
-use Rattle.lf_occupancy.specs.declared.strip.Strip.{Strip}
+use Rattle.lf_segments.specs.declared.strip.Strip.{Strip}
 use Rattle.lf_occupancy.specs.Occupied.{Occupied, IsFreeOver, IsOther, IsStripOf, boxes_of, over}
-use Rattle.lf_occupancy.specs.Floorplans.{HoldsCells, IsOccupancyOf, box_of, row_y, strip_of}
+use Rattle.lf_segments.specs.Strips.{row_y, strip_of}
+use Rattle.lf_occupancy.specs.Floorplans.{HoldsCells, IsOccupancyOf, box_of}
 use Rattle.lf_legalize.specs.declared.row_search.RowSearch.{RowSearch}
 use Rattle.lf_legalize.specs.Members.{member_of}
 use Rattle.lf_legalize.specs.RowSearches.{IsOnRowIn, lifted_in}
@@ -210,9 +211,9 @@ free_on_carrier s bottom window p j n r held on legal less there carries = recor
     low = let a = on.left in let b = h.low in omega (arith, ints, a, b);
     high = let a = on.right in let b = h.high in omega (arith, ints, a, b);
   };
-  in_strip = subst (Any Free) (sym held.strips.strips)
-      (any_map (strip_of f) Free held.strips.segments
-      (any_weaker (λ g. IsOf n s.id.team g × LiesIn (reach s p.x) g.span) (λ g. Free (strip_of f g)) free_over held.strips.segments lies));
+  in_strip = subst (Any Free) (sym held.index.strips)
+      (any_map (strip_of f) Free s.occupancy.now.index.segments
+      (any_weaker (λ g. IsOf n s.id.team g × LiesIn (reach s p.x) g.span) (λ g. Free (strip_of f g)) free_over s.occupancy.now.index.segments lies));
 }
   where
     f : Frame
@@ -221,8 +222,8 @@ free_on_carrier s bottom window p j n r held on legal less there carries = recor
     Free : Strip → Type 0
     Free g = IsStripOf n s.id.team g × IsFreeOver s.occupancy.now s.id g (reach s p.x)
 
-    lies : LiesInSegment held.strips.segments n s.id.team (reach s p.x)
-    lies = segments_hold f held.strips.segments s.id.team (upright_box s p) held.strips.cut legal.stands (filled s p.x) legal.ground legal.clear
+    lies : LiesInSegment s.occupancy.now.index.segments n s.id.team (reach s p.x)
+    lies = segments_hold f f.obstacles s.occupancy.now.index.segments s.id.team (upright_box s p) held.index.segments legal.stands (filled s p.x) legal.ground legal.clear
         s.height bottom j n r (sites_high s p) on.bottom less there carries
 
     point : (g : Segment) (x y : ℤ) → g.row ≡ n → Covers (over (strip_of f g) (reach s p.x)) x y → Covers (upright_box s p) x y

@@ -15,7 +15,7 @@ use Rattle.lf_floorplan.specs.Rows.{IsHeeded, row_area}
 use Rattle.lf_segments.specs.declared.rows_by_y.RowEntry.{RowEntry}
 use Rattle.lf_segments.specs.RowsByY.{entry, IsEntryOf, IsRowsByY, IsRunAt, PrecedesByY}
 use Rattle.lf_segments.proofs.HeightLemmas.{run_in_range, range_in_run, lower_is_not, higher_is_not}
-use Rattle.lf_occupancy.specs.Floorplans.{HasStripsOf}
+use Rattle.lf_segments.specs.Grounds.{IsGroundOf}
 use Rattle.lf_legalize.specs.declared.row_search.RowSearch.{RowSearch}
 use Rattle.lf_legalize.specs.Levels.{AddsRow, AreFreeOn, IsLevelRow, IsRailed}
 use Rattle.lf_legalize.proofs.LevelLemmas.{LieLeft, any_right, free_append, free_as, same_row}
@@ -167,7 +167,7 @@ more_rows f bottom j run k d within n = (
 )
 
 pub free_next : (s : RowSearch) (es run : List RowEntry) (y : ℤ) (bottom : Row) (j : ℕ) (window : Span) (k : ℕ) (d : RowEntry) (old new : List Span) →
-    HasStripsOf s.frame.now s.occupancy.now → IsRowsByY s.frame.now es → IsRunAt es y run → k < length run → FreeSoFar s bottom j window run k old →
+    IsGroundOf s.frame.now s.occupancy.now.index → IsRowsByY s.frame.now es → IsRunAt es y run → k < length run → FreeSoFar s bottom j window run k old →
     AddsRow s bottom j (get_or run k d).row window old new → FreeSoFar s bottom j window run (k + 1) new
 free_next s es run y bottom j window k d old new strips rows p within free adds =
     let f = s.frame.now in

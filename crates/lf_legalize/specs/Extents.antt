@@ -1,34 +1,15 @@
--- The rectangle that all rows of a frame lie in, and places by how far they are from a target.
-use Rattle.std.specs.Prelude.{◌≡◌, ◌⊎◌, ℕ, ℤ, pos, negsuc, ◌≤◌, ◌≤ℤ◌, ◌+◌, ◌-ℤ◌, All, Option, Some, IfSome, slice_get, min}
-use Rattle.std.specs.Int.{int_min, int_max}
+-- Places by how far they are from a target.
+use Rattle.std.specs.Prelude.{◌≡◌, ◌⊎◌, ℕ, ℤ, pos, negsuc, ◌≤◌, ◌≤ℤ◌, ◌+◌, ◌-ℤ◌, Option, Some, IfSome, slice_get, min}
 use Rattle.std.specs.Int.RustNames.{unsigned_abs}
 use Rattle.std.specs.Option.{option_map_or}
 use Rattle.lf_units.specs.declared.area.Point.{Point}
 use Rattle.lf_units.specs.declared.area.Rect.{Rect}
 use Rattle.lf_floorplan.specs.declared.frame.Frame.{Frame}
 use Rattle.lf_floorplan.specs.declared.parts.Row.{Row}
-use Rattle.lf_floorplan.specs.Bounds.{IsNearDefRect}
-use Rattle.lf_floorplan.specs.Rows.{row_area}
 use Rattle.lf_floorplan.specs.Sizes.{box_at}
 use Rattle.lf_floorplan.specs.Standing.{IsBottomRow}
 use Rattle.lf_rules.specs.Choice.{Spot, Lifted, Precedes, distance}
 use Rattle.lf_rules.proofs.Looking.{LooksAt, IsAsGood}
-
--- no point of the inner rectangle lies outside the outer one
-pub record IsInside (inner outer : Rect) : Type 0 where
-  pub left : outer.x1 ≤ℤ inner.x1
-  pub lower : outer.y1 ≤ℤ inner.y1
-  pub right : inner.x2 ≤ℤ outer.x2
-  pub upper : inner.y2 ≤ℤ outer.y2
-
--- the rectangle holds all rows of the frame
-pub record IsExtentOf (f : Frame) (extent : Rect) : Type 0 where
-  pub near : IsNearDefRect extent
-  pub rows : All (λ r. IsInside (row_area f.pitch r) extent) f.rows
-
--- the smallest rectangle that holds both
-abbrev pub hull : Rect → Rect → Rect
-hull a b = record { x1 = int_min a.x1 b.x1; y1 = int_min a.y1 b.y1; x2 = int_max a.x2 b.x2; y2 = int_max a.y2 b.y2 }
 
 -- the value of a range that is nearest to another value: each value of the range is farther from the other by the same, their distance
 pub record IsNearestIn (lo hi value nearest : ℤ) : Type 0 where

@@ -38,7 +38,7 @@ IsRowOfLevel f own bottom (suc j) n = IsLevelRow f bottom (suc j) n
 -- the span lies in the window and is free for the cell in one strip of the row of this number
 pub record IsFreeOnRow (o : Occupied) (id : CellId) (window : Span) (n : ℕ) (s : Span) : Type 0 where
   pub within : LiesIn s window
-  pub in_strip : Any (λ g. IsStripOf n id.team g × IsFreeOver o id g s) o.strips
+  pub in_strip : Any (λ g. IsStripOf n id.team g × IsFreeOver o id g s) o.index.strips
 
 -- the span is so free on one of these rows
 pub record IsFreeOnOne (Rows : ℕ → Type 0) (o : Occupied) (id : CellId) (window s : Span) : Type 0 where

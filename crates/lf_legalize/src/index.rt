@@ -1,19 +1,17 @@
 //! The search for the best place over the rows of a frame in order of their y.
 
-ghost use Rattle.std.specs.Prelude.{◌≡◌, ◌<◌, ℕ, IfOk, MatchOption, length, map, option_map};
+ghost use Rattle.std.specs.Prelude.{◌≡◌, ◌<◌, ℕ, IfOk, IsOk, MatchOption, length, map, option_map};
 ghost use Rattle.lf_floorplan.specs.Boxes.{IsSized, macro_of, size_of as size_of_macro};
 ghost use Rattle.lf_floorplan.specs.declared.frame.Frame.{Frame};
 ghost use Rattle.lf_rules.specs.Choice.{IsChoice, spot_of};
 ghost use Rattle.lf_rules.specs.Legalizer.{Legalizer};
 ghost use Rattle.lf_rules.specs.Team.{lifted_from};
 ghost use Rattle.lf_cells.specs.Cells.{cells_of};
-ghost use Rattle.lf_segments.specs.RowsByY.{IsRowsByY};
 ghost use Rattle.lf_occupancy.specs.Floorplans.{IsOccupancyOf};
 ghost use Rattle.lf_legalize.specs.Members.{member_of};
-ghost use Rattle.lf_legalize.specs.Extents.{IsExtentOf};
-ghost use Rattle.lf_legalize.specs.Indexes.{IsHeightOf, IsIndexOf};
+ghost use Rattle.lf_legalize.specs.Indexes.{IsHeightOf};
 
-use crate::extent::{extent_of, farthest_in, nearest_point};
+use crate::extent::{farthest_in, nearest_point};
 use crate::nearest::nearest;
 use crate::row_search::RowSearch;
 use crate::seeker::Seeker;
@@ -22,28 +20,20 @@ use lf_floorplan::{Frame, Macro, Place, mac_at, size_in_units};
 use lf_occupancy::Occupancy;
 use lf_orient::Orient;
 use lf_rules::{height_in_sites, solid_box};
-use lf_segments::RowsByY;
-use lf_units::{Point, Rect};
+use lf_units::Point;
 use std::alloc::{AllocError, Global};
 
 /// Looks at the rows around the target, found by bisection, and there only as far as a better place
 /// may lie: at no single site, and at no cell that is far off.
-#[derive(Drop)]
-pub struct IndexSeeker {
-    rows: RowsByY,
-    /// The rectangle that all rows lie in.
-    extent: Rect,
-}
+#[derive(Clone, Copy, Debug)]
+pub struct IndexSeeker;
 
 impl IndexSeeker {
-    /// The seeker for this frame. `Err` if an allocation fails.
-    pub fn build(alloc: Global, frame: &Frame) -> Result<Self, AllocError>
-        ensures { IfOk result (λ seeker. IsIndexOf frame.now seeker) }
+    /// The seeker, the same for each frame: what it looks up is the occupancy's. It allocates nothing.
+    pub fn build(_alloc: Global, _frame: &Frame) -> Result<Self, AllocError>
+        ensures { IsOk result }
     {
-        Ok(IndexSeeker {
-            rows: RowsByY::build(alloc, frame)?,
-            extent: extent_of(frame),
-        })
+        Ok(IndexSeeker)
     }
 }
 
@@ -67,7 +57,6 @@ fn height_of(frame: &Frame, mac: &Macro) -> Option<u32>
 /// The best place of the cell of this macro.
 fn best_for(
     alloc: Global,
-    seeker: &IndexSeeker,
     frame: &Frame,
     cells: &CellTable,
     occupancy: &Occupancy,
@@ -75,7 +64,6 @@ fn best_for(
     mac: usize,
     target: &Point,
 ) -> Result<Option<Place>, AllocError>
-    requires made { IsIndexOf frame.now seeker.now }
     requires held { IsOccupancyOf frame.now cells.now occupancy.now }
     requires known { mac < length frame.now.macros }
     requires sized { IsSized frame.now (macro_of frame.now mac) }
@@ -86,10 +74,10 @@ fn best_for(
     let Some(height) = height_of(frame, of_cell) else {
         return Ok(None);
     };
-    let near = nearest_point(&seeker.extent, target);
+    let extent = occupancy.index().extent();
+    let near = nearest_point(extent, target);
     let search = RowSearch {
         frame,
-        rows: &seeker.rows,
         cells,
         occupancy,
         id,
@@ -98,12 +86,10 @@ fn best_for(
         height,
         target: &near,
     };
-    nearest(alloc, &search, farthest_in(&seeker.extent))
+    nearest(alloc, &search, farthest_in(extent))
 }
 
 impl Seeker for IndexSeeker {
-    ghost is_for = { λ s f. IsIndexOf f s };
-
     fn seek(
         &self,
         alloc: Global,
@@ -116,15 +102,6 @@ impl Seeker for IndexSeeker {
         let Some(standing) = cells.standing(cell.team as usize, cell.own as usize) else {
             return Ok(None);
         };
-        best_for(
-            alloc,
-            self,
-            frame,
-            cells,
-            occupancy,
-            cell,
-            standing.mac,
-            target,
-        )
+        best_for(alloc, frame, cells, occupancy, cell, standing.mac, target)
     }
 }

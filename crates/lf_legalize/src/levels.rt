@@ -5,11 +5,11 @@ ghost use Rattle.std.specs.Option.{option_map};
 ghost use Rattle.lf_orient.specs.Orientation.{rail_below};
 ghost use Rattle.lf_floorplan.specs.Rows.{IsHeeded};
 ghost use Rattle.lf_floorplan.specs.Standing.{changed};
-ghost use Rattle.lf_segments.specs.RowsByY.{IsRowsByY, IsRunAt};
+ghost use Rattle.lf_segments.specs.RowsByY.{IsRunAt};
 ghost use Rattle.lf_occupancy.specs.Floorplans.{IsOccupancyOf};
 ghost use Rattle.lf_legalize.specs.Levels.{AddsRow, AreFreeOn, AreLevels, HasBareLevel, IsLevel, IsLevelRow};
 
-use crate::row_search::RowSearch;
+use crate::row_search::{RowSearch, rows_of};
 use lf_floorplan::Row;
 use lf_orient::{Rail, opposite, row_rail};
 use lf_segments::RowEntry;
@@ -50,9 +50,9 @@ fn y_at(bottom: &Row, pitch: &Point, level: u32) -> i64
 /// The rows this many levels above the bottom row, in the order of their x.
 fn rows_above<'a>(search: &RowSearch<'a>, bottom: &Row, level: u32) -> &'a [RowEntry]
     requires { level ≤ 8 }
-    ensures { IsRunAt search.now.rows.now (bottom.now.y +ℤ (pos level *ℤ search.now.frame.now.pitch.y)) result.now }
+    ensures { IsRunAt search.now.occupancy.now.index.rows (bottom.now.y +ℤ (pos level *ℤ search.now.frame.now.pitch.y)) result.now }
 {
-    search.rows.at(y_at(bottom, &search.frame.pitch, level))
+    rows_of(search).at(y_at(bottom, &search.frame.pitch, level))
 }
 
 /// Whether the row has the rail of a row this many levels above the bottom row.
@@ -95,7 +95,6 @@ fn free_above(
     bottom: &BottomRow<'_>,
     level: u32,
 ) -> Result<Vec<Span>, AllocError>
-    requires rows { IsRowsByY search.now.frame.now search.now.rows.now }
     requires held { IsOccupancyOf search.now.frame.now search.now.cells.now search.now.occupancy.now }
     requires few { level ≤ 8 }
     requires low { negsuc 4611686018427387903 ≤ℤ bottom.now.window.now.lo }
@@ -116,7 +115,6 @@ fn free_at(
     bottom: &BottomRow<'_>,
     level: u32,
 ) -> Result<Vec<Span>, AllocError>
-    requires rows { IsRowsByY search.now.frame.now search.now.rows.now }
     requires held { IsOccupancyOf search.now.frame.now search.now.cells.now search.now.occupancy.now }
     requires few { level ≤ 8 }
     requires low { negsuc 4611686018427387903 ≤ℤ bottom.now.window.now.lo }
@@ -137,7 +135,6 @@ pub(crate) fn free_by_level(
     search: &RowSearch<'_>,
     bottom: &BottomRow<'_>,
 ) -> Result<Option<Vec<Vec<Span>>>, AllocError>
-    requires rows { IsRowsByY search.now.frame.now search.now.rows.now }
     requires held { IsOccupancyOf search.now.frame.now search.now.cells.now search.now.occupancy.now }
     requires low { negsuc 4611686018427387903 ≤ℤ bottom.now.window.now.lo }
     ensures { IfOk result (λ found. MatchOption found (HasBareLevel search.now bottom.now.number bottom.now.row.now bottom.now.window.now)

@@ -4,7 +4,7 @@ ghost use Rattle.std.specs.Prelude.{◌≡◌, ◌↔◌, ◌⊎◌, ◌≤◌, 
 ghost use Rattle.lf_floorplan.specs.declared.parts.Row.{Row};
 ghost use Rattle.lf_floorplan.specs.Rows.{IsHeeded, row_area};
 ghost use Rattle.lf_rules.specs.Choice.{IsChoice, MayGo, Spot, spot_of};
-ghost use Rattle.lf_segments.specs.RowsByY.{IsEntryOf, IsRowsByY};
+ghost use Rattle.lf_segments.specs.RowsByY.{IsEntryOf};
 ghost use Rattle.lf_occupancy.specs.Floorplans.{IsOccupancyOf};
 ghost use Rattle.lf_legalize.specs.Extents.{IsNearDefPoint, IsOnRow, IsWithin, LooksNear};
 ghost use Rattle.lf_legalize.specs.RowSearches.{IsChoiceAmong, IsOnRowIn, lifted_in};
@@ -12,7 +12,7 @@ ghost use Rattle.lf_legalize.specs.RowSearches.{IsChoiceAmong, IsOnRowIn, lifted
 use crate::key::gap;
 use crate::on_row::best_on_row;
 use crate::reach::{better, limit, window};
-use crate::row_search::RowSearch;
+use crate::row_search::{RowSearch, rows_of};
 use lf_floorplan::{Place, Row};
 use lf_segments::{RowEntry, runs_have_rows};
 use lf_units::{Point, Span};
@@ -34,7 +34,6 @@ fn best_in_window(
     number: usize,
     window: &Span,
 ) -> Result<Option<Place>, AllocError>
-    requires rows { IsRowsByY search.now.frame.now search.now.rows.now }
     requires held { IsOccupancyOf search.now.frame.now search.now.cells.now search.now.occupancy.now }
     requires within { number < length search.now.frame.now.rows }
     requires low { negsuc 4611686018427387903 ≤ℤ window.now.lo }
@@ -56,7 +55,6 @@ fn with_row(
     best: Option<Place>,
     entry: &RowEntry,
 ) -> Result<Option<Place>, AllocError>
-    requires rows { IsRowsByY search.now.frame.now search.now.rows.now }
     requires held { IsOccupancyOf search.now.frame.now search.now.cells.now search.now.occupancy.now }
     requires near { IsNearDefPoint search.now.target.now }
     requires small { reach ≤ 68719476736 }
@@ -84,7 +82,6 @@ fn best_within(
     search: &RowSearch<'_>,
     reach: u64,
 ) -> Result<Option<Place>, AllocError>
-    requires rows { IsRowsByY search.now.frame.now search.now.rows.now }
     requires held { IsOccupancyOf search.now.frame.now search.now.cells.now search.now.occupancy.now }
     requires near { IsNearDefPoint search.now.target.now }
     requires small { reach ≤ 68719476736 }
@@ -95,7 +92,7 @@ fn best_within(
     let y = search.target.y;
     let height = reach as i64;
     let mut best = None;
-    let run = search.rows.between(y - height, y + height + 1);
+    let run = rows_of(search).between(y - height, y + height + 1);
     for entry in run {
         best = with_row(alloc, search, reach, best, entry)?;
     }
@@ -111,7 +108,6 @@ pub(crate) fn nearest(
     search: &RowSearch<'_>,
     farthest: u64,
 ) -> Result<Option<Place>, AllocError>
-    requires rows { IsRowsByY search.now.frame.now search.now.rows.now }
     requires held { IsOccupancyOf search.now.frame.now search.now.cells.now search.now.occupancy.now }
     requires near { IsNearDefPoint search.now.target.now }
     requires small { farthest ≤ 68719476736 }

@@ -4,7 +4,6 @@ ghost use Rattle.std.specs.Prelude.{◌≡◌, ◌↔◌, ◌<◌, ◌≤ℤ◌,
 ghost use Rattle.lf_floorplan.specs.declared.parts.Row.{Row};
 ghost use Rattle.lf_floorplan.specs.Bounds.{IsDefNumber};
 ghost use Rattle.lf_rules.specs.Choice.{spot_of};
-ghost use Rattle.lf_segments.specs.RowsByY.{IsRowsByY};
 ghost use Rattle.lf_gaps.specs.Gaps.{FitsRows};
 ghost use Rattle.lf_spans.specs.Grids.{FindsNearest, IsBounded, IsBoundedSpan, IsGrid, grid_of};
 ghost use Rattle.lf_spans.specs.Spans.{IsRising};
@@ -165,7 +164,6 @@ pub(crate) fn best_on_row(
     number: usize,
     window: &Span,
 ) -> Result<Option<Place>, AllocError>
-    requires rows { IsRowsByY search.now.frame.now search.now.rows.now }
     requires held { IsOccupancyOf search.now.frame.now search.now.cells.now search.now.occupancy.now }
     requires within { number < length search.now.frame.now.rows }
     requires low { negsuc 4611686018427387903 ≤ℤ window.now.lo }

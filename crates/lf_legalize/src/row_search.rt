@@ -13,7 +13,6 @@ use lf_units::Point;
 #[derive(Clone, Copy)]
 pub(crate) struct RowSearch<'a> {
     pub frame: &'a Frame,
-    pub rows: &'a RowsByY,
     pub cells: &'a CellTable,
     pub occupancy: &'a Occupancy,
     pub id: CellId,
@@ -30,4 +29,11 @@ pub(crate) struct RowSearch<'a> {
     pub ghost least: { 1 ≤ height },
     pub ghost most: { height ≤ 8 },
     pub ghost high: { size.y ≡ pos height *ℤ frame.now.pitch.y },
+}
+
+/// The rows of the frame in order of y.
+pub(crate) fn rows_of<'a>(search: &RowSearch<'a>) -> &'a RowsByY
+    ensures { result.now ≡ search.now.occupancy.now.index.rows }
+{
+    search.occupancy.index().rows()
 }

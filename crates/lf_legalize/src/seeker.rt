@@ -1,11 +1,10 @@
 //! The search for the best place of a cell of a table.
 
-ghost use Rattle.std.specs.Prelude.{◌≡◌, ◌≤◌, All, IfOk, length, ⊤};
+ghost use Rattle.std.specs.Prelude.{◌≡◌, ◌≤◌, All, IfOk, length};
 ghost use Rattle.std.specs.Option.{option_map};
 ghost use Rattle.lf_rules.specs.Choice.{spot_of};
 ghost use Rattle.lf_rules.specs.Legalizer.{Legalizer};
 ghost use Rattle.lf_cells.specs.Cells.{cells_of};
-ghost use Rattle.lf_floorplan.specs.declared.frame.Frame.{Frame};
 ghost use Rattle.lf_legalize.specs.Members.{IsSizedCell, best_of};
 ghost use Rattle.lf_occupancy.specs.Floorplans.{IsOccupancyOf};
 
@@ -20,9 +19,6 @@ use std::alloc::{AllocError, Global};
 /// Finds best places. All seekers give the same answers: they differ in what they look at and in
 /// how long they take.
 pub trait Seeker {
-    /// Whether the seeker was built for this frame.
-    ghost is_for: { Self → Frame → Type 0 } = { λ _ _. ⊤ };
-
     /// The best place of a cell for a target: the cell is taken away from its place, and of all
     /// places that are team-legal beside the team's other placed cells, and at which its box shares no point with a soft
     /// blockage, it is the one of least key.
@@ -38,7 +34,6 @@ pub trait Seeker {
         cell: CellId,
         target: &Point,
     ) -> Result<Option<Place>, AllocError>
-        requires made { is_for self.now frame.now }
         requires held { IsOccupancyOf frame.now cells.now occupancy.now }
         requires sized { All (IsSizedCell frame.now) (cells_of cells.now cell.team) }
         requires few { length (cells_of cells.now cell.team) ≤ 4000000 }

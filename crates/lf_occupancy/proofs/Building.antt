@@ -1,123 +1,27 @@
--- How an occupancy is made: the strips of a frame's segments, and the boxes of all cells.
-use Rattle.std.proofs.Common.{◌≡◌, ◌⊎◌, inl, inr, ℕ, zero, suc, ◌+◌, ◌<◌, ◌≤◌, ℤ, pos, ◌-ℤ◌, ◌+ℤ◌, ◌<ℤ◌, List, [], ◌∷◌, Option, Some, None}
+-- How an occupancy is made: the boxes of all cells.
+use Rattle.std.proofs.Common.{◌≡◌, ◌⊎◌, inl, inr, ℕ, zero, suc, ◌+◌, ◌<◌, ◌≤◌, List, [], ◌∷◌, Option, Some, None}
 use Rattle.std.proofs.Common.{length, get_or, set, take, map, replicate, slice_get, refl, sym, ap, subst, ◌∙◌, arith}
-use Rattle.std.specs.Prelude.{All, AllPairs, Any, Contains, IsPermutation, IsSome, ◌↔◌}
+use Rattle.std.specs.Prelude.{All, Contains, IsPermutation, IsSome, ◌↔◌}
 use Rattle.std.proofs.lemmas.List.Sorted.{Contains-permutation, IsPermutation-sym}
-use Rattle.std.specs.Option.{option_map_or}
 use Rattle.std.proofs.lemmas.Bool.Decides.{eqb_tells}
 use Rattle.std.proofs.lemmas.Int.{ints}
-use Rattle.std.proofs.lemmas.List.{get_or_default, get_or-map, get_or-set_same, get_or-set_other, length-map, length-set, length-replicate}
+use Rattle.std.proofs.lemmas.List.{get_or-map, get_or-set_same, get_or-set_other, length-map, length-set, length-replicate}
 use Rattle.std.proofs.lemmas.List.{same_lists, get_or_past, take_more}
-use Rattle.std.proofs.lemmas.List.Elements.{All-contains, All-map, Contains-push_cases}
+use Rattle.std.proofs.lemmas.List.Elements.{All-contains, Contains-push_cases}
 use Rattle.std.proofs.lemmas.Option.{slice_get-get_or, slice_get_within}
 use Rattle.lf_units.specs.declared.area.Rect.{Rect}
-use Rattle.lf_spans.specs.Spans.{Holds}
 use Rattle.lf_floorplan.specs.declared.frame.Frame.{Frame}
-use Rattle.lf_floorplan.specs.declared.parts.Row.{Row}
-use Rattle.lf_floorplan.specs.Rows.{IsHeeded}
-use Rattle.lf_segments.specs.declared.segment.Segment.{Segment}
-use Rattle.lf_segments.specs.declared.rows_by_y.RowEntry.{RowEntry}
-use Rattle.lf_segments.specs.Segments.{IsCut, IsOpen, IsSegment, LiesInSegment}
-use Rattle.lf_segments.specs.RowStarts.{AreRowStarts, rows_of}
-use Rattle.lf_segments.specs.RowsByY.{IsEntryOf, IsRowsByY}
 use Rattle.lf_cells.specs.declared.cell.Cell.{Cell}
 use Rattle.lf_cells.specs.declared.cell.CellId.{CellId}
 use Rattle.lf_cells.specs.Cells.{AreAll, Cells, cell_at, cells_of}
 use Rattle.lf_occupancy.specs.declared.lane.Lane.{Lane}
-use Rattle.lf_occupancy.specs.declared.strip.Strip.{Strip}
-use Rattle.lf_occupancy.specs.declared.strips.Strips.{Strips}
-use Rattle.lf_occupancy.specs.Building.{AreBare, AreFilled, AreLaidOut, AreNowhere, IsBare}
-use Rattle.lf_occupancy.specs.Floorplans.{box_of, row_y, strip_of}
+use Rattle.lf_segments.specs.declared.strip.Strip.{Strip}
+use Rattle.lf_occupancy.specs.Building.{AreBare, AreFilled, AreNowhere, IsBare}
+use Rattle.lf_occupancy.specs.Floorplans.{box_of}
 use Rattle.lf_occupancy.specs.Occupied.{cell_box}
 use Rattle.lf_occupancy.specs.Lanes.{IsLane}
-use Rattle.lf_occupancy.specs.Strips.{AreLanes, ComesBefore, IsPlaced}
+use Rattle.lf_occupancy.specs.Strips.{AreLanes}
 use Rattle.lf_occupancy.proofs.Laning.{box_other, box_same}
-
-no_segment : Segment
-no_segment = record { row = 0; team = 0; span = record { lo = pos 0; hi = pos 0 } }
-
-some_row : (rows : List Row) (k : ℕ) → k < length rows → Row
-some_row [] k within = absurd (omega (arith, within))
-some_row (r ∷ rows) k within = r
-
-strips_in_order : (f : Frame) (segments : List Segment) → IsCut f segments → AllPairs ComesBefore (map (strip_of f) segments)
-strips_in_order f segments cut i j d less within =
-    let long = length-map segments (strip_of f) in
-    let first = get_or-map (strip_of f) segments i no_segment d (omega (arith, long, less, within)) in
-    let second = get_or-map (strip_of f) segments j no_segment d (omega (arith, long, within)) in
-    subst (λ (a : Strip). ComesBefore a (get_or (map (strip_of f) segments) j d)) (sym first)
-    (subst (λ (b : Strip). ComesBefore (strip_of f (get_or segments i no_segment)) b) (sym second)
-    (cut.in_order i j no_segment less (omega (arith, long, within))))
-
-strip_placed : (f : Frame) (segments : List Segment) (rows : List RowEntry) (height : ℤ) → height ≡ f.pitch.y → IsCut f segments → IsRowsByY f rows →
-    All (λ g. IsPlaced rows height (strip_of f g)) segments
-strip_placed f segments rows height same cut by_y k d within = record {
-  wide = filled;
-  x_low = let a = heeded.x_in_def.above in let b = (open_at g.span.lo record { low = omega (arith, ints); high = filled }).clear.left in omega
-      (arith, ints, a, b);
-  x_high = let a = heeded.ends in
-      let b = (open_at (g.span.hi -ℤ pos 1) record { low = omega (arith, ints, filled); high = omega (arith, ints) }).clear.right in
-      omega (arith, ints, a, b);
-  y_low = let a = heeded.y_in_def.above in omega (arith, ints, a, level);
-  high = ap (λ (h : ℤ). row_y f g.row +ℤ h) (sym same);
-  found = (found.0, found.1, found.2, found.3, (found.4, entry_level));
-}
-  where
-    g : Segment
-    g = get_or segments k d
-
-    known : IsSegment f g
-    known = cut.known k d within
-
-    filled : g.span.lo <ℤ g.span.hi
-    filled = known.filled
-
-    row : Row
-    row = get_or f.rows g.row (some_row f.rows g.row known.row_known)
-
-    stands : slice_get f.rows g.row ≡ Some row
-    stands = slice_get-get_or f.rows g.row (some_row f.rows g.row known.row_known) known.row_known
-
-    heeded : IsHeeded f.pitch row
-    heeded = f.rows_heeded g.row (some_row f.rows g.row known.row_known) known.row_known
-
-    lies : LiesInSegment segments g.row g.team g.span
-    lies = (k, g, within, get_or_default segments k _ d within, (record { in_row = refl; of_team = refl }, λ x h. h))
-
-    open_at : (x : ℤ) → Holds g.span x → IsOpen f row g.team x
-    open_at x holds = (cut.exact g.row row g.team g.span stands filled).0 lies x holds
-
-    level : row_y f g.row ≡ row.y
-    level = ap (λ r. option_map_or (λ (q : Row). q.y) r (pos 0)) stands
-
-    found : Any (λ e. e.row ≡ g.row) rows
-    found = by_y.each g.row known.row_known
-
-    entry_level : found.1.y ≡ row_y f g.row
-    entry_level =
-        let one : IsEntryOf f found.1 = All-contains (IsEntryOf f) rows found.1 by_y.known (found.0, found.2, found.3) in
-        let there : row_y f found.1.row ≡ one.row.y = ap (λ r. option_map_or (λ (q : Row). q.y) r (pos 0)) one.stands in
-        ap (λ (e : RowEntry). e.y) one.is ∙ sym there ∙ ap (λ (n : ℕ). row_y f n) found.4
-
-pub laid_out : (f : Frame) (segments : List Segment) (s : Strips) → s.list.items ≡ map (strip_of f) segments → s.height ≡ f.pitch.y → IsCut f segments →
-    AreRowStarts (rows_of segments) s.starts → IsRowsByY f s.rows → AreLaidOut f segments s
-laid_out f segments s list height cut starts by_y = record {
-  list = list;
-  strips = record {
-    starts = subst (λ (rows : List ℕ). AreRowStarts rows s.starts) (rows_alike segments ∙ ap (λ (gs : List Strip). map (λ (g : Strip). g.row) gs) (sym list)) starts;
-    in_order = subst (AllPairs ComesBefore) (sym list) (strips_in_order f segments cut);
-    placed = subst (All (IsPlaced s.rows s.height)) (sym list)
-        (All-map (IsPlaced s.rows s.height) (strip_of f) segments (strip_placed f segments s.rows s.height height cut by_y));
-    once = by_y.once;
-    high = let h = f.pitch_whole.high in omega (arith, ints, height, h);
-    small = let h = f.pitch_whole.y_small in omega (arith, ints, height, h);
-  };
-}
-  where
-    -- a strip is of its segment's row
-    rows_alike : (gs : List Segment) → rows_of gs ≡ map (λ (g : Strip). g.row) (map (strip_of f) gs)
-    rows_alike [] = refl
-    rows_alike (g ∷ gs) = ap (λ (rows : List ℕ). g.row ∷ rows) (rows_alike gs)
 
 -- if no cell has a box, the lanes are bare
 nowhere : (count own : ℕ) (box : Rect) → cell_box (replicate count None) own ≡ Some box → ⊥
@@ -125,13 +29,12 @@ nowhere zero own box is = cc
 nowhere (suc count) zero box is = cc
 nowhere (suc count) (suc own) box is = nowhere count own box is
 
-pub lanes_bare : (s : Strips) (cells : Cells) (boxes : List (List (Option Rect))) (lanes : List Lane) → AreNowhere cells boxes →
-    AreBare (length s.list.items) lanes →
-    AreLanes s.list.items boxes lanes
-lanes_bare s cells boxes lanes none bare = record {
+pub lanes_bare : (xs : List Strip) (cells : Cells) (boxes : List (List (Option Rect))) (lanes : List Lane) → AreNowhere cells boxes →
+    AreBare (length xs) lanes → AreLanes xs boxes lanes
+lanes_bare xs cells boxes lanes none bare = record {
   many = bare.many;
   each = λ n d e within.
-      bare_lane (get_or s.list.items n d).team (get_or s.list.items n d).area (get_or lanes n e)
+      bare_lane (get_or xs n d).team (get_or xs n d).area (get_or lanes n e)
       (bare.each n e (let m = bare.many in omega (arith, m, within)));
 }
   where
@@ -319,10 +222,3 @@ nowhere_all cells ids boxes limit all below many each team = elim order [
           let less = All-contains (λ x. x.team < limit) ids id below there in
           absurd (omega (arith, less, past))
     ]
-
-pub same_strip : (row team : ℕ) (a b c d e f g h : ℤ) → a ≡ e → b ≡ f → c ≡ g → d ≡ h →
-    ◌≡◌ {A = Strip} (record { row = row; team = team; area = record { x1 = a; y1 = b; x2 = c; y2 = d } })
-    (record { row = row; team = team; area = record { x1 = e; y1 = f; x2 = g; y2 = h } })
-same_strip row team a b c d e f g h p q r s =
-    let strip : ℤ → ℤ → ℤ → ℤ → Strip = λ x1 y1 x2 y2. record { row = row; team = team; area = record { x1 = x1; y1 = y1; x2 = x2; y2 = y2 } } in
-    ap (λ (v : ℤ). strip v b c d) p ∙ ap (λ (v : ℤ). strip e v c d) q ∙ ap (λ (v : ℤ). strip e f v d) r ∙ ap (λ (v : ℤ). strip e f g v) s

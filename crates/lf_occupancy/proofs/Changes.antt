@@ -6,9 +6,10 @@ use Rattle.std.proofs.lemmas.List.{get_or_default, get_or-set_same, get_or-set_o
 use Rattle.lf_units.specs.declared.area.Rect.{Rect}
 use Rattle.lf_segments.specs.declared.rows_by_y.RowEntry.{RowEntry}
 use Rattle.lf_occupancy.specs.declared.lane.Lane.{Lane}
-use Rattle.lf_occupancy.specs.declared.strip.Strip.{Strip}
+use Rattle.lf_segments.specs.declared.strip.Strip.{Strip}
 use Rattle.lf_occupancy.specs.Lanes.{HasRoomOf, IsKept}
-use Rattle.lf_occupancy.specs.Strips.{AreChanged, AreKept, AreNear, IsNear, IsReached, IsReachedIn}
+use Rattle.lf_segments.specs.Strips.{AreNear, IsNear}
+use Rattle.lf_occupancy.specs.Strips.{AreChanged, AreKept, IsReached, IsReachedIn}
 use Rattle.lf_occupancy.proofs.Lists.{any_more, any_less}
 use Rattle.lf_occupancy.proofs.Finds.{no_strip}
 

@@ -8,8 +8,8 @@ use Rattle.std.proofs.lemmas.Int.{ints, clamps}
 use Rattle.std.proofs.lemmas.List.Sums.{sum_by-cons, count_by_more_yes, count_by_more_no}
 use Rattle.lf_units.specs.declared.area.Rect.{Rect}
 use Rattle.lf_units.specs.Area.{SharesPoint}
-use Rattle.lf_occupancy.specs.declared.strip.Strip.{Strip}
-use Rattle.lf_occupancy.specs.Occupied.{ArePartOf, FitIn, HasRoomFor, NoLess, Occupied, boxes_of, cell_box, count_in, meets}
+use Rattle.lf_segments.specs.declared.strip.Strip.{Strip}
+use Rattle.lf_occupancy.specs.Occupied.{ArePartOf, FitIn, NoLess, Occupied, cell_box, count_in, meets}
 
 -- 1 for true
 abbrev one_if : Bool → ℕ
@@ -129,16 +129,8 @@ part_leaves_room g (b ∷ bs) (c ∷ cs) (suc own) r p none is shares =
     let after = one_more g c cs in
     omega (arith, rest, first, before, after)
 
--- so a box that is lacking has room in each strip that it meets, where the whole fits
-pub part_has_room : (o : Occupied) (team : ℕ) (whole : List (Option Rect)) (own : ℕ) (r : Rect) → FitIn o team whole → ArePartOf (boxes_of o team) whole →
-    cell_box (boxes_of o team) own ≡ None → cell_box whole own ≡ Some r → HasRoomFor o team r 1
-part_has_room o team whole own r fits part none is n g at of_team shares =
-    let most = fits n g at of_team in
-    let less = part_leaves_room g (boxes_of o team) whole own r part none is shares in
-    omega (arith, most, less)
-
 -- what fits still does where no room is less
-pub fits_still : (old new : Occupied) (team : ℕ) (boxes : List (Option Rect)) → new.strips ≡ old.strips → NoLess old.rooms new.rooms → FitIn old team boxes →
+pub fits_still : (old new : Occupied) (team : ℕ) (boxes : List (Option Rect)) → new.index.strips ≡ old.index.strips → NoLess old.rooms new.rooms → FitIn old team boxes →
     FitIn new team boxes
 fits_still old new team boxes strips rooms fits n g at of_team =
     let most = fits n g (ap (λ (xs : List Strip). slice_get xs n) (sym strips) ∙ at) of_team in

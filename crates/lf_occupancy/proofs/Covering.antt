@@ -15,10 +15,11 @@ use Rattle.lf_floorplan.specs.Standing.{StandsOn}
 use Rattle.lf_segments.specs.declared.segment.Segment.{Segment}
 use Rattle.lf_segments.specs.Segments.{IsOf}
 use Rattle.lf_segments.specs.Boxes.{across}
+use Rattle.lf_segments.specs.Grounds.{IsGroundOf}
+use Rattle.lf_segments.specs.Strips.{row_y, strip_of}
 use Rattle.lf_segments.proofs.LawLemmas.{InSegment, in_segment, segments_hold}
-use Rattle.lf_occupancy.specs.declared.strip.Strip.{Strip}
+use Rattle.lf_segments.specs.declared.strip.Strip.{Strip}
 use Rattle.lf_occupancy.specs.Occupied.{Occupied}
-use Rattle.lf_occupancy.specs.Floorplans.{HasStripsOf, row_y, strip_of}
 
 -- the y of the row of this number
 row_y_is : (f : Frame) (n : ℕ) (r : Row) → slice_get f.rows n ≡ Some r → row_y f n ≡ r.y
@@ -44,13 +45,13 @@ any_made P make (x ∷ xs) found = elim (any_cases (λ x. P (make x)) x xs found
   | inr there ↦ any_tail P (make x) (map make xs) (any_made P make xs there)
 ]
 
-module _ (f : Frame) (o : Occupied) (team : ℕ) (box : Rect) (strips : HasStripsOf f o) (stands : StandsOn f box)
+module _ (f : Frame) (o : Occupied) (team : ℕ) (box : Rect) (plan : IsGroundOf f o.index) (stands : StandsOn f box)
     (ground : StaysInGround f team box) (clear : IsClear f box) (x y : ℤ) (covers : Covers box x y) where
   wide : box.x1 <ℤ box.x2
   wide = let low = covers.left in let high = covers.right in omega (arith, ints, low, high)
 
-  in_one : InSegment f strips.segments team box x y
-  in_one = in_segment f strips.segments team box stands (segments_hold f strips.segments team box strips.cut stands wide ground clear) x y covers
+  in_one : InSegment f o.index.segments team box x y
+  in_one = in_segment f o.index.segments team box stands (segments_hold f f.obstacles o.index.segments team box plan.segments stands wide ground clear) x y covers
 
   abbrev Found : Strip → Type 0
   Found g = (g.team ≡ team) × Covers g.area x y
@@ -62,7 +63,7 @@ module _ (f : Frame) (o : Occupied) (team : ℕ) (box : Rect) (strips : HasStrip
         (is.1 x record { low = covers.left; high = covers.right }) in_one.covers,
   )
 
-  pub strips_hold : Any Found o.strips
-  strips_hold = subst (λ (list : List Strip). Any Found list) (sym strips.strips)
-      (any_made Found (strip_of f) strips.segments
-      (any_weaker (λ g. IsOf in_one.number team g × LiesIn (across box) g.span) (λ g. Found (strip_of f g)) made strips.segments in_one.lies))
+  pub strips_hold : Any Found o.index.strips
+  strips_hold = subst (λ (list : List Strip). Any Found list) (sym plan.strips)
+      (any_made Found (strip_of f) o.index.segments
+      (any_weaker (λ g. IsOf in_one.number team g × LiesIn (across box) g.span) (λ g. Found (strip_of f g)) made o.index.segments in_one.lies))

@@ -7,10 +7,11 @@ use Rattle.std.proofs.lemmas.List.Elements.{All-contains, Contains-append_cases}
 use Rattle.lf_units.specs.declared.area.Rect.{Rect}
 use Rattle.lf_segments.specs.declared.rows_by_y.RowEntry.{RowEntry}
 use Rattle.lf_occupancy.specs.declared.lane.Lane.{Lane}
-use Rattle.lf_occupancy.specs.declared.strip.Strip.{Strip}
-use Rattle.lf_occupancy.specs.declared.strips.Strips.{Strips}
+use Rattle.lf_segments.specs.declared.strip.Strip.{Strip}
+use Rattle.lf_segments.specs.Grounds.{Lookups}
 use Rattle.lf_occupancy.specs.Lanes.{IsInside, IsLeast, MeetsOne}
-use Rattle.lf_occupancy.specs.Strips.{AreNear, AreOrderly, AreRowsNear, AreStrips, IsPlaced, MeetsAt, MeetsInOne, MeetsInRow}
+use Rattle.lf_segments.specs.Strips.{AreNear, AreRowsNear, AreStrips, IsPlaced}
+use Rattle.lf_occupancy.specs.Strips.{AreOrderly, MeetsAt, MeetsInOne, MeetsInRow}
 use Rattle.lf_occupancy.proofs.Leasts.{least_alike, least_of_both}
 
 -- a lane between two numbers has an entry that is met
@@ -110,10 +111,10 @@ row_in_between xs lanes row team start n end rect but own near orderly past (m, 
     record { m = m; from = both.0; below = omega (arith, until, past); until = until; meets = at.meets }
 
 -- the row of a strip in which an entry is met stands among the near ones
-pub row_is_near : (s : Strips) (lanes : List Lane) (team : ℕ) (rect : Rect) (but own n : ℕ) (run : List RowEntry) → AreStrips s →
-    AreOrderly s.list.items lanes →
-    AreRowsNear s.rows s.height rect run → MeetsAt s.list.items lanes team rect but own n →
-    Any (λ e. MeetsInRow s.list.items lanes e.row team rect but own) run
+pub row_is_near : (s : Lookups) (lanes : List Lane) (team : ℕ) (rect : Rect) (but own n : ℕ) (run : List RowEntry) → AreStrips s.rows s.height s.strips →
+    AreOrderly s.strips lanes →
+    AreRowsNear s.rows s.height rect run → MeetsAt s.strips lanes team rect but own n →
+    Any (λ e. MeetsInRow s.strips lanes e.row team rect but own) run
 row_is_near s lanes team rect but own n run strips orderly rows at =
     elim (Contains-append_cases rows.part.before _ e there) [
       | inl before ↦ let h = All-contains (λ x. x.y <ℤ rows.from) rows.part.before e rows.part.below before in absurd (omega (arith, ints, h, low))
@@ -124,7 +125,7 @@ row_is_near s lanes team rect but own n run strips orderly rows at =
     ]
   where
     xs : List Strip
-    xs = s.list.items
+    xs = s.strips
 
     g : Strip
     g = get_or xs n no_strip

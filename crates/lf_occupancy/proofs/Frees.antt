@@ -9,10 +9,11 @@ use Rattle.lf_spans.specs.Spans.{IsApart, IsFilled, IsFreeIn, IsRising, LiesIn, 
 use Rattle.lf_spans.proofs.Anys.{any_left, any_split}
 use Rattle.lf_spans.proofs.Edges.{in_of_lies}
 use Rattle.lf_occupancy.specs.declared.lane.Lane.{Lane}
-use Rattle.lf_occupancy.specs.declared.strip.Strip.{Strip}
+use Rattle.lf_segments.specs.declared.strip.Strip.{Strip}
 use Rattle.lf_occupancy.specs.Lanes.{others_in, spans_in, x_range}
 use Rattle.lf_occupancy.specs.Occupied.{across}
-use Rattle.lf_occupancy.specs.Strips.{AreFreeTo, AreNear, ComesBefore, IsNear, LiesFree}
+use Rattle.lf_segments.specs.Strips.{AreNear, LiesBefore, IsNear}
+use Rattle.lf_occupancy.specs.Strips.{AreFreeTo, LiesFree}
 use Rattle.lf_occupancy.proofs.Lists.{pairs_append, any_right}
 use Rattle.lf_occupancy.proofs.Finds.{no_strip}
 
@@ -52,13 +53,13 @@ part_inside strip window taken part f k d within =
     (i.low, i.high)
 
 -- of two near strips the first ends before the second begins
-near_rise : (row team : ℕ) (lo hi : ℤ) (a b : Strip) → IsNear row team lo hi a → IsNear row team lo hi b → ComesBefore a b → a.area.x2 ≤ℤ b.area.x1
+near_rise : (row team : ℕ) (lo hi : ℤ) (a b : Strip) → IsNear row team lo hi a → IsNear row team lo hi b → LiesBefore a b → a.area.x2 ≤ℤ b.area.x1
 near_rise row team lo hi a b p q (inl less) = let e = p.in_row in let f = q.in_row in absurd (omega (arith, less, e, f))
 near_rise row team lo hi a b p q (inr (same, inl less)) = let e = p.of_team in let f = q.of_team in absurd (omega (arith, less, e, f))
 near_rise row team lo hi a b p q (inr (same, inr (alike, apart))) = apart
 
 pub free_further : (xs : List Strip) (lanes : List Lane) (row team own start k end : ℕ) (window : Span) (lane : Lane) (g : Strip) (free part : List Span) →
-    AllPairs ComesBefore xs → AreNear xs row team window.lo window.hi start end → start ≤ k → k < end → k < length lanes →
+    AllPairs LiesBefore xs → AreNear xs row team window.lo window.hi start end → start ≤ k → k < end → k < length lanes →
     All (λ x. x.area.x1 <ℤ x.area.x2) xs →
     lane ≡ get_or lanes k lane → ((d : Strip) → g ≡ get_or xs k d) → AreFreeBetween xs lanes own start k end window free →
     IsFreeIn (x_range g.area) (spans_in (others_in lane.entries.items own)) window part → AreFreeBetween xs lanes own start (k + 1) end window (free ++ part)

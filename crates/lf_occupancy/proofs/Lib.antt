@@ -2,7 +2,6 @@ pub mod Lists
 pub mod Leasts
 pub mod Runs
 pub mod Parts
-pub mod Order
 pub mod Finds
 pub mod Frees
 pub mod Changes
@@ -11,7 +10,6 @@ pub mod Reaching
 pub mod Views
 pub mod Covering
 pub mod Building
-pub mod Ranges
 pub mod Ones
 pub mod Counting
 pub mod Knowing

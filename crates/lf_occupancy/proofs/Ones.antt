@@ -12,10 +12,10 @@ use Rattle.lf_cells.specs.declared.cell.CellId.{CellId}
 use Rattle.lf_segments.specs.declared.rows_by_y.RowEntry.{RowEntry}
 use Rattle.lf_occupancy.specs.declared.lane.Entry.{Entry}
 use Rattle.lf_occupancy.specs.declared.lane.Lane.{Lane}
-use Rattle.lf_occupancy.specs.declared.strip.Strip.{Strip}
+use Rattle.lf_segments.specs.declared.strip.Strip.{Strip}
 use Rattle.lf_occupancy.specs.Occupied.{cell_box}
 use Rattle.lf_occupancy.specs.Lanes.{HasAtMostOne, IsLane, StandsAt, StandsNotFrom, others_in}
-use Rattle.lf_occupancy.specs.Strips.{AreKept, AreLanes, HaveAtMostOne, IsReached, StandOnce}
+use Rattle.lf_occupancy.specs.Strips.{AreLanes, HaveAtMostOne, IsReached, StandOnce}
 
 kept_one : (e : Entry) (es : List Entry) (own : ℕ) → e.own ≢ own → others_in (e ∷ es) own ≡ e ∷ others_in es own
 kept_one e es own apart = elim (eqb_tells e.own own) [
@@ -151,20 +151,3 @@ pub reached_has_one : (xs : List Strip) (id : CellId) (box : Option Rect) (rect 
 reached_has_one xs id box rect run lanes is one n d e (within, (k, r, below, at, near)) =
     let all = subst (λ (b : Option Rect). StandOnce xs id b lanes) is one in
     all n d e record { within = within; of_team = λ g. (near g).of_team }
-
--- lanes that hold what they held
-one_kept : (own : ℕ) (left : ℤ) (old new : Lane) → new.entries.items ≡ old.entries.items → HasAtMostOne own left old → HasAtMostOne own left new
-one_kept own left old new same one = record {
-  order = subst (λ (es : List Entry). AllPairs (λ a b. a.area.x1 ≤ℤ b.area.x1) es) (sym same) one.order;
-  once = subst (λ (es : List Entry). AllPairs (λ a b. a.own ≢ b.own) es) (sym same) one.once;
-  begins = subst (λ (es : List Entry). (k : ℕ) (d : Entry) → k < length es → (get_or es k d).own ≡ own → (get_or es k d).area.x1 ≡ left) (sym same)
-      one.begins;
-}
-
-pub ones_kept : (xs : List Strip) (id : CellId) (box : Option Rect) (old new : List Lane) → length old ≡ length xs → AreKept old new → StandOnce xs id box old →
-    StandOnce xs id box new
-ones_kept xs id None old new many kept one = tt
-ones_kept xs id (Some rect) old new many kept one = λ n d e of.
-    let within = of.within in
-    one_kept id.own (int_max (get_or xs n d).area.x1 rect.x1) (get_or old n e) (get_or new n e) (kept.each n e (omega (arith, within, many))).entries
-    (one n d e of)

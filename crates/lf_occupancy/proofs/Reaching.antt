@@ -14,11 +14,13 @@ use Rattle.lf_units.specs.Area.{Covers, SharesPoint}
 use Rattle.lf_spans.proofs.Anys.{any_nil, any_head, any_tail, any_cases}
 use Rattle.lf_segments.specs.declared.rows_by_y.RowEntry.{RowEntry}
 use Rattle.lf_occupancy.specs.declared.lane.Lane.{Lane}
-use Rattle.lf_occupancy.specs.declared.strip.Strip.{Strip}
-use Rattle.lf_occupancy.specs.declared.strips.Strips.{Strips}
+use Rattle.lf_segments.specs.declared.strip.Strip.{Strip}
+use Rattle.lf_segments.specs.Grounds.{Lookups}
 use Rattle.lf_occupancy.specs.Lanes.{IsLane, IsPruned}
-use Rattle.lf_occupancy.specs.Strips.{AreChanged, AreKept, AreLanes, AreOrderly, AreRowsNear, AreStrips, MeetsStrip}
-use Rattle.lf_occupancy.specs.Strips.{IsNear, IsPlaced, IsReached, PutsIn, CanTake, HaveRoom, rooms_in}
+use Rattle.lf_segments.specs.Strips.{AreRowsNear, AreStrips}
+use Rattle.lf_occupancy.specs.Strips.{AreChanged, AreKept, AreLanes, AreOrderly, MeetsStrip}
+use Rattle.lf_segments.specs.Strips.{IsNear, IsPlaced}
+use Rattle.lf_occupancy.specs.Strips.{IsReached, PutsIn, CanTake, HaveRoom, rooms_in}
 use Rattle.lf_occupancy.specs.Occupied.{NoLess, cell_box}
 use Rattle.lf_occupancy.proofs.Finds.{no_strip, some_lane}
 use Rattle.lf_occupancy.proofs.Lists.{maps_alike}
@@ -26,10 +28,10 @@ use Rattle.lf_occupancy.proofs.Changes.{room_kept}
 use Rattle.lf_occupancy.proofs.Laning.{lane_beside, lane_kept, lane_pruned, lane_put}
 
 -- a strip that shares a point with the rectangle is reached
-pub point_is_reached : (s : Strips) (rect : Rect) (run : List RowEntry) (team n : ℕ) (d : Strip) (x y : ℤ) → AreStrips s →
+pub point_is_reached : (s : Lookups) (rect : Rect) (run : List RowEntry) (team n : ℕ) (d : Strip) (x y : ℤ) → AreStrips s.rows s.height s.strips →
     AreRowsNear s.rows s.height rect run →
-    n < length s.list.items → (get_or s.list.items n d).team ≡ team → Covers (get_or s.list.items n d).area x y → Covers rect x y →
-    IsReached s.list.items run team rect n
+    n < length s.strips → (get_or s.strips n d).team ≡ team → Covers (get_or s.strips n d).area x y → Covers rect x y →
+    IsReached s.strips run team rect n
 point_is_reached s rect run team n d x y strips rows within of_team in_strip in_rect =
     elim (Contains-append_cases rows.part.before _ e there) [
       | inl before ↦ let h = All-contains (λ r. r.y <ℤ rows.from) rows.part.before e rows.part.below before in absurd (omega (arith, ints, h, low))
@@ -40,7 +42,7 @@ point_is_reached s rect run team n d x y strips rows within of_team in_strip in_
     ]
   where
     xs : List Strip
-    xs = s.list.items
+    xs = s.strips
 
     g : Strip
     g = get_or xs n d
@@ -155,31 +157,31 @@ lanes_of_team xs boxes team cells lanes new has many old own others = record {
 }
 
 -- the lanes that are pruned where the old box reaches
-pub lanes_out : (s : Strips) (boxes : List (List (Option Rect))) (team own : ℕ) (rect : Rect) (run : List RowEntry) (lanes new : List Lane) → AreStrips s →
+pub lanes_out : (s : Lookups) (boxes : List (List (Option Rect))) (team own : ℕ) (rect : Rect) (run : List RowEntry) (lanes new : List Lane) → AreStrips s.rows s.height s.strips →
     AreRowsNear s.rows s.height rect run → team < length boxes → own < length (get_or boxes team []) → cell_box (get_or boxes team []) own ≡ Some rect →
-    AreLanes s.list.items boxes lanes → AreChanged (IsReached s.list.items run team rect) (λ n. IsPruned own) lanes new →
-    AreLanes s.list.items (set boxes team (set (get_or boxes team []) own None)) new
+    AreLanes s.strips boxes lanes → AreChanged (IsReached s.strips run team rect) (λ n. IsPruned own) lanes new →
+    AreLanes s.strips (set boxes team (set (get_or boxes team []) own None)) new
 lanes_out s boxes team own rect run lanes new strips rows has_team has is old changed =
-    lanes_of_team s.list.items boxes team (set cells own None) lanes new has_team changed.many old each
-    (λ n d e within other. changed.others n e (inside n within) (not_of_team s.list.items run team rect n d other))
+    lanes_of_team s.strips boxes team (set cells own None) lanes new has_team changed.many old each
+    (λ n d e within other. changed.others n e (inside n within) (not_of_team s.strips run team rect n d other))
   where
     cells : List (Option Rect)
     cells = get_or boxes team []
 
-    inside : (n : ℕ) → n < length s.list.items → n < length lanes
+    inside : (n : ℕ) → n < length s.strips → n < length lanes
     inside n within = let m = old.many in omega (arith, m, within)
 
     same_rect : (r : Rect) → ◌≡◌ {A = Option Rect} (Some rect) (Some r) → r ≡ rect
     same_rect r e = cc
 
-    each : (n : ℕ) (d : Strip) (e : Lane) → n < length s.list.items → (get_or s.list.items n d).team ≡ team →
-        IsLane cells (get_or s.list.items n d).area (get_or lanes n e) → IsLane (set cells own None) (get_or s.list.items n d).area (get_or new n e)
-    each n d e within of_team lane = elim (decide_reached s.list.items run team rect n within) [
-      | inl reached ↦ lane_pruned cells (get_or s.list.items n d).area own (get_or lanes n e) (get_or new n e) has lane (changed.chosen n e
+    each : (n : ℕ) (d : Strip) (e : Lane) → n < length s.strips → (get_or s.strips n d).team ≡ team →
+        IsLane cells (get_or s.strips n d).area (get_or lanes n e) → IsLane (set cells own None) (get_or s.strips n d).area (get_or new n e)
+    each n d e within of_team lane = elim (decide_reached s.strips run team rect n within) [
+      | inl reached ↦ lane_pruned cells (get_or s.strips n d).area own (get_or lanes n e) (get_or new n e) has lane (changed.chosen n e
           (inside n within) reached)
       | inr never ↦
-          subst (IsLane (set cells own None) (get_or s.list.items n d).area) (sym (changed.others n e (inside n within) never))
-          (lane_beside cells (get_or s.list.items n d).area own None (get_or lanes n e) has
+          subst (IsLane (set cells own None) (get_or s.strips n d).area) (sym (changed.others n e (inside n within) never))
+          (lane_beside cells (get_or s.strips n d).area own None (get_or lanes n e) has
           (λ x y lies.
           never (point_is_reached s rect run team n d x y strips rows within of_team lies.in_area
           (subst (λ (q : Rect). Covers q x y) (same_rect lies.box (sym is ∙ lies.is)) lies.in_box)))
@@ -207,18 +209,18 @@ lanes_without xs boxes team own lanes has_team has is old =
     nothing r same = cc
 
 -- the lanes that take the parts of the new box where it reaches
-pub lanes_in : (s : Strips) (boxes : List (List (Option Rect))) (team own : ℕ) (rect : Rect) (run : List RowEntry) (lanes new : List Lane) → AreStrips s →
+pub lanes_in : (s : Lookups) (boxes : List (List (Option Rect))) (team own : ℕ) (rect : Rect) (run : List RowEntry) (lanes new : List Lane) → AreStrips s.rows s.height s.strips →
     AreRowsNear s.rows s.height rect run → team < length boxes → own < length (get_or boxes team []) → cell_box (get_or boxes team []) own ≡ None →
-    AreLanes s.list.items boxes lanes → AreChanged (IsReached s.list.items run team rect) (PutsIn s.list.items own rect) lanes new →
-    AreLanes s.list.items (set boxes team (set (get_or boxes team []) own (Some rect))) new
+    AreLanes s.strips boxes lanes → AreChanged (IsReached s.strips run team rect) (PutsIn s.strips own rect) lanes new →
+    AreLanes s.strips (set boxes team (set (get_or boxes team []) own (Some rect))) new
 lanes_in s boxes team own rect run lanes new strips rows has_team has is old changed =
-    lanes_of_team s.list.items boxes team (set cells own (Some rect)) lanes new has_team changed.many old each
-    (λ n d e within other. changed.others n e (inside n within) (not_of_team s.list.items run team rect n d other))
+    lanes_of_team s.strips boxes team (set cells own (Some rect)) lanes new has_team changed.many old each
+    (λ n d e within other. changed.others n e (inside n within) (not_of_team s.strips run team rect n d other))
   where
     cells : List (Option Rect)
     cells = get_or boxes team []
 
-    inside : (n : ℕ) → n < length s.list.items → n < length lanes
+    inside : (n : ℕ) → n < length s.strips → n < length lanes
     inside n within = let m = old.many in omega (arith, m, within)
 
     nothing : (r : Rect) → ◌≡◌ {A = Option Rect} None (Some r) → ⊥
@@ -227,17 +229,17 @@ lanes_in s boxes team own rect run lanes new strips rows has_team has is old cha
     same_rect : (r : Rect) → ◌≡◌ {A = Option Rect} (Some rect) (Some r) → r ≡ rect
     same_rect r e = cc
 
-    each : (n : ℕ) (d : Strip) (e : Lane) → n < length s.list.items → (get_or s.list.items n d).team ≡ team →
-        IsLane cells (get_or s.list.items n d).area (get_or lanes n e) → IsLane (set cells own (Some rect)) (get_or s.list.items n d).area (get_or new n e)
-    each n d e within of_team lane = elim (decide_reached s.list.items run team rect n within) [
+    each : (n : ℕ) (d : Strip) (e : Lane) → n < length s.strips → (get_or s.strips n d).team ≡ team →
+        IsLane cells (get_or s.strips n d).area (get_or lanes n e) → IsLane (set cells own (Some rect)) (get_or s.strips n d).area (get_or new n e)
+    each n d e within of_team lane = elim (decide_reached s.strips run team rect n within) [
       | inl reached ↦
           let placed = strips.placed n d within in
-          lane_put cells (get_or s.list.items n d).area own rect (get_or lanes n e)
+          lane_put cells (get_or s.strips n d).area own rect (get_or lanes n e)
           (get_or new n e) has is record { low = placed.x_low; high = placed.x_high } lane
           (changed.chosen n e (inside n within) reached d)
       | inr never ↦
-          subst (IsLane (set cells own (Some rect)) (get_or s.list.items n d).area) (sym (changed.others n e (inside n within) never))
-          (lane_beside cells (get_or s.list.items n d).area own (Some rect) (get_or lanes n e) has (λ x y lies. nothing lies.box (sym is ∙ lies.is))
+          subst (IsLane (set cells own (Some rect)) (get_or s.strips n d).area) (sym (changed.others n e (inside n within) never))
+          (lane_beside cells (get_or s.strips n d).area own (Some rect) (get_or lanes n e) has (λ x y lies. nothing lies.box (sym is ∙ lies.is))
           (λ r x y same a b. never (point_is_reached s rect run team n d x y strips rows within of_team a (subst (λ (q : Rect). Covers q x y)
           (same_rect r same) b)))
           lane)
@@ -269,7 +271,7 @@ set_twice boxes team own a b has =
     ∙ ap (λ (cs : List (Option Rect)). set boxes team cs) (set-set cells own a b)
 
 -- what differs in a list differs in its parts
-pub once_in_run : (s : Strips) (rect : Rect) (run : List RowEntry) → AllPairs (λ a b. a.row ≢ b.row) s.rows → AreRowsNear s.rows s.height rect run →
+pub once_in_run : (s : Lookups) (rect : Rect) (run : List RowEntry) → AllPairs (λ a b. a.row ≢ b.row) s.rows → AreRowsNear s.rows s.height rect run →
     AllPairs (λ a b. a.row ≢ b.row) run
 once_in_run s rect run once rows i j d less within =
     let front = rows.part.before in
@@ -326,16 +328,16 @@ takes_parts xs boxes team rect run lanes are room n d e (within, (k, r, below, a
 }
 
 -- the strips that the box meets have room where those that are reached have it
-pub room_of_met : (s : Strips) (team : ℕ) (rect : Rect) (run : List RowEntry) (more : ℕ) (lanes : List Lane) → AreStrips s →
-    AreRowsNear s.rows s.height rect run → HaveRoom (IsReached s.list.items run team rect) more lanes →
-    HaveRoom (MeetsStrip s.list.items team rect) more lanes
-room_of_met s team rect run more lanes strips rows room n e meets = elim (order_of n (length s.list.items)) [
+pub room_of_met : (s : Lookups) (team : ℕ) (rect : Rect) (run : List RowEntry) (more : ℕ) (lanes : List Lane) → AreStrips s.rows s.height s.strips →
+    AreRowsNear s.rows s.height rect run → HaveRoom (IsReached s.strips run team rect) more lanes →
+    HaveRoom (MeetsStrip s.strips team rect) more lanes
+room_of_met s team rect run more lanes strips rows room n e meets = elim (order_of n (length s.strips)) [
   | inl within ↦
       let m = subst (λ (found : Option Strip). IsSomeAnd found (λ g. (g.team ≡ team) × SharesPoint g.area rect))
-      (slice_get-get_or s.list.items n no_strip within) meets in
+      (slice_get-get_or s.strips n no_strip within) meets in
       room n e (point_is_reached s rect run team n no_strip m.1.x m.1.y strips rows within m.0 m.1.in_first m.1.in_second)
   | inr past ↦ absurd (subst (λ (found : Option Strip). IsSomeAnd found (λ g. (g.team ≡ team) × SharesPoint g.area rect))
-      (slice_get_past s.list.items n past) meets)
+      (slice_get_past s.strips n past) meets)
 ]
 
 -- room that was made stays

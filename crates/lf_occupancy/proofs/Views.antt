@@ -14,7 +14,7 @@ use Rattle.lf_spans.specs.Spans.{AreApart, Holds, LiesIn}
 use Rattle.lf_cells.specs.declared.cell.CellId.{CellId}
 use Rattle.lf_occupancy.specs.declared.lane.Entry.{Entry}
 use Rattle.lf_occupancy.specs.declared.lane.Lane.{Lane}
-use Rattle.lf_occupancy.specs.declared.strip.Strip.{Strip}
+use Rattle.lf_segments.specs.declared.strip.Strip.{Strip}
 use Rattle.lf_occupancy.specs.Lanes.{IsLane, LiesInBox, IsLeast, x_range}
 use Rattle.lf_occupancy.specs.Strips.{AreFreeTo, AreLanes, AreLeft, HaveRoom, LiesFree, LiesLeft, MeetsInOne, MeetsStrip, rooms_in}
 use Rattle.lf_occupancy.specs.Occupied.{AreFreeSpans, FitIn, HasRoomFor, IsLeftOver, StandsBut, boxes_of, cell_box, count_in, meets}
@@ -25,26 +25,26 @@ use Rattle.lf_occupancy.proofs.Leasts.{least_alike, least_from_none}
 use Rattle.lf_occupancy.proofs.Runs.{all_apart_each, apart_each, each_all_apart, each_apart}
 
 -- the lane of a strip of the team
-team_lane : (o : Occupied) (lanes : List Lane) (team n : ℕ) (d : Strip) (e : Lane) → AreLanes o.strips o.boxes lanes → n < length o.strips →
-    (get_or o.strips n d).team ≡ team → IsLane (get_or o.boxes team []) (get_or o.strips n d).area (get_or lanes n e)
+team_lane : (o : Occupied) (lanes : List Lane) (team n : ℕ) (d : Strip) (e : Lane) → AreLanes o.index.strips o.boxes lanes → n < length o.index.strips →
+    (get_or o.index.strips n d).team ≡ team → IsLane (get_or o.boxes team []) (get_or o.index.strips n d).area (get_or lanes n e)
 team_lane o lanes team n d e are within of_team =
-    let At : ℕ → Type 0 = λ t. IsLane (get_or o.boxes t []) (get_or o.strips n d).area (get_or lanes n e) in
+    let At : ℕ → Type 0 = λ t. IsLane (get_or o.boxes t []) (get_or o.index.strips n d).area (get_or lanes n e) in
     subst At of_team (are.each n d e within)
 
-met_in_lanes : (o : Occupied) (lanes : List Lane) (id : CellId) (rect : Rect) (own : ℕ) → AreLanes o.strips o.boxes lanes → MeetsInStrips o id rect own →
-    MeetsInOne o.strips lanes id.team rect id.own own
+met_in_lanes : (o : Occupied) (lanes : List Lane) (id : CellId) (rect : Rect) (own : ℕ) → AreLanes o.index.strips o.boxes lanes → MeetsInStrips o id rect own →
+    MeetsInOne o.index.strips lanes id.team rect id.own own
 met_in_lanes o lanes id rect own are m =
     let strip = m.in_strip in
     let n = strip.0 in
     let g = strip.1 in
     let within = strip.2 in
-    let is : get_or o.strips n g ≡ g = strip.3 in
-    let of_team : (get_or o.strips n g).team ≡ id.team = ap (λ (x : Strip). x.team) is ∙ strip.4.0 in
+    let is : get_or o.index.strips n g ≡ g = strip.3 in
+    let of_team : (get_or o.index.strips n g).team ≡ id.team = ap (λ (x : Strip). x.team) is ∙ strip.4.0 in
     let covers = subst (λ (x : Strip). Covers x.area m.x m.y) (sym is) strip.4.1 in (
       n,
       record {
         within = within;
-        of_team = λ d. ap (λ (x : Strip). x.team) (get_or_default o.strips n d g within) ∙ of_team;
+        of_team = λ d. ap (λ (x : Strip). x.team) (get_or_default o.index.strips n d g within) ∙ of_team;
         meets = λ d.
             let found = (team_lane o lanes id.team n g d are within of_team).held own m.x m.y
             record { box = m.box; is = m.is.stands; in_area = covers; in_box = m.in_box } in (
@@ -61,8 +61,8 @@ met_in_lanes o lanes id rect own are m =
       },
     )
 
-met_in_strips : (o : Occupied) (lanes : List Lane) (id : CellId) (rect : Rect) (own : ℕ) → AreLanes o.strips o.boxes lanes →
-    MeetsInOne o.strips lanes id.team rect id.own own → MeetsInStrips o id rect own
+met_in_strips : (o : Occupied) (lanes : List Lane) (id : CellId) (rect : Rect) (own : ℕ) → AreLanes o.index.strips o.boxes lanes →
+    MeetsInOne o.index.strips lanes id.team rect id.own own → MeetsInStrips o id rect own
 met_in_strips o lanes id rect own are (n, at) =
     let within = at.within in
     let many = are.many in
@@ -71,7 +71,7 @@ met_in_strips o lanes id rect own are (n, at) =
     let e = met.1 in
     let m = met.4 in
     let l = team_lane o lanes id.team n no_strip lane are within (at.of_team no_strip) in
-    let told = All-contains (λ z. (x y : ℤ) → Covers z.area x y → LiesInBox (get_or o.boxes id.team []) (get_or o.strips n no_strip).area z.own x y)
+    let told = All-contains (λ z. (x y : ℤ) → Covers z.area x y → LiesInBox (get_or o.boxes id.team []) (get_or o.index.strips n no_strip).area z.own x y)
     (get_or lanes n lane).entries.items e l.told (met.0, met.2, met.3) in
     let lies = told m.meets.x m.meets.y m.meets.in_second in
     let At : ℕ → Type 0 = λ k. cell_box (get_or o.boxes id.team []) k ≡ Some lies.box in
@@ -80,20 +80,20 @@ met_in_strips o lanes id rect own are (n, at) =
       is = record { other = m.other; stands = subst At m.is lies.is };
       x = m.meets.x;
       y = m.meets.y;
-      in_strip = (n, get_or o.strips n no_strip, within, get_or_default o.strips n _ no_strip within, (at.of_team no_strip, lies.in_area));
+      in_strip = (n, get_or o.index.strips n no_strip, within, get_or_default o.index.strips n _ no_strip within, (at.of_team no_strip, lies.in_area));
       in_rect = m.meets.in_first;
       in_box = lies.in_box;
     }
 
-pub first_of_least : (o : Occupied) (lanes : List Lane) (id : CellId) (rect : Rect) (met : Option ℕ) → AreLanes o.strips o.boxes lanes →
-    IsLeast (MeetsInOne o.strips lanes id.team rect id.own) None met → IsFirstMet o id rect met
+pub first_of_least : (o : Occupied) (lanes : List Lane) (id : CellId) (rect : Rect) (met : Option ℕ) → AreLanes o.index.strips o.boxes lanes →
+    IsLeast (MeetsInOne o.index.strips lanes id.team rect id.own) None met → IsFirstMet o id rect met
 first_of_least o lanes id rect met are least =
     least_from_none (MeetsInStrips o id rect) met
-    (least_alike (MeetsInOne o.strips lanes id.team rect id.own) (MeetsInStrips o id rect) None met (λ own m. met_in_strips o lanes id rect own are m)
+    (least_alike (MeetsInOne o.index.strips lanes id.team rect id.own) (MeetsInStrips o id rect) None met (λ own m. met_in_strips o lanes id rect own are m)
     (λ own m. met_in_lanes o lanes id rect own are m) least)
 
-pub free_of_strips : (o : Occupied) (lanes : List Lane) (row : ℕ) (id : CellId) (window : Span) (free : List Span) → AreLanes o.strips o.boxes lanes →
-    AreFreeTo o.strips lanes row id.team id.own window (length o.strips) free → IsFreeInRow o row id window free
+pub free_of_strips : (o : Occupied) (lanes : List Lane) (row : ℕ) (id : CellId) (window : Span) (free : List Span) → AreLanes o.index.strips o.boxes lanes →
+    AreFreeTo o.index.strips lanes row id.team id.own window (length o.index.strips) free → IsFreeInRow o row id window free
 free_of_strips o lanes row id window free are f = record {
   rising = f.rising;
   exact = λ s filled. (
@@ -103,7 +103,7 @@ free_of_strips o lanes row id window free are f = record {
 }
   where
     xs : List Strip
-    xs = o.strips
+    xs = o.index.strips
 
     to : (s : Span) (n : ℕ) → LiesFree xs lanes row id.team id.own s n → Any (λ g. IsStripOf row id.team g × IsFreeOver o id g s) xs
     to s n l = (
@@ -179,12 +179,12 @@ free_of_strips o lanes row id window free are f = record {
             }
 
 -- what lies over the strip of that number, and no entry of the lane shares a number with it
-left_over : (o : Occupied) (lanes : List Lane) (id : CellId) (n : ℕ) (s : Span) → AreLanes o.strips o.boxes lanes → LiesLeft o.strips lanes id n s →
-    IsLeftOver o id (get_or o.strips n no_strip) s
+left_over : (o : Occupied) (lanes : List Lane) (id : CellId) (n : ℕ) (s : Span) → AreLanes o.index.strips o.boxes lanes → LiesLeft o.index.strips lanes id n s →
+    IsLeftOver o id (get_or o.index.strips n no_strip) s
 left_over o lanes id n s are l = record { within = l.inside no_strip; clear = clear }
   where
     g : Strip
-    g = get_or o.strips n no_strip
+    g = get_or o.index.strips n no_strip
 
     clear : (own : ℕ) (box : Rect) → StandsBut o id g.team own box → SharesPoint (over g s) box → ⊥
     clear own box stands shares =
@@ -207,8 +207,8 @@ left_over o lanes id n s are l = record { within = l.inside no_strip; clear = cl
               shares.x held taken
         ]
 
-over_left : (o : Occupied) (lanes : List Lane) (id : CellId) (n : ℕ) (g : Strip) (s : Span) → AreLanes o.strips o.boxes lanes → n < length o.strips →
-    ((d : Strip) → get_or o.strips n d ≡ g) → IsLeftOver o id g s → LiesLeft o.strips lanes id n s
+over_left : (o : Occupied) (lanes : List Lane) (id : CellId) (n : ℕ) (g : Strip) (s : Span) → AreLanes o.index.strips o.boxes lanes → n < length o.index.strips →
+    ((d : Strip) → get_or o.index.strips n d ≡ g) → IsLeftOver o id g s → LiesLeft o.index.strips lanes id n s
 over_left o lanes id n g s are within is left = record {
   within = within;
   inside = λ d. subst (λ (x : Strip). LiesIn s (across x)) (sym (is d)) left.within;
@@ -236,27 +236,27 @@ over_left o lanes id n g s are within is left = record {
           in_second = lies.in_box;
         }
 
-pub spans_of_strip : (o : Occupied) (lanes : List Lane) (id : CellId) (n : ℕ) (free : List Span) → AreLanes o.strips o.boxes lanes →
-    AreLeft o.strips lanes id n free → AreFreeSpans o n id free
+pub spans_of_strip : (o : Occupied) (lanes : List Lane) (id : CellId) (n : ℕ) (free : List Span) → AreLanes o.index.strips o.boxes lanes →
+    AreLeft o.index.strips lanes id n free → AreFreeSpans o n id free
 spans_of_strip o lanes id n free are left = record {
   rising = left.rising;
   exact = λ s filled. (λ lies. to s ((left.exact s filled).0 lies), λ some. (left.exact s filled).1 (back s some));
 }
   where
-    to : (s : Span) → LiesLeft o.strips lanes id n s → IsSomeAnd (slice_get o.strips n) (λ g. IsLeftOver o id g s)
+    to : (s : Span) → LiesLeft o.index.strips lanes id n s → IsSomeAnd (slice_get o.index.strips n) (λ g. IsLeftOver o id g s)
     to s l =
-        subst (λ (found : Option Strip). IsSomeAnd found (λ g. IsLeftOver o id g s)) (sym (slice_get-get_or o.strips n no_strip l.within))
+        subst (λ (found : Option Strip). IsSomeAnd found (λ g. IsLeftOver o id g s)) (sym (slice_get-get_or o.index.strips n no_strip l.within))
         (left_over o lanes id n s are l)
 
-    order : (n < length o.strips) ⊎ (length o.strips ≤ n)
+    order : (n < length o.index.strips) ⊎ (length o.index.strips ≤ n)
     order = grind arith
 
-    back : (s : Span) → IsSomeAnd (slice_get o.strips n) (λ g. IsLeftOver o id g s) → LiesLeft o.strips lanes id n s
+    back : (s : Span) → IsSomeAnd (slice_get o.index.strips n) (λ g. IsLeftOver o id g s) → LiesLeft o.index.strips lanes id n s
     back s some = elim order [
       | inl within ↦
-          over_left o lanes id n (get_or o.strips n no_strip) s are within (λ d. get_or_default o.strips n d no_strip within)
-          (subst (λ (found : Option Strip). IsSomeAnd found (λ g. IsLeftOver o id g s)) (slice_get-get_or o.strips n no_strip within) some)
-      | inr past ↦ absurd (subst (λ (found : Option Strip). IsSomeAnd found (λ g. IsLeftOver o id g s)) (slice_get_past o.strips n past) some)
+          over_left o lanes id n (get_or o.index.strips n no_strip) s are within (λ d. get_or_default o.index.strips n d no_strip within)
+          (subst (λ (found : Option Strip). IsSomeAnd found (λ g. IsLeftOver o id g s)) (slice_get-get_or o.index.strips n no_strip within) some)
+      | inr past ↦ absurd (subst (λ (found : Option Strip). IsSomeAnd found (λ g. IsLeftOver o id g s)) (slice_get_past o.index.strips n past) some)
     ]
 
 -- a lane has an entry for each of its team's boxes that meet the strip, and no other
@@ -341,11 +341,11 @@ lane_at : (xs : List Strip) (boxes : List (List (Option Rect))) (lanes : List La
 lane_at xs boxes lanes n g are is = let within = (strip_is_within xs n g is).0 in let many = are.many in some_lane lanes n (omega (arith, many, within))
 
 -- each strip has room for the boxes that meet it
-pub boxes_that_stand_fit : (o : Occupied) (lanes : List Lane) → o.rooms ≡ rooms_in lanes → AreLanes o.strips o.boxes lanes → (team : ℕ) →
+pub boxes_that_stand_fit : (o : Occupied) (lanes : List Lane) → o.rooms ≡ rooms_in lanes → AreLanes o.index.strips o.boxes lanes → (team : ℕ) →
     FitIn o team (boxes_of o team)
 boxes_that_stand_fit o lanes rooms are team n g is of_team =
-    let e = lane_at o.strips o.boxes lanes n g are is in
-    let numbers = in_numbers o.strips o.boxes lanes n g team e are is of_team in
+    let e = lane_at o.index.strips o.boxes lanes n g are is in
+    let numbers = in_numbers o.index.strips o.boxes lanes n g team e are is of_team in
     let a = numbers.count in
     let b = numbers.room in
     let c = ap (λ (ns : List ℕ). get_or ns n 0) rooms in
@@ -353,22 +353,22 @@ boxes_that_stand_fit o lanes rooms are team n g is of_team =
     omega (arith, a, b, c, most)
 
 -- room in lanes is room in what a contract sees
-pub room_is_seen : (o : Occupied) (lanes : List Lane) (team : ℕ) (rect : Rect) (more : ℕ) → o.rooms ≡ rooms_in lanes → AreLanes o.strips o.boxes lanes →
-    HaveRoom (MeetsStrip o.strips team rect) more lanes → HasRoomFor o team rect more
+pub room_is_seen : (o : Occupied) (lanes : List Lane) (team : ℕ) (rect : Rect) (more : ℕ) → o.rooms ≡ rooms_in lanes → AreLanes o.index.strips o.boxes lanes →
+    HaveRoom (MeetsStrip o.index.strips team rect) more lanes → HasRoomFor o team rect more
 room_is_seen o lanes team rect more rooms are room n g is of_team shares =
-    let e = lane_at o.strips o.boxes lanes n g are is in
-    let numbers = in_numbers o.strips o.boxes lanes n g team e are is of_team in
+    let e = lane_at o.index.strips o.boxes lanes n g are is in
+    let numbers = in_numbers o.index.strips o.boxes lanes n g team e are is of_team in
     let a = numbers.count in
     let b = numbers.room in
     let c = ap (λ (ns : List ℕ). get_or ns n 0) rooms in
     let h = room n e (subst (λ (found : Option Strip). IsSomeAnd found (λ q. (q.team ≡ team) × SharesPoint q.area rect)) (sym is) (of_team, shares)) in
     omega (arith, a, b, c, h)
 
-pub seen_is_room : (o : Occupied) (lanes : List Lane) (team : ℕ) (rect : Rect) (more : ℕ) → o.rooms ≡ rooms_in lanes → AreLanes o.strips o.boxes lanes →
-    HasRoomFor o team rect more → HaveRoom (MeetsStrip o.strips team rect) more lanes
+pub seen_is_room : (o : Occupied) (lanes : List Lane) (team : ℕ) (rect : Rect) (more : ℕ) → o.rooms ≡ rooms_in lanes → AreLanes o.index.strips o.boxes lanes →
+    HasRoomFor o team rect more → HaveRoom (MeetsStrip o.index.strips team rect) more lanes
 seen_is_room o lanes team rect more rooms are room n e meets =
-    let found = some_strip (slice_get o.strips n) meets in
-    let numbers = in_numbers o.strips o.boxes lanes n found.0 team e are found.1.0 found.1.1.0 in
+    let found = some_strip (slice_get o.index.strips n) meets in
+    let numbers = in_numbers o.index.strips o.boxes lanes n found.0 team e are found.1.0 found.1.1.0 in
     let a = numbers.count in
     let b = numbers.room in
     let c = ap (λ (ns : List ℕ). get_or ns n 0) rooms in
@@ -380,7 +380,7 @@ seen_is_room o lanes team rect more rooms are room n e meets =
     some_strip None none = absurd none
     some_strip (Some g) m = (g, (refl, m))
 
-pub move_is_seen : (o : Occupied) (lanes : List Lane) (team : ℕ) (to : Option Rect) (more : ℕ) → o.rooms ≡ rooms_in lanes → AreLanes o.strips o.boxes lanes →
-    IfSome to (λ rect. HaveRoom (MeetsStrip o.strips team rect) more lanes) → IfSome to (λ rect. HasRoomFor o team rect more)
+pub move_is_seen : (o : Occupied) (lanes : List Lane) (team : ℕ) (to : Option Rect) (more : ℕ) → o.rooms ≡ rooms_in lanes → AreLanes o.index.strips o.boxes lanes →
+    IfSome to (λ rect. HaveRoom (MeetsStrip o.index.strips team rect) more lanes) → IfSome to (λ rect. HasRoomFor o team rect more)
 move_is_seen o lanes team None more rooms are room = tt
 move_is_seen o lanes team (Some rect) more rooms are room = room_is_seen o lanes team rect more rooms are room

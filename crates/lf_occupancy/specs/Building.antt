@@ -1,21 +1,13 @@
 -- The steps of making an occupancy.
-use Rattle.std.specs.Prelude.{◌≡◌, ℕ, pos, List, [], All, Contains, map, length, Option, None, Some, slice_index_or, replicate}
+use Rattle.std.specs.Prelude.{◌≡◌, ℕ, pos, List, [], All, Contains, length, Option, None, Some, slice_index_or, replicate}
 use Rattle.lf_units.specs.declared.area.Rect.{Rect}
 use Rattle.lf_floorplan.specs.declared.frame.Frame.{Frame}
-use Rattle.lf_segments.specs.declared.segment.Segment.{Segment}
 use Rattle.lf_cells.specs.declared.cell.Cell.{Cell}
 use Rattle.lf_cells.specs.declared.cell.CellId.{CellId}
 use Rattle.lf_cells.specs.Cells.{Cells, cells_of, cell_at}
 use Rattle.lf_occupancy.specs.declared.lane.Lane.{Lane}
-use Rattle.lf_occupancy.specs.declared.strips.Strips.{Strips}
-use Rattle.lf_occupancy.specs.Floorplans.{box_of, strip_of}
+use Rattle.lf_occupancy.specs.Floorplans.{box_of}
 use Rattle.lf_occupancy.specs.Occupied.{cell_box}
-use Rattle.lf_occupancy.specs.Strips.{AreStrips}
-
--- the strips of a frame's segments
-pub record AreLaidOut (f : Frame) (segments : List Segment) (s : Strips) : Type 0 where
-  pub list : s.list.items ≡ map (strip_of f) segments
-  pub strips : AreStrips s
 
 -- the lane has no entry
 pub record IsBare (l : Lane) : Type 0 where

@@ -6,12 +6,13 @@ use Rattle.lf_units.specs.declared.area.Rect.{Rect}
 use Rattle.lf_units.specs.Area.{Covers, SharesPoint}
 use Rattle.lf_spans.specs.declared.span.Span.{Span}
 use Rattle.lf_spans.specs.Spans.{IsFilled, IsRising, LiesIn, LiesInOne}
+use Rattle.lf_segments.specs.declared.strip.Strip.{Strip}
+use Rattle.lf_segments.specs.Grounds.{Lookups}
 use Rattle.lf_cells.specs.declared.cell.CellId.{CellId}
-use Rattle.lf_occupancy.specs.declared.strip.Strip.{Strip}
 
--- the strips, for each team the boxes of its cells in loading order, and for each strip how many boxes it has room for
+-- what of the frame is looked up, for each team the boxes of its cells in loading order, and for each strip how many boxes it has room for
 pub record Occupied : Type 0 where
-  pub strips : List Strip
+  pub index : Lookups
   pub boxes : List (List (Option Rect))
   pub rooms : List ℕ
 
@@ -62,7 +63,7 @@ pub record IsFreeOver (o : Occupied) (id : CellId) (g : Strip) (s : Span) : Type
 -- of them if and only if it lies in the window and is free in one strip of the row and the cell's team
 pub record IsFreeInRow (o : Occupied) (row : ℕ) (id : CellId) (window : Span) (free : List Span) : Type 0 where
   pub rising : IsRising free
-  pub exact : (s : Span) → IsFilled s → (LiesInOne free s ↔ (LiesIn s window × Any (λ g. IsStripOf row id.team g × IsFreeOver o id g s) o.strips))
+  pub exact : (s : Span) → IsFilled s → (LiesInOne free s ↔ (LiesIn s window × Any (λ g. IsStripOf row id.team g × IsFreeOver o id g s) o.index.strips))
 
 -- the team's cell of that position, which is not the one that is left out, has this box
 pub record StandsBut (o : Occupied) (without : CellId) (team own : ℕ) (box : Rect) : Type 0 where
@@ -78,7 +79,7 @@ pub record IsLeftOver (o : Occupied) (without : CellId) (g : Strip) (s : Span) :
 -- strip and no other cell of the strip's team is over it; there are none if there is no such strip
 pub record AreFreeSpans (o : Occupied) (segment : ℕ) (without : CellId) (free : List Span) : Type 0 where
   pub rising : IsRising free
-  pub exact : (s : Span) → IsFilled s → (LiesInOne free s ↔ IsSomeAnd (slice_get o.strips segment) (λ g. IsLeftOver o without g s))
+  pub exact : (s : Span) → IsFilled s → (LiesInOne free s ↔ IsSomeAnd (slice_get o.index.strips segment) (λ g. IsLeftOver o without g s))
 
 -- another placed cell of the team shares with the rectangle a point of one of the team's strips
 pub record MeetsInStrips (o : Occupied) (id : CellId) (rect : Rect) (own : ℕ) : Type 0 where
@@ -86,7 +87,7 @@ pub record MeetsInStrips (o : Occupied) (id : CellId) (rect : Rect) (own : ℕ) 
   pub is : IsOther o id own box
   pub x : ℤ
   pub y : ℤ
-  pub in_strip : Any (λ g. (g.team ≡ id.team) × Covers g.area x y) o.strips
+  pub in_strip : Any (λ g. (g.team ≡ id.team) × Covers g.area x y) o.index.strips
   pub in_rect : Covers rect x y
   pub in_box : Covers box x y
 
@@ -109,12 +110,12 @@ count_in g boxes = count_by (meets g) boxes
 -- these boxes of the team's cells fit: each strip of the team has room for as many as share a point with it
 abbrev pub FitIn : Occupied → ℕ → List (Option Rect) → Type 0
 FitIn o team boxes =
-    (n : ℕ) (g : Strip) → slice_get o.strips n ≡ Some g → g.team ≡ team → count_in g boxes ≤ slice_index_or o.rooms n 0
+    (n : ℕ) (g : Strip) → slice_get o.index.strips n ≡ Some g → g.team ≡ team → count_in g boxes ≤ slice_index_or o.rooms n 0
 
 -- each strip of the team that shares a point with the rectangle has room for its boxes and so many more
 abbrev pub HasRoomFor : Occupied → ℕ → Rect → ℕ → Type 0
 HasRoomFor o team rect more =
-    (n : ℕ) (g : Strip) → slice_get o.strips n ≡ Some g → g.team ≡ team → SharesPoint g.area rect →
+    (n : ℕ) (g : Strip) → slice_get o.index.strips n ≡ Some g → g.team ≡ team → SharesPoint g.area rect →
     (count_in g (boxes_of o team) + more) ≤ slice_index_or o.rooms n 0
 
 -- the first boxes are part of the others: each is none or the other list's

@@ -1,7 +1,6 @@
--- The order of strips, and how they are found.
-use Rattle.std.specs.Prelude.{◌≡◌, ◌≢◌, ◌⊎◌, ◌↔◌, ◌==◌, if◌then◌else◌, nat_lt, Bool, ℕ, ◌<◌, ◌≤◌, ℤ, pos, negsuc, ◌+ℤ◌, ◌≤ℤ◌, ◌<ℤ◌, List}
-use Rattle.std.specs.Prelude.{length, All, AllPairs, Any, IfSome, IsSomeAnd, slice_get}
-use Rattle.std.specs.Prelude.{int_le, int_lt, Option, map, slice_index_or, slice_set, []}
+-- What stands in strips: the lanes of each, and how they change.
+use Rattle.std.specs.Prelude.{◌≡◌, ◌≢◌, ◌↔◌, ℕ, ◌<◌, List, length, All, Any, IfSome, IsSomeAnd, slice_get}
+use Rattle.std.specs.Prelude.{Option, map, slice_index_or, slice_set, []}
 use Rattle.std.specs.Int.{int_max}
 use Rattle.std.specs.Vec.{vec_capacity}
 use Rattle.lf_cells.specs.declared.cell.CellId.{CellId}
@@ -10,52 +9,11 @@ use Rattle.lf_units.specs.Area.{SharesPoint}
 use Rattle.lf_spans.specs.declared.span.Span.{Span}
 use Rattle.lf_spans.specs.Spans.{IsFilled, IsRising, LiesIn, LiesInOne, IsApart}
 use Rattle.lf_segments.specs.declared.rows_by_y.RowEntry.{RowEntry}
-use Rattle.lf_segments.specs.RowStarts.{AreRowStarts}
-use Rattle.lf_segments.specs.RowsByY.{IsRunBetween}
+use Rattle.lf_segments.specs.declared.strip.Strip.{Strip}
+use Rattle.lf_segments.specs.Strips.{IsNear}
 use Rattle.lf_occupancy.specs.declared.lane.Lane.{Lane}
-use Rattle.lf_occupancy.specs.declared.strip.Strip.{Strip}
-use Rattle.lf_occupancy.specs.declared.strips.Strips.{Strips}
 use Rattle.lf_occupancy.specs.Lanes.{HasAtMostOne, HasRoomOf, TakesPart, IsInside, IsKept, IsLane, IsOrderly, IsPutIn, MeetsOne, others_in, spans_in}
 use Rattle.lf_occupancy.specs.Occupied.{across, cell_box}
-
--- the order of strips: by row, then by team, then by x, without overlap
-abbrev pub ComesBefore : Strip → Strip → Type 0
-ComesBefore a b =
-    (a.row < b.row) ⊎ ((a.row ≡ b.row) × ((a.team < b.team) ⊎ ((a.team ≡ b.team) × (a.area.x2 ≤ℤ b.area.x1))))
-
--- the strip has points, lies within the coordinates of a DEF text, is as high as a row, and its row has an entry
-pub record IsPlaced (rows : List RowEntry) (height : ℤ) (g : Strip) : Type 0 where
-  pub wide : g.area.x1 <ℤ g.area.x2
-  pub x_low : negsuc 2147483647 ≤ℤ g.area.x1
-  pub x_high : g.area.x2 ≤ℤ pos 2147483647
-  pub y_low : negsuc 2147483647 ≤ℤ g.area.y1
-  pub high : g.area.y2 ≡ g.area.y1 +ℤ height
-  pub found : Any (λ e. (e.row ≡ g.row) × (e.y ≡ g.area.y1)) rows
-
--- the strips are in order, each is placed, their rows' starts are known, and the rows' entries are of different rows
-pub record AreStrips (s : Strips) : Type 0 where
-  pub in_order : AllPairs ComesBefore s.list.items
-  pub starts : AreRowStarts (map (λ g. g.row) s.list.items) s.starts
-  pub placed : All (IsPlaced s.rows s.height) s.list.items
-  pub once : AllPairs (λ a b. a.row ≢ b.row) s.rows
-  pub high : pos 0 <ℤ s.height
-  pub small : s.height ≤ℤ pos 20000000000
-
--- the strip is of an earlier row or team, or the answer for one row and team
-abbrev pub is_earlier : ℕ → ℕ → Bool → Strip → Bool
-is_earlier row team left g = if g.row == row then (if g.team == team then left else nat_lt g.team team) else nat_lt g.row row
-
--- the strip is of the row and the team, ends after the one number and begins before the other
-pub record IsNear (row team : ℕ) (lo hi : ℤ) (g : Strip) : Type 0 where
-  pub in_row : g.row ≡ row
-  pub of_team : g.team ≡ team
-  pub right : lo <ℤ g.area.x2
-  pub left : g.area.x1 <ℤ hi
-
--- the numbers from start on and below end are those of the near strips
-pub record AreNear (strips : List Strip) (row team : ℕ) (lo hi : ℤ) (start end : ℕ) : Type 0 where
-  pub within : end ≤ length strips
-  pub exact : (n : ℕ) (d : Strip) → n < length strips → (((start ≤ n) × (n < end)) ↔ IsNear row team lo hi (slice_index_or strips n d))
 
 -- the strip of that number is of the team, and an entry of the cell in it is met
 pub record MeetsAt (strips : List Strip) (lanes : List Lane) (team : ℕ) (rect : Rect) (but own n : ℕ) : Type 0 where
@@ -98,12 +56,6 @@ pub record AreFreeTo (strips : List Strip) (lanes : List Lane) (row team own : �
   pub rising : IsRising free
   pub exact : (s : Span) → IsFilled s → (LiesInOne free s ↔ (LiesIn s window × ((n : ℕ) × ((n < limit) × LiesFree strips lanes row team own s n))))
 
--- the rows' entries near a rectangle: those of all rows whose strips may share a point with it
-pub record AreRowsNear (rows : List RowEntry) (height : ℤ) (rect : Rect) (run : List RowEntry) : Type 0 where
-  pub from : ℤ
-  pub part : IsRunBetween rows from rect.y2 run
-  pub reach : (y : ℤ) → negsuc 2147483647 ≤ℤ y → rect.y1 <ℤ (y +ℤ height) → from ≤ℤ y
-
 -- the strip of that number is of one of the rows and the team, and its x range overlaps that of the rectangle
 abbrev pub IsReached : List Strip → List RowEntry → ℕ → Rect → ℕ → Type 0
 IsReached strips rows team rect n = (n < length strips) × Any (λ r. (d : Strip) → IsNear r.row team rect.x1 rect.x2 (slice_index_or strips n d)) rows
@@ -137,10 +89,10 @@ abbrev pub boxes_set : List (List (Option Rect)) → CellId → Option Rect → 
 boxes_set boxes id box = slice_set boxes id.team (slice_set (slice_index_or boxes id.team []) id.own box)
 
 -- lanes of the boxes of teams' cells become those of the boxes with the cell's box replaced
-abbrev pub Follows : Strips → CellId → Option Rect → Option Rect → List Lane → List Lane → Type 0
-Follows s id from to old new =
-    (boxes : List (List (Option Rect))) → HasCell boxes id → cell_box (slice_index_or boxes id.team []) id.own ≡ from → AreLanes s.list.items boxes old →
-    AreLanes s.list.items (boxes_set boxes id to) new
+abbrev pub Follows : List Strip → CellId → Option Rect → Option Rect → List Lane → List Lane → Type 0
+Follows strips id from to old new =
+    (boxes : List (List (Option Rect))) → HasCell boxes id → cell_box (slice_index_or boxes id.team []) id.own ≡ from → AreLanes strips boxes old →
+    AreLanes strips (boxes_set boxes id to) new
 
 -- the strip of that number is of the team, and shares a point with the rectangle
 abbrev pub MeetsStrip : List Strip → ℕ → Rect → ℕ → Type 0
@@ -170,20 +122,12 @@ abbrev pub StandOnce : List Strip → CellId → Option Rect → List Lane → T
 StandOnce strips id box lanes = IfSome box (λ rect. HaveAtMostOne strips id.own rect (IsOfTeam strips id.team) lanes)
 
 -- the cell's parts are put into the lanes of a row that its box reaches
-abbrev pub PutInRow : Strips → ℕ → CellId → Rect → List Lane → List Lane → Type 0
-PutInRow s row id rect old new = AreChanged (IsReachedIn s.list.items row id.team rect) (PutsIn s.list.items id.own rect) old new
+abbrev pub PutInRow : List Strip → ℕ → CellId → Rect → List Lane → List Lane → Type 0
+PutInRow strips row id rect old new = AreChanged (IsReachedIn strips row id.team rect) (PutsIn strips id.own rect) old new
 
 -- the same of all these rows
-abbrev pub PutInRows : Strips → List RowEntry → CellId → Rect → List Lane → List Lane → Type 0
-PutInRows s rows id rect old new = AreChanged (IsReached s.list.items rows id.team rect) (PutsIn s.list.items id.own rect) old new
-
--- whether the strip of that number is of an earlier row or team, or of this row and team and ends at x or before it
-abbrev pub is_ended : List Strip → ℕ → ℕ → ℤ → ℕ → Strip → Bool
-is_ended strips row team x k d = is_earlier row team (int_le (slice_index_or strips k d).area.x2 x) (slice_index_or strips k d)
-
--- the same, but it begins before x
-abbrev pub is_begun : List Strip → ℕ → ℕ → ℤ → ℕ → Strip → Bool
-is_begun strips row team x k d = is_earlier row team (int_lt (slice_index_or strips k d).area.x1 x) (slice_index_or strips k d)
+abbrev pub PutInRows : List Strip → List RowEntry → CellId → Rect → List Lane → List Lane → Type 0
+PutInRows strips rows id rect old new = AreChanged (IsReached strips rows id.team rect) (PutsIn strips id.own rect) old new
 
 -- for how many entries each lane has room
 abbrev pub rooms_in : List Lane → List ℕ

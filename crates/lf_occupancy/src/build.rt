@@ -1,84 +1,21 @@
 //! How an occupancy is built.
 
 ghost use Rattle.std.specs.Prelude.{◌≡◌, ◌≤◌, ◌≤ℤ◌, ◌<ℤ◌, negsuc, pos, ◌<◌, ℕ, All, IfOk, IsPermutation, OnOk, Some, [], length, map, slice_index_or};
-ghost use Rattle.lf_segments.specs.Segments.{IsCut};
 ghost use Rattle.lf_cells.specs.declared.cell.Cell.{Cell};
 ghost use Rattle.lf_cells.specs.Cells.{cell_at, cells_of};
-ghost use Rattle.lf_occupancy.specs.Building.{AreBare, AreFilled, AreLaidOut, AreNowhere};
-ghost use Rattle.lf_occupancy.specs.Floorplans.{HasSize, box_of, row_y, strip_of};
-ghost use Rattle.lf_occupancy.specs.Strips.{AreLanes, AreStrips};
+ghost use Rattle.lf_occupancy.specs.Building.{AreBare, AreFilled, AreNowhere};
+ghost use Rattle.lf_occupancy.specs.Floorplans.{HasSize, box_of};
+ghost use Rattle.lf_occupancy.specs.Strips.{AreLanes};
 
 use crate::boxes::TeamBoxes;
 use crate::change::settle;
 use crate::lane::Lane;
-use crate::strip::Strip;
-use crate::strips::Strips;
 use lf_cells::{CellId, CellTable};
 use lf_floorplan::Frame;
 use lf_rules::solid_box;
-use lf_segments::{RowStarts, RowsByY, Segment, Segments};
+use lf_segments::Ground;
 use lf_units::Rect;
 use std::alloc::{AllocError, Global};
-
-/// The y of the row of that number.
-fn level(frame: &Frame, row: usize) -> i64
-    requires { row < length frame.now.rows }
-    ensures is { result ≡ row_y frame.now row }
-    ensures low { negsuc 2147483647 <ℤ result }
-    ensures high { result ≤ℤ pos 2147483647 }
-{
-    i64::from(frame.rows.as_slice()[row].y)
-}
-
-/// The strip of a segment.
-fn strip_at(frame: &Frame, segment: &Segment) -> Strip
-    requires { segment.now.row < length frame.now.rows }
-    ensures { result ≡ strip_of frame.now segment.now }
-{
-    let y = level(frame, segment.row);
-    Strip {
-        row: segment.row,
-        team: segment.team,
-        area: Rect {
-            x1: segment.span.lo,
-            y1: y,
-            x2: segment.span.hi,
-            y2: y + frame.pitch.y,
-        },
-    }
-}
-
-/// The strips of segments, in their order.
-fn strips_of(alloc: Global, frame: &Frame, segments: &[Segment]) -> Result<Vec<Strip>, AllocError>
-    requires { All (λ g. g.row < length frame.now.rows) segments.now }
-    ensures { IfOk result (λ strips. strips.items ≡ map (strip_of frame.now) segments.now) }
-{
-    let mut strips = Vec::with_capacity(alloc, segments.len())?;
-    for segment in segments {
-        strips.push(strip_at(frame, segment))?;
-    }
-    Ok(strips)
-}
-
-/// The strips of the frame's segments, and its rows in order of their y.
-pub(crate) fn lay_out(
-    alloc: Global,
-    frame: &Frame,
-    segments: &Segments,
-) -> Result<Strips, AllocError>
-    requires { IsCut frame.now segments.now }
-    ensures { IfOk result (λ strips. AreLaidOut frame.now segments.now strips) }
-{
-    let list = strips_of(alloc, frame, segments.as_slice())?;
-    let starts = RowStarts::build(alloc, segments.as_slice(), frame.rows.len())?;
-    let rows = RowsByY::build(alloc, frame)?;
-    Ok(Strips {
-        list,
-        starts,
-        rows,
-        height: frame.pitch.y,
-    })
-}
 
 /// This many empty lanes.
 pub(crate) fn bare_lanes(alloc: Global, count: usize) -> Result<Vec<Lane>, AllocError>
@@ -117,12 +54,13 @@ fn team_limit(ids: &[CellId]) -> usize
 }
 
 /// A box for each cell of the table, each none.
+#[tactic(auto, using(lf_cells::proofs::TeamIds::ids_many))]
 pub(crate) fn no_boxes_of(alloc: Global, cells: &CellTable) -> Result<Vec<TeamBoxes>, AllocError>
     ensures { IfOk result (λ boxes. AreNowhere cells.now boxes.items) }
 {
     let mut boxes = Vec::new(alloc);
     for team in 0..team_limit(cells.all()) {
-        boxes.push(TeamBoxes::empty(alloc, cells.count_of(team))?)?;
+        boxes.push(TeamBoxes::empty(alloc, cells.cells_of(team).len())?)?;
     }
     Ok(boxes)
 }
@@ -132,7 +70,7 @@ fn box_at_work(frame: &Frame, cells: &CellTable, id: &CellId) -> Option<Rect>
     requires { (team : ℕ) → All (HasSize frame.now) (cells_of cells.now team) }
     ensures { (c : Cell) → cell_at cells.now id.now ≡ Some c → result ≡ box_of frame.now c }
 {
-    let standing = cells.standing(id.team as usize, id.own as usize)?;
+    let standing = cells.standing(*id)?;
     let place = standing.working?;
     Some(solid_box(frame, &frame.macros.as_slice()[standing.mac], &place))
 }
@@ -149,7 +87,7 @@ pub(crate) struct Waiting {
 fn waiting_cell(cells: &CellTable, id: &CellId) -> Waiting
     ensures { result.id ≡ id.now }
 {
-    let standing = cells.standing(id.team as usize, id.own as usize);
+    let standing = cells.standing(*id);
     match standing.and_then(|standing| standing.working) {
         Some(place) => Waiting {
             id: *id,
@@ -208,20 +146,19 @@ pub(crate) fn fill(
     alloc: Global,
     lanes: &mut Vec<Lane>,
     boxes: &mut Vec<TeamBoxes>,
-    strips: &Strips,
+    index: &Ground,
     frame: &Frame,
     cells: &CellTable,
 ) -> Result<(), AllocError>
-    requires strips { AreStrips strips.now }
-    requires lanes { AreLanes strips.now.list.items boxes.old.items lanes.old.items }
+    requires lanes { AreLanes index.now.strips boxes.old.items lanes.old.items }
     requires sized { (team : ℕ) → All (HasSize frame.now) (cells_of cells.now team) }
     requires many { (team : ℕ) → length (slice_index_or boxes.old.items team []) ≡ length (cells_of cells.now team) }
-    ensures lanes { OnOk result (AreLanes strips.now.list.items boxes.new.items lanes.new.items) }
+    ensures lanes { OnOk result (AreLanes index.now.strips boxes.new.items lanes.new.items) }
     ensures boxes { OnOk result ((team : ℕ) → slice_index_or boxes.new.items team [] ≡ map (box_of frame.now) (cells_of cells.now team)) }
 {
     let order = by_place(alloc, cells, cells.all())?;
     for id in &order {
-        settle(lanes, boxes, strips, id, &box_at_work(frame, cells, id))?;
+        settle(lanes, boxes, index, id, &box_at_work(frame, cells, id))?;
     }
     Ok(())
 }

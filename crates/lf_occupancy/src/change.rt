@@ -3,16 +3,15 @@
 ghost use Rattle.std.specs.Prelude.{AllPairs, IfSome, [], ◌≡◌, ◌≢◌, None, OnErr, OnOk, Some, length, slice_index_or};
 ghost use Rattle.lf_occupancy.specs.declared.lane.Lane.{Lane};
 ghost use Rattle.lf_occupancy.specs.Lanes.{IsPruned};
-ghost use Rattle.lf_occupancy.specs.Strips.{AreChanged, AreKept, AreLanes, HaveRoomForAll, AreOrderly, AreStrips, Follows, HasCell, IsReached, MeetsStrip};
+ghost use Rattle.lf_occupancy.specs.Strips.{AreChanged, AreKept, AreLanes, HaveRoomForAll, Follows, HasCell, IsReached, MeetsStrip};
 ghost use Rattle.lf_occupancy.specs.Strips.{IsReachedIn, CanTake, HaveAtMostOne, HaveRoom, StandOnce, PutInRow, PutInRows, boxes_set};
 ghost use Rattle.lf_occupancy.specs.Strips.{rooms_in};
 ghost use Rattle.lf_occupancy.specs.Occupied.{NoLess, cell_box};
 
 use crate::boxes::{TeamBoxes, box_of_cell, has_cell, set_box};
 use crate::lane::{Lane, make_room, prune, put_in};
-use crate::strips::{Strips, near_strips, rows_near};
 use lf_cells::CellId;
-use lf_segments::RowEntry;
+use lf_segments::{Ground, RowEntry};
 use lf_units::Rect;
 use std::alloc::AllocError;
 
@@ -20,18 +19,17 @@ use std::alloc::AllocError;
 /// reaches. Also on `Err` each strip holds what it held.
 fn make_room_in_row(
     lanes: &mut Vec<Lane>,
-    strips: &Strips,
+    index: &Ground,
     row: usize,
     id: &CellId,
     rect: &Rect,
     more: usize,
 ) -> Result<(), AllocError>
-    requires strips { AreStrips strips.now }
-    requires many { length lanes.old.items ≡ length strips.now.list.items }
+    requires { length lanes.old.items ≡ length index.now.strips }
     ensures kept { AreKept lanes.old.items lanes.new.items }
-    ensures ok { OnOk result (HaveRoom (IsReachedIn strips.now.list.items row id.now.team rect.now) more lanes.new.items) }
+    ensures ok { OnOk result (HaveRoom (IsReachedIn index.now.strips row id.now.team rect.now) more lanes.new.items) }
 {
-    let near = near_strips(strips, row, id.team as usize, &rect.x1, &rect.x2);
+    let near = index.near(row, id.team as usize, &rect.x1, &rect.x2);
     for n in near.start..near.end {
         make_room(&mut lanes[n], more)?;
     }
@@ -41,87 +39,83 @@ fn make_room_in_row(
 /// The same for all these rows.
 fn make_room_in_rows(
     lanes: &mut Vec<Lane>,
-    strips: &Strips,
+    index: &Ground,
     rows: &[RowEntry],
     id: &CellId,
     rect: &Rect,
     more: usize,
 ) -> Result<(), AllocError>
-    requires strips { AreStrips strips.now }
-    requires many { length lanes.old.items ≡ length strips.now.list.items }
+    requires { length lanes.old.items ≡ length index.now.strips }
     ensures kept { AreKept lanes.old.items lanes.new.items }
-    ensures ok { OnOk result (HaveRoom (IsReached strips.now.list.items rows.now id.now.team rect.now) more lanes.new.items) }
+    ensures ok { OnOk result (HaveRoom (IsReached index.now.strips rows.now id.now.team rect.now) more lanes.new.items) }
 {
     for entry in rows {
-        make_room_in_row(lanes, strips, entry.row, id, rect, more)?;
+        make_room_in_row(lanes, index, entry.row, id, rect, more)?;
     }
     Ok(())
 }
 
 /// Takes the cell's entries out of the strips of a row and the cell's team that its box reaches.
-fn prune_row(lanes: &mut Vec<Lane>, strips: &Strips, row: usize, id: &CellId, rect: &Rect)
-    requires strips { AreStrips strips.now }
-    requires many { length lanes.old.items ≡ length strips.now.list.items }
-    requires one { HaveAtMostOne strips.now.list.items id.now.own rect.now (IsReachedIn strips.now.list.items row id.now.team rect.now) lanes.old.items }
-    ensures { AreChanged (IsReachedIn strips.now.list.items row id.now.team rect.now) (λ n. IsPruned id.now.own) lanes.old.items lanes.new.items }
+fn prune_row(lanes: &mut Vec<Lane>, index: &Ground, row: usize, id: &CellId, rect: &Rect)
+    requires many { length lanes.old.items ≡ length index.now.strips }
+    requires one { HaveAtMostOne index.now.strips id.now.own rect.now (IsReachedIn index.now.strips row id.now.team rect.now) lanes.old.items }
+    ensures { AreChanged (IsReachedIn index.now.strips row id.now.team rect.now) (λ n. IsPruned id.now.own) lanes.old.items lanes.new.items }
 {
-    let list = strips.list.as_slice();
-    let near = near_strips(strips, row, id.team as usize, &rect.x1, &rect.x2);
+    let list = index.strips();
+    let near = index.near(row, id.team as usize, &rect.x1, &rect.x2);
     for n in near.start..near.end {
         prune(&mut lanes[n], id.own, &list[n].area.x1.max(rect.x1));
     }
 }
 
 /// The same for all these rows.
-fn prune_rows(lanes: &mut Vec<Lane>, strips: &Strips, rows: &[RowEntry], id: &CellId, rect: &Rect)
-    requires strips { AreStrips strips.now }
-    requires many { length lanes.old.items ≡ length strips.now.list.items }
+fn prune_rows(lanes: &mut Vec<Lane>, index: &Ground, rows: &[RowEntry], id: &CellId, rect: &Rect)
+    requires many { length lanes.old.items ≡ length index.now.strips }
     requires once { AllPairs (λ a b. a.row ≢ b.row) rows.now }
-    requires one { HaveAtMostOne strips.now.list.items id.now.own rect.now (IsReached strips.now.list.items rows.now id.now.team rect.now) lanes.old.items }
-    ensures { AreChanged (IsReached strips.now.list.items rows.now id.now.team rect.now) (λ n. IsPruned id.now.own) lanes.old.items lanes.new.items }
+    requires one { HaveAtMostOne index.now.strips id.now.own rect.now (IsReached index.now.strips rows.now id.now.team rect.now) lanes.old.items }
+    ensures { AreChanged (IsReached index.now.strips rows.now id.now.team rect.now) (λ n. IsPruned id.now.own) lanes.old.items lanes.new.items }
 {
     for entry in rows {
-        prune_row(lanes, strips, entry.row, id, rect);
+        prune_row(lanes, index, entry.row, id, rect);
     }
 }
 
 /// Puts the parts of the cell's box into the strips of a row and the cell's team that it reaches.
-fn put_in_row(lanes: &mut Vec<Lane>, strips: &Strips, row: usize, id: &CellId, rect: &Rect)
-    requires strips { AreStrips strips.now }
-    requires many { length lanes.old.items ≡ length strips.now.list.items }
-    requires room { CanTake strips.now.list.items rect.now (IsReachedIn strips.now.list.items row id.now.team rect.now) lanes.old.items }
-    ensures { PutInRow strips.now row id.now rect.now lanes.old.items lanes.new.items }
+fn put_in_row(lanes: &mut Vec<Lane>, index: &Ground, row: usize, id: &CellId, rect: &Rect)
+    requires many { length lanes.old.items ≡ length index.now.strips }
+    requires room { CanTake index.now.strips rect.now (IsReachedIn index.now.strips row id.now.team rect.now) lanes.old.items }
+    ensures { PutInRow index.now.strips row id.now rect.now lanes.old.items lanes.new.items }
 {
-    let list = strips.list.as_slice();
-    let near = near_strips(strips, row, id.team as usize, &rect.x1, &rect.x2);
+    index.strips_are_placed();
+    let list = index.strips();
+    let near = index.near(row, id.team as usize, &rect.x1, &rect.x2);
     for n in near.start..near.end {
         put_in(&mut lanes[n], &list[n].area, id.own, rect);
     }
 }
 
 /// The same for all these rows.
-fn put_in_rows(lanes: &mut Vec<Lane>, strips: &Strips, rows: &[RowEntry], id: &CellId, rect: &Rect)
-    requires strips { AreStrips strips.now }
-    requires many { length lanes.old.items ≡ length strips.now.list.items }
+fn put_in_rows(lanes: &mut Vec<Lane>, index: &Ground, rows: &[RowEntry], id: &CellId, rect: &Rect)
+    requires many { length lanes.old.items ≡ length index.now.strips }
     requires once { AllPairs (λ a b. a.row ≢ b.row) rows.now }
-    requires room { CanTake strips.now.list.items rect.now (IsReached strips.now.list.items rows.now id.now.team rect.now) lanes.old.items }
-    ensures { PutInRows strips.now rows.now id.now rect.now lanes.old.items lanes.new.items }
+    requires room { CanTake index.now.strips rect.now (IsReached index.now.strips rows.now id.now.team rect.now) lanes.old.items }
+    ensures { PutInRows index.now.strips rows.now id.now rect.now lanes.old.items lanes.new.items }
 {
     for entry in rows {
-        put_in_row(lanes, strips, entry.row, id, rect);
+        put_in_row(lanes, index, entry.row, id, rect);
     }
 }
 
 /// Takes the cell out of all strips that its old box reaches.
-fn take_out(lanes: &mut Vec<Lane>, strips: &Strips, id: &CellId, old: &Option<Rect>)
-    requires strips { AreStrips strips.now }
-    requires many { length lanes.old.items ≡ length strips.now.list.items }
-    requires one { StandOnce strips.now.list.items id.now old.now lanes.old.items }
-    ensures follows { Follows strips.now id.now old.now None lanes.old.items lanes.new.items }
+fn take_out(lanes: &mut Vec<Lane>, index: &Ground, id: &CellId, old: &Option<Rect>)
+    requires many { length lanes.old.items ≡ length index.now.strips }
+    requires one { StandOnce index.now.strips id.now old.now lanes.old.items }
+    ensures follows { Follows index.now.strips id.now old.now None lanes.old.items lanes.new.items }
     ensures rooms { rooms_in lanes.new.items ≡ rooms_in lanes.old.items }
 {
+    index.strips_are_placed();
     if let Some(rect) = old {
-        prune_rows(lanes, strips, rows_near(strips, rect), id, rect);
+        prune_rows(lanes, index, index.rows_near(rect), id, rect);
     }
 }
 
@@ -130,12 +124,11 @@ fn take_out(lanes: &mut Vec<Lane>, strips: &Strips, id: &CellId, old: &Option<Re
 pub(crate) fn remove_box(
     lanes: &mut Vec<Lane>,
     boxes: &mut Vec<TeamBoxes>,
-    strips: &Strips,
+    index: &Ground,
     id: &CellId,
 )
-    requires strips { AreStrips strips.now }
-    requires lanes { AreLanes strips.now.list.items boxes.old.items lanes.old.items }
-    ensures lanes { AreLanes strips.now.list.items boxes.new.items lanes.new.items }
+    requires { AreLanes index.now.strips boxes.old.items lanes.old.items }
+    ensures lanes { AreLanes index.now.strips boxes.new.items lanes.new.items }
     ensures boxes { boxes.new.items ≡ boxes_set boxes.old.items id.now None }
     ensures rooms { rooms_in lanes.new.items ≡ rooms_in lanes.old.items }
 {
@@ -143,7 +136,7 @@ pub(crate) fn remove_box(
         return;
     }
     let old = box_of_cell(boxes, id);
-    take_out(lanes, strips, id, &old);
+    take_out(lanes, index, id, &old);
     set_box(boxes, id, &None);
 }
 
@@ -151,20 +144,20 @@ pub(crate) fn remove_box(
 pub(crate) fn insert_box(
     lanes: &mut Vec<Lane>,
     boxes: &mut Vec<TeamBoxes>,
-    strips: &Strips,
+    index: &Ground,
     id: &CellId,
     rect: &Rect,
 )
-    requires strips { AreStrips strips.now }
-    requires lanes { AreLanes strips.now.list.items boxes.old.items lanes.old.items }
+    requires lanes { AreLanes index.now.strips boxes.old.items lanes.old.items }
     requires known { HasCell boxes.old.items id.now }
     requires nowhere { cell_box (slice_index_or boxes.old.items id.now.team []) id.now.own ≡ None }
-    requires room { HaveRoom (MeetsStrip strips.now.list.items id.now.team rect.now) 1 lanes.old.items }
-    ensures lanes { AreLanes strips.now.list.items boxes.new.items lanes.new.items }
+    requires room { HaveRoom (MeetsStrip index.now.strips id.now.team rect.now) 1 lanes.old.items }
+    ensures lanes { AreLanes index.now.strips boxes.new.items lanes.new.items }
     ensures boxes { boxes.new.items ≡ boxes_set boxes.old.items id.now (Some rect.now) }
     ensures rooms { rooms_in lanes.new.items ≡ rooms_in lanes.old.items }
 {
-    put_in_rows(lanes, strips, rows_near(strips, rect), id, rect);
+    index.strips_are_placed();
+    put_in_rows(lanes, index, index.rows_near(rect), id, rect);
     set_box(boxes, id, &Some(*rect));
 }
 
@@ -172,18 +165,18 @@ pub(crate) fn insert_box(
 /// box, if it has one. Also on `Err` each strip holds what it held.
 fn reserve_box(
     lanes: &mut Vec<Lane>,
-    strips: &Strips,
+    index: &Ground,
     id: &CellId,
     to: &Option<Rect>,
     more: usize,
 ) -> Result<(), AllocError>
-    requires strips { AreStrips strips.now }
-    requires many { length lanes.old.items ≡ length strips.now.list.items }
+    requires { length lanes.old.items ≡ length index.now.strips }
     ensures kept { AreKept lanes.old.items lanes.new.items }
-    ensures ok { OnOk result (IfSome to.now (λ rect. HaveRoom (MeetsStrip strips.now.list.items id.now.team rect) more lanes.new.items)) }
+    ensures ok { OnOk result (IfSome to.now (λ rect. HaveRoom (MeetsStrip index.now.strips id.now.team rect) more lanes.new.items)) }
 {
+    index.strips_are_placed();
     if let Some(rect) = to {
-        make_room_in_rows(lanes, strips, rows_near(strips, rect), id, rect, more)?;
+        make_room_in_rows(lanes, index, index.rows_near(rect), id, rect, more)?;
     }
     Ok(())
 }
@@ -191,16 +184,15 @@ fn reserve_box(
 /// The same for the box of each move, as many entries as there are moves.
 pub(crate) fn reserve_moves(
     lanes: &mut Vec<Lane>,
-    strips: &Strips,
+    index: &Ground,
     moves: &[(CellId, Option<Rect>)],
 ) -> Result<(), AllocError>
-    requires strips { AreStrips strips.now }
-    requires many { length lanes.old.items ≡ length strips.now.list.items }
+    requires { length lanes.old.items ≡ length index.now.strips }
     ensures kept { AreKept lanes.old.items lanes.new.items }
-    ensures ok { OnOk result (HaveRoomForAll strips.now.list.items moves.now (length moves.now) lanes.new.items) }
+    ensures ok { OnOk result (HaveRoomForAll index.now.strips moves.now (length moves.now) lanes.new.items) }
 {
     for (id, to) in moves {
-        reserve_box(lanes, strips, id, to, moves.len())?;
+        reserve_box(lanes, index, id, to, moves.len())?;
     }
     Ok(())
 }
@@ -210,22 +202,21 @@ pub(crate) fn reserve_moves(
 pub(crate) fn settle(
     lanes: &mut Vec<Lane>,
     boxes: &mut Vec<TeamBoxes>,
-    strips: &Strips,
+    index: &Ground,
     id: &CellId,
     to: &Option<Rect>,
 ) -> Result<(), AllocError>
-    requires strips { AreStrips strips.now }
-    requires lanes { AreLanes strips.now.list.items boxes.old.items lanes.old.items }
-    ensures lanes { AreLanes strips.now.list.items boxes.new.items lanes.new.items }
+    requires { AreLanes index.now.strips boxes.old.items lanes.old.items }
+    ensures lanes { AreLanes index.now.strips boxes.new.items lanes.new.items }
     ensures ok { OnOk result (boxes.new.items ≡ boxes_set boxes.old.items id.now to.now) }
 {
     if !has_cell(boxes, id) {
         return Ok(());
     }
-    remove_box(lanes, boxes, strips, id);
-    reserve_box(lanes, strips, id, to, 1)?;
+    remove_box(lanes, boxes, index, id);
+    reserve_box(lanes, index, id, to, 1)?;
     if let Some(rect) = to {
-        insert_box(lanes, boxes, strips, id, rect);
+        insert_box(lanes, boxes, index, id, rect);
     }
     Ok(())
 }

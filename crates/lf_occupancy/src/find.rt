@@ -2,31 +2,30 @@
 
 ghost use Rattle.std.specs.Prelude.{All, AllPairs, IfOk, None, negsuc, ◌≤ℤ◌, ◌<ℤ◌, length};
 ghost use Rattle.lf_occupancy.specs.Lanes.{IsLeast};
-ghost use Rattle.lf_occupancy.specs.Strips.{AreFreeTo, AreLeft, AreOrderly, AreStrips, ComesBefore, IsPlaced, MeetsInOne, MeetsInRow};
+ghost use Rattle.lf_occupancy.specs.Strips.{AreFreeTo, AreLeft, AreOrderly, MeetsInOne, MeetsInRow};
 
 use crate::lane::{Lane, free_in_lane, free_of_all, least_in_lane, x_range_of};
-use crate::strip::Strip;
-use crate::strips::{Strips, near_strips, rows_near};
 use lf_cells::CellId;
+use lf_segments::Ground;
 use lf_units::{Rect, Span};
 use std::alloc::{AllocError, Global};
 
 /// The least number of a cell, other than this one, of which an entry in a strip of the row and the
 /// cell's team shares a point with the rectangle; the number so far if that is less, or none is met.
 fn least_in_row(
-    strips: &Strips,
+    index: &Ground,
     lanes: &[Lane],
     row: usize,
     id: &CellId,
     rect: &Rect,
     so_far: Option<u32>,
 ) -> Option<u32>
-    requires strips { AreStrips strips.now }
-    requires lanes { AreOrderly strips.now.list.items lanes.now }
-    ensures { IsLeast (MeetsInRow strips.now.list.items lanes.now row id.now.team rect.now id.now.own) so_far result }
+    requires { AreOrderly index.now.strips lanes.now }
+    ensures { IsLeast (MeetsInRow index.now.strips lanes.now row id.now.team rect.now id.now.own) so_far result }
 {
-    let list = strips.list.as_slice();
-    let near = near_strips(strips, row, id.team as usize, &rect.x1, &rect.x2);
+    index.strips_are_placed();
+    let list = index.strips();
+    let near = index.near(row, id.team as usize, &rect.x1, &rect.x2);
     let mut least = so_far;
     for n in near.start..near.end {
         least = least_in_lane(&lanes[n], &list[n].area.x1, rect, id.own, least);
@@ -35,14 +34,14 @@ fn least_in_row(
 }
 
 /// The same in the strips of all rows: none if none is met.
-pub(crate) fn least_met(strips: &Strips, lanes: &[Lane], id: &CellId, rect: &Rect) -> Option<u32>
-    requires strips { AreStrips strips.now }
-    requires lanes { AreOrderly strips.now.list.items lanes.now }
-    ensures { IsLeast (MeetsInOne strips.now.list.items lanes.now id.now.team rect.now id.now.own) None result }
+pub(crate) fn least_met(index: &Ground, lanes: &[Lane], id: &CellId, rect: &Rect) -> Option<u32>
+    requires { AreOrderly index.now.strips lanes.now }
+    ensures { IsLeast (MeetsInOne index.now.strips lanes.now id.now.team rect.now id.now.own) None result }
 {
+    index.strips_are_placed();
     let mut least = None;
-    for entry in rows_near(strips, rect) {
-        least = least_in_row(strips, lanes, entry.row, id, rect, least);
+    for entry in index.rows_near(rect) {
+        least = least_in_row(index, lanes, entry.row, id, rect, least);
     }
     least
 }
@@ -51,19 +50,19 @@ pub(crate) fn least_met(strips: &Strips, lanes: &[Lane], id: &CellId, rect: &Rec
 /// other than this one.
 pub(crate) fn free_in_strips(
     alloc: Global,
-    strips: &Strips,
+    index: &Ground,
     lanes: &[Lane],
     row: usize,
     id: &CellId,
     window: &Span,
 ) -> Result<Vec<Span>, AllocError>
-    requires strips { AreStrips strips.now }
-    requires lanes { AreOrderly strips.now.list.items lanes.now }
+    requires lanes { AreOrderly index.now.strips lanes.now }
     requires low { negsuc 4611686018427387903 ≤ℤ window.now.lo }
-    ensures { IfOk result (λ free. AreFreeTo strips.now.list.items lanes.now row id.now.team id.now.own window.now (length strips.now.list.items) free.items) }
+    ensures { IfOk result (λ free. AreFreeTo index.now.strips lanes.now row id.now.team id.now.own window.now (length index.now.strips) free.items) }
 {
-    let list = strips.list.as_slice();
-    let near = near_strips(strips, row, id.team as usize, &window.lo, &window.hi);
+    index.strips_are_placed();
+    let list = index.strips();
+    let near = index.near(row, id.team as usize, &window.lo, &window.hi);
     let mut free = Vec::new(alloc);
     for n in near.start..near.end {
         let part = free_in_lane(alloc, &lanes[n], &x_range_of(&list[n].area), id.own, window)?;
@@ -76,16 +75,16 @@ pub(crate) fn free_in_strips(
 /// left out; none if there is no such strip.
 pub(crate) fn free_in_one(
     alloc: Global,
-    strips: &Strips,
+    index: &Ground,
     lanes: &[Lane],
     number: usize,
     without: &CellId,
 ) -> Result<Vec<Span>, AllocError>
-    requires strips { AreStrips strips.now }
-    requires lanes { AreOrderly strips.now.list.items lanes.now }
-    ensures { IfOk result (λ free. AreLeft strips.now.list.items lanes.now without.now number free.items) }
+    requires { AreOrderly index.now.strips lanes.now }
+    ensures { IfOk result (λ free. AreLeft index.now.strips lanes.now without.now number free.items) }
 {
-    let list = strips.list.as_slice();
+    index.strips_are_placed();
+    let list = index.strips();
     if number >= list.len() {
         return Ok(Vec::new(alloc));
     }

@@ -8,9 +8,6 @@ mod find;
 mod lane;
 mod laws;
 mod occupancy;
-mod strip;
-mod strips;
 
 pub use laws::strips_cover;
 pub use occupancy::Occupancy;
-pub use strip::Strip;

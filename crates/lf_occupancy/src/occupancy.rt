@@ -2,31 +2,30 @@
 
 ghost use Rattle.std.specs.Prelude.{ℕ, ◌≡◌, ◌≤ℤ◌, All, IfOk, IfSome, None, OnErr, OnOk, Some, length, negsuc};
 ghost use Rattle.lf_floorplan.specs.declared.frame.Frame.{Frame};
-ghost use Rattle.lf_segments.specs.Segments.{IsCut};
+ghost use Rattle.lf_segments.specs.Grounds.{IsGroundOf};
 ghost use Rattle.lf_occupancy.specs.Occupied.{box_at, boxes_of, boxes_with, AreFreeSpans, FitIn, HasRoomFor, NoLess, IsFirstMet, IsFreeInRow};
 ghost use Rattle.lf_occupancy.specs.Floorplans.{HasSize, IsOccupancyOf};
 ghost use Rattle.lf_cells.specs.Cells.{cells_of};
 ghost use Rattle.lf_occupancy.specs.Strips.{HasCell};
 
 use crate::boxes::TeamBoxes;
-use crate::build::{bare_lanes, fill, lay_out, no_boxes_of};
+use crate::build::{bare_lanes, fill, no_boxes_of};
 use crate::change::{insert_box, remove_box, reserve_moves};
 use crate::find::{free_in_one, free_in_strips, least_met};
 use crate::lane::Lane;
-use crate::strips::Strips;
 use lf_cells::{CellId, CellTable};
 use lf_floorplan::Frame;
-use lf_segments::Segments;
+use lf_segments::Ground;
 use lf_units::{Rect, Span};
 use std::alloc::{AllocError, Global};
 use std::marker::Model;
 
-/// The cells in the strips of a frame: for each team the boxes of its cells, and for each strip the
-/// parts of those boxes that lie in it, in the order of their left edges. A strip is the area of a
-/// segment. A contract sees the strips, the boxes, and for each strip how many boxes it has room for.
+/// The cells in the strips of a frame: what of the frame is looked up, for each team the boxes of its
+/// cells, and for each strip the parts of those boxes that lie in it, in the order of their left edges.
+/// A contract sees the look-ups, the boxes, and for each strip how many boxes it has room for.
 #[derive(Drop)]
 pub struct Occupancy {
-    strips: Strips,
+    index: Ground,
     lanes: Vec<Lane>,
     boxes: Vec<TeamBoxes>,
 }
@@ -36,40 +35,46 @@ impl Model for Occupancy {
 
     ghost Value = { Occupied };
 
-    ghost use Rattle.lf_occupancy.specs.Strips.{AreLanes, AreStrips, rooms_in};
+    ghost use Rattle.lf_occupancy.specs.Strips.{AreLanes, rooms_in};
 
     ghost view = { λ o. record {
-      strips = o.strips.list.items;
+      index = o.index;
       boxes = o.boxes.items;
       rooms = rooms_in o.lanes.items;
     } };
 
-    ghost invariant = { λ o. AreStrips o.strips × AreLanes o.strips.list.items o.boxes.items o.lanes.items };
+    ghost invariant = { λ o. AreLanes o.index.strips o.boxes.items o.lanes.items };
 }
 
 impl Occupancy {
-    /// The occupancy of the frame's strips by the cells at their working places; each cell's
-    /// macro is one of the frame's and has a whole size. `Err` if an allocation
+    /// The occupancy of the frame's strips by the cells at their working places, with the frame's
+    /// look-ups; each cell's macro is one of the frame's and has a whole size. `Err` if an allocation
     /// fails.
     pub fn build(
         alloc: Global,
         frame: &Frame,
-        segments: &Segments,
+        index: Ground,
         cells: &CellTable,
     ) -> Result<Self, AllocError>
-        requires cut { IsCut frame.now segments.now }
+        requires index { IsGroundOf frame.now index }
         requires sized { (team : ℕ) → All (HasSize frame.now) (cells_of cells.now team) }
         ensures { IfOk result (λ occupancy. IsOccupancyOf frame.now cells.now occupancy) }
     {
-        let strips = lay_out(alloc, frame, segments)?;
-        let mut lanes = bare_lanes(alloc, strips.list.as_slice().len())?;
+        let mut lanes = bare_lanes(alloc, index.strips().len())?;
         let mut boxes = no_boxes_of(alloc, cells)?;
-        fill(alloc, &mut lanes, &mut boxes, &strips, frame, cells)?;
+        fill(alloc, &mut lanes, &mut boxes, &index, frame, cells)?;
         Ok(Occupancy {
-            strips,
+            index,
             lanes,
             boxes,
         })
+    }
+
+    /// What of the frame is looked up.
+    pub fn index(&self) -> &Ground
+        ensures { result.now ≡ self.now.index }
+    {
+        &self.index
     }
 
     /// Within a window, the spans of a row that are free for a cell, which is taken away first:
@@ -86,7 +91,7 @@ impl Occupancy {
         requires { negsuc 4611686018427387903 ≤ℤ window.now.lo }
         ensures { IfOk result (λ free. IsFreeInRow self.now row id window.now free.items) }
     {
-        free_in_strips(alloc, &self.strips, &self.lanes, row, &id, window)
+        free_in_strips(alloc, &self.index, &self.lanes, row, &id, window)
     }
 
     /// The free spans of one strip, that of the segment of that number, in database units: what the
@@ -101,7 +106,7 @@ impl Occupancy {
     ) -> Result<Vec<Span>, AllocError>
         ensures { IfOk result (λ free. AreFreeSpans self.now segment without free.items) }
     {
-        free_in_one(alloc, &self.strips, &self.lanes, segment, &without)
+        free_in_one(alloc, &self.index, &self.lanes, segment, &without)
     }
 
     /// The first of the other cells of the cell's team, by their positions, that shares with the
@@ -109,17 +114,17 @@ impl Occupancy {
     pub fn first_met(&self, id: CellId, rect: &Rect) -> Option<u32>
         ensures { IsFirstMet self.now id rect.now result }
     {
-        least_met(&self.strips, &self.lanes, &id, rect)
+        least_met(&self.index, &self.lanes, &id, rect)
     }
 
     /// Takes the cell's box away; if it has none, or there is no such cell,
     /// nothing changes. It allocates nothing, and each strip keeps the room that it has.
     pub fn remove(&mut self, id: CellId)
         ensures boxes { self.new.boxes ≡ boxes_with self.old id None }
-        ensures strips { self.new.strips ≡ self.old.strips }
+        ensures index { self.new.index ≡ self.old.index }
         ensures rooms { self.new.rooms ≡ self.old.rooms }
     {
-        remove_box(&mut self.lanes, &mut self.boxes, &self.strips, &id);
+        remove_box(&mut self.lanes, &mut self.boxes, &self.index, &id);
     }
 
     /// Gives a cell without a box this one. It allocates nothing: each strip of its team that shares a
@@ -129,10 +134,10 @@ impl Occupancy {
         requires nowhere { box_at self.old id.team id.own ≡ None }
         requires room { HasRoomFor self.old id.team rect.now 1 }
         ensures boxes { self.new.boxes ≡ boxes_with self.old id (Some rect.now) }
-        ensures strips { self.new.strips ≡ self.old.strips }
+        ensures index { self.new.index ≡ self.old.index }
         ensures rooms { self.new.rooms ≡ self.old.rooms }
     {
-        insert_box(&mut self.lanes, &mut self.boxes, &self.strips, &id, rect);
+        insert_box(&mut self.lanes, &mut self.boxes, &self.index, &id, rect);
     }
 
     /// Makes the room that `insert` needs if the moves are made in their order, each by removing the
@@ -142,10 +147,10 @@ impl Occupancy {
     pub fn reserve_for(&mut self, moves: &[(CellId, Option<Rect>)]) -> Result<(), AllocError>
         ensures ok { OnOk result (All (λ m. IfSome m.1 (λ rect. HasRoomFor self.new m.0.team rect (length moves.now))) moves.now) }
         ensures boxes { self.new.boxes ≡ self.old.boxes }
-        ensures strips { self.new.strips ≡ self.old.strips }
+        ensures index { self.new.index ≡ self.old.index }
         ensures rooms { NoLess self.old.rooms self.new.rooms }
     {
-        reserve_moves(&mut self.lanes, &self.strips, moves)
+        reserve_moves(&mut self.lanes, &self.index, moves)
     }
 
     /// The boxes that stand fit: each strip has room for as many of its team's boxes as share a point

@@ -1,20 +1,20 @@
 -- A box that stands on rows is legal iff it lies in segments.
 use Rattle.std.proofs.Common.{◌≡◌, ◌⊎◌, inl, inr, ℕ, zero, suc, ℤ, pos, negsuc, ◌*◌, ◌<◌, ◌+ℤ◌, ◌*ℤ◌}
 use Rattle.std.proofs.Common.{◌≤ℤ◌, ◌<ℤ◌, List, Some, slice_get, sym, ap, subst, ◌∙◌, arith}
-use Rattle.std.specs.Prelude.{Contains}
+use Rattle.std.specs.Prelude.{All, Contains}
 use Rattle.std.proofs.Math.Nat.{suc-mul}
 use Rattle.std.proofs.lemmas.Int.{ints}
 use Rattle.std.proofs.lemmas.Option.{slice_get-get_or}
 use Rattle.lf_units.specs.declared.area.Rect.{Rect}
-use Rattle.lf_units.specs.Area.{Covers}
+use Rattle.lf_units.specs.Area.{Covers, SharesPoint}
 use Rattle.lf_spans.specs.Spans.{Holds}
 use Rattle.lf_floorplan.specs.declared.frame.Frame.{Frame}
 use Rattle.lf_floorplan.specs.declared.parts.Row.{Row}
 use Rattle.lf_floorplan.specs.Rows.{row_area}
-use Rattle.lf_floorplan.specs.Ground.{StaysInGround, IsClear}
+use Rattle.lf_floorplan.specs.Ground.{StaysInGround}
 use Rattle.lf_floorplan.specs.Standing.{IsSitesHigh, IsBottomRow, IsRowOfBox, Carries, StandsOn}
 use Rattle.lf_segments.specs.declared.segment.Segment.{Segment}
-use Rattle.lf_segments.specs.Segments.{IsOpen, IsCut, LiesInSegment}
+use Rattle.lf_segments.specs.Segments.{IsOpen, IsCutBeside, LiesInSegment}
 use Rattle.lf_segments.specs.Boxes.{across}
 use Rattle.lf_segments.specs.Laws.{LiesInSegments}
 
@@ -94,9 +94,9 @@ point_in_row f box j r x y at covers from below =
 row_at : (f : Frame) (s : Row) → Contains f.rows s → (n : ℕ) × (slice_get f.rows n ≡ Some s)
 row_at f s (n, within, is) = (n, slice_get-get_or f.rows n s within ∙ ap (λ (r : Row). Some r) is)
 
-pub segments_hold : (f : Frame) (segments : List Segment) (team : ℕ) (box : Rect) → IsCut f segments → StandsOn f box → box.x1 <ℤ box.x2 →
-    StaysInGround f team box → IsClear f box → LiesInSegments f segments team box
-segments_hold f segments team box cut stands wide ground clear k bottom j n r high at_bottom less is carries =
+pub segments_hold : (f : Frame) (obstacles : List Rect) (segments : List Segment) (team : ℕ) (box : Rect) → IsCutBeside f obstacles segments → StandsOn f box → box.x1 <ℤ box.x2 →
+    StaysInGround f team box → All (λ o. SharesPoint box o → ⊥) obstacles → LiesInSegments f segments team box
+segments_hold f obstacles segments team box cut stands wide ground clear k bottom j n r high at_bottom less is carries =
     (cut.exact n r team (across box) is wide).1 (λ x holds. record {
       clear = record {
         left = let a = carries.at_row.left in let b = holds.low in omega (arith, ints, a, b);
@@ -139,14 +139,14 @@ in_segment f segments team box stands lies x y covers =
     }
 
 -- each point of a box that lies in segments is where the team may use a row
-record OpenPoint (f : Frame) (team : ℕ) (x y : ℤ) : Type 0 where
+record OpenPoint (f : Frame) (obstacles : List Rect) (team : ℕ) (x y : ℤ) : Type 0 where
   row : Row
-  there : IsOpen f f.obstacles row team x
+  there : IsOpen f obstacles row team x
   covers : Covers (row_area f.pitch row) x y
 
-open_point : (f : Frame) (segments : List Segment) (team : ℕ) (box : Rect) → IsCut f segments → StandsOn f box → box.x1 <ℤ box.x2 →
-    LiesInSegments f segments team box → (x y : ℤ) → Covers box x y → OpenPoint f team x y
-open_point f segments team box cut stands wide lies x y covers =
+open_point : (f : Frame) (obstacles : List Rect) (segments : List Segment) (team : ℕ) (box : Rect) → IsCutBeside f obstacles segments → StandsOn f box → box.x1 <ℤ box.x2 →
+    LiesInSegments f segments team box → (x y : ℤ) → Covers box x y → OpenPoint f obstacles team x y
+open_point f obstacles segments team box cut stands wide lies x y covers =
     let i = in_segment f segments team box stands lies x y covers in
     record {
       row = i.row;
@@ -154,11 +154,11 @@ open_point f segments team box cut stands wide lies x y covers =
       covers = i.covers;
     }
 
-pub segments_suffice : (f : Frame) (segments : List Segment) (team : ℕ) (box : Rect) → IsCut f segments → StandsOn f box → box.x1 <ℤ box.x2 →
-    LiesInSegments f segments team box → StaysInGround f team box × IsClear f box
-segments_suffice f segments team box cut stands wide lies = (
-  λ x y covers. let o = open_point f segments team box cut stands wide lies x y covers in o.there.ground y o.covers,
+pub segments_suffice : (f : Frame) (obstacles : List Rect) (segments : List Segment) (team : ℕ) (box : Rect) → IsCutBeside f obstacles segments → StandsOn f box → box.x1 <ℤ box.x2 →
+    LiesInSegments f segments team box → StaysInGround f team box × All (λ o. SharesPoint box o → ⊥) obstacles
+segments_suffice f obstacles segments team box cut stands wide lies = (
+  λ x y covers. let o = open_point f obstacles segments team box cut stands wide lies x y covers in o.there.ground y o.covers,
   λ m d within shares.
-      let o = open_point f segments team box cut stands wide lies shares.x shares.y shares.in_first in
+      let o = open_point f obstacles segments team box cut stands wide lies shares.x shares.y shares.in_first in
       o.there.clear.clear shares.y o.covers m d within shares.in_second,
 )

@@ -12,3 +12,4 @@ pub mod OrderLemmas
 pub mod RangeLemmas
 pub mod StripLemmas
 pub mod ExtentLemmas
+pub mod SoftLemmas

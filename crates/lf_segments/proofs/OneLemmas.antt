@@ -4,13 +4,14 @@ use Rattle.std.specs.Prelude.{All, AllPairs, Contains}
 use Rattle.std.proofs.lemmas.Int.{ints}
 use Rattle.std.proofs.lemmas.List.{get_or_default}
 use Rattle.std.proofs.lemmas.List.Elements.{All-contains, All-head, All-tail, All-weaker}
+use Rattle.lf_units.specs.declared.area.Rect.{Rect}
 use Rattle.lf_spans.specs.Spans.{Holds, IsFilled, LiesIn}
 use Rattle.lf_spans.specs.Steps.{In}
 use Rattle.lf_spans.proofs.Edges.{in_of_lies}
 use Rattle.lf_floorplan.specs.declared.frame.Frame.{Frame}
 use Rattle.lf_floorplan.specs.declared.parts.Row.{Row}
 use Rattle.lf_segments.specs.declared.segment.Segment.{Segment}
-use Rattle.lf_segments.specs.Segments.{ComesBefore, IsSegment, LiesInSegment, IsCut}
+use Rattle.lf_segments.specs.Segments.{ComesBefore, IsSegment, LiesInSegment, IsCutBeside}
 
 abbrev segment_at : ℕ → ℕ → ℤ → ℤ → Segment
 segment_at row team lo hi = record { row = row; team = team; span = record { lo = lo; hi = hi } }
@@ -64,8 +65,8 @@ itself : (xs : List Segment) (g : Segment) → Contains xs g → LiesInSegment x
 itself xs g (k, within, is) = (k, g, within, is, (record { in_row = refl; of_team = refl }, λ x h. h))
 
 -- a segment of the one list is one of the other
-in_other : (f : Frame) (a b : List Segment) → IsCut f a → IsCut f b → (g : Segment) → Contains a g → Contains b g
-in_other f a b first second g there =
+in_other : (f : Frame) (obstacles : List Rect) (a b : List Segment) → IsCutBeside f obstacles a → IsCutBeside f obstacles b → (g : Segment) → Contains a g → Contains b g
+in_other f obstacles a b first second g there =
     let known : IsSegment f g = All-contains (IsSegment f) a g first.known there in
     let row = row_there f.rows g.row known.row_known in
     let wider = (second.exact g.row row.0 g.team g.span row.1 known.filled).1
@@ -141,8 +142,8 @@ same_list (x ∷ xs) (y ∷ ys) p q f g forth back =
       ]
     ]
 
-pub one_cut : (f : Frame) (a b : List Segment) → IsCut f a → IsCut f b → a ≡ b
-one_cut f a b first second =
+pub one_cut : (f : Frame) (obstacles : List Rect) (a b : List Segment) → IsCutBeside f obstacles a → IsCutBeside f obstacles b → a ≡ b
+one_cut f obstacles a b first second =
     same_list a b first.in_order second.in_order (All-weaker (IsSegment f) Filled (λ g k. k.filled) a first.known)
     (All-weaker (IsSegment f) Filled (λ g k. k.filled) b second.known)
-    (in_other f a b first second) (in_other f b a second first)
+    (in_other f obstacles a b first second) (in_other f obstacles b a second first)

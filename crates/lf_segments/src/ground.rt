@@ -55,7 +55,6 @@ impl Ground {
     pub fn build(alloc: Global, frame: &Frame) -> Result<Self, AllocError>
         ensures { IfOk result (λ index. IsGroundOf frame.now index) }
     {
-        let _ = (alloc, frame);
         Err(AllocError)
     }
 

@@ -1,7 +1,7 @@
 -- The places that undo entries stand for: the laws.
-use Rattle.std.proofs.Common.{◌≡◌, ℕ, zero, suc, ◌+◌, ◌<◌, List, [], ◌∷◌, ◌++◌, length, get_or, set, take, drop, Option, Some, None, refl, sym, ap, ◌∙◌}
+use Rattle.std.proofs.Common.{◌≡◌, ℕ, zero, suc, List, [], ◌∷◌, ◌++◌, length, get_or, set, take, drop, Option, Some, None, refl, sym, ap, ◌∙◌}
 use Rattle.std.specs.Prelude.{All, slice_get}
-use Rattle.std.proofs.lemmas.List.{set-set, set-get_or, length-set, take_more}
+use Rattle.std.proofs.lemmas.List.{set-set, set-get_or, length-set}
 use Rattle.std.proofs.lemmas.List.Elements.{All-nil, All-cons, All-weaker}
 use Rattle.std.proofs.lemmas.Option.{same_Some, none-some}
 use Rattle.lf_floorplan.specs.declared.place.Place.{Place}
@@ -25,15 +25,6 @@ taken_back-append (m ∷ first) second places = ap (λ (ps : Places). set ps m.o
 -- the last move is taken back first
 pub back_append : (moves : List Move) (m : Move) (places : Places) → taken_back (moves ++ m ∷ []) places ≡ taken_back moves (set places m.own m.old)
 back_append moves m places = taken_back-append moves (m ∷ []) places
-
--- the last of the moves that are left, taken back
-pub back_one : (moves : List Move) (n : ℕ) (m : Move) (places after : Places) → n < length moves → m ≡ get_or moves n m →
-    after ≡ set places m.own m.old → taken_back (take n moves) after ≡ taken_back (take (n + 1) moves) places
-back_one moves n m places after within read is =
-    ap (taken_back (take n moves)) is
-    ∙ sym (back_append (take n moves) m places)
-    ∙ ap (λ (x : Move). taken_back (take n moves ++ x ∷ []) places) read
-    ∙ ap (λ (ms : List Move). taken_back ms places) (sym (take_more moves n m within))
 
 pub undo_one_more : (before now : Places) (moves : List Move) (cell : ℕ) (to : Option Place) →
     taken_back moves now ≡ before → taken_back (moves_with moves now cell) (set now cell to) ≡ before

@@ -30,18 +30,18 @@ invariant_of-search c = record {
 
 pub nearest-requires-clause-near : goal.nearest-requires-clause-near
 nearest-requires-clause-near c =
-    nearest_near c.args.seeker.now.extent c.args.target.now c.nearest_point-near.result c.requires.made.extent.near c.nearest_point-near.ensures
+    nearest_near c.args.occupancy.now.index.extent c.args.target.now c.nearest_point-near.result c.requires.held.index.extent.near c.nearest_point-near.ensures
 
 pub nearest-requires-clause-small : goal.nearest-requires-clause-small
-nearest-requires-clause-small c = farthest_small c.args.seeker.now.extent c.farthest_in.result c.requires.made.extent.near c.farthest_in.ensures
+nearest-requires-clause-small c = farthest_small c.args.occupancy.now.index.extent c.farthest_in.result c.requires.held.index.extent.near c.farthest_in.ensures
 
 pub nearest-requires-clause-all : goal.nearest-requires-clause-all
 nearest-requires-clause-all c = λ p may.
-    within_extent c.args.seeker.now.extent c.args.target.now c.nearest_point-near.result p c.farthest_in.result
+    within_extent c.args.occupancy.now.index.extent c.args.target.now c.nearest_point-near.result p c.farthest_in.result
     c.nearest_point-near.ensures c.farthest_in.ensures
     (lies_in (lifted_from c.args.frame.now c.args.id.team (map member_of (cells_of c.args.cells.now c.args.id.team)) c.args.id.own c.args.mac)
-    c.args.seeker.now.extent p
-    c.requires.sized c.requires.made.extent may.legal)
+    c.args.occupancy.now.index.extent p
+    c.requires.sized c.requires.held.index.extent may.legal)
 
 pub returns : goal.returns
 returns c =
@@ -49,6 +49,6 @@ returns c =
     IfOk-weaker c.nearest.result
     (λ (found : Option Place). IsChoice cell c.nearest_point-near.result (option_map spot_of found))
     (λ (found : Option Place). IsChoice cell c.args.target.now (option_map spot_of found))
-    (λ found. choice_for cell c.args.seeker.now.extent c.args.target.now c.nearest_point-near.result (option_map spot_of found) c.nearest_point-near.ensures
-    (λ p may. lies_in cell c.args.seeker.now.extent p c.requires.sized c.requires.made.extent may.legal))
+    (λ found. choice_for cell c.args.occupancy.now.index.extent c.args.target.now c.nearest_point-near.result (option_map spot_of found) c.nearest_point-near.ensures
+    (λ p may. lies_in cell c.args.occupancy.now.index.extent p c.requires.sized c.requires.held.index.extent may.legal))
     c.nearest.ensures

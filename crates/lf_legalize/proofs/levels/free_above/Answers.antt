@@ -4,18 +4,18 @@ use Rattle.lf_legalize.proofs.levels.free_above.Goals as goal
 
 pub push_row-requires-clause-within : goal.push_row-requires-clause-within
 push_row-requires-clause-within c =
-    entry_within c.args.search.now.frame.now c.args.search.now.rows.now c.rows_above-entry-items.result.now _ c.requires.rows c.rows_above-entry-items.ensures
+    entry_within c.args.search.now.frame.now c.args.search.now.occupancy.now.index.rows c.rows_above-entry-items.result.now _ c.requires.held.index.rows c.rows_above-entry-items.ensures
     c.loop-entry.entry-index _ c.loop-entry-test.true
 
 pub loop-entry-preserved : goal.loop-entry-preserved
 loop-entry-preserved c =
-    free_next c.args.search.now c.args.search.now.rows.now c.rows_above-entry-items.result.now _ c.args.bottom.now.row.now c.args.level
+    free_next c.args.search.now c.args.search.now.occupancy.now.index.rows c.rows_above-entry-items.result.now _ c.args.bottom.now.row.now c.args.level
     c.args.bottom.now.window.now
-    c.loop-entry.entry-index _ c.loop-entry.spans.items c.push_row.new.spans.items c.requires.held.strips c.requires.rows c.rows_above-entry-items.ensures
+    c.loop-entry.entry-index _ c.loop-entry.spans.items c.push_row.new.spans.items c.requires.held.index c.requires.held.index.rows c.rows_above-entry-items.ensures
     c.loop-entry-test.true c.loop-entry.invariant c.in_ok-push_row.ensures
 
 pub returns : goal.returns
 returns c =
-    free_end c.args.search.now c.args.search.now.rows.now c.rows_above-entry-items.result.now _ c.args.bottom.now.row.now c.args.level
+    free_end c.args.search.now c.args.search.now.occupancy.now.index.rows c.rows_above-entry-items.result.now _ c.args.bottom.now.row.now c.args.level
     c.args.bottom.now.window.now
-    c.loop-entry.entry-index c.loop-entry.spans.items c.requires.rows c.rows_above-entry-items.ensures (omega arith) refl c.loop-entry.invariant
+    c.loop-entry.entry-index c.loop-entry.spans.items c.requires.held.index.rows c.rows_above-entry-items.ensures (omega arith) refl c.loop-entry.invariant

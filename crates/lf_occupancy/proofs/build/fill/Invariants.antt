@@ -6,6 +6,6 @@ use Rattle.lf_occupancy.proofs.build.fill.Given as goal
 -- the lanes follow the boxes, and the cells passed have their boxes
 abbrev pub invariant-loop-id : goal.invariant-loop-id
 invariant-loop-id l = record {
-  lanes : AreLanes l.strips.list.items l.boxes.items l.lanes.items;
+  lanes : AreLanes l.index.strips l.boxes.items l.lanes.items;
   filled : AreFilled l.frame l.cells (take l.id-index l.id-items) l.boxes.items;
 }

@@ -8,5 +8,5 @@ use Rattle.lf_occupancy.proofs.change.make_room_in_rows.Given as goal
 abbrev pub invariant-loop-entry : goal.invariant-loop-entry
 invariant-loop-entry l = record {
   kept : AreKept l.initial.lanes.items l.lanes.items;
-  room : (n : ℕ) (e : Lane) → IsReached l.strips.list.items (take l.entry-index l.rows) l.id.team l.rect n → HasRoomOf l.more (get_or l.lanes.items n e);
+  room : (n : ℕ) (e : Lane) → IsReached l.index.strips (take l.entry-index l.rows) l.id.team l.rect n → HasRoomOf l.more (get_or l.lanes.items n e);
 }

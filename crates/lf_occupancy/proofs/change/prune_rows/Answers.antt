@@ -14,7 +14,7 @@ loop-entry-init c = none_changed _ _ _ (λ n r. any_nil _ r.1)
 
 pub prune_row-requires-clause-one : goal.prune_row-requires-clause-one
 prune_row-requires-clause-one c = λ n d e reached.
-    let xs = c.args.strips.now.list.items in
+    let xs = c.args.index.now.strips in
     let rows = c.args.rows.now in
     let team = c.args.id.now.team in
     let rect = c.args.rect.now in
@@ -30,7 +30,7 @@ prune_row-requires-clause-one c = λ n d e reached.
 
 pub loop-entry-preserved : goal.loop-entry-preserved
 loop-entry-preserved c =
-    rows_further (λ n. IsPruned c.args.id.now.own) c.args.strips.now.list.items c.args.rows.now c.loop-entry.entry-index _ c.args.id.now.team c.args.rect.now
+    rows_further (λ n. IsPruned c.args.id.now.own) c.args.index.now.strips c.args.rows.now c.loop-entry.entry-index _ c.args.id.now.team c.args.rect.now
     c.args.lanes.now.items c.loop-entry.lanes.items c.prune_row.new.lanes.items c.requires.once (omega arith)
     (get_or_default c.args.rows.now c.loop-entry.entry-index _ _ (omega arith)) c.loop-entry.invariant c.prune_row.ensures
 
@@ -38,6 +38,6 @@ pub returns : goal.returns
 returns c =
     subst
     (λ (es : List RowEntry).
-    AreChanged (IsReached c.args.strips.now.list.items es c.args.id.now.team c.args.rect.now) (λ n. IsPruned c.args.id.now.own)
+    AreChanged (IsReached c.args.index.now.strips es c.args.id.now.team c.args.rect.now) (λ n. IsPruned c.args.id.now.own)
     c.args.lanes.now.items c.loop-entry.lanes.items)
     (take_all c.loop-entry.entry-index c.args.rows.now (omega arith)) c.loop-entry.invariant

@@ -6,4 +6,4 @@ use Rattle.lf_occupancy.proofs.change.prune_rows.Given as goal
 -- the lanes of the rows passed are changed
 abbrev pub invariant-loop-entry : goal.invariant-loop-entry
 invariant-loop-entry l =
-    AreChanged (IsReached l.strips.list.items (take l.entry-index l.rows) l.id.team l.rect) (λ n. IsPruned l.id.own) l.initial.lanes.items l.lanes.items
+    AreChanged (IsReached l.index.strips (take l.entry-index l.rows) l.id.team l.rect) (λ n. IsPruned l.id.own) l.initial.lanes.items l.lanes.items

@@ -5,5 +5,5 @@ use Rattle.lf_occupancy.proofs.change.put_in_rows.Given as goal
 -- the lanes of the rows passed are changed
 abbrev pub invariant-loop-entry : goal.invariant-loop-entry
 invariant-loop-entry l =
-    AreChanged (IsReached l.strips.list.items (take l.entry-index l.rows) l.id.team l.rect)
-    (PutsIn l.strips.list.items l.id.own l.rect) l.initial.lanes.items l.lanes.items
+    AreChanged (IsReached l.index.strips (take l.entry-index l.rows) l.id.team l.rect)
+    (PutsIn l.index.strips l.id.own l.rect) l.initial.lanes.items l.lanes.items

@@ -7,9 +7,9 @@ use Rattle.lf_occupancy.proofs.change.reserve_box.Goals as goal
 
 pub returns-in_ok-make_room_in_rows-clause-ok : goal.returns-in_ok-make_room_in_rows-clause-ok
 returns-in_ok-make_room_in_rows-clause-ok c =
-    let xs = c.args.strips.now.list.items in
+    let xs = c.args.index.now.strips in
     let team = c.args.id.now.team in
     let new = c.make_room_in_rows.new.lanes.items in
     subst (λ (to : Option Rect). IfSome to (λ rect. HaveRoom (MeetsStrip xs team rect) c.args.more new)) (sym c.in-Some.is)
-    (room_of_met c.args.strips.now team c.in-Some.rect c.rows_near.result.now c.args.more new c.requires.strips c.rows_near.ensures
+    (room_of_met c.args.index.now team c.in-Some.rect c.rows_near.result.now c.args.more new c.strips_are_placed.ensures c.rows_near.ensures
     c.in_ok-make_room_in_rows.ensures.ok)

@@ -7,5 +7,5 @@ use Rattle.lf_occupancy.proofs.change.reserve_moves.Given as goal
 abbrev pub invariant-loop-id : goal.invariant-loop-id
 invariant-loop-id l = record {
   kept : AreKept l.initial.lanes.items l.lanes.items;
-  room : All (λ m. IfSome m.1 (λ rect. HaveRoom (MeetsStrip l.strips.list.items m.0.team rect) (length l.moves) l.lanes.items)) (take l.id-index l.moves);
+  room : All (λ m. IfSome m.1 (λ rect. HaveRoom (MeetsStrip l.index.strips m.0.team rect) (length l.moves) l.lanes.items)) (take l.id-index l.moves);
 }

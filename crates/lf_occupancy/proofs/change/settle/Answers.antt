@@ -8,12 +8,12 @@ use Rattle.lf_occupancy.proofs.change.settle.Goals as goal
 
 pub returns-in_err-reserve_box-clause-lanes : goal.returns-in_err-reserve_box-clause-lanes
 returns-in_err-reserve_box-clause-lanes c =
-    lanes_kept c.args.strips.now.list.items c.remove_box.new.boxes.items c.remove_box.new.lanes.items c.reserve_box.new.lanes.items
+    lanes_kept c.args.index.now.strips c.remove_box.new.boxes.items c.remove_box.new.lanes.items c.reserve_box.new.lanes.items
     c.in_err-reserve_box.ensures.kept c.remove_box.ensures.lanes
 
 pub insert_box-requires-clause-lanes : goal.insert_box-requires-clause-lanes
 insert_box-requires-clause-lanes c =
-    lanes_kept c.args.strips.now.list.items c.remove_box.new.boxes.items c.remove_box.new.lanes.items c.reserve_box.new.lanes.items
+    lanes_kept c.args.index.now.strips c.remove_box.new.boxes.items c.remove_box.new.lanes.items c.reserve_box.new.lanes.items
     c.in_ok-reserve_box.ensures.kept c.remove_box.ensures.lanes
 
 pub insert_box-requires-clause-nowhere : goal.insert_box-requires-clause-nowhere
@@ -34,5 +34,5 @@ returns-in-Some-clause-ok c =
 
 pub returns-in_default-clause-lanes : goal.returns-in_default-clause-lanes
 returns-in_default-clause-lanes c =
-    lanes_kept c.args.strips.now.list.items c.remove_box.new.boxes.items c.remove_box.new.lanes.items c.reserve_box.new.lanes.items
+    lanes_kept c.args.index.now.strips c.remove_box.new.boxes.items c.remove_box.new.lanes.items c.reserve_box.new.lanes.items
     c.in_ok-reserve_box.ensures.kept c.remove_box.ensures.lanes

@@ -2,7 +2,7 @@ use Rattle.std.proofs.Common.{◌≡◌, ◌<◌, ◌+◌, ◌++◌, List, arith
 use Rattle.std.proofs.lemmas.List.{get_or_default}
 use Rattle.lf_spans.specs.declared.span.Span.{Span}
 use Rattle.lf_spans.specs.Spans.{IsFreeIn}
-use Rattle.lf_occupancy.specs.declared.strip.Strip.{Strip}
+use Rattle.lf_segments.specs.declared.strip.Strip.{Strip}
 use Rattle.lf_occupancy.specs.Lanes.{others_in, spans_in, x_range}
 use Rattle.lf_occupancy.proofs.Frees.{AreFreeBetween, none_free, free_further, free_of_row}
 use Rattle.lf_occupancy.proofs.Finds.{no_strip}
@@ -10,9 +10,9 @@ use Rattle.lf_occupancy.proofs.find.free_in_strips.Goals as goal
 
 pub loop-n-init : goal.loop-n-init
 loop-n-init c =
-    let start = c.near_strips-near.result.start in
-    let end = c.near_strips-near.result.end in
-    let xs = c.args.strips.now.list.items in
+    let start = c.near-near.result.start in
+    let end = c.near-near.result.end in
+    let xs = c.args.index.now.strips in
     let lanes = c.args.lanes.now in
     let own = c.args.id.now.own in
     subst (λ (free : List Span). AreFreeBetween xs lanes own start start end c.args.window.now free) (sym c.new-free.ensures.items)
@@ -20,20 +20,20 @@ loop-n-init c =
 
 pub loop-n-preserved : goal.loop-n-preserved
 loop-n-preserved c =
-    let start = c.near_strips-near.result.start in
-    let end = c.near_strips-near.result.end in
+    let start = c.near-near.result.start in
+    let end = c.near-near.result.end in
     let n = c.loop-n.n in
-    let xs = c.args.strips.now.list.items in
+    let xs = c.args.index.now.strips in
     let lanes = c.args.lanes.now in
     let row = c.args.row in
     let team = c.args.id.now.team in
     let own = c.args.id.now.own in
     let window = c.args.window.now in
     let lane = c.index-lanes-n.result in
-    let list = c.as_slice-list.ensures.value in
+    let list = c.strips-list.ensures in
     let part = c.in_ok-part.part.items in
     let free = c.loop-n.free.items in
-    let near = c.near_strips-near.ensures in
+    let near = c.near-near.ensures in
     let bound = near.within in
     let test = c.loop-n-test.true in
     let many = c.requires.lanes.many in
@@ -43,17 +43,17 @@ loop-n-preserved c =
     let new = subst (λ (s : Span). IsFreeIn s (spans_in (others_in lane.entries.items own)) window part) is c.in_ok-part.ensures in
     subst (λ (zs : List Span). AreFreeBetween xs lanes own start (n + 1) end window zs)
     (sym (c.in_ok-extend_from_slice.ensures.items ∙ ap (λ (zs : List Span). free ++ zs) c.deref.ensures.value))
-    (free_further xs lanes row team own start n end window lane g free part c.requires.strips.in_order near c.loop-n.auto.n test
-    (omega (arith, within, many)) (λ k d inner. (c.requires.strips.placed k d inner).wide) c.index-lanes-n.is
+    (free_further xs lanes row team own start n end window lane g free part c.strips_are_placed.ensures.in_order near c.loop-n.auto.n test
+    (omega (arith, within, many)) (λ k d inner. (c.strips_are_placed.ensures.placed k d inner).wide) c.index-lanes-n.is
     (λ d. get_or_default xs n no_strip d within) c.loop-n.invariant new)
 
 pub returns : goal.returns
 returns c =
-    let start = c.near_strips-near.result.start in
-    let end = c.near_strips-near.result.end in
-    let xs = c.args.strips.now.list.items in
+    let start = c.near-near.result.start in
+    let end = c.near-near.result.end in
+    let xs = c.args.index.now.strips in
     let row = c.args.row in
     let team = c.args.id.now.team in
     let window = c.args.window.now in
-    let near = c.near_strips-near.ensures in
+    let near = c.near-near.ensures in
     free_of_row xs c.args.lanes.now row team c.args.id.now.own start c.loop-n.n end window c.loop-n.free.items near c.loop-n-test.false c.loop-n.invariant

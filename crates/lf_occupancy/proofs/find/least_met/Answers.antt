@@ -14,20 +14,20 @@ loop-entry-init c = least_of_none _ None (λ own m. any_nil _ m)
 
 pub loop-entry-preserved : goal.loop-entry-preserved
 loop-entry-preserved c =
-    least_more (λ own e. MeetsInRow c.args.strips.now.list.items c.args.lanes.now e.row c.args.id.now.team c.args.rect.now c.args.id.now.own own)
+    least_more (λ own e. MeetsInRow c.args.index.now.strips c.args.lanes.now e.row c.args.id.now.team c.args.rect.now c.args.id.now.own own)
     c.rows_near-entry-items.result.now c.loop-entry.entry-index _ None c.loop-entry.least c.least_in_row-least.result (omega arith)
     (get_or_default c.rows_near-entry-items.result.now c.loop-entry.entry-index _ _ (omega arith)) c.loop-entry.invariant c.least_in_row-least.ensures
 
 pub returns : goal.returns
 returns c =
-    let s = c.args.strips.now in
+    let s = c.args.index.now in
     let lanes = c.args.lanes.now in
     let team = c.args.id.now.team in
     let rect = c.args.rect.now in
     let but = c.args.id.now.own in
     let run = c.rows_near-entry-items.result.now in
-    let all : IsLeast (λ own. Any (λ e. MeetsInRow s.list.items lanes e.row team rect but own) run) None c.loop-entry.least =
-    subst (λ (es : List RowEntry). IsLeast (λ own. Any (λ e. MeetsInRow s.list.items lanes e.row team rect but own) es) None c.loop-entry.least)
+    let all : IsLeast (λ own. Any (λ e. MeetsInRow s.strips lanes e.row team rect but own) run) None c.loop-entry.least =
+    subst (λ (es : List RowEntry). IsLeast (λ own. Any (λ e. MeetsInRow s.strips lanes e.row team rect but own) es) None c.loop-entry.least)
     (take_all c.loop-entry.entry-index run (omega arith)) c.loop-entry.invariant in
-    least_alike _ _ None c.loop-entry.least (λ own m. near_row_is_one s.list.items lanes team rect but own run m)
-    (λ own m. row_is_near s lanes team rect but own m.0 run c.requires.strips c.requires.lanes c.rows_near-entry-items.ensures m.1) all
+    least_alike _ _ None c.loop-entry.least (λ own m. near_row_is_one s.strips lanes team rect but own run m)
+    (λ own m. row_is_near s lanes team rect but own m.0 run c.strips_are_placed.ensures c.requires c.rows_near-entry-items.ensures m.1) all

@@ -7,4 +7,4 @@ use Rattle.lf_occupancy.proofs.find.least_met.Given as goal
 -- the least of what is met in the rows passed
 abbrev pub invariant-loop-entry : goal.invariant-loop-entry
 invariant-loop-entry l =
-    IsLeast (λ own. Any (λ e. MeetsInRow l.strips.list.items l.lanes e.row l.id.team l.rect l.id.own own) (take l.entry-index l.entry-items)) None l.least
+    IsLeast (λ own. Any (λ e. MeetsInRow l.index.strips l.lanes e.row l.id.team l.rect l.id.own own) (take l.entry-index l.entry-items)) None l.least

@@ -2,4 +2,4 @@ use Rattle.lf_segments.proofs.OneLemmas.{one_cut}
 use Rattle.lf_segments.proofs.laws.cut_is_one.Goals as goal
 
 pub returns : goal.returns
-returns c f a b first second = one_cut f a b first second
+returns c f obstacles a b first second = one_cut f obstacles a b first second

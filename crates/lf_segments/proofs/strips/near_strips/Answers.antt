@@ -5,7 +5,7 @@ use Rattle.lf_segments.specs.Strips.{LiesBefore, rows_in}
 use Rattle.lf_segments.proofs.RangeLemmas.{end_within, near_in_row, part_all, part_pairs}
 use Rattle.lf_segments.proofs.strips.near_strips.Goals as goal
 
-range : (c : goal.After-range_of-range) → IsRangeOf (rows_in c.args.strips.now) c.args.row c.range_of-range.result.start c.range_of-range.result.end
+range : (c : goal.After-in_row-1) → IsRangeOf (rows_in c.args.strips.now) c.args.row c.range_of-range.result.start c.range_of-range.result.end
 range c =
     subst (λ (rows : List ℕ). IsRangeOf rows c.args.row c.range_of-range.result.start c.range_of-range.result.end) (sym c.requires.rows) c.range_of-range.ensures
 
@@ -25,6 +25,10 @@ count_ended-requires-clause-wide c =
 
 pub returns : goal.returns
 returns c =
-    near_in_row c.args.strips.now c.args.row c.args.team c.args.lo.now c.args.hi.now c.range_of-range.result.start c.range_of-range.result.end
-    c.count_ended.result c.count_begun.result (range c) c.count_ended.ensures.within
-    c.count_begun.ensures.within c.count_ended.ensures.ended c.count_ended.ensures.rest c.count_begun.ensures.begun c.count_begun.ensures.rest
+    let start = c.range_of-range.result.start in
+    let end = c.range_of-range.result.end in
+    let row = c.args.row in
+    let range = subst (λ (rows : List ℕ). IsRangeOf rows row start end) (sym c.requires.rows) c.range_of-range.ensures in
+    near_in_row c.args.strips.now row c.args.team c.args.lo.now c.args.hi.now start end c.count_ended.result c.count_begun.result range
+    c.count_ended.ensures.within c.count_begun.ensures.within c.count_ended.ensures.ended c.count_ended.ensures.rest c.count_begun.ensures.begun
+    c.count_begun.ensures.rest

@@ -1,13 +1,12 @@
 use Rattle.std.proofs.Common.{sym, ◌∙◌}
-use Rattle.lf_cells.specs.Cells.{id_of}
 use Rattle.lf_cells.proofs.Looks.{standing_is}
 use Rattle.lf_cells.proofs.table.CellTable.standing.Goals as goal
 
 pub returns-in_err-slot : goal.returns-in_err-slot
 returns-in_err-slot c =
     c.from_residual.ensures
-    ∙ sym (standing_is c.self.inside.parts c.args.self.now (id_of c.args.team c.args.own) _ c.self.view_is (sym (c.in_err-slot.was {u = tt}) ∙ c.slot.ensures))
+    ∙ sym (standing_is c.self.inside.parts c.args.self.now c.args.id _ c.self.view_is (sym (c.in_err-slot.was {u = tt}) ∙ c.slot.ensures))
 
 pub returns : goal.returns
-returns c = sym (standing_is c.self.inside.parts c.args.self.now (id_of c.args.team c.args.own) _ c.self.view_is
+returns c = sym (standing_is c.self.inside.parts c.args.self.now c.args.id _ c.self.view_is
     (sym (c.in_ok-slot.was {u = tt}) ∙ c.slot.ensures))

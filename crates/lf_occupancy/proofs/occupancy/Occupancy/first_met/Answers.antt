@@ -7,11 +7,11 @@ use Rattle.lf_occupancy.proofs.Reaching.{lanes_orderly}
 use Rattle.lf_occupancy.proofs.Views.{first_of_least}
 use Rattle.lf_occupancy.proofs.occupancy.Occupancy.first_met.Goals as goal
 
-pub least_met-requires-clause-lanes : goal.least_met-requires-clause-lanes
-least_met-requires-clause-lanes c =
+pub least_met-requires : goal.least_met-requires
+least_met-requires c =
     let o = c.self.inside in
-    subst (λ (ls : List Lane). AreOrderly o.strips.list.items ls) (sym c.deref.ensures.value)
-    (lanes_orderly o.strips.list.items o.boxes.items o.lanes.items c.self.invariant.1)
+    subst (λ (ls : List Lane). AreOrderly o.index.strips ls) (sym c.deref.ensures.value)
+    (lanes_orderly o.index.strips o.boxes.items o.lanes.items c.self.invariant)
 
 pub returns : goal.returns
 returns c =
@@ -19,6 +19,6 @@ returns c =
     let id = c.args.id in
     let rect = c.args.rect.now in
     subst (λ (v : Occupied). IsFirstMet v id rect c.least_met.result) c.self.view_is
-    (first_of_least _ o.lanes.items id rect c.least_met.result c.self.invariant.1
-    (subst (λ (ls : List Lane). IsLeast (MeetsInOne o.strips.list.items ls id.team rect id.own) None c.least_met.result) c.deref.ensures.value
+    (first_of_least _ o.lanes.items id rect c.least_met.result c.self.invariant
+    (subst (λ (ls : List Lane). IsLeast (MeetsInOne o.index.strips ls id.team rect id.own) None c.least_met.result) c.deref.ensures.value
     c.least_met.ensures))

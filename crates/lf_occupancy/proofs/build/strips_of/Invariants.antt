@@ -1,7 +1,0 @@
-use Rattle.std.proofs.Common.{◌≡◌, map, take}
-use Rattle.lf_occupancy.specs.Floorplans.{strip_of}
-use Rattle.lf_occupancy.proofs.build.strips_of.Given as goal
-
--- the strips of the segments passed
-abbrev pub invariant-loop-segment : goal.invariant-loop-segment
-invariant-loop-segment l = l.strips.items ≡ map (strip_of l.frame) (take l.segment-index l.segments)
