@@ -13,6 +13,7 @@ mod reach;
 mod row_search;
 mod search;
 mod seeker;
+mod soft;
 mod target;
 
 pub use index::IndexSeeker;
