@@ -136,7 +136,7 @@ module _ (t : Setting) (cells : List Cell) (sized : All (λ c. IsSizedCell t.fra
       let at : (k : ℕ) (m : Member) → slice_get new k ≡ Some m → IsPlacedAt m = λ k m there. placed_legal new k m (mac_there new k m same there) m.place refl (legal k m there) in
       subst (λ (ms : List Member). StandsLegal t.frame t.number ms own) (sym (restored_members new cells same at)) (legal own)
 
-  -- the place that is found for a cell is its best place; none is found only if none is team-legal
+  -- the place that is found for a cell is its best place; none is found only if it may go to none
   pub best_choice : (own : ℕ) (c : Cell) (target : Point) → slice_get cells own ≡ Some c
       → IsChoice (lifted_cell t cells own c) target (option_map spot_of (best_at t cells own target))
   best_choice own c target there =
