@@ -59,7 +59,7 @@ own_one (x ∷ xs) (suc k) d within = any_tail (λ t. LiesIn (get_or xs k d) t) 
 pub record IsOpenOver (f : Frame) (team n : ℕ) (s : Span) : Type 0 where
   pub row : Row
   pub stands : slice_get f.rows n ≡ Some row
-  pub is_open : (x : ℤ) → Holds s x → IsOpen f row team x
+  pub is_open : (x : ℤ) → Holds s x → IsOpen f f.obstacles row team x
 
 row_there : (rows : List Row) (n : ℕ) → n < length rows → (r : Row) × (slice_get rows n ≡ Some r)
 row_there [] n within = absurd (omega (arith, within))
@@ -73,7 +73,7 @@ segment_of_strip f o id n s segments a =
     (λ g both. (record { in_row = both.0.in_row; of_team = both.0.of_team }, both.1.within))
     segments (any_mapped (strip_of f) (λ g. IsStripOf n id.team g × IsFreeOver o id g s) segments a)
 
-pub lies_in_segment : (f : Frame) (o : Occupied) (id : CellId) (window : Span) (n : ℕ) (s : Span) IsGroundOf f o.index → IsFreeOnRow o id window n s →
+pub lies_in_segment : (f : Frame) (o : Occupied) (id : CellId) (window : Span) (n : ℕ) (s : Span) → IsGroundOf f o.index → IsFreeOnRow o id window n s →
     LiesInSegment o.index.segments n id.team s
 lies_in_segment f o id window n s h free =
     segment_of_strip f o id n s o.index.segments

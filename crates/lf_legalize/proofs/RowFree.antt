@@ -99,10 +99,10 @@ held_at s own bottom window lists x there levels fits j less =
 
 -- the team may use the row of the level over the reach
 pub open_at : (s : RowSearch) (own : ℕ) (bottom : Row) (window : Span) (x : ℤ) (j : ℕ) → IsOccupancyOf s.frame.now s.cells.now s.occupancy.now →
-    (h : IsHeldAt s own bottom window x j) → (v : ℤ) → Holds (reach s x) v → IsOpen s.frame.now h.row s.id.team v
+    (h : IsHeldAt s own bottom window x j) → (v : ℤ) → Holds (reach s x) v → IsOpen s.frame.now s.frame.now.obstacles h.row s.id.team v
 open_at s own bottom window x j held h v holds =
     let o = open_over s.frame.now s.occupancy.now s.id window h.number (reach s x) held.index (filled s x) h.free in
-    subst (λ (r : Row). IsOpen s.frame.now r s.id.team v) (same_row s.frame.now h.number o.row h.row o.stands h.stands) (o.is_open v holds)
+    subst (λ (r : Row). IsOpen s.frame.now s.frame.now.obstacles r s.id.team v) (same_row s.frame.now h.number o.row h.row o.stands h.stands) (o.is_open v holds)
 
 pub left_at : (s : RowSearch) (own : ℕ) (bottom : Row) (window : Span) (x : ℤ) (j : ℕ) → IsOccupancyOf s.frame.now s.cells.now s.occupancy.now →
     (h : IsHeldAt s own bottom window x j) → h.row.x ≤ℤ x
@@ -242,7 +242,7 @@ point_of s own bottom window x o px py free covers =
 
 open_point : (s : RowSearch) (own : ℕ) (bottom : Row) (window : Span) (x : ℤ) (px py : ℤ) → IsOccupancyOf s.frame.now s.cells.now s.occupancy.now →
     (p : IsPointOf s own bottom window x px py) → Holds (reach s x) px →
-    IsOpen s.frame.now p.held.row s.id.team px × Covers (row_area s.frame.now.pitch p.held.row) px py
+    IsOpen s.frame.now s.frame.now.obstacles p.held.row s.id.team px × Covers (row_area s.frame.now.pitch p.held.row) px py
 open_point s own bottom window x px py occupied p holds =
     let o = open_at s own bottom window x p.j occupied p.held px holds in
     (o, record { left = o.clear.left; right = o.clear.right; bottom = p.from; top = p.to })

@@ -99,7 +99,7 @@ impl Seeker for IndexSeeker {
         cell: CellId,
         target: &Point,
     ) -> Result<Option<Place>, AllocError> {
-        let Some(standing) = cells.standing(cell.team as usize, cell.own as usize) else {
+        let Some(standing) = cells.standing(cell) else {
             return Ok(None);
         };
         best_for(alloc, frame, cells, occupancy, cell, standing.mac, target)

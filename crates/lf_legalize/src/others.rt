@@ -1,6 +1,6 @@
 //! What a cell of a table must keep clear of: the boxes of its team's other placed cells.
 
-ghost use Rattle.std.specs.Prelude.{◌≡◌, ◌<◌, ◌≤◌, ◌++◌, [], All, IfOk, OnOk, length, map, option_map, slice_get};
+ghost use Rattle.std.specs.Prelude.{◌≡◌, ◌<◌, ◌++◌, [], All, IfOk, OnOk, length, map, option_map, slice_get};
 ghost use Rattle.lf_floorplan.specs.Boxes.{IsSized, macro_of};
 ghost use Rattle.lf_rules.specs.Choice.{spot_of};
 ghost use Rattle.lf_rules.specs.Team.{boxes_beside, with_box};
@@ -8,7 +8,7 @@ ghost use Rattle.lf_cells.specs.Cells.{cells_of};
 ghost use Rattle.lf_legalize.specs.Members.{member_of, IsSizedCell};
 ghost use Rattle.lf_legalize.specs.Others.{beside_one};
 
-use lf_cells::{CellTable, Standing};
+use lf_cells::{CellId, CellTable, Standing};
 use lf_floorplan::Frame;
 use lf_rules::{Placed, box_of};
 use std::alloc::{AllocError, Global};
@@ -34,45 +34,42 @@ fn push_box(
     Ok(())
 }
 
-/// Appends the box of the team's cell of the position `other`, unless it is `own`'s.
+/// Appends the box of the other cell, unless it has the position of this one.
 fn push_other(
     others: &mut Vec<Placed>,
     frame: &Frame,
     cells: &CellTable,
-    team: usize,
-    own: usize,
-    other: usize,
+    id: &CellId,
+    other: &CellId,
 ) -> Result<(), AllocError>
-    requires sized { All (IsSizedCell frame.now) (cells_of cells.now team) }
-    requires few { other < 4000000 }
-    ensures { OnOk result (others.new.items ≡ others.old.items ++ beside_one frame.now own other (slice_get (cells_of cells.now team) other)) }
+    requires { All (IsSizedCell frame.now) (cells_of cells.now other.now.team) }
+    ensures { OnOk result (others.new.items ≡ others.old.items
+        ++ beside_one frame.now id.now.own other.now.own (slice_get (cells_of cells.now other.now.team) other.now.own)) }
 {
-    if other == own {
+    if other.own == id.own {
         return Ok(());
     }
-    let Some(standing) = cells.standing(team, other) else {
+    let Some(standing) = cells.standing(*other) else {
         return Ok(());
     };
-    push_box(others, frame, &standing, other as u32)
+    push_box(others, frame, &standing, other.own)
 }
 
-/// The boxes of the team's placed cells but the one of that position, in loading order.
+/// The boxes of the placed cells of the cell's team but the cell itself, in loading order.
 ///
 /// `Err` if an allocation fails.
 pub fn boxes_beside(
     alloc: Global,
     frame: &Frame,
     cells: &CellTable,
-    team: usize,
-    own: usize,
+    id: CellId,
 ) -> Result<Vec<Placed>, AllocError>
-    requires sized { All (IsSizedCell frame.now) (cells_of cells.now team) }
-    requires few { length (cells_of cells.now team) ≤ 4000000 }
-    ensures { IfOk result (λ others. others.items ≡ boxes_beside frame.now (map member_of (cells_of cells.now team)) own) }
+    requires { All (IsSizedCell frame.now) (cells_of cells.now id.team) }
+    ensures { IfOk result (λ others. others.items ≡ boxes_beside frame.now (map member_of (cells_of cells.now id.team)) id.own) }
 {
     let mut others = Vec::new(alloc);
-    for other in 0..cells.count_of(team) {
-        push_other(&mut others, frame, cells, team, own, other)?;
+    for other in cells.cells_of(id.team as usize) {
+        push_other(&mut others, frame, cells, &id, other)?;
     }
     Ok(others)
 }

@@ -55,13 +55,11 @@ impl Seeker for PlainSeeker {
         cell: CellId,
         target: &Point,
     ) -> Result<Option<Place>, AllocError> {
-        let team = cell.team as usize;
-        let own = cell.own as usize;
-        let Some(standing) = cells.standing(team, own) else {
+        let Some(standing) = cells.standing(cell) else {
             return Ok(None);
         };
-        let others = boxes_beside(alloc, frame, cells, team, own)?;
+        let others = boxes_beside(alloc, frame, cells, cell)?;
         let mac = &frame.macros.as_slice()[standing.mac];
-        Ok(best_place(frame, team, mac, &others, target))
+        Ok(best_place(frame, cell.team as usize, mac, &others, target))
     }
 }

@@ -1,5 +1,5 @@
 -- The boxes of one number among those near a row, and what they say of its points.
-use Rattle.std.proofs.Common.{◌≡◌, ◌⊎◌, inl, inr, ℕ, ℤ, pos, ◌+◌, ◌-◌, ◌<◌, ◌≤◌, ◌≤ℤ◌, ◌<ℤ◌, List, length}
+use Rattle.std.proofs.Common.{◌≡◌, ◌⊎◌, inl, inr, ℕ, ℤ, pos, ◌+◌, ◌-◌, ◌<◌, ◌≤◌, ◌≤ℤ◌, ◌<ℤ◌, List, [], length}
 use Rattle.std.proofs.Common.{map, get_or, slice_get, take, drop, Option, Some, None, refl, sym, ap, subst, ◌∙◌, arith}
 use Rattle.std.specs.Prelude.{◌↔◌, All, Any, Contains, IsPermutation}
 use Rattle.std.specs.List.Sorted.{IsNonDecreasingBy}
@@ -194,12 +194,12 @@ ground_is_team f t x y g = by (slice_get f.teams t) refl
     by (Some u) is = let within = slice_get_within f.teams t u is in omega (arith, within)
     by None is = let same = (rw is at g).0 in omega (arith, same)
 
-pub moved_boxes : (f : Frame) (r : Row) (boxes sorted : List Placed) → IsPermutation boxes sorted → AreBoxesOf f f.obstacles r boxes → AreBoxesOf f f.obstacles r sorted
-moved_boxes f r boxes sorted moved b = record {
+pub moved_boxes : (f : Frame) (obstacles : List Rect) (r : Row) (boxes sorted : List Placed) → IsPermutation boxes sorted → AreBoxesOf f obstacles r boxes → AreBoxesOf f obstacles r sorted
+moved_boxes f obstacles r boxes sorted moved b = record {
   known = All-permutation (λ p. p.own ≤ length f.teams) boxes sorted moved b.known;
   near = All-permutation (λ p. SharesPoint (row_area f.pitch r) p.rect) boxes sorted moved b.near;
   tell = λ x y covers.
-      let t : Tell f f.obstacles boxes x y = b.tell x y covers in
+      let t : Tell f obstacles boxes x y = b.tell x y covers in
       record {
         fence = λ team is_fence. (
           λ ground. met boxes sorted moved team x y ((t.fence team is_fence).0 ground),
@@ -217,59 +217,119 @@ moved_boxes f r boxes sorted moved b = record {
     met xs ys turned own x y (k, p, within, is, e) = has_item (λ q. (q.own ≡ own) × Covers q.rect x y) ys p
         (Contains-permutation xs ys p turned (k, within, is)) e
 
+-- the boxes of fences alone, which come first, are those of the row as if there were no obstacles
+pub fences_alone : (f : Frame) (obstacles : List Rect) (r : Row) (near : List Placed) (n teams : ℕ) → teams ≡ length f.teams → n ≤ length near →
+    ((k : ℕ) (d : Placed) → k < n → (get_or near k d).own < teams) → ((k : ℕ) (d : Placed) → n ≤ k → k < length near → teams ≤ (get_or near k d).own) →
+    AreBoxesOf f obstacles r near → AreBoxesOf f [] r (take n near)
+fences_alone f obstacles r near n teams many within fences rest b = record {
+  known = λ k d inside. let low = own_below k d inside in omega (arith, low);
+  near = λ k d inside. subst (λ (p : Placed). SharesPoint (row_area f.pitch r) p.rect) (sym (at k d inside)) (b.near k d (in_near k inside));
+  tell = λ x y covers.
+      let t : Tell f obstacles near x y = b.tell x y covers in
+      record {
+        fence = λ team is_fence. (
+          λ ground. first_met team x y is_fence ((t.fence team is_fence).0 ground),
+          λ met. (t.fence team is_fence).1 (met_near team x y met),
+        );
+        obstacle = (λ a. absurd (nothing_any a), λ met. absurd (not_met x y met));
+      };
+}
+  where
+    front : List Placed
+    front = take n near
+
+    in_front : (k : ℕ) → k < length front → k < n
+    in_front k inside = let long = length-take n near in omega (arith, long, inside)
+
+    in_near : (k : ℕ) → k < length front → k < length near
+    in_near k inside = let long = length-take n near in omega (arith, long, inside)
+
+    at : (k : ℕ) (d : Placed) → k < length front → get_or front k d ≡ get_or near k d
+    at k d inside = get_or-take n near k d (in_front k inside)
+
+    own_below : (k : ℕ) (d : Placed) → k < length front → (get_or front k d).own < length f.teams
+    own_below k d inside =
+        let low = fences k d (in_front k inside) in
+        subst (λ (p : Placed). p.own < length f.teams) (sym (at k d inside)) (omega (arith, low, many))
+
+    nothing_any : {P : Rect → Type 0} → Any P [] → ⊥
+    nothing_any a = let h = a.2 in omega (arith, h)
+
+    not_met : (x y : ℤ) → IsMetAt front (length f.teams) x y → ⊥
+    not_met x y (k, p, inside, is, (own, covers)) =
+        let low : p.own < length f.teams = subst (λ (q : Placed). q.own < length f.teams) is (own_below k p inside) in
+        omega (arith, low, own)
+
+    met_near : (team : ℕ) (x y : ℤ) → IsMetAt front team x y → IsMetAt near team x y
+    met_near team x y (k, p, inside, is, both) = (k, p, in_near k inside, sym (at k p inside) ∙ is, both)
+
+    first_met : (team : ℕ) (x y : ℤ) → team < length f.teams → IsMetAt near team x y → IsMetAt front team x y
+    first_met team x y fence (k, p, inside, is, (own, covers)) = elim side [
+      | inl early ↦
+          let long = length-take n near in
+          let there : k < length front = omega (arith, long, early, within) in
+          (k, p, there, at k p there ∙ is, (own, covers))
+      | inr late ↦
+          let high : teams ≤ p.own = subst (λ (q : Placed). teams ≤ q.own) is (rest k p late inside) in
+          absurd (omega (arith, high, own, fence, many))
+    ]
+      where
+        side : (k < n) ⊎ (n ≤ k)
+        side = grind arith
+
 -- no obstacle covers a point of the row iff no box of the ground team's number does
 none_of : {P : Rect → Type 0} (rects : List Rect) → (Any P rects → ⊥) → All (λ o. P o → ⊥) rects
 none_of {P} rects never k d within p = never (has_item P rects (get_or rects k d) (Contains-get_or rects k d within) p)
 
-pub clear_spans_of : (f : Frame) (r : Row) (near obstacles : List Placed) (free : List Span) → AreBoxesOf f f.obstacles r near →
-    IsNextGroup near (length f.teams) obstacles →
-    IsFree (across (row_area f.pitch r)) (map (λ p. across p.rect) obstacles) free → AreClear f f.obstacles r free
-clear_spans_of f r near obstacles free b g is_free = record { rising = is_free.rising; exact = exact }
+pub clear_spans_of : (f : Frame) (obstacles : List Rect) (r : Row) (near boxes : List Placed) (free : List Span) → AreBoxesOf f obstacles r near →
+    IsNextGroup near (length f.teams) boxes →
+    IsFree (across (row_area f.pitch r)) (map (λ p. across p.rect) boxes) free → AreClear f obstacles r free
+clear_spans_of f obstacles r near boxes free b g is_free = record { rising = is_free.rising; exact = exact }
   where
     n : ℕ
     n = length f.teams
 
-    number : All (λ p. p.own ≡ n) obstacles
+    number : All (λ p. p.own ≡ n) boxes
     number k d within =
-        let p : Placed = get_or obstacles k d in
+        let p : Placed = get_or boxes k d in
         let found = g.among k d within in
         let low : n ≤ p.own = found.1 in
         let high : p.own ≤ n = All-contains (λ q. q.own ≤ n) near p b.known found.0 in
         omega (arith, low, high)
 
-    touch : All (λ p. SharesPoint (row_area f.pitch r) p.rect) obstacles
-    touch k d within = All-contains (λ q. SharesPoint (row_area f.pitch r) q.rect) near (get_or obstacles k d) b.near (g.among k d within).0
+    touch : All (λ p. SharesPoint (row_area f.pitch r) p.rect) boxes
+    touch k d within = All-contains (λ q. SharesPoint (row_area f.pitch r) q.rect) near (get_or boxes k d) b.near (g.among k d within).0
 
-    met : (x y : ℤ) → IsMetAt near n x y ↔ Any (λ p. Covers p.rect x y) obstacles
-    met = group_met near obstacles n n g number (omega arith)
+    met : (x y : ℤ) → IsMetAt near n x y ↔ Any (λ p. Covers p.rect x y) boxes
+    met = group_met near boxes n n g number (omega arith)
 
-    exact : (s : Span) → IsFilled s → LiesInOne free s ↔ ((x : ℤ) → Holds s x → IsClearAt f f.obstacles r x)
+    exact : (s : Span) → IsFilled s → LiesInOne free s ↔ ((x : ℤ) → Holds s x → IsClearAt f obstacles r x)
     exact s filled =
-        let beside = free_is_beside (row_area f.pitch r) obstacles free touch is_free s filled in (
+        let beside = free_is_beside (row_area f.pitch r) boxes free touch is_free s filled in (
           λ h x holds.
-              let e : IsBeside (row_area f.pitch r) obstacles x = beside.0 h x holds in
+              let e : IsBeside (row_area f.pitch r) boxes x = beside.0 h x holds in
               record {
                 left = e.left;
                 right = e.right;
-                clear = λ y covers. none_of f.obstacles (λ a.
+                clear = λ y covers. none_of obstacles (λ a.
                     let o = (met x y).0 ((b.tell x y covers).obstacle.0 a) in
-                    All-contains (λ p. Covers p.rect x y → ⊥) obstacles o.1 (e.none y covers) (o.0, o.2, o.3) o.4);
+                    All-contains (λ p. Covers p.rect x y → ⊥) boxes o.1 (e.none y covers) (o.0, o.2, o.3) o.4);
               },
           λ each. beside.1 (λ x holds.
-              let e : IsClearAt f f.obstacles r x = each x holds in
+              let e : IsClearAt f obstacles r x = each x holds in
               record {
                 left = e.left;
                 right = e.right;
                 none = λ y covers k d within over.
                     let a = (b.tell x y covers).obstacle.1 ((met x y).1
-                    (has_item (λ p. Covers p.rect x y) obstacles (get_or obstacles k d) (Contains-get_or obstacles k d within) over)) in
-                    All-contains (λ o. Covers o x y → ⊥) f.obstacles a.1 (e.clear y covers) (a.0, a.2, a.3) a.4;
+                    (has_item (λ p. Covers p.rect x y) boxes (get_or boxes k d) (Contains-get_or boxes k d within) over)) in
+                    All-contains (λ o. Covers o x y → ⊥) obstacles a.1 (e.clear y covers) (a.0, a.2, a.3) a.4;
               }),
         )
 
-pub ground_spans_of : (f : Frame) (r : Row) (near : List Placed) (free : List Span) → AreBoxesOf f f.obstacles r near →
-    IsFree (across (row_area f.pitch r)) (map (λ p. across p.rect) near) free → AreOpen f f.obstacles r (length f.teams) free
-ground_spans_of f r near free b is_free = record { rising = is_free.rising; exact = exact }
+pub ground_spans_of : (f : Frame) (obstacles : List Rect) (r : Row) (near : List Placed) (free : List Span) → AreBoxesOf f obstacles r near →
+    IsFree (across (row_area f.pitch r)) (map (λ p. across p.rect) near) free → AreOpen f obstacles r (length f.teams) free
+ground_spans_of f obstacles r near free b is_free = record { rising = is_free.rising; exact = exact }
   where
     n : ℕ
     n = length f.teams
@@ -287,7 +347,7 @@ ground_spans_of f r near free b is_free = record { rising = is_free.rising; exac
           | inr same ↦ subst (λ (t : ℕ). InGround f t x y) same there.1
         ]
 
-    none_covers : (x y : ℤ) → Covers (row_area f.pitch r) x y → IsOpen f f.obstacles r n x → All (λ p. Covers p.rect x y → ⊥) near
+    none_covers : (x y : ℤ) → Covers (row_area f.pitch r) x y → IsOpen f obstacles r n x → All (λ p. Covers p.rect x y → ⊥) near
     none_covers x y covers o k d within over =
         let p : Placed = get_or near k d in
         let there : Contains near p = Contains-get_or near k d within in
@@ -299,10 +359,10 @@ ground_spans_of f r near free b is_free = record { rising = is_free.rising; exac
               omega (arith, same, fence)
           | inr same ↦
               let a = (b.tell x y covers).obstacle.1 (has_item (λ q. (q.own ≡ n) × Covers q.rect x y) near p there (same, over)) in
-              All-contains (λ q. Covers q x y → ⊥) f.obstacles a.1 (o.clear.clear y covers) (a.0, a.2, a.3) a.4
+              All-contains (λ q. Covers q x y → ⊥) obstacles a.1 (o.clear.clear y covers) (a.0, a.2, a.3) a.4
         ]
 
-    exact : (s : Span) → IsFilled s → LiesInOne free s ↔ ((x : ℤ) → Holds s x → IsOpen f f.obstacles r n x)
+    exact : (s : Span) → IsFilled s → LiesInOne free s ↔ ((x : ℤ) → Holds s x → IsOpen f obstacles r n x)
     exact s filled =
         let beside = free_is_beside (row_area f.pitch r) near free b.near is_free s filled in (
           λ h x holds.
@@ -311,22 +371,22 @@ ground_spans_of f r near free b is_free = record { rising = is_free.rising; exac
                 clear = record {
                   left = e.left;
                   right = e.right;
-                  clear = λ y covers. none_of f.obstacles (λ a.
+                  clear = λ y covers. none_of obstacles (λ a.
                       let m = (b.tell x y covers).obstacle.0 a in
                       All-contains (λ p. Covers p.rect x y → ⊥) near m.1 (e.none y covers) (m.0, m.2, m.3) m.4.1);
                 };
                 ground = λ y covers. ground_of x y covers (e.none y covers);
               },
           λ each. beside.1 (λ x holds.
-              let o : IsOpen f f.obstacles r n x = each x holds in
+              let o : IsOpen f obstacles r n x = each x holds in
               record { left = o.clear.left; right = o.clear.right; none = λ y covers. none_covers x y covers o }),
         )
 
-pub fence_spans_of : (f : Frame) (r : Row) (near group : List Placed) (least own : ℕ) (area : Rect) (clear slice covered : List Span) → AreBoxesOf f f.obstacles r near →
-    IsNextGroup near least group → All (λ p. p.own ≡ own) group → least ≤ own → own < length f.teams → AreClear f f.obstacles r clear → area ≡ row_area f.pitch r →
+pub fence_spans_of : (f : Frame) (obstacles : List Rect) (r : Row) (near group : List Placed) (least own : ℕ) (area : Rect) (clear slice covered : List Span) → AreBoxesOf f obstacles r near →
+    IsNextGroup near least group → All (λ p. p.own ≡ own) group → least ≤ own → own < length f.teams → AreClear f obstacles r clear → area ≡ row_area f.pitch r →
     slice ≡ clear →
-    IsCoveredOver group area.y1 area.y2 slice covered → AreOpen f f.obstacles r own covered
-fence_spans_of f r near group least own area clear slice covered b g number from fence cl same_area same_slice over = record
+    IsCoveredOver group area.y1 area.y2 slice covered → AreOpen f obstacles r own covered
+fence_spans_of f obstacles r near group least own area clear slice covered b g number from fence cl same_area same_slice over = record
     { rising = co.rising; exact = exact }
   where
     co : IsCoveredOver group (row_area f.pitch r).y1 (row_area f.pitch r).y2 clear covered
@@ -337,7 +397,7 @@ fence_spans_of f r near group least own area clear slice covered b g number from
     met : (x y : ℤ) → IsMetAt near own x y ↔ Any (λ p. Covers p.rect x y) group
     met = group_met near group least own g number from
 
-    exact : (s : Span) → IsFilled s → LiesInOne covered s ↔ ((x : ℤ) → Holds s x → IsOpen f f.obstacles r own x)
+    exact : (s : Span) → IsFilled s → LiesInOne covered s ↔ ((x : ℤ) → Holds s x → IsOpen f obstacles r own x)
     exact s filled = (
       λ h x holds.
           let both = (co.exact s filled).0 h in
@@ -348,17 +408,17 @@ fence_spans_of f r near group least own area clear slice covered b g number from
       λ each. (co.exact s filled).1 (
         (cl.exact s filled).1 (λ x holds. (each x holds).clear),
         λ y bottom top x holds.
-            let o : IsOpen f f.obstacles r own x = each x holds in
+            let o : IsOpen f obstacles r own x = each x holds in
             let covers : Covers (row_area f.pitch r) x y = record { left = o.clear.left; right = o.clear.right; bottom = bottom; top = top } in
             (met x y).0 (((b.tell x y covers).fence own fence).0 (o.ground y covers)),
       ),
     )
 
 -- a team of which no box lies near the row has no use of it
-pub not_open : (f : Frame) (r : Row) (near group : List Placed) (least u : ℕ) → AreBoxesOf f f.obstacles r near → IsNextGroup near least group →
+pub not_open : (f : Frame) (obstacles : List Rect) (r : Row) (near group : List Placed) (least u : ℕ) → AreBoxesOf f obstacles r near → IsNextGroup near least group →
     All (λ p. u < p.own) group →
-    least ≤ u → u < length f.teams → (x : ℤ) → IsOpen f f.obstacles r u x → ⊥
-not_open f r near group least u b g above from fence x o =
+    least ≤ u → u < length f.teams → (x : ℤ) → IsOpen f obstacles r u x → ⊥
+not_open f obstacles r near group least u b g above from fence x o =
     let covers = high_row f r x o.clear.left o.clear.right in
     none_met near group least u g above from x r.y (((b.tell x r.y covers).fence u fence).0 (o.ground r.y covers))
 
@@ -373,15 +433,15 @@ first_number group one some = one 0 no_box some
 pub above_all : (group : List Placed) (own u : ℕ) → All (λ q. q.own ≡ own) group → u < own → All (λ p. u < p.own) group
 above_all group own u number less k d within = let same = number k d within in omega (arith, same, less)
 
-pub touch_group : (f : Frame) (r : Row) (near group : List Placed) (least : ℕ) (area : Rect) → AreBoxesOf f f.obstacles r near → IsNextGroup near least group →
+pub touch_group : (f : Frame) (obstacles : List Rect) (r : Row) (near group : List Placed) (least : ℕ) (area : Rect) → AreBoxesOf f obstacles r near → IsNextGroup near least group →
     area ≡ row_area f.pitch r →
     All (λ p. SharesPoint area p.rect) group
-touch_group f r near group least area b g same k d within =
+touch_group f obstacles r near group least area b g same k d within =
     subst (λ (a : Rect). SharesPoint a (get_or group k d).rect) (sym same)
     (All-contains (λ q. SharesPoint (row_area f.pitch r) q.rect) near (get_or group k d) b.near (g.among k d within).0)
 
 pub area_high : (f : Frame) (r : Row) (area : Rect) → area ≡ row_area f.pitch r → area.y1 <ℤ area.y2
 area_high f r area same = subst (λ (a : Rect). a.y1 <ℤ a.y2) (sym same) (let up = f.pitch_whole.high in omega (arith, ints, up))
 
-pub open_is_team : (f : Frame) (r : Row) (u : ℕ) (x : ℤ) → IsOpen f f.obstacles r u x → u ≤ length f.teams
-open_is_team f r u x o = ground_is_team f u x r.y (o.ground r.y (high_row f r x o.clear.left o.clear.right))
+pub open_is_team : (f : Frame) (obstacles : List Rect) (r : Row) (u : ℕ) (x : ℤ) → IsOpen f obstacles r u x → u ≤ length f.teams
+open_is_team f obstacles r u x o = ground_is_team f u x r.y (o.ground r.y (high_row f r x o.clear.left o.clear.right))

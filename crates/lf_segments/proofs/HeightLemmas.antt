@@ -129,29 +129,29 @@ rows_by_y f es moved in_order = record {
 }
 
 -- what a bisection by y says of what stands before it and after it
-less_of : (a b : ℤ) → int_lt a b ≡ true → a <ℤ b
+pub less_of : (a b : ℤ) → int_lt a b ≡ true → a <ℤ b
 less_of a b e = grind (arith, ints)
 
-of_less : (a b : ℤ) → a <ℤ b → int_lt a b ≡ true
+pub of_less : (a b : ℤ) → a <ℤ b → int_lt a b ≡ true
 of_less a b h = grind (arith, ints)
 
-not_less_of : (a b : ℤ) → int_lt a b ≡ false → b ≤ℤ a
+pub not_less_of : (a b : ℤ) → int_lt a b ≡ false → b ≤ℤ a
 not_less_of a b e = grind (arith, ints)
 
-most_of : (a b : ℤ) → int_le a b ≡ true → a ≤ℤ b
+pub most_of : (a b : ℤ) → int_le a b ≡ true → a ≤ℤ b
 most_of a b e = grind (arith, ints)
 
-of_most : (a b : ℤ) → a ≤ℤ b → int_le a b ≡ true
+pub of_most : (a b : ℤ) → a ≤ℤ b → int_le a b ≡ true
 of_most a b h = grind (arith, ints)
 
-not_most_of : (a b : ℤ) → int_le a b ≡ false → b <ℤ a
+pub not_most_of : (a b : ℤ) → int_le a b ≡ false → b <ℤ a
 not_most_of a b e = grind (arith, ints)
 
-no_lower : (a b : RowEntry) → PrecedesByY a b → a.y ≤ℤ b.y
+pub no_lower : (a b : RowEntry) → PrecedesByY a b → a.y ≤ℤ b.y
 no_lower a b (inl less) = omega (arith, ints, less)
 no_lower a b (inr both) = let same = both.0 in omega (arith, ints, same)
 
-heights_rise : (xs : List RowEntry) (i j : ℕ) (d : RowEntry) → AllPairs PrecedesByY xs → i ≤ j → j < length xs → (get_or xs i d).y ≤ℤ (get_or xs j d).y
+pub heights_rise : (xs : List RowEntry) (i j : ℕ) (d : RowEntry) → AllPairs PrecedesByY xs → i ≤ j → j < length xs → (get_or xs i d).y ≤ℤ (get_or xs j d).y
 heights_rise xs i j d pairs order within = elim same_or [
   | inl same ↦ let At : ℕ → Type 0 = λ n. (get_or xs i d).y ≤ℤ (get_or xs n d).y in subst At same (omega (arith, ints))
   | inr less ↦ no_lower (get_or xs i d) (get_or xs j d) (pairs i j d less within)

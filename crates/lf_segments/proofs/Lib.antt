@@ -13,3 +13,5 @@ pub mod RangeLemmas
 pub mod StripLemmas
 pub mod ExtentLemmas
 pub mod SoftLemmas
+pub mod LastLemmas
+pub mod OnRowLemmas

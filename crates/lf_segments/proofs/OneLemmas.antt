@@ -36,7 +36,7 @@ share_none a b x (inr (p, inl t)) row team h k = omega (arith, t, team)
 share_none a b x (inr (p, inr t)) row team h k = let apart = t.1 in let high = h.high in let low = k.low in omega (arith, ints, apart, high, low)
 
 -- in a list in order, two segments of one row and team that share a number are one
-one_at : (xs : List Segment) (g h : Segment) (x : ℤ) → AllPairs ComesBefore xs → Contains xs g → Contains xs h → g.row ≡ h.row → g.team ≡ h.team →
+pub one_at : (xs : List Segment) (g h : Segment) (x : ℤ) → AllPairs ComesBefore xs → Contains xs g → Contains xs h → g.row ≡ h.row → g.team ≡ h.team →
     Holds g.span x → Holds h.span x → g ≡ h
 one_at xs g h x pairs (i, within_i, is_g) (j, within_j, is_h) row team in_g in_h = elim order [
   | inl less ↦

@@ -8,12 +8,13 @@ use Rattle.std.proofs.lemmas.Option.{slice_get_within}
 use Rattle.std.proofs.lemmas.List.{get_or_default, get_or_append_left, get_or-append_right, length-append, length-map}
 use Rattle.std.proofs.lemmas.List.Elements.{All-nil, All-append, All-weaker, All-map}
 use Rattle.lf_units.proofs.Any.{any_parts, any_left, any_right, any_map, any_mapped}
+use Rattle.lf_units.specs.declared.area.Rect.{Rect}
 use Rattle.lf_spans.specs.declared.span.Span.{Span}
 use Rattle.lf_spans.specs.Spans.{Holds, IsFilled, LiesIn, LiesInOne}
 use Rattle.lf_floorplan.specs.declared.frame.Frame.{Frame}
 use Rattle.lf_floorplan.specs.declared.parts.Row.{Row}
 use Rattle.lf_segments.specs.declared.segment.Segment.{Segment}
-use Rattle.lf_segments.specs.Segments.{IsOpen, IsOf, LiesInSegment, ComesFirst, ComesBefore, IsSegment, IsCut}
+use Rattle.lf_segments.specs.Segments.{IsOpen, IsOf, LiesInSegment, ComesFirst, ComesBefore, IsSegment, IsCutBeside}
 use Rattle.lf_segments.specs.Boxes.{segment_of, AreOpen, AddsRow}
 
 -- pairs of two lists, one after the other
@@ -61,13 +62,13 @@ no_team : (xs : List Segment) (row u : ℕ) (s : Span) → All (λ g. IsOf row u
 no_team xs row u s none a = none a.0 a.1 a.2 (subst (IsOf row u) (sym a.3) a.4.0)
 
 -- where a team may use nothing, no span that holds a number is its
-nothing_open : (f : Frame) (r : Row) (u : ℕ) (s : Span) → ((x : ℤ) → IsOpen f f.obstacles r u x → ⊥) → IsFilled s → ((x : ℤ) → Holds s x → IsOpen f f.obstacles r u x) → ⊥
-nothing_open f r u s none filled each = none s.lo (each s.lo record { low = omega (arith, ints); high = filled })
+nothing_open : (f : Frame) (obstacles : List Rect) (r : Row) (u : ℕ) (s : Span) → ((x : ℤ) → IsOpen f obstacles r u x → ⊥) → IsFilled s → ((x : ℤ) → Holds s x → IsOpen f obstacles r u x) → ⊥
+nothing_open f obstacles r u s none filled each = none s.lo (each s.lo record { low = omega (arith, ints); high = filled })
 
 -- ---- a team after another
 
-pub row_start : (f : Frame) (number : ℕ) (r : Row) (old : List Segment) → AddsRow f f.obstacles number r 0 old old
-row_start f number r old = record {
+pub row_start : (f : Frame) (obstacles : List Rect) (number : ℕ) (r : Row) (old : List Segment) → AddsRow f obstacles number r 0 old old
+row_start f obstacles number r old = record {
   added = [];
   is = sym (append-nil old);
   cut = record {
@@ -78,9 +79,9 @@ row_start f number r old = record {
 }
 
 -- teams that may use nothing of the row add nothing
-pub row_skip : (f : Frame) (number : ℕ) (r : Row) (limit more : ℕ) (old new : List Segment) → AddsRow f f.obstacles number r limit old new → limit ≤ more →
-    ((u : ℕ) → limit ≤ u → u < more → (x : ℤ) → IsOpen f f.obstacles r u x → ⊥) → AddsRow f f.obstacles number r more old new
-row_skip f number r limit more old new a order none = record {
+pub row_skip : (f : Frame) (obstacles : List Rect) (number : ℕ) (r : Row) (limit more : ℕ) (old new : List Segment) → AddsRow f obstacles number r limit old new → limit ≤ more →
+    ((u : ℕ) → limit ≤ u → u < more → (x : ℤ) → IsOpen f obstacles r u x → ⊥) → AddsRow f obstacles number r more old new
+row_skip f obstacles number r limit more old new a order none = record {
   added = a.added;
   is = a.is;
   cut = record {
@@ -91,7 +92,7 @@ row_skip f number r limit more old new a order none = record {
       | inl below ↦ a.cut.exact u s below filled
       | inr from ↦ (
         λ h. absurd (no_team a.added number u s (others u from) h),
-        λ each. absurd (nothing_open f r u s (none u from low) filled each),
+        λ each. absurd (nothing_open f obstacles r u s (none u from low) filled each),
       )
     ];
   };
@@ -104,10 +105,10 @@ row_skip f number r limit more old new a order none = record {
     others u from k d within of = let low = (a.cut.known k d within).1.0 in let same = of.of_team in omega (arith, low, same, from)
 
 -- the next team
-pub row_more : (f : Frame) (number : ℕ) (r : Row) (own : ℕ) (old new newer : List Segment) (spans : List Span) → AddsRow f f.obstacles number r own old new →
-    AreOpen f f.obstacles r own spans →
-    newer ≡ new ++ map (segment_of number own) spans → AddsRow f f.obstacles number r (own + 1) old newer
-row_more f number r own old new newer spans a open_spans is = record {
+pub row_more : (f : Frame) (obstacles : List Rect) (number : ℕ) (r : Row) (own : ℕ) (old new newer : List Segment) (spans : List Span) → AddsRow f obstacles number r own old new →
+    AreOpen f obstacles r own spans →
+    newer ≡ new ++ map (segment_of number own) spans → AddsRow f obstacles number r (own + 1) old newer
+row_more f obstacles number r own old new newer spans a open_spans is = record {
   added = a.added ++ more;
   is = is ∙ ap (λ (xs : List Segment). xs ++ more) a.is ∙ append_assoc old a.added more;
   cut = record {
@@ -123,7 +124,7 @@ row_more f number r own old new newer spans a open_spans is = record {
             ],
             λ each. any_left (Lies u s) a.added more (old_one.1 each),
           )
-      | inr same ↦ subst (λ (t : ℕ). LiesInSegment (a.added ++ more) number t s ↔ ((x : ℤ) → Holds s x → IsOpen f f.obstacles r t x)) same (
+      | inr same ↦ subst (λ (t : ℕ). LiesInSegment (a.added ++ more) number t s ↔ ((x : ℤ) → Holds s x → IsOpen f obstacles r t x)) same (
         λ h. elim (any_parts (Lies own s) a.added more h) [
           | inl early ↦ absurd (no_team a.added number own s others early)
           | inr late ↦ (open_spans.exact s filled).0 (of_map number own spans number own s late).2
@@ -177,15 +178,15 @@ row_more f number r own old new newer spans a open_spans is = record {
 -- ---- a row after another
 
 -- the segments of the rows below a number
-pub record IsCutTo (f : Frame) (n : ℕ) (segments : List Segment) : Type 0 where
+pub record IsCutTo (f : Frame) (obstacles : List Rect) (n : ℕ) (segments : List Segment) : Type 0 where
   pub known : All (λ g. (g.row < n) × ((g.team ≤ length f.teams) × IsFilled g.span)) segments
   pub in_order : AllPairs ComesBefore segments
   pub exact : (m : ℕ) (r : Row) (team : ℕ) (s : Span) → m < n → slice_get f.rows m ≡ Some r → IsFilled s →
-      (LiesInSegment segments m team s ↔ ((x : ℤ) → Holds s x → IsOpen f f.obstacles r team x))
+      (LiesInSegment segments m team s ↔ ((x : ℤ) → Holds s x → IsOpen f obstacles r team x))
 
-pub cut_more : (f : Frame) (n : ℕ) (r : Row) (old new : List Segment) → slice_get f.rows n ≡ Some r → ((u : ℕ) (x : ℤ) → IsOpen f f.obstacles r u x → u ≤ length f.teams) →
-    IsCutTo f n old → AddsRow f f.obstacles n r (length f.teams + 1) old new → IsCutTo f (n + 1) new
-cut_more f n r old new is_row is_team c a = subst (IsCutTo f (n + 1)) (sym a.is) record {
+pub cut_more : (f : Frame) (obstacles : List Rect) (n : ℕ) (r : Row) (old new : List Segment) → slice_get f.rows n ≡ Some r → ((u : ℕ) (x : ℤ) → IsOpen f obstacles r u x → u ≤ length f.teams) →
+    IsCutTo f obstacles n old → AddsRow f obstacles n r (length f.teams + 1) old new → IsCutTo f obstacles (n + 1) new
+cut_more f obstacles n r old new is_row is_team c a = subst (IsCutTo f obstacles (n + 1)) (sym a.is) record {
   known = All-append Known old a.added (All-weaker Knew Known (λ g k. (let low = k.0 in omega (arith, low), k.1)) old c.known)
       (All-weaker Added Known (λ g k. (let same = k.0 in omega (arith, same), (let low = k.1.0 in omega (arith, low), k.1.1))) a.added a.cut.known);
   in_order = pairs_append ComesBefore old a.added c.in_order added_pairs between;
@@ -228,17 +229,17 @@ cut_more f n r old new is_row is_team c a = subst (IsCutTo f (n + 1)) (sym a.is)
     team_or : (u : ℕ) → (u < length f.teams + 1) ⊎ (length f.teams < u)
     team_or u = grind arith
 
-    of_added : (u : ℕ) (s : Span) → IsFilled s → (LiesInSegment a.added n u s ↔ ((x : ℤ) → Holds s x → IsOpen f f.obstacles r u x))
+    of_added : (u : ℕ) (s : Span) → IsFilled s → (LiesInSegment a.added n u s ↔ ((x : ℤ) → Holds s x → IsOpen f obstacles r u x))
     of_added u s filled = elim (team_or u) [
       | inl low ↦ a.cut.exact u s low filled
       | inr high ↦ (
         λ h. absurd (no_team a.added n u s
             (λ k d within of. let low = (a.cut.known k d within).1.0 in let same = of.of_team in omega (arith, low, same, high)) h),
-        λ each. absurd (nothing_open f r u s (λ x o. let low = is_team u x o in omega (arith, low, high)) filled each),
+        λ each. absurd (nothing_open f obstacles r u s (λ x o. let low = is_team u x o in omega (arith, low, high)) filled each),
       )
     ]
 
-    here : (u : ℕ) (s : Span) → IsFilled s → (LiesInSegment (old ++ a.added) n u s ↔ ((x : ℤ) → Holds s x → IsOpen f f.obstacles r u x))
+    here : (u : ℕ) (s : Span) → IsFilled s → (LiesInSegment (old ++ a.added) n u s ↔ ((x : ℤ) → Holds s x → IsOpen f obstacles r u x))
     here u s filled = (
       λ h. elim (any_parts (Lies n u s) old a.added h) [
         | inl early ↦ absurd (no_team old n u s (not_old u) early)
@@ -248,7 +249,7 @@ cut_more f n r old new is_row is_team c a = subst (IsCutTo f (n + 1)) (sym a.is)
     )
 
     exact : (m : ℕ) (q : Row) (team : ℕ) (s : Span) → m < n + 1 → slice_get f.rows m ≡ Some q → IsFilled s →
-        (LiesInSegment (old ++ a.added) m team s ↔ ((x : ℤ) → Holds s x → IsOpen f f.obstacles q team x))
+        (LiesInSegment (old ++ a.added) m team s ↔ ((x : ℤ) → Holds s x → IsOpen f obstacles q team x))
     exact m q team s low is filled = elim (side m low) [
       | inl below ↦
           let old_one = c.exact m q team s below is filled in (
@@ -260,15 +261,15 @@ cut_more f n r old new is_row is_team c a = subst (IsCutTo f (n + 1)) (sym a.is)
           )
       | inr same ↦
           let rows : r ≡ q = some_same (sym is_row ∙ ap (λ (k : ℕ). slice_get f.rows k) same ∙ is) in
-          subst (λ (v : Row). LiesInSegment (old ++ a.added) m team s ↔ ((x : ℤ) → Holds s x → IsOpen f f.obstacles v team x)) rows
-          (subst (λ (k : ℕ). LiesInSegment (old ++ a.added) k team s ↔ ((x : ℤ) → Holds s x → IsOpen f f.obstacles r team x)) same (here team s filled))
+          subst (λ (v : Row). LiesInSegment (old ++ a.added) m team s ↔ ((x : ℤ) → Holds s x → IsOpen f obstacles v team x)) rows
+          (subst (λ (k : ℕ). LiesInSegment (old ++ a.added) k team s ↔ ((x : ℤ) → Holds s x → IsOpen f obstacles r team x)) same (here team s filled))
     ]
       where
         some_same : {a b : Row} → Some a ≡ Some b → a ≡ b
         some_same e = cc
 
-pub cut_whole : (f : Frame) (n : ℕ) (segments : List Segment) → length f.rows ≤ n → n ≤ length f.rows → IsCutTo f n segments → IsCut f segments
-cut_whole f n segments all within c = record {
+pub cut_whole : (f : Frame) (obstacles : List Rect) (n : ℕ) (segments : List Segment) → length f.rows ≤ n → n ≤ length f.rows → IsCutTo f obstacles n segments → IsCutBeside f obstacles segments
+cut_whole f obstacles n segments all within c = record {
   known = All-weaker (λ g. (g.row < n) × ((g.team ≤ length f.teams) × IsFilled g.span)) (IsSegment f)
       (λ g k. record { row_known = let low = k.0 in omega (arith, low, within); team_known = k.1.0; filled = k.1.1 }) segments c.known;
   in_order = c.in_order;

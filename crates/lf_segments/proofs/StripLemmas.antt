@@ -1,5 +1,5 @@
 -- The strips of a frame's segments.
-use Rattle.std.proofs.Common.{◌≡◌, ℕ, ◌+◌, ◌<◌, ◌≤◌, ℤ, pos, ◌-ℤ◌, ◌+ℤ◌, ◌≤ℤ◌, ◌<ℤ◌, List, [], ◌∷◌, Some}
+use Rattle.std.proofs.Common.{◌≡◌, ℕ, ◌<◌, ℤ, pos, ◌-ℤ◌, ◌+ℤ◌, ◌<ℤ◌, List, [], ◌∷◌, Some}
 use Rattle.std.proofs.Common.{length, get_or, map, slice_get, refl, sym, ap, subst, ◌∙◌, arith}
 use Rattle.std.specs.Prelude.{All, AllPairs, Any}
 use Rattle.std.specs.Option.{option_map_or}
@@ -95,6 +95,13 @@ laid_out f segments rows height same cut by_y = record {
   high = let h = f.pitch_whole.high in omega (arith, ints, same, h);
   small = let h = f.pitch_whole.y_small in omega (arith, ints, same, h);
 }
+
+-- the strips of a frame's segments have points
+pub strips_wide : (f : Frame) (segments : List Segment) (strips lent : List Strip) → strips ≡ map (strip_of f) segments → lent ≡ strips → IsCut f segments →
+    All (λ g. g.area.x1 <ℤ g.area.x2) lent
+strips_wide f segments strips lent is same cut =
+    subst (All (λ (g : Strip). g.area.x1 <ℤ g.area.x2)) (sym (same ∙ is))
+    (All-map (λ (g : Strip). g.area.x1 <ℤ g.area.x2) (strip_of f) segments (λ k d within. (cut.known k d within).filled))
 
 -- a strip is of its segment's row
 pub rows_alike : (f : Frame) (gs : List Segment) → rows_in (map (strip_of f) gs) ≡ rows_of gs

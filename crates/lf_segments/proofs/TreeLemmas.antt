@@ -135,10 +135,9 @@ obstacle_of_met f x y (k, p, within, at, (own, covers)) = elim (of_frame f p (k,
 
 -- ---- what is found near a row
 
-pub boxes_near : (f : Frame) (r : Row) (boxes tree near : List Placed) (rect : Rect) → IsPermutation (frame_boxes f) boxes → tree ≡ boxes →
-    rect ≡ row_area f.pitch r →
-    AreNear tree rect near → AreBoxesOf f f.obstacles r near
-boxes_near f r boxes tree near rect moved same_tree same_rect found = record {
+pub boxes_near : (f : Frame) (r : Row) (boxes near : List Placed) (rect : Rect) → IsPermutation (frame_boxes f) boxes → rect ≡ row_area f.pitch r →
+    AreNear boxes rect near → AreBoxesOf f f.obstacles r near
+boxes_near f r boxes near rect moved same_rect found = record {
   known = λ k d within. known_of f (get_or near k d) (back (get_or near k d) (only_near boxes area near are k d within).0);
   near = are.near;
   tell = λ x y covers. record {
@@ -151,7 +150,7 @@ boxes_near f r boxes tree near rect moved same_tree same_rect found = record {
     area = row_area f.pitch r
 
     are : AreNear boxes area near
-    are = subst (λ (a : Rect). AreNear boxes a near) same_rect (subst (λ (t : List Placed). AreNear t rect near) same_tree found)
+    are = subst (λ (a : Rect). AreNear boxes a near) same_rect found
 
     back : (p : Placed) → Contains boxes p → Contains (frame_boxes f) p
     back p there = Contains-permutation boxes (frame_boxes f) p (IsPermutation-sym (frame_boxes f) boxes moved) there

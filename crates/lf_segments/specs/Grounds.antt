@@ -1,8 +1,7 @@
 -- What of a frame is looked up by where it lies: its rows, what each team may use of them, and the soft blockages over that.
-use Rattle.std.specs.Prelude.{◌≡◌, ◌↔◌, ℕ, ℤ, ◌≤ℤ◌, List, All, Any, Some, length, map, slice_get, slice_index_or, []}
+use Rattle.std.specs.Prelude.{◌≡◌, ◌↔◌, ℕ, ℤ, ◌≤ℤ◌, List, All, Some, length, map, slice_get, slice_index_or, []}
 use Rattle.std.specs.Int.{int_max, int_min}
 use Rattle.lf_units.specs.declared.area.Rect.{Rect}
-use Rattle.lf_units.specs.Area.{Covers}
 use Rattle.lf_spans.specs.declared.span.Span.{Span}
 use Rattle.lf_spans.specs.Spans.{Holds, IsFilled, IsRising, LiesIn, LiesInOne}
 use Rattle.lf_floorplan.specs.Bounds.{IsNearDefRect}
@@ -13,6 +12,7 @@ use Rattle.lf_segments.specs.declared.rows_by_y.RowEntry.{RowEntry}
 use Rattle.lf_segments.specs.declared.strip.Strip.{Strip}
 use Rattle.lf_segments.specs.RowsByY.{IsRowsByY}
 use Rattle.lf_segments.specs.Segments.{IsCut, IsCutBeside}
+use Rattle.lf_segments.specs.Soft.{IsSoftAt}
 use Rattle.lf_segments.specs.Strips.{strip_of}
 
 -- what is looked up: the rows in order of y, the segments, the segments as if there were no obstacles, the areas of the segments, for
@@ -41,12 +41,6 @@ pub record IsExtentOf (f : Frame) (extent : Rect) : Type 0 where
 -- the smallest rectangle that holds both
 abbrev pub hull : Rect → Rect → Rect
 hull a b = record { x1 = int_min a.x1 b.x1; y1 = int_min a.y1 b.y1; x2 = int_max a.x2 b.x2; y2 = int_max a.y2 b.y2 }
-
--- a point of the area with this x lies in a soft blockage
-pub record IsSoftAt (f : Frame) (area : Rect) (x : ℤ) : Type 0 where
-  pub y : ℤ
-  pub covers : Covers area x y
-  pub soft : Any (λ r. Covers r x y) f.soft
 
 -- the maximal spans of a segment's numbers at which a point of its strip lies in a soft blockage
 pub record AreSoftSpans (f : Frame) (g : Segment) (spans : List Span) : Type 0 where

@@ -1,11 +1,11 @@
 -- Laws on segments: a wide box on rows stays in a team's ground and clear of obstacles iff it lies in the team's segments.
-use Rattle.std.specs.Prelude.{◌≡◌, ◌↔◌, ℕ, ◌<◌, ◌<ℤ◌, All, List, Some, slice_get}
+use Rattle.std.specs.Prelude.{◌≡◌, ◌↔◌, ℕ, ℤ, ◌<◌, ◌<ℤ◌, All, List, Some, slice_get}
 use Rattle.lf_units.specs.declared.area.Rect.{Rect}
 use Rattle.lf_units.specs.Area.{SharesPoint}
 use Rattle.lf_floorplan.specs.declared.frame.Frame.{Frame}
 use Rattle.lf_floorplan.specs.declared.parts.Row.{Row}
 use Rattle.lf_floorplan.specs.Ground.{StaysInGround}
-use Rattle.lf_floorplan.specs.Standing.{IsSitesHigh, IsBottomRow, Carries, StandsOn}
+use Rattle.lf_floorplan.specs.Standing.{ExtendsOver, IsSitesHigh, IsBottomRow, Carries, StandsOn}
 use Rattle.lf_segments.specs.declared.segment.Segment.{Segment}
 use Rattle.lf_segments.specs.Segments.{IsCutBeside, LiesInSegment}
 use Rattle.lf_segments.specs.Boxes.{across}
@@ -15,6 +15,14 @@ abbrev pub LiesInSegments : Frame → List Segment → ℕ → Rect → Type 0
 LiesInSegments f segments team box =
     (k : ℕ) (bottom : Row) (j n : ℕ) (r : Row) → IsSitesHigh f box k → IsBottomRow f box bottom → j < k → slice_get f.rows n ≡ Some r →
     Carries f box bottom j r → LiesInSegment segments n team (across box)
+
+-- a row at this y extends over the box's left edge, and the box's x range lies in one segment of the team in it
+pub record LiesAt (f : Frame) (segments : List Segment) (team : ℕ) (box : Rect) (y : ℤ) : Type 0 where
+  pub number : ℕ
+  pub row : Row
+  pub stands : slice_get f.rows number ≡ Some row
+  pub extends : ExtendsOver f y box.x1 row
+  pub lies : LiesInSegment segments number team (across box)
 
 -- a wide box that stands on rows stays in the team's ground and clear of these obstacles iff it lies in the team's segments beside
 -- them

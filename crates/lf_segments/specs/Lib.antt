@@ -6,3 +6,4 @@ pub mod RowStarts
 pub mod Strips
 pub mod Soft
 pub mod Grounds
+pub mod Plans

@@ -1,5 +1,6 @@
 -- The rows of a frame in order of y.
-use Rattle.std.specs.Prelude.{◌≡◌, ◌≢◌, ◌⊎◌, ◌↔◌, ℕ, ◌+◌, ◌<◌, ℤ, ◌≤ℤ◌, ◌<ℤ◌, List, [], ◌∷◌, ◌++◌, All, AllPairs, Any, Some, length, slice_get}
+use Rattle.std.specs.Prelude.{◌≡◌, ◌≢◌, ◌⊎◌, ◌↔◌, ℕ, ◌+◌, ◌<◌, ℤ, ◌≤ℤ◌, ◌<ℤ◌, List, [], ◌∷◌, ◌++◌, All, AllPairs, Any, Contains, Some, length, slice_get}
+use Rattle.std.specs.Prelude.{Bool, true, false, if◌then◌else◌, int_le, int_lt}
 use Rattle.lf_floorplan.specs.declared.frame.Frame.{Frame}
 use Rattle.lf_floorplan.specs.declared.parts.Row.{Row}
 use Rattle.lf_segments.specs.declared.rows_by_y.RowEntry.{RowEntry}
@@ -58,3 +59,22 @@ abbrev pub RunBetweenHasRows : Type 0
 RunBetweenHasRows =
     (f : Frame) (entries run : List RowEntry) (from to : ℤ) (n : ℕ) (r : Row) → IsRowsByY f entries → IsRunBetween entries from to run →
     slice_get f.rows n ≡ Some r → (Any (λ e. e.row ≡ n) run ↔ ((from ≤ℤ r.y) × (r.y <ℤ to)))
+
+-- the entry lies below y, or at y and not right of x
+abbrev pub ComesBy : ℤ → ℤ → RowEntry → Type 0
+ComesBy y x e = (e.y <ℤ y) ⊎ ((e.y ≡ y) × (e.x ≤ℤ x))
+
+-- whether it does
+abbrev pub comes_by : ℤ → ℤ → RowEntry → Bool
+comes_by y x e = if int_lt e.y y then true else (if int_lt y e.y then false else int_le e.x x)
+
+-- the entry is at this y, and not right of x
+pub record BeginsBy (y x : ℤ) (e : RowEntry) : Type 0 where
+  pub at_level : e.y ≡ y
+  pub left : e.x ≤ℤ x
+
+-- of the entries at this y that are not right of x, the one farthest right
+pub record IsLastAt (entries : List RowEntry) (y x : ℤ) (e : RowEntry) : Type 0 where
+  pub there : Contains entries e
+  pub begins : BeginsBy y x e
+  pub last : All (λ other. BeginsBy y x other → other.x ≤ℤ e.x) entries

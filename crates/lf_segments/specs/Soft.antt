@@ -1,7 +1,14 @@
--- Lists of spans that stand one after the other in one list.
-use Rattle.std.specs.Prelude.{◌≡◌, ℕ, ◌≤◌, List, [], ◌∷◌, All, length, slice_index_or, slice_range}
+-- What soft blockages cover of strips; and lists of spans that stand one after the other in one list.
+use Rattle.std.specs.Prelude.{◌≡◌, ◌↔◌, ℕ, ℤ, ◌<◌, ◌≤◌, List, [], ◌∷◌, All, Any, length, map, slice_index_or, slice_range}
 use Rattle.std.specs.List.Sorted.{IsNonDecreasingBy}
+use Rattle.lf_units.specs.declared.area.Rect.{Rect}
+use Rattle.lf_units.specs.Area.{Covers}
 use Rattle.lf_spans.specs.declared.span.Span.{Span}
+use Rattle.lf_spans.specs.Spans.{Holds, IsFilled, IsRising, LiesIn, LiesInOne}
+use Rattle.lf_rtree.specs.declared.placed.Placed.{Placed}
+use Rattle.lf_floorplan.specs.declared.frame.Frame.{Frame}
+use Rattle.lf_segments.specs.declared.strip.Strip.{Strip}
+use Rattle.lf_segments.specs.Boxes.{across, numbered}
 
 -- the lists that begin at these positions, each up to where the next one begins
 abbrev pub pieces : List Span → List ℕ → List (List Span)
@@ -12,3 +19,29 @@ pieces spans (start ∷ starts) = slice_range spans start (slice_index_or starts
 pub record AreStarts (spans : List Span) (starts : List ℕ) : Type 0 where
   pub order : IsNonDecreasingBy (λ n. n) starts
   pub within : All (λ n. n ≤ length spans) starts
+
+-- the soft blockages as boxes of one number
+abbrev pub soft_boxes : Frame → List Placed
+soft_boxes f = map (numbered 0) f.soft
+
+-- a point of the area with this x lies in a soft blockage
+pub record IsSoftAt (f : Frame) (area : Rect) (x : ℤ) : Type 0 where
+  pub y : ℤ
+  pub covers : Covers area x y
+  pub soft : Any (λ r. Covers r x y) f.soft
+
+-- the maximal spans of the area's x range that the x ranges of the boxes cover
+pub record AreMetSpans (area : Rect) (boxes : List Placed) (spans : List Span) : Type 0 where
+  pub rising : IsRising spans
+  pub exact : (s : Span) → IsFilled s →
+      (LiesInOne spans s ↔ (LiesIn s (across area) × ((x : ℤ) → Holds s x → Any (λ p. Holds (across p.rect) x) boxes)))
+
+-- the maximal spans of the area's x range at which a point of it lies in a soft blockage
+pub record AreSoftIn (f : Frame) (area : Rect) (spans : List Span) : Type 0 where
+  pub rising : IsRising spans
+  pub exact : (s : Span) → IsFilled s → (LiesInOne spans s ↔ (LiesIn s (across area) × ((x : ℤ) → Holds s x → IsSoftAt f area x)))
+
+-- those of each strip
+pub record AreSoftOver (f : Frame) (strips : List Strip) (soft : List (List Span)) : Type 0 where
+  pub many : length soft ≡ length strips
+  pub each : (n : ℕ) (d : Strip) → n < length strips → AreSoftIn f (slice_index_or strips n d).area (slice_index_or soft n [])

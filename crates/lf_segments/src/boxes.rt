@@ -1,15 +1,20 @@
-//! The fences and obstacles of a frame as boxes of a tree.
+//! The fences and obstacles of a frame as boxes of a tree, and those near a row.
 
-ghost use Rattle.std.specs.Prelude.{◌≡◌, ◌≤◌, ◌++◌, IfOk, OnOk, length, map};
-ghost use Rattle.lf_segments.specs.Boxes.{numbered, fence_boxes, frame_boxes};
+ghost use Rattle.std.specs.Prelude.{◌≡◌, ◌≤◌, ◌++◌, IfOk, IsPermutation, OnOk, length, map};
+ghost use Rattle.lf_floorplan.specs.Rows.{IsHeeded};
+ghost use Rattle.lf_segments.specs.Boxes.{numbered, fence_boxes, frame_boxes, AreBoxesOf, AreSorted};
 
-use lf_floorplan::{Frame, Team};
-use lf_rtree::Placed;
+use lf_floorplan::{Frame, Row, Team};
+use lf_rtree::{Placed, RTree};
 use lf_units::Rect;
 use std::alloc::{AllocError, Global};
 
 /// Appends rectangles, each with this number.
-fn push_rects(boxes: &mut Vec<Placed>, own: u32, rects: &[Rect]) -> Result<(), AllocError>
+pub(crate) fn push_rects(
+    boxes: &mut Vec<Placed>,
+    own: u32,
+    rects: &[Rect],
+) -> Result<(), AllocError>
     ensures { OnOk result (boxes.new.items ≡ boxes.old.items ++ map (numbered own) rects.now) }
 {
     for rect in rects {
@@ -31,11 +36,45 @@ fn boxes_of_fences(alloc: Global, teams: &[Team]) -> Result<Vec<Placed>, AllocEr
 }
 
 /// The rectangles of the fences and the obstacles; an obstacle has the ground team's number.
-pub(crate) fn boxes_of_frame(alloc: Global, frame: &Frame) -> Result<Vec<Placed>, AllocError>
+fn boxes_of_frame(alloc: Global, frame: &Frame) -> Result<Vec<Placed>, AllocError>
     ensures { IfOk result (λ boxes. boxes.items ≡ frame_boxes frame.now) }
 {
     let teams = frame.teams.as_slice();
     let mut boxes = boxes_of_fences(alloc, teams)?;
     push_rects(&mut boxes, teams.len() as u32, frame.obstacles.as_slice())?;
     Ok(boxes)
+}
+
+/// The rectangles of the fences and the obstacles, to be found by where they lie.
+pub(crate) fn tree_of_frame(alloc: Global, frame: &Frame) -> Result<RTree, AllocError>
+    ensures { IfOk result (λ tree. IsPermutation (frame_boxes frame.now) tree) }
+{
+    let mut boxes = boxes_of_frame(alloc, frame)?;
+    RTree::build(alloc, boxes.as_mut_slice())
+}
+
+/// Sorts the boxes by number.
+fn sort_boxes(boxes: &mut Vec<Placed>)
+    ensures moved { IsPermutation boxes.old.items boxes.new.items }
+    ensures sorted { AreSorted boxes.new.items }
+{
+    boxes.sort_unstable_by_key(|placed| placed.own);
+}
+
+/// Replaces the contents of `near` by the boxes of the frame that share a point with the row, in order
+/// of their numbers.
+pub(crate) fn boxes_near(
+    tree: &RTree,
+    frame: &Frame,
+    row: &Row,
+    near: &mut Vec<Placed>,
+) -> Result<(), AllocError>
+    requires heeded { IsHeeded frame.now.pitch row.now }
+    requires tree { IsPermutation (frame_boxes frame.now) tree.now }
+    ensures boxes { OnOk result (AreBoxesOf frame.now frame.now.obstacles row.now near.new.items) }
+    ensures sorted { OnOk result (AreSorted near.new.items) }
+{
+    tree.find_near(&row.area(&frame.pitch), near)?;
+    sort_boxes(near);
+    Ok(())
 }

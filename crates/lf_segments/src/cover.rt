@@ -21,7 +21,7 @@ pub(crate) fn span_of(rect: &Rect) -> Span
 }
 
 /// The x ranges of boxes.
-fn spans_of(alloc: Global, boxes: &[Placed]) -> Result<Vec<Span>, AllocError>
+pub(crate) fn spans_of(alloc: Global, boxes: &[Placed]) -> Result<Vec<Span>, AllocError>
     ensures { IfOk result (λ spans. spans.items ≡ map (λ p. across p.rect) boxes.now) }
 {
     let mut spans = Vec::new(alloc);

@@ -4,11 +4,12 @@ ghost use Rattle.std.specs.Prelude.{◌≡◌, IfOk, slice_index_or, []};
 ghost use Rattle.lf_segments.specs.Grounds.{IsGroundOf};
 ghost use Rattle.lf_segments.specs.Strips.{AreNear, AreRowsNear, AreStrips};
 
+use crate::extent::extent_of;
 use crate::rows_by_y::{RowEntry, RowsByY};
-use crate::segments::Segments;
+use crate::segments::{Cuts, Segments, cuts_of};
 use crate::soft::SoftSpans;
 use crate::strip::Strip;
-use crate::strips::{NearStrips, near_strips, rows_near};
+use crate::strips::{NearStrips, near_strips, rows_near, strips_of};
 use lf_floorplan::Frame;
 use lf_units::{Rect, Span};
 use std::alloc::{AllocError, Global};
@@ -55,7 +56,19 @@ impl Ground {
     pub fn build(alloc: Global, frame: &Frame) -> Result<Self, AllocError>
         ensures { IfOk result (λ index. IsGroundOf frame.now index) }
     {
-        Err(AllocError)
+        let Cuts { segments, land } = cuts_of(alloc, frame)?;
+        let strips = strips_of(alloc, frame, segments.as_slice())?;
+        let soft = SoftSpans::build(alloc, frame, strips.as_slice())?;
+        let rows = RowsByY::build(alloc, frame)?;
+        Ok(Ground {
+            rows,
+            segments,
+            land,
+            strips,
+            soft,
+            extent: extent_of(frame),
+            height: frame.pitch.y,
+        })
     }
 
     /// The segments.
@@ -76,7 +89,7 @@ impl Ground {
     pub fn strips(&self) -> &[Strip]
         ensures { result.now ≡ self.now.strips }
     {
-        &self.strips
+        self.strips.as_slice()
     }
 
     /// The rows in order of y.

@@ -3,13 +3,13 @@
 ghost use Rattle.lf_segments.specs.Laws.{CutIsOne, SegmentsDecide};
 ghost use Rattle.lf_segments.specs.RowsByY.{RunAtHasRows, RunBetweenHasRows};
 
-/// A wide box that stands on rows stays in a team's ground and clear of obstacles iff, in each row
-/// that carries it, its x range lies in one segment of the team.
+/// A wide box that stands on rows stays in a team's ground and clear of a list of obstacles iff, in
+/// each row that carries it, its x range lies in one segment of the team beside these obstacles.
 pub fn lies_in_segments()
     ensures { SegmentsDecide }
 {}
 
-/// A frame has only one list of segments.
+/// A frame has only one list of segments beside a list of obstacles.
 pub fn cut_is_one()
     ensures { CutIsOne }
 {}

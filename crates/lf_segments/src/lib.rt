@@ -6,6 +6,7 @@ mod cover;
 mod extent;
 mod ground;
 mod laws;
+mod on_rows;
 mod plan;
 mod row;
 mod row_starts;

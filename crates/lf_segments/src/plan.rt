@@ -1,10 +1,17 @@
 //! A frame with what is looked up of it, lent as a pair.
 
-ghost use Rattle.std.specs.Prelude.{◌≡◌};
-ghost use Rattle.lf_segments.specs.Grounds.{IsGroundOf};
+ghost use Rattle.std.specs.Prelude.{◌≡◌, ◌↔◌, ◌<ℤ◌, IsTrue};
+ghost use Rattle.lf_floorplan.specs.Ground.{IsClear, StaysInGround};
+ghost use Rattle.lf_floorplan.specs.Standing.{StandsOn};
+ghost use Rattle.lf_segments.specs.Grounds.{IsExtentOf, IsGroundOf};
+ghost use Rattle.lf_segments.specs.Plans.{AreRowsAt, AreRowsBetween, IsSoftOf};
 
 use crate::ground::Ground;
-use lf_floorplan::Frame;
+use crate::laws::{cut_is_one, lies_in_segments};
+use crate::on_rows::{lies_in, row_at};
+use crate::rows_by_y::RowEntry;
+use lf_floorplan::{Frame, Near};
+use lf_units::{Rect, Span};
 use std::marker::Model;
 
 /// A frame with its look-ups. A contract sees the frame.
@@ -25,6 +32,54 @@ impl<'a> Model for Plan<'a> {
     ghost invariant = { λ p. IsGroundOf p.frame.now p.index.now };
 }
 
+/// Whether every point of the box, which stands on rows, is ground of the team.
+fn keeps_ground(frame: &Frame, index: &Ground, team: usize, rect: &Rect) -> bool
+    requires index { IsGroundOf frame.now index.now }
+    requires wide { rect.now.x1 <ℤ rect.now.x2 }
+    requires stands { StandsOn frame.now rect.now }
+    ensures { IsTrue result ↔ StaysInGround frame.now team rect.now }
+{
+    lies_in_segments();
+    lies_in(frame, index.rows(), index.land(), team, rect)
+}
+
+/// Whether no point of the box, which stands on rows in the team's ground, is in an obstacle.
+fn keeps_clear(frame: &Frame, index: &Ground, team: usize, rect: &Rect) -> bool
+    requires index { IsGroundOf frame.now index.now }
+    requires wide { rect.now.x1 <ℤ rect.now.x2 }
+    requires stands { StandsOn frame.now rect.now }
+    requires inside { StaysInGround frame.now team rect.now }
+    ensures { IsTrue result ↔ IsClear frame.now rect.now }
+{
+    lies_in_segments();
+    lies_in(frame, index.rows(), index.segments(), team, rect)
+}
+
+/// The rows at y.
+fn rows_at<'a>(frame: &Frame, index: &'a Ground, y: &i64) -> &'a [RowEntry]
+    requires { IsGroundOf frame.now index.now }
+    ensures { AreRowsAt frame.now y.now result.now }
+{
+    index.rows().at(*y)
+}
+
+/// The rows from one y on and below another.
+fn rows_between<'a>(frame: &Frame, index: &'a Ground, from: &i64, to: &i64) -> &'a [RowEntry]
+    requires { IsGroundOf frame.now index.now }
+    ensures { AreRowsBetween frame.now from.now to.now result.now }
+{
+    index.rows().between(*from, *to)
+}
+
+/// The spans of a segment under soft blockages.
+fn soft_of<'a>(frame: &Frame, index: &'a Ground, segment: usize) -> &'a [Span]
+    requires { IsGroundOf frame.now index.now }
+    ensures { IsSoftOf frame.now segment result.now }
+{
+    cut_is_one();
+    index.soft_of(segment)
+}
+
 impl<'a> Plan<'a> {
     /// The pair of a frame and its look-ups.
     pub fn new(frame: &'a Frame, index: &'a Ground) -> Plan<'a>
@@ -32,5 +87,61 @@ impl<'a> Plan<'a> {
         ensures { result ≡ frame.now }
     {
         Plan { frame, index }
+    }
+
+    /// The look-ups of the frame.
+    pub fn index(&self) -> &'a Ground
+        ensures { IsGroundOf self.now result.now }
+    {
+        self.index
+    }
+
+    /// The rows at this y, in database units, in order of x. They are found by bisection.
+    pub fn rows_at(&self, y: i64) -> &'a [RowEntry]
+        ensures { AreRowsAt self.now y result.now }
+    {
+        rows_at(self.frame, self.index, &y)
+    }
+
+    /// The rows from one y on and below another, in database units, in order of y and then of x. They are found by bisection.
+    pub fn rows_between(&self, from: i64, to: i64) -> &'a [RowEntry]
+        ensures { AreRowsBetween self.now from to result.now }
+    {
+        rows_between(self.frame, self.index, &from, &to)
+    }
+
+    /// The rectangle that all rows lie in, in database units.
+    pub fn extent(&self) -> &'a Rect
+        ensures { IsExtentOf self.now result.now }
+    {
+        self.index.extent()
+    }
+
+    /// The spans of the segment of that number that lie under soft blockages, in database units, from left to right; none if there
+    /// is no such segment. Segments are numbered as in `Segments::cut` of the frame.
+    pub fn soft_of(&self, segment: usize) -> &'a [Span]
+        ensures { IsSoftOf self.now segment result.now }
+    {
+        soft_of(self.frame, self.index, segment)
+    }
+}
+
+impl<'a> Near for Plan<'a> {
+    ghost of = { λ p. p };
+
+    fn frame(&self) -> &Frame {
+        self.frame
+    }
+
+    fn row_at(&self, y: i64, x: i64) -> Option<usize> {
+        row_at(self.frame, self.index.rows(), &y, &x)
+    }
+
+    fn keeps_ground(&self, team: usize, rect: &Rect) -> bool {
+        keeps_ground(self.frame, self.index, team, rect)
+    }
+
+    fn keeps_clear(&self, team: usize, rect: &Rect) -> bool {
+        keeps_clear(self.frame, self.index, team, rect)
     }
 }

@@ -1,7 +1,9 @@
 //! The segments of one row.
 
-ghost use Rattle.std.specs.Prelude.{◌≡◌, ◌+◌, ◌<◌, ◌≤◌, ◌++◌, IfOk, OnOk, ℕ, IsPermutation, length, map, slice_index_or};
+ghost use Rattle.std.specs.Prelude.{◌≡◌, ◌+◌, ◌<◌, ◌≤◌, ◌++◌, IfOk, OnOk, ℕ, List, [], length, map, slice_index_or};
+ghost use Rattle.lf_units.specs.declared.area.Rect.{Rect};
 ghost use Rattle.lf_rtree.specs.declared.placed.Placed.{Placed};
+ghost use Rattle.lf_floorplan.specs.declared.parts.Row.{Row};
 ghost use Rattle.lf_floorplan.specs.Rows.{IsHeeded};
 ghost use Rattle.lf_segments.specs.Boxes.{segment_of, AddsRow, AreBoxesOf, AreClear, AreOpen, AreSorted, IsNextGroup};
 
@@ -77,10 +79,11 @@ fn clear_spans(
     row: &Row,
     near: &[Placed],
 ) -> Result<Vec<Span>, AllocError>
+    ghost obstacles: { List Rect }
     requires heeded { IsHeeded frame.now.pitch row.now }
-    requires boxes { AreBoxesOf frame.now frame.now.obstacles row.now near.now }
+    requires boxes { AreBoxesOf frame.now obstacles row.now near.now }
     requires sorted { AreSorted near.now }
-    ensures { IfOk result (λ spans. AreClear frame.now frame.now.obstacles row.now spans.items) }
+    ensures { IfOk result (λ spans. AreClear frame.now obstacles row.now spans.items) }
 {
     let obstacles = next_group(near, ground_number(frame));
     free_beside(alloc, &row.area(&frame.pitch), obstacles)
@@ -93,9 +96,10 @@ fn ground_spans(
     row: &Row,
     near: &[Placed],
 ) -> Result<Vec<Span>, AllocError>
+    ghost obstacles: { List Rect }
     requires heeded { IsHeeded frame.now.pitch row.now }
-    requires boxes { AreBoxesOf frame.now frame.now.obstacles row.now near.now }
-    ensures { IfOk result (λ spans. AreOpen frame.now frame.now.obstacles row.now (length frame.now.teams) spans.items) }
+    requires boxes { AreBoxesOf frame.now obstacles row.now near.now }
+    ensures { IfOk result (λ spans. AreOpen frame.now obstacles row.now (length frame.now.teams) spans.items) }
 {
     free_beside(alloc, &row.area(&frame.pitch), near)
 }
@@ -109,10 +113,11 @@ fn push_fences(
     near: &[Placed],
     segments: &mut Vec<Segment>,
 ) -> Result<(), AllocError>
+    ghost obstacles: { List Rect }
     requires heeded { IsHeeded frame.now.pitch row.now }
-    requires boxes { AreBoxesOf frame.now frame.now.obstacles row.now near.now }
+    requires boxes { AreBoxesOf frame.now obstacles row.now near.now }
     requires sorted { AreSorted near.now }
-    ensures { OnOk result (AddsRow frame.now frame.now.obstacles number row.now (length frame.now.teams) segments.old.items segments.new.items) }
+    ensures { OnOk result (AddsRow frame.now obstacles number row.now (length frame.now.teams) segments.old.items segments.new.items) }
 {
     let ground = ground_number(frame);
     let area = row.area(&frame.pitch);
@@ -134,31 +139,52 @@ fn push_fences(
     Ok(())
 }
 
-/// Sorts the boxes by number.
-fn sort_boxes(boxes: &mut Vec<Placed>)
-    ensures moved { IsPermutation boxes.old.items boxes.new.items }
-    ensures sorted { AreSorted boxes.new.items }
-{
-    boxes.sort_unstable_by_key(|placed| placed.own);
-}
-
-/// Appends the segments of the row, those of the fences and then those of the ground team. The
-/// boxes near the row are sorted.
+/// Appends the segments of the row, those of the fences and then those of the ground team. They are
+/// found from the boxes near it, which are in order of their numbers.
 pub(crate) fn push_row(
     alloc: Global,
     frame: &Frame,
     number: usize,
     row: &Row,
-    near: &mut Vec<Placed>,
+    near: &[Placed],
     segments: &mut Vec<Segment>,
 ) -> Result<(), AllocError>
+    ghost obstacles: { List Rect }
     requires heeded { IsHeeded frame.now.pitch row.now }
-    requires boxes { AreBoxesOf frame.now frame.now.obstacles row.now near.now.items }
-    ensures { OnOk result (AddsRow frame.now frame.now.obstacles number row.now (length frame.now.teams + 1) segments.old.items segments.new.items) }
+    requires boxes { AreBoxesOf frame.now obstacles row.now near.now }
+    requires sorted { AreSorted near.now }
+    ensures { OnOk result (AddsRow frame.now obstacles number row.now (length frame.now.teams + 1) segments.old.items segments.new.items) }
 {
-    sort_boxes(near);
-    push_fences(alloc, frame, number, row, near.as_slice(), segments)?;
-    let spans = ground_spans(alloc, frame, row, near.as_slice())?;
+    push_fences(alloc, frame, number, row, near, segments)?;
+    let spans = ground_spans(alloc, frame, row, near)?;
     push_spans(segments, number, frame.teams.len(), spans.as_slice())?;
     Ok(())
+}
+
+/// The boxes of fences, which come before those of obstacles.
+fn without_obstacles<'a>(frame: &Frame, near: &'a [Placed]) -> &'a [Placed]
+    requires { AreSorted near.now }
+    ensures boxes { (row : Row) → AreBoxesOf frame.now frame.now.obstacles row near.now → AreBoxesOf frame.now [] row result.now }
+    ensures sorted { AreSorted result.now }
+{
+    &near[..count_below(near, ground_number(frame))]
+}
+
+/// Appends the segments of the row as if there were no obstacles, found from the boxes near it, which
+/// are in order of their numbers.
+pub(crate) fn push_land(
+    alloc: Global,
+    frame: &Frame,
+    number: usize,
+    row: &Row,
+    near: &[Placed],
+    land: &mut Vec<Segment>,
+) -> Result<(), AllocError>
+    requires heeded { IsHeeded frame.now.pitch row.now }
+    requires boxes { AreBoxesOf frame.now frame.now.obstacles row.now near.now }
+    requires sorted { AreSorted near.now }
+    ensures { OnOk result (AddsRow frame.now [] number row.now (length frame.now.teams + 1) land.old.items land.new.items) }
+{
+    let fences = without_obstacles(frame, near);
+    push_row(alloc, frame, number, row, fences, land)
 }

@@ -1,8 +1,8 @@
 //! The rows of a frame in order of y, found by bisection.
 
-ghost use Rattle.std.specs.Prelude.{◌≡◌, ◌<◌, ◌≤◌, ◌≤ℤ◌, ◌<ℤ◌, ℕ, AllPairs, IfOk, IsPermutation, length, slice_index_or};
+ghost use Rattle.std.specs.Prelude.{◌≡◌, ◌<◌, ◌≤◌, ◌≤ℤ◌, ◌<ℤ◌, ℕ, All, AllPairs, IfOk, IsPermutation, MatchOption, length, slice_index_or};
 ghost use Rattle.lf_segments.specs.declared.rows_by_y.RowEntry.{RowEntry};
-ghost use Rattle.lf_segments.specs.RowsByY.{entry, entries_from, IsRowsByY, IsRunAt, IsRunBetween, PrecedesByY};
+ghost use Rattle.lf_segments.specs.RowsByY.{BeginsBy, ComesBy, comes_by, entry, entries_from, IsLastAt, IsRowsByY, IsRunAt, IsRunBetween, PrecedesByY};
 
 use lf_floorplan::{Frame, Row};
 use std::alloc::{AllocError, Global};
@@ -113,6 +113,45 @@ fn run_between<'a>(entries: &'a [RowEntry], from: &i64, to: &i64) -> &'a [RowEnt
     &rest[..count_below(rest, to)]
 }
 
+/// Whether the row lies below y, or lies at y and does not begin right of x.
+fn comes_by(entry: &RowEntry, y: &i64, x: &i64) -> bool
+    ensures { result ≡ comes_by y.now x.now entry.now }
+{
+    if entry.y < *y {
+        return true;
+    }
+    if *y < entry.y {
+        return false;
+    }
+    entry.x <= *x
+}
+
+/// How many of the rows lie below y, or lie at y and do not begin right of x.
+fn count_by(entries: &[RowEntry], y: &i64, x: &i64) -> usize
+    requires { AllPairs PrecedesByY entries.now }
+    ensures within { result ≤ length entries.now }
+    ensures by { (k : ℕ) → (d : RowEntry) → k < result → ComesBy y.now x.now (slice_index_or entries.now k d) }
+    ensures rest { (k : ℕ) → (d : RowEntry) → result ≤ k → k < length entries.now → ComesBy y.now x.now (slice_index_or entries.now k d) → ⊥ }
+{
+    entries.partition_point(|entry| comes_by(entry, y, x))
+}
+
+/// The last of the rows at y that do not begin right of x.
+fn last_at<'a>(entries: &'a [RowEntry], y: &i64, x: &i64) -> Option<&'a RowEntry>
+    requires { AllPairs PrecedesByY entries.now }
+    ensures { MatchOption result (All (λ e. BeginsBy y.now x.now e → ⊥) entries.now) (λ e. IsLastAt entries.now y.now x.now e.now) }
+{
+    let count = count_by(entries, y, x);
+    if count == 0 {
+        return None;
+    }
+    let last = &entries[count - 1];
+    if last.y < *y {
+        return None;
+    }
+    Some(last)
+}
+
 impl RowsByY {
     /// The table of the frame's rows. `Err` if an allocation fails.
     pub fn build(alloc: Global, frame: &Frame) -> Result<Self, AllocError>
@@ -135,5 +174,12 @@ impl RowsByY {
         ensures { IsRunBetween self.now from to result.now }
     {
         run_between(&self.entries, &from, &to)
+    }
+
+    /// The last of the rows at this y that do not begin right of x; none if there is no such row. It is found by bisection.
+    pub fn last_at(&self, y: &i64, x: &i64) -> Option<&RowEntry>
+        ensures { MatchOption result (All (λ e. BeginsBy y.now x.now e → ⊥) self.now) (λ e. IsLastAt self.now y.now x.now e.now) }
+    {
+        last_at(&self.entries, y, x)
     }
 }

@@ -1,17 +1,16 @@
 //! All segments of a frame.
 
-ghost use Rattle.std.specs.Prelude.{◌≡◌, All, IfOk, MatchOption, length};
+ghost use Rattle.std.specs.Prelude.{◌≡◌, All, AllPairs, IfOk, MatchOption, [], length};
 ghost use Rattle.std.specs.List.{HoldsAt};
 ghost use Rattle.lf_segments.specs.RowStarts.{IsRangeOf, rows_of};
-ghost use Rattle.lf_segments.specs.Segments.{IsAt, IsCut, IsRunOf};
+ghost use Rattle.lf_segments.specs.Segments.{ComesBefore, IsAt, IsCut, IsCutBeside, IsRunOf, IsSegment};
 
-use crate::boxes::boxes_of_frame;
-use crate::row::push_row;
+use crate::boxes::{boxes_near, tree_of_frame};
+use crate::row::{push_land, push_row};
 use crate::row_starts::{RowRange, RowStarts};
 use crate::runs::{place_in, range_in, run_of};
 use crate::segment::Segment;
 use lf_floorplan::Frame;
-use lf_rtree::RTree;
 use std::alloc::{AllocError, Global};
 use std::marker::Model;
 
@@ -41,15 +40,68 @@ impl Model for Segments {
 fn cut_rows(alloc: Global, frame: &Frame) -> Result<Vec<Segment>, AllocError>
     ensures { IfOk result (λ segments. IsCut frame.now segments.items) }
 {
-    let mut boxes = boxes_of_frame(alloc, frame)?;
-    let tree = RTree::build(alloc, boxes.as_mut_slice())?;
+    let tree = tree_of_frame(alloc, frame)?;
     let mut near = Vec::new(alloc);
     let mut segments = Vec::new(alloc);
     for (number, row) in frame.rows.as_slice().iter().enumerate() {
-        tree.find_near(&row.area(&frame.pitch), &mut near)?;
-        push_row(alloc, frame, number, row, &mut near, &mut segments)?;
+        boxes_near(&tree, frame, row, &mut near)?;
+        push_row(alloc, frame, number, row, near.as_slice(), &mut segments)?;
     }
     Ok(segments)
+}
+
+/// The segments of a frame in one list, and those as if there were no obstacles.
+#[derive(Drop)]
+struct Lists {
+    segments: Vec<Segment>,
+    land: Vec<Segment>,
+}
+
+/// The segments of all rows, and those as if there were no obstacles. For each row only the boxes near
+/// it are looked at, once for both.
+fn cut_both(alloc: Global, frame: &Frame) -> Result<Lists, AllocError>
+    ensures segments { IfOk result (λ lists. IsCut frame.now lists.segments.items) }
+    ensures land { IfOk result (λ lists. IsCutBeside frame.now [] lists.land.items) }
+{
+    let tree = tree_of_frame(alloc, frame)?;
+    let mut near = Vec::new(alloc);
+    let mut segments = Vec::new(alloc);
+    let mut land = Vec::new(alloc);
+    for (number, row) in frame.rows.as_slice().iter().enumerate() {
+        boxes_near(&tree, frame, row, &mut near)?;
+        let near = near.as_slice();
+        push_row(alloc, frame, number, row, near, &mut segments)?;
+        push_land(alloc, frame, number, row, near, &mut land)?;
+    }
+    Ok(Lists { segments, land })
+}
+
+/// A list of segments of the frame in order, with the starts of the frame's rows in it.
+fn indexed(alloc: Global, frame: &Frame, list: Vec<Segment>) -> Result<Segments, AllocError>
+    requires order { AllPairs ComesBefore list.items }
+    requires known { All (IsSegment frame.now) list.items }
+    ensures { IfOk result (λ segments. segments ≡ list.items) }
+{
+    let starts = RowStarts::build(alloc, list.as_slice(), frame.rows.len())?;
+    Ok(Segments { list, starts })
+}
+
+/// The segments of a frame, and those as if there were no obstacles.
+#[derive(Drop)]
+pub(crate) struct Cuts {
+    pub(crate) segments: Segments,
+    pub(crate) land: Segments,
+}
+
+/// The segments of the frame, and those as if there were no obstacles.
+pub(crate) fn cuts_of(alloc: Global, frame: &Frame) -> Result<Cuts, AllocError>
+    ensures segments { IfOk result (λ cuts. IsCut frame.now cuts.segments) }
+    ensures land { IfOk result (λ cuts. IsCutBeside frame.now [] cuts.land) }
+{
+    let lists = cut_both(alloc, frame)?;
+    let segments = indexed(alloc, frame, lists.segments)?;
+    let land = indexed(alloc, frame, lists.land)?;
+    Ok(Cuts { segments, land })
 }
 
 impl Segments {
@@ -59,8 +111,7 @@ impl Segments {
         ensures { IfOk result (λ segments. IsCut frame.now segments) }
     {
         let list = cut_rows(alloc, frame)?;
-        let starts = RowStarts::build(alloc, list.as_slice(), frame.rows.len())?;
-        Ok(Segments { list, starts })
+        indexed(alloc, frame, list)
     }
 
     /// The segments, borrowed.

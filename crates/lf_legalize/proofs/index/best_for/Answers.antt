@@ -1,10 +1,12 @@
-use Rattle.std.proofs.Common.{Option, ap, ◌∙◌, map}
+use Rattle.std.proofs.Common.{Option, ap, subst, sym, ◌∙◌, map}
 use Rattle.std.specs.Option.{option_map}
 use Rattle.std.proofs.lemmas.Result.{IfOk-weaker}
 use Rattle.lf_units.specs.declared.area.Point.{Point}
 use Rattle.lf_floorplan.specs.declared.macros.Macro.{Macro}
 use Rattle.lf_floorplan.specs.declared.place.Place.{Place}
+use Rattle.lf_floorplan.specs.Bounds.{IsNearDefRect}
 use Rattle.lf_floorplan.specs.Boxes.{size_of}
+use Rattle.lf_segments.specs.Grounds.{IsExtentOf, Lookups}
 use Rattle.lf_rules.specs.Choice.{IsChoice, Lifted, spot_of}
 use Rattle.lf_rules.specs.Team.{lifted_from}
 use Rattle.lf_cells.specs.Cells.{cells_of}
@@ -30,25 +32,34 @@ invariant_of-search c = record {
 
 pub nearest-requires-clause-near : goal.nearest-requires-clause-near
 nearest-requires-clause-near c =
-    nearest_near c.args.occupancy.now.index.extent c.args.target.now c.nearest_point-near.result c.requires.held.index.extent.near c.nearest_point-near.ensures
+    let extent = c.extent-extent.result.now in
+    let same = c.extent-extent.ensures ∙ ap (λ (g : Lookups). g.extent) c.index.ensures in
+    nearest_near extent c.args.target.now c.nearest_point-near.result (subst IsNearDefRect (sym same) c.requires.held.index.extent.near)
+    c.nearest_point-near.ensures
 
 pub nearest-requires-clause-small : goal.nearest-requires-clause-small
-nearest-requires-clause-small c = farthest_small c.args.occupancy.now.index.extent c.farthest_in.result c.requires.held.index.extent.near c.farthest_in.ensures
+nearest-requires-clause-small c =
+    let same = c.extent-extent.ensures ∙ ap (λ (g : Lookups). g.extent) c.index.ensures in
+    farthest_small c.extent-extent.result.now c.farthest_in.result (subst IsNearDefRect (sym same) c.requires.held.index.extent.near) c.farthest_in.ensures
 
 pub nearest-requires-clause-all : goal.nearest-requires-clause-all
 nearest-requires-clause-all c = λ p may.
-    within_extent c.args.occupancy.now.index.extent c.args.target.now c.nearest_point-near.result p c.farthest_in.result
-    c.nearest_point-near.ensures c.farthest_in.ensures
-    (lies_in (lifted_from c.args.frame.now c.args.id.team (map member_of (cells_of c.args.cells.now c.args.id.team)) c.args.id.own c.args.mac)
-    c.args.occupancy.now.index.extent p
-    c.requires.sized c.requires.held.index.extent may.legal)
+    let extent = c.extent-extent.result.now in
+    let same = c.extent-extent.ensures ∙ ap (λ (g : Lookups). g.extent) c.index.ensures in
+    let cell : Lifted = lifted_from c.args.frame.now c.args.id.team (map member_of (cells_of c.args.cells.now c.args.id.team)) c.args.id.own c.args.mac in
+    let holds = subst (IsExtentOf c.args.frame.now) (sym same) c.requires.held.index.extent in
+    within_extent extent c.args.target.now c.nearest_point-near.result p c.farthest_in.result c.nearest_point-near.ensures c.farthest_in.ensures
+    (lies_in cell extent p c.requires.sized holds may.legal)
 
 pub returns : goal.returns
 returns c =
+    let extent = c.extent-extent.result.now in
+    let same = c.extent-extent.ensures ∙ ap (λ (g : Lookups). g.extent) c.index.ensures in
     let cell : Lifted = lifted_from c.args.frame.now c.args.id.team (map member_of (cells_of c.args.cells.now c.args.id.team)) c.args.id.own c.args.mac in
+    let holds = subst (IsExtentOf c.args.frame.now) (sym same) c.requires.held.index.extent in
     IfOk-weaker c.nearest.result
     (λ (found : Option Place). IsChoice cell c.nearest_point-near.result (option_map spot_of found))
     (λ (found : Option Place). IsChoice cell c.args.target.now (option_map spot_of found))
-    (λ found. choice_for cell c.args.occupancy.now.index.extent c.args.target.now c.nearest_point-near.result (option_map spot_of found) c.nearest_point-near.ensures
-    (λ p may. lies_in cell c.args.occupancy.now.index.extent p c.requires.sized c.requires.held.index.extent may.legal))
+    (λ found. choice_for cell extent c.args.target.now c.nearest_point-near.result (option_map spot_of found) c.nearest_point-near.ensures
+    (λ p may. lies_in cell extent p c.requires.sized holds may.legal))
     c.nearest.ensures

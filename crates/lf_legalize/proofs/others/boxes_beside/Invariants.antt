@@ -6,4 +6,5 @@ use Rattle.lf_legalize.proofs.others.boxes_beside.Given as goal
 -- the boxes so far, followed by those of the cells that are left, are all
 abbrev pub invariant-loop-other : goal.invariant-loop-other
 invariant-loop-other l =
-    l.others.items ++ beside_from l.frame l.own l.other (drop l.other (cells_of l.cells l.team)) ≡ beside_from l.frame l.own 0 (cells_of l.cells l.team)
+    l.others.items ++ beside_from l.frame l.id.own l.other-index (drop l.other-index (cells_of l.cells l.id.team))
+    ≡ beside_from l.frame l.id.own 0 (cells_of l.cells l.id.team)

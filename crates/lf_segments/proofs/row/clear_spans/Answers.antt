@@ -7,12 +7,12 @@ use Rattle.lf_segments.proofs.GroupLemmas.{clear_spans_of}
 use Rattle.lf_segments.proofs.row.clear_spans.Goals as goal
 
 pub returns : goal.returns
-returns c =
+returns g c =
     let group = c.next_group-obstacles.result.now in
     IfOk-weaker c.free_beside.result (λ free. IsFree (across c.area.result) (map (λ p. across p.rect) group) free.items)
-    (λ free. AreClear c.args.frame.now c.args.frame.now.obstacles c.args.row.now free.items)
+    (λ free. AreClear c.args.frame.now g.obstacles c.args.row.now free.items)
     (λ free f.
-    clear_spans_of c.args.frame.now c.args.row.now c.args.near.now group free.items c.requires.boxes
+    clear_spans_of c.args.frame.now g.obstacles c.args.row.now c.args.near.now group free.items c.requires.1.0
     (subst (λ (n : ℕ). IsNextGroup c.args.near.now n group) c.ground_number.ensures c.next_group-obstacles.ensures)
     (subst (λ (a : Rect). IsFree (across a) (map (λ p. across p.rect) group) free.items) c.area.ensures f))
     c.free_beside.ensures

@@ -7,11 +7,11 @@ use Rattle.lf_segments.proofs.GroupLemmas.{ground_spans_of}
 use Rattle.lf_segments.proofs.row.ground_spans.Goals as goal
 
 pub returns : goal.returns
-returns c =
+returns g c =
     let near = c.args.near.now in
     IfOk-weaker c.free_beside.result (λ free. IsFree (across c.area.result) (map (λ p. across p.rect) near) free.items)
-    (λ free. AreOpen c.args.frame.now c.args.frame.now.obstacles c.args.row.now (length c.args.frame.now.teams) free.items)
+    (λ free. AreOpen c.args.frame.now g.obstacles c.args.row.now (length c.args.frame.now.teams) free.items)
     (λ free f.
-    ground_spans_of c.args.frame.now c.args.row.now near free.items c.requires.boxes
+    ground_spans_of c.args.frame.now g.obstacles c.args.row.now near free.items c.requires.1
     (subst (λ (a : Rect). IsFree (across a) (map (λ p. across p.rect) near) free.items) c.area.ensures f))
     c.free_beside.ensures
