@@ -141,14 +141,16 @@ chosen_near Seen cell target reach (Some b) all looks =
       ];
     }
 
+near_or_far : (m n : ℕ) → (m ≤ n) ⊎ (n < m)
+near_or_far m n = grind arith
+
 -- the best of the places within a reach is the best of all: the others are farther off
 pub best_of_all : (cell : Lifted) (target : Point) (reach : ℕ) (b : Spot) → IsBestAmong (IsWithin target reach) cell target b → IsBest cell target b
 best_of_all cell target reach b best = record {
   may_go = best.may_go;
   least = λ p may.
       let within = best.seen in
-      let order : (distance target p ≤ reach) ⊎ (reach < distance target p) = grind arith in
-      elim order [
+      elim (near_or_far (distance target p) reach) [
         | inl near ↦ best.least p near may
         | inr far ↦ inr (inl (omega (arith, within, far)))
       ];

@@ -11,7 +11,8 @@ use Rattle.lf_spans.proofs.Edges.{rising_nil}
 use Rattle.lf_floorplan.specs.declared.frame.Frame.{Frame}
 use Rattle.lf_segments.specs.declared.segment.Segment.{Segment}
 use Rattle.lf_segments.specs.declared.strip.Strip.{Strip}
-use Rattle.lf_segments.specs.Grounds.{IsGroundOf, IsSoftAt, Lookups}
+use Rattle.lf_segments.specs.Grounds.{IsGroundOf, Lookups}
+use Rattle.lf_segments.specs.Soft.{IsSoftAt}
 use Rattle.lf_segments.specs.Strips.{AreNear, IsNear, row_y, strip_of}
 use Rattle.lf_cells.specs.declared.cell.CellId.{CellId}
 use Rattle.lf_occupancy.specs.Occupied.{Occupied, IsFreeInRow, across}
@@ -80,11 +81,12 @@ point_soft f g spans s x soft inside apart holds at = by ((soft.exact one filled
 
 -- ---- taking them away
 
-pub minus_none : (spans soft : List Span) → soft ≡ [] → IsRising spans → IsMinus spans soft spans
-minus_none spans soft none rising = record {
+pub minus_none : (spans soft : List Span) → length soft ≡ 0 → IsRising spans → IsMinus spans soft spans
+minus_none spans [] none rising = record {
   rising = rising;
-  exact = λ s filled. (λ lies. (lies, rw none (All-nil (λ t. AreApart s t))), λ both. both.0);
+  exact = λ s filled. (λ lies. (lies, All-nil (λ t. AreApart s t)), λ both. both.0);
 }
+minus_none spans (t ∷ soft) none rising = absurd (omega (arith, none))
 
 -- the free spans without the soft ones of the first strips of a run
 pub record AreWithoutFirst (soft : List (List Span)) (start n end : ℕ) (free left : List Span) : Type 0 where
@@ -123,21 +125,15 @@ first_next soft start n end free left new begun within before minus = record {
         order : (k < n) ⊎ (k ≡ n)
         order = grind (arith, less)
 
-pub first_end : (soft : List (List Span)) (start n end : ℕ) (free left : List Span) → (n < end → ⊥) → AreWithoutFirst soft start n end free left →
+pub first_end : (soft : List (List Span)) (start n end : ℕ) (free left : List Span) → end ≤ n → AreWithoutFirst soft start n end free left →
     AreWithoutSoft soft start end free left
 first_end soft start n end free left ended all = record {
   rising = all.rising;
   exact = λ s filled. (
-    λ lies. let both = (all.exact s filled).0 lies in (both.0, λ k from below. both.1 k from (reached k below) below),
+    λ lies. let both = (all.exact s filled).0 lies in (both.0, λ k from below. both.1 k from (omega (arith, below, ended)) below),
     λ both. (all.exact s filled).1 (both.0, λ k from less below. both.1 k from below),
   );
 }
-  where
-    order : (n < end) ⊎ (end ≤ n)
-    order = grind arith
-
-    reached : (k : ℕ) → k < end → k < n
-    reached k below = elim order [ inl less ↦ absurd (ended less) | inr over ↦ omega (arith, below, over) ]
 
 -- what is free on the row without what is soft of the strips near the window is free off soft blockages
 pub open_row : (o : Occupied) (row : ℕ) (id : CellId) (window : Span) (start end : ℕ) (free left : List Span) →
@@ -157,11 +153,13 @@ open_row o row id window start end free left near is without = record {
               both.1 k at.0 at.1;
         },
     λ one.
-        (without.exact s filled).1
-        ((is.exact s filled).1 (one.within, one.in_strip), λ k from below.
-        let inside = within k below in
-        one.off_soft k (get_or o.index.strips k no_strip) (slice_get-get_or o.index.strips k no_strip inside)
-        ((near.exact k no_strip inside).0 (from, below))),
+        (without.exact s filled).1 (
+          (is.exact s filled).1 (one.within, one.in_strip),
+          λ k from below.
+              let inside = within k below in
+              one.off_soft k (get_or o.index.strips k no_strip) (slice_get-get_or o.index.strips k no_strip inside)
+              ((near.exact k no_strip inside).0 (from, below)),
+        ),
   );
 }
   where

@@ -4,7 +4,7 @@ ghost use Rattle.std.specs.Prelude.{◌≡◌, ◌↔◌, ◌+ℤ◌, ◌*ℤ◌
 ghost use Rattle.std.specs.Option.{option_map};
 ghost use Rattle.lf_floorplan.specs.Boxes.{IsSized};
 ghost use Rattle.lf_floorplan.specs.Rows.{IsHeeded};
-ghost use Rattle.lf_rules.specs.Choice.{spot_of, IsChoice, MayGo};
+ghost use Rattle.lf_rules.specs.Choice.{spot_of, IsChoice, IsLegalAt, MayGo};
 ghost use Rattle.lf_rules.specs.Legalizer.{Legalizer};
 ghost use Rattle.lf_rules.proofs.Looking.{IsAtSite, IsOnSites, spot_at};
 ghost use Rattle.lf_legalize.specs.Lifting.{lifted};
@@ -17,14 +17,22 @@ use lf_orient::Orient;
 use lf_rules::{Placed, box_of, first_broken, meets_soft};
 use lf_units::Point;
 
+/// Whether the place is legal for the cell.
+fn is_legal(search: &Search<'_>, place: &Place) -> bool
+    ensures { IsTrue result ↔ IsLegalAt (cell_of search.now) (spot_of place.now) }
+{
+    first_broken(search.frame, search.team, search.mac, place, search.others).is_none()
+}
+
 /// Whether the search may put the cell at the place: it is legal, and the cell's box there keeps clear of soft blockages.
 fn may_go(search: &Search<'_>, place: &Place) -> bool
     ensures { IsTrue result ↔ MayGo (cell_of search.now) (spot_of place.now) }
 {
-    if first_broken(search.frame, search.team, search.mac, place, search.others).is_some() {
+    let rect = box_of(search.frame, search.mac, place);
+    if meets_soft(search.frame, &rect) {
         return false;
     }
-    !meets_soft(search.frame, &box_of(search.frame, search.mac, place))
+    is_legal(search, place)
 }
 
 /// The best place so far, after looking also at this one.

@@ -51,7 +51,7 @@ pub(crate) fn open_in_row(
 ) -> Result<Vec<Span>, AllocError>
     requires held { IsOccupancyOf search.now.frame.now search.now.cells.now search.now.occupancy.now }
     requires low { negsuc 4611686018427387903 ≤ℤ window.now.lo }
-    ensures { IfOk result (λ open. IsOpenInRow search.now.occupancy.now number search.now.id window.now open.items) }
+    ensures { IfOk result (λ left. IsOpenInRow search.now.occupancy.now number search.now.id window.now left.items) }
 {
     let free = search
         .occupancy

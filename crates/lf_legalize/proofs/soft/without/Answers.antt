@@ -1,3 +1,4 @@
+use Rattle.std.proofs.Common.{rules}
 use Rattle.lf_legalize.proofs.SoftLemmas.{minus_none}
 use Rattle.lf_legalize.proofs.soft.without.Goals as goal
 
