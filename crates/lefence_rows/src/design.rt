@@ -282,7 +282,6 @@ fn replies_by<S: Seeker + Drop>(
     seeker: S,
     asked: &Asked<'_>,
 ) -> Result<Vec<u8>, AllocError>
-    requires seeker { S.is_for seeker loaded.frame }
     requires loads { (library : Contents) × (limits : TheLimits) × IsLoadedFrom (inputs library document.now limits) loaded }
 {
     loaded_cells_can_be_given();

@@ -15,7 +15,7 @@ use Rattle.lf_placement.proofs.Keeping.{last}
 use Rattle.lf_placement.proofs.Moves.{cells_stay, cells_through, same_made}
 use Rattle.lf_teams.specs.States.{TeamState}
 use Rattle.lf_floor.specs.declared.tables.Tables.{Tables}
-use Rattle.lf_floor.specs.Tables.{EntriesFit, HasRows, HaveGrown, KeepsRooms, OnlyMoves, OthersStay, cells_in, kept, own_team, revision_of, team_with}
+use Rattle.lf_floor.specs.Tables.{EntriesFit, HaveGrown, KeepsRooms, OnlyMoves, OthersStay, cells_in, kept, own_team, revision_of, team_with}
 
 -- ---- rooms
 
@@ -23,15 +23,15 @@ no_less : (rooms : List ℕ) → NoLess rooms rooms
 no_less rooms = record { many = refl; each = λ n. omega arith }
 
 pub same_rooms : (old new : Placing) → KeepsRest old new → KeepsRooms old new
-same_rooms old new rest = record { frame = rest.frame; strips = rest.strips; rooms = rw rest.rooms (no_less old.held.rooms) }
+same_rooms old new rest = record { frame = rest.frame; index = rest.index; rooms = rw rest.rooms (no_less old.held.rooms) }
 
 pub rooms_stay : (old new : Placing) → new ≡ old → KeepsRooms old new
-rooms_stay old new same = rw same record { frame = refl; strips = refl; rooms = no_less old.held.rooms }
+rooms_stay old new same = rw same record { frame = refl; index = refl; rooms = no_less old.held.rooms }
 
 pub rooms_through : (a b c : Placing) → KeepsRooms a b → KeepsRooms b c → KeepsRooms a c
 rooms_through a b c ab bc = record {
   frame = bc.frame ∙ ab.frame;
-  strips = bc.strips ∙ ab.strips;
+  index = bc.index ∙ ab.index;
   rooms = record { many = bc.rooms.many ∙ ab.rooms.many; each = λ n. let x = ab.rooms.each n in let y = bc.rooms.each n in omega (arith, x, y) };
 }
 
@@ -49,7 +49,7 @@ only_through k a b c ab bc = record {
 
 pub only_grown : (k : ℕ) (old new : Placing) → SameButRooms old new → OnlyMoves k old new
 only_grown k old new grown = record {
-  ground = record { frame = grown.frame; strips = grown.strips; rooms = grown.rooms };
+  ground = record { frame = grown.frame; index = grown.index; rooms = grown.rooms };
   same = ap (λ (cs : Cells). map taken_up (cells_of cs k)) grown.cells;
   others = record {
     cells = λ other differ. ap (λ (cs : Cells). cells_of cs other) grown.cells;
@@ -66,20 +66,15 @@ pub only_made : (k : ℕ) (moves : List Move) (old new : Placing) → cells_of n
 only_made k moves old new are others rest =
     only_same k old new (ap (λ (cs : List Cell). map taken_up cs) are ∙ same_made moves (cells_of old.cells k)) others rest
 
-pub only_back : (k : ℕ) (first old new : Placing) → OnlyMoves k first old → cells_of new.cells k ≡ cells_of first.cells k
-    → OtherCellsStay k old.cells new.cells → KeepsRest old new → OnlyMoves k old new
-only_back k first old new only back others rest =
-    only_same k old new (ap (λ (cs : List Cell). map taken_up cs) back ∙ sym only.same) others rest
-
 -- ---- what fits
 
 pub fits_only : (k : ℕ) (old new : Placing) (places : Places) → OnlyMoves k old new → Fits old k places → Fits new k places
 fits_only k old new places only fits =
-    last old new k places only.ground.frame only.ground.strips only.ground.rooms (macs_same (cells_of old.cells k) (cells_of new.cells k) only.same) fits
+    last old new k places only.ground.frame only.ground.index only.ground.rooms (macs_same (cells_of old.cells k) (cells_of new.cells k) only.same) fits
 
 pub fits_as : (k : ℕ) (old new : Placing) (places : Places) → KeepsRooms old new → SameMacros (cells_of old.cells k) (cells_of new.cells k) → Fits old k places
     → Fits new k places
-fits_as k old new places ground macros fits = last old new k places ground.frame ground.strips ground.rooms macros fits
+fits_as k old new places ground macros fits = last old new k places ground.frame ground.index ground.rooms macros fits
 
 -- entries that stay fit still
 pub entries_as : (k : ℕ) (old new : Tables) → KeepsRooms old.placement new.placement → SameMacros (cells_in k old) (cells_in k new)
@@ -87,11 +82,6 @@ pub entries_as : (k : ℕ) (old new : Tables) → KeepsRooms old.placement new.p
 entries_as k old new ground macros entries fit =
     subst (λ (es : List Places). All (λ places. Fits new.placement k places) es) (sym entries)
     (λ i d within. fits_as k old.placement new.placement _ ground macros (fit i d within))
-
-pub entries_only : (k : ℕ) (old new : Tables) → OnlyMoves k old.placement new.placement → (own_team k new).entries ≡ (own_team k old).entries
-    → EntriesFit k old → EntriesFit k new
-entries_only k old new only entries fit =
-    entries_as k old new only.ground (macs_same (cells_in k old) (cells_in k new) only.same) entries fit
 
 -- those of a team that has not changed
 pub entries_stay : (k : ℕ) (old new : Tables) → KeepsRooms old.placement new.placement → own_team k new ≡ own_team k old → EntriesFit k old → EntriesFit k new
@@ -121,30 +111,6 @@ others_stay number tables = record {
   teams = λ other differ. refl;
   components = refl;
   ground = rooms_stay tables.placement tables.placement refl;
-  undo = refl;
-  sessions = refl;
-  revisions = refl;
-  limit = refl;
-}
-
-pub others_through : (number : ℕ) (a b c : Tables) → OthersStay number a b → OthersStay number b c → OthersStay number a c
-others_through number a b c ab bc = record {
-  teams = λ other differ. bc.teams other differ ∙ ab.teams other differ;
-  components = bc.components ∙ ab.components;
-  ground = rooms_through a.placement b.placement c.placement ab.ground bc.ground;
-  undo = bc.undo ∙ ab.undo;
-  sessions = bc.sessions ∙ ab.sessions;
-  revisions = bc.revisions ∙ ab.revisions;
-  limit = bc.limit ∙ ab.limit;
-}
-
--- only places of the team's cells have changed
-pub others_moved : (number : ℕ) (old : Tables) (placing : Placing) → OnlyMoves number old.placement placing
-    → OthersStay number old (record old { placement = placing })
-others_moved number old placing only = record {
-  teams = λ other differ. ap (λ (cs : List Cell). team_with other cs old) (only.others.cells other differ);
-  components = only.others.components;
-  ground = only.ground;
   undo = refl;
   sessions = refl;
   revisions = refl;
@@ -184,15 +150,11 @@ grown_kept k session before now old new grown =
       slots = slice_set s.slots session (Some (s.revision + 1));
     }) (grown_with k before old new grown)
 
-pub grown_rows : (k : ℕ) (old new : Tables) → HaveGrown old new → HasRows k old → HasRows k new
-grown_rows k old new grown rows =
-    rw (grown.sessions, grown.revisions, lists_grown old.undo new.undo grown.undo) record { undo = rows.undo; sessions = rows.sessions; revisions = rows.revisions }
-
 pub others_grown : (k : ℕ) (old new : Tables) → HaveGrown old new → OthersStay k old new
 others_grown k old new grown = record {
   teams = λ other differ. grown_team other old new grown;
   components = ap (λ (cs : Cells). cs.components) grown.placement.cells;
-  ground = record { frame = grown.placement.frame; strips = grown.placement.strips; rooms = grown.placement.rooms };
+  ground = record { frame = grown.placement.frame; index = grown.placement.index; rooms = grown.placement.rooms };
   undo = ap (λ (ls : List (List (List Move))). length ls) (lists_grown old.undo new.undo grown.undo);
   sessions = ap (λ ss. length ss) grown.sessions;
   revisions = ap (λ rs. length rs.items) grown.revisions;

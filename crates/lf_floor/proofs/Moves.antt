@@ -1,9 +1,7 @@
 -- Moves of cells, and what they are when they are taken back.
-use Rattle.std.proofs.Common.{◌≡◌, ℕ, zero, suc, List, [], ◌∷◌, ◌++◌, length, drop, take, refl, ap, sym, ◌∙◌}
-use Rattle.std.proofs.Math.Seq.{drop-append_seam, take-append_seam}
+use Rattle.std.proofs.Common.{◌≡◌, ℕ, zero, suc, List, [], ◌∷◌, ◌++◌, refl, ap, sym, ◌∙◌}
 use Rattle.lf_cells.specs.declared.cell.Cell.{Cell}
-use Rattle.lf_cells.specs.declared.cell.CellId.{CellId}
-use Rattle.lf_cells.specs.Cells.{Cells, cells_of, id_of, moved, working_at}
+use Rattle.lf_cells.specs.Cells.{moved, working_at}
 use Rattle.lf_undo.specs.declared.moves.Move.{Move}
 use Rattle.lf_placement.specs.Placings.{HaveMoved, SameButPlaces, made}
 use Rattle.lf_placement.proofs.Changing.{first_same, rest_same}
@@ -32,19 +30,7 @@ not_moved [] own = refl
 not_moved (c ∷ cs) zero = refl
 not_moved (c ∷ cs) (suc own) = ap (λ (r : List Cell). c ∷ r) (not_moved cs own)
 
--- a cell of that id
-pub of_id : {X : Type 0} (look : List Cell → ℕ → X) (table : Cells) (number own : ℕ) (id : CellId) → id ≡ id_of number own
-    → look (cells_of table id.team) id.own ≡ look (cells_of table number) own
-of_id look table number own id is = ap (λ (i : CellId). look (cells_of table i.team) i.own) is
-
 -- one more move behind the others
 pub made_more : (moves : List Move) (m : Move) (cells : List Cell) → made (moves ++ m ∷ []) cells ≡ moved (made moves cells) m.own m.old
 made_more [] m cells = refl
 made_more (x ∷ moves) m cells = made_more moves m (moved cells x.own x.old)
-
--- the last of the moves
-pub last_move : (moves all : List Move) (m : Move) (from : ℕ) → all ≡ moves ++ m ∷ [] → from ≡ length moves → drop from all ≡ m ∷ []
-last_move moves all m from all_are from_is = rw (all_are, from_is) (drop-append_seam moves (m ∷ []))
-
-pub but_last : (moves all : List Move) (m : Move) (from : ℕ) → all ≡ moves ++ m ∷ [] → from ≡ length moves → take from all ≡ moves
-but_last moves all m from all_are from_is = rw (all_are, from_is) (take-append_seam moves (m ∷ []))

@@ -1,9 +1,8 @@
 -- Cells that go back to their committed places one after another.
-use Rattle.std.proofs.Common.{◌≡◌, ◌≤◌, ℕ, zero, suc, ◌+◌, List, [], ◌∷◌, ◌++◌, length, map, Option, Some, None, refl, ap, sym, ◌∙◌, arith}
-use Rattle.std.specs.Prelude.{option_and_then, option_map, slice_get}
+use Rattle.std.proofs.Common.{◌≡◌, ◌≤◌, ℕ, zero, suc, ◌+◌, List, [], ◌∷◌, ◌++◌, length, map, Option, refl, ap, sym, ◌∙◌, arith}
 use Rattle.lf_floorplan.specs.declared.place.Place.{Place}
 use Rattle.lf_cells.specs.declared.cell.Cell.{Cell}
-use Rattle.lf_cells.specs.Cells.{committed_at, id_in, id_of, moved, working_at}
+use Rattle.lf_cells.specs.Cells.{committed_at, moved, working_at}
 use Rattle.lf_undo.specs.declared.moves.Move.{Move}
 use Rattle.lf_placement.specs.Placings.{committed_of, made, places_of}
 use Rattle.lf_teams.specs.Changes.{back_to_committed}
@@ -45,14 +44,6 @@ committed_still (suc n) (c ∷ cs) = committed_still n cs
 pub stays_noted : (cells : List Cell) (own : ℕ) (moves : List Move) → working_at cells own ≡ committed_at cells own → IsNotedBack cells own moves moves
 stays_noted cells own moves same = λ now are working committed.
     are ∙ sym (ap (λ (p : Option Place). moved now own p) (committed ∙ sym same ∙ sym working) ∙ not_moved now own)
-
--- nor does one that is not there
-pub none_noted : (cells : List Cell) (number own : ℕ) (moves : List Move) → id_in cells number own ≡ None → IsNotedBack cells own moves moves
-none_noted cells number own moves none = stays_noted cells own moves (go (slice_get cells own) none) where
-  go : (o : Option Cell) → option_map (λ (c : Cell). id_of number own) o ≡ None
-      → option_and_then (λ (c : Cell). c.working) o ≡ option_and_then (λ (c : Cell). c.committed) o
-  go None e = refl
-  go (Some c) e = absurd cc
 
 pub one_noted : (cells : List Cell) (own : ℕ) (old new : List Move) (m : Move) → m.own ≡ own → m.old ≡ committed_at cells own → new ≡ old ++ m ∷ []
     → IsNotedBack cells own old new

@@ -44,11 +44,6 @@ sought t cells own target found is = go (slice_get cells own) is where
 
 -- ---- how a cell stands
 
-pub working_stands : (o : Option Cell) (s : Option Standing) → s ≡ option_map standing_of o
-    → option_and_then (λ (c : Cell). c.working) o ≡ option_and_then (λ (x : Standing). x.working) s
-working_stands None s is = ap (λ (x : Option Standing). option_and_then (λ (y : Standing). y.working) x) (sym is)
-working_stands (Some c) s is = ap (λ (x : Option Standing). option_and_then (λ (y : Standing). y.working) x) (sym is)
-
 pub names_none : (cells : List Cell) (number own : ℕ) → id_in cells number own ≡ None → name_at cells own ≡ None
 names_none cells number own none = go (slice_get cells own) none where
   go : (o : Option Cell) → option_map (λ (c : Cell). id_of number own) o ≡ None → option_map (λ (c : Cell). c.name) o ≡ None

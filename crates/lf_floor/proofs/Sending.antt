@@ -1,5 +1,5 @@
 -- Cells that tidying sends.
-use Rattle.std.proofs.Common.{◌≡◌, ◌<◌, ◌≤◌, ℕ, zero, suc, ◌+◌, ◌-◌, List, [], ◌∷◌, map, length, Option, Some, None, true, refl, ap, sym, ◌∙◌, arith}
+use Rattle.std.proofs.Common.{◌≡◌, ◌<◌, ◌≤◌, ℕ, zero, suc, ◌+◌, ◌-◌, List, [], ◌∷◌, map, length, get_or, Option, Some, None, true, refl, ap, sym, ◌∙◌, arith}
 use Rattle.std.specs.Prelude.{slice_get, slice_set, option_map, option_and_then}
 use Rattle.std.proofs.lemmas.List.{length-map}
 use Rattle.std.proofs.lemmas.Option.{slice_get-map}
@@ -14,8 +14,11 @@ use Rattle.lf_rules.specs.Tidy.{Tidied, Going, Stuck, point_of, target_of, sent_
 use Rattle.lf_proto.specs.declared.reply.Reply.TheVariants.{Tidied as TidyDone}
 use Rattle.lf_proto.specs.declared.reply.Refusal.TheVariants.{NoPlace}
 use Rattle.lf_cells.specs.declared.cell.Cell.{Cell}
+use Rattle.lf_cells.specs.declared.cell.CellId.{CellId}
 use Rattle.lf_cells.specs.declared.cell.Standing.{Standing}
-use Rattle.lf_cells.specs.Cells.{id_in, id_of, moved, standing_of}
+use Rattle.lf_cells.specs.Cells.{id_of, ids_of, moved, standing_of}
+use Rattle.lf_cells.proofs.TeamIds.{ids_long, ids_read}
+use Rattle.lf_placement.proofs.Moves.{length_same}
 use Rattle.lf_legalize.specs.Members.{member_of, best_of}
 use Rattle.lf_floor.specs.declared.tidy.Tidy.TheVariants.{Done, Stopped}
 use Rattle.lf_teams.specs.States.{TeamState}
@@ -72,14 +75,6 @@ one_stays t cells own moved none = tidy_one_is t cells own moved ∙ go (slice_g
   go None e = refl
   go (Some c) e = ap (λ (p : Option Point). tidied_to p t.legalizer (lifted_cell t cells own c) (map member_of cells) moved own c.mac) e
 
--- no cell, nothing to send
-pub none_sent : (t : Setting) (cells : List Cell) (number own moved : ℕ) → id_in cells number own ≡ None
-    → tidy_one t cells own moved ≡ Going (map member_of cells) moved
-none_sent t cells number own moved none = tidy_one_is t cells own moved ∙ go (slice_get cells own) none where
-  go : (o : Option Cell) → option_map (λ (c : Cell). id_of number own) o ≡ None → one_by o t cells own moved ≡ Going (map member_of cells) moved
-  go None e = refl
-  go (Some c) e = absurd cc
-
 -- one more place among the members
 moved_members : (cells : List Cell) (own : ℕ) (c : Cell) (place : Place) → slice_get cells own ≡ Some c
     → slice_set (map member_of cells) own (record { mac = c.mac; place = Some (spot_of place) }) ≡ map member_of (moved cells own (Some place))
@@ -111,6 +106,21 @@ one_sent t cells own n target found aimed best = tidy_one_is t cells own n ∙ g
       ∙ by c found there
 
 -- ---- all cells
+
+-- the team has as many cells at each turn
+pub still_within : (number own : ℕ) (first now : List Cell) (all ids : List CellId) → all ≡ ids_of number first → ids ≡ ids_of number now
+    → SameButPlaces first now → own < length all → own < length ids
+still_within number own first now all ids all_are are same within =
+    let many = ids_long number first all all_are in
+    let here = ids_long number now ids are in
+    let kept = length_same first now same in
+    omega (arith, many, here, kept, within)
+
+-- the cell whose turn it is
+pub id_at_turn : (number own : ℕ) (first now : List Cell) (all ids : List CellId) (id : CellId) → all ≡ ids_of number first → ids ≡ ids_of number now
+    → SameButPlaces first now → own < length all → id ≡ get_or ids own id → id ≡ id_of number own
+id_at_turn number own first now all ids id all_are are same within is =
+    ids_read number own now ids id are (still_within number own first now all ids all_are are same within) is
 
 -- one cell less to go
 pub one_less : (l : Legalizer) (f : Frame) (team own last : ℕ) (t now : Tidied) → own < last → tidy_cell l f team t own ≡ now

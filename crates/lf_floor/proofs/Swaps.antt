@@ -13,7 +13,7 @@ use Rattle.lf_placement.specs.Placings.{SameButPlaces, made}
 use Rattle.lf_placement.proofs.Moves.{same_moved}
 use Rattle.lf_teams.specs.States.{TeamState}
 use Rattle.lf_teams.specs.Teams.{Setting, broken_at}
-use Rattle.lf_teams.specs.Outcomes.{may_be_short, recorded, refused}
+use Rattle.lf_teams.specs.Outcomes.{may_be_short, refused}
 use Rattle.lf_teams.specs.Changes.{broken_where, exchanged, swapped, swapped_from, swapped_own, swapped_unless}
 use Rattle.lf_floor.specs.declared.swap.Exchange.{Exchange}
 use Rattle.lf_floor.specs.Swapping.{IsExchange, exchange_moves, first_of, illegal_by, swap_refusal, swapped_here}
@@ -96,18 +96,6 @@ swap_refused t session first second s refusal is =
     go (Some broken) b e = ap (λ (r : Refusal). refused r s) (sym (some_same e))
     go None (Some broken) e = ap (λ (r : Refusal). refused r s) (sym (some_same e))
     go None None e = absurd cc
-
-pub swap_accepted : (t : Setting) (session first second : ℕ) (s : TeamState)
-    → None ≡ swap_refusal t (exchanged s.cells first second) first second
-    → swapped_here t session first second s ≡ recorded t session (exchanged s.cells first second) s
-swap_accepted t session first second s is =
-    go (broken_where t (exchanged s.cells first second) first) (broken_where t (exchanged s.cells first second) second) is
-  where
-    go : (a b : Option Broken) → None ≡ first_of (illegal_by a first) (illegal_by b second)
-        → swapped_unless a b t session first second (exchanged s.cells first second) s ≡ recorded t session (exchanged s.cells first second) s
-    go (Some broken) b e = absurd cc
-    go None (Some broken) e = absurd cc
-    go None None e = refl
 
 pub swap_short : (t : Setting) (session first second : ℕ) (s : TeamState) → may_be_short (swapped_here t session first second s).reply ≡ true
 swap_short t session first second s =

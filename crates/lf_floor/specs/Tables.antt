@@ -7,7 +7,6 @@ use Rattle.lf_rules.specs.Legalizer.{Legalizer}
 use Rattle.lf_cells.specs.declared.cell.Cell.{Cell}
 use Rattle.lf_cells.specs.Cells.{cells_of}
 use Rattle.lf_cells.specs.Openings.{opening_cells, opening_components}
-use Rattle.lf_reports.specs.Nearby.{IsIndexOf}
 use Rattle.lf_occupancy.specs.Occupied.{NoLess}
 use Rattle.lf_placement.specs.Placings.{Fits, OtherCellsStay, Placing, SameButPlaces, SameButRooms}
 use Rattle.lf_sessions.specs.Slots.{seen_at, slots_of, with_slot}
@@ -70,10 +69,6 @@ floor_in tables = floor_of (frame_of tables) tables.placement.cells.components (
 
 -- ---- what a verb may rely on, and what it leaves
 
--- the index is the frame's
-abbrev pub IsReady : {S : Type 0} → Surroundings S → Tables → Type 0
-IsReady around tables = IsIndexOf (frame_of tables) around.index.now
-
 -- each table has a row for the team of that number
 pub record HasRows (number : ℕ) (tables : Tables) : Type 0 where
   pub undo : number < length tables.undo.lists
@@ -116,7 +111,7 @@ pub record CanChange (number session : ℕ) (tables : Tables) : Type 0 where
 -- the frame and the strips stay, and no room is less
 pub record KeepsRooms (old new : Placing) : Type 0 where
   pub frame : new.frame ≡ old.frame
-  pub strips : new.held.strips ≡ old.held.strips
+  pub index : new.held.index ≡ old.held.index
   pub rooms : NoLess old.held.rooms new.held.rooms
 
 -- so it is, and but for the rooms only working places of that team's cells differ

@@ -1,12 +1,11 @@
 //! A team's own cells where they stand.
 
-ghost use Rattle.std.specs.Prelude.{◌≡◌, ◌≤◌, length, IfOk, is_none, option_map};
+ghost use Rattle.std.specs.Prelude.{◌≡◌, IfOk, is_none, option_map};
 ghost use Rattle.lf_rules.specs.Choice.{spot_of};
 ghost use Rattle.lf_rules.specs.Legalizer.{Legalizer};
-ghost use Rattle.lf_reports.specs.Nearby.{IsIndexOf};
 ghost use Rattle.lf_cells.specs.Cells.{cells_of, working_at};
 ghost use Rattle.lf_legalize.specs.Members.{best_of};
-ghost use Rattle.lf_teams.specs.Teams.{broken_at};
+ghost use Rattle.lf_teams.specs.Teams.{broken_at, setting};
 ghost use Rattle.lf_teams.specs.Looks.{best_at};
 ghost use Rattle.lf_teams.specs.Changes.{first_unplaced};
 ghost use Rattle.lf_floor.specs.Tables.{setting_at};
@@ -21,23 +20,14 @@ use lf_units::Point;
 use std::alloc::AllocError;
 
 /// The first rule that the team's cell of that id breaks at the place, beside the others of its team;
-/// none where there is no such cell.
-///
-/// `Err` if an allocation fails.
-pub(crate) fn broken_at<S>(
-    around: &Surroundings<'_, S>,
-    placement: &Placement,
-    id: CellId,
-    place: &Place,
-) -> Result<Option<Broken>, AllocError>
-    requires team { id.team ≡ around.now.number }
-    requires ready { IsIndexOf placement.now.frame around.now.index.now }
-    ensures { (l : Legalizer) → IfOk result (λ broken. broken
-        ≡ broken_at (setting_at l around.now placement.now) (cells_of placement.now.cells around.now.number) id.own place.now) }
+/// none where there is no such cell. It allocates nothing.
+pub(crate) fn broken_at(placement: &Placement, id: CellId, place: &Place) -> Option<Broken>
+    ensures { (l : Legalizer) → result
+        ≡ broken_at (setting l placement.now.frame id.team) (cells_of placement.now.cells id.team) id.own place.now }
 {
     verdict_is_one();
     placement.cells_are_sized();
-    placement.first_broken(around.alloc, around.index, id, place)
+    placement.first_broken(id, place)
 }
 
 /// The best place of the team's cell of that id for a target; none if it has none.
@@ -50,7 +40,6 @@ pub(crate) fn best_place<S: Seeker>(
     target: &Point,
 ) -> Result<Option<Place>, AllocError>
     requires team { id.team ≡ around.now.number }
-    requires made { S.is_for around.now.seeker.now placement.now.frame }
     ensures best { (l : Legalizer) → IfOk result (λ found. found
         ≡ best_at (setting_at l around.now placement.now) (cells_of placement.now.cells around.now.number) id.own target.now) }
     ensures spot { (l : Legalizer) → IfOk result (λ found. option_map spot_of found
@@ -62,23 +51,19 @@ pub(crate) fn best_place<S: Seeker>(
 /// The position of the team's first unplaced cell, in loading order, found without allocating; none
 /// if every cell is placed.
 pub(crate) fn first_unplaced(cells: &CellTable, number: usize) -> Option<u32>
-    requires { length (cells_of cells.now number) ≤ 4000000 }
     ensures { result ≡ first_unplaced (cells_of cells.now number) }
 {
-    for own in 0..cells.count_of(number) {
-        if is_unplaced(cells, number, own) {
-            return Some(own as u32);
+    for id in cells.cells_of(number) {
+        if is_unplaced(cells, *id) {
+            return Some(id.own);
         }
     }
     None
 }
 
-/// Whether the team's cell of that position is unplaced.
-fn is_unplaced(cells: &CellTable, number: usize, own: usize) -> bool
-    ensures { result ≡ is_none (working_at (cells_of cells.now number) own) }
+/// Whether the cell is unplaced.
+fn is_unplaced(cells: &CellTable, id: CellId) -> bool
+    ensures { result ≡ is_none (working_at (cells_of cells.now id.team) id.own) }
 {
-    match cells.standing(number, own) {
-        Some(standing) => standing.working.is_none(),
-        None => true,
-    }
+    cells.working(id).is_none()
 }

@@ -1,21 +1,55 @@
-//! Changes of one cell: what `place`, `legalize` and `unplace` do.
+//! Changes: from a change to its method, and those of one cell (`place`, `legalize` and `unplace`).
 
-ghost use Rattle.std.specs.Prelude.{◌≡◌, IfOk, OnErr};
+ghost use Rattle.std.specs.Prelude.{◌≡◌, IfOk, OnErr, true};
 ghost use Rattle.lf_rules.specs.Legalizer.{Legalizer};
+ghost use Rattle.lf_proto.specs.declared.request.Order.TheVariants.{Within};
+ghost use Rattle.lf_proto.specs.declared.verb.Action.TheVariants.{Change as Changing};
+ghost use Rattle.lf_proto.specs.Verbs.{change_of};
 ghost use Rattle.lf_teams.specs.Outcomes.{Reaches, RunsOut};
-ghost use Rattle.lf_teams.specs.Changes.{legalized, placed, unplaced};
-ghost use Rattle.lf_floor.specs.Tables.{CanChange, EntriesFit, IsReady, OthersStay, frame_of, setting_in, team_in};
+ghost use Rattle.lf_teams.specs.Changes.{legalized, outcome_of_change, placed, unplaced};
+ghost use Rattle.lf_teams.specs.Verbs.{takes_memory};
+ghost use Rattle.lf_floor.specs.Tables.{CanChange, EntriesFit, OthersStay, frame_of, setting_in, team_in};
 
 use crate::cell::{best_place, broken_at};
 use crate::surroundings::Surroundings;
 use crate::tables::Tables;
 use lf_floorplan::Place;
 use lf_legalize::Seeker;
-use lf_proto::{Refusal, Reply};
+use lf_proto::{Change, Refusal, Reply};
 use lf_units::Point;
 use std::alloc::AllocError;
 
 impl Tables {
+    /// Makes a change.
+    pub(crate) fn apply<S: Seeker>(
+        &mut self,
+        around: &Surroundings<'_, S>,
+        session: u32,
+        change: &Change<&[u8]>,
+    ) -> Result<Reply, AllocError>
+        requires change { CanChange around.now.number session self.old }
+        ensures ok { (l : Legalizer) → IfOk result (λ reply. Reaches
+            (outcome_of_change (setting_in l around.now self.old) session (change_of change.now) (team_in around.now self.old))
+            reply (team_in around.now self.new)) }
+        ensures err { (l : Legalizer) → OnErr result (RunsOut
+            (outcome_of_change (setting_in l around.now self.old) session (change_of change.now) (team_in around.now self.old))
+            (team_in around.now self.old) (team_in around.now self.new)) }
+        ensures others { OthersStay around.now.number self.old self.new }
+        ensures fit { EntriesFit around.now.number self.new }
+        ensures takes { OnErr result (takes_memory (Within session (Changing (change_of change.now))) ≡ true) }
+    {
+        match change {
+            Change::Place { cell, place } => self.place(around, session, cell, place),
+            Change::Legalize { cell, target } => self.legalize(around, session, cell, target),
+            Change::Tidy => self.tidy(around, session),
+            Change::Unplace { cell } => self.unplace(around, session, cell),
+            Change::Swap { first, second } => self.swap(around, session, first, second),
+            Change::Undo => Ok(self.undo(around.number, session)),
+            Change::Commit => self.commit(around, session),
+            Change::Revert => self.revert(around, session),
+        }
+    }
+
     /// Puts a cell at a place: `NoCell` if the team has none of that name, else `Illegal` if
     /// it breaks a rule there.
     #[tactic(auto, unfolding(lf_teams::specs::Changes::placed))]
@@ -27,7 +61,6 @@ impl Tables {
         place: &Place,
     ) -> Result<Reply, AllocError>
         requires change { CanChange around.now.number session self.old }
-        requires ready { IsReady around.now self.old }
         ensures ok { (l : Legalizer) → IfOk result (λ reply. Reaches
             (placed (setting_in l around.now self.old) session name.now place.now (team_in around.now self.old))
             reply (team_in around.now self.new)) }
@@ -40,7 +73,7 @@ impl Tables {
         let Some(id) = self.cell_named(around.number, name) else {
             return Ok(Reply::Refused(Refusal::NoCell));
         };
-        if let Some(broken) = broken_at(around, &self.placement, id, place)? {
+        if let Some(broken) = broken_at(&self.placement, id, place) {
             return Ok(Reply::Refused(Refusal::Illegal {
                 rule: broken.rule,
                 cell: id.own,
@@ -62,8 +95,6 @@ impl Tables {
         target: &Point,
     ) -> Result<Reply, AllocError>
         requires change { CanChange around.now.number session self.old }
-        requires ready { IsReady around.now self.old }
-        requires made { S.is_for around.now.seeker.now (frame_of self.old) }
         ensures ok { (l : Legalizer) → IfOk result (λ reply. Reaches
             (legalized (setting_in l around.now self.old) session name.now target.now (team_in around.now self.old))
             reply (team_in around.now self.new)) }

@@ -9,7 +9,7 @@ ghost use Rattle.lf_rules.specs.FullyLegal.{IsFullyLegal};
 ghost use Rattle.lf_proto.specs.Commands.{command_of, order_of};
 ghost use Rattle.lf_teams.specs.States.{TeamState};
 ghost use Rattle.lf_teams.specs.Places.{AreCommittedPlaces};
-ghost use Rattle.lf_floor.specs.Tables.{AreTables, IsReady, floor_in, frame_of};
+ghost use Rattle.lf_floor.specs.Tables.{AreTables, floor_in, frame_of};
 ghost use Rattle.lf_teams.specs.Teams.{IsTeamOf, team_number, state_of};
 ghost use Rattle.lf_teams.specs.Outcomes.{name_at};
 ghost use Rattle.lf_cells.specs.Cells.{working_at};
@@ -27,7 +27,6 @@ use crate::tables::Tables;
 use lf_floorplan::{Frame, Loaded, Place};
 use lf_legalize::Seeker;
 use lf_proto::{Command, Order, Refusal, Reply, Request, RequestList};
-use lf_reports::FrameIndex;
 use lf_rules::{legal_in_range, legalizer_is_there};
 use std::alloc::{AllocError, Global};
 use std::marker::Model;
@@ -40,21 +39,19 @@ use std::marker::Model;
 #[derive(Drop)]
 pub struct Floor<S: Seeker> {
     alloc: Global,
-    index: FrameIndex,
     seeker: S,
     tables: Tables,
 }
 
 impl<S: Seeker> Model for Floor<S> {
     ghost use Rattle.lf_teams.specs.States.{FloorState};
-    ghost use Rattle.lf_floor.specs.Tables.{AreTables, floor_in, frame_of};
-    ghost use Rattle.lf_reports.specs.Nearby.{IsIndexOf};
-
+    ghost use Rattle.lf_floor.specs.Tables.{AreTables, floor_in};
+    
     ghost Value = { FloorState };
 
     ghost view = { λ f. floor_in f.tables };
 
-    ghost invariant = { λ f. AreTables f.tables × IsIndexOf (frame_of f.tables) f.index × S.is_for f.seeker (frame_of f.tables) };
+    ghost invariant = { λ f. AreTables f.tables };
 }
 
 /// Whether this is the name of the team outside all fences.
@@ -101,8 +98,6 @@ fn serve_at<S: Seeker>(
 ) -> Result<Reply, AllocError>
     requires within { around.now.number < length (frame_of tables.old).teams + 1 }
     requires tables { AreTables tables.old }
-    requires ready { IsReady around.now tables.old }
-    requires made { S.is_for around.now.seeker.now (frame_of tables.old) }
     ensures ok { (l : Legalizer) → IfOk result (λ reply. Gives
         (answer_at (Some around.now.number) l (floor_in tables.old) (order_of order.now)) reply (floor_in tables.new)) }
     ensures err { (l : Legalizer) → OnErr result (StaysShort
@@ -134,16 +129,13 @@ impl<S: Seeker + Drop> Floor<S> {
     ///
     /// `Err` if an allocation fails; the design and the seeker are then dropped.
     pub fn start(alloc: Global, loaded: Loaded, seeker: S) -> Result<Floor<S>, AllocError>
-        requires made { S.is_for seeker loaded.frame }
         ensures opens { IfOk result (λ floor. floor ≡ opening loaded) }
         ensures committed { IfOk result (λ floor. StandAsLoaded loaded floor) }
         ensures legal { IfOk result (λ floor. IsCommittedLegal floor ↔ IsFullyLegal loaded.frame (loaded_design loaded)) }
     {
-        let index = FrameIndex::build(alloc, &loaded.frame)?;
-        let tables = Tables::opening(alloc, loaded, &index.segments)?;
+        let tables = Tables::opening(alloc, loaded)?;
         Ok(Floor {
             alloc,
-            index,
             seeker,
             tables,
         })
@@ -156,7 +148,7 @@ impl<S: Seeker + Drop> Floor<S> {
         ensures { result ≡ option_and_then (λ s. working_at s.cells own) (state_of self.now team.now) }
     {
         let number = team_named(self.tables.placement.frame(), team)?;
-        self.tables.placement.cells().standing(number, own)?.working
+        self.tables.working(self.tables.cell_at(number, own)?)
     }
 
     /// The name of the team's cell of that position in loading order, the first at 0. Replies name
@@ -168,9 +160,8 @@ impl<S: Seeker + Drop> Floor<S> {
         ensures printed { IfSome result (λ name. IsName name.now) }
     {
         let number = team_named(self.tables.placement.frame(), team)?;
-        let cells = self.tables.placement.cells();
-        let id = cells.id_at(number, own)?;
-        Some(cells.cell(id)?.name)
+        let id = self.tables.cell_at(number, own)?;
+        Some(self.tables.placement.cells().cell(id)?.name)
     }
 
     /// All movable components: the positions of their entries among all COMPONENTS of the DEF text,
@@ -205,7 +196,6 @@ impl<S: Seeker + Drop> Floor<S> {
                 };
                 let around = Surroundings {
                     alloc: self.alloc,
-                    index: &self.index,
                     seeker: &self.seeker,
                     number,
                 };

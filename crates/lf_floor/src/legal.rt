@@ -8,25 +8,24 @@ ghost use Rattle.lf_proto.specs.ReportText.{report_text};
 ghost use Rattle.lf_teams.specs.Teams.{IsTeamOf, listed_of};
 ghost use Rattle.lf_teams.specs.Changes.{broken_cells};
 ghost use Rattle.lf_floor.specs.Marking.{AreMarked, IsJudged};
-ghost use Rattle.lf_floor.specs.Tables.{IsReady, cells_in, frame_of, setting_in, team_in};
+ghost use Rattle.lf_floor.specs.Tables.{cells_in, frame_of, setting_in, team_in};
 
 use crate::surroundings::Surroundings;
 use crate::tables::Tables;
-use lf_cells::CellTable;
+use lf_cells::{CellId, CellTable};
 use lf_proto::{Text, report_json};
 use lf_reports::{BrokenCell, first_illegal, report_by_verdicts, verdicts_on};
 use lf_rules::{Broken, Listed, legalizer_is_there};
 use std::alloc::{AllocError, Global};
 
-/// The team's cell of that position, as its report lists it; none if the team has no such cell.
-fn listed(cells: &CellTable, number: usize, own: usize) -> Option<Listed<&[u8]>>
-    ensures { option_map named result ≡ option_map (listed_of number) (slice_get (cells_of cells.now number) own) }
+/// A cell, as its team's report lists it; none if there is no such cell.
+fn listed(cells: &CellTable, id: CellId) -> Option<Listed<&[u8]>>
+    ensures { option_map named result ≡ option_map (listed_of id.team) (slice_get (cells_of cells.now id.team) id.own) }
 {
-    let id = cells.id_at(number, own)?;
     let facts = cells.cell(id)?;
     Some(Listed {
         name: facts.name,
-        team: number,
+        team: id.team as usize,
         mac: facts.mac,
         place: cells.working(id),
     })
@@ -41,8 +40,8 @@ fn listed_cells(
     ensures { IfOk result (λ listed. map named listed.items ≡ map (listed_of number) (cells_of cells.now number)) }
 {
     let mut all = Vec::new(alloc);
-    for own in 0..cells.count_of(number) {
-        let Some(cell) = listed(cells, number, own) else {
+    for id in cells.cells_of(number) {
+        let Some(cell) = listed(cells, *id) else {
             unreachable!();
         };
         all.push(cell)?;
@@ -58,18 +57,12 @@ pub(crate) fn report_text<S>(
     tables: &Tables,
 ) -> Result<Text, AllocError>
     requires team { IsTeamOf (frame_of tables.now) (team_in around.now tables.now) }
-    requires ready { IsReady around.now tables.now }
     ensures { IfOk result (λ text. (l : Legalizer) → text ≡ report_text
         (report_of l (frame_of tables.now) (map (listed_of around.now.number) (cells_in around.now.number tables.now)))) }
 {
     legalizer_is_there();
     let listed = listed_cells(around.alloc, around.number, tables.placement.cells())?;
-    let verdicts = verdicts_on(
-        around.alloc,
-        tables.placement.frame(),
-        around.index,
-        &listed,
-    )?;
+    let verdicts = verdicts_on(around.alloc, &tables.placement.plan(), &listed)?;
     let report = report_by_verdicts(around.alloc, &listed, &verdicts)?;
     report_json(around.alloc, &report)
 }
@@ -83,18 +76,12 @@ fn team_verdicts<S>(
     tables: &Tables,
 ) -> Result<Vec<Option<Broken>>, AllocError>
     requires team { IsTeamOf (frame_of tables.now) (team_in around.now tables.now) }
-    requires ready { IsReady around.now tables.now }
     ensures count { IfOk result (λ verdicts. length verdicts.items ≡ length (cells_in around.now.number tables.now)) }
     ensures each { (l : Legalizer) → IfOk result (λ verdicts.
         AreVerdicts l (frame_of tables.now) (map (listed_of around.now.number) (cells_in around.now.number tables.now)) verdicts.items) }
 {
     let listed = listed_cells(around.alloc, around.number, tables.placement.cells())?;
-    verdicts_on(
-        around.alloc,
-        tables.placement.frame(),
-        around.index,
-        &listed,
-    )
+    verdicts_on(around.alloc, &tables.placement.plan(), &listed)
 }
 
 /// The team's first cell in loading order that breaks a rule where it stands; none if no cell
@@ -106,7 +93,6 @@ pub(crate) fn first_broken_cell<S>(
     tables: &Tables,
 ) -> Result<Option<BrokenCell>, AllocError>
     requires team { IsTeamOf (frame_of tables.now) (team_in around.now tables.now) }
-    requires ready { IsReady around.now tables.now }
     ensures { (l : Legalizer) → IfOk result (λ first. first ≡ slice_get (broken_cells (setting_in l around.now tables.now) (cells_in around.now.number tables.now)) 0) }
 {
     let verdicts = team_verdicts(around, tables)?;
@@ -114,16 +100,13 @@ pub(crate) fn first_broken_cell<S>(
 }
 
 /// Whether the cell is placed, and breaks no rule by its verdict.
-fn stands_legal(cells: &CellTable, number: usize, verdicts: &[Option<Broken>], own: usize) -> bool
-    ensures { IsTrue result → IsJudged (cells_of cells.now number) verdicts.now own }
+fn stands_legal(cells: &CellTable, id: CellId, verdicts: &[Option<Broken>]) -> bool
+    ensures { IsTrue result → IsJudged (cells_of cells.now id.team) verdicts.now id.own }
 {
-    let Some(standing) = cells.standing(number, own) else {
-        return false;
-    };
-    if standing.working.is_none() {
+    if cells.working(id).is_none() {
         return false;
     }
-    match verdicts.get(own) {
+    match verdicts.get(id.own as usize) {
         Some(verdict) => verdict.is_none(),
         None => false,
     }
@@ -137,16 +120,15 @@ pub(crate) fn legal_marks<S>(
     tables: &Tables,
 ) -> Result<Vec<bool>, AllocError>
     requires team { IsTeamOf (frame_of tables.now) (team_in around.now tables.now) }
-    requires ready { IsReady around.now tables.now }
     ensures { IfOk result (λ marks. AreMarked (frame_of tables.now) around.now.number (cells_in around.now.number tables.now) marks.items) }
 {
     legalizer_is_there();
     let verdicts = team_verdicts(around, tables)?;
     let cells = tables.placement.cells();
-    let count = cells.count_of(around.number);
-    let mut marks = Vec::with_capacity(around.alloc, count)?;
-    for own in 0..count {
-        marks.push(stands_legal(cells, around.number, &verdicts, own))?;
+    let ids = cells.cells_of(around.number);
+    let mut marks = Vec::with_capacity(around.alloc, ids.len())?;
+    for id in ids {
+        marks.push(stands_legal(cells, *id, &verdicts))?;
     }
     Ok(marks)
 }

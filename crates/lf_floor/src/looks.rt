@@ -3,7 +3,7 @@
 ghost use Rattle.std.specs.Prelude.{IfOk, OnErr};
 ghost use Rattle.lf_rules.specs.Legalizer.{Legalizer};
 ghost use Rattle.lf_teams.specs.Teams.{IsTeamOf};
-ghost use Rattle.lf_floor.specs.Tables.{IsReady, frame_of, own_team, setting_in, team_in};
+ghost use Rattle.lf_floor.specs.Tables.{frame_of, own_team, setting_in, team_in};
 ghost use Rattle.lf_teams.specs.Outcomes.{Reaches, RunsOut};
 ghost use Rattle.lf_teams.specs.Looks.{checked, found, located, written};
 
@@ -37,7 +37,6 @@ impl Tables {
     #[tactic(auto, unfolding(lf_teams::specs::Looks::checked))]
     pub(crate) fn check<S>(&self, around: &Surroundings<'_, S>) -> Result<Reply, AllocError>
         requires team { IsTeamOf (frame_of self.now) (team_in around.now self.now) }
-        requires ready { IsReady around.now self.now }
         ensures ok { (l : Legalizer) → IfOk result (λ reply. Reaches
             (checked (setting_in l around.now self.now) (team_in around.now self.now))
             reply (team_in around.now self.now)) }
@@ -77,7 +76,6 @@ impl Tables {
         name: &[u8],
         target: &Point,
     ) -> Result<Reply, AllocError>
-        requires { S.is_for around.now.seeker.now (frame_of self.now) }
         ensures ok { (l : Legalizer) → IfOk result (λ reply. Reaches
             (found (setting_in l around.now self.now) name.now target.now (team_in around.now self.now))
             reply (team_in around.now self.now)) }

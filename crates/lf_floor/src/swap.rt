@@ -8,7 +8,7 @@ ghost use Rattle.lf_placement.specs.Placings.{Fits, IsBrokenAlone, IsBrokenAt, m
 ghost use Rattle.lf_teams.specs.Outcomes.{Reaches, RunsOut};
 ghost use Rattle.lf_teams.specs.Teams.{setting};
 ghost use Rattle.lf_teams.specs.Changes.{broken_where, swapped};
-ghost use Rattle.lf_floor.specs.Tables.{CanChange, EntriesFit, IsReady, OthersStay, cells_in, frame_of, own_team, setting_in, team_in};
+ghost use Rattle.lf_floor.specs.Tables.{CanChange, EntriesFit, OthersStay, cells_in, frame_of, own_team, setting_in, team_in};
 ghost use Rattle.lf_floor.specs.Swapping.{IsExchange, IsExchanged, exchange_moves, illegal_by, swap_refusal, swapped_here};
 
 use crate::surroundings::Surroundings;
@@ -155,7 +155,6 @@ impl Tables {
         exchange: &Exchange,
     ) -> Result<Reply, AllocError>
         requires change { CanChange around.now.number session self.old }
-        requires ready { IsReady around.now self.old }
         requires are { IsExchange around.now.number (cells_in around.now.number self.old) exchange.now }
         ensures ok { (l : Legalizer) → IfOk result (λ reply. Reaches
             (swapped_here (setting_in l around.now self.old) session exchange.now.first.own exchange.now.second.own (team_in around.now self.old))
@@ -170,10 +169,9 @@ impl Tables {
             from,
             to,
         } = *exchange;
-        let (alloc, index) = (around.alloc, around.index);
         verdict_is_one();
         self.placement.cells_are_sized();
-        let alone = self.placement.broken_alone(alloc, index, first, &to)?;
+        let alone = self.placement.broken_alone(first, &to);
         if let Some(rule) = alone {
             return Ok(Reply::Refused(Refusal::Illegal {
                 rule,
@@ -181,9 +179,9 @@ impl Tables {
                 other: None,
             }));
         }
-        let alone = self.placement.broken_alone(alloc, index, second, &from)?;
-        let moves = exchange_moves(alloc, exchange)?;
-        self.make_room_for(alloc, around.number, moves.as_slice())?;
+        let alone = self.placement.broken_alone(second, &from);
+        let moves = exchange_moves(around.alloc, exchange)?;
+        self.make_room_for(around.alloc, around.number, moves.as_slice())?;
         Ok(self.exchange(session, exchange, moves, alone))
     }
 
@@ -199,7 +197,6 @@ impl Tables {
         second: &[u8],
     ) -> Result<Reply, AllocError>
         requires change { CanChange around.now.number session self.old }
-        requires ready { IsReady around.now self.old }
         ensures ok { (l : Legalizer) → IfOk result (λ reply. Reaches
             (swapped (setting_in l around.now self.old) session first.now second.now (team_in around.now self.old))
             reply (team_in around.now self.new)) }

@@ -1,14 +1,12 @@
 //! The state of all teams, in one table of each kind.
 
 ghost use Rattle.std.specs.Prelude.{◌≡◌, ◌+◌, IfOk, IfSome, option_map};
-ghost use Rattle.lf_cells.specs.Cells.{cell_named, working_at};
-ghost use Rattle.lf_segments.specs.Segments.{IsCut};
+ghost use Rattle.lf_cells.specs.Cells.{cell_named, id_in, working_at};
 ghost use Rattle.lf_floor.specs.Tables.{AreOpening, Counts, HasRows, IsCurrent, cells_in, revision_of};
 
 use lf_cells::CellId;
 use lf_floorplan::{Loaded, Place};
 use lf_placement::Placement;
-use lf_segments::Segments;
 use lf_sessions::SessionTable;
 use lf_undo::UndoStore;
 use std::alloc::{AllocError, Global};
@@ -27,19 +25,14 @@ pub(crate) struct Tables {
 impl Tables {
     /// The tables of a design as it is loaded: no change is made, nothing can be undone, and no session
     /// is open.
-    pub(crate) fn opening(
-        alloc: Global,
-        loaded: Loaded,
-        segments: &Segments,
-    ) -> Result<Tables, AllocError>
-        requires { IsCut loaded.frame segments.now }
+    pub(crate) fn opening(alloc: Global, loaded: Loaded) -> Result<Tables, AllocError>
         ensures { IfOk result (λ tables. AreOpening loaded tables) }
     {
         let teams = loaded.frame.teams.len() + 1;
         let undo = UndoStore::build(alloc, teams, loaded.frame.limits.undo as usize)?;
         let sessions = SessionTable::build(alloc, teams, loaded.frame.limits.sessions)?;
         let revisions = vec![in alloc; 0; teams]?;
-        let placement = Placement::build(alloc, loaded, segments)?;
+        let placement = Placement::build(alloc, loaded)?;
         Ok(Tables {
             placement,
             undo,
@@ -54,6 +47,17 @@ impl Tables {
         ensures team { IfSome result (λ id. id.team ≡ number) }
     {
         self.placement.cells().find_own(number, name)
+    }
+
+    /// The team's cell of that position; none if the team has no such cell.
+    #[tactic(auto, using(lf_cells::proofs::TeamIds::ids_get))]
+    pub(crate) fn cell_at(&self, number: usize, own: usize) -> Option<CellId>
+        ensures { result ≡ id_in (cells_in number self.now) number own }
+    {
+        match self.placement.cells().cells_of(number).get(own) {
+            Some(id) => Some(*id),
+            None => None,
+        }
     }
 
     /// The working place of a cell; none where it is unplaced, or there is no such cell.

@@ -2,13 +2,13 @@
 
 ghost use Rattle.std.specs.Prelude.{◌≡◌, List, IfOk, OnErr, OnOk};
 ghost use Rattle.lf_rules.specs.Legalizer.{Legalizer};
-ghost use Rattle.lf_reports.specs.Nearby.{IsIndexOf};
 ghost use Rattle.lf_cells.specs.declared.cell.Cell.{Cell};
 ghost use Rattle.lf_cells.specs.Cells.{cells_of, moved};
 ghost use Rattle.lf_placement.specs.Placings.{HaveMoved};
 ghost use Rattle.lf_teams.specs.Outcomes.{Reaches, RunsOut};
 ghost use Rattle.lf_teams.specs.Changes.{tidied_team};
-ghost use Rattle.lf_floor.specs.Tables.{CanChange, EntriesFit, IsReady, OnlyMoves, OthersStay, frame_of, setting_at, setting_in, team_in};
+ghost use Rattle.lf_teams.specs.Teams.{setting};
+ghost use Rattle.lf_floor.specs.Tables.{CanChange, EntriesFit, OnlyMoves, OthersStay, frame_of, setting_at, setting_in, team_in};
 ghost use Rattle.lf_floor.specs.Marking.{AreMarked};
 ghost use Rattle.lf_floor.specs.Tidying.{Sends, Tidies, target_at};
 
@@ -58,33 +58,22 @@ fn corner(place: &Place) -> Point
 
 /// Where the team's cell of that id is tidied to: the anchor where it is unplaced, its own corner where
 /// it breaks a rule; none where it stays, as each marked cell does.
-fn target_of<S>(
-    around: &Surroundings<'_, S>,
-    placement: &Placement,
-    marks: &[bool],
-    id: CellId,
-) -> Result<Option<Point>, AllocError>
-    requires team { id.team ≡ around.now.number }
-    requires marked { AreMarked placement.now.frame around.now.number (cells_of placement.now.cells around.now.number) marks.now }
-    requires ready { IsIndexOf placement.now.frame around.now.index.now }
-    ensures { (l : Legalizer) → IfOk result (λ target. target
-        ≡ target_at (setting_at l around.now placement.now) (cells_of placement.now.cells around.now.number) id.own) }
+fn target_of(placement: &Placement, marks: &[bool], id: CellId) -> Option<Point>
+    requires { AreMarked placement.now.frame id.team (cells_of placement.now.cells id.team) marks.now }
+    ensures { (l : Legalizer) → result ≡ target_at (setting l placement.now.frame id.team) (cells_of placement.now.cells id.team) id.own }
 {
     verdict_is_one();
     placement.cells_are_sized();
-    let own = id.own as usize;
-    if is_marked(marks, own) {
-        return Ok(None);
+    if is_marked(marks, id.own as usize) {
+        return None;
     }
-    let Some(standing) = placement.cells().standing(around.number, own) else {
-        return Ok(None);
-    };
+    let standing = placement.cells().standing(id)?;
     let Some(place) = standing.working else {
-        return Ok(Some(anchor(placement.frame(), around.number)));
+        return Some(anchor(placement.frame(), id.team as usize));
     };
-    match broken_at(around, placement, id, &place)? {
-        Some(_) => Ok(Some(corner(&place))),
-        None => Ok(None),
+    match broken_at(placement, id, &place) {
+        Some(_) => Some(corner(&place)),
+        None => None,
     }
 }
 
@@ -116,27 +105,23 @@ fn move_one(
     Ok(())
 }
 
-/// Sends the team's cell of that position to its best place, where it does not stay.
+/// Sends the team's cell of that id to its best place, where it does not stay.
 fn send<S: Seeker>(
     around: &Surroundings<'_, S>,
     placement: &mut Placement,
     moves: &mut Moves,
     marks: &[bool],
-    own: usize,
+    id: CellId,
 ) -> Result<Sent, AllocError>
+    requires team { id.team ≡ around.now.number }
     requires marked { AreMarked placement.old.frame around.now.number (cells_of placement.old.cells around.now.number) marks.now }
-    requires ready { IsIndexOf placement.old.frame around.now.index.now }
-    requires made { S.is_for around.now.seeker.now placement.old.frame }
-    ensures ok { (l : Legalizer) → IfOk result (λ sent. Sends (setting_at l around.now placement.old) own
+    ensures ok { (l : Legalizer) → IfOk result (λ sent. Sends (setting_at l around.now placement.old) id.own
         (cells_of placement.old.cells around.now.number) (cells_of placement.new.cells around.now.number) sent) }
     ensures moved { (before : List Cell) → HaveMoved before moves.old (cells_of placement.old.cells around.now.number) →
         HaveMoved before moves.new (cells_of placement.new.cells around.now.number) }
     ensures only { OnlyMoves around.now.number placement.old placement.new }
 {
-    let Some(id) = placement.cells().id_at(around.number, own) else {
-        return Ok(Sent::Stays);
-    };
-    let Some(target) = target_of(around, placement, marks, id)? else {
+    let Some(target) = target_of(placement, marks, id) else {
         return Ok(Sent::Stays);
     };
     match best_place(around, placement, id, &target)? {
@@ -158,8 +143,6 @@ fn send_all<S: Seeker>(
     marks: &[bool],
 ) -> Result<Tidy, AllocError>
     requires marked { AreMarked placement.old.frame around.now.number (cells_of placement.old.cells around.now.number) marks.now }
-    requires ready { IsIndexOf placement.old.frame around.now.index.now }
-    requires made { S.is_for around.now.seeker.now placement.old.frame }
     ensures ok { (l : Legalizer) → IfOk result (λ tidy. Tidies (setting_at l around.now placement.old)
         (cells_of placement.old.cells around.now.number) (cells_of placement.new.cells around.now.number) tidy) }
     ensures moved { (before : List Cell) → HaveMoved before moves.old (cells_of placement.old.cells around.now.number) →
@@ -169,12 +152,13 @@ fn send_all<S: Seeker>(
     legalizer_is_there();
     tidy_keeps_legal();
     let mut moved = 0;
-    for own in 0..placement.cells().count_of(around.number) {
+    for own in 0..placement.cells().cells_of(around.number).len() {
         placement.cells_are_sized();
-        match send(around, placement, moves, marks, own)? {
+        let id = placement.cells().cells_of(around.number)[own];
+        match send(around, placement, moves, marks, id)? {
             Sent::Stays => {}
             Sent::Goes => moved += 1,
-            Sent::Nowhere => return Ok(Tidy::Stopped(own as u32)),
+            Sent::Nowhere => return Ok(Tidy::Stopped(id.own)),
         }
     }
     Ok(Tidy::Done(moved))
@@ -191,8 +175,6 @@ impl Tables {
         session: u32,
     ) -> Result<Reply, AllocError>
         requires change { CanChange around.now.number session self.old }
-        requires ready { IsReady around.now self.old }
-        requires made { S.is_for around.now.seeker.now (frame_of self.old) }
         ensures ok { (l : Legalizer) → IfOk result (λ reply. Reaches
             (tidied_team (setting_in l around.now self.old) session (team_in around.now self.old))
             reply (team_in around.now self.new)) }

@@ -3,12 +3,13 @@
 ghost use Rattle.std.specs.Prelude.{◌≡◌, ◌≢◌, IfOk, None, OnErr, true};
 ghost use Rattle.lf_rules.specs.Legalizer.{Legalizer};
 ghost use Rattle.lf_proto.specs.declared.request.Order.TheVariants.{Within};
-ghost use Rattle.lf_proto.specs.declared.request.Action.TheVariants.{Change as Changing};
-ghost use Rattle.lf_proto.specs.Commands.{action_of, change_of, order_of};
+ghost use Rattle.lf_proto.specs.declared.verb.Action.TheVariants.{Change as Changing};
+ghost use Rattle.lf_proto.specs.Commands.{order_of};
+ghost use Rattle.lf_proto.specs.Verbs.{action_of, change_of};
 ghost use Rattle.lf_sessions.specs.Slots.{seen_at, slots_of};
 ghost use Rattle.lf_teams.specs.Outcomes.{Reaches, RunsOut};
-ghost use Rattle.lf_teams.specs.Verbs.{outcome_by_slot, outcome_of, outcome_of_change, outcome_within, takes_memory, unless_spent, unless_stale};
-ghost use Rattle.lf_floor.specs.Tables.{CanChange, EntriesFit, IsReady, IsServed, OthersStay, frame_of, setting_in, team_in};
+ghost use Rattle.lf_teams.specs.Verbs.{outcome_by_slot, outcome_of, outcome_within, takes_memory, unless_spent, unless_stale};
+ghost use Rattle.lf_floor.specs.Tables.{EntriesFit, IsServed, OthersStay, frame_of, setting_in, team_in};
 
 use crate::surroundings::Surroundings;
 use crate::tables::Tables;
@@ -17,38 +18,6 @@ use lf_proto::{Action, Change, Order, Refusal, Reply};
 use std::alloc::AllocError;
 
 impl Tables {
-    /// Makes a change.
-    fn apply<S: Seeker>(
-        &mut self,
-        around: &Surroundings<'_, S>,
-        session: u32,
-        change: &Change<&[u8]>,
-    ) -> Result<Reply, AllocError>
-        requires change { CanChange around.now.number session self.old }
-        requires ready { IsReady around.now self.old }
-        requires made { S.is_for around.now.seeker.now (frame_of self.old) }
-        ensures ok { (l : Legalizer) → IfOk result (λ reply. Reaches
-            (outcome_of_change (setting_in l around.now self.old) session (change_of change.now) (team_in around.now self.old))
-            reply (team_in around.now self.new)) }
-        ensures err { (l : Legalizer) → OnErr result (RunsOut
-            (outcome_of_change (setting_in l around.now self.old) session (change_of change.now) (team_in around.now self.old))
-            (team_in around.now self.old) (team_in around.now self.new)) }
-        ensures others { OthersStay around.now.number self.old self.new }
-        ensures fit { EntriesFit around.now.number self.new }
-        ensures takes { OnErr result (takes_memory (Within session (Changing (change_of change.now))) ≡ true) }
-    {
-        match change {
-            Change::Place { cell, place } => self.place(around, session, cell, place),
-            Change::Legalize { cell, target } => self.legalize(around, session, cell, target),
-            Change::Tidy => self.tidy(around, session),
-            Change::Unplace { cell } => self.unplace(around, session, cell),
-            Change::Swap { first, second } => self.swap(around, session, first, second),
-            Change::Undo => Ok(self.undo(around.number, session)),
-            Change::Commit => self.commit(around, session),
-            Change::Revert => self.revert(around, session),
-        }
-    }
-
     /// Makes a change; `Stale` if the session has not seen the team's revision, else
     /// `RevisionsSpent` if the team has made as many changes as it may, before any other
     /// refusal.
@@ -61,8 +30,6 @@ impl Tables {
     ) -> Result<Reply, AllocError>
         requires served { IsServed around.now.number self.old }
         requires open { seen_at (slots_of self.old.sessions around.now.number) session ≡ Some seen }
-        requires ready { IsReady around.now self.old }
-        requires made { S.is_for around.now.seeker.now (frame_of self.old) }
         ensures ok { (l : Legalizer) → IfOk result (λ reply. Reaches
             (unless_stale seen (setting_in l around.now self.old) session (change_of change.now) (team_in around.now self.old))
             reply (team_in around.now self.new)) }
@@ -93,8 +60,6 @@ impl Tables {
     ) -> Result<Reply, AllocError>
         requires served { IsServed around.now.number self.old }
         requires open { seen_at (slots_of self.old.sessions around.now.number) session ≡ Some seen }
-        requires ready { IsReady around.now self.old }
-        requires made { S.is_for around.now.seeker.now (frame_of self.old) }
         ensures ok { (l : Legalizer) → IfOk result (λ reply. Reaches
             (outcome_within seen (setting_in l around.now self.old) session (action_of action.now) (team_in around.now self.old))
             reply (team_in around.now self.new)) }
@@ -126,8 +91,6 @@ impl Tables {
         order: &Order<&[u8]>,
     ) -> Result<Reply, AllocError>
         requires served { IsServed around.now.number self.old }
-        requires ready { IsReady around.now self.old }
-        requires made { S.is_for around.now.seeker.now (frame_of self.old) }
         ensures ok { (l : Legalizer) → IfOk result (λ reply. Reaches
             (outcome_of (setting_in l around.now self.old) (order_of order.now) (team_in around.now self.old))
             reply (team_in around.now self.new)) }

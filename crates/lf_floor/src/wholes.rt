@@ -7,13 +7,13 @@ ghost use Rattle.lf_placement.specs.Placings.{made};
 ghost use Rattle.lf_teams.specs.Outcomes.{Reaches, RunsOut};
 ghost use Rattle.lf_teams.specs.Changes.{back_to_committed, committed, reverted, undone};
 ghost use Rattle.lf_floor.specs.Reverting.{IsNotedBack};
-ghost use Rattle.lf_floor.specs.Tables.{CanChange, EntriesFit, HasRows, IsCurrent, IsReady, OthersStay, own_team, setting_in, team_in};
+ghost use Rattle.lf_floor.specs.Tables.{CanChange, EntriesFit, HasRows, IsCurrent, OthersStay, own_team, setting_in, team_in};
 
 use crate::cell::first_unplaced;
 use crate::legal::first_broken_cell;
 use crate::surroundings::Surroundings;
 use crate::tables::Tables;
-use lf_cells::CellTable;
+use lf_cells::{CellId, CellTable};
 use lf_floorplan::Place;
 use lf_proto::{Refusal, Reply};
 use lf_undo::{Move, Moves};
@@ -37,19 +37,10 @@ fn are_alike(a: Option<Place>, b: Option<Place>) -> bool
     }
 }
 
-/// Puts the move of the team's cell of that position to its committed place behind the others, where
-/// the cell is elsewhere.
-fn note_back(
-    cells: &CellTable,
-    moves: &mut Moves,
-    number: usize,
-    own: usize,
-) -> Result<(), AllocError>
-    ensures { OnOk result (IsNotedBack (cells_of cells.now number) own moves.old moves.new) }
+/// Puts the move of the cell to its committed place behind the others, where it is elsewhere.
+fn note_back(cells: &CellTable, moves: &mut Moves, id: CellId) -> Result<(), AllocError>
+    ensures { OnOk result (IsNotedBack (cells_of cells.now id.team) id.own moves.old moves.new) }
 {
-    let Some(id) = cells.id_at(number, own) else {
-        return Ok(());
-    };
     let committed = cells.committed(id);
     if are_alike(cells.working(id), committed) {
         return Ok(());
@@ -66,8 +57,8 @@ fn moves_back(alloc: Global, cells: &CellTable, number: usize) -> Result<Moves, 
     ensures { IfOk result (λ moves. made moves (cells_of cells.now number) ≡ map back_to_committed (cells_of cells.now number)) }
 {
     let mut moves = Moves::new(alloc);
-    for own in 0..cells.count_of(number) {
-        note_back(cells, &mut moves, number, own)?;
+    for id in cells.cells_of(number) {
+        note_back(cells, &mut moves, *id)?;
     }
     Ok(moves)
 }
@@ -121,7 +112,6 @@ impl Tables {
         session: u32,
     ) -> Result<Reply, AllocError>
         requires change { CanChange around.now.number session self.old }
-        requires ready { IsReady around.now self.old }
         ensures ok { (l : Legalizer) → IfOk result (λ reply. Reaches
             (committed (setting_in l around.now self.old) session (team_in around.now self.old)) reply (team_in around.now self.new)) }
         ensures err { (l : Legalizer) → OnErr result (RunsOut

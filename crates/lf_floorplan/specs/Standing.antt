@@ -1,6 +1,6 @@
 -- A box that stands on rows (DEF ROW): its height in sites, its bottom row, and the rows above that one.
 use Rattle.std.specs.Prelude.{◌≡◌, ℕ, ℤ, zero, suc, pos, ◌≤◌, ◌<◌, ◌+ℤ◌, ◌-ℤ◌, ◌*ℤ◌, ◌≤ℤ◌, ◌<ℤ◌, All, Contains, MatchOption, Option, Some, slice_get}
-use Rattle.std.specs.Option.{ForSome, option_map}
+use Rattle.std.specs.Option.{IsSomeAnd, option_map}
 use Rattle.lf_units.specs.declared.area.Rect.{Rect}
 use Rattle.lf_orient.specs.declared.Rail.{Rail}
 use Rattle.lf_orient.specs.Orientation.{rail_below, other_rail}
@@ -28,7 +28,7 @@ pub record ExtendsOver (f : Frame) (y x : ℤ) (r : Row) : Type 0 where
 
 -- the row of core sites at this y that extends over x, by its position; None if there is none
 abbrev pub IsRowAt : Frame → ℤ → ℤ → Option ℕ → Type 0
-IsRowAt f y x found = MatchOption found (All (λ r. ExtendsOver f y x r → ⊥) f.rows) (λ n. ForSome (slice_get f.rows n) (ExtendsOver f y x))
+IsRowAt f y x found = MatchOption found (All (λ r. ExtendsOver f y x r → ⊥) f.rows) (λ n. IsSomeAnd (slice_get f.rows n) (ExtendsOver f y x))
 
 -- the bottom row of the box: a row of core sites that is its row 0, and whose x grid holds the box's x
 pub record IsBottomRow (f : Frame) (box : Rect) (r : Row) : Type 0 where

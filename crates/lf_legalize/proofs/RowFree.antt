@@ -20,16 +20,16 @@ use Rattle.lf_floorplan.specs.declared.parts.Row.{Row}
 use Rattle.lf_floorplan.specs.Rows.{row_area}
 use Rattle.lf_floorplan.specs.Boxes.{macro_of}
 use Rattle.lf_floorplan.specs.Ground.{StaysInGround, IsClear, MeetsSoft}
-use Rattle.lf_floorplan.specs.Standing.{Carries, HasBottomRow, HasHeight, IsBottomRow, IsCarried, IsSitesHigh, changed}
+use Rattle.lf_floorplan.specs.Standing.{Carries, IsBottomRow, IsCarried, IsSitesHigh, StandsOn, changed}
 use Rattle.lf_floorplan.proofs.StandingLemmas.{height_one, bottom_one}
 use Rattle.lf_segments.specs.declared.segment.Segment.{Segment}
 use Rattle.lf_segments.specs.Segments.{IsOpen}
 use Rattle.lf_gaps.specs.Gaps.{FitsRows}
-use Rattle.lf_rules.specs.declared.rule.Rule.TheVariants.{Height, Row as RowRule, Stand, Orient as OrientRule, Rail as RailRule, Fence, Obstacle, Overlap}
 use Rattle.lf_rules.specs.Legality.{box_of as box_tried}
 use Rattle.lf_rules.specs.Choice.{Spot, IsLegalAt, MayGo, trial_at}
 use Rattle.lf_rules.specs.Team.{box_in, boxes_beside}
 use Rattle.lf_rules.proofs.BesideLemmas.{beside_hold}
+use Rattle.lf_rules.proofs.LegalParts.{frame_kept, legal_by_parts}
 use Rattle.lf_rules.proofs.SiteLemmas.{one_of_four}
 use Rattle.lf_cells.specs.Cells.{cells_of}
 use Rattle.lf_segments.specs.declared.strip.Strip.{Strip}
@@ -336,9 +336,7 @@ off_soft s own bottom window x o free (m, r, below, is, shares) =
 
 -- the rules, of a box
 record KeepsAll (s : RowSearch) (o : Orient) (box : Rect) : Type 0 where
-  height : HasHeight s.frame.now box
-  row : HasBottomRow s.frame.now box
-  stand : IsCarried s.frame.now box
+  stands : StandsOn s.frame.now box
   equal : (k : ℕ) (r : Row) → IsSitesHigh s.frame.now box k → IsBottomRow s.frame.now box r → k % 2 ≡ 1 → EqualUnder s.frame.now.site.symmetry o r.orient
   rail : (k : ℕ) (r : Row) → IsSitesHigh s.frame.now box k → IsBottomRow s.frame.now box r → k % 2 ≡ 0 →
       rail_below r.orient ≡ Some (macro_of s.frame.now s.mac).rail
@@ -349,9 +347,11 @@ record KeepsAll (s : RowSearch) (o : Orient) (box : Rect) : Type 0 where
 keeps_all : (s : RowSearch) (own : ℕ) (bottom : Row) (window : Span) (x : ℤ) (o : Orient) → MayStand s bottom o → IsFreePlace s own bottom window x →
     KeepsAll s o (upright_box s (spot_on bottom x o))
 keeps_all s own bottom window x o may free = record {
-  height = (s.height, sites_high s (spot_on bottom x o));
-  row = (bottom, bottom_row s own bottom window x o free);
-  stand = carried s own bottom window x o free;
+  stands = record {
+    height = (s.height, sites_high s (spot_on bottom x o));
+    row = (bottom, bottom_row s own bottom window x o free);
+    stand = carried s own bottom window x o free;
+  };
   equal = λ k r high at odd.
       subst (λ (b : Row). EqualUnder s.frame.now.site.symmetry o b.orient) (sym (same r at)) (may.equal (let t = tall k high in rw (← t) odd));
   rail = λ k r high at even.
@@ -372,14 +372,17 @@ keeps_all s own bottom window x o may free = record {
 
 legal_of : (s : RowSearch) (p : Spot) → IsTrue (is_allowed (macro_of s.frame.now s.mac).symmetry p.orient) →
     KeepsAll s p.orient (box_tried (trial_at (lifted_in s) p)) → IsLegalAt (lifted_in s) p
-legal_of s p allowed keeps Height = keeps.height
-legal_of s p allowed keeps RowRule = keeps.row
-legal_of s p allowed keeps Stand = keeps.stand
-legal_of s p allowed keeps OrientRule = (allowed, keeps.equal)
-legal_of s p allowed keeps RailRule = keeps.rail
-legal_of s p allowed keeps Fence = keeps.ground
-legal_of s p allowed keeps Obstacle = keeps.clear
-legal_of s p allowed keeps Overlap = keeps.apart
+legal_of s p allowed keeps =
+    (legal_by_parts (trial_at (lifted_in s) p)).1 (
+      frame_kept (trial_at (lifted_in s) p) record {
+        stands = keeps.stands;
+        oriented = (allowed, keeps.equal);
+        on_rail = keeps.rail;
+        ground = keeps.ground;
+        clear = keeps.clear;
+      },
+      keeps.apart,
+    )
 
 pub free_place : (s : RowSearch) (own : ℕ) (bottom : Row) (window : Span) (lists : List (List Span)) (x : ℤ) → slice_get s.frame.now.rows own ≡ Some bottom →
     IsOccupancyOf s.frame.now s.cells.now s.occupancy.now → AreLevels s own bottom window s.height lists →

@@ -26,12 +26,12 @@ use Rattle.lf_floorplan.specs.Standing.{Carries, IsBottomRow, IsSitesHigh, Stand
 use Rattle.lf_segments.specs.declared.segment.Segment.{Segment}
 use Rattle.lf_segments.specs.Segments.{IsOf, LiesInSegment}
 use Rattle.lf_segments.proofs.LawLemmas.{segments_hold}
-use Rattle.lf_rules.specs.declared.rule.Rule.TheVariants.{Height, Row as RowRule, Stand, Orient as OrientRule, Rail as RailRule, Fence, Obstacle, Overlap}
 use Rattle.lf_rules.specs.Legality.{IsOnRail, IsOriented}
 use Rattle.lf_rules.specs.Legality.{box_of as box_tried}
 use Rattle.lf_rules.specs.Choice.{Spot, IsLegalAt, MayGo, spot_of, trial_at}
 use Rattle.lf_rules.specs.Team.{Member, box_in, boxes_beside}
 use Rattle.lf_rules.proofs.BesideLemmas.{beside_each}
+use Rattle.lf_rules.proofs.LegalParts.{frame_meant, legal_by_parts}
 use Rattle.lf_rules.proofs.SiteLemmas.{OneOfFour, legal_upright}
 use Rattle.lf_cells.specs.declared.cell.Cell.{Cell}
 use Rattle.lf_cells.specs.declared.cell.CellId.{CellId}
@@ -195,14 +195,10 @@ record IsGoodBox (s : RowSearch) (box : Rect) : Type 0 where
 
 good_box : (s : RowSearch) (p : Spot) → MayGo (lifted_in s) p → IsGoodBox s (upright_box s p)
 good_box s p may =
-    let legal = may.legal in
-    subst (IsGoodBox s) (box_is s p (legal_upright (lifted_in s) p legal)) record {
-      stands = record { height = legal Height; row = legal RowRule; stand = legal Stand };
-      ground = legal Fence;
-      clear = legal Obstacle;
-      apart = legal Overlap;
-      off_soft = may.off_soft;
-    }
+    let parts = (legal_by_parts (trial_at (lifted_in s) p)).0 may.legal in
+    let frame = frame_meant (trial_at (lifted_in s) p) parts.0 in
+    subst (IsGoodBox s) (box_is s p (legal_upright (lifted_in s) p may.legal))
+    record { stands = frame.stands; ground = frame.ground; clear = frame.clear; apart = parts.1; off_soft = may.off_soft }
 
 pub row_y_is : (f : Frame) (n : ℕ) (r : Row) → slice_get f.rows n ≡ Some r → row_y f n ≡ r.y
 row_y_is f n r there = rw there refl
@@ -344,8 +340,9 @@ record IsFit (s : RowSearch) (bottom : Row) (o : Orient) (box : Rect) : Type 0 w
 pub legal_may : (s : RowSearch) (bottom : Row) (window : Span) (p : Spot) → IsOnRowIn s.frame.now s.size bottom window p → IsLegalAt (lifted_in s) p →
     MayStand s bottom p.orient
 legal_may s bottom window p on legal =
-    let oriented : IsOriented (trial_at (lifted_in s) p) = legal OrientRule in
-    let railed : IsOnRail (trial_at (lifted_in s) p) = legal RailRule in
+    let frame = frame_meant (trial_at (lifted_in s) p) ((legal_by_parts (trial_at (lifted_in s) p)).0 legal).0 in
+    let oriented : IsOriented (trial_at (lifted_in s) p) = frame.oriented in
+    let railed : IsOnRail (trial_at (lifted_in s) p) = frame.on_rail in
     let fits : IsFit s bottom p.orient (upright_box s p) = subst (IsFit s bottom p.orient) (box_is s p (legal_upright (lifted_in s) p legal)) record {
       fit = λ high at. record {
         allowed = oriented.0;

@@ -2,7 +2,6 @@
 
 ghost use Rattle.std.specs.Prelude.{◌≡◌, ◌<◌, ℕ, IfOk, IsOk, MatchOption, length, map, option_map};
 ghost use Rattle.lf_floorplan.specs.Boxes.{IsSized, macro_of, size_of as size_of_macro};
-ghost use Rattle.lf_floorplan.specs.declared.frame.Frame.{Frame};
 ghost use Rattle.lf_rules.specs.Choice.{IsChoice, spot_of};
 ghost use Rattle.lf_rules.specs.Legalizer.{Legalizer};
 ghost use Rattle.lf_rules.specs.Team.{lifted_from};

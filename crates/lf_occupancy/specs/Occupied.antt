@@ -10,7 +10,8 @@ use Rattle.lf_segments.specs.declared.strip.Strip.{Strip}
 use Rattle.lf_segments.specs.Grounds.{Lookups}
 use Rattle.lf_cells.specs.declared.cell.CellId.{CellId}
 
--- what of the frame is looked up, for each team the boxes of its cells in loading order, and for each strip how many boxes it has room for
+-- what of the frame is looked up, for each team the boxes of its cells in loading order, and for each strip how many boxes it has
+-- room for
 pub record Occupied : Type 0 where
   pub index : Lookups
   pub boxes : List (List (Option Rect))

@@ -1,6 +1,6 @@
 //! How an occupancy is built.
 
-ghost use Rattle.std.specs.Prelude.{◌≡◌, ◌≤◌, ◌≤ℤ◌, ◌<ℤ◌, negsuc, pos, ◌<◌, ℕ, All, IfOk, IsPermutation, OnOk, Some, [], length, map, slice_index_or};
+ghost use Rattle.std.specs.Prelude.{◌≡◌, ◌≤◌, ◌<◌, ℕ, All, IfOk, IsPermutation, OnOk, Some, [], length, map, slice_index_or};
 ghost use Rattle.lf_cells.specs.declared.cell.Cell.{Cell};
 ghost use Rattle.lf_cells.specs.Cells.{cell_at, cells_of};
 ghost use Rattle.lf_occupancy.specs.Building.{AreBare, AreFilled, AreNowhere};

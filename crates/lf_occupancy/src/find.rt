@@ -1,6 +1,6 @@
 //! What is met in strips, and what is free in them.
 
-ghost use Rattle.std.specs.Prelude.{All, AllPairs, IfOk, None, negsuc, ◌≤ℤ◌, ◌<ℤ◌, length};
+ghost use Rattle.std.specs.Prelude.{IfOk, None, negsuc, ◌≤ℤ◌, length};
 ghost use Rattle.lf_occupancy.specs.Lanes.{IsLeast};
 ghost use Rattle.lf_occupancy.specs.Strips.{AreFreeTo, AreLeft, AreOrderly, MeetsInOne, MeetsInRow};
 

@@ -7,14 +7,14 @@ use Rattle.lf_units.specs.declared.area.Rect.{Rect}
 use Rattle.lf_floorplan.specs.declared.frame.Frame.{Frame}
 use Rattle.lf_cells.specs.declared.cell.Cell.{Cell}
 use Rattle.lf_cells.specs.declared.cell.CellId.{CellId}
-use Rattle.lf_cells.specs.Cells.{Cells, cell_at, cells_of, id_in, id_of, working_at}
-use Rattle.lf_occupancy.specs.declared.strip.Strip.{Strip}
+use Rattle.lf_cells.specs.Cells.{Cells, cells_of, id_in, id_of, working_at}
+use Rattle.lf_segments.specs.Grounds.{Lookups}
 use Rattle.lf_occupancy.specs.Occupied.{FitIn, HasRoomFor, Occupied, box_at, boxes_of, boxes_with, cell_box}
 use Rattle.lf_occupancy.specs.Strips.{HasCell}
 use Rattle.lf_occupancy.specs.Floorplans.{box_of}
 use Rattle.lf_occupancy.proofs.Counting.{part_leaves_room}
 use Rattle.lf_undo.specs.declared.moves.Move.{Move}
-use Rattle.lf_placement.specs.Steps.{IsOut, KeepsStrips, MayStand, StandButFor, TakesOut, box_moved, owns, working_boxes}
+use Rattle.lf_placement.specs.Steps.{IsOut, KeepsStrips, MayStand, TakesOut, box_moved, owns, working_boxes}
 use Rattle.lf_placement.proofs.Moves.{id_there}
 
 abbrev Boxes : Type 0
@@ -71,10 +71,6 @@ box_read f [] own = refl
 box_read f (c ∷ cs) zero = refl
 box_read f (c ∷ cs) (suc own) = box_read f cs own
 
-pub box_working : (f : Frame) (cells : Cells) (id : CellId) → box_moved f (cell_at cells id) (working_at (cells_of cells id.team) id.own)
-    ≡ cell_box (working_boxes f cells id.team) id.own
-box_working f cells id = box_read f (cells_of cells id.team) id.own
-
 none_past : (cells : List Cell) (own : ℕ) → slice_get cells own ≡ None → length cells ≤ own
 none_past [] own none = omega arith
 none_past (c ∷ cs) zero none = absurd cc
@@ -99,25 +95,25 @@ pub box_put : (id : CellId) (x : Option Rect) (old new : Occupied) → new.boxes
     → boxes_of new id.team ≡ set (boxes_of old id.team) id.own x
 box_put id x old new is = ap (λ (rows : List Boxes). get_or rows id.team []) is ∙ set_here old.boxes id.team id.own x
 
-pub keeps_put : (id : CellId) (x : Option Rect) (old new : Occupied) → new.boxes ≡ boxes_with old id x → new.strips ≡ old.strips → new.rooms ≡ old.rooms
+pub keeps_put : (id : CellId) (x : Option Rect) (old new : Occupied) → new.boxes ≡ boxes_with old id x → new.index ≡ old.index → new.rooms ≡ old.rooms
     → KeepsStrips id.team old new
-keeps_put id x old new is strips rooms = record {
+keeps_put id x old new is index rooms = record {
   many = ap {B = ℕ} (λ (bs : Boxes). length bs) (box_put id x old new is) ∙ length-set (boxes_of old id.team) id.own x;
   boxes = λ other differ.
       ap (λ (rows : List Boxes). get_or rows other []) is
       ∙ get_or-set_other old.boxes id.team other (set (boxes_of old id.team) id.own x) [] differ;
-  strips = strips;
+  index = index;
   rooms = rooms;
 }
 
 pub keeps : (team : ℕ) (o : Occupied) → KeepsStrips team o o
-keeps team o = record { many = refl; boxes = λ other differ. refl; strips = refl; rooms = refl }
+keeps team o = record { many = refl; boxes = λ other differ. refl; index = refl; rooms = refl }
 
 pub keeps_through : (team : ℕ) (a b c : Occupied) → KeepsStrips team a b → KeepsStrips team b c → KeepsStrips team a c
 keeps_through team a b c first second = record {
   many = second.many ∙ first.many;
   boxes = λ other differ. second.boxes other differ ∙ first.boxes other differ;
-  strips = second.strips ∙ first.strips;
+  index = second.index ∙ first.index;
   rooms = second.rooms ∙ first.rooms;
 }
 
@@ -129,9 +125,6 @@ none_put team own cells x o many none =
     sym (set_past (boxes_of o team) own x (omega (arith, many, past)))
 
 -- ---- cells are taken out, one after the other
-
-pub out_first : (team : ℕ) (named : List ℕ) (o : Occupied) → TakesOut team named 0 o o
-out_first team named o = record { each = λ own. inr (λ k less. absurd (omega (arith, less)), refl); rest = keeps team o }
 
 pub out_next : (team : ℕ) (named : List ℕ) (n own : ℕ) (a b c : Occupied) → own ≡ get_or named n 0
     → boxes_of c team ≡ set (boxes_of b team) own None → KeepsStrips team b c → TakesOut team named n a b → TakesOut team named (n + 1) a c
@@ -157,9 +150,9 @@ out_next team named n own a b c is put kept out = record { each = each; rest = k
 
 -- ---- cells are put where they are to stand, one after the other
 
-pub fits_still : (team : ℕ) (boxes : Boxes) (a b : Occupied) → a.strips ≡ b.strips → a.rooms ≡ b.rooms → FitIn b team boxes → FitIn a team boxes
-fits_still team boxes a b strips rooms fits =
-    λ n g there of_team. rw rooms (fits n g (subst (λ (gs : List Strip). slice_get gs n ≡ Some g) strips there) of_team)
+pub fits_still : (team : ℕ) (boxes : Boxes) (a b : Occupied) → a.index ≡ b.index → a.rooms ≡ b.rooms → FitIn b team boxes → FitIn a team boxes
+fits_still team boxes a b index rooms fits =
+    λ n g there of_team. rw rooms (fits n g (subst (λ (looked : Lookups). slice_get looked.strips n ≡ Some g) index there) of_team)
 
 -- a cell is out
 pub may_without : (team own : ℕ) (boxes : Boxes) (a b : Occupied) → boxes_of b team ≡ set (boxes_of a team) own None → KeepsStrips team a b
@@ -168,7 +161,7 @@ may_without team own boxes a b put kept may = record {
   many = kept.many ∙ may.many;
   part = λ k. ⊎_elim (λ (same : k ≡ own). inl (rw (put, same) (none_here (boxes_of a team) own)))
       (λ (differ : k ≢ own). rw (put, there_still (boxes_of a team) own k None differ) (may.part k)) (cases_eq k own);
-  fits = fits_still team boxes b a kept.strips kept.rooms may.fits;
+  fits = fits_still team boxes b a kept.index kept.rooms may.fits;
 }
 
 -- a cell stands
@@ -178,7 +171,7 @@ may_with team own boxes a b put kept may = record {
   many = kept.many ∙ may.many;
   part = λ k. ⊎_elim (λ (same : k ≡ own). inr (rw (put, same) (box_here (boxes_of a team) boxes own may.many)))
       (λ (differ : k ≢ own). rw (put, there_still (boxes_of a team) own k (cell_box boxes own) differ) (may.part k)) (cases_eq k own);
-  fits = fits_still team boxes b a kept.strips kept.rooms may.fits;
+  fits = fits_still team boxes b a kept.index kept.rooms may.fits;
 }
 
 -- the cell of this box is one of those of the occupancy
@@ -221,14 +214,6 @@ pub record AreStanding (team : ℕ) (boxes : Boxes) (named : List ℕ) (n : ℕ)
   pub rest : (own : ℕ) → ((k : ℕ) → n ≤ k → k < length named → get_or named k 0 ≢ own) → cell_box (boxes_of new team) own ≡ cell_box boxes own
   pub kept : KeepsStrips team old new
 
-pub standing_first : (team : ℕ) (boxes : Boxes) (named : List ℕ) (o : Occupied) → MayStand team boxes o → StandButFor team boxes named o
-    → AreStanding team boxes named 0 o o
-standing_first team boxes named o may rest = record {
-  may = may;
-  rest = λ own never. rest own (λ k less. never k (omega arith) less);
-  kept = keeps team o;
-}
-
 pub standing_next : (team : ℕ) (boxes : Boxes) (named : List ℕ) (n own : ℕ) (a b c : Occupied) → own ≡ get_or named n 0
     → boxes_of c team ≡ set (boxes_of b team) own (cell_box boxes own) → KeepsStrips team b c → AreStanding team boxes named n a b
     → AreStanding team boxes named (n + 1) a c
@@ -257,11 +242,11 @@ team_is team own cells id is = id_there cells team own id (sym is)
 
 -- the cell is out, and what is to stand is as it was
 pub may_out : (team own : ℕ) (f : Frame) (cells : Cells) (id : CellId) (a b : Occupied) → Some id ≡ id_in (cells_of cells team) team own
-    → b.boxes ≡ boxes_with a id None → b.strips ≡ a.strips → b.rooms ≡ a.rooms → MayStand team (working_boxes f cells team) a
+    → b.boxes ≡ boxes_with a id None → b.index ≡ a.index → b.rooms ≡ a.rooms → MayStand team (working_boxes f cells team) a
     → MayStand id.team (working_boxes f cells id.team) b
-may_out team own f cells id a b is out strips rooms may =
+may_out team own f cells id a b is out index rooms may =
     let same = ap {B = ℕ} (λ (i : CellId). i.team) (team_is team own (cells_of cells team) id is) in
-    may_without id.team id.own (working_boxes f cells id.team) a b (box_put id None a b out) (keeps_put id None a b out strips rooms)
+    may_without id.team id.own (working_boxes f cells id.team) a b (box_put id None a b out) (keeps_put id None a b out index rooms)
     (subst (λ (k : ℕ). MayStand k (working_boxes f cells k) a) (sym same) may)
 
 pub put_twice : (team own : ℕ) (f : Frame) (cells : Cells) (id : CellId) (a b c : Occupied) → Some id ≡ id_in (cells_of cells team) team own
@@ -272,10 +257,10 @@ put_twice team own f cells id a b c is out put =
     (team_is team own (cells_of cells team) id is) (twice_put id (cell_box (working_boxes f cells id.team) id.own) a b c out put)
 
 pub keeps_twice : (team own : ℕ) (cells : List Cell) (id : CellId) (a b c : Occupied) → Some id ≡ id_in cells team own
-    → b.boxes ≡ boxes_with a id None → b.strips ≡ a.strips → b.rooms ≡ a.rooms → KeepsStrips id.team b c → KeepsStrips team a c
-keeps_twice team own cells id a b c is out strips rooms kept =
+    → b.boxes ≡ boxes_with a id None → b.index ≡ a.index → b.rooms ≡ a.rooms → KeepsStrips id.team b c → KeepsStrips team a c
+keeps_twice team own cells id a b c is out index rooms kept =
     subst (λ (i : CellId). KeepsStrips i.team a c) (team_is team own cells id is)
-    (keeps_through id.team a b c (keeps_put id None a b out strips rooms) kept)
+    (keeps_through id.team a b c (keeps_put id None a b out index rooms) kept)
 
 -- the position that a move names
 pub own_there : (moves : List Move) (n : ℕ) (m : Move) → n < length moves → m ≡ get_or moves n m → m.own ≡ get_or (owns moves) n 0

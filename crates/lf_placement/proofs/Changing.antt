@@ -1,8 +1,7 @@
 -- A change of a team: its cells are taken out, moved in the table, and put back.
-use Rattle.std.proofs.Common.{◌≡◌, ◌≢◌, ◌⊎◌, inl, inr, ⊎_elim, ℕ, zero, suc, List, [], ◌∷◌, map, length, drop, Option, None, refl, ap, sym, subst, ◌∙◌, arith}
+use Rattle.std.proofs.Common.{◌≡◌, ◌≢◌, ◌⊎◌, inl, inr, ℕ, zero, suc, List, [], ◌∷◌, map, length, drop, Option, None, refl, ap, sym, subst, ◌∙◌, arith}
 use Rattle.std.specs.Prelude.{All, slice_get, option_and_then}
 use Rattle.std.specs.Option.{option_map}
-use Rattle.std.proofs.lemmas.Bool.{cases_eq}
 use Rattle.std.proofs.lemmas.List.{length-map}
 use Rattle.std.proofs.lemmas.List.Elements.{All-cons}
 use Rattle.lf_units.specs.declared.area.Rect.{Rect}
@@ -11,14 +10,14 @@ use Rattle.lf_floorplan.specs.declared.place.Place.{Place}
 use Rattle.lf_rules.specs.Choice.{spot_of}
 use Rattle.lf_rules.specs.Team.{box_in}
 use Rattle.lf_cells.specs.declared.cell.Cell.{Cell}
-use Rattle.lf_cells.specs.Cells.{Cells, as_committed, cells_of, moved}
+use Rattle.lf_cells.specs.Cells.{as_committed, moved}
 use Rattle.lf_legalize.specs.Members.{IsSizedCell}
 use Rattle.lf_occupancy.specs.Occupied.{FitIn, Occupied, boxes_of, cell_box}
-use Rattle.lf_occupancy.specs.Floorplans.{IsOccupancyOf, box_of}
+use Rattle.lf_occupancy.specs.Floorplans.{box_of}
 use Rattle.lf_undo.specs.declared.moves.Move.{Move}
 use Rattle.lf_undo.specs.Entries.{Places}
-use Rattle.lf_placement.specs.Placings.{OtherCellsStay, SameButPlaces, boxes_at, made, places_of}
-use Rattle.lf_placement.specs.Steps.{IsOut, KeepsStrips, MayStand, NameNot, StandButFor, TakesOut, made_back, owns}
+use Rattle.lf_placement.specs.Placings.{SameButPlaces, boxes_at, made, places_of}
+use Rattle.lf_placement.specs.Steps.{IsOut, MayStand, NameNot, StandButFor, TakesOut, made_back, owns}
 use Rattle.lf_placement.proofs.Moves.{same_back, same_made}
 use Rattle.lf_placement.proofs.Boxes.{fits_still}
 
@@ -152,23 +151,13 @@ module _ (f : Frame) (team : ℕ) (named : List ℕ) (count : ℕ) (old new : Li
     many =
         out.rest.many ∙ ap {B = ℕ} (λ (bs : List (Option Rect)). length bs) held ∙ length-map old (box_of f) ∙ sym many ∙ sym (length-map new (box_of f));
     part = λ k. part k (out.each k);
-    fits = fits_still team (map (box_of f) new) b a out.rest.strips out.rest.rooms fits;
+    fits = fits_still team (map (box_of f) new) b a out.rest.index out.rest.rooms fits;
   }
 
   pub stand_but : StandButFor team (map (box_of f) new) named b
   stand_but = λ k never. rest k (subst (λ (n : ℕ). NameNot named n k) (sym whole) never) (out.each k)
 
 -- ---- all stand
-
-pub still_held : (f : Frame) (team : ℕ) (old new : Cells) (a b c : Occupied) → IsOccupancyOf f old a → OtherCellsStay team old new
-    → boxes_of c team ≡ map (box_of f) (cells_of new team) → KeepsStrips team a b → KeepsStrips team b c → IsOccupancyOf f new c
-still_held f team old new a b c held others here first second = record {
-  strips = record { segments = held.strips.segments; cut = held.strips.cut; strips = second.strips ∙ first.strips ∙ held.strips.strips };
-  boxes = λ other. ⊎_elim (λ (same : other ≡ team). rw same here)
-      (λ (differ : other ≢ team).
-      second.boxes other differ ∙ first.boxes other differ ∙ held.boxes other ∙ ap (map (box_of f)) (sym (others.cells other differ)))
-      (cases_eq other team);
-}
 
 -- ---- of the moves from one on
 

@@ -9,7 +9,7 @@ use Rattle.lf_floorplan.specs.declared.place.Place.{Place}
 use Rattle.lf_cells.specs.declared.cell.Cell.{Cell}
 use Rattle.lf_cells.specs.declared.cell.CellId.{CellId}
 use Rattle.lf_cells.specs.Cells.{id_of, moved}
-use Rattle.lf_occupancy.specs.declared.strip.Strip.{Strip}
+use Rattle.lf_segments.specs.declared.strip.Strip.{Strip}
 use Rattle.lf_occupancy.specs.Occupied.{FitIn, HasRoomFor, Occupied, boxes_of, count_in, meets}
 use Rattle.lf_occupancy.specs.Floorplans.{box_of}
 use Rattle.lf_occupancy.proofs.Counting.{meets_shares, set_is_one_more}
@@ -98,7 +98,7 @@ abbrev no_id : CellId
 no_id = record { team = 0; own = 0 }
 
 -- the room that was made for a box that meets the strip
-room_there : (g : Strip) (f : Frame) (team own more n : ℕ) (o : Occupied) (c : Option Cell) (place : Option Place) → slice_get o.strips n ≡ Some g
+room_there : (g : Strip) (f : Frame) (team own more n : ℕ) (o : Occupied) (c : Option Cell) (place : Option Place) → slice_get o.index.strips n ≡ Some g
     → g.team ≡ team → meets g (box_moved f c place) ≡ true
     → IfSome (box_moved f c place) (λ r. HasRoomFor o (unwrap_or (option_map (λ (x : Cell). id_of team own) c) no_id).team r more)
     → (count_in g (boxes_of o team) + more) ≤ get_or o.rooms n 0

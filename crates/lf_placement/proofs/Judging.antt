@@ -16,7 +16,7 @@ use Rattle.lf_rules.specs.declared.rule.Rule.TheVariants.{Overlap}
 use Rattle.lf_rules.specs.Legality.{box_of as box_of_trial, trial_of}
 use Rattle.lf_rules.specs.Legalizer.{IsVerdict}
 use Rattle.lf_rules.specs.Team.{boxes_beside}
-use Rattle.lf_reports.specs.Nearby.{IsFrameVerdict}
+use Rattle.lf_rules.specs.Legality.{IsFrameVerdict}
 use Rattle.lf_cells.specs.declared.cell.Cell.{Cell}
 use Rattle.lf_cells.specs.declared.cell.CellId.{CellId}
 use Rattle.lf_cells.specs.declared.cell.Standing.{Standing}

@@ -1,6 +1,6 @@
 -- Moves of cells in a table, and what they are when they are taken back.
-use Rattle.std.proofs.Common.{◌≡◌, ◌<◌, ◌≤◌, ℕ, zero, suc, ◌+◌, List, [], ◌∷◌, ◌++◌, length, set, take, drop, get_or, Option, Some, None, refl, ap, sym, ◌∙◌, arith}
-use Rattle.std.specs.Prelude.{slice_get, option_map}
+use Rattle.std.proofs.Common.{◌≡◌, ◌<◌, ℕ, zero, suc, ◌+◌, List, [], ◌∷◌, ◌++◌, length, set, take, drop, get_or, Option, Some, None, refl, ap, sym, ◌∙◌, arith}
+use Rattle.std.specs.Prelude.{slice_get, option_and_then, option_map}
 use Rattle.std.proofs.lemmas.List.{length-map, take_more}
 use Rattle.lf_floorplan.specs.declared.place.Place.{Place}
 use Rattle.lf_cells.specs.declared.cell.Cell.{Cell}
@@ -21,6 +21,13 @@ past_moved (c ∷ cs) (suc own) place none = ap (λ (r : List Cell). c ∷ r) (p
 pub none_moved : (cells : List Cell) (number own : ℕ) (place : Option Place) → id_in cells number own ≡ None → moved cells own place ≡ cells
 none_moved cells number own place none = past_moved cells own place (go (slice_get cells own) none) where
   go : (o : Option Cell) → option_map (λ (c : Cell). id_of number own) o ≡ None → o ≡ None
+  go None e = refl
+  go (Some c) e = absurd cc
+
+-- nor does it stand anywhere
+pub none_works : (cells : List Cell) (number own : ℕ) → id_in cells number own ≡ None → working_at cells own ≡ None
+none_works cells number own none = go (slice_get cells own) none where
+  go : (o : Option Cell) → option_map (λ (c : Cell). id_of number own) o ≡ None → option_and_then (λ (c : Cell). c.working) o ≡ None
   go None e = refl
   go (Some c) e = absurd cc
 
@@ -120,9 +127,6 @@ have_back before now moves have =
 
 -- ---- the loop that makes moves
 
-abbrev no_move : Move
-no_move = record { own = 0; old = None }
-
 -- the move of this position gives place to its note: those before it, and the others
 take_replaced : (moves : List Move) (at : ℕ) (old : Option Place) (next : Move) → at < length moves → next ≡ get_or moves at next
     → take (at + 1) (replaced moves at old) ≡ take at moves ++ record { own = next.own; old = old } ∷ []
@@ -164,26 +168,6 @@ making_next start to now given moves from at next was within is noted making = r
       (one_more before now (take at moves) next.own next.old was noted (making.notes before have));
   owns = owns_replaced moves at was ∙ making.owns;
 }
-
-take_past : (moves : List Move) (at : ℕ) → length moves ≤ at → take at moves ≡ moves
-take_past [] zero past = refl
-take_past [] (suc at) past = refl
-take_past (m ∷ ms) zero past = absurd (omega (arith, past))
-take_past (m ∷ ms) (suc at) past = ap (λ (r : List Move). m ∷ r) (take_past ms at (omega (arith, past)))
-
-drop_past : (moves : List Move) (at : ℕ) → length moves ≤ at → drop at moves ≡ []
-drop_past [] zero past = refl
-drop_past [] (suc at) past = refl
-drop_past (m ∷ ms) zero past = absurd (omega (arith, past))
-drop_past (m ∷ ms) (suc at) past = drop_past ms at (omega (arith, past))
-
--- all are made
-pub made_all : (start to now : List Cell) (given moves : List Move) (from at : ℕ) → length moves ≤ at → IsMakingAt start to now given moves from at
-    → (now ≡ to) × ((before : List Cell) → HaveMoved before (take from given) start → HaveMoved before moves now)
-made_all start to now given moves from at past making = (
-  ap (λ (ms : List Move). made ms now) (sym (drop_past moves at past)) ∙ making.rest,
-  λ before have. rw (take_past moves at past) at (making.notes before have),
-)
 
 -- ---- the loop that takes moves back
 

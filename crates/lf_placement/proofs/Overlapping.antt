@@ -8,22 +8,21 @@ use Rattle.lf_units.specs.declared.area.Rect.{Rect}
 use Rattle.lf_units.specs.Area.{Covers, SharesPoint}
 use Rattle.lf_floorplan.specs.declared.frame.Frame.{Frame}
 use Rattle.lf_floorplan.specs.declared.place.Place.{Place}
-use Rattle.lf_floorplan.specs.Standing.{StandsOn}
 use Rattle.lf_rtree.specs.declared.placed.Placed.{Placed}
 use Rattle.lf_rtree.specs.Near.{IsLeastMet, IsNoneMet}
-use Rattle.lf_rules.specs.declared.rule.Rule.{Rule}
-use Rattle.lf_rules.specs.declared.rule.Rule.TheVariants.{Height, Row as RowRule, Stand, Orient as OrientRule, Rail as RailRule, Fence, Obstacle, Overlap}
+use Rattle.lf_rules.specs.declared.rule.Rule.TheVariants.{Overlap}
 use Rattle.lf_rules.specs.Choice.{Spot, spot_of}
-use Rattle.lf_rules.specs.Legality.{Holds, IsFirstMet as IsFirstMetOf, Trial, box_of as box_of_trial, number_of}
+use Rattle.lf_rules.specs.Legality.{IsFirstMet as IsFirstMetOf, Trial, box_of as box_of_trial}
 use Rattle.lf_rules.specs.Legalizer.{IsVerdict}
 use Rattle.lf_rules.specs.Team.{Member, box_in, boxes_beside, boxes_from, with_box}
-use Rattle.lf_rules.proofs.RuleLemmas.{OnRows, all_hold, overlap_broken}
-use Rattle.lf_reports.proofs.MetLemmas.{first_beside, none_beside}
+use Rattle.lf_rules.proofs.LegalParts.{KeepsFrame, StandsInFrame, frame_meant, legal_by_parts}
+use Rattle.lf_rules.proofs.RuleLemmas.{overlap_broken}
+use Rattle.lf_rules.proofs.LeastMet.{first_beside, none_beside}
 use Rattle.lf_cells.specs.declared.cell.Cell.{Cell}
 use Rattle.lf_cells.specs.declared.cell.CellId.{CellId}
 use Rattle.lf_cells.specs.Cells.{Cells, cells_of}
 use Rattle.lf_legalize.specs.Members.{member_of}
-use Rattle.lf_occupancy.specs.declared.strip.Strip.{Strip}
+use Rattle.lf_segments.specs.declared.strip.Strip.{Strip}
 use Rattle.lf_occupancy.specs.Occupied.{IsFirstMet, MeetsInStrips, Occupied, box_at}
 use Rattle.lf_occupancy.specs.Floorplans.{IsOccupancyOf, StripsCover, box_of}
 
@@ -118,7 +117,7 @@ module _ (f : Frame) (table : Cells) (o : Occupied) (of : IsOccupancyOf f table 
   placed_is k m p there at =
       box_is k ∙ ap (λ (x : Option Member). option_and_then (box_of_member f) x) there ∙ ap (λ (x : Option Spot). option_map (box_in f m.mac) x) at
 
-  module _ (covered : (x y : ℤ) → Covers rect x y → Any (λ (g : Strip). (g.team ≡ id.team) × Covers g.area x y) o.strips) where
+  module _ (covered : (x y : ℤ) → Covers rect x y → Any (λ (g : Strip). (g.team ≡ id.team) × Covers g.area x y) o.index.strips) where
     -- a box that is met is met in the strips
     meets_in : (k : ℕ) (box : Rect) → k ≢ id.own → box_at o id.team k ≡ Some box → SharesPoint rect box → MeetsInStrips o id rect k
     meets_in k box other stands shares = record {
@@ -160,22 +159,10 @@ module _ (f : Frame) (table : Cells) (o : Occupied) (of : IsOccupancyOf f table 
 
 -- ---- the verdict
 
-on_rows_of : (t : Trial) → ((r : Rule) → number_of r ≤ 7 → Holds t r) → OnRows t
-on_rows_of t holds = record {
-  height = holds Height (omega arith);
-  row = holds RowRule (omega arith);
-  stand = holds Stand (omega arith);
-  orient = holds OrientRule (omega arith);
-  rail = holds RailRule (omega arith);
-}
-
-stands_on : (t : Trial) → ((r : Rule) → number_of r ≤ 7 → Holds t r) → StandsOn t.frame (box_of_trial t)
-stands_on t holds = record { height = holds Height (omega arith); row = holds RowRule (omega arith); stand = holds Stand (omega arith) }
-
 -- where the rules but overlap hold, the cell that is met in the strips decides
 pub met_decides : (t : Trial) (table : Cells) (o : Occupied) (id : CellId) (rect : Rect) (met : Option ℕ) → IsOccupancyOf t.frame table o → StripsCover
     → id.team ≡ t.team → t.others ≡ boxes_beside t.frame (map member_of (cells_of table t.team)) id.own → rect ≡ box_of_trial t
-    → ((r : Rule) → number_of r ≤ 7 → Holds t r) → IsFirstMet o id rect met
+    → KeepsFrame t → IsFirstMet o id rect met
     → IsVerdict t (option_map (λ own. record { rule = Overlap; other = Some own }) met)
 met_decides t table o id rect met of cover team beside at holds found = by met found
   where
@@ -188,20 +175,25 @@ met_decides t table o id rect met of cover team beside at holds found = by met f
     are : t.others ≡ boxes_beside t.frame members id.own
     are = beside ∙ ap (λ (n : ℕ). boxes_beside t.frame (map member_of (cells_of table n)) id.own) (sym team)
 
-    covered : (x y : ℤ) → Covers rect x y → Any (λ (g : Strip). (g.team ≡ id.team) × Covers g.area x y) o.strips
+    frame : StandsInFrame t
+    frame = frame_meant t holds
+
+    covered : (x y : ℤ) → Covers rect x y → Any (λ (g : Strip). (g.team ≡ id.team) × Covers g.area x y) o.index.strips
     covered x y inside =
-        subst (λ (n : ℕ). Any (λ (g : Strip). (g.team ≡ n) × Covers g.area x y) o.strips) (sym team)
-        (cover t.frame o t.team (box_of_trial t) of.strips (stands_on t holds) (holds Fence (omega arith)) (holds Obstacle (omega arith)) x y
+        subst (λ (n : ℕ). Any (λ (g : Strip). (g.team ≡ n) × Covers g.area x y) o.index.strips) (sym team)
+        (cover t.frame o t.team (box_of_trial t) of.index frame.stands frame.ground frame.clear x y
         (subst (λ (b : Rect). Covers b x y) at inside))
 
     by : (m : Option ℕ) → IsFirstMet o id rect m → IsVerdict t (option_map (λ own. record { rule = Overlap; other = Some own }) m)
     by None none =
-        all_hold t (on_rows_of t holds) (holds Fence (omega arith)) (holds Obstacle (omega arith))
-        (subst (λ (b : Rect). All (λ q. SharesPoint b q.rect → ⊥) t.others) at
-        (subst (λ (bs : List Placed). All (λ q. SharesPoint rect q.rect → ⊥) bs) (sym are)
-        (none_beside t.frame members all_boxes rect id.own (IsPermutation-refl all_boxes) (none_in t.frame table o of id rect covered none))))
+        (legal_by_parts t).1 (
+          holds,
+          subst (λ (b : Rect). All (λ q. SharesPoint b q.rect → ⊥) t.others) at
+              (subst (λ (bs : List Placed). All (λ q. SharesPoint rect q.rect → ⊥) bs) (sym are)
+              (none_beside t.frame members all_boxes rect id.own (IsPermutation-refl all_boxes) (none_in t.frame table o of id rect covered none))),
+        )
     by (Some own) (meets, least) =
-        overlap_broken t own (on_rows_of t holds) (holds Fence (omega arith)) (holds Obstacle (omega arith))
+        overlap_broken t own holds
         (subst (λ (b : Rect). IsFirstMetOf b t.others own) at
         (subst (λ (bs : List Placed). IsFirstMetOf rect bs own) (sym are)
         (first_beside t.frame members all_boxes rect id.own own (IsPermutation-refl all_boxes) (least_in t.frame table o of id rect covered own meets least))))

@@ -9,10 +9,9 @@ use Rattle.lf_rtree.specs.declared.placed.Placed.{Placed}
 use Rattle.lf_rules.specs.declared.rule.Broken.{Broken}
 use Rattle.lf_rules.specs.declared.rule.Rule.{Rule}
 use Rattle.lf_rules.specs.Choice.{spot_of}
-use Rattle.lf_rules.specs.Legality.{Trial, trial_of}
+use Rattle.lf_rules.specs.Legality.{IsFrameVerdict, Trial, trial_of}
 use Rattle.lf_rules.specs.Legalizer.{IsVerdict}
 use Rattle.lf_rules.specs.Team.{box_in, boxes_beside}
-use Rattle.lf_reports.specs.Nearby.{IsFrameVerdict}
 use Rattle.lf_cells.specs.declared.cell.Cell.{Cell}
 use Rattle.lf_cells.specs.declared.cell.CellId.{CellId}
 use Rattle.lf_cells.specs.Cells.{Cells, cell_at, cells_of, moved}
@@ -79,14 +78,14 @@ pub record OtherCellsStay (number : ℕ) (old new : Cells) : Type 0 where
 pub record KeepsRest (old new : Placing) : Type 0 where
   pub frame : new.frame ≡ old.frame
   pub components : new.cells.components ≡ old.cells.components
-  pub strips : new.held.strips ≡ old.held.strips
+  pub index : new.held.index ≡ old.held.index
   pub rooms : new.held.rooms ≡ old.held.rooms
 
 -- only the rooms may differ, and none is less
 pub record SameButRooms (old new : Placing) : Type 0 where
   pub frame : new.frame ≡ old.frame
   pub cells : new.cells ≡ old.cells
-  pub strips : new.held.strips ≡ old.held.strips
+  pub index : new.held.index ≡ old.held.index
   pub boxes : new.held.boxes ≡ old.held.boxes
   pub rooms : NoLess old.held.rooms new.held.rooms
 

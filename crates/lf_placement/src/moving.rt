@@ -43,7 +43,7 @@ pub(crate) fn make_moves(
     ensures moved { (before : List Cell) → HaveMoved before (take from moves.old) (cells_of cells.old team) → HaveMoved before moves.new (cells_of cells.new team) }
     ensures others { OtherCellsStay team cells.old cells.new }
     ensures held { IsOccupancyOf frame.now cells.new occupancy.new }
-    ensures strips { occupancy.new.strips ≡ occupancy.old.strips }
+    ensures index { occupancy.new.index ≡ occupancy.old.index }
     ensures rooms { occupancy.new.rooms ≡ occupancy.old.rooms }
 {
     lift(occupancy, cells, team, moves_from(moves.as_slice(), from));
@@ -71,7 +71,7 @@ pub(crate) fn take_back_moves(
     ensures own { cells_of cells.new team ≡ made_back moves.now (cells_of cells.old team) }
     ensures others { OtherCellsStay team cells.old cells.new }
     ensures held { IsOccupancyOf frame.now cells.new occupancy.new }
-    ensures strips { occupancy.new.strips ≡ occupancy.old.strips }
+    ensures index { occupancy.new.index ≡ occupancy.old.index }
     ensures rooms { occupancy.new.rooms ≡ occupancy.old.rooms }
 {
     lift(occupancy, cells, team, moves.as_slice());

@@ -1,8 +1,6 @@
 //! Where the cells of all teams stand on a frame.
 
 ghost use Rattle.std.specs.Prelude.{◌≡◌, ◌≤◌, ℕ, List, length, None, OnOk, IfOk, Some, drop, map, option_map, take};
-ghost use Rattle.lf_segments.specs.Segments.{IsCut};
-ghost use Rattle.lf_reports.specs.Nearby.{IsIndexOf};
 ghost use Rattle.lf_rules.specs.declared.rule.Rule.TheVariants.{Overlap};
 ghost use Rattle.lf_rules.specs.Choice.{spot_of};
 ghost use Rattle.lf_rules.specs.Legalizer.{Legalizer};
@@ -21,9 +19,8 @@ use lf_cells::{CellId, CellTable};
 use lf_floorplan::{Frame, Loaded, Place};
 use lf_legalize::Seeker;
 use lf_occupancy::{Occupancy, strips_cover};
-use lf_reports::{FrameIndex, broken_on_frame};
-use lf_rules::{Broken, Rule, box_of};
-use lf_segments::Segments;
+use lf_rules::{Broken, Rule, box_of, broken_alone, overlap_with};
+use lf_segments::Plan;
 use lf_undo::{Move, Moves};
 use lf_units::Point;
 use std::alloc::{AllocError, Global};
@@ -51,34 +48,16 @@ impl Model for Placement {
     ghost invariant = { λ p. IsPlacing record { frame = p.frame; cells = p.cells; held = p.occupancy } };
 }
 
-/// Overlap with the first of the team's other cells that the box meets; none where it meets none.
-fn overlap(met: Option<u32>) -> Option<Broken>
-    ensures { result ≡ option_map (λ own. record { rule = Overlap; other = Some own }) met }
-{
-    match met {
-        Some(own) => Some(Broken {
-            rule: Rule::Overlap,
-            other: Some(own),
-        }),
-        None => None,
-    }
-}
-
 impl Placement {
-    /// The placement of a design as it is loaded, with the segments of its frame.
+    /// The placement of a design as it is loaded.
     ///
     /// `Err` if an allocation fails; the design is then gone.
-    pub fn build(
-        alloc: Global,
-        loaded: Loaded,
-        segments: &Segments,
-    ) -> Result<Placement, AllocError>
-        requires { IsCut loaded.frame segments.now }
+    pub fn build(alloc: Global, loaded: Loaded) -> Result<Placement, AllocError>
         ensures frame { IfOk result (λ placement. placement.frame ≡ loaded.frame) }
         ensures cells { IfOk result (λ placement. placement.cells.cells ≡ opening_cells loaded) }
         ensures components { IfOk result (λ placement. placement.cells.components ≡ opening_components loaded) }
     {
-        let tables = tables_of(alloc, &loaded, segments)?;
+        let tables = tables_of(alloc, &loaded)?;
         let Loaded { frame, cells: _ } = loaded;
         Ok(Placement {
             frame,
@@ -101,25 +80,21 @@ impl Placement {
         &self.cells
     }
 
-    /// The first of the rules but overlap that the cell breaks at the place; none also where there is
-    /// no such cell.
-    ///
-    /// `Err` if an allocation fails.
-    pub fn broken_alone(
-        &self,
-        alloc: Global,
-        index: &FrameIndex,
-        id: CellId,
-        place: &Place,
-    ) -> Result<Option<Rule>, AllocError>
-        requires { IsIndexOf self.now.frame index.now }
-        ensures { IfOk result (λ broken. IsBrokenAlone self.now id place.now broken) }
+    /// The frame with what is looked up of it.
+    pub fn plan(&self) -> Plan<'_>
+        ensures { result ≡ self.now.frame }
     {
-        let Some(standing) = self.cells.standing(id.team as usize, id.own as usize) else {
-            return Ok(None);
-        };
+        Plan::new(&self.frame, self.occupancy.index())
+    }
+
+    /// The first of the rules but overlap that the cell breaks at the place; none also where there is
+    /// no such cell. It allocates nothing.
+    pub fn broken_alone(&self, id: CellId, place: &Place) -> Option<Rule>
+        ensures { IsBrokenAlone self.now id place.now result }
+    {
+        let standing = self.cells.standing(id)?;
         let mac = &self.frame.macros.as_slice()[standing.mac];
-        broken_on_frame(alloc, &self.frame, index, id.team as usize, mac, place)
+        broken_alone(&self.plan(), id.team as usize, mac, place)
     }
 
     /// The first of the team's other cells, by their positions, whose box shares a point with that of
@@ -128,7 +103,7 @@ impl Placement {
         requires { IsBrokenAlone self.now id place.now None }
         ensures { IsBrokenAt self.now id place.now (option_map (λ own. record { rule = Overlap; other = Some own }) result) }
     {
-        let standing = self.cells.standing(id.team as usize, id.own as usize)?;
+        let standing = self.cells.standing(id)?;
         let mac = &self.frame.macros.as_slice()[standing.mac];
         let rect = box_of(&self.frame, mac, place);
         strips_cover();
@@ -136,23 +111,14 @@ impl Placement {
     }
 
     /// The first rule that the cell breaks at the place beside the other cells of its team; none also
-    /// where there is no such cell.
-    ///
-    /// `Err` if an allocation fails.
-    pub fn first_broken(
-        &self,
-        alloc: Global,
-        index: &FrameIndex,
-        id: CellId,
-        place: &Place,
-    ) -> Result<Option<Broken>, AllocError>
-        requires { IsIndexOf self.now.frame index.now }
-        ensures { IfOk result (λ broken. IsBrokenAt self.now id place.now broken) }
+    /// where there is no such cell. It allocates nothing.
+    pub fn first_broken(&self, id: CellId, place: &Place) -> Option<Broken>
+        ensures { IsBrokenAt self.now id place.now result }
     {
-        if let Some(rule) = self.broken_alone(alloc, index, id, place)? {
-            return Ok(Some(Broken { rule, other: None }));
+        if let Some(rule) = self.broken_alone(id, place) {
+            return Some(Broken { rule, other: None });
         }
-        Ok(overlap(self.first_other(id, place)))
+        overlap_with(self.first_other(id, place))
     }
 
     /// The best place of the cell for a target; none where it has none, or there is no such cell.
@@ -165,7 +131,6 @@ impl Placement {
         id: CellId,
         target: &Point,
     ) -> Result<Option<Place>, AllocError>
-        requires { S.is_for seeker.now self.now.frame }
         ensures { (l : Legalizer) → IfOk result (λ found. option_map spot_of found
             ≡ best_of l self.now.frame id.team (cells_of self.now.cells id.team) id.own target.now) }
     {

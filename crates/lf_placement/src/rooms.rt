@@ -9,6 +9,7 @@ ghost use Rattle.lf_placement.specs.Placings.{made};
 ghost use Rattle.lf_placement.specs.Steps.{asked_for};
 
 use crate::strips::box_at;
+use crate::table::cell_of;
 use lf_cells::{CellId, CellTable};
 use lf_floorplan::Frame;
 use lf_occupancy::Occupancy;
@@ -21,7 +22,7 @@ fn asked_for(frame: &Frame, cells: &CellTable, team: usize, next: &Move) -> (Cel
     requires { All (IsSizedCell frame.now) (cells_of cells.now team) }
     ensures { result ≡ asked_for frame.now team (cells_of cells.now team) next.now }
 {
-    match cells.id_at(team, next.own as usize) {
+    match cell_of(cells, team, next.own) {
         Some(id) => (id, box_at(frame, cells, id, next.old)),
         None => (CellId { team: 0, own: 0 }, None),
     }
@@ -60,7 +61,7 @@ pub(crate) fn make_room(
     requires held { IsOccupancyOf frame.now cells.now occupancy.old }
     ensures ok { OnOk result (FitIn occupancy.new team (map (box_of frame.now) (made moves.now (cells_of cells.now team)))) }
     ensures boxes { occupancy.new.boxes ≡ occupancy.old.boxes }
-    ensures strips { occupancy.new.strips ≡ occupancy.old.strips }
+    ensures index { occupancy.new.index ≡ occupancy.old.index }
     ensures rooms { NoLess occupancy.old.rooms occupancy.new.rooms }
 {
     let asked = all_asked_for(alloc, frame, cells, team, moves)?;

@@ -6,6 +6,7 @@ ghost use Rattle.lf_legalize.specs.Members.{IsSizedCell};
 ghost use Rattle.lf_occupancy.specs.Occupied.{boxes_of, box_at, cell_box};
 ghost use Rattle.lf_placement.specs.Steps.{KeepsStrips, MayStand, StandButFor, TakesOut, box_moved, owns, working_boxes};
 
+use crate::table::cell_of;
 use lf_cells::{CellId, CellTable};
 use lf_floorplan::{Frame, Place};
 use lf_occupancy::Occupancy;
@@ -23,7 +24,7 @@ pub(crate) fn box_at(
     requires { All (IsSizedCell frame.now) (cells_of cells.now id.team) }
     ensures { result ≡ box_moved frame.now (cell_at cells.now id) place }
 {
-    let standing = cells.standing(id.team as usize, id.own as usize)?;
+    let standing = cells.standing(id)?;
     let place = place?;
     let mac = &frame.macros.as_slice()[standing.mac];
     Some(box_of(frame, mac, &place))
@@ -43,7 +44,7 @@ fn take_out(occupancy: &mut Occupancy, cells: &CellTable, team: usize, own: u32)
     ensures boxes { boxes_of occupancy.new team ≡ slice_set (boxes_of occupancy.old team) own None }
     ensures rest { KeepsStrips team occupancy.old occupancy.new }
 {
-    if let Some(id) = cells.id_at(team, own as usize) {
+    if let Some(id) = cell_of(cells, team, own) {
         occupancy.remove(id);
     }
 }
@@ -80,7 +81,7 @@ fn put_at_work(frame: &Frame, occupancy: &mut Occupancy, cells: &CellTable, team
         ≡ slice_set (boxes_of occupancy.old team) own (cell_box (working_boxes frame.now cells.now team) own) }
     ensures rest { KeepsStrips team occupancy.old occupancy.new }
 {
-    if let Some(id) = cells.id_at(team, own as usize) {
+    if let Some(id) = cell_of(cells, team, own) {
         occupancy.remove(id);
         put_in(frame, occupancy, cells, id);
     }

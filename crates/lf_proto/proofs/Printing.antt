@@ -18,16 +18,17 @@ use Rattle.lf_proto.proofs.Digits.{all_digits, is_digit_at, Digits}
 use Rattle.lf_proto.proofs.Places.{place_written-some, target_of-some}
 use Rattle.lf_proto.specs.Lines.{is_blank, is_line_byte, fields, is_visible, IsName}
 use Rattle.lf_proto.specs.Numbers.{◌>>=◌, digits, below, session_number, negative, positive, coordinate}
-use Rattle.lf_proto.specs.Printed.{target_words, action_words, printed_fields, printed, ReadsBack}
+use Rattle.lf_proto.specs.Printed.{target_words, operand_words, action_words, printed_fields, printed, ReadsBack}
 use Rattle.lf_orient.specs.Words.{orient_word}
 use Rattle.lf_proto.specs.ReplyText.{place_words}
-use Rattle.lf_proto.specs.Requests.{command_in, orient_named, place_written, target_of, IsInRange, IsTarget, IsPlainAction, IsPlain}
+use Rattle.lf_proto.specs.Requests.{command_in, orient_named, place_written, target_of, operands_by, action_by, asked_by, ArePlain, IsInRange, IsTarget, IsPlainAction, IsPlain}
+use Rattle.lf_proto.specs.Verbs.{shape_in, parts_of, joined, NamesReadBack, PartsJoin}
 use Rattle.lf_proto.specs.declared.request.Command.{Command}
 use Rattle.lf_proto.specs.declared.request.Command.TheVariants.{Bye, To}
 use Rattle.lf_proto.specs.declared.request.Order.TheVariants.{Open, Within}
-use Rattle.lf_proto.specs.declared.request.Action.{Action}
-use Rattle.lf_proto.specs.declared.request.Action.TheVariants.{Close, Sync, Check, Def, Where, Find, Change as Changing}
-use Rattle.lf_proto.specs.declared.request.Change.TheVariants.{Place as Placing, Legalize, Tidy, Unplace, Swap, Undo, Commit, Revert}
+use Rattle.lf_proto.specs.declared.verb.Operands.{Operands}
+use Rattle.lf_proto.specs.declared.verb.Operands.TheVariants.{Alone, Cell, CellAt, CellTo, Cells}
+use Rattle.lf_proto.specs.declared.verb.Action.{Action}
 
 -- the digits of a number that has at most ten
 decimal_digits : (n : ℕ) → n < 10 ^ 10 → Digits (decimal n)
@@ -97,41 +98,26 @@ target_of-printed t range =
     (coordinate-signed_decimal t.x range.x_in_range.low range.x_in_range.high)
     (coordinate-signed_decimal t.y range.y_in_range.low range.y_in_range.high)
 
--- the fields of a session's action, after the verb's name
-abbrev ReadsWithin : List ℕ → ℕ → Action (List ℕ) Place → Type 0
-ReadsWithin team session action = command_in (printed_fields (To team (Within session action))) ≡ Some (To team (Within session action))
+operands-printed : (o : Operands (List ℕ) Place) → ArePlain o → operands_by (shape_in o) (operand_words o) ≡ Some o
+operands-printed Alone plain = refl
+operands-printed (Cell cell) plain = refl
+operands-printed (CellAt cell place) (cell_is, range) = rw (place_written-printed place range) refl
+operands-printed (CellTo cell target) (cell_is, range) = rw (target_of-printed target range) refl
+operands-printed (Cells first second) plain = refl
 
-action-printed : (team : List ℕ) (session : ℕ) (action : Action (List ℕ) Place) → session < 2 ^ 32 → IsPlainAction action → ReadsWithin team session action
-action-printed team session Check small plain = ap (λ o. o >>= (λ n. Some (To team (Within n Check)))) (session_number-decimal session small)
-action-printed team session Def small plain = ap (λ o. o >>= (λ n. Some (To team (Within n Def)))) (session_number-decimal session small)
-action-printed team session (Where cell) small plain = ap (λ o. o >>= (λ n. Some (To team (Within n (Where cell))))) (session_number-decimal session small)
-action-printed team session (Find cell target) small (cell_is, range) =
-    rw (session_number-decimal session small, target_of-printed target range) refl
-action-printed team session (Changing (Placing cell place)) small (cell_is, range) =
-    rw (session_number-decimal session small, place_written-printed place range) refl
-action-printed team session (Changing (Legalize cell target)) small (cell_is, range) =
-    rw (session_number-decimal session small, target_of-printed target range) refl
-action-printed team session (Changing Tidy) small plain =
-    ap (λ o. o >>= (λ n. Some (To team (Within n (Changing Tidy))))) (session_number-decimal session small)
-action-printed team session (Changing (Unplace cell)) small plain =
-    ap (λ o. o >>= (λ n. Some (To team (Within n (Changing (Unplace cell)))))) (session_number-decimal session small)
-action-printed team session Close small plain =
-    ap (λ o. o >>= (λ n. Some (To team (Within n Close)))) (session_number-decimal session small)
-action-printed team session Sync small plain =
-    ap (λ o. o >>= (λ n. Some (To team (Within n Sync)))) (session_number-decimal session small)
-action-printed team session (Changing (Swap first second)) small plain =
-    ap (λ o. o >>= (λ n. Some (To team (Within n (Changing (Swap first second)))))) (session_number-decimal session small)
-action-printed team session (Changing Undo) small plain =
-    ap (λ o. o >>= (λ n. Some (To team (Within n (Changing Undo))))) (session_number-decimal session small)
-action-printed team session (Changing Commit) small plain =
-    ap (λ o. o >>= (λ n. Some (To team (Within n (Changing Commit))))) (session_number-decimal session small)
-action-printed team session (Changing Revert) small plain =
-    ap (λ o. o >>= (λ n. Some (To team (Within n (Changing Revert))))) (session_number-decimal session small)
+module _ (names : NamesReadBack) (parts : PartsJoin (List ℕ)) where
+  action-printed : (action : Action (List ℕ) Place) → IsPlainAction action → action_by (parts_of action).0 (operand_words (parts_of action).1) ≡ Some action
+  action-printed action plain =
+      ap (λ s. operands_by s (operand_words (parts_of action).1) >>= joined (parts_of action).0) (parts action).0
+      ∙ (ap (λ o. o >>= joined (parts_of action).0) (operands-printed (parts_of action).1 plain) ∙ (parts action).1)
 
-command_in-printed : (command : Command (List ℕ) Place) → IsPlain command → command_in (printed_fields command) ≡ Some command
-command_in-printed Bye plain = refl
-command_in-printed (To team Open) plain = refl
-command_in-printed (To team (Within session action)) (team_is, small, plain) = action-printed team session action small plain
+  command_in-printed : (command : Command (List ℕ) Place) → IsPlain command → command_in (printed_fields command) ≡ Some command
+  command_in-printed Bye plain = refl
+  command_in-printed (To team Open) plain = refl
+  command_in-printed (To team (Within session action)) (team_is, small, plain) =
+      ap (λ v. asked_by v (action_words action).0 (team ∷ decimal session ∷ (action_words action).1)) (names (parts_of action).0).0
+      ∙ (ap (λ n. n >>= (λ s. action_by (parts_of action).0 (action_words action).1 >>= (λ a. Some (To team (Within s a))))) (session_number-decimal session small)
+      ∙ ap (λ o. o >>= (λ a. Some (To team (Within session a)))) (action-printed action plain))
 
 -- each field is a name
 abbrev AllNames : List (List ℕ) → Type 0
@@ -213,35 +199,22 @@ target_names target range =
     let y_is = signed_name target.y range.y_in_range.low range.y_in_range.high in
     (x_is, (y_is, tt))
 
--- the verb and its own fields are names
-abbrev ActionNames : Action (List ℕ) Place → Type 0
-ActionNames action = IsName (action_words action).0 × AllNames (action_words action).1
+operand_names : (o : Operands (List ℕ) Place) → ArePlain o → AllNames (operand_words o)
+operand_names Alone plain = tt
+operand_names (Cell cell) cell_is = (cell_is, tt)
+operand_names (CellAt cell place) (cell_is, range) = (cell_is, place_names place range)
+operand_names (CellTo cell target) (cell_is, range) = (cell_is, target_names target range)
+operand_names (Cells first second) (first_is, second_is) = (first_is, (second_is, tt))
 
-action_names : (action : Action (List ℕ) Place) → IsPlainAction action → ActionNames action
-action_names Check plain = (record { some = omega arith; visible = refl }, tt)
-action_names Def plain = (record { some = omega arith; visible = refl }, tt)
-action_names (Where cell) cell_is = (record { some = omega arith; visible = refl }, (cell_is, tt))
-action_names (Find cell target) (cell_is, range) = (record { some = omega arith; visible = refl }, (cell_is, target_names target range))
-action_names (Changing (Placing cell place)) (cell_is, range) = (record { some = omega arith; visible = refl }, (cell_is, place_names place range))
-action_names (Changing (Legalize cell target)) (cell_is, range) = (record { some = omega arith; visible = refl }, (cell_is, target_names target range))
-action_names (Changing Tidy) plain = (record { some = omega arith; visible = refl }, tt)
-action_names (Changing (Unplace cell)) cell_is = (record { some = omega arith; visible = refl }, (cell_is, tt))
-action_names Close plain = (record { some = omega arith; visible = refl }, tt)
-action_names Sync plain = (record { some = omega arith; visible = refl }, tt)
-action_names (Changing (Swap first second)) (first_is, second_is) = (record { some = omega arith; visible = refl }, (first_is, (second_is, tt)))
-action_names (Changing Undo) plain = (record { some = omega arith; visible = refl }, tt)
-action_names (Changing Commit) plain = (record { some = omega arith; visible = refl }, tt)
-action_names (Changing Revert) plain = (record { some = omega arith; visible = refl }, tt)
+module _ (names : NamesReadBack) where
+  printed_names : (command : Command (List ℕ) Place) → IsPlain command → AllNames (printed_fields command)
+  printed_names Bye plain = (record { some = omega arith; visible = refl }, tt)
+  printed_names (To team Open) plain = (record { some = omega arith; visible = refl }, (plain, tt))
+  printed_names (To team (Within session action)) (team_is, small, plain) =
+      ((names (parts_of action).0).1, (team_is, (decimal_name session (omega arith), operand_names (parts_of action).1 plain)))
 
-printed_names : (command : Command (List ℕ) Place) → IsPlain command → AllNames (printed_fields command)
-printed_names Bye plain = (record { some = omega arith; visible = refl }, tt)
-printed_names (To team Open) plain = (record { some = omega arith; visible = refl }, (plain, tt))
-printed_names (To team (Within session action)) (team_is, small, plain) =
-    let names = action_names action plain in
-    (names.0, (team_is, (decimal_name session (omega arith), names.1)))
-
-pub reads_back : ReadsBack
-reads_back command plain =
-    let names = printed_names command plain in
-    ap (λ t. cond t (command_in (fields (printed command))) None) (line_bytes-joined (printed_fields command) names)
-    ∙ (ap command_in (fields-joined (printed_fields command) names) ∙ command_in-printed command plain)
+pub reads_back : NamesReadBack → PartsJoin (List ℕ) → ReadsBack
+reads_back names parts command plain =
+    let all = printed_names names command plain in
+    ap (λ t. cond t (command_in (fields (printed command))) None) (line_bytes-joined (printed_fields command) all)
+    ∙ (ap command_in (fields-joined (printed_fields command) all) ∙ command_in-printed names parts command plain)

@@ -7,6 +7,7 @@ pub mod Printed
 pub mod ReplyText
 pub mod Requests
 pub mod Stream
+pub mod Verbs
 pub mod Words
 pub mod ReportText
 pub mod Pieces

@@ -10,35 +10,26 @@ use Rattle.lf_proto.specs.ReplyText.{place_words}
 use Rattle.lf_proto.specs.declared.request.Command.{Command}
 use Rattle.lf_proto.specs.declared.request.Command.TheVariants.{Bye, To}
 use Rattle.lf_proto.specs.declared.request.Order.TheVariants.{Open, Within}
-use Rattle.lf_proto.specs.declared.request.Action.{Action}
-use Rattle.lf_proto.specs.declared.request.Action.TheVariants.{Close, Sync, Check, Def, Where, Find, Change as Changing}
-use Rattle.lf_proto.specs.declared.request.Change.{Change}
-use Rattle.lf_proto.specs.declared.request.Change.TheVariants.{Place as Placing, Legalize, Tidy, Unplace, Swap, Undo, Commit, Revert}
+use Rattle.lf_proto.specs.declared.verb.Operands.{Operands}
+use Rattle.lf_proto.specs.declared.verb.Operands.TheVariants.{Alone, Cell, CellAt, CellTo, Cells}
+use Rattle.lf_proto.specs.declared.verb.Action.{Action}
+use Rattle.lf_proto.specs.Verbs.{name_of, parts_of}
 
 -- a target: X Y
 abbrev pub target_words : Point → List (List ℕ)
 target_words target = signed_decimal target.x ∷ signed_decimal target.y ∷ []
 
--- the verb of a change, and its own fields
-abbrev pub change_words : Change (List ℕ) Place → List ℕ × List (List ℕ)
-change_words (Placing cell place) = (codes "place", cell ∷ place_words place)
-change_words (Legalize cell target) = (codes "legalize", cell ∷ target_words target)
-change_words Tidy = (codes "tidy", [])
-change_words (Unplace cell) = (codes "unplace", cell ∷ [])
-change_words (Swap first second) = (codes "swap", first ∷ second ∷ [])
-change_words Undo = (codes "undo", [])
-change_words Commit = (codes "commit", [])
-change_words Revert = (codes "revert", [])
+-- a verb's own fields
+abbrev pub operand_words : Operands (List ℕ) Place → List (List ℕ)
+operand_words Alone = []
+operand_words (Cell cell) = cell ∷ []
+operand_words (CellAt cell place) = cell ∷ place_words place
+operand_words (CellTo cell target) = cell ∷ target_words target
+operand_words (Cells first second) = first ∷ second ∷ []
 
 -- the verb of a session's action, and its own fields
 abbrev pub action_words : Action (List ℕ) Place → List ℕ × List (List ℕ)
-action_words Close = (codes "close", [])
-action_words Sync = (codes "sync", [])
-action_words Check = (codes "check", [])
-action_words Def = (codes "def", [])
-action_words (Where cell) = (codes "where", cell ∷ [])
-action_words (Find cell target) = (codes "find", cell ∷ target_words target)
-action_words (Changing change) = change_words change
+action_words action = (name_of (parts_of action).0, operand_words (parts_of action).1)
 
 -- the fields of a request: bye, or open TEAM, or the verb, TEAM N, and the verb's own fields
 abbrev pub printed_fields : Command (List ℕ) Place → List (List ℕ)

@@ -1,4 +1,4 @@
--- The lines that are requests, verb by verb.
+-- The lines that are requests, by the shapes of their fields.
 use Rattle.std.specs.Prelude.{ℕ, ◌<◌, ◌^◌, Bool, true, false, cond, List, [], ◌∷◌, Option, Some, None, ℤ, pos, negsuc, ◌<ℤ◌, codes}
 use Rattle.std.specs.Int.Signed.{lt_z, lt_z_yes}
 use Rattle.std.specs.List.{list_all}
@@ -10,19 +10,16 @@ use Rattle.lf_orient.specs.declared.Orient.TheVariants.{N, W, S, E, FN, FW, FS, 
 use Rattle.lf_floorplan.specs.declared.place.Place.{Place}
 use Rattle.lf_proto.specs.Lines.{fields, is_line_byte, IsName}
 use Rattle.lf_proto.specs.Numbers.{◌>>=◌, session_number, coordinate}
-use Rattle.lf_proto.specs.declared.line.Verb.{Verb}
-use Rattle.lf_proto.specs.declared.line.Verb.TheVariants.{Bye as Byes, Open as Opens, OfSession}
-use Rattle.lf_proto.specs.declared.line.SessionVerb.{SessionVerb}
-use Rattle.lf_proto.specs.declared.line.SessionVerb.TheVariants.{Close as Closes, Sync as Syncs, Check as Checks, Def as Defs, Where as Asks, Find as Finds}
-use Rattle.lf_proto.specs.declared.line.SessionVerb.TheVariants.{Place as Places, Legalize as Legalizes, Tidy as Tidies, Unplace as Unplaces}
-use Rattle.lf_proto.specs.declared.line.SessionVerb.TheVariants.{Swap as Swaps, Undo as Undoes, Commit as Commits, Revert as Reverts}
 use Rattle.lf_proto.specs.declared.request.Command.{Command}
 use Rattle.lf_proto.specs.declared.request.Command.TheVariants.{Bye, To}
 use Rattle.lf_proto.specs.declared.request.Order.TheVariants.{Open, Within}
-use Rattle.lf_proto.specs.declared.request.Action.{Action}
-use Rattle.lf_proto.specs.declared.request.Action.TheVariants.{Close, Sync, Check, Def, Where, Find, Change as Changing}
-use Rattle.lf_proto.specs.declared.request.Change.{Change}
-use Rattle.lf_proto.specs.declared.request.Change.TheVariants.{Place as Placing, Legalize, Tidy, Unplace, Swap, Undo, Commit, Revert}
+use Rattle.lf_proto.specs.declared.verb.Verb.{Verb}
+use Rattle.lf_proto.specs.declared.verb.Shape.{Shape}
+use Rattle.lf_proto.specs.declared.verb.Shape.TheVariants.{Alone, Cell, CellAt, CellTo, Cells}
+use Rattle.lf_proto.specs.declared.verb.Operands.{Operands}
+use Rattle.lf_proto.specs.declared.verb.Operands.TheVariants.{Alone as NoField, Cell as OneCell, CellAt as CellThere, CellTo as CellTowards, Cells as TwoCells}
+use Rattle.lf_proto.specs.declared.verb.Action.{Action}
+use Rattle.lf_proto.specs.Verbs.{joined, parts_of, shape_of, verb_named}
 
 -- an orientation by its name (LEF/DEF 5.8, DEF COMPONENTS)
 abbrev pub orient_named : List ℕ → Option Orient
@@ -74,86 +71,50 @@ target_of (x_text ∷ y_text ∷ []) = do
   Some (record { x = x; y = y })
 target_of _ = None
 
--- ---- the verbs
+-- ---- a verb's own fields
 
--- a verb by its name
-abbrev pub verb_named : List ℕ → Option Verb
-verb_named text =
-    cond (bytes_eq text (codes "bye")) (Some Byes)
-    (cond (bytes_eq text (codes "open")) (Some Opens)
-    (cond (bytes_eq text (codes "close")) (Some (OfSession Closes))
-    (cond (bytes_eq text (codes "sync")) (Some (OfSession Syncs))
-    (cond (bytes_eq text (codes "check")) (Some (OfSession Checks))
-    (cond (bytes_eq text (codes "def")) (Some (OfSession Defs))
-    (cond (bytes_eq text (codes "where")) (Some (OfSession Asks))
-    (cond (bytes_eq text (codes "find")) (Some (OfSession Finds))
-    (cond (bytes_eq text (codes "place")) (Some (OfSession Places))
-    (cond (bytes_eq text (codes "legalize")) (Some (OfSession Legalizes))
-    (cond (bytes_eq text (codes "tidy")) (Some (OfSession Tidies))
-    (cond (bytes_eq text (codes "unplace")) (Some (OfSession Unplaces))
-    (cond (bytes_eq text (codes "swap")) (Some (OfSession Swaps))
-    (cond (bytes_eq text (codes "undo")) (Some (OfSession Undoes))
-    (cond (bytes_eq text (codes "commit")) (Some (OfSession Commits))
-    (cond (bytes_eq text (codes "revert")) (Some (OfSession Reverts))
-    None)))))))))))))))
+-- no field
+abbrev pub alone_of : List (List ℕ) → Option (Operands (List ℕ) Place)
+alone_of [] = Some NoField
+alone_of _ = None
 
--- VERB TEAM N, after N: the action of a verb without fields of its own
-abbrev pub alone_of : Action (List ℕ) Place → List (List ℕ) → Option (Action (List ℕ) Place)
-alone_of action [] = Some action
-alone_of action _ = None
+-- CELL
+abbrev pub cell_of : List (List ℕ) → Option (Operands (List ℕ) Place)
+cell_of (cell ∷ []) = Some (OneCell cell)
+cell_of _ = None
 
--- where TEAM N CELL, after N
-abbrev pub where_of : List (List ℕ) → Option (Action (List ℕ) Place)
-where_of (cell ∷ []) = Some (Where cell)
-where_of _ = None
-
--- find TEAM N CELL X Y, after N
-abbrev pub find_of : List (List ℕ) → Option (Action (List ℕ) Place)
-find_of (cell ∷ fields) = do
-  target ← target_of fields
-  Some (Find cell target)
-find_of _ = None
-
--- place TEAM N CELL X Y O, after N
-abbrev pub placing_of : List (List ℕ) → Option (Action (List ℕ) Place)
-placing_of (cell ∷ fields) = do
+-- CELL X Y O
+abbrev pub cell_at_of : List (List ℕ) → Option (Operands (List ℕ) Place)
+cell_at_of (cell ∷ fields) = do
   place ← place_of fields
-  Some (Changing (Placing cell place))
-placing_of _ = None
+  Some (CellThere cell place)
+cell_at_of _ = None
 
--- legalize TEAM N CELL X Y, after N
-abbrev pub legalize_of : List (List ℕ) → Option (Action (List ℕ) Place)
-legalize_of (cell ∷ fields) = do
+-- CELL X Y
+abbrev pub cell_to_of : List (List ℕ) → Option (Operands (List ℕ) Place)
+cell_to_of (cell ∷ fields) = do
   target ← target_of fields
-  Some (Changing (Legalize cell target))
-legalize_of _ = None
+  Some (CellTowards cell target)
+cell_to_of _ = None
 
--- unplace TEAM N CELL, after N
-abbrev pub unplace_of : List (List ℕ) → Option (Action (List ℕ) Place)
-unplace_of (cell ∷ []) = Some (Changing (Unplace cell))
-unplace_of _ = None
+-- CELL CELL
+abbrev pub cells_of : List (List ℕ) → Option (Operands (List ℕ) Place)
+cells_of (first ∷ second ∷ []) = Some (TwoCells first second)
+cells_of _ = None
 
--- swap TEAM N CELL CELL, after N
-abbrev pub swap_of : List (List ℕ) → Option (Action (List ℕ) Place)
-swap_of (first ∷ second ∷ []) = Some (Changing (Swap first second))
-swap_of _ = None
+-- the fields of that shape, and nothing more
+abbrev pub operands_by : Shape → List (List ℕ) → Option (Operands (List ℕ) Place)
+operands_by Alone = alone_of
+operands_by Cell = cell_of
+operands_by CellAt = cell_at_of
+operands_by CellTo = cell_to_of
+operands_by Cells = cells_of
 
 -- a session's action, from its verb and the fields after its number
-abbrev pub action_by : SessionVerb → List (List ℕ) → Option (Action (List ℕ) Place)
-action_by Closes = alone_of Close
-action_by Syncs = alone_of Sync
-action_by Checks = alone_of Check
-action_by Defs = alone_of Def
-action_by Asks = where_of
-action_by Finds = find_of
-action_by Places = placing_of
-action_by Legalizes = legalize_of
-action_by Tidies = alone_of (Changing Tidy)
-action_by Unplaces = unplace_of
-action_by Swaps = swap_of
-action_by Undoes = alone_of (Changing Undo)
-action_by Commits = alone_of (Changing Commit)
-action_by Reverts = alone_of (Changing Revert)
+abbrev pub action_by : Verb → List (List ℕ) → Option (Action (List ℕ) Place)
+action_by verb own = do
+  operands ← operands_by (shape_of verb) own
+  joined verb operands
 
 -- ---- the lines
 
@@ -168,25 +129,26 @@ open_of (team ∷ []) = Some (To team Open)
 open_of _ = None
 
 -- TEAM N and the verb's own fields: an action of the session of that number of that team
-abbrev pub within_of : SessionVerb → List (List ℕ) → Option (Command (List ℕ) Place)
+abbrev pub within_of : Verb → List (List ℕ) → Option (Command (List ℕ) Place)
 within_of verb (team ∷ number ∷ own) = do
   session ← session_number number
   action ← action_by verb own
   Some (To team (Within session action))
 within_of verb _ = None
 
--- the command of a verb, from the fields after it
-abbrev pub asked_by : Verb → List (List ℕ) → Option (Command (List ℕ) Place)
-asked_by Byes = bye_of
-asked_by Opens = open_of
-asked_by (OfSession verb) = within_of verb
+-- the command of bye or open, from that word and the fields after it
+abbrev pub outside_of : List ℕ → List (List ℕ) → Option (Command (List ℕ) Place)
+outside_of word arguments = cond (bytes_eq word (codes "bye")) (bye_of arguments) (cond (bytes_eq word (codes "open")) (open_of arguments) None)
 
--- the command of a line's fields: the verb, then its fields
+-- the command of a line, from the session's verb that its first word names, if any, that word and the fields after it
+abbrev pub asked_by : Option Verb → List ℕ → List (List ℕ) → Option (Command (List ℕ) Place)
+asked_by (Some verb) word = within_of verb
+asked_by None word = outside_of word
+
+-- the command of a line's fields: the first word, then its fields
 abbrev pub command_in : List (List ℕ) → Option (Command (List ℕ) Place)
 command_in [] = None
-command_in (word ∷ arguments) = do
-  verb ← verb_named word
-  asked_by verb arguments
+command_in (word ∷ arguments) = asked_by (verb_named word) word arguments
 
 -- the command that a line gives, if it is a request
 abbrev pub command_on : List ℕ → Option (Command (List ℕ) Place)
@@ -209,20 +171,17 @@ pub record IsTarget (target : Point) : Type 0 where
   pub x_in_range : IsCoordinate target.x
   pub y_in_range : IsCoordinate target.y
 
--- a change that a line can ask
-abbrev pub IsPlainChange : Change (List ℕ) Place → Type 0
-IsPlainChange (Placing cell place) = IsName cell × IsInRange place
-IsPlainChange (Legalize cell target) = IsName cell × IsTarget target
-IsPlainChange (Unplace cell) = IsName cell
-IsPlainChange (Swap first second) = IsName first × IsName second
-IsPlainChange _ = Unit {0}
+-- own fields of a verb that a line can have
+abbrev pub ArePlain : Operands (List ℕ) Place → Type 0
+ArePlain NoField = Unit {0}
+ArePlain (OneCell cell) = IsName cell
+ArePlain (CellThere cell place) = IsName cell × IsInRange place
+ArePlain (CellTowards cell target) = IsName cell × IsTarget target
+ArePlain (TwoCells first second) = IsName first × IsName second
 
 -- what a session can ask by a line
 abbrev pub IsPlainAction : Action (List ℕ) Place → Type 0
-IsPlainAction (Where cell) = IsName cell
-IsPlainAction (Find cell target) = IsName cell × IsTarget target
-IsPlainAction (Changing change) = IsPlainChange change
-IsPlainAction _ = Unit {0}
+IsPlainAction action = ArePlain (parts_of action).1
 
 -- a request that a line can ask: its names are of visible bytes, and its numbers of 32 bits
 abbrev pub IsPlain : Command (List ℕ) Place → Type 0

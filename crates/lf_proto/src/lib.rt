@@ -9,11 +9,13 @@ mod report;
 mod request;
 mod request_list;
 mod text;
+mod verb;
 
 pub use framer::{Fed, Got, LineFramer};
 pub use line::{BadRequest, parse_line};
 pub use reply::{Refusal, Reply, Text};
 pub use report::report_json;
-pub use request::{Action, Change, Command, Order, Request};
+pub use request::{Command, Order, Request};
 pub use request_list::RequestList;
 pub use text::reply_text;
+pub use verb::{Action, Change};

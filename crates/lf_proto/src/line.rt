@@ -2,14 +2,18 @@
 
 ghost use Rattle.std.specs.Prelude.{◌≡◌, MatchResult, None, Some, true, option_map};
 ghost use Rattle.std.specs.List.{list_all};
-ghost use Rattle.lf_proto.specs.Commands.{action_of, command_of};
+ghost use Rattle.lf_proto.specs.Commands.{command_of};
 ghost use Rattle.lf_proto.specs.Lines.{fields, is_line_byte};
-ghost use Rattle.lf_proto.specs.Requests.{command_in, command_on, orient_named, place_of, place_written, target_of, verb_named};
-ghost use Rattle.lf_proto.specs.Requests.{action_by, alone_of, bye_of, find_of, legalize_of, open_of, placing_of, swap_of, unplace_of, where_of, within_of};
+ghost use Rattle.lf_proto.specs.Requests.{command_in, command_on, orient_named, place_of, place_written, target_of};
+ghost use Rattle.lf_proto.specs.Requests.{action_by, alone_of, bye_of, cell_at_of, cell_of, cell_to_of, cells_of, open_of, operands_by, outside_of, within_of};
+ghost use Rattle.lf_proto.specs.Verbs.{action_of, operands_of};
 ghost use Rattle.lf_proto.specs.Printed.{PassesBlanksAround, PassesBlanksBetween, ReadsBack};
 
 use crate::number::{coordinate_of, session_of};
-use crate::request::{Action, Change, Command, Order, Request};
+use crate::request::{Command, Order, Request};
+use crate::verb::{
+    Action, Operands, Shape, Verb, copies_join, join, names_read_back, parts_join, verb_of,
+};
 use bstr::{ByteSlice, Fields};
 use lf_floorplan::Place;
 use lf_orient::Orient;
@@ -18,58 +22,6 @@ use lf_units::Point;
 /// The line is no request.
 #[derive(Clone, Copy, Debug, PartialEq, Eq)]
 pub struct BadRequest;
-
-/// The first word of a request.
-#[derive(Clone, Copy)]
-enum Verb {
-    Bye,
-    Open,
-    OfSession(SessionVerb),
-}
-
-/// The first word of a session's request.
-#[derive(Clone, Copy)]
-enum SessionVerb {
-    Close,
-    Sync,
-    Check,
-    Def,
-    Where,
-    Find,
-    Place,
-    Legalize,
-    Tidy,
-    Unplace,
-    Swap,
-    Undo,
-    Commit,
-    Revert,
-}
-
-/// The verb of that name.
-fn verb_of(word: &[u8]) -> Option<Verb>
-    ensures { result ≡ verb_named word.now }
-{
-    match word {
-        b"bye" => Some(Verb::Bye),
-        b"open" => Some(Verb::Open),
-        b"close" => Some(Verb::OfSession(SessionVerb::Close)),
-        b"sync" => Some(Verb::OfSession(SessionVerb::Sync)),
-        b"check" => Some(Verb::OfSession(SessionVerb::Check)),
-        b"def" => Some(Verb::OfSession(SessionVerb::Def)),
-        b"where" => Some(Verb::OfSession(SessionVerb::Where)),
-        b"find" => Some(Verb::OfSession(SessionVerb::Find)),
-        b"place" => Some(Verb::OfSession(SessionVerb::Place)),
-        b"legalize" => Some(Verb::OfSession(SessionVerb::Legalize)),
-        b"tidy" => Some(Verb::OfSession(SessionVerb::Tidy)),
-        b"unplace" => Some(Verb::OfSession(SessionVerb::Unplace)),
-        b"swap" => Some(Verb::OfSession(SessionVerb::Swap)),
-        b"undo" => Some(Verb::OfSession(SessionVerb::Undo)),
-        b"commit" => Some(Verb::OfSession(SessionVerb::Commit)),
-        b"revert" => Some(Verb::OfSession(SessionVerb::Revert)),
-        _ => None,
-    }
-}
 
 /// The orientation of that name.
 fn orient_of(word: &[u8]) -> Option<Orient>
@@ -128,97 +80,77 @@ fn last_target(mut fields: Fields<'_>) -> Option<Point>
     })
 }
 
-/// The action of a verb without fields of its own, from the fields after N.
-fn alone<'a>(action: Action<&'a [u8]>, mut fields: Fields<'a>) -> Option<Action<&'a [u8]>>
-    ensures { option_map action_of result ≡ alone_of (action_of action.entry) fields.entry }
+/// The fields of a verb that has none of its own.
+fn alone<'a>(mut fields: Fields<'a>) -> Option<Operands<&'a [u8]>>
+    ensures { option_map operands_of result ≡ alone_of fields.entry }
 {
     if fields.next().is_some() {
         return None;
     }
-    Some(action)
+    Some(Operands::Alone)
 }
 
-/// The action of `where TEAM N CELL`, from the fields after N.
-fn where_action<'a>(mut fields: Fields<'a>) -> Option<Action<&'a [u8]>>
-    ensures { option_map action_of result ≡ where_of fields.entry }
+/// The field `CELL`.
+fn cell<'a>(mut fields: Fields<'a>) -> Option<Operands<&'a [u8]>>
+    ensures { option_map operands_of result ≡ cell_of fields.entry }
 {
     let cell = fields.next()?;
     if fields.next().is_some() {
         return None;
     }
-    Some(Action::Where { cell })
+    Some(Operands::Cell(cell))
 }
 
-/// The action of `find TEAM N CELL X Y`, from the fields after N.
-fn find_action<'a>(mut fields: Fields<'a>) -> Option<Action<&'a [u8]>>
-    ensures { option_map action_of result ≡ find_of fields.entry }
-{
-    let cell = fields.next()?;
-    let target = last_target(fields)?;
-    Some(Action::Find { cell, target })
-}
-
-/// The action of `place TEAM N CELL X Y O`, from the fields after N.
-fn place_action<'a>(mut fields: Fields<'a>) -> Option<Action<&'a [u8]>>
-    ensures { option_map action_of result ≡ placing_of fields.entry }
+/// The fields `CELL X Y O`.
+fn cell_at<'a>(mut fields: Fields<'a>) -> Option<Operands<&'a [u8]>>
+    ensures { option_map operands_of result ≡ cell_at_of fields.entry }
 {
     let cell = fields.next()?;
     let place = last_place(fields)?;
-    Some(Action::Change(Change::Place { cell, place }))
+    Some(Operands::CellAt(cell, place))
 }
 
-/// The action of `legalize TEAM N CELL X Y`, from the fields after N.
-fn legalize_action<'a>(mut fields: Fields<'a>) -> Option<Action<&'a [u8]>>
-    ensures { option_map action_of result ≡ legalize_of fields.entry }
+/// The fields `CELL X Y`.
+fn cell_to<'a>(mut fields: Fields<'a>) -> Option<Operands<&'a [u8]>>
+    ensures { option_map operands_of result ≡ cell_to_of fields.entry }
 {
     let cell = fields.next()?;
     let target = last_target(fields)?;
-    Some(Action::Change(Change::Legalize { cell, target }))
+    Some(Operands::CellTo(cell, target))
 }
 
-/// The action of `unplace TEAM N CELL`, from the fields after N.
-fn unplace_action<'a>(mut fields: Fields<'a>) -> Option<Action<&'a [u8]>>
-    ensures { option_map action_of result ≡ unplace_of fields.entry }
-{
-    let cell = fields.next()?;
-    if fields.next().is_some() {
-        return None;
-    }
-    Some(Action::Change(Change::Unplace { cell }))
-}
-
-/// The action of `swap TEAM N CELL CELL`, from the fields after N.
-fn swap_action<'a>(mut fields: Fields<'a>) -> Option<Action<&'a [u8]>>
-    ensures { option_map action_of result ≡ swap_of fields.entry }
+/// The fields `CELL CELL`.
+fn cells<'a>(mut fields: Fields<'a>) -> Option<Operands<&'a [u8]>>
+    ensures { option_map operands_of result ≡ cells_of fields.entry }
 {
     let first = fields.next()?;
     let second = fields.next()?;
     if fields.next().is_some() {
         return None;
     }
-    Some(Action::Change(Change::Swap { first, second }))
+    Some(Operands::Cells(first, second))
+}
+
+/// The fields of that shape.
+fn operands_in<'a>(shape: Shape, fields: Fields<'a>) -> Option<Operands<&'a [u8]>>
+    ensures { option_map operands_of result ≡ operands_by shape fields.entry }
+{
+    match shape {
+        Shape::Alone => alone(fields),
+        Shape::Cell => cell(fields),
+        Shape::CellAt => cell_at(fields),
+        Shape::CellTo => cell_to(fields),
+        Shape::Cells => cells(fields),
+    }
 }
 
 /// A session's action, from its verb and the fields after its number.
-fn action_in<'a>(verb: SessionVerb, fields: Fields<'a>) -> Option<Action<&'a [u8]>>
+fn action_in<'a>(verb: Verb, fields: Fields<'a>) -> Option<Action<&'a [u8]>>
     ensures { option_map action_of result ≡ action_by verb fields.entry }
 {
-    match verb {
-        SessionVerb::Close => alone(Action::Close, fields),
-        SessionVerb::Sync => alone(Action::Sync, fields),
-        SessionVerb::Check => alone(Action::Check, fields),
-        SessionVerb::Def => alone(Action::Def, fields),
-        SessionVerb::Where => where_action(fields),
-        SessionVerb::Find => find_action(fields),
-        SessionVerb::Place => place_action(fields),
-        SessionVerb::Legalize => legalize_action(fields),
-        SessionVerb::Tidy => alone(Action::Change(Change::Tidy), fields),
-        SessionVerb::Unplace => unplace_action(fields),
-        SessionVerb::Swap => swap_action(fields),
-        SessionVerb::Undo => alone(Action::Change(Change::Undo), fields),
-        SessionVerb::Commit => alone(Action::Change(Change::Commit), fields),
-        SessionVerb::Revert => alone(Action::Change(Change::Revert), fields),
-    }
+    copies_join();
+    let operands = operands_in(verb.shape(), fields)?;
+    join(verb, operands)
 }
 
 /// The request of `bye`, without the verb.
@@ -246,7 +178,7 @@ fn open_request<'a>(mut fields: Fields<'a>) -> Option<Request<'a>>
 }
 
 /// The request of a session's verb: `TEAM N` and the verb's own fields, without the verb.
-fn session_request<'a>(verb: SessionVerb, mut fields: Fields<'a>) -> Option<Request<'a>>
+fn session_request<'a>(verb: Verb, mut fields: Fields<'a>) -> Option<Request<'a>>
     ensures { option_map command_of result ≡ within_of verb fields.entry }
 {
     let team = fields.next()?;
@@ -258,14 +190,25 @@ fn session_request<'a>(verb: SessionVerb, mut fields: Fields<'a>) -> Option<Requ
     })
 }
 
+/// The request of `bye` or `open`, from that word and the fields after it.
+fn outside_request<'a>(word: &[u8], fields: Fields<'a>) -> Option<Request<'a>>
+    ensures { option_map command_of result ≡ outside_of word.now fields.entry }
+{
+    match word {
+        b"bye" => bye_request(fields),
+        b"open" => open_request(fields),
+        _ => None,
+    }
+}
+
 /// The request that the fields of a line make.
 fn request_in<'a>(mut fields: Fields<'a>) -> Option<Request<'a>>
     ensures { option_map command_of result ≡ command_in fields.entry }
 {
-    match verb_of(fields.next()?)? {
-        Verb::Bye => bye_request(fields),
-        Verb::Open => open_request(fields),
-        Verb::OfSession(verb) => session_request(verb, fields),
+    let word = fields.next()?;
+    match verb_of(word) {
+        Some(verb) => session_request(verb, fields),
+        None => outside_request(word, fields),
     }
 }
 
@@ -301,7 +244,10 @@ pub fn parse_line<'a>(line: &'a [u8]) -> Result<Request<'a>, BadRequest>
 /// names of visible bytes and numbers of 32 bits.
 pub(crate) fn printed_reads_back()
     ensures { ReadsBack }
-{}
+{
+    names_read_back();
+    parts_join();
+}
 
 /// Blanks before and after a line play no part.
 pub(crate) fn blanks_around_pass()

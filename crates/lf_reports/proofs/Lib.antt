@@ -1,6 +1,3 @@
-pub mod NearLemmas
-pub mod AreaLemmas
-pub mod WindowLemmas
 pub mod MetLemmas
 pub mod VerdictLists
 pub mod ReportLemmas

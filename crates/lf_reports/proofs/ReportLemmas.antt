@@ -1,20 +1,13 @@
 -- What the loops of a report gather.
-use Rattle.std.proofs.Common.{◌≡◌, ℕ, zero, suc, ◌+◌, List, [], ◌∷◌, ◌++◌, not, eqb, map, filter, Option, Some, None, refl, ap, sym, ◌∙◌, arith}
+use Rattle.std.proofs.Common.{◌≡◌, ℕ, zero, suc, ◌+◌, List, [], ◌∷◌, ◌++◌, Option, Some, None, refl, ap, sym, ◌∙◌, arith}
 use Rattle.std.specs.Prelude.{slice_get, filter_map, option_map, option_and_then}
 use Rattle.std.specs.List.{range_with_len, cons_option}
-use Rattle.std.specs.Borrow.{Bor}
 use Rattle.lf_floorplan.specs.declared.frame.Frame.{Frame}
 use Rattle.lf_floorplan.specs.declared.place.Place.{Place}
 use Rattle.lf_rules.specs.declared.rule.Broken.{Broken}
-use Rattle.lf_rtree.specs.declared.placed.Placed.{Placed}
 use Rattle.lf_rules.specs.declared.report.Listed.{Listed}
 use Rattle.lf_rules.specs.Legalizer.{Legalizer, IsVerdict, VerdictIsOne}
-use Rattle.lf_rules.specs.Team.{boxes_from}
-use Rattle.lf_reports.specs.Reports.{IsListed, named, member_of, trial_among, broken_among, violation_of, violation_by, violation_at}
-
--- the boxes of the cells from that number on, but for the cell `own`
-abbrev pub beside_from : Frame → ℕ → ℕ → List (Listed (Bor (List ℕ))) → List Placed
-beside_from f own n cells = filter (λ p. not (eqb p.own own)) (boxes_from f n (map member_of (map named cells)))
+use Rattle.lf_reports.specs.Reports.{IsListed, trial_among, broken_among, violation_of, violation_by, violation_at}
 
 -- a verdict on the cell's trial is what every legalizer says
 pub broken_is : (l : Legalizer) (f : Frame) (cells : List (Listed (List ℕ))) (own : ℕ) (c : Listed (List ℕ)) (place : Place) (found : Option Broken) →

@@ -17,7 +17,12 @@ use Rattle.lf_rules.specs.Choice.{Spot, spot_of}
 use Rattle.lf_rules.specs.Legalizer.{Legalizer}
 use Rattle.lf_rules.specs.Team.{Member, box_in, with_box, boxes_from}
 use Rattle.lf_reports.specs.Reports.{IsListed, member_of, named, trial_among, broken_among, verdict_at, AreVerdicts, AreSomeVerdicts, IsPut, PutsVerdict}
-use Rattle.lf_reports.proofs.NearLemmas.{first_there, later_there}
+
+first_there : (x : Placed) (xs : List Placed) → Contains (x ∷ xs) x
+first_there x xs = (0, omega arith, refl)
+
+later_there : (x y : Placed) (xs : List Placed) → Contains xs y → Contains (x ∷ xs) y
+later_there x y xs (k, within, is) = (suc k, omega (arith, within), is)
 
 -- ---- the numbers of boxes
 

@@ -1,3 +1,2 @@
-pub mod Nearby
 pub mod Reports
 pub mod Illegal

@@ -3,22 +3,20 @@
 ghost use Rattle.std.specs.Prelude.{◌≡◌, ◌↔◌, ◌<◌, ◌≤◌, ◌++◌, [], All, IfOk, OnOk, None, Some, ℕ, List, IsPermutation, is_none, slice_get, count_by, length, map, option_and_then};
 ghost use Rattle.std.specs.List.{cons_option};
 ghost use Rattle.lf_floorplan.specs.Boxes.{IsSized, macro_of};
+ghost use Rattle.lf_rules.specs.Legality.{trial_of};
 ghost use Rattle.lf_rules.specs.Legalizer.{IsVerdict, Legalizer};
 ghost use Rattle.lf_rules.specs.FullyLegal.{IsFullyLegal, standing_at};
 ghost use Rattle.lf_rules.specs.Reports.{IsClean, IsTold};
 ghost use Rattle.lf_reports.specs.Reports.{IsListed, broken_among, listed_at, member_of, name_among, named, report_of, standing_of, trial_among, AreSomeVerdicts, IsPut, AreVerdicts, PutsVerdict, verdict_at, violation_at, violation_of, violations_in};
-ghost use Rattle.lf_reports.specs.Nearby.{IsIndexOf, IsSearchOf};
 ghost use Rattle.lf_rules.specs.Team.{Member, boxes_beside, boxes_from, with_box};
 
-use crate::frame_index::FrameIndex;
-use crate::search::{Search, broken_beside};
-use crate::window::Window;
-use lf_floorplan::{Cell, Frame, Loaded, Macro, Place, cell_is_sized};
+use lf_floorplan::{Cell, Frame, Loaded, Macro, Near, Place, cell_is_sized};
 use lf_rtree::{Placed, RTree};
 use lf_rules::{
-    Broken, Listed, Report, Rule, Violation, box_of, first_broken, legalizer_is_there,
+    Broken, Listed, Report, Violation, box_of, broken_alone, legalizer_is_there, overlap_with,
     verdict_is_one,
 };
+use lf_segments::{Ground, Plan};
 use lf_units::{Name, Sequence};
 use std::alloc::{AllocError, Global};
 
@@ -50,81 +48,43 @@ fn push_box(
     Ok(())
 }
 
-/// The boxes of the placed cells but the one of that number, in their order.
-fn boxes_but(
-    alloc: Global,
-    frame: &Frame,
-    cells: &[Listed<&[u8]>],
-    own: usize,
-) -> Result<Vec<Placed>, AllocError>
-    requires listed { All (λ c. IsListed frame.now (named c)) cells.now }
-    requires few { length cells.now ≤ 4000000 }
-    ensures { IfOk result (λ others. others.items ≡ boxes_beside frame.now (map member_of (map named cells.now)) own) }
-{
-    let mut others = Vec::new(alloc);
-    for (number, cell) in cells.iter().enumerate() {
-        if number != own {
-            push_box(&mut others, frame, cell, number as u32)?;
-        }
-    }
-    Ok(others)
-}
-
-/// The first rule that the cell of that number breaks at the place, beside the other placed cells.
+/// The first rule that the cell of that number breaks at the place, beside the boxes of other numbers than its own.
 fn broken_at(
-    alloc: Global,
-    frame: &Frame,
-    index: &FrameIndex,
-    search: &Search,
-    cells: &[Listed<&[u8]>],
-    own: usize,
+    plan: &Plan<'_>,
+    boxes: &RTree,
+    own: u32,
     cell: &Listed<&[u8]>,
     place: &Place,
-) -> Result<Option<Broken>, AllocError>
-    requires listed { All (λ c. IsListed frame.now (named c)) cells.now }
-    requires few { length cells.now ≤ 4000000 }
-    requires this { IsListed frame.now (named cell.now) }
-    requires within { own < length cells.now }
-    requires index { IsIndexOf frame.now index.now }
-    requires search { IsSearchOf frame.now (map member_of (map named cells.now)) search.now }
-    ensures { IfOk result (λ broken. IsVerdict (trial_among frame.now (map named cells.now) own (named cell.now) place.now) broken) }
+) -> Option<Broken>
+    requires { IsListed plan.now (named cell.now) }
+    ensures { (cells : List Member) → IsPermutation (boxes_from plan.now 0 cells) boxes.now →
+        IsVerdict (trial_of plan.now cell.now.team (macro_of plan.now cell.now.mac) place.now (boxes_beside plan.now cells own)) result }
 {
+    let frame = plan.frame();
     let mac = macro_in(frame, cell);
-    match search {
-        Search::Plain => {
-            let others = boxes_but(alloc, frame, cells, own)?;
-            Ok(first_broken(frame, cell.team, mac, place, &others))
-        }
-        Search::Indexed(boxes, window) => broken_beside(
-            alloc, frame, index, boxes, window, cell.team, mac, place, own as u32,
-        ),
+    if let Some(rule) = broken_alone(plan, cell.team, mac, place) {
+        return Some(Broken { rule, other: None });
     }
+    overlap_with(boxes.least_met(&box_of(frame, mac, place), own))
 }
 
 /// The first rule that the cell of that number breaks where it stands, beside the other placed cells.
 fn broken_in(
-    alloc: Global,
-    frame: &Frame,
-    index: &FrameIndex,
-    search: &Search,
+    plan: &Plan<'_>,
+    boxes: &RTree,
     cells: &[Listed<&[u8]>],
     own: usize,
     cell: &Listed<&[u8]>,
-) -> Result<Option<Broken>, AllocError>
-    requires listed { All (λ c. IsListed frame.now (named c)) cells.now }
+) -> Option<Broken>
     requires few { length cells.now ≤ 4000000 }
-    requires this { IsListed frame.now (named cell.now) }
+    requires this { IsListed plan.now (named cell.now) }
     requires within { own < length cells.now }
-    requires index { IsIndexOf frame.now index.now }
-    requires search { IsSearchOf frame.now (map member_of (map named cells.now)) search.now }
-    ensures { IfOk result (λ broken. (l : Legalizer) → broken ≡ broken_among l frame.now (map named cells.now) own (named cell.now)) }
+    requires tree { IsPermutation (boxes_from plan.now 0 (map member_of (map named cells.now))) boxes.now }
+    ensures { (l : Legalizer) → result ≡ broken_among l plan.now (map named cells.now) own (named cell.now) }
 {
     verdict_is_one();
-    let Some(place) = cell.place else {
-        return Ok(None);
-    };
-    let broken = broken_at(alloc, frame, index, search, cells, own, cell, &place)?;
-    Ok(broken)
+    let place = cell.place?;
+    broken_at(plan, boxes, own as u32, cell, &place)
 }
 
 /// A copy of the name of the cell of that number.
@@ -193,29 +153,24 @@ fn put(verdicts: &mut Vec<Option<Broken>>, own: usize, verdict: Option<Broken>)
 
 /// Sets the verdict of the cell of that number.
 fn put_verdict(
-    alloc: Global,
-    frame: &Frame,
-    index: &FrameIndex,
-    search: &Search,
+    plan: &Plan<'_>,
+    boxes: &RTree,
     cells: &[Listed<&[u8]>],
     own: usize,
     cell: &Listed<&[u8]>,
     verdicts: &mut Vec<Option<Broken>>,
-) -> Result<(), AllocError>
-    requires listed { All (λ c. IsListed frame.now (named c)) cells.now }
+)
     requires few { length cells.now ≤ 4000000 }
-    requires this { IsListed frame.now (named cell.now) }
+    requires this { IsListed plan.now (named cell.now) }
     requires there { slice_get (map named cells.now) own ≡ Some (named cell.now) }
     requires within { own < length cells.now }
-    requires index { IsIndexOf frame.now index.now }
-    requires search { IsSearchOf frame.now (map member_of (map named cells.now)) search.now }
+    requires tree { IsPermutation (boxes_from plan.now 0 (map member_of (map named cells.now))) boxes.now }
     requires count { length verdicts.old.items ≡ length cells.now }
-    ensures count { OnOk result (length verdicts.new.items ≡ length cells.now) }
-    ensures put { (l : Legalizer) → OnOk result (AreSomeVerdicts l frame.now (map named cells.now) verdicts.old.items → PutsVerdict l frame.now (map named cells.now) own verdicts.old.items verdicts.new.items) }
+    ensures count { length verdicts.new.items ≡ length cells.now }
+    ensures put { (l : Legalizer) → AreSomeVerdicts l plan.now (map named cells.now) verdicts.old.items → PutsVerdict l plan.now (map named cells.now) own verdicts.old.items verdicts.new.items }
 {
-    let verdict = broken_in(alloc, frame, index, search, cells, own, cell)?;
+    let verdict = broken_in(plan, boxes, cells, own, cell);
     put(verdicts, own, verdict);
-    Ok(())
 }
 
 /// The cells of these boxes, in the boxes' order. They are fetched in a pass of their own, so that the waits for
@@ -239,27 +194,24 @@ fn fetch<'a>(
 /// are looked at one after another.
 fn verdicts_in(
     alloc: Global,
-    frame: &Frame,
-    index: &FrameIndex,
-    search: &mut Search,
+    plan: &Plan<'_>,
+    tree: &RTree,
     cells: &[Listed<&[u8]>],
     boxes: &[Placed],
 ) -> Result<Vec<Option<Broken>>, AllocError>
-    requires listed { All (λ c. IsListed frame.now (named c)) cells.now }
+    requires listed { All (λ c. IsListed plan.now (named c)) cells.now }
     requires few { length cells.now ≤ 4000000 }
-    requires index { IsIndexOf frame.now index.now }
-    requires search { IsSearchOf frame.now (map member_of (map named cells.now)) search.old }
-    requires boxes { IsPermutation (boxes_from frame.now 0 (map member_of (map named cells.now))) boxes.now }
+    requires tree { IsPermutation (boxes_from plan.now 0 (map member_of (map named cells.now))) tree.now }
+    requires boxes { IsPermutation (boxes_from plan.now 0 (map member_of (map named cells.now))) boxes.now }
     ensures count { IfOk result (λ verdicts. length verdicts.items ≡ length cells.now) }
-    ensures each { (l : Legalizer) → IfOk result (λ verdicts. AreVerdicts l frame.now (map named cells.now) verdicts.items) }
+    ensures each { (l : Legalizer) → IfOk result (λ verdicts. AreVerdicts l plan.now (map named cells.now) verdicts.items) }
 {
     let fetched = fetch(alloc, cells, boxes)?;
     let mut verdicts = no_verdicts(alloc, cells.len())?;
     for (number, placed) in boxes.iter().enumerate() {
-        search.move_to(index, boxes, number)?;
         let own = placed.own as usize;
         let cell = &fetched[number];
-        put_verdict(alloc, frame, index, search, cells, own, cell, &mut verdicts)?;
+        put_verdict(plan, tree, cells, own, cell, &mut verdicts);
     }
     Ok(verdicts)
 }
@@ -347,87 +299,49 @@ fn boxes_in(
     Ok(boxes)
 }
 
-/// The search that finds what lies near a cell without looking at all of the frame and of the cells, whose boxes are
-/// put into the order in which they lie.
-fn indexed(alloc: Global, index: &FrameIndex, boxes: &mut [Placed]) -> Result<Search, AllocError>
-    ensures same { IsPermutation boxes.old boxes.new }
-    ensures search { (f : Frame) (cells : List Member) → IsIndexOf f index.now → IsPermutation (boxes_from f 0 cells) boxes.old → IfOk result (λ search. IsSearchOf f cells search) }
-{
-    let boxes = RTree::build(alloc, boxes)?;
-    let window = Window::new(alloc, index)?;
-    Ok(Search::Indexed(boxes, window))
-}
-
-/// What the rules are tested against for each cell.
-#[derive(Clone, Copy)]
-enum Against {
-    /// All rows, fences and obstacles, and all other cells.
-    All,
-    /// What lies near the cell.
-    Near,
-}
-
-/// The first rule that each of these cells breaks where it stands.
-fn verdicts_against(
-    alloc: Global,
-    frame: &Frame,
-    index: &FrameIndex,
-    cells: &[Listed<&[u8]>],
-    against: Against,
-) -> Result<Vec<Option<Broken>>, AllocError>
-    requires listed { All (λ c. IsListed frame.now (named c)) cells.now }
-    requires few { length cells.now ≤ 4000000 }
-    requires index { IsIndexOf frame.now index.now }
-    ensures count { IfOk result (λ verdicts. length verdicts.items ≡ length cells.now) }
-    ensures each { (l : Legalizer) → IfOk result (λ verdicts. AreVerdicts l frame.now (map named cells.now) verdicts.items) }
-{
-    let mut boxes = boxes_in(alloc, frame, cells)?;
-    match against {
-        Against::All => verdicts_in(alloc, frame, index, &mut Search::Plain, cells, &boxes),
-        Against::Near => {
-            let mut search = indexed(alloc, index, boxes.as_mut_slice())?;
-            verdicts_in(alloc, frame, index, &mut search, cells, &boxes)
-        }
-    }
-}
-
 /// For each of these cells the first rule that it breaks where it stands, and for Overlap the first other cell that it
 /// meets; none if it breaks no rule, or is unplaced.
 ///
 /// Overlap is between any two cells of the list: those of a team, or of a whole design. A cell is only compared with
-/// what lies near it, found by the frame's index. `Err` if an allocation fails.
+/// what lies near it. `Err` if an allocation fails.
 pub fn verdicts_on(
     alloc: Global,
-    frame: &Frame,
-    index: &FrameIndex,
+    plan: &Plan<'_>,
     cells: &[Listed<&[u8]>],
 ) -> Result<Vec<Option<Broken>>, AllocError>
-    requires listed { All (λ c. IsListed frame.now (named c)) cells.now }
+    requires listed { All (λ c. IsListed plan.now (named c)) cells.now }
     requires few { length cells.now ≤ 4000000 }
-    requires index { IsIndexOf frame.now index.now }
     ensures count { IfOk result (λ verdicts. length verdicts.items ≡ length cells.now) }
-    ensures each { (l : Legalizer) → IfOk result (λ verdicts. AreVerdicts l frame.now (map named cells.now) verdicts.items) }
+    ensures each { (l : Legalizer) → IfOk result (λ verdicts. AreVerdicts l plan.now (map named cells.now) verdicts.items) }
 {
-    verdicts_against(alloc, frame, index, cells, Against::Near)
+    let mut boxes = boxes_in(alloc, plan.frame(), cells)?;
+    let tree = RTree::build(alloc, boxes.as_mut_slice())?;
+    verdicts_in(alloc, plan, &tree, cells, &boxes)
 }
 
 /// The report of these cells, in which overlap is between any two of them.
-fn report_against(
-    alloc: Global,
-    frame: &Frame,
-    cells: &[Listed<&[u8]>],
-    against: Against,
-) -> Result<Report, AllocError>
+fn report_on(alloc: Global, plan: &Plan<'_>, cells: &[Listed<&[u8]>]) -> Result<Report, AllocError>
+    requires listed { All (λ c. IsListed plan.now (named c)) cells.now }
+    requires few { length cells.now ≤ 4000000 }
+    ensures report { (l : Legalizer) → IfOk result (λ report. report ≡ report_of l plan.now (map named cells.now)) }
+    ensures legal { IfOk result (λ report. IsClean report ↔ IsFullyLegal plan.now (map standing_of (map named cells.now))) }
+    ensures told { IfOk result (λ report. All IsTold report.violations) }
+{
+    legalizer_is_there();
+    let verdicts = verdicts_on(alloc, plan, cells)?;
+    report_by_verdicts(alloc, cells, &verdicts)
+}
+
+/// The report of these cells on a frame of which nothing is looked up yet.
+fn report_of(alloc: Global, frame: &Frame, cells: &[Listed<&[u8]>]) -> Result<Report, AllocError>
     requires listed { All (λ c. IsListed frame.now (named c)) cells.now }
     requires few { length cells.now ≤ 4000000 }
     ensures report { (l : Legalizer) → IfOk result (λ report. report ≡ report_of l frame.now (map named cells.now)) }
     ensures legal { IfOk result (λ report. IsClean report ↔ IsFullyLegal frame.now (map standing_of (map named cells.now))) }
     ensures told { IfOk result (λ report. All IsTold report.violations) }
 {
-    legalizer_is_there();
-    let index = FrameIndex::build(alloc, frame)?;
-    let verdicts = verdicts_against(alloc, frame, &index, cells, against)?;
-    report_by_verdicts(alloc, cells, &verdicts)
+    let index = Ground::build(alloc, frame)?;
+    report_on(alloc, &Plan::new(frame, &index), cells)
 }
 
 /// The cells of a design at these places.
@@ -451,23 +365,6 @@ fn listed_cells<'a>(
     Ok(listed)
 }
 
-/// The report of a design whose movable cells stand at these places.
-fn check_against(
-    alloc: Global,
-    loaded: &Loaded,
-    places: &[Option<Place>],
-    against: Against,
-) -> Result<Report, AllocError>
-    requires { length places.now ≡ length loaded.now.cells }
-    ensures report { (l : Legalizer) → IfOk result (λ report. report ≡ report_of l loaded.now.frame (listed_at loaded.now.cells places.now)) }
-    ensures legal { IfOk result (λ report. IsClean report ↔ IsFullyLegal loaded.now.frame (standing_at loaded.now.cells places.now)) }
-    ensures told { IfOk result (λ report. All IsTold report.violations) }
-{
-    cell_is_sized();
-    let cells = listed_cells(alloc, loaded.cells.as_slice(), places)?;
-    report_against(alloc, &loaded.frame, &cells, against)
-}
-
 /// The report of a design whose movable cells stand at these places, one for each cell in loading order; overlap
 /// is between cells of any teams.
 ///
@@ -482,20 +379,7 @@ pub fn check_all(
     ensures legal { IfOk result (λ report. IsClean report ↔ IsFullyLegal loaded.now.frame (standing_at loaded.now.cells places.now)) }
     ensures told { IfOk result (λ report. All IsTold report.violations) }
 {
-    check_against(alloc, loaded, places, Against::Near)
-}
-
-/// The report of `check_all` by the plain search: each two cells are compared, and each cell with every row, fence
-/// and obstacle. `Err` if an allocation fails.
-pub fn check_all_pairs(
-    alloc: Global,
-    loaded: &Loaded,
-    places: &[Option<Place>],
-) -> Result<Report, AllocError>
-    requires { length places.now ≡ length loaded.now.cells }
-    ensures report { (l : Legalizer) → IfOk result (λ report. report ≡ report_of l loaded.now.frame (listed_at loaded.now.cells places.now)) }
-    ensures legal { IfOk result (λ report. IsClean report ↔ IsFullyLegal loaded.now.frame (standing_at loaded.now.cells places.now)) }
-    ensures told { IfOk result (λ report. All IsTold report.violations) }
-{
-    check_against(alloc, loaded, places, Against::All)
+    cell_is_sized();
+    let cells = listed_cells(alloc, loaded.cells.as_slice(), places)?;
+    report_of(alloc, &loaded.frame, &cells)
 }

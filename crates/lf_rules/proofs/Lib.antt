@@ -2,6 +2,8 @@ pub mod GroundLemmas
 pub mod CoverLemmas
 pub mod LegalParts
 pub mod RuleLemmas
+pub mod RowsAt
+pub mod WalkLemmas
 pub mod Deciding
 pub mod Verdicts
 pub mod ChoiceLemmas
@@ -14,3 +16,4 @@ pub mod BesideLemmas
 pub mod TidyLemmas
 pub mod DesignLemmas
 pub mod KeptLemmas
+pub mod LeastMet

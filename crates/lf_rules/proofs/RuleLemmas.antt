@@ -1,6 +1,7 @@
 -- The rules of a trial, from what is known at one height and one bottom row.
-use Rattle.std.proofs.Common.{◌≡◌, ℕ, ℤ, ◌<◌, ◌≤◌, ◌%◌, ◌<ℤ◌, length, get_or, Some, None, refl, sym, subst, arith, IsTrue}
-use Rattle.std.specs.Prelude.{All}
+use Rattle.std.proofs.Common.{◌≡◌, ℕ, ℤ, ◌<◌, ◌≤◌, ◌%◌, ◌<ℤ◌, length, get_or, Option, Some, None, refl, sym, subst, arith, IsTrue}
+use Rattle.std.specs.Prelude.{All, MatchOption}
+use Rattle.std.specs.Option.{option_map}
 use Rattle.std.proofs.lemmas.Option.{slice_get_within, get_or_from_slice_get}
 use Rattle.lf_units.specs.declared.area.Rect.{Rect}
 use Rattle.lf_units.specs.Area.{Covers, SharesPoint}
@@ -10,7 +11,8 @@ use Rattle.lf_floorplan.specs.declared.parts.Row.{Row}
 use Rattle.lf_floorplan.proofs.StandingLemmas.{height_one, bottom_one}
 use Rattle.lf_rules.specs.declared.rule.Rule.{Rule}
 use Rattle.lf_rules.specs.declared.rule.Rule.TheVariants.{Height, Row as RowRule, Stand, Orient as OrientRule, Rail as RailRule, Fence, Obstacle, Overlap}
-use Rattle.lf_rules.specs.Legality.{IsFirstMet, Trial, box_of, Holds, number_of, IsTeamLegal, IsFirstBroken}
+use Rattle.lf_rules.specs.Legality.{IsFirstMet, IsFrameVerdict, Trial, box_of, Holds, number_of, IsTeamLegal, IsFirstBroken}
+use Rattle.lf_rules.specs.Legalizer.{IsVerdict}
 use Rattle.lf_rules.proofs.LegalParts.{HoldsBelow, KeepsFrame, below_overlap, first_broken_by, frame_below, legal_by_parts, next_below, none_below}
 use Rattle.lf_floorplan.specs.Standing.{IsSitesHigh, IsBottomRow, Carries, StandsOn}
 use Rattle.lf_floorplan.specs.Ground.{InGround}
@@ -80,6 +82,10 @@ OnRows t = (r : Rule) → number_of r ≤ 5 → Holds t r
 -- the box stands on rows
 pub rows_stand : (t : Trial) → OnRows t → StandsOn t.frame (box_of t)
 rows_stand t rows = record { height = rows Height (omega arith); row = rows RowRule (omega arith); stand = rows Stand (omega arith) }
+
+-- so it is where the code has the box
+pub rows_stand_at : (t : Trial) (box : Rect) → box ≡ box_of t → OnRows t → StandsOn t.frame box
+rows_stand_at t box is rows = subst (StandsOn t.frame) (sym is) (rows_stand t rows)
 
 below_fence : (t : Trial) → OnRows t → HoldsBelow t Fence
 below_fence t rows r less = rows r (omega (arith, less))
@@ -181,3 +187,23 @@ overlap_not t box own is keeps met = overlap_broken t own keeps (subst (λ (b : 
 
 pub all_at : (t : Trial) (box : Rect) → box ≡ box_of t → KeepsFrame t → ApartAt t box → IsTeamLegal t
 all_at t box is keeps a = (legal_by_parts t).1 (keeps, subst (ApartAt t) is a)
+
+-- ---- the verdict
+
+-- a rule but overlap that is the first broken
+pub frame_broken : (t : Trial) (verdict : Option Rule) (rule : Rule) → verdict ≡ Some rule → IsFrameVerdict t verdict →
+    IsFirstBroken t record { rule = rule; other = None }
+frame_broken t verdict rule is said = subst (IsFrameVerdict t) is said
+
+-- where all rules but overlap hold, the other cell that is met decides
+pub met_verdict : (t : Trial) (box : Rect) (verdict : Option Rule) (met : Option ℕ) → box ≡ box_of t → verdict ≡ None → IsFrameVerdict t verdict →
+    MatchOption met (ApartAt t box) (λ own. IsFirstMet box t.others own) → IsVerdict t (option_map (λ own. record { rule = Overlap; other = Some own }) met)
+met_verdict t box verdict met at none said found = by met found
+  where
+    keeps : KeepsFrame t
+    keeps = subst (IsFrameVerdict t) none said
+
+    by : (m : Option ℕ) → MatchOption m (ApartAt t box) (λ own. IsFirstMet box t.others own) →
+        IsVerdict t (option_map (λ own. record { rule = Overlap; other = Some own }) m)
+    by None apart = all_at t box at keeps apart
+    by (Some own) first = overlap_not t box own at keeps first

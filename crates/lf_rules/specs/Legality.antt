@@ -1,5 +1,5 @@
 -- When a place is legal for a cell: the eight rules, and the first of them that is broken.
-use Rattle.std.specs.Prelude.{◌≡◌, ◌≢◌, ℕ, ℤ, ◌%◌, ◌<◌, List, All, IsTrue, Some, slice_get, take, MatchOption}
+use Rattle.std.specs.Prelude.{◌≡◌, ◌≢◌, ℕ, ℤ, ◌%◌, ◌<◌, ◌≤◌, List, All, IsTrue, Option, None, Some, slice_get, take, MatchOption}
 use Rattle.lf_units.specs.declared.area.Rect.{Rect}
 use Rattle.lf_units.specs.Area.{SharesPoint}
 use Rattle.lf_orient.specs.declared.Orient.{Orient}
@@ -95,3 +95,7 @@ pub record IsFirstBroken (t : Trial) (b : Broken) : Type 0 where
   pub broken : Holds t b.rule → ⊥
   pub lesser : (r : Rule) → number_of r < number_of b.rule → Holds t r
   pub other : MatchOption b.other (b.rule ≢ Overlap) (λ own. (b.rule ≡ Overlap) × IsFirstMet (box_of t) t.others own)
+
+-- the rules but overlap: all of them hold, or this one is the first that is broken
+abbrev pub IsFrameVerdict : Trial → Option Rule → Type 0
+IsFrameVerdict t verdict = MatchOption verdict ((r : Rule) → number_of r ≤ 7 → Holds t r) (λ rule. IsFirstBroken t record { rule = rule; other = None })

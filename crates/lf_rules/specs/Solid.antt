@@ -1,6 +1,10 @@
--- What the private functions of this crate know of a cell's box; no public clause cites it.
-use Rattle.std.specs.Prelude.{pos, negsuc, ◌≤ℤ◌, ◌<ℤ◌}
+-- What the private functions of this crate know of a cell's box and of rows; no public clause cites it.
+use Rattle.std.specs.Prelude.{◌≡◌, pos, negsuc, ◌≤ℤ◌, ◌<ℤ◌, Contains, MatchOption, Option}
+use Rattle.lf_units.specs.declared.area.Point.{Point}
 use Rattle.lf_units.specs.declared.area.Rect.{Rect}
+use Rattle.lf_floorplan.specs.declared.frame.Frame.{Frame}
+use Rattle.lf_floorplan.specs.declared.parts.Row.{Row}
+use Rattle.lf_floorplan.specs.Standing.{ExtendsOver}
 
 -- the box has points, and lies not far past the coordinates of a DEF text
 pub record IsSolid (box : Rect) : Type 0 where
@@ -10,3 +14,9 @@ pub record IsSolid (box : Rect) : Type 0 where
   pub y_low : negsuc 2147483647 <ℤ box.y1
   pub x_high : box.x2 ≤ℤ pos 30000000000
   pub y_high : box.y2 ≤ℤ pos 30000000000
+
+-- the only row of the frame that lies at the point's y and extends over its x; None if there is none
+abbrev pub IsOnlyRow : Frame → Point → Option Row → Type 0
+IsOnlyRow f p found =
+    MatchOption found ((s : Row) → Contains f.rows s → ExtendsOver f p.y p.x s → ⊥)
+    (λ r. Contains f.rows r × ((s : Row) → Contains f.rows s → ExtendsOver f p.y p.x s → s ≡ r))

@@ -46,7 +46,7 @@ fn foot_of(rect: &Rect, edge: &Rect) -> Point
 }
 
 /// The lower left corner of the box.
-fn corner_of(rect: &Rect) -> Point
+pub(crate) fn corner_of(rect: &Rect) -> Point
     ensures { result ≡ record { x = rect.now.x1; y = rect.now.y1 } }
 {
     Point {

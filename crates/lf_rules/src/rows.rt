@@ -1,14 +1,15 @@
 //! The rules on rows: height, bottom row, the rows that carry the box.
 
-ghost use Rattle.std.specs.Prelude.{◌≡◌, ◌↔◌, ℕ, ℤ, pos, ◌<◌, ◌≤◌, ◌+ℤ◌, ◌-ℤ◌, ◌*ℤ◌, ◌<ℤ◌, ◌≤ℤ◌, IsTrue, MatchOption, Contains, if◌then◌else◌, IfSome};
+ghost use Rattle.std.specs.Prelude.{◌≡◌, ◌↔◌, ℕ, ℤ, pos, ◌<◌, ◌≤◌, ◌+ℤ◌, ◌-ℤ◌, ◌*ℤ◌, ◌<ℤ◌, ◌≤ℤ◌, IsTrue, MatchOption, Contains, Some, if◌then◌else◌, IfSome, length, slice_get};
 ghost use Rattle.std.specs.Option.{option_map};
 ghost use Rattle.lf_orient.specs.Orientation.{rail_below};
 ghost use Rattle.lf_floorplan.specs.Rows.{IsHeeded};
 ghost use Rattle.lf_floorplan.specs.declared.parts.Row.{Row};
 ghost use Rattle.lf_floorplan.specs.Standing.{IsSitesHigh, IsRowOfBox, IsBottomRow, Carries, changed};
-ghost use Rattle.lf_rules.specs.Solid.{IsSolid};
+ghost use Rattle.lf_rules.specs.Solid.{IsOnlyRow, IsSolid};
 
-use lf_floorplan::{Frame, Row};
+use crate::cover::corner_of;
+use lf_floorplan::{Frame, Near, Row};
 use lf_orient::{Orient, Rail, opposite, row_rail};
 use lf_units::{Point, Rect};
 
@@ -21,6 +22,20 @@ fn level(pitch: &Point, rect: &Rect, sites: u32) -> i64
     ensures { result ≡ rect.now.y1 +ℤ (pos sites *ℤ pitch.now.y) }
 {
     rect.y1 + i64::from(sites) * pitch.y
+}
+
+/// The point that is this many site heights above the box's lower left corner.
+fn foot_of(pitch: &Point, rect: &Rect, sites: u32) -> Point
+    requires high { pos 0 <ℤ pitch.now.y }
+    requires low { pitch.now.y ≤ℤ pos 20000000000 }
+    requires solid { IsSolid rect.now }
+    requires few { sites ≤ 8 }
+    ensures { result ≡ record { x = rect.now.x1; y = rect.now.y1 +ℤ (pos sites *ℤ pitch.now.y) } }
+{
+    Point {
+        x: rect.x1,
+        y: level(pitch, rect, sites),
+    }
 }
 
 /// How many core sites high the box is, if that is a whole number from 1 to 8.
@@ -79,15 +94,37 @@ pub fn is_bottom_row(frame: &Frame, rect: &Rect, row: &Row) -> bool
     is_on_grid(&frame.pitch, rect, row)
 }
 
-/// The bottom row of the box.
-pub(crate) fn bottom_row<'a>(frame: &'a Frame, rect: &Rect) -> Option<&'a Row>
-    requires { IsSolid rect.now }
-    ensures { MatchOption result ((r : Row) → IsBottomRow frame.now rect.now r → ⊥) (λ r. IsBottomRow frame.now rect.now r.now) }
+/// The row at that position.
+fn row_of(frame: &Frame, number: usize) -> &Row
+    requires { number < length frame.now.rows }
+    ensures row { slice_get frame.now.rows number ≡ Some result.now }
+    ensures heeded { IsHeeded frame.now.pitch result.now }
+    ensures known { Contains frame.now.rows result.now }
 {
-    for row in frame.rows.as_slice() {
-        if is_bottom_row(frame, rect, row) {
-            return Some(row);
-        }
+    &frame.rows.as_slice()[number]
+}
+
+/// The row that lies at the point's y and extends over its x.
+fn row_at<'a, N: Near>(near: &'a N, point: &Point) -> Option<&'a Row>
+    ensures only { IsOnlyRow (N.of near.now) point.now (option_map (λ r. r.now) result) }
+    ensures heeded { IfSome result (λ r. IsHeeded (N.of near.now).pitch r.now) }
+{
+    match near.row_at(point.y, point.x) {
+        Some(number) => Some(row_of(near.frame(), number)),
+        None => None,
+    }
+}
+
+/// The bottom row of the box.
+pub(crate) fn bottom_row<'a, N: Near>(near: &'a N, rect: &Rect) -> Option<&'a Row>
+    requires { IsSolid rect.now }
+    ensures { MatchOption result ((r : Row) → IsBottomRow (N.of near.now) rect.now r → ⊥) (λ r. IsBottomRow (N.of near.now) rect.now r.now) }
+{
+    let Some(row) = row_at(near, &corner_of(rect)) else {
+        return None;
+    };
+    if is_bottom_row(near.frame(), rect, row) {
+        return Some(row);
     }
     None
 }
@@ -118,27 +155,26 @@ pub fn carries(frame: &Frame, rect: &Rect, bottom: &Row, sites: u32, row: &Row) 
 }
 
 /// Whether a row of the frame carries the box this many site heights above its bottom row.
-fn is_carried(frame: &Frame, rect: &Rect, bottom: &Row, sites: u32) -> bool
+fn is_carried<N: Near>(near: &N, rect: &Rect, bottom: &Row, sites: u32) -> bool
     requires solid { IsSolid rect.now }
     requires few { sites ≤ 8 }
-    ensures { IsTrue result ↔ ((s : Row) × Carries frame.now rect.now bottom.now sites s) }
+    ensures { IsTrue result ↔ ((s : Row) × Carries (N.of near.now) rect.now bottom.now sites s) }
 {
-    for row in frame.rows.as_slice() {
-        if carries(frame, rect, bottom, sites, row) {
-            return true;
-        }
-    }
-    false
+    let frame = near.frame();
+    let Some(row) = row_at(near, &foot_of(&frame.pitch, rect, sites)) else {
+        return false;
+    };
+    carries(frame, rect, bottom, sites, row)
 }
 
 /// Whether rows of the frame carry the box over all of its height.
-pub(crate) fn is_standing(frame: &Frame, rect: &Rect, bottom: &Row, height: u32) -> bool
+pub(crate) fn is_standing<N: Near>(near: &N, rect: &Rect, bottom: &Row, height: u32) -> bool
     requires solid { IsSolid rect.now }
     requires few { height ≤ 8 }
-    ensures { IsTrue result ↔ ((j : ℕ) → j < height → (s : Row) × Carries frame.now rect.now bottom.now j s) }
+    ensures { IsTrue result ↔ ((j : ℕ) → j < height → (s : Row) × Carries (N.of near.now) rect.now bottom.now j s) }
 {
     for sites in 0..height {
-        if !is_carried(frame, rect, bottom, sites) {
+        if !is_carried(near, rect, bottom, sites) {
             return false;
         }
     }

@@ -1,5 +1,5 @@
 -- A report or a DEF text changes nothing, so that OutOfMemory may replace it.
-use Rattle.std.proofs.Common.{◌≡◌, ◌∙◌, ℕ, List, [], Option, Some, None, Bool, true, false, refl, sym, ap, subst, inl, inr}
+use Rattle.std.proofs.Common.{◌≡◌, ◌≢◌, ◌∙◌, ℕ, ◌+◌, List, [], Option, Some, None, Bool, true, false, refl, sym, ap, subst, inl, inr}
 use Rattle.std.specs.Prelude.{IsOk, MatchBool, Result, Ok, Err, is_err, slice_get, slice_set}
 use Rattle.std.proofs.lemmas.Bool.{false≢true}
 use Rattle.std.proofs.lemmas.List.{set-get_or}
@@ -18,8 +18,9 @@ use Rattle.lf_teams.specs.Steps.{Answers, Gives, RunsShort, Step, answer_at, ans
 use Rattle.lf_teams.specs.Teams.{Setting, setting, team_number}
 use Rattle.lf_teams.specs.Outcomes.{Outcome, is_short, may_be_short}
 use Rattle.lf_teams.specs.Verbs.{outcome_of, takes_memory}
+use Rattle.lf_teams.specs.VerbLaws.{told_revision}
 use Rattle.lf_teams.proofs.Answering.{some_short}
-use Rattle.lf_teams.proofs.Cases.{order_by}
+use Rattle.lf_teams.proofs.Cases.{Facts, has_text, order_facts}
 use Rattle.lf_server.specs.Exchanges.{StandsIn, Tells, is_long, team_of, text_of}
 use Rattle.lf_server.specs.Progress.{IsAnswered}
 
@@ -28,26 +29,24 @@ pub record LooksOnly (s : TeamState) (order : Order (List ℕ) Place) (o : Outco
   pub kept : o.team ≡ s
   pub takes : takes_memory order ≡ true
 
+long_text : (reply : Reply) → is_long reply ≡ true → has_text reply ≡ true
+long_text (Report text) long = refl
+long_text (Def text) long = refl
+long_text _ long = absurd (false≢true long)
+
+-- a reply that gives a revision is no long text
+long_told : (reply : Reply) (revision : ℕ) → is_long reply ≡ true → told_revision reply ≢ Some revision
+long_told (Report text) revision long told = absurd cc
+long_told (Def text) revision long told = absurd cc
+long_told _ revision long told = false≢true long
+
 long_looks : (t : Setting) (order : Order (List ℕ) Place) (s : TeamState) → is_long (outcome_of t order s).reply ≡ true
     → LooksOnly s order (outcome_of t order s)
-long_looks t order s = order_by t s (λ v o. is_long o.reply ≡ true → LooksOnly s v o) (record {
-  refusal = λ v r plain e. absurd (false≢true e);
-  opens = λ session free e. absurd (false≢true e);
-  closes = λ session e. absurd (false≢true e);
-  syncs = λ session e. absurd (false≢true e);
-  checks = λ session text e. record { kept = refl; takes = refl };
-  defs = λ session text e. record { kept = refl; takes = refl };
-  tells = λ session name place e. absurd (false≢true e);
-  finds = λ session name target place e. absurd (false≢true e);
-  places = λ session own name place left named legal e. absurd (false≢true e);
-  legalizes = λ session own name target place left named best e. absurd (false≢true e);
-  tidies = λ session count members left is e. absurd (false≢true e);
-  unplaces = λ session own name left named e. absurd (false≢true e);
-  swaps = λ session first second name other p q left named named' at at' legal legal' e. absurd (false≢true e);
-  undoes = λ session old entries left is e. absurd (false≢true e);
-  commits = λ session left placed legal e. absurd (false≢true e);
-  reverts = λ session left e. absurd (false≢true e);
-}) order
+long_looks t order s long = by (outcome_of t order s) (order_facts t order s) long where
+  by : (o : Outcome) → Facts t s order o → is_long o.reply ≡ true → LooksOnly s order o
+  by o (inl r) is = absurd (false≢true (sym (ap (λ (o : Outcome). is_long o.reply) r.is) ∙ is))
+  by o (inr (inl look)) is = let same = look.text (long_text o.reply is) in record { kept = same.0; takes = same.1 }
+  by o (inr (inr done)) is = absurd (long_told o.reply (s.revision + 1) is done.is.told)
 
 -- so does such an answer the floor
 by_kept : (l : Legalizer) (floor : FloorState) (number : ℕ) (order : Order (List ℕ) Place) (o : Option TeamState) → slice_get floor.teams number ≡ o

@@ -1,197 +1,344 @@
--- One case analysis of the outcomes of an order, for every law about them.
-use Rattle.std.proofs.Common.{◌≡◌, ℕ, ◌+◌, ◌<◌, List, [], ◌∷◌, Bool, true, false, cond, eqb, ltb, Option, Some, None, map, refl, ap}
-use Rattle.std.specs.Prelude.{position, is_none}
-use Rattle.std.proofs.lemmas.Bool.{eqb-true, ltb-true}
+-- What each order leaves: one case analysis of the outcomes, for every law about them.
+use Rattle.std.proofs.Common.{◌≡◌, ◌⊎◌, inl, inr, ℕ, zero, suc, ◌+◌, ◌≤◌, List, [], ◌∷◌, Bool, true, false, cond, eqb, ltb, Option, Some, None, map, refl, ap, sym, ◌∙◌, arith}
+use Rattle.std.specs.Prelude.{IfSome, MatchBool, position, is_none}
+use Rattle.std.proofs.lemmas.Bool.{eqb-true, ltb-true, false≢true}
 use Rattle.lf_units.specs.declared.area.Point.{Point}
 use Rattle.lf_floorplan.specs.declared.place.Place.{Place}
 use Rattle.lf_rules.specs.declared.rule.Broken.{Broken}
 use Rattle.lf_rules.specs.Team.{Member}
 use Rattle.lf_rules.specs.Tidy.{Tidied, Going, Stuck, tidied}
-use Rattle.lf_proto.specs.declared.reply.Reply.TheVariants.{Done, Revision, At, Legalized, Tidied as TidyDone, Report, Def as DefText, Refused}
+use Rattle.lf_proto.specs.declared.reply.Reply.{Reply}
+use Rattle.lf_proto.specs.declared.reply.Reply.TheVariants.{Done, Opened, Revision, At, Report, Def as DefText, Refused}
 use Rattle.lf_proto.specs.declared.reply.Refusal.{Refusal}
 use Rattle.lf_proto.specs.declared.reply.Refusal.TheVariants.{NoSession, Stale, NoCell, Unplaced, Illegal, NoPlace, NothingToUndo, RevisionsSpent, SessionsFull}
 use Rattle.lf_teams.specs.States.{TeamState}
 use Rattle.lf_teams.specs.Teams.{Setting, broken_at}
+use Rattle.lf_cells.specs.declared.cell.Cell.{Cell}
 use Rattle.lf_cells.specs.Cells.{cell_named, moved, working_at, as_committed}
 use Rattle.lf_legalize.specs.Members.{member_of}
 use Rattle.lf_proto.specs.declared.request.Order.{Order}
 use Rattle.lf_proto.specs.declared.request.Order.TheVariants.{Open, Within}
-use Rattle.lf_proto.specs.declared.request.Action.{Action}
-use Rattle.lf_proto.specs.declared.request.Action.TheVariants.{Close, Sync, Check, Def, Where, Find, Change as Changing}
-use Rattle.lf_proto.specs.declared.request.Change.{Change}
-use Rattle.lf_proto.specs.declared.request.Change.TheVariants.{Place as PlaceAt, Legalize, Tidy, Unplace, Swap, Undo, Commit, Revert}
-use Rattle.lf_teams.specs.Outcomes.{Outcome, is_short, refused, changed, recorded, telling}
+use Rattle.lf_proto.specs.declared.verb.Action.{Action}
+use Rattle.lf_proto.specs.declared.verb.Action.TheVariants.{Close, Sync, Check, Def, Where, Find, Change as Changing}
+use Rattle.lf_proto.specs.declared.verb.Change.{Change}
+use Rattle.lf_proto.specs.declared.verb.Change.TheVariants.{Place as PlaceAt, Legalize, Tidy, Unplace, Swap, Undo, Commit, Revert}
+use Rattle.lf_teams.specs.Outcomes.{Outcome, is_short, refused, changed, with_entry}
 use Rattle.lf_teams.specs.Sessions.{with_slot, seen_at, opened, opened_at, closed, synced}
 use Rattle.lf_teams.specs.Looks.{checked, written, located, located_own, located_at, best_at, found, found_own, found_at}
 use Rattle.lf_reports.specs.declared.illegal.BrokenCell.{BrokenCell}
-use Rattle.lf_teams.specs.Changes.{placed, placed_own, placed_unless, unplaced, unplaced_own, unplaced_from, legalized, legalized_own, legalized_at, restored, places_in, tidied_by, tidied_team, broken_where, exchanged, swapped_unless, swapped_from, swapped_own, swapped, back_to_committed, reverted, undone_by, undone, first_unplaced, broken_cells, committed_unless, committed}
-use Rattle.lf_teams.specs.Verbs.{outcome_of_change, unless_spent, unless_stale, outcome_within, outcome_by_slot, outcome_of}
-use Rattle.lf_teams.specs.VerbLaws.{MayChange}
-
--- a revision is left
-abbrev pub IsLeft : Setting → TeamState → Type 0
-IsLeft t s = s.revision < t.frame.limits.revisions
+use Rattle.lf_teams.specs.Changes.{placed, placed_own, placed_unless, unplaced, unplaced_own, unplaced_from, legalized, legalized_own, legalized_at, restored, places_in, tidied_by, tidied_team, broken_where, exchanged, swapped_unless, swapped_from, swapped_own, swapped, back_to_committed, reverted, undone_by, undone, first_unplaced, broken_cells, committed_unless, committed, outcome_of_change}
+use Rattle.lf_teams.specs.Verbs.{is_recorded, unless_spent, unless_stale, outcome_within, outcome_by_slot, outcome_of, takes_memory}
+use Rattle.lf_teams.specs.VerbLaws.{MayChange, is_accepted, is_change, is_commit, told_revision, outcome_of_asking}
 
 -- the session asks this change
 abbrev pub asking : ℕ → Change (List ℕ) Place → Order (List ℕ) Place
 asking session change = Within session (Changing change)
 
--- what holds of each outcome of an order, in a team of that setting and state; of a session that changes it is known
--- that it may
-pub record Leaves (t : Setting) (s : TeamState) (May : ℕ → Type 0) (P : Order (List ℕ) Place → Outcome → Type 0) : Type 1 where
-  pub refusal : (verb : Order (List ℕ) Place) (r : Refusal) → is_short (Refused r) ≡ false → P verb (refused r s)
-  pub opens : (session : ℕ) → position is_none s.slots ≡ Some session → P Open (opened_at (Some session) s)
-  pub closes : (session : ℕ) → P (Within session Close) (record { reply = Done; team = with_slot session None s })
-  pub syncs : (session : ℕ) → P (Within session Sync) (record { reply = Revision s.revision; team = with_slot session (Some s.revision) s })
-  pub checks : (session : ℕ) (text : List ℕ) → P (Within session Check) (record { reply = Report text; team = s })
-  pub defs : (session : ℕ) (text : List ℕ) → P (Within session Def) (record { reply = DefText text; team = s })
-  pub tells : (session : ℕ) (name : List ℕ) (place : Place) → P (Within session (Where name)) (record { reply = At place; team = s })
-  pub finds : (session : ℕ) (name : List ℕ) (target : Point) (place : Place) → P (Within session (Find name target)) (record { reply = At place; team = s })
-  pub places : (session own : ℕ) (name : List ℕ) (place : Place) → May session → cell_named name s.cells ≡ Some own → broken_at t s.cells own place ≡ None
-      → P (asking session (PlaceAt name place)) (recorded t session (moved s.cells own (Some place)) s)
-  pub legalizes : (session own : ℕ) (name : List ℕ) (target : Point) (place : Place) → May session → cell_named name s.cells ≡ Some own
-      → best_at t s.cells own target ≡ Some place
-      → P (asking session (Legalize name target)) (telling (Legalized (s.revision + 1) place) (recorded t session (moved s.cells own (Some place)) s))
-  pub tidies : (session count : ℕ) (members : List Member) → May session → tidied t.legalizer t.frame t.number (map member_of s.cells) ≡ Going members count
-      → P (asking session Tidy) (telling (TidyDone (s.revision + 1) count) (recorded t session (restored (places_in members) s.cells) s))
-  pub unplaces : (session own : ℕ) (name : List ℕ) → May session → cell_named name s.cells ≡ Some own
-      → P (asking session (Unplace name)) (recorded t session (moved s.cells own None) s)
-  pub swaps : (session first second : ℕ) (name other : List ℕ) (place place' : Place) → May session → cell_named name s.cells ≡ Some first
-      → cell_named other s.cells ≡ Some second
-      → working_at s.cells first ≡ Some place → working_at s.cells second ≡ Some place'
-      → broken_where t (exchanged s.cells first second) first ≡ None → broken_where t (exchanged s.cells first second) second ≡ None
-      → P (asking session (Swap name other)) (recorded t session (exchanged s.cells first second) s)
-  pub undoes : (session : ℕ) (old : List (Option Place)) (entries : List (List (Option Place))) → May session → s.entries ≡ old ∷ entries
-      → P (asking session Undo) (changed session (restored old s.cells) entries s)
-  pub commits : (session : ℕ) → May session → first_unplaced s.cells ≡ None → broken_cells t s.cells ≡ []
-      → P (asking session Commit) (changed session (map as_committed s.cells) s.entries s)
-  pub reverts : (session : ℕ) → May session → P (asking session Revert) (recorded t session (map back_to_committed s.cells) s)
+-- ---- the cells after an accepted change
 
-module _ (t : Setting) (s : TeamState) (May : ℕ → Type 0) (P : Order (List ℕ) Place → Outcome → Type 0) (leaves : Leaves t s May P) where
-  opened_by : P Open (opened s)
-  unfolding opened
-  opened_by = go (position is_none s.slots) refl where
-    go : (o : Option ℕ) → position is_none s.slots ≡ o → P Open (opened_at o s)
-    go None e = leaves.refusal Open SessionsFull refl
-    go (Some session) e = leaves.opens session e
+-- after place: the cell of that name is at the place, at which it breaks no rule
+pub record ArePlaced (t : Setting) (s : TeamState) (name : List ℕ) (place : Place) (cells : List Cell) : Type 0 where
+  pub own : ℕ
+  pub named : cell_named name s.cells ≡ Some own
+  pub unbroken : broken_at t s.cells own place ≡ None
+  pub are : cells ≡ moved s.cells own (Some place)
 
-  checked_by : (session : ℕ) → P (Within session Check) (checked t s)
-  unfolding checked
-  checked_by session = leaves.checks session _
+-- after legalize: the cell of that name is at its best place
+pub record AreLegalized (t : Setting) (s : TeamState) (name : List ℕ) (target : Point) (cells : List Cell) : Type 0 where
+  pub own : ℕ
+  pub place : Place
+  pub named : cell_named name s.cells ≡ Some own
+  pub best : best_at t s.cells own target ≡ Some place
+  pub are : cells ≡ moved s.cells own (Some place)
 
-  written_by : (session : ℕ) → P (Within session Def) (written t s)
-  unfolding written
-  written_by session = leaves.defs session _
+-- after tidy: the cells are where tidying puts them
+pub record AreTidied (t : Setting) (s : TeamState) (cells : List Cell) : Type 0 where
+  pub members : List Member
+  pub count : ℕ
+  pub tidies : tidied t.legalizer t.frame t.number (map member_of s.cells) ≡ Going members count
+  pub are : cells ≡ restored (places_in members) s.cells
 
-  located_by : (session : ℕ) (name : List ℕ) → P (Within session (Where name)) (located name s)
-  unfolding located
-  located_by session name = own (cell_named name s.cells) where
-    at : (o : Option Place) (n : ℕ) → P (Within session (Where name)) (located_at o n s)
-    at None n = leaves.refusal _ (Unplaced n) refl
-    at (Some place) n = leaves.tells session name place
+-- after unplace: one cell is unplaced
+pub record AreUnplaced (s : TeamState) (cells : List Cell) : Type 0 where
+  pub own : ℕ
+  pub are : cells ≡ moved s.cells own None
 
-    own : (o : Option ℕ) → P (Within session (Where name)) (located_own o s)
-    own None = leaves.refusal _ NoCell refl
-    own (Some n) = at (working_at s.cells n) n
+-- after swap: the cells of these names, which were placed, have exchanged their places, and break no rule there
+pub record AreSwapped (t : Setting) (s : TeamState) (name other : List ℕ) (cells : List Cell) : Type 0 where
+  pub first : ℕ
+  pub second : ℕ
+  pub place : Place
+  pub place' : Place
+  pub named : cell_named name s.cells ≡ Some first
+  pub named' : cell_named other s.cells ≡ Some second
+  pub stands : working_at s.cells first ≡ Some place
+  pub stands' : working_at s.cells second ≡ Some place'
+  pub unbroken : broken_where t (exchanged s.cells first second) first ≡ None
+  pub unbroken' : broken_where t (exchanged s.cells first second) second ≡ None
+  pub are : cells ≡ exchanged s.cells first second
 
-  found_by : (session : ℕ) (name : List ℕ) (target : Point) → P (Within session (Find name target)) (found t name target s)
-  unfolding found
-  found_by session name target = own (cell_named name s.cells) where
-    at : (o : Option Place) (n : ℕ) → P (Within session (Find name target)) (found_at o n s)
-    at None n = leaves.refusal _ (NoPlace n) refl
-    at (Some place) n = leaves.finds session name target place
+-- after undo: the cells have the places of an undo entry
+pub record AreRestored (s : TeamState) (cells : List Cell) : Type 0 where
+  pub old : List (Option Place)
+  pub are : cells ≡ restored old s.cells
 
-    own : (o : Option ℕ) → P (Within session (Find name target)) (found_own o t target s)
-    own None = leaves.refusal _ NoCell refl
-    own (Some n) = at (best_at t s.cells n target) n
+-- after commit: the working places are committed, and every cell was placed and broke no rule
+pub record AreCommitted (t : Setting) (s : TeamState) (cells : List Cell) : Type 0 where
+  pub placed : first_unplaced s.cells ≡ None
+  pub unbroken : broken_cells t s.cells ≡ []
+  pub are : cells ≡ map as_committed s.cells
 
-  module _ (session : ℕ) (may : May session) (name other : List ℕ) (n m : ℕ) (first : cell_named name s.cells ≡ Some n) (second : cell_named other s.cells ≡ Some m) where
-    swap_unless : (p q : Place) → working_at s.cells n ≡ Some p → working_at s.cells m ≡ Some q → (b c : Option Broken)
-        → broken_where t (exchanged s.cells n m) n ≡ b → broken_where t (exchanged s.cells n m) m ≡ c
-        → P (asking session (Swap name other)) (swapped_unless b c t session n m (exchanged s.cells n m) s)
-    swap_unless p q at_n at_m (Some b) c e_b e_c = leaves.refusal _ (Illegal b.rule n b.other) refl
-    swap_unless p q at_n at_m None (Some c) e_b e_c = leaves.refusal _ (Illegal c.rule m c.other) refl
-    swap_unless p q at_n at_m None None e_b e_c = leaves.swaps session n m name other p q may first second at_n at_m e_b e_c
+-- the cells after an accepted change
+abbrev pub CellsAfter : Setting → TeamState → Change (List ℕ) Place → List Cell → Type 0
+CellsAfter t s (PlaceAt name place) cells = ArePlaced t s name place cells
+CellsAfter t s (Legalize name target) cells = AreLegalized t s name target cells
+CellsAfter t s Tidy cells = AreTidied t s cells
+CellsAfter t s (Unplace name) cells = AreUnplaced s cells
+CellsAfter t s (Swap name other) cells = AreSwapped t s name other cells
+CellsAfter t s Undo cells = AreRestored s cells
+CellsAfter t s Commit cells = AreCommitted t s cells
+CellsAfter t s Revert cells = cells ≡ map back_to_committed s.cells
 
-    swap_from : (p q : Option Place) → working_at s.cells n ≡ p → working_at s.cells m ≡ q
-        → P (asking session (Swap name other)) (swapped_from p q t session n m s)
-    swap_from None q at_n at_m = leaves.refusal _ (Unplaced n) refl
-    swap_from (Some p) None at_n at_m = leaves.refusal _ (Unplaced m) refl
-    swap_from (Some p) (Some q) at_n at_m =
-        swap_unless p q at_n at_m (broken_where t (exchanged s.cells n m) n) (broken_where t (exchanged s.cells n m) m) refl refl
+-- ---- what a change leaves of the cells
 
-  module _ (session : ℕ) (may : May session) where
-    placed_by : (name : List ℕ) (place : Place) → P (asking session (PlaceAt name place)) (placed t session name place s)
+-- a part of a cell that its working place is none of
+abbrev pub IsFixed : {X : Type 0} → (Cell → X) → Type 0
+IsFixed part = (c : Cell) (place : Option Place) → part (record c { working = place }) ≡ part c
+
+pub moved_part : {X : Type 0} (part : Cell → X) → IsFixed part → (cells : List Cell) (own : ℕ) (place : Option Place)
+    → map part (moved cells own place) ≡ map part cells
+moved_part part fixed [] own place = refl
+moved_part part fixed (c ∷ cs) zero place = ap (λ x. x ∷ map part cs) (fixed c place)
+moved_part part fixed (c ∷ cs) (suc own) place = ap (λ xs. part c ∷ xs) (moved_part part fixed cs own place)
+
+restored_part : {X : Type 0} (part : Cell → X) → IsFixed part → (places : List (Option Place)) (cells : List Cell)
+    → map part (restored places cells) ≡ map part cells
+restored_part part fixed [] cells = refl
+restored_part part fixed (place ∷ places) [] = refl
+restored_part part fixed (place ∷ places) (c ∷ cs) =
+    ap (λ x. x ∷ map part (restored places cs)) (fixed c place) ∙ ap (λ xs. part c ∷ xs) (restored_part part fixed places cs)
+
+back_part : {X : Type 0} (part : Cell → X) → IsFixed part → (cells : List Cell) → map part (map back_to_committed cells) ≡ map part cells
+back_part part fixed [] = refl
+back_part part fixed (c ∷ cs) = ap (λ x. x ∷ map part (map back_to_committed cs)) (fixed c c.committed) ∙ ap (λ xs. part c ∷ xs) (back_part part fixed cs)
+
+pub exchanged_part : {X : Type 0} (part : Cell → X) → IsFixed part → (cells : List Cell) (first second : ℕ)
+    → map part (exchanged cells first second) ≡ map part cells
+exchanged_part part fixed cells first second =
+    moved_part part fixed (moved cells first (working_at cells second)) second (working_at cells first)
+    ∙ moved_part part fixed cells first (working_at cells second)
+
+committed_macs : (cells : List Cell) → map (λ c. c.mac) (map as_committed cells) ≡ map (λ c. c.mac) cells
+committed_macs [] = refl
+committed_macs (c ∷ cs) = ap (λ xs. c.mac ∷ xs) (committed_macs cs)
+
+committed_names : (cells : List Cell) → map (λ c. c.name) (map as_committed cells) ≡ map (λ c. c.name) cells
+committed_names [] = refl
+committed_names (c ∷ cs) = ap (λ xs. c.name ∷ xs) (committed_names cs)
+
+-- a change leaves such a part of each cell, or is a commit
+pub part_stays : {X : Type 0} (part : Cell → X) → IsFixed part → (t : Setting) (s : TeamState) (session : ℕ) (change : Change (List ℕ) Place) (cells : List Cell)
+    → CellsAfter t s change cells → (map part cells ≡ map part s.cells) ⊎ ((is_commit (asking session change) ≡ true) × AreCommitted t s cells)
+part_stays part fixed t s session (PlaceAt name place) cells after = inl (ap (map part) after.are ∙ moved_part part fixed s.cells after.own (Some place))
+part_stays part fixed t s session (Legalize name target) cells after =
+    inl (ap (map part) after.are ∙ moved_part part fixed s.cells after.own (Some after.place))
+part_stays part fixed t s session Tidy cells after = inl (ap (map part) after.are ∙ restored_part part fixed (places_in after.members) s.cells)
+part_stays part fixed t s session (Unplace name) cells after = inl (ap (map part) after.are ∙ moved_part part fixed s.cells after.own None)
+part_stays part fixed t s session (Swap name other) cells after =
+    inl (ap (map part) after.are ∙ exchanged_part part fixed s.cells after.first after.second)
+part_stays part fixed t s session Undo cells after = inl (ap (map part) after.are ∙ restored_part part fixed after.old s.cells)
+part_stays part fixed t s session Commit cells after = inr (refl, after)
+part_stays part fixed t s session Revert cells after = inl (ap (map part) after ∙ back_part part fixed s.cells)
+
+-- a change leaves the macros of the cells
+pub macs_stay : (t : Setting) (s : TeamState) (change : Change (List ℕ) Place) (cells : List Cell) → CellsAfter t s change cells
+    → map (λ c. c.mac) cells ≡ map (λ c. c.mac) s.cells
+macs_stay t s change cells after = elim (part_stays (λ c. c.mac) (λ c p. refl) t s 0 change cells after) [
+  | inl same ↦ same
+  | inr commits ↦ ap (map (λ (c : Cell). c.mac)) commits.1.are ∙ committed_macs s.cells
+]
+
+-- and their names
+pub names_stay : (t : Setting) (s : TeamState) (change : Change (List ℕ) Place) (cells : List Cell) → CellsAfter t s change cells
+    → map (λ c. c.name) cells ≡ map (λ c. c.name) s.cells
+names_stay t s change cells after = elim (part_stays (λ c. c.name) (λ c p. refl) t s 0 change cells after) [
+  | inl same ↦ same
+  | inr commits ↦ ap (map (λ (c : Cell). c.name)) commits.1.are ∙ committed_names s.cells
+]
+
+-- ---- what is known of an outcome
+
+-- the undo entries are those before, or all of those but the newest
+abbrev pub AreLeft : TeamState → List (List (Option Place)) → Type 0
+AreLeft s entries = (entries ≡ s.entries) ⊎ ((old : List (Option Place)) × (s.entries ≡ old ∷ entries))
+
+-- the undo entries after an accepted change, by whether undo takes it back
+abbrev pub EntriesAfter : Setting → TeamState → Change (List ℕ) Place → List (List (Option Place)) → Type 0
+EntriesAfter t s change entries = MatchBool (is_recorded change) (entries ≡ with_entry t.frame.limits s) (AreLeft s entries)
+
+-- an accepted change: the session might change, one more revision is counted, which the reply gives and the session has
+-- seen, and cells and undo entries are those after this change
+pub record IsChangeOf (t : Setting) (session : ℕ) (change : Change (List ℕ) Place) (s : TeamState) (o : Outcome) : Type 0 where
+  pub allowed : MayChange t session s
+  pub told : told_revision o.reply ≡ Some (s.revision + 1)
+  pub team : o.team ≡ (changed session o.team.cells o.team.entries s).team
+  pub cells : CellsAfter t s change o.team.cells
+  pub entries : EntriesAfter t s change o.team.entries
+
+-- a refusal, for a reason that is not memory
+pub record IsRefusal (s : TeamState) (o : Outcome) : Type 0 where
+  pub refusal : Refusal
+  pub plain : is_short (Refused refusal) ≡ false
+  pub is : o ≡ refused refusal s
+
+-- the slot of one session is another, and its session has seen no revision to come
+pub record HasSlot (s new : TeamState) : Type 0 where
+  pub session : ℕ
+  pub seen : Option ℕ
+  pub past : IfSome seen (λ n. n ≤ s.revision)
+  pub is : new ≡ with_slot session seen s
+
+-- the reply carries a report or a DEF text
+abbrev pub has_text : Reply → Bool
+has_text (Report text) = true
+has_text (DefText text) = true
+has_text _ = false
+
+-- an accepted order that is no change: one slot at most is another, and a text is given by an order that takes memory and
+-- leaves the team as it was
+pub record IsLook (s : TeamState) (order : Order (List ℕ) Place) (o : Outcome) : Type 0 where
+  pub look : is_change order ≡ false
+  pub accepted : is_accepted o ≡ true
+  pub team : (o.team ≡ s) ⊎ HasSlot s o.team
+  pub text : has_text o.reply ≡ true → (o.team ≡ s) × (takes_memory order ≡ true)
+
+-- the order asks a change, and it is accepted
+pub record IsDone (t : Setting) (s : TeamState) (order : Order (List ℕ) Place) (o : Outcome) : Type 0 where
+  pub session : ℕ
+  pub change : Change (List ℕ) Place
+  pub order_is : order ≡ asking session change
+  pub is : IsChangeOf t session change s o
+
+-- an outcome is a refusal, a look or a change
+abbrev pub Facts : Setting → TeamState → Order (List ℕ) Place → Outcome → Type 0
+Facts t s order o = IsRefusal s o ⊎ (IsLook s order o ⊎ IsDone t s order o)
+
+-- ---- the changes
+
+-- the outcome of a change is a refusal or a change
+abbrev Ends : Setting → TeamState → ℕ → Change (List ℕ) Place → Outcome → Type 0
+Ends t s session change o = IsRefusal s o ⊎ IsChangeOf t session change s o
+
+module _ (t : Setting) (s : TeamState) (session : ℕ) where
+  denied : (change : Change (List ℕ) Place) (r : Refusal) → is_short (Refused r) ≡ false → Ends t s session change (refused r s)
+  denied change r plain = inl (record { refusal = r; plain = plain; is = refl })
+
+  module _ (may : MayChange t session s) where
+    done : (change : Change (List ℕ) Place) (reply : Reply) (cells : List Cell) (entries : List (List (Option Place)))
+        → told_revision reply ≡ Some (s.revision + 1) → CellsAfter t s change cells → EntriesAfter t s change entries
+        → Ends t s session change (record { reply = reply; team = (changed session cells entries s).team })
+    done change reply cells entries told after left = inr (record { allowed = may; told = told; team = refl; cells = after; entries = left })
+
+    placed_by : (name : List ℕ) (place : Place) → Ends t s session (PlaceAt name place) (placed t session name place s)
     unfolding placed
     placed_by name place = own (cell_named name s.cells) refl where
       unless : (n : ℕ) (b : Option Broken) → cell_named name s.cells ≡ Some n → broken_at t s.cells n place ≡ b
-          → P (asking session (PlaceAt name place)) (placed_unless b n t.frame.limits session place s)
-      unless n None named e = leaves.places session n name place may named e
-      unless n (Some b) named e = leaves.refusal _ (Illegal b.rule n b.other) refl
+          → Ends t s session (PlaceAt name place) (placed_unless b n t.frame.limits session place s)
+      unless n None named e = done (PlaceAt name place) _ _ _ refl (record { own = n; named = named; unbroken = e; are = refl }) refl
+      unless n (Some b) named e = denied _ (Illegal b.rule n b.other) refl
 
-      own : (o : Option ℕ) → cell_named name s.cells ≡ o → P (asking session (PlaceAt name place)) (placed_own o t session place s)
-      own None named = leaves.refusal _ NoCell refl
+      own : (o : Option ℕ) → cell_named name s.cells ≡ o → Ends t s session (PlaceAt name place) (placed_own o t session place s)
+      own None named = denied _ NoCell refl
       own (Some n) named = unless n (broken_at t s.cells n place) named refl
 
-    legalized_by : (name : List ℕ) (target : Point) → P (asking session (Legalize name target)) (legalized t session name target s)
+    legalized_by : (name : List ℕ) (target : Point) → Ends t s session (Legalize name target) (legalized t session name target s)
     unfolding legalized
     legalized_by name target = own (cell_named name s.cells) refl where
       at : (n : ℕ) (o : Option Place) → cell_named name s.cells ≡ Some n → best_at t s.cells n target ≡ o
-          → P (asking session (Legalize name target)) (legalized_at o t session n s)
-      at n None named e = leaves.refusal _ (NoPlace n) refl
-      at n (Some place) named e = leaves.legalizes session n name target place may named e
+          → Ends t s session (Legalize name target) (legalized_at o t session n s)
+      at n None named e = denied _ (NoPlace n) refl
+      at n (Some place) named e =
+          done (Legalize name target) _ _ _ refl (record { own = n; place = place; named = named; best = e; are = refl }) refl
 
-      own : (o : Option ℕ) → cell_named name s.cells ≡ o → P (asking session (Legalize name target)) (legalized_own o t session target s)
-      own None named = leaves.refusal _ NoCell refl
+      own : (o : Option ℕ) → cell_named name s.cells ≡ o → Ends t s session (Legalize name target) (legalized_own o t session target s)
+      own None named = denied _ NoCell refl
       own (Some n) named = at n (best_at t s.cells n target) named refl
 
-    tidied_all : P (asking session Tidy) (tidied_team t session s)
+    tidied_all : Ends t s session Tidy (tidied_team t session s)
     unfolding tidied_team
     tidied_all = go (tidied t.legalizer t.frame t.number (map member_of s.cells)) refl where
-      go : (d : Tidied) → tidied t.legalizer t.frame t.number (map member_of s.cells) ≡ d → P (asking session Tidy) (tidied_by d t session s)
-      go (Stuck n) e = leaves.refusal _ (NoPlace n) refl
-      go (Going members count) e = leaves.tidies session count members may e
+      go : (d : Tidied) → tidied t.legalizer t.frame t.number (map member_of s.cells) ≡ d → Ends t s session Tidy (tidied_by d t session s)
+      go (Stuck n) e = denied _ (NoPlace n) refl
+      go (Going members count) e = done Tidy _ _ _ refl (record { members = members; count = count; tidies = e; are = refl }) refl
 
-    unplaced_by : (name : List ℕ) → P (asking session (Unplace name)) (unplaced t.frame.limits session name s)
+    unplaced_by : (name : List ℕ) → Ends t s session (Unplace name) (unplaced t.frame.limits session name s)
     unfolding unplaced
-    unplaced_by name = own (cell_named name s.cells) refl where
-      from : (p : Option Place) (n : ℕ) → cell_named name s.cells ≡ Some n → P (asking session (Unplace name)) (unplaced_from p n t.frame.limits session s)
-      from None n named = leaves.refusal _ (Unplaced n) refl
-      from (Some p) n named = leaves.unplaces session n name may named
+    unplaced_by name = own (cell_named name s.cells) where
+      from : (p : Option Place) (n : ℕ) → Ends t s session (Unplace name) (unplaced_from p n t.frame.limits session s)
+      from None n = denied _ (Unplaced n) refl
+      from (Some p) n = done (Unplace name) _ _ _ refl (record { own = n; are = refl }) refl
 
-      own : (o : Option ℕ) → cell_named name s.cells ≡ o → P (asking session (Unplace name)) (unplaced_own o t.frame.limits session s)
-      own None named = leaves.refusal _ NoCell refl
-      own (Some n) named = from (working_at s.cells n) n named
+      own : (o : Option ℕ) → Ends t s session (Unplace name) (unplaced_own o t.frame.limits session s)
+      own None = denied _ NoCell refl
+      own (Some n) = from (working_at s.cells n) n
 
-    swapped_by : (name other : List ℕ) → P (asking session (Swap name other)) (swapped t session name other s)
+    module _ (name other : List ℕ) (n m : ℕ) (first : cell_named name s.cells ≡ Some n) (second : cell_named other s.cells ≡ Some m) where
+      swap_unless : (p q : Place) → working_at s.cells n ≡ Some p → working_at s.cells m ≡ Some q → (b c : Option Broken)
+          → broken_where t (exchanged s.cells n m) n ≡ b → broken_where t (exchanged s.cells n m) m ≡ c
+          → Ends t s session (Swap name other) (swapped_unless b c t session n m (exchanged s.cells n m) s)
+      swap_unless p q at_n at_m (Some b) c e_b e_c = denied _ (Illegal b.rule n b.other) refl
+      swap_unless p q at_n at_m None (Some c) e_b e_c = denied _ (Illegal c.rule m c.other) refl
+      swap_unless p q at_n at_m None None e_b e_c = done (Swap name other) _ _ _ refl record {
+        first = n;
+        second = m;
+        place = p;
+        place' = q;
+        named = first;
+        named' = second;
+        stands = at_n;
+        stands' = at_m;
+        unbroken = e_b;
+        unbroken' = e_c;
+        are = refl;
+      } refl
+
+      swap_from : (p q : Option Place) → working_at s.cells n ≡ p → working_at s.cells m ≡ q
+          → Ends t s session (Swap name other) (swapped_from p q t session n m s)
+      swap_from None q at_n at_m = denied _ (Unplaced n) refl
+      swap_from (Some p) None at_n at_m = denied _ (Unplaced m) refl
+      swap_from (Some p) (Some q) at_n at_m =
+          swap_unless p q at_n at_m (broken_where t (exchanged s.cells n m) n) (broken_where t (exchanged s.cells n m) m) refl refl
+
+    swapped_by : (name other : List ℕ) → Ends t s session (Swap name other) (swapped t session name other s)
     unfolding swapped
     swapped_by name other = own (cell_named name s.cells) (cell_named other s.cells) refl refl where
-      own : (a b : Option ℕ) → cell_named name s.cells ≡ a → cell_named other s.cells ≡ b → P (asking session (Swap name other)) (swapped_own a b t session s)
-      own None b first second = leaves.refusal _ NoCell refl
-      own (Some n) None first second = leaves.refusal _ NoCell refl
-      own (Some n) (Some m) first second = swap_from session may name other n m first second (working_at s.cells n) (working_at s.cells m) refl refl
+      own : (a b : Option ℕ) → cell_named name s.cells ≡ a → cell_named other s.cells ≡ b
+          → Ends t s session (Swap name other) (swapped_own a b t session s)
+      own None b first second = denied _ NoCell refl
+      own (Some n) None first second = denied _ NoCell refl
+      own (Some n) (Some m) first second = swap_from name other n m first second (working_at s.cells n) (working_at s.cells m) refl refl
 
-    undone_all : P (asking session Undo) (undone session s)
+    undone_all : Ends t s session Undo (undone session s)
     unfolding undone
     undone_all = go s.entries refl where
-      go : (entries : List (List (Option Place))) → s.entries ≡ entries → P (asking session Undo) (undone_by entries session s)
-      go [] e = leaves.refusal _ NothingToUndo refl
-      go (old ∷ entries) e = leaves.undoes session old entries may e
+      go : (entries : List (List (Option Place))) → s.entries ≡ entries → Ends t s session Undo (undone_by entries session s)
+      go [] e = denied _ NothingToUndo refl
+      go (old ∷ entries) e = done Undo _ _ _ refl (record { old = old; are = refl }) (inr (old, e))
 
-    committed_all : P (asking session Commit) (committed t session s)
+    committed_all : Ends t s session Commit (committed t session s)
     unfolding committed
     committed_all = go (first_unplaced s.cells) (broken_cells t s.cells) refl refl where
       go : (o : Option ℕ) (bs : List BrokenCell) → first_unplaced s.cells ≡ o → broken_cells t s.cells ≡ bs
-          → P (asking session Commit) (committed_unless o bs session s)
-      go (Some n) bs u b = leaves.refusal _ (Unplaced n) refl
-      go None (c ∷ cs) u b = leaves.refusal _ (Illegal c.broken.rule c.own c.broken.other) refl
-      go None [] u b = leaves.commits session may u b
+          → Ends t s session Commit (committed_unless o bs session s)
+      go (Some n) bs u b = denied _ (Unplaced n) refl
+      go None (c ∷ cs) u b = denied _ (Illegal c.broken.rule c.own c.broken.other) refl
+      go None [] u b = done Commit _ _ _ refl (record { placed = u; unbroken = b; are = refl }) (inl refl)
 
-    reverted_all : P (asking session Revert) (reverted t session s)
+    reverted_all : Ends t s session Revert (reverted t session s)
     unfolding reverted
-    reverted_all = leaves.reverts session may
+    reverted_all = done Revert _ _ _ refl refl refl
 
-    change_by : (change : Change (List ℕ) Place) → P (asking session change) (outcome_of_change t session change s)
+    change_by : (change : Change (List ℕ) Place) → Ends t s session change (outcome_of_change t session change s)
     change_by (PlaceAt name place) = placed_by name place
     change_by (Legalize name target) = legalized_by name target
     change_by Tidy = tidied_all
@@ -201,48 +348,112 @@ module _ (t : Setting) (s : TeamState) (May : ℕ → Type 0) (P : Order (List �
     change_by Commit = committed_all
     change_by Revert = reverted_all
 
-  spent_by : (session : ℕ) (change : Change (List ℕ) Place) → (IsLeft t s → May session) → P (asking session change) (unless_spent t session change s)
-  spent_by session change may = go (ltb s.revision t.frame.limits.revisions) refl where
+  spent_by : (change : Change (List ℕ) Place) → seen_at s.slots session ≡ Some s.revision → Ends t s session change (unless_spent t session change s)
+  spent_by change seen = go (ltb s.revision t.frame.limits.revisions) refl where
     go : (b : Bool) → ltb s.revision t.frame.limits.revisions ≡ b
-        → P (asking session change) (cond b (outcome_of_change t session change s) (refused RevisionsSpent s))
-    go true left = change_by session (may (ltb-true s.revision t.frame.limits.revisions left)) change
-    go false left = leaves.refusal _ RevisionsSpent refl
+        → Ends t s session change (cond b (outcome_of_change t session change s) (refused RevisionsSpent s))
+    go true left = change_by (record { seen = seen; left = ltb-true s.revision t.frame.limits.revisions left }) change
+    go false left = denied change RevisionsSpent refl
 
-  stale_by : (session seen : ℕ) (change : Change (List ℕ) Place) → (seen ≡ s.revision → IsLeft t s → May session)
-      → P (asking session change) (unless_stale seen t session change s)
-  stale_by session seen change may = go (eqb seen s.revision) refl where
-    go : (b : Bool) → eqb seen s.revision ≡ b → P (asking session change) (cond b (unless_spent t session change s) (refused (Stale s.revision) s))
-    go true same = spent_by session change (may (eqb-true seen s.revision same))
-    go false same = leaves.refusal _ (Stale s.revision) refl
+  stale_by : (change : Change (List ℕ) Place) (seen : ℕ) → seen_at s.slots session ≡ Some seen → Ends t s session change (unless_stale seen t session change s)
+  stale_by change seen has_seen = go (eqb seen s.revision) refl where
+    go : (b : Bool) → eqb seen s.revision ≡ b → Ends t s session change (cond b (unless_spent t session change s) (refused (Stale s.revision) s))
+    go true same = spent_by change (has_seen ∙ ap (λ (n : ℕ). Some n) (eqb-true seen s.revision same))
+    go false same = denied change (Stale s.revision) refl
 
-  session_by : (session seen : ℕ) (action : Action (List ℕ) Place) → (seen ≡ s.revision → IsLeft t s → May session)
-      → P (Within session action) (outcome_within seen t session action s)
-  unfolding closed synced
-  session_by session seen Close may = leaves.closes session
-  session_by session seen Sync may = leaves.syncs session
-  session_by session seen Check may = checked_by session
-  session_by session seen Def may = written_by session
-  session_by session seen (Where name) may = located_by session name
-  session_by session seen (Find name target) may = found_by session name target
-  session_by session seen (Changing change) may = stale_by session seen change may
+  slot_by : (change : Change (List ℕ) Place) (o : Option ℕ) → seen_at s.slots session ≡ o → Ends t s session change (outcome_by_slot o t session (Changing change) s)
+  slot_by change None seen = denied change NoSession refl
+  slot_by change (Some n) seen = stale_by change n seen
 
-  slot_by : (session : ℕ) (action : Action (List ℕ) Place) (o : Option ℕ) → (o ≡ Some s.revision → IsLeft t s → May session)
-      → P (Within session action) (outcome_by_slot o t session action s)
-  slot_by session action None may = leaves.refusal _ NoSession refl
-  slot_by session action (Some seen) may = session_by session seen action (λ same. may (ap (λ (n : ℕ). Some n) same))
+-- a change is refused, or done
+asked_by : (t : Setting) (session : ℕ) (change : Change (List ℕ) Place) (s : TeamState) → Ends t s session change (outcome_of_asking t session change s)
+asked_by t session change s = slot_by t s session change (seen_at s.slots session) refl
 
-  -- what holds of each of these holds of the outcome of a verb
-  pub verb_so : ((session : ℕ) → MayChange t session s → May session) → (order : Order (List ℕ) Place) → P order (outcome_of t order s)
-  verb_so may Open = opened_by
-  verb_so may (Within session action) = slot_by session action (seen_at s.slots session)
-      (λ has_seen left. may session (record { seen = has_seen; left = left }))
+-- an accepted change is done
+pub accepted_is : (t : Setting) (session : ℕ) (change : Change (List ℕ) Place) (s : TeamState) → is_accepted (outcome_of_asking t session change s) ≡ true
+    → IsChangeOf t session change s (outcome_of_asking t session change s)
+accepted_is t session change s accepted = by (asked_by t session change s) where
+  by : Ends t s session change (outcome_of_asking t session change s) → IsChangeOf t session change s (outcome_of_asking t session change s)
+  by (inl r) = absurd (false≢true (sym (ap is_accepted r.is) ∙ accepted))
+  by (inr is) = is
 
--- of a verb that changes the session may
-pub verb_by : (t : Setting) (s : TeamState) (P : Order (List ℕ) Place → Outcome → Type 0) → Leaves t s (λ session. MayChange t session s) P
-    → (order : Order (List ℕ) Place) → P order (outcome_of t order s)
-verb_by t s P leaves = verb_so t s (λ session. MayChange t session s) P leaves (λ session may. may)
+-- ---- the orders
 
--- of an order that changes a revision is left
-pub order_by : (t : Setting) (s : TeamState) (P : Order (List ℕ) Place → Outcome → Type 0) → Leaves t s (λ session. IsLeft t s) P
-    → (order : Order (List ℕ) Place) → P order (outcome_of t order s)
-order_by t s P leaves = verb_so t s (λ session. IsLeft t s) P leaves (λ session may. may.left)
+module _ (t : Setting) (s : TeamState) where
+  refuse : (order : Order (List ℕ) Place) (r : Refusal) → is_short (Refused r) ≡ false → Facts t s order (refused r s)
+  refuse order r plain = inl (record { refusal = r; plain = plain; is = refl })
+
+  -- the reply changes nothing and carries no text
+  tells : (order : Order (List ℕ) Place) (reply : Reply) → is_change order ≡ false → is_accepted (record { reply = reply; team = s }) ≡ true → has_text reply ≡ false
+      → Facts t s order (record { reply = reply; team = s })
+  tells order reply look accepted short =
+      inr (inl (record { look = look; accepted = accepted; team = inl refl; text = λ long. absurd (false≢true (sym short ∙ long)) }))
+
+  -- the reply carries a text
+  shows : (order : Order (List ℕ) Place) (reply : Reply) → is_change order ≡ false → is_accepted (record { reply = reply; team = s }) ≡ true → takes_memory order ≡ true
+      → Facts t s order (record { reply = reply; team = s })
+  shows order reply look accepted takes = inr (inl (record { look = look; accepted = accepted; team = inl refl; text = λ long. (refl, takes) }))
+
+  -- the session's slot is another
+  slots : (order : Order (List ℕ) Place) (reply : Reply) (session : ℕ) (seen : Option ℕ) → is_change order ≡ false
+      → is_accepted (record { reply = reply; team = with_slot session seen s }) ≡ true → has_text reply ≡ false → IfSome seen (λ n. n ≤ s.revision)
+      → Facts t s order (record { reply = reply; team = with_slot session seen s })
+  slots order reply session seen look accepted short past = inr (inl (record {
+    look = look;
+    accepted = accepted;
+    team = inr (record { session = session; seen = seen; past = past; is = refl });
+    text = λ long. absurd (false≢true (sym short ∙ long));
+  }))
+
+  opened_by : Facts t s Open (opened s)
+  unfolding opened
+  opened_by = go (position is_none s.slots) where
+    go : (o : Option ℕ) → Facts t s Open (opened_at o s)
+    go None = refuse Open SessionsFull refl
+    go (Some session) = slots Open (Opened session s.revision) session (Some s.revision) refl refl refl (omega arith)
+
+  located_by : (session : ℕ) (name : List ℕ) → Facts t s (Within session (Where name)) (located name s)
+  unfolding located
+  located_by session name = own (cell_named name s.cells) where
+    at : (o : Option Place) (n : ℕ) → Facts t s (Within session (Where name)) (located_at o n s)
+    at None n = refuse _ (Unplaced n) refl
+    at (Some place) n = tells _ (At place) refl refl refl
+
+    own : (o : Option ℕ) → Facts t s (Within session (Where name)) (located_own o s)
+    own None = refuse _ NoCell refl
+    own (Some n) = at (working_at s.cells n) n
+
+  found_by : (session : ℕ) (name : List ℕ) (target : Point) → Facts t s (Within session (Find name target)) (found t name target s)
+  unfolding found
+  found_by session name target = own (cell_named name s.cells) where
+    at : (o : Option Place) (n : ℕ) → Facts t s (Within session (Find name target)) (found_at o n s)
+    at None n = refuse _ (NoPlace n) refl
+    at (Some place) n = tells _ (At place) refl refl refl
+
+    own : (o : Option ℕ) → Facts t s (Within session (Find name target)) (found_own o t target s)
+    own None = refuse _ NoCell refl
+    own (Some n) = at (best_at t s.cells n target) n
+
+  session_by : (session seen : ℕ) (action : Action (List ℕ) Place) → seen_at s.slots session ≡ Some seen
+      → Facts t s (Within session action) (outcome_within seen t session action s)
+  unfolding closed synced checked written
+  session_by session seen Close has_seen = slots _ Done session None refl refl refl tt
+  session_by session seen Sync has_seen = slots _ (Revision s.revision) session (Some s.revision) refl refl refl (omega arith)
+  session_by session seen Check has_seen = shows _ _ refl refl refl
+  session_by session seen Def has_seen = shows _ _ refl refl refl
+  session_by session seen (Where name) has_seen = located_by session name
+  session_by session seen (Find name target) has_seen = found_by session name target
+  session_by session seen (Changing change) has_seen = elim (stale_by t s session change seen has_seen) [
+    | inl r ↦ inl r
+    | inr is ↦ inr (inr (record { session = session; change = change; order_is = refl; is = is }))
+  ]
+
+  action_by : (session : ℕ) (action : Action (List ℕ) Place) (o : Option ℕ) → seen_at s.slots session ≡ o
+      → Facts t s (Within session action) (outcome_by_slot o t session action s)
+  action_by session action None seen = refuse _ NoSession refl
+  action_by session action (Some n) seen = session_by session n action seen
+
+-- what is known of the outcome of any order
+pub order_facts : (t : Setting) (order : Order (List ℕ) Place) (s : TeamState) → Facts t s order (outcome_of t order s)
+order_facts t Open s = opened_by t s
+order_facts t (Within session action) s = action_by t s session action (seen_at s.slots session) refl

@@ -1,23 +1,21 @@
 -- The committed places of a team: which orders change them, and that they stay legal.
-use Rattle.std.proofs.Common.{◌≡◌, ℕ, List, [], ◌∷◌, true, map, Option, Some, None, refl, ap, sym, subst}
+use Rattle.std.proofs.Common.{◌≡◌, inl, inr, ℕ, List, [], ◌∷◌, true, map, Option, refl, ap, sym, subst}
 use Rattle.lf_floorplan.specs.declared.place.Place.{Place}
 use Rattle.lf_rules.specs.Team.{Member, StandsLegal}
 use Rattle.lf_proto.specs.declared.request.Order.{Order}
 use Rattle.lf_proto.specs.declared.request.Order.TheVariants.{Within}
-use Rattle.lf_proto.specs.declared.request.Action.TheVariants.{Change as Changing}
-use Rattle.lf_proto.specs.declared.request.Change.TheVariants.{Commit}
+use Rattle.lf_proto.specs.declared.verb.Action.TheVariants.{Change as Changing}
+use Rattle.lf_proto.specs.declared.verb.Change.TheVariants.{Commit}
 use Rattle.lf_cells.specs.declared.cell.Cell.{Cell}
 use Rattle.lf_cells.specs.Cells.{as_committed}
 use Rattle.lf_legalize.specs.Members.{member_of}
 use Rattle.lf_teams.specs.States.{TeamState}
 use Rattle.lf_teams.specs.Teams.{Setting, IsTeamOf}
-use Rattle.lf_teams.specs.Outcomes.{Outcome, places_of, changed}
-use Rattle.lf_teams.specs.Changes.{places_in}
+use Rattle.lf_teams.specs.Outcomes.{Outcome, places_of}
 use Rattle.lf_teams.specs.Verbs.{outcome_of}
-use Rattle.lf_teams.specs.VerbLaws.{AreLegal, is_accepted, is_commit, committed_places}
+use Rattle.lf_teams.specs.VerbLaws.{AreLegal, is_accepted, committed_places}
 use Rattle.lf_teams.specs.Committed.{committed_member, AreCommittedLegal}
-use Rattle.lf_teams.proofs.Cases.{Leaves, IsLeft, order_by}
-use Rattle.lf_teams.proofs.Kept.{moved_part, restored_part, back_part, exchanged_part, false_true}
+use Rattle.lf_teams.proofs.Cases.{AreCommitted, Facts, accepted_is, order_facts, part_stays}
 use Rattle.lf_teams.proofs.Tidying.{committed_stand}
 
 -- after a commit the committed places are the working ones
@@ -41,64 +39,31 @@ alike : (t : Setting) (s : TeamState) (cells : List Cell) → map committed_memb
 alike t s cells same before own = subst (λ (ms : List Member). StandsLegal t.frame t.number ms own) (sym same) (before own)
 
 module _ (t : Setting) (s : TeamState) (known : IsTeamOf t.frame s) where
-  commit_ends : (session : ℕ) → ((own : ℕ) → StandsLegal t.frame t.number (map member_of (map as_committed s.cells)) own)
-      → Commits t (changed session (map as_committed s.cells) s.entries s).team
-  commit_ends session legal = record {
-    same = places_as s.cells;
-    legal = legal;
-    committed = λ own. subst (λ (ms : List Member). StandsLegal t.frame t.number ms own) (sym (committed_as s.cells)) (legal own);
-  }
-
-  keeps : AreCommittedLegal t.frame t.number s → Leaves t s (λ session. IsLeft t s) (λ v o. AreCommittedLegal t.frame t.number o.team)
-  keeps before = record {
-    refusal = λ v r plain. before;
-    opens = λ session e. before;
-    closes = λ session. before;
-    syncs = λ session. before;
-    checks = λ session text. before;
-    defs = λ session text. before;
-    tells = λ session name place. before;
-    finds = λ session name target place. before;
-    places = λ session own name place left named e. alike t s _ (moved_part committed_member (λ c p. refl) s.cells own (Some place)) before;
-    legalizes = λ session own name target place left named e. alike t s _ (moved_part committed_member (λ c p. refl) s.cells own (Some place)) before;
-    tidies = λ session count members left e. alike t s _ (restored_part committed_member (λ c p. refl) (places_in members) s.cells) before;
-    unplaces = λ session own name left named. alike t s _ (moved_part committed_member (λ c p. refl) s.cells own None) before;
-    swaps = λ session first second name other p q left named named' at at' e e'.
-        alike t s _ (exchanged_part committed_member (λ c p. refl) s.cells first second) before;
-    undoes = λ session old entries left e. alike t s _ (restored_part committed_member (λ c p. refl) old s.cells) before;
-    commits = λ session left u b. (commit_ends session (committed_stand t s.cells known.sized u b)).committed;
-    reverts = λ session left. alike t s _ (back_part committed_member (λ c p. refl) s.cells) before;
-  }
+  commit_ends : (team : TeamState) → AreCommitted t s team.cells → Commits t team
+  commit_ends team after =
+      let legal = committed_stand t s.cells known.sized after.placed after.unbroken in
+      record {
+        same = subst (λ (cs : List Cell). map (λ (c : Cell). c.committed) cs ≡ map (λ (c : Cell). c.working) cs) (sym after.are) (places_as s.cells);
+        legal = λ own. subst (λ (cs : List Cell). StandsLegal t.frame t.number (map member_of cs) own) (sym after.are) (legal own);
+        committed = λ own. subst (λ (cs : List Cell). StandsLegal t.frame t.number (map committed_member cs) own) (sym after.are)
+            (subst (λ (ms : List Member). StandsLegal t.frame t.number ms own) (sym (committed_as s.cells)) (legal own));
+      }
 
   -- legal committed places stay legal after any order
   pub order_keeps : (order : Order (List ℕ) Place) → AreCommittedLegal t.frame t.number s → AreCommittedLegal t.frame t.number (outcome_of t order s).team
-  order_keeps order before = order_by t s (λ v o. AreCommittedLegal t.frame t.number o.team) (keeps before) order
+  order_keeps order before = by (outcome_of t order s) (order_facts t order s) where
+    kept : (new old : TeamState) → new ≡ old → AreCommittedLegal t.frame t.number old → AreCommittedLegal t.frame t.number new
+    kept new old is legal = subst (λ (n : TeamState). AreCommittedLegal t.frame t.number n) (sym is) legal
 
-  -- what an accepted commit leads to
-  abbrev Ends : Order (List ℕ) Place → Outcome → Type 0
-  Ends order o = is_commit order ≡ true → is_accepted o ≡ true → Commits t o.team
-
-  ends : Leaves t s (λ session. IsLeft t s) Ends
-  ends = record {
-    refusal = λ v r plain is accepted. absurd (false_true accepted);
-    opens = λ session e is. absurd (false_true is);
-    closes = λ session is. absurd (false_true is);
-    syncs = λ session is. absurd (false_true is);
-    checks = λ session text is. absurd (false_true is);
-    defs = λ session text is. absurd (false_true is);
-    tells = λ session name place is. absurd (false_true is);
-    finds = λ session name target place is. absurd (false_true is);
-    places = λ session own name place left named e is. absurd (false_true is);
-    legalizes = λ session own name target place left named e is. absurd (false_true is);
-    tidies = λ session count members left e is. absurd (false_true is);
-    unplaces = λ session own name left named is. absurd (false_true is);
-    swaps = λ session first second name other p q left named named' at at' e e' is. absurd (false_true is);
-    undoes = λ session old entries left e is. absurd (false_true is);
-    commits = λ session left u b is accepted. commit_ends session (committed_stand t s.cells known.sized u b);
-    reverts = λ session left is. absurd (false_true is);
-  }
+    by : (o : Outcome) → Facts t s order o → AreCommittedLegal t.frame t.number o.team
+    by o (inl r) = kept o.team s (ap (λ (o : Outcome). o.team) r.is) before
+    by o (inr (inl look)) = elim look.team [ inl same ↦ kept o.team s same before | inr slot ↦ kept o.team _ slot.is before ]
+    by o (inr (inr done)) = elim (part_stays committed_member (λ c p. refl) t s done.session done.change o.team.cells done.is.cells) [
+      | inl same ↦ alike t s o.team.cells same before
+      | inr commits ↦ (commit_ends o.team commits.1).committed
+    ]
 
   -- after an accepted commit the working places are committed, and legal
   pub commit_commits : (session : ℕ) → is_accepted (outcome_of t (Within session (Changing Commit)) s) ≡ true
       → Commits t (outcome_of t (Within session (Changing Commit)) s).team
-  commit_commits session accepted = order_by t s Ends ends (Within session (Changing Commit)) refl accepted
+  commit_commits session accepted = commit_ends (outcome_of t (Within session (Changing Commit)) s).team (accepted_is t session Commit s accepted).cells

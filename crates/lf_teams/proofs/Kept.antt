@@ -1,6 +1,6 @@
 -- What an order leaves as it was, and what a change counts.
-use Rattle.std.proofs.Common.{◌≡◌, ◌≢◌, ℕ, zero, suc, ◌+◌, ◌≤◌, List, [], ◌∷◌, true, false, length, map, get_or, Option, Some, None, refl, ap, sym, ◌∙◌, subst, arith}
-use Rattle.std.specs.Prelude.{All, AllPairs, IfSome, slice_set}
+use Rattle.std.proofs.Common.{◌≡◌, ◌≢◌, inl, inr, ℕ, zero, suc, ◌+◌, ◌<◌, ◌≤◌, List, [], ◌∷◌, Bool, true, false, length, map, get_or, Option, Some, None, refl, ap, sym, ◌∙◌, subst, arith}
+use Rattle.std.specs.Prelude.{All, AllPairs, IfSome, MatchBool, slice_set}
 use Rattle.std.proofs.lemmas.List.{length-set, length-map, length-take}
 use Rattle.std.proofs.lemmas.List.Elements.{All-cons, All-set, All-tail, All-take}
 use Rattle.lf_floorplan.specs.declared.frame.Frame.{Frame}
@@ -13,41 +13,34 @@ use Rattle.lf_teams.specs.States.{TeamState}
 use Rattle.lf_teams.specs.Teams.{Setting, IsTeamOf}
 use Rattle.lf_legalize.specs.Members.{IsSizedCell}
 use Rattle.lf_proto.specs.declared.request.Order.{Order}
-use Rattle.lf_proto.specs.declared.request.Order.TheVariants.{Open, Within}
-use Rattle.lf_proto.specs.declared.request.Action.TheVariants.{Close, Sync, Check, Def, Where, Find, Change as Changing}
-use Rattle.lf_teams.specs.Outcomes.{Outcome, is_short, refused, places_of, changed, with_entry, recorded}
-use Rattle.lf_cells.specs.Cells.{moved, working_at, as_committed}
+use Rattle.lf_proto.specs.declared.verb.Change.{Change}
+use Rattle.lf_teams.specs.Outcomes.{Outcome, is_short, places_of, changed, with_entry}
 use Rattle.lf_teams.specs.Sessions.{with_slot, seen_at}
-use Rattle.lf_teams.specs.Changes.{restored, exchanged, back_to_committed, places_in}
-use Rattle.lf_teams.specs.Verbs.{outcome_of}
-use Rattle.lf_teams.specs.VerbLaws.{MayChange, CountsOne, KeepsCells, is_accepted, is_granted, is_change, is_commit, committed_places, told_revision}
-use Rattle.lf_teams.proofs.Cases.{Leaves, IsLeft, verb_by, order_by}
+use Rattle.lf_teams.specs.Verbs.{is_recorded, outcome_of}
+use Rattle.lf_teams.specs.VerbLaws.{CountsOne, KeepsCells, is_accepted, is_granted, is_change, is_commit, committed_places, told_revision, outcome_of_asking}
+use Rattle.lf_teams.proofs.Cases.{AreLeft, EntriesAfter, Facts, IsChangeOf, accepted_is, macs_stay, names_stay, order_facts, part_stays}
+
+pub false_true : false ≡ true → ⊥
+false_true e = cc
 
 -- ---- refusals
 
-plain : (t : Setting) (s : TeamState) → Leaves t s (λ session. IsLeft t s) (λ v o. is_short o.reply ≡ false)
-plain t s = record {
-  refusal = λ v r is. is;
-  opens = λ session e. refl;
-  closes = λ session. refl;
-  syncs = λ session. refl;
-  checks = λ session text. refl;
-  defs = λ session text. refl;
-  tells = λ session name place. refl;
-  finds = λ session name target place. refl;
-  places = λ session own name place left named e. refl;
-  legalizes = λ session own name target place left named e. refl;
-  tidies = λ session count members left e. refl;
-  unplaces = λ session own name left named. refl;
-  swaps = λ session first second name other p q left named named' at at' e e'. refl;
-  undoes = λ session old entries left e. refl;
-  commits = λ session left u b. refl;
-  reverts = λ session left. refl;
-}
+granted_plain : (reply : Reply) → is_granted reply ≡ true → is_short reply ≡ false
+granted_plain (Refused refusal) granted = absurd (false_true granted)
+granted_plain _ granted = refl
+
+-- a reply that gives a revision is no refusal
+told_granted : (reply : Reply) (revision : ℕ) → told_revision reply ≡ Some revision → is_granted reply ≡ true
+told_granted (Refused refusal) revision told = absurd cc
+told_granted _ revision told = refl
 
 -- the rules never say that memory ran out
 pub never_short : (t : Setting) (verb : Order (List ℕ) Place) (s : TeamState) → is_short (outcome_of t verb s).reply ≡ false
-never_short t verb s = order_by t s (λ v o. is_short o.reply ≡ false) (plain t s) verb
+never_short t verb s = by (outcome_of t verb s) (order_facts t verb s) where
+  by : (o : Outcome) → Facts t s verb o → is_short o.reply ≡ false
+  by o (inl r) = ap (λ (o : Outcome). is_short o.reply) r.is ∙ r.plain
+  by o (inr (inl look)) = granted_plain o.reply look.accepted
+  by o (inr (inr done)) = granted_plain o.reply (told_granted o.reply (s.revision + 1) done.is.told)
 
 -- the outcome leaves the team, if it is a refusal
 abbrev pub LeavesIfRefused : TeamState → Outcome → Type 0
@@ -58,28 +51,12 @@ granted s o accepted refusal is = absurd (never (sym accepted ∙ ap is_granted 
   never : true ≡ false → ⊥
   never e = cc
 
-refused_leaves : (t : Setting) (s : TeamState) → Leaves t s (λ session. IsLeft t s) (λ v o. LeavesIfRefused s o)
-refused_leaves t s = record {
-  refusal = λ v r plain refusal is. refl;
-  opens = λ session e. granted s _ refl;
-  closes = λ session. granted s _ refl;
-  syncs = λ session. granted s _ refl;
-  checks = λ session text. granted s _ refl;
-  defs = λ session text. granted s _ refl;
-  tells = λ session name place. granted s _ refl;
-  finds = λ session name target place. granted s _ refl;
-  places = λ session own name place left named e. granted s _ refl;
-  legalizes = λ session own name target place left named e. granted s _ refl;
-  tidies = λ session count members left e. granted s _ refl;
-  unplaces = λ session own name left named. granted s _ refl;
-  swaps = λ session first second name other p q left named named' at at' e e'. granted s _ refl;
-  undoes = λ session old entries left e. granted s _ refl;
-  commits = λ session left u b. granted s _ refl;
-  reverts = λ session left. granted s _ refl;
-}
-
 pub refusal_leaves : (t : Setting) (verb : Order (List ℕ) Place) (s : TeamState) → LeavesIfRefused s (outcome_of t verb s)
-refusal_leaves t verb s = order_by t s (λ v o. LeavesIfRefused s o) (refused_leaves t s) verb
+refusal_leaves t verb s = by (outcome_of t verb s) (order_facts t verb s) where
+  by : (o : Outcome) → Facts t s verb o → LeavesIfRefused s o
+  by o (inl r) = λ refusal is. ap (λ (o : Outcome). o.team) r.is
+  by o (inr (inl look)) = granted s o look.accepted
+  by o (inr (inr done)) = granted s o (told_granted o.reply (s.revision + 1) done.is.told)
 
 -- ---- revisions
 
@@ -96,120 +73,34 @@ seen_other (x ∷ xs) zero (suc other) new differ = refl
 seen_other (x ∷ xs) (suc k) zero new differ = refl
 seen_other (x ∷ xs) (suc k) (suc other) new differ = seen_other xs k other new (λ e. differ (ap suc e))
 
--- the change is counted, if it is accepted
-abbrev Counts : Setting → TeamState → Order (List ℕ) Place → Outcome → Type 0
-Counts t s (Within session (Changing change)) o = is_accepted o ≡ true → CountsOne t session s o
-Counts t s _ o = Unit {0}
-
-pub false_true : false ≡ true → ⊥
-false_true e = cc
-
-refused_counts : (t : Setting) (s : TeamState) (verb : Order (List ℕ) Place) (r : Refusal) → Counts t s verb (refused r s)
-refused_counts t s Open r = tt
-refused_counts t s (Within session Close) r = tt
-refused_counts t s (Within session Sync) r = tt
-refused_counts t s (Within session Check) r = tt
-refused_counts t s (Within session Def) r = tt
-refused_counts t s (Within session (Where name)) r = tt
-refused_counts t s (Within session (Find name target)) r = tt
-refused_counts t s (Within session (Changing change)) r = λ denied. absurd (false_true denied)
-
-counts : (t : Setting) (session : ℕ) (s : TeamState) (reply : Reply) (cells : List Cell) (entries : List (List (Option Place))) → MayChange t session s
-    → told_revision reply ≡ Some (s.revision + 1)
-    → CountsOne t session s (record { reply = reply; team = (changed session cells entries s).team })
-counts t session s reply cells entries may told = record {
-  allowed = may;
-  counts = record {
-    counted = refl;
-    told = told;
-    seen = seen_set s.slots session s.revision (s.revision + 1) may.seen;
-    others = λ other differ. seen_other s.slots session other (Some (s.revision + 1)) differ;
-  };
-}
-
-pub change_counted : (t : Setting) (verb : Order (List ℕ) Place) (s : TeamState) → Counts t s verb (outcome_of t verb s)
-change_counted t verb s = verb_by t s (λ v o. Counts t s v o) record {
-  refusal = λ v r plain. refused_counts t s v r;
-  opens = λ session e. tt;
-  closes = λ session. tt;
-  syncs = λ session. tt;
-  checks = λ session text. tt;
-  defs = λ session text. tt;
-  tells = λ session name place. tt;
-  finds = λ session name target place. tt;
-  places = λ session own name place may named e accepted. counts t session s _ _ _ may refl;
-  legalizes = λ session own name target place may named e accepted. counts t session s _ _ _ may refl;
-  tidies = λ session count members may e accepted. counts t session s _ _ _ may refl;
-  unplaces = λ session own name may named accepted. counts t session s _ _ _ may refl;
-  swaps = λ session first second name other p q may named named' at at' e e' accepted. counts t session s _ _ _ may refl;
-  undoes = λ session old entries may e accepted. counts t session s _ _ _ may refl;
-  commits = λ session may u b accepted. counts t session s _ _ _ may refl;
-  reverts = λ session may accepted. counts t session s _ _ _ may refl;
-} verb
-
--- the verb leaves the cells, if it is no change
-abbrev LooksOnly : TeamState → Order (List ℕ) Place → Outcome → Type 0
-LooksOnly s verb o = is_change verb ≡ false → KeepsCells s o.team
+-- an accepted change is counted
+pub change_counted : (t : Setting) (session : ℕ) (change : Change (List ℕ) Place) (s : TeamState) → is_accepted (outcome_of_asking t session change s) ≡ true
+    → CountsOne t session s (outcome_of_asking t session change s)
+change_counted t session change s accepted =
+    let c = accepted_is t session change s accepted in
+    record {
+      allowed = c.allowed;
+      counts = record {
+        counted = ap (λ (n : TeamState). n.revision) c.team;
+        told = c.told;
+        seen = ap (λ (n : TeamState). seen_at n.slots session) c.team ∙ seen_set s.slots session s.revision (s.revision + 1) c.allowed.seen;
+        others = λ other differ. ap (λ (n : TeamState). seen_at n.slots other) c.team ∙ seen_other s.slots session other (Some (s.revision + 1)) differ;
+      };
+    }
 
 same_cells : (s : TeamState) (slots : List (Option ℕ)) → KeepsCells s (record s { slots = slots })
 same_cells s slots = record { cells = refl; revision = refl; entries = refl }
 
-pub look_kept : (t : Setting) (verb : Order (List ℕ) Place) (s : TeamState) → LooksOnly s verb (outcome_of t verb s)
-look_kept t verb s = verb_by t s (λ v o. LooksOnly s v o) record {
-  refusal = λ v r plain denied. same_cells s s.slots;
-  opens = λ session e denied. same_cells s _;
-  closes = λ session denied. same_cells s _;
-  syncs = λ session denied. same_cells s _;
-  checks = λ session text denied. same_cells s s.slots;
-  defs = λ session text denied. same_cells s s.slots;
-  tells = λ session name place denied. same_cells s s.slots;
-  finds = λ session name target place denied. same_cells s s.slots;
-  places = λ session own name place may named e denied. absurd (false_true (sym denied));
-  legalizes = λ session own name target place may named e denied. absurd (false_true (sym denied));
-  tidies = λ session count members may e denied. absurd (false_true (sym denied));
-  unplaces = λ session own name may named denied. absurd (false_true (sym denied));
-  swaps = λ session first second name other p q may named named' at at' e e' denied. absurd (false_true (sym denied));
-  undoes = λ session old entries may e denied. absurd (false_true (sym denied));
-  commits = λ session may u b denied. absurd (false_true (sym denied));
-  reverts = λ session may denied. absurd (false_true (sym denied));
-} verb
+-- the verb leaves the cells, if it is no change
+pub look_kept : (t : Setting) (verb : Order (List ℕ) Place) (s : TeamState) → is_change verb ≡ false → KeepsCells s (outcome_of t verb s).team
+look_kept t verb s no_change = by (outcome_of t verb s) (order_facts t verb s) where
+  kept : (new : TeamState) (slots : List (Option ℕ)) → new ≡ record s { slots = slots } → KeepsCells s new
+  kept new slots is = subst (λ (n : TeamState). KeepsCells s n) (sym is) (same_cells s slots)
 
--- ---- what moving cells leaves
-
--- a part of a cell that its working place is none of
-abbrev pub IsFixed : {X : Type 0} → (Cell → X) → Type 0
-IsFixed part = (c : Cell) (place : Option Place) → part (record c { working = place }) ≡ part c
-
-pub moved_part : {X : Type 0} (part : Cell → X) → IsFixed part → (cells : List Cell) (own : ℕ) (place : Option Place)
-    → map part (moved cells own place) ≡ map part cells
-moved_part part fixed [] own place = refl
-moved_part part fixed (c ∷ cs) zero place = ap (λ x. x ∷ map part cs) (fixed c place)
-moved_part part fixed (c ∷ cs) (suc own) place = ap (λ xs. part c ∷ xs) (moved_part part fixed cs own place)
-
-pub restored_part : {X : Type 0} (part : Cell → X) → IsFixed part → (places : List (Option Place)) (cells : List Cell)
-    → map part (restored places cells) ≡ map part cells
-restored_part part fixed [] cells = refl
-restored_part part fixed (place ∷ places) [] = refl
-restored_part part fixed (place ∷ places) (c ∷ cs) =
-    ap (λ x. x ∷ map part (restored places cs)) (fixed c place) ∙ ap (λ xs. part c ∷ xs) (restored_part part fixed places cs)
-
-pub back_part : {X : Type 0} (part : Cell → X) → IsFixed part → (cells : List Cell) → map part (map back_to_committed cells) ≡ map part cells
-back_part part fixed [] = refl
-back_part part fixed (c ∷ cs) = ap (λ x. x ∷ map part (map back_to_committed cs)) (fixed c c.committed) ∙ ap (λ xs. part c ∷ xs) (back_part part fixed cs)
-
-pub exchanged_part : {X : Type 0} (part : Cell → X) → IsFixed part → (cells : List Cell) (first second : ℕ)
-    → map part (exchanged cells first second) ≡ map part cells
-exchanged_part part fixed cells first second =
-    moved_part part fixed (moved cells first (working_at cells second)) second (working_at cells first)
-    ∙ moved_part part fixed cells first (working_at cells second)
-
-pub committed_macs : (cells : List Cell) → map (λ c. c.mac) (map as_committed cells) ≡ map (λ c. c.mac) cells
-committed_macs [] = refl
-committed_macs (c ∷ cs) = ap (λ xs. c.mac ∷ xs) (committed_macs cs)
-
-committed_names : (cells : List Cell) → map (λ c. c.name) (map as_committed cells) ≡ map (λ c. c.name) cells
-committed_names [] = refl
-committed_names (c ∷ cs) = ap (λ xs. c.name ∷ xs) (committed_names cs)
+  by : (o : Outcome) → Facts t s verb o → KeepsCells s o.team
+  by o (inl r) = kept o.team s.slots (ap (λ (o : Outcome). o.team) r.is)
+  by o (inr (inl look)) = elim look.team [ inl same ↦ kept o.team s.slots same | inr slot ↦ kept o.team _ slot.is ]
+  by o (inr (inr done)) = absurd (false_true (sym no_change ∙ ap is_change done.order_is))
 
 -- ---- a team of the frame
 
@@ -256,8 +147,8 @@ record AreAlike (old new : List Cell) : Type 0 where
   names : map (λ c. c.name) new ≡ map (λ c. c.name) old
 
 -- a change to cells that are alike, with entries that are whole and few
-changed_team : (t : Setting) (s : TeamState) (session : ℕ) (cells : List Cell) (entries : List (List (Option Place))) → IsTeamOf t.frame s → IsLeft t s
-    → AreAlike s.cells cells
+changed_team : (t : Setting) (s : TeamState) (session : ℕ) (cells : List Cell) (entries : List (List (Option Place))) → IsTeamOf t.frame s
+    → s.revision < t.frame.limits.revisions → AreAlike s.cells cells
     → All (λ places. length places ≡ length s.cells) entries → length entries ≤ t.frame.limits.undo → IsTeamOf t.frame (changed session cells entries s).team
 changed_team t s session cells entries h left alike whole few =
     let long = same_length s.cells cells alike.macs in
@@ -275,16 +166,6 @@ changed_team t s session cells entries h left alike whole few =
           (seen_later s.revision (s.revision + 1) s.slots (omega arith) h.seen_past);
     }
 
--- the working places before the change are put in front of the entries
-recorded_team : (t : Setting) (s : TeamState) (session : ℕ) (cells : List Cell) → IsTeamOf t.frame s → IsLeft t s → AreAlike s.cells cells
-    → IsTeamOf t.frame (recorded t session cells s).team
-recorded_team t s session cells h left alike =
-    let whole = λ (places : List (Option Place)). length places ≡ length s.cells in
-    let newest : length (places_of s.cells) ≡ length s.cells = length-map s.cells (λ (c : Cell). c.working) in
-    changed_team t s session cells (with_entry t.frame.limits s) h left alike
-    (All-take whole t.frame.limits.undo (places_of s.cells ∷ s.entries) (All-cons whole (places_of s.cells) s.entries newest h.whole_entries))
-    (omega (arith, length-take t.frame.limits.undo (places_of s.cells ∷ s.entries)))
-
 -- one slot is written, with a revision that is past
 with_slot_team : (t : Setting) (s : TeamState) (session : ℕ) (seen : Option ℕ) → IfSome seen (λ n. n ≤ s.revision) → IsTeamOf t.frame s
     → IsTeamOf t.frame (with_slot session seen s)
@@ -300,86 +181,68 @@ with_slot_team t s session seen past h = record {
   seen_past = All-set (λ slot. IfSome slot (λ seen. seen ≤ s.revision)) s.slots session seen past h.seen_past;
 }
 
-alike_moved : (cells : List Cell) (own : ℕ) (place : Option Place) → AreAlike cells (moved cells own place)
-alike_moved cells own place = record {
-  macs = moved_part (λ c. c.mac) (λ c p. refl) cells own place;
-  names = moved_part (λ c. c.name) (λ c p. refl) cells own place;
-}
+-- undo entries have a place for each cell, and are few
+abbrev AreWhole : Setting → TeamState → List (List (Option Place)) → Type 0
+AreWhole t s entries = All (λ places. length places ≡ length s.cells) entries × (length entries ≤ t.frame.limits.undo)
 
-alike_restored : (places : List (Option Place)) (cells : List Cell) → AreAlike cells (restored places cells)
-alike_restored places cells = record {
-  macs = restored_part (λ c. c.mac) (λ c p. refl) places cells;
-  names = restored_part (λ c. c.name) (λ c p. refl) places cells;
-}
+-- the working places in front of the entries
+newest : (t : Setting) (s : TeamState) → IsTeamOf t.frame s → AreWhole t s (with_entry t.frame.limits s)
+newest t s h =
+    let whole = λ (places : List (Option Place)). length places ≡ length s.cells in
+    let long : length (places_of s.cells) ≡ length s.cells = length-map s.cells (λ (c : Cell). c.working) in (
+      All-take whole t.frame.limits.undo (places_of s.cells ∷ s.entries) (All-cons whole (places_of s.cells) s.entries long h.whole_entries),
+      omega (arith, length-take t.frame.limits.undo (places_of s.cells ∷ s.entries)),
+    )
 
-alike_exchanged : (cells : List Cell) (first second : ℕ) → AreAlike cells (exchanged cells first second)
-alike_exchanged cells first second = record {
-  macs = exchanged_part (λ c. c.mac) (λ c p. refl) cells first second;
-  names = exchanged_part (λ c. c.name) (λ c p. refl) cells first second;
-}
-
-alike_back : (cells : List Cell) → AreAlike cells (map back_to_committed cells)
-alike_back cells = record {
-  macs = back_part (λ c. c.mac) (λ c p. refl) cells;
-  names = back_part (λ c. c.name) (λ c p. refl) cells;
-}
-
--- the entries after the newest one are whole and few
+-- the entries after the newest one
 older : (t : Setting) (s : TeamState) (old : List (Option Place)) (entries : List (List (Option Place))) → s.entries ≡ old ∷ entries → IsTeamOf t.frame s
-    → All (λ places. length places ≡ length s.cells) entries × (length entries ≤ t.frame.limits.undo)
+    → AreWhole t s entries
 older t s old entries is h =
     let all : All (λ (places : List (Option Place)). length places ≡ length s.cells) (old ∷ entries) = rw is at h.whole_entries in
     (All-tail (λ (places : List (Option Place)). length places ≡ length s.cells) old entries all, omega (arith, ap length is, h.few_entries))
 
-stays_one : (t : Setting) (s : TeamState) → IsTeamOf t.frame s → Leaves t s (λ session. IsLeft t s) (λ v o. IsTeamOf t.frame o.team)
-stays_one t s h = record {
-  refusal = λ v r plain. h;
-  opens = λ session e. with_slot_team t s session (Some s.revision) (omega arith) h;
-  closes = λ session. with_slot_team t s session None tt h;
-  syncs = λ session. with_slot_team t s session (Some s.revision) (omega arith) h;
-  checks = λ session text. h;
-  defs = λ session text. h;
-  tells = λ session name place. h;
-  finds = λ session name target place. h;
-  places = λ session own name place left named e. recorded_team t s session _ h left (alike_moved s.cells own (Some place));
-  legalizes = λ session own name target place left named e. recorded_team t s session _ h left (alike_moved s.cells own (Some place));
-  tidies = λ session count members left e. recorded_team t s session _ h left (alike_restored (places_in members) s.cells);
-  unplaces = λ session own name left named. recorded_team t s session _ h left (alike_moved s.cells own None);
-  swaps = λ session first second name other p q left named named' at at' e e'. recorded_team t s session _ h left (alike_exchanged s.cells first second);
-  undoes = λ session old entries left e.
-      let rest = older t s old entries e h in
-      changed_team t s session _ entries h left (alike_restored old s.cells) rest.0 rest.1;
-  commits = λ session left u b. changed_team t s session _ s.entries h left
-      (record { macs = committed_macs s.cells; names = committed_names s.cells }) h.whole_entries h.few_entries;
-  reverts = λ session left. recorded_team t s session _ h left (alike_back s.cells);
-}
+-- the entries after a change
+entries_stay : (t : Setting) (s : TeamState) (change : Change (List ℕ) Place) (entries : List (List (Option Place))) → IsTeamOf t.frame s
+    → EntriesAfter t s change entries → AreWhole t s entries
+entries_stay t s change entries h after = by (is_recorded change) after where
+  by : (b : Bool) → MatchBool b (entries ≡ with_entry t.frame.limits s) (AreLeft s entries) → AreWhole t s entries
+  by true is = subst (λ (es : List (List (Option Place))). AreWhole t s es) (sym is) (newest t s h)
+  by false (inl same) = subst (λ (es : List (List (Option Place))). AreWhole t s es) (sym same) (h.whole_entries, h.few_entries)
+  by false (inr (old, is)) = older t s old entries is h
+
+change_keeps : (t : Setting) (s : TeamState) (session : ℕ) (change : Change (List ℕ) Place) (o : Outcome) → IsTeamOf t.frame s → IsChangeOf t session change s o
+    → IsTeamOf t.frame o.team
+change_keeps t s session change o h c =
+    let alike : AreAlike s.cells o.team.cells =
+    record { macs = macs_stay t s change o.team.cells c.cells; names = names_stay t s change o.team.cells c.cells } in
+    let entries = entries_stay t s change o.team.entries h c.entries in
+    subst (λ (n : TeamState). IsTeamOf t.frame n) (sym c.team)
+    (changed_team t s session o.team.cells o.team.entries h c.allowed.left alike entries.0 entries.1)
 
 -- after any order a team of the frame is still one
 pub verb_keeps : (t : Setting) (verb : Order (List ℕ) Place) (s : TeamState) → IsTeamOf t.frame s → IsTeamOf t.frame (outcome_of t verb s).team
-verb_keeps t verb s h = order_by t s (λ v o. IsTeamOf t.frame o.team) (stays_one t s h) verb
+verb_keeps t verb s h = by (outcome_of t verb s) (order_facts t verb s) where
+  kept : (new old : TeamState) → new ≡ old → IsTeamOf t.frame old → IsTeamOf t.frame new
+  kept new old is known = subst (λ (n : TeamState). IsTeamOf t.frame n) (sym is) known
+
+  by : (o : Outcome) → Facts t s verb o → IsTeamOf t.frame o.team
+  by o (inl r) = kept o.team s (ap (λ (o : Outcome). o.team) r.is) h
+  by o (inr (inl look)) = elim look.team [
+    | inl same ↦ kept o.team s same h
+    | inr slot ↦ kept o.team _ slot.is (with_slot_team t s slot.session slot.seen slot.past h)
+  ]
+  by o (inr (inr done)) = change_keeps t s done.session done.change o h done.is
 
 -- ---- committed places
 
 -- the committed places stay, unless the verb is a commit
-abbrev StayCommitted : TeamState → Order (List ℕ) Place → Outcome → Type 0
-StayCommitted s verb o = is_commit verb ≡ false → committed_places o.team ≡ committed_places s
-
-pub committed_stay : (t : Setting) (verb : Order (List ℕ) Place) (s : TeamState) → StayCommitted s verb (outcome_of t verb s)
-committed_stay t verb s = verb_by t s (λ v o. StayCommitted s v o) record {
-  refusal = λ v r plain other. refl;
-  opens = λ session e other. refl;
-  closes = λ session other. refl;
-  syncs = λ session other. refl;
-  checks = λ session text other. refl;
-  defs = λ session text other. refl;
-  tells = λ session name place other. refl;
-  finds = λ session name target place other. refl;
-  places = λ session own name place may named e other. moved_part (λ c. c.committed) (λ c p. refl) s.cells own (Some place);
-  legalizes = λ session own name target place may named e other. moved_part (λ c. c.committed) (λ c p. refl) s.cells own (Some place);
-  tidies = λ session count members may e other. restored_part (λ c. c.committed) (λ c p. refl) (places_in members) s.cells;
-  unplaces = λ session own name may named other. moved_part (λ c. c.committed) (λ c p. refl) s.cells own None;
-  swaps = λ session first second name name' p q may named named' at at' e e' other. exchanged_part (λ c. c.committed) (λ c p. refl) s.cells first second;
-  undoes = λ session old entries may e other. restored_part (λ c. c.committed) (λ c p. refl) old s.cells;
-  commits = λ session may u b other. absurd (false_true (sym other));
-  reverts = λ session may other. back_part (λ c. c.committed) (λ c p. refl) s.cells;
-} verb
+pub committed_stay : (t : Setting) (verb : Order (List ℕ) Place) (s : TeamState) → is_commit verb ≡ false
+    → committed_places (outcome_of t verb s).team ≡ committed_places s
+committed_stay t verb s other = by (outcome_of t verb s) (order_facts t verb s) where
+  by : (o : Outcome) → Facts t s verb o → committed_places o.team ≡ committed_places s
+  by o (inl r) = ap (λ (o : Outcome). committed_places o.team) r.is
+  by o (inr (inl look)) = elim look.team [ inl same ↦ ap committed_places same | inr slot ↦ ap committed_places slot.is ]
+  by o (inr (inr done)) = elim (part_stays (λ c. c.committed) (λ c p. refl) t s done.session done.change o.team.cells done.is.cells) [
+    | inl same ↦ same
+    | inr commits ↦ absurd (false_true (sym other ∙ ap is_commit done.order_is ∙ commits.0))
+  ]

@@ -10,11 +10,11 @@ use Rattle.std.proofs.lemmas.Option.{slice_get_within, get_or_from_slice_get}
 use Rattle.lf_units.specs.Area.{SharesPoint}
 use Rattle.lf_floorplan.specs.declared.frame.Frame.{Frame}
 use Rattle.lf_floorplan.proofs.GroundLemmas.{teams_apart}
-use Rattle.lf_rules.specs.declared.rule.Rule.TheVariants.{Height, Row as RowRule, Stand, Orient as OrientRule, Rail as RailRule, Fence, Obstacle, Overlap}
-use Rattle.lf_rules.specs.Choice.{Spot, IsLegalAt}
-use Rattle.lf_rules.specs.FullyLegal.{Standing, KeepsRules, StandApart, IsFullyLegal, standing_in, with_team, standing_from}
+use Rattle.lf_rules.specs.Choice.{Spot, IsLegalAt, trial_at}
+use Rattle.lf_rules.specs.FullyLegal.{Standing, alone_at, KeepsRules, StandApart, IsFullyLegal, standing_in, with_team, standing_from}
 use Rattle.lf_rules.specs.Team.{Member, box_in, lifted_from, StandsLegal}
 use Rattle.lf_rules.proofs.BesideLemmas.{beside_hold}
+use Rattle.lf_rules.proofs.LegalParts.{frame_beside, frame_meant, legal_by_parts}
 use Rattle.lf_rules.proofs.TidyLemmas.{Clear, turn}
 
 -- ---- lists
@@ -137,14 +137,12 @@ module _ (f : Frame) (team : ℕ) (cells : List Member) (legal : IsFullyLegal f 
 
   legal_where : (own : ℕ) (m : Member) (p : Spot) → KeepsRules f (standing_in team m) p → Clear f cells own (box_in f m.mac p)
       → IsLegalAt (lifted_from f team cells own m.mac) p
-  legal_where own m p keeps clear Height = keeps Height (omega arith)
-  legal_where own m p keeps clear RowRule = keeps RowRule (omega arith)
-  legal_where own m p keeps clear Stand = keeps Stand (omega arith)
-  legal_where own m p keeps clear OrientRule = keeps OrientRule (omega arith)
-  legal_where own m p keeps clear RailRule = keeps RailRule (omega arith)
-  legal_where own m p keeps clear Fence = keeps Fence (omega arith)
-  legal_where own m p keeps clear Obstacle = keeps Obstacle (omega arith)
-  legal_where own m p keeps clear Overlap = beside_hold (λ rect. SharesPoint (box_in f m.mac p) rect → ⊥) f cells own clear
+  legal_where own m p keeps clear =
+      let lifted = lifted_from f team cells own m.mac in
+      (legal_by_parts (trial_at lifted p)).1 (
+        frame_beside (alone_at f (standing_in team m) p) lifted.others keeps,
+        beside_hold (λ rect. SharesPoint (box_in f m.mac p) rect → ⊥) f cells own clear,
+      )
 
   stands_alone : (own : ℕ) → StandsLegal f team cells own
   stands_alone own m there = by m.place refl where
@@ -219,7 +217,8 @@ same_parts f a b same legal = record {
   kept = kept;
   apart = pairs_by_parts (λ a b. StandApart f a b) b (λ team. (own team).apart) (λ i j d less within differ p is_p q is_q meets.
       teams_apart f (get_or b i d).team (get_or b j d).team (box_in f (get_or b i d).mac p) (box_in f (get_or b j d).mac q) differ
-      (kept i d (omega (arith, less, within)) p is_p Fence (omega arith)) (kept j d within q is_q Fence (omega arith)) meets);
+      (frame_meant (alone_at f (get_or b i d) p) (kept i d (omega (arith, less, within)) p is_p)).ground
+      (frame_meant (alone_at f (get_or b j d) q) (kept j d within q is_q)).ground meets);
 } where
   own : (team : ℕ) → IsFullyLegal f (part_of team b)
   own team = subst (λ (cs : List Standing). IsFullyLegal f cs) (same team) (part_legal f a team legal)

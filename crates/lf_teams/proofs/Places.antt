@@ -1,11 +1,10 @@
 -- The committed places of all movable components, and the loaded design that a floor begins with.
 use Rattle.std.proofs.Common.{◌≡◌, ℕ, zero, suc, ◌+◌, ◌<◌, ◌≤◌, Bool, true, false, cond, eqb, List, [], ◌∷◌, length, map, filter, get_or}
 use Rattle.std.proofs.Common.{Option, Some, None, ◌⊎◌, inl, inr, refl, ap, sym, ◌∙◌, subst, arith, zero-add}
-use Rattle.std.specs.Prelude.{All, AllPairs, Contains, option_and_then, option_map, slice_get}
-use Rattle.std.specs.List.{range_with_len}
+use Rattle.std.specs.Prelude.{AllPairs, Contains, option_and_then, option_map, slice_get}
 use Rattle.std.proofs.lemmas.Bool.{eqb-true, eq-eqb}
 use Rattle.std.proofs.lemmas.List.{get_or_past, length-map}
-use Rattle.std.proofs.lemmas.List.Elements.{All-contains, All-contains_itself, All-filter, Contains-get_or, filter_passes}
+use Rattle.std.proofs.lemmas.List.Elements.{All-contains, All-contains_itself, All-filter, filter_passes}
 use Rattle.std.proofs.lemmas.List.FromFn.{length-map-range_with_len, get_or-map-range_with_len}
 use Rattle.std.proofs.lemmas.Option.{slice_get-map, slice_get_within, get_or_from_slice_get}
 use Rattle.lf_floorplan.specs.declared.loaded.Cell.{Cell as LoadedCell}
@@ -13,10 +12,10 @@ use Rattle.lf_floorplan.specs.declared.loaded.Loaded.{Loaded}
 use Rattle.lf_floorplan.specs.declared.place.Place.{Place}
 use Rattle.lf_cells.specs.declared.cell.Cell.{Cell}
 use Rattle.lf_cells.specs.Openings.{opening_cell, opening_components, own_cells, own_components}
-use Rattle.lf_teams.specs.States.{FloorState, TeamState}
+use Rattle.lf_teams.specs.States.{TeamState}
 use Rattle.lf_teams.specs.Designs.{opening}
-use Rattle.lf_teams.specs.Places.{AreCommittedPlaces, IsCommittedAt, PlacesBeginAsLoaded, PlacesFollowDesign, cell_in, entry_in}
-use Rattle.lf_teams.proofs.Openings.{count_teams, map_at, pairs_map, team_of}
+use Rattle.lf_teams.specs.Places.{IsCommittedAt, PlacesBeginAsLoaded, PlacesFollowDesign, cell_in}
+use Rattle.lf_teams.proofs.Openings.{map_at, pairs_map, team_of}
 use Rattle.lf_teams.proofs.Standing.{some_one}
 
 -- ---- lists that rise

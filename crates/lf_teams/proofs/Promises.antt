@@ -11,8 +11,8 @@ use Rattle.lf_proto.specs.declared.request.Command.{Command}
 use Rattle.lf_proto.specs.declared.request.Command.TheVariants.{Bye, To}
 use Rattle.lf_proto.specs.declared.request.Order.{Order}
 use Rattle.lf_proto.specs.declared.request.Order.TheVariants.{Within}
-use Rattle.lf_proto.specs.declared.request.Action.TheVariants.{Change as Changing}
-use Rattle.lf_proto.specs.declared.request.Change.TheVariants.{Place as PlaceAt, Legalize, Tidy, Swap, Commit}
+use Rattle.lf_proto.specs.declared.verb.Action.TheVariants.{Change as Changing}
+use Rattle.lf_proto.specs.declared.verb.Change.TheVariants.{Place as PlaceAt, Legalize, Tidy, Swap, Commit}
 use Rattle.lf_proto.specs.declared.reply.Reply.{Reply}
 use Rattle.lf_proto.specs.declared.reply.Reply.TheVariants.{Refused}
 use Rattle.lf_proto.specs.declared.reply.Refusal.{Refusal}
@@ -122,7 +122,7 @@ module _ (l : Legalizer) (in_range : LegalInRange) (old new : FloorState) (comma
     places_legally team name session place is granted =
         let order : Order (List ℕ) Place = Within session (Changing (PlaceAt name place)) in
         let end = ends_good l old new command reply team order (λ t s. HasLegal t name s) known answers is granted
-        (λ t s one_of accepted. verb_legal t s one_of in_range order accepted) in
+        (λ t s one_of accepted. verb_legal t s one_of in_range session (PlaceAt name place) accepted) in
         record { number = end.number; state = end.state; named = end.named; there = end.there; legal = end.good }
 
     -- after an accepted legalize too
@@ -130,7 +130,7 @@ module _ (l : Legalizer) (in_range : LegalInRange) (old new : FloorState) (comma
     legalizes_legally team name session target is granted =
         let order : Order (List ℕ) Place = Within session (Changing (Legalize name target)) in
         let end = ends_good l old new command reply team order (λ t s. HasLegal t name s) known answers is granted
-        (λ t s one_of accepted. verb_legal t s one_of in_range order accepted) in
+        (λ t s one_of accepted. verb_legal t s one_of in_range session (Legalize name target) accepted) in
         record { number = end.number; state = end.state; named = end.named; there = end.there; legal = end.good }
 
     -- after an accepted tidy every cell of the team is
@@ -138,7 +138,7 @@ module _ (l : Legalizer) (in_range : LegalInRange) (old new : FloorState) (comma
     tidies_legally team session is granted =
         let order : Order (List ℕ) Place = Within session (Changing Tidy) in
         let end = ends_good l old new command reply team order AreLegal known answers is granted
-        (λ t s one_of accepted. verb_legal t s one_of in_range order accepted) in
+        (λ t s one_of accepted. verb_legal t s one_of in_range session Tidy accepted) in
         record { number = end.number; state = end.state; named = end.named; there = end.there; legal = end.good }
 
     -- after an accepted swap both cells are
@@ -146,7 +146,7 @@ module _ (l : Legalizer) (in_range : LegalInRange) (old new : FloorState) (comma
     swaps_legally team first second session is granted =
         let order : Order (List ℕ) Place = Within session (Changing (Swap first second)) in
         let end = ends_good l old new command reply team order (λ t s. HasLegal t first s × HasLegal t second s) known answers is granted
-        (λ t s one_of accepted. verb_legal t s one_of in_range order accepted) in (
+        (λ t s one_of accepted. verb_legal t s one_of in_range session (Swap first second) accepted) in (
           record { number = end.number; state = end.state; named = end.named; there = end.there; legal = end.good.0 },
           record { number = end.number; state = end.state; named = end.named; there = end.there; legal = end.good.1 },
         )

@@ -7,8 +7,8 @@ use Rattle.lf_rules.specs.Legalizer.{Legalizer}
 use Rattle.lf_proto.specs.declared.request.Command.{Command}
 use Rattle.lf_proto.specs.declared.request.Command.TheVariants.{To}
 use Rattle.lf_proto.specs.declared.request.Order.TheVariants.{Within}
-use Rattle.lf_proto.specs.declared.request.Action.TheVariants.{Change as Changing}
-use Rattle.lf_proto.specs.declared.request.Change.TheVariants.{Commit}
+use Rattle.lf_proto.specs.declared.verb.Action.TheVariants.{Change as Changing}
+use Rattle.lf_proto.specs.declared.verb.Change.TheVariants.{Commit}
 use Rattle.lf_proto.specs.declared.reply.Reply.{Reply}
 use Rattle.lf_proto.specs.declared.reply.Reply.TheVariants.{Refused}
 use Rattle.lf_cells.specs.declared.cell.Cell.{Cell}

@@ -13,8 +13,8 @@ use Rattle.lf_rules.specs.Team.{StandsLegal}
 use Rattle.lf_proto.specs.declared.request.Command.{Command}
 use Rattle.lf_proto.specs.declared.request.Order.{Order}
 use Rattle.lf_proto.specs.declared.request.Order.TheVariants.{Within}
-use Rattle.lf_proto.specs.declared.request.Action.TheVariants.{Change as Changing}
-use Rattle.lf_proto.specs.declared.request.Change.TheVariants.{Tidy, Commit}
+use Rattle.lf_proto.specs.declared.verb.Action.TheVariants.{Change as Changing}
+use Rattle.lf_proto.specs.declared.verb.Change.TheVariants.{Tidy, Commit}
 use Rattle.lf_proto.specs.declared.reply.Reply.{Reply}
 use Rattle.lf_proto.specs.declared.reply.Refusal.TheVariants.{Stale, RevisionsSpent}
 use Rattle.lf_cells.specs.declared.cell.Cell.{Cell}
@@ -157,7 +157,7 @@ module _ (l : Legalizer) (f : Frame) (number : ℕ) where
       let granted : is_granted (ruled l f number (Within first (Changing Tidy)) s).reply ≡ true =
       ap (λ (x : Order (List ℕ) Place). is_granted (ruled l f number x s).reply) (sym is) ∙ ap is_granted answer ∙ accepted in
       subst (λ (x : Order (List ℕ) Place). AreLegal (setting l f number) (ruled l f number x s).team) (sym is)
-      (verb_legal (setting l f number) s known in_range (Within first (Changing Tidy)) granted)
+      (verb_legal (setting l f number) s known in_range first Tidy granted)
 
   -- a team's own orders
   own_tidied : LegalInRange → (orders : List (Order (List ℕ) Place)) (s : TeamState) → IsTeamOf f s → (i j : ℕ) (reply : Reply)

@@ -1,27 +1,25 @@
 -- What undo and revert bring back.
 use Rattle.std.proofs.Common.{◌≡◌, ℕ, zero, suc, ◌<◌, ◌≤◌, List, [], ◌∷◌, Bool, true, cond, map, take, length, Option, Some, None, refl, ap, sym, ◌∙◌, subst, arith}
+use Rattle.std.specs.Prelude.{MatchBool}
 use Rattle.std.proofs.lemmas.Bool.{eq-eqb, lt-ltb}
 use Rattle.lf_floorplan.specs.declared.place.Place.{Place}
 use Rattle.lf_rules.specs.Tidy.{Tidied, Stuck, tidied}
-use Rattle.lf_proto.specs.declared.request.Order.{Order}
-use Rattle.lf_proto.specs.declared.request.Order.TheVariants.{Open, Within}
-use Rattle.lf_proto.specs.declared.request.Action.TheVariants.{Close, Sync, Check, Def, Where, Find, Change as Changing}
-use Rattle.lf_proto.specs.declared.request.Change.{Change}
-use Rattle.lf_proto.specs.declared.request.Change.TheVariants.{Tidy, Undo, Commit, Revert}
-use Rattle.lf_teams.specs.Outcomes.{Outcome, refused, with_entry, places_of, recorded}
-use Rattle.lf_teams.specs.Verbs.{outcome_of, outcome_of_change, unless_spent, outcome_by_slot, outcome_of}
-use Rattle.lf_teams.specs.Sessions.{seen_at}
-use Rattle.lf_teams.specs.Changes.{restored, places_in, reverted, undone, undone_by, tidied_by, tidied_team, back_to_committed}
-use Rattle.lf_cells.specs.Cells.{as_committed}
-use Rattle.lf_proto.specs.declared.reply.Refusal.{Refusal}
+use Rattle.lf_proto.specs.declared.verb.Action.TheVariants.{Change as Changing}
+use Rattle.lf_proto.specs.declared.verb.Change.{Change}
+use Rattle.lf_proto.specs.declared.verb.Change.TheVariants.{Tidy, Undo, Commit, Revert}
 use Rattle.lf_proto.specs.declared.reply.Refusal.TheVariants.{NoPlace, RevisionsSpent, Stale}
 use Rattle.lf_cells.specs.declared.cell.Cell.{Cell}
+use Rattle.lf_cells.specs.Cells.{as_committed}
+use Rattle.lf_legalize.specs.Members.{member_of}
 use Rattle.lf_teams.specs.States.{TeamState}
 use Rattle.lf_teams.specs.Teams.{Setting}
-use Rattle.lf_legalize.specs.Members.{member_of}
-use Rattle.lf_teams.specs.VerbLaws.{MayChange, Leads, is_accepted, is_recorded, is_commit, outcome_of_asking}
-use Rattle.lf_teams.proofs.Cases.{verb_by, asking}
-use Rattle.lf_teams.proofs.Kept.{moved_part, restored_part, exchanged_part, back_part, same_length, false_true}
+use Rattle.lf_teams.specs.Outcomes.{Outcome, refused, with_entry, places_of}
+use Rattle.lf_teams.specs.Sessions.{seen_at}
+use Rattle.lf_teams.specs.Changes.{restored, reverted, undone, undone_by, tidied_by, tidied_team, back_to_committed, outcome_of_change}
+use Rattle.lf_teams.specs.Verbs.{is_recorded, unless_spent, outcome_by_slot}
+use Rattle.lf_teams.specs.VerbLaws.{MayChange, Leads, is_accepted, outcome_of_asking}
+use Rattle.lf_teams.proofs.Cases.{AreLeft, accepted_is, macs_stay}
+use Rattle.lf_teams.proofs.Kept.{same_length}
 
 -- ---- a session that may change
 
@@ -67,44 +65,15 @@ pub record IsRecorded (t : Setting) (s new : TeamState) : Type 0 where
   pub entries : new.entries ≡ with_entry t.frame.limits s
   pub many : length new.cells ≡ length s.cells
 
-abbrev Records : Setting → TeamState → Order (List ℕ) Place → Outcome → Type 0
-Records t s (Within session (Changing change)) o = is_recorded change ≡ true → is_accepted o ≡ true → IsRecorded t s o.team
-Records t s _ o = Unit {0}
-
-refused_records : (t : Setting) (s : TeamState) (verb : Order (List ℕ) Place) (r : Refusal) → Records t s verb (refused r s)
-refused_records t s Open r = tt
-refused_records t s (Within session Close) r = tt
-refused_records t s (Within session Sync) r = tt
-refused_records t s (Within session Check) r = tt
-refused_records t s (Within session Def) r = tt
-refused_records t s (Within session (Where name)) r = tt
-refused_records t s (Within session (Find name target)) r = tt
-refused_records t s (Within session (Changing change)) r = λ recorded denied. absurd (false_true denied)
-
-records : (t : Setting) (session : ℕ) (s : TeamState) (cells : List Cell) → map (λ c. c.mac) cells ≡ map (λ c. c.mac) s.cells
-    → IsRecorded t s (recorded t session cells s).team
-records t session s cells same = record { entries = refl; many = same_length s.cells cells same }
-
-pub change_recorded : (t : Setting) (verb : Order (List ℕ) Place) (s : TeamState) → Records t s verb (outcome_of t verb s)
-change_recorded t verb s = verb_by t s (λ v o. Records t s v o) record {
-  refusal = λ v r plain. refused_records t s v r;
-  opens = λ session e. tt;
-  closes = λ session. tt;
-  syncs = λ session. tt;
-  checks = λ session text. tt;
-  defs = λ session text. tt;
-  tells = λ session name place. tt;
-  finds = λ session name target place. tt;
-  places = λ session own name place may named e is accepted. records t session s _ (moved_part (λ c. c.mac) (λ c p. refl) s.cells own (Some place));
-  legalizes = λ session own name target place may named e is accepted. records t session s _ (moved_part (λ c. c.mac) (λ c p. refl) s.cells own (Some place));
-  tidies = λ session count members may e is accepted. records t session s _ (restored_part (λ c. c.mac) (λ c p. refl) (places_in members) s.cells);
-  unplaces = λ session own name may named is accepted. records t session s _ (moved_part (λ c. c.mac) (λ c p. refl) s.cells own None);
-  swaps =
-      λ session first second name other p q may named named' at at' e e' is accepted. records t session s _ (exchanged_part (λ c. c.mac) (λ c p. refl) s.cells first second);
-  undoes = λ session old entries may e is. absurd (false_true is);
-  commits = λ session may u b is. absurd (false_true is);
-  reverts = λ session may is accepted. records t session s _ (back_part (λ c. c.mac) (λ c p. refl) s.cells);
-} verb
+change_recorded : (t : Setting) (session : ℕ) (change : Change (List ℕ) Place) (s : TeamState) → is_recorded change ≡ true
+    → is_accepted (outcome_of_asking t session change s) ≡ true → IsRecorded t s (outcome_of_asking t session change s).team
+change_recorded t session change s is accepted =
+    let after = (outcome_of_asking t session change s).team in
+    let c = accepted_is t session change s accepted in
+    record {
+      entries = subst (λ (b : Bool). MatchBool b (after.entries ≡ with_entry t.frame.limits s) (AreLeft s after.entries)) is c.entries;
+      many = same_length s.cells after.cells (macs_stay t s change after.cells c.cells);
+    }
 
 undone_leads : (t : Setting) (other : ℕ) (s new : TeamState) → IsRecorded t s new → Leads (undone other new) (places_of s.cells)
 unfolding undone
@@ -120,7 +89,7 @@ pub undo_leads : (t : Setting) (session other : ℕ) (change : Change (List ℕ)
 undo_leads t session other change s is accepted may =
     let after = (outcome_of_asking t session change s).team in
     let P : Outcome → Type 0 = λ o. Leads o (places_of s.cells) in
-    subst P (sym (may_is t other Undo after may)) (undone_leads t other s after (change_recorded t (asking session change) s is accepted))
+    subst P (sym (may_is t other Undo after may)) (undone_leads t other s after (change_recorded t session change s is accepted))
 
 -- ---- revert after a commit
 
@@ -128,29 +97,6 @@ undo_leads t session other change s is accepted may =
 back_committed : (cells : List Cell) → places_of (map back_to_committed (map as_committed cells)) ≡ places_of cells
 back_committed [] = refl
 back_committed (c ∷ cs) = ap (λ (places : List (Option Place)). c.working ∷ places) (back_committed cs)
-
-abbrev Commits : TeamState → Order (List ℕ) Place → Outcome → Type 0
-Commits s verb o = is_commit verb ≡ true → is_accepted o ≡ true → o.team.cells ≡ map as_committed s.cells
-
-pub commit_copies : (t : Setting) (verb : Order (List ℕ) Place) (s : TeamState) → Commits s verb (outcome_of t verb s)
-commit_copies t verb s = verb_by t s (λ v o. Commits s v o) record {
-  refusal = λ v r plain is denied. absurd (false_true denied);
-  opens = λ session e is. absurd (false_true is);
-  closes = λ session is. absurd (false_true is);
-  syncs = λ session is. absurd (false_true is);
-  checks = λ session text is. absurd (false_true is);
-  defs = λ session text is. absurd (false_true is);
-  tells = λ session name place is. absurd (false_true is);
-  finds = λ session name target place is. absurd (false_true is);
-  places = λ session own name place may named e is. absurd (false_true is);
-  legalizes = λ session own name target place may named e is. absurd (false_true is);
-  tidies = λ session count members may e is. absurd (false_true is);
-  unplaces = λ session own name may named is. absurd (false_true is);
-  swaps = λ session first second name other p q may named named' at at' e e' is. absurd (false_true is);
-  undoes = λ session old entries may e is. absurd (false_true is);
-  commits = λ session may u b is accepted. refl;
-  reverts = λ session may is. absurd (false_true is);
-} verb
 
 reverted_leads : (t : Setting) (other : ℕ) (s new : TeamState) → new.cells ≡ map as_committed s.cells → Leads (reverted t other new) (places_of s.cells)
 unfolding reverted
@@ -164,4 +110,4 @@ pub revert_leads : (t : Setting) (session other : ℕ) (s : TeamState) → is_ac
 revert_leads t session other s accepted may =
     let after = (outcome_of_asking t session Commit s).team in
     let P : Outcome → Type 0 = λ o. Leads o (places_of s.cells) in
-    subst P (sym (may_is t other Revert after may)) (reverted_leads t other s after (commit_copies t (asking session Commit) s refl accepted))
+    subst P (sym (may_is t other Revert after may)) (reverted_leads t other s after (accepted_is t session Commit s accepted).cells.are)

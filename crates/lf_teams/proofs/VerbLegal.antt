@@ -6,24 +6,18 @@ use Rattle.lf_units.specs.declared.area.Point.{Point}
 use Rattle.lf_floorplan.specs.declared.place.Place.{Place}
 use Rattle.lf_rules.specs.Choice.{LegalInRange}
 use Rattle.lf_rules.specs.Team.{StandsLegal}
-use Rattle.lf_proto.specs.declared.reply.Refusal.{Refusal}
 use Rattle.lf_cells.specs.declared.cell.Cell.{Cell}
 use Rattle.lf_teams.specs.States.{TeamState}
 use Rattle.lf_teams.specs.Teams.{Setting, IsTeamOf, broken_at}
 use Rattle.lf_legalize.specs.Members.{IsSizedCell, member_of}
 use Rattle.lf_cells.specs.Cells.{cell_named, moved, working_at}
-use Rattle.lf_proto.specs.declared.request.Order.{Order}
-use Rattle.lf_proto.specs.declared.request.Order.TheVariants.{Open, Within}
-use Rattle.lf_proto.specs.declared.request.Action.TheVariants.{Close, Sync, Check, Def, Where, Find, Change as Changing}
-use Rattle.lf_proto.specs.declared.request.Change.{Change}
-use Rattle.lf_proto.specs.declared.request.Change.TheVariants.{Place as PlaceAt, Legalize, Tidy, Swap, Commit}
-use Rattle.lf_teams.specs.Outcomes.{Outcome, refused}
+use Rattle.lf_proto.specs.declared.verb.Change.{Change}
+use Rattle.lf_proto.specs.declared.verb.Change.TheVariants.{Place as PlaceAt, Legalize, Tidy, Swap, Commit}
 use Rattle.lf_teams.specs.Looks.{best_at}
 use Rattle.lf_teams.specs.Changes.{broken_where, exchanged}
-use Rattle.lf_teams.specs.Verbs.{outcome_of}
-use Rattle.lf_teams.specs.VerbLaws.{HasLegal, AreLegal, is_accepted}
-use Rattle.lf_teams.proofs.Cases.{Leaves, IsLeft, order_by}
-use Rattle.lf_teams.proofs.Kept.{moved_part, exchanged_part, mac_at, same_length, sized_as, false_true}
+use Rattle.lf_teams.specs.VerbLaws.{HasLegal, AreLegal, is_accepted, outcome_of_asking}
+use Rattle.lf_teams.proofs.Cases.{CellsAfter, accepted_is, exchanged_part, moved_part}
+use Rattle.lf_teams.proofs.Kept.{mac_at, same_length, sized_as}
 use Rattle.lf_teams.proofs.Standing.{named_there, named_alike, working_is, moved_here, moved_there, sized_at, unbroken, stands_moved, stands_where}
 use Rattle.lf_teams.proofs.Tidying.{tidied_stand, best_legal, committed_stand}
 
@@ -35,20 +29,6 @@ MakesLegal t (Swap name other) s = HasLegal t name s × HasLegal t other s
 MakesLegal t Tidy s = AreLegal t s
 MakesLegal t Commit s = AreLegal t s
 MakesLegal t _ s = Unit {0}
-
-abbrev pub Legal : Setting → Order (List ℕ) Place → Outcome → Type 0
-Legal t (Within session (Changing change)) o = is_accepted o ≡ true → MakesLegal t change o.team
-Legal t _ o = Unit {0}
-
-refused_legal : (t : Setting) (s : TeamState) (verb : Order (List ℕ) Place) (r : Refusal) → Legal t verb (refused r s)
-refused_legal t s Open r = tt
-refused_legal t s (Within session Close) r = tt
-refused_legal t s (Within session Sync) r = tt
-refused_legal t s (Within session Check) r = tt
-refused_legal t s (Within session Def) r = tt
-refused_legal t s (Within session (Where name)) r = tt
-refused_legal t s (Within session (Find name target)) r = tt
-refused_legal t s (Within session (Changing change)) r = λ denied. absurd (false_true denied)
 
 -- ---- where the cells stand after an exchange
 
@@ -130,30 +110,24 @@ module _ (t : Setting) (s : TeamState) (known : IsTeamOf t.frame s) (in_range : 
         (stands_where t (exchanged s.cells first second) own place (sized_like (exchanged s.cells first second) (exchanged_part (λ c. c.mac) (λ c p. refl) s.cells first second)) stands none);
   }
 
-  legal_leaves : Leaves t s (λ session. IsLeft t s) (λ v o. Legal t v o)
-  legal_leaves = record {
-    refusal = λ v r plain. refused_legal t s v r;
-    opens = λ session e. tt;
-    closes = λ session. tt;
-    syncs = λ session. tt;
-    checks = λ session text. tt;
-    defs = λ session text. tt;
-    tells = λ session name place. tt;
-    finds = λ session name target place. tt;
-    places = λ session own name place left named e accepted. placed_legal own name place named e _ refl;
-    legalizes = λ session own name target place left named e accepted. legalized_legal own name target place named e _ refl;
-    tidies = λ session count members left e accepted. tidied_stand t s.cells known.sized in_range members count e;
-    unplaces = λ session own name left named accepted. tt;
-    swaps = λ session first second name other p q left named named' at at' e e' accepted.
-        let here = first_stands s.cells first second p q at at' in (
-          exchanged_legal first second first name here.0 named here.1 e _ refl,
-          exchanged_legal first second second other p named' (second_stands s.cells first second p q at at') e' _ refl,
-        );
-    undoes = λ session old entries left e accepted. tt;
-    commits = λ session left u b accepted. committed_stand t s.cells known.sized u b;
-    reverts = λ session left accepted. tt;
-  }
+  -- what a change makes legal
+  legal_after : (change : Change (List ℕ) Place) (team : TeamState) → CellsAfter t s change team.cells → MakesLegal t change team
+  legal_after (PlaceAt name place) team after = placed_legal after.own name place after.named after.unbroken team after.are
+  legal_after (Legalize name target) team after = legalized_legal after.own name target after.place after.named after.best team after.are
+  legal_after Tidy team after = λ own. subst (λ (cs : List Cell). StandsLegal t.frame t.number (map member_of cs) own) (sym after.are)
+      (tidied_stand t s.cells known.sized in_range after.members after.count after.tidies own)
+  legal_after (Swap name other) team after =
+      let here = first_stands s.cells after.first after.second after.place after.place' after.stands after.stands' in
+      let there = second_stands s.cells after.first after.second after.place after.place' after.stands after.stands' in (
+        exchanged_legal after.first after.second after.first name here.0 after.named here.1 after.unbroken team after.are,
+        exchanged_legal after.first after.second after.second other after.place after.named' there after.unbroken' team after.are,
+      )
+  legal_after Commit team after = λ own. subst (λ (cs : List Cell). StandsLegal t.frame t.number (map member_of cs) own) (sym after.are)
+      (committed_stand t s.cells known.sized after.placed after.unbroken own)
+  legal_after _ team after = tt
 
   -- what an accepted change makes legal
-  pub verb_legal : (verb : Order (List ℕ) Place) → Legal t verb (outcome_of t verb s)
-  verb_legal verb = order_by t s (λ v o. Legal t v o) legal_leaves verb
+  pub verb_legal : (session : ℕ) (change : Change (List ℕ) Place) → is_accepted (outcome_of_asking t session change s) ≡ true
+      → MakesLegal t change (outcome_of_asking t session change s).team
+  verb_legal session change accepted =
+      legal_after change (outcome_of_asking t session change s).team (accepted_is t session change s accepted).cells

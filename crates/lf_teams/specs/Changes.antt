@@ -9,6 +9,8 @@ use Rattle.lf_rules.specs.Team.{Member}
 use Rattle.lf_rules.specs.Tidy.{Tidied, Going, Stuck, tidied}
 use Rattle.lf_reports.specs.declared.illegal.BrokenCell.{BrokenCell}
 use Rattle.lf_proto.specs.Numbers.{◌>>=◌}
+use Rattle.lf_proto.specs.declared.verb.Change.{Change}
+use Rattle.lf_proto.specs.declared.verb.Change.TheVariants.{Place as PlaceAt, Legalize, Tidy, Unplace, Swap, Undo, Commit, Revert}
 use Rattle.lf_proto.specs.declared.reply.Reply.TheVariants.{Legalized, Tidied as TidyDone}
 use Rattle.lf_proto.specs.declared.reply.Refusal.TheVariants.{NoCell, Unplaced, Illegal, NoPlace, NothingToUndo}
 use Rattle.lf_cells.specs.declared.cell.Cell.{Cell}
@@ -159,3 +161,16 @@ committed_unless None [] session s = changed session (map as_committed s.cells) 
 -- commit: if every cell is placed and none breaks a rule, the working places are committed
 unfoldable pub committed : Setting → ℕ → TeamState → Outcome
 committed t session s = committed_unless (first_unplaced s.cells) (broken_cells t s.cells) session s
+
+-- ---- all changes
+
+-- the outcome of a change
+abbrev pub outcome_of_change : Setting → ℕ → Change (List ℕ) Place → TeamState → Outcome
+outcome_of_change t session (PlaceAt name place) s = placed t session name place s
+outcome_of_change t session (Legalize name target) s = legalized t session name target s
+outcome_of_change t session Tidy s = tidied_team t session s
+outcome_of_change t session (Unplace name) s = unplaced t.frame.limits session name s
+outcome_of_change t session (Swap first second) s = swapped t session first second s
+outcome_of_change t session Undo s = undone session s
+outcome_of_change t session Commit s = committed t session s
+outcome_of_change t session Revert s = reverted t session s

@@ -7,7 +7,7 @@ use Rattle.lf_rules.specs.Choice.{spot_of}
 use Rattle.lf_rules.specs.FullyLegal.{Standing, IsFullyLegal, standing_at, standing_from}
 use Rattle.lf_rules.specs.Team.{Member, StandsLegal}
 use Rattle.lf_proto.specs.declared.request.Order.{Order}
-use Rattle.lf_proto.specs.declared.request.Change.TheVariants.{Commit}
+use Rattle.lf_proto.specs.declared.verb.Change.TheVariants.{Commit}
 use Rattle.lf_cells.specs.declared.cell.Cell.{Cell}
 use Rattle.lf_teams.specs.States.{TeamState, FloorState}
 use Rattle.lf_teams.specs.Teams.{Setting, IsTeamOf, team_number, state_of}

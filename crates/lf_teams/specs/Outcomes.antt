@@ -67,7 +67,7 @@ abbrev pub changed : ℕ → List Cell → List (List (Option Place)) → TeamSt
 changed session cells entries s =
     record {
       reply = Revision (s.revision + 1);
-      team = record { cells = cells; revision = s.revision + 1; entries = entries; slots = slice_set s.slots session (Some (s.revision + 1)) };
+      team = record s { cells = cells; revision = s.revision + 1; entries = entries; slots = slice_set s.slots session (Some (s.revision + 1)) };
     }
 
 -- the undo entries with the present working places in front, the oldest dropped past the limit

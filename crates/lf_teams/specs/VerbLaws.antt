@@ -7,9 +7,9 @@ use Rattle.lf_rules.specs.Team.{StandsLegal}
 use Rattle.lf_rules.specs.Tidy.{Stuck, tidied}
 use Rattle.lf_proto.specs.declared.request.Order.{Order}
 use Rattle.lf_proto.specs.declared.request.Order.TheVariants.{Within}
-use Rattle.lf_proto.specs.declared.request.Action.TheVariants.{Change as Changing}
-use Rattle.lf_proto.specs.declared.request.Change.{Change}
-use Rattle.lf_proto.specs.declared.request.Change.TheVariants.{Place as PlaceAt, Legalize, Tidy, Swap, Undo, Commit, Revert}
+use Rattle.lf_proto.specs.declared.verb.Action.TheVariants.{Change as Changing}
+use Rattle.lf_proto.specs.declared.verb.Change.{Change}
+use Rattle.lf_proto.specs.declared.verb.Change.TheVariants.{Place as PlaceAt, Legalize, Tidy, Swap, Undo, Commit, Revert}
 use Rattle.lf_proto.specs.declared.reply.Reply.{Reply}
 use Rattle.lf_proto.specs.declared.reply.Reply.TheVariants.{Revision, Legalized, Tidied as TidyDone, Refused}
 use Rattle.lf_proto.specs.declared.reply.Refusal.{Refusal}
@@ -22,7 +22,7 @@ use Rattle.lf_legalize.specs.Members.{member_of}
 use Rattle.lf_teams.specs.Outcomes.{Outcome, is_short, refused, places_of}
 use Rattle.lf_teams.specs.Sessions.{seen_at}
 use Rattle.lf_teams.specs.Looks.{lifted_cell, best_at}
-use Rattle.lf_teams.specs.Verbs.{outcome_of}
+use Rattle.lf_teams.specs.Verbs.{is_recorded, outcome_of}
 
 -- the outcome of a change that a session asks for
 abbrev pub outcome_of_asking : Setting → ℕ → Change (List ℕ) Place → TeamState → Outcome
@@ -104,12 +104,6 @@ abbrev pub LookKeeps : Type 0
 LookKeeps = (t : Setting) (verb : Order (List ℕ) Place) (s : TeamState) → is_change verb ≡ false → KeepsCells s (outcome_of t verb s).team
 
 -- ---- undo, commit and revert
-
--- the changes that undo takes back
-abbrev pub is_recorded : Change (List ℕ) Place → Bool
-is_recorded Undo = false
-is_recorded Commit = false
-is_recorded _ = true
 
 -- an accepted change, after which the working places are these
 pub record Leads (o : Outcome) (places : List (Option Place)) : Type 0 where

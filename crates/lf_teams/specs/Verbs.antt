@@ -9,30 +9,19 @@ use Rattle.std.specs.Prelude.{ℕ, Bool, true, false, List, Option, Some, None, 
 use Rattle.lf_floorplan.specs.declared.place.Place.{Place}
 use Rattle.lf_proto.specs.declared.request.Order.{Order}
 use Rattle.lf_proto.specs.declared.request.Order.TheVariants.{Open, Within}
-use Rattle.lf_proto.specs.declared.request.Action.{Action}
-use Rattle.lf_proto.specs.declared.request.Action.TheVariants.{Close, Sync, Check, Def, Where, Find, Change as Changing}
-use Rattle.lf_proto.specs.declared.request.Change.{Change}
-use Rattle.lf_proto.specs.declared.request.Change.TheVariants.{Place as PlaceAt, Legalize, Tidy, Unplace, Swap, Undo, Commit, Revert}
+use Rattle.lf_proto.specs.declared.verb.Action.{Action}
+use Rattle.lf_proto.specs.declared.verb.Action.TheVariants.{Close, Sync, Check, Def, Where, Find, Change as Changing}
+use Rattle.lf_proto.specs.declared.verb.Change.{Change}
+use Rattle.lf_proto.specs.declared.verb.Change.TheVariants.{Undo, Commit}
 use Rattle.lf_proto.specs.declared.reply.Refusal.TheVariants.{NoSession, Stale, RevisionsSpent}
 use Rattle.lf_teams.specs.States.{TeamState}
 use Rattle.lf_teams.specs.Teams.{Setting}
 use Rattle.lf_teams.specs.Outcomes.{Outcome, refused}
 use Rattle.lf_teams.specs.Sessions.{seen_at, opened, closed, synced}
 use Rattle.lf_teams.specs.Looks.{checked, written, located, found}
-use Rattle.lf_teams.specs.Changes.{placed, legalized, tidied_team, unplaced, swapped, undone, committed, reverted}
+use Rattle.lf_teams.specs.Changes.{outcome_of_change}
 
 -- ---- the outcome of each verb
-
--- by the change
-abbrev pub outcome_of_change : Setting → ℕ → Change (List ℕ) Place → TeamState → Outcome
-outcome_of_change t session (PlaceAt name place) s = placed t session name place s
-outcome_of_change t session (Legalize name target) s = legalized t session name target s
-outcome_of_change t session Tidy s = tidied_team t session s
-outcome_of_change t session (Unplace name) s = unplaced t.frame.limits session name s
-outcome_of_change t session (Swap first second) s = swapped t session first second s
-outcome_of_change t session Undo s = undone session s
-outcome_of_change t session Commit s = committed t session s
-outcome_of_change t session Revert s = reverted t session s
 
 -- a change needs a revision that is left
 abbrev pub unless_spent : Setting → ℕ → Change (List ℕ) Place → TeamState → Outcome
@@ -73,3 +62,11 @@ takes_memory (Within session Sync) = false
 takes_memory (Within session (Where name)) = false
 takes_memory (Within session (Changing Undo)) = false
 takes_memory _ = true
+
+-- ---- undo
+
+-- the changes that undo takes back
+abbrev pub is_recorded : Change (List ℕ) Place → Bool
+is_recorded Undo = false
+is_recorded Commit = false
+is_recorded _ = true

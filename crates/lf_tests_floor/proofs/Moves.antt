@@ -10,7 +10,8 @@ use Rattle.lf_occupancy.specs.Floorplans.{IsOccupancyOf, box_of}
 use Rattle.lf_occupancy.specs.Occupied.{HasRoomFor, Occupied, boxes_of, boxes_with, count_in}
 use Rattle.lf_occupancy.specs.Strips.{HasCell}
 use Rattle.lf_occupancy.proofs.Counting.{with_is_one_more, without_is_no_more}
-use Rattle.lf_occupancy.specs.declared.strip.Strip.{Strip}
+use Rattle.lf_segments.specs.declared.strip.Strip.{Strip}
+use Rattle.lf_segments.specs.Grounds.{Lookups}
 
 inside_or_past : (a b : ℕ) → (a < b) ⊎ (b ≤ a)
 inside_or_past a b = grind arith
@@ -29,11 +30,11 @@ has_cell f cells o id is within = record { team = team; own = own }
     ]
 
 -- what room is left where strips and rooms are the same and no strip has more boxes than by so many
-pub room_left : (old new : Occupied) (team : ℕ) (rect : Rect) (by more : ℕ) → new.strips ≡ old.strips → new.rooms ≡ old.rooms →
+pub room_left : (old new : Occupied) (team : ℕ) (rect : Rect) (by more : ℕ) → new.index ≡ old.index → new.rooms ≡ old.rooms →
     ((g : Strip) → count_in g (boxes_of new team) ≤ count_in g (boxes_of old team) + by) → HasRoomFor old team rect (more + by) →
     HasRoomFor new team rect more
-room_left old new team rect by more strips rooms grown room n g is of_team shares =
-    let before = room n g (ap (λ (ss : List Strip). slice_get ss n) (sym strips) ∙ is) of_team shares in
+room_left old new team rect by more index rooms grown room n g is of_team shares =
+    let before = room n g (ap (λ (looked : Lookups). slice_get looked.strips n) (sym index) ∙ is) of_team shares in
     let grows = grown g in
     let same = ap (λ (xs : List ℕ). get_or xs n 0) rooms in
     omega (arith, before, grows, same)

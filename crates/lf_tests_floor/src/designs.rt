@@ -1,17 +1,18 @@
 //! Designs over the built-in LEF text and their floors, and what is known of the built-in one.
 
-ghost use Rattle.std.specs.Prelude.{◌<◌};
+ghost use Rattle.std.specs.Prelude.{◌<◌, IfSome};
+ghost use Rattle.lf_floorplan.specs.Boxes.{IsSized};
 
 use lf_def::{DefDoc, W_DEF, read_def};
 use lf_floor::Floor;
-use lf_frame::{Cell, Frame, Limits, Loaded, Place, load};
+use lf_frame::{Cell, Frame, Limits, Loaded, Macro, Place, is_sized, load};
 use lf_lef::{Library, W_LEF, read_lef};
 use lf_legalize::PlainSeeker;
 use lf_orient::Orient;
-use lf_reports::{BrokenCell, Report, check_all, check_all_pairs, first_illegal};
-use lf_rules::{Broken, Rule};
+use lf_reports::{BrokenCell, Report, Violation, check_all, first_illegal};
+use lf_rules::{Broken, Placed, Rule, box_of, first_broken};
 use lf_tests_texts::with_line;
-use lf_units::{Name, Rect};
+use lf_units::Rect;
 use std::alloc::Global;
 use std::test::Fail;
 
@@ -174,29 +175,96 @@ fn limits(rt: HostRuntime) {
     }
 }
 
-/// Whether two names of a violation are the same.
-fn is_same_name(left: &Option<Name>, right: &Option<Name>) -> bool {
-    match (left, right) {
-        (Some(left), Some(right)) => left.as_bytes() == right.as_bytes(),
+/// The name of the cell of that number.
+fn name_at(design: &Loaded, own: usize) -> Option<&[u8]> {
+    let cell = design.cells.as_slice().get(own)?;
+    Some(cell.name.as_bytes())
+}
+
+/// The macro of the cell of that number, whose size is whole.
+fn macro_at(design: &Loaded, own: usize) -> Option<&Macro>
+    ensures { IfSome result (λ m. IsSized design.now.frame m.now) }
+{
+    let cell = design.cells.as_slice().get(own)?;
+    let mac = design.frame.macros.as_slice().get(cell.mac)?;
+    if is_sized(&design.frame, mac) {
+        return Some(mac);
+    }
+    None
+}
+
+/// The box of the cell of that number at the place.
+fn box_at(design: &Loaded, own: usize, place: &Option<Place>) -> Option<Rect> {
+    let place = (*place)?;
+    let mac = macro_at(design, own)?;
+    Some(box_of(&design.frame, mac, &place))
+}
+
+/// The boxes of the placed cells but the one of that number.
+fn boxes_beside(
+    alloc: Global,
+    design: &Loaded,
+    places: &[Option<Place>; 5],
+    own: usize,
+) -> Result<Vec<Placed>, Fail> {
+    let mut others = Vec::new(alloc);
+    for (number, place) in places.iter().enumerate() {
+        if number != own {
+            if let Some(rect) = box_at(design, number, place) {
+                others.push(Placed {
+                    own: number as u32,
+                    rect,
+                })?;
+            }
+        }
+    }
+    Ok(others)
+}
+
+/// The first rule that the cell of that number breaks at its place, by a look at all of the frame and of the other cells.
+fn broken_by_all(
+    alloc: Global,
+    design: &Loaded,
+    places: &[Option<Place>; 5],
+    own: usize,
+) -> Result<Option<Broken>, Fail> {
+    let others = boxes_beside(alloc, design, places, own)?;
+    let (Some(cell), Some(mac), Some(Some(place))) = (
+        design.cells.as_slice().get(own),
+        macro_at(design, own),
+        places.get(own),
+    ) else {
+        return Ok(None);
+    };
+    Ok(first_broken(&design.frame, cell.team, mac, place, &others))
+}
+
+/// Whether the violation is that of the cell of that number.
+fn is_of(design: &Loaded, own: usize, violation: &Violation) -> bool {
+    name_at(design, own) == Some(violation.cell.as_bytes())
+}
+
+/// Whether the report tells of the cell of that number what is broken, or nothing where nothing is.
+fn tells_of(design: &Loaded, report: &Report, own: usize, broken: &Option<Broken>) -> bool {
+    let violations = report.violations.as_slice();
+    let told = violations.iter().find(|it| is_of(design, own, it));
+    match (told, broken) {
+        (Some(violation), Some(broken)) => tells(design, violation, broken),
         (None, None) => true,
         _ => false,
     }
 }
 
-/// Whether two reports tell the same.
-fn tell_the_same(left: &Report, right: &Report) -> bool {
-    if left.violations.len() != right.violations.len() || left.unplaced != right.unplaced {
+/// Whether the violation tells what is broken.
+fn tells(design: &Loaded, violation: &Violation, broken: &Broken) -> bool {
+    if violation.rule.number() != broken.rule.number() {
         return false;
     }
-    left.violations
-        .as_slice()
-        .iter()
-        .zip(right.violations.as_slice())
-        .all(|(one, two)| {
-            one.cell.as_bytes() == two.cell.as_bytes()
-                && one.rule.number() == two.rule.number()
-                && is_same_name(&one.other, &two.other)
-        })
+    match (&violation.other, broken.other) {
+        (Some(name), Some(other)) => name_at(design, other as usize) == Some(name.as_bytes()),
+        (None, None) => true,
+        _ => false,
+    }
 }
 
 /// Places of the five cells of the built-in design, another for each step.
@@ -214,17 +282,23 @@ fn places_at(step: u16) -> [Option<Place>; 5]
     ]
 }
 
-/// Whether both searches tell the same of the design at these places; true where there are not as many as it has cells.
-fn search_alike(alloc: Global, design: &Loaded, places: &[Option<Place>]) -> Result<bool, Fail> {
+/// Whether the report of the design at these places tells of each cell what a look at all tells; true where there are not as
+/// many places as it has cells.
+fn search_alike(alloc: Global, design: &Loaded, places: &[Option<Place>; 5]) -> Result<bool, Fail> {
     if design.cells.len() != places.len() {
         return Ok(true);
     }
-    let near = check_all(alloc, design, places)?;
-    let plain = check_all_pairs(alloc, design, places)?;
-    Ok(tell_the_same(&near, &plain))
+    let report = check_all(alloc, design, places)?;
+    for own in 0..places.len() {
+        let broken = broken_by_all(alloc, design, places, own)?;
+        if !tells_of(design, &report, own, &broken) {
+            return Ok(false);
+        }
+    }
+    Ok(true)
 }
 
-/// Whether they do at all places of the built-in design.
+/// Whether it does at all places of the built-in design.
 fn search_alike_everywhere(alloc: Global, design: &Loaded) -> Result<bool, Fail> {
     for step in 0..30u16 {
         if !search_alike(alloc, design, &places_at(step))? {
@@ -235,7 +309,7 @@ fn search_alike_everywhere(alloc: Global, design: &Loaded) -> Result<bool, Fail>
 }
 
 #[test]
-fn both_searches_tell_the_same(rt: HostRuntime) -> Result<(), Fail> {
+fn reports_tell_what_a_look_at_all_tells(rt: HostRuntime) -> Result<(), Fail> {
     assert!(rt; holds(rt.alloc(), W_DEF, &Case::Searches)?);
     Ok(())
 }

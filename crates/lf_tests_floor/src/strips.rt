@@ -7,14 +7,14 @@ ghost use Rattle.lf_cells.specs.declared.cell.CellId.{CellId};
 ghost use Rattle.lf_occupancy.specs.Floorplans.{IsOccupancyOf};
 ghost use Rattle.lf_occupancy.specs.Occupied.{HasRoomFor, boxes_of, count_in};
 ghost use Rattle.lf_occupancy.specs.Strips.{HasCell};
-ghost use Rattle.lf_occupancy.specs.declared.strip.Strip.{Strip};
+ghost use Rattle.lf_segments.specs.declared.strip.Strip.{Strip};
 
 use crate::designs::{Asked, holds};
 use lf_cells::{CellId, CellTable};
 use lf_def::W_DEF;
 use lf_frame::Loaded;
 use lf_occupancy::Occupancy;
-use lf_segments::Segments;
+use lf_segments::Ground;
 use lf_tests_texts::with_line;
 use lf_units::{Rect, Span};
 use std::alloc::{AllocError, Global};
@@ -43,8 +43,8 @@ fn occupancy_of(alloc: Global, design: &Loaded, cells: &CellTable) -> Result<Occ
     requires { cells.now.cells ≡ opening_cells design.now }
     ensures { IfOk result (λ occupancy. IsOccupancyOf design.now.frame cells.now occupancy) }
 {
-    let segments = Segments::cut(alloc, &design.frame)?;
-    Occupancy::build(alloc, &design.frame, &segments, cells)
+    let index = Ground::build(alloc, &design.frame)?;
+    Occupancy::build(alloc, &design.frame, index, cells)
 }
 
 /// The cell of that name of A.
@@ -84,7 +84,7 @@ fn put(occupancy: &mut Occupancy, id: &CellId, rect: &Rect)
     requires known { HasCell occupancy.old.boxes id.now }
     requires room { HasRoomFor occupancy.old id.now.team rect.now 1 }
     ensures known { (other : CellId) → HasCell occupancy.old.boxes other → HasCell occupancy.new.boxes other }
-    ensures strips { occupancy.new.strips ≡ occupancy.old.strips }
+    ensures index { occupancy.new.index ≡ occupancy.old.index }
     ensures rooms { occupancy.new.rooms ≡ occupancy.old.rooms }
     ensures more { (team : ℕ) → (g : Strip) → count_in g (boxes_of occupancy.new team) ≤ count_in g (boxes_of occupancy.old team) + 1 }
 {

@@ -74,7 +74,7 @@ fn put_cells(
     ensures { OnOk result (out.new.items ≡ out.old.items
         ++ flat_map line_of (section_lines (codes "COMPONENTS") (map (component_words frame.now) (cells_of cells.now team)))) }
 {
-    put_begin(out, b"COMPONENTS", cells.count_of(team))?;
+    put_begin(out, b"COMPONENTS", cells.cells_of(team).len())?;
     put_components(out, frame, cells, team)?;
     put_end(out, b"COMPONENTS")
 }
@@ -91,7 +91,7 @@ fn put_groups(
     match frame.teams.as_slice().get(team) {
         None => Ok(()),
         Some(fence) => {
-            if cells.count_of(team) == 0 {
+            if cells.cells_of(team).is_empty() {
                 return Ok(());
             }
             put_begin(out, b"GROUPS", 1)?;

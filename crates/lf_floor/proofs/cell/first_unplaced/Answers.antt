@@ -1,21 +1,38 @@
-use Rattle.std.proofs.Common.{sym, arith}
-use Rattle.lf_cells.specs.Cells.{cells_of}
+use Rattle.std.proofs.Common.{◌≡◌, ◌<◌, length, true, false, Some, subst, sym, ap, ◌∙◌, arith}
+use Rattle.std.specs.Prelude.{is_none}
+use Rattle.lf_cells.specs.declared.cell.CellId.{CellId}
+use Rattle.lf_cells.specs.Cells.{cells_of, id_of, working_at}
+use Rattle.lf_cells.proofs.TeamIds.{ids_long, ids_read}
 use Rattle.lf_floor.proofs.Unplaced.{first_at, none_at, one_more_placed}
 use Rattle.lf_floor.proofs.cell.first_unplaced.Goals as goal
 
-pub loop-own-init : goal.loop-own-init
-loop-own-init c = λ i less. absurd (omega (arith, less))
+pub loop-id-init : goal.loop-id-init
+loop-id-init c = λ i less. absurd (omega (arith, less))
 
 pub returns-then-is_unplaced : goal.returns-then-is_unplaced
 returns-then-is_unplaced c =
-    sym (first_at (cells_of c.args.cells.now c.args.number) c.loop-own.own c.loop-own.invariant (omega (arith, c.loop-own-test.true, c.count_of-own-end.ensures))
-    (sym (c.if-is_unplaced.ensures {u = tt})))
+    let table = c.args.cells.now in
+    let k = c.loop-id.id-index in
+    let cells = cells_of table c.args.number in
+    let id : c.id-item.result ≡ id_of c.args.number k =
+    ids_read c.args.number k cells c.cells_of.result.now c.id-item.result c.cells_of.ensures c.loop-id-test.true c.id-item.is in
+    let within : k < length cells = omega (arith, c.loop-id-test.true, ids_long c.args.number cells c.cells_of.result.now c.cells_of.ensures) in
+    ap (λ (i : CellId). Some i.own) id
+    ∙ sym (first_at cells k c.loop-id.invariant within
+    (subst (λ (i : CellId). is_none (working_at (cells_of table i.team) i.own) ≡ true) id (sym (c.if-is_unplaced.ensures {u = tt}))))
 
-pub loop-own-preserved : goal.loop-own-preserved
-loop-own-preserved c =
-    one_more_placed (cells_of c.args.cells.now c.args.number) c.loop-own.own c.loop-own.invariant (sym (c.if-is_unplaced.ensures {u = tt}))
+pub loop-id-preserved : goal.loop-id-preserved
+loop-id-preserved c =
+    let table = c.args.cells.now in
+    let k = c.loop-id.id-index in
+    let cells = cells_of table c.args.number in
+    let id : c.id-item.result ≡ id_of c.args.number k =
+    ids_read c.args.number k cells c.cells_of.result.now c.id-item.result c.cells_of.ensures c.loop-id-test.true c.id-item.is in
+    one_more_placed cells k c.loop-id.invariant
+    (subst (λ (i : CellId). is_none (working_at (cells_of table i.team) i.own) ≡ false) id (sym (c.if-is_unplaced.ensures {u = tt})))
 
 pub returns : goal.returns
 returns c =
-    sym (none_at (cells_of c.args.cells.now c.args.number)
-    (λ i less. c.loop-own.invariant i (omega (arith, less, c.loop-own-test.false, c.count_of-own-end.ensures))))
+    let cells = cells_of c.args.cells.now c.args.number in
+    let many = ids_long c.args.number cells c.cells_of.result.now c.cells_of.ensures in
+    sym (none_at cells (λ i less. c.loop-id.invariant i (omega (arith, less, c.loop-id-test.false, many))))

@@ -4,5 +4,5 @@ use Rattle.lf_cells.specs.Cells.{cells_of, working_at}
 use Rattle.lf_floor.proofs.cell.first_unplaced.Given as goal
 
 -- the cells so far are placed
-abbrev pub invariant-loop-own : goal.invariant-loop-own
-invariant-loop-own l = (i : ℕ) → i < l.own → is_none (working_at (cells_of l.cells l.number) i) ≡ false
+abbrev pub invariant-loop-id : goal.invariant-loop-id
+invariant-loop-id l = (i : ℕ) → i < l.id-index → is_none (working_at (cells_of l.cells l.number) i) ≡ false

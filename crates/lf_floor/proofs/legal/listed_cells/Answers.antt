@@ -1,17 +1,42 @@
-use Rattle.std.proofs.Common.{◌++◌, ◌∷◌, [], ℕ, List, map, ap, sym, ◌∙◌}
+use Rattle.std.proofs.Common.{◌≡◌, ◌<◌, ◌++◌, ◌∷◌, [], ℕ, zero, suc, List, length, Some, None, map, ap, subst, sym, ◌∙◌, arith}
 use Rattle.std.specs.Borrow.{Bor}
+use Rattle.std.specs.Prelude.{option_map, slice_get}
 use Rattle.std.proofs.lemmas.List.{map-append}
 use Rattle.lf_rules.specs.declared.report.Listed.{Listed}
-use Rattle.lf_cells.specs.Cells.{cells_of}
+use Rattle.lf_cells.specs.declared.cell.CellId.{CellId}
+use Rattle.lf_cells.specs.Cells.{cells_of, id_of}
+use Rattle.lf_cells.proofs.TeamIds.{ids_long, ids_read}
 use Rattle.lf_reports.specs.Reports.{named}
 use Rattle.lf_teams.specs.Teams.{listed_of}
 use Rattle.lf_floor.proofs.Seeking.{one_more_told}
 use Rattle.lf_floor.proofs.legal.listed_cells.Goals as goal
 
-pub loop-own-preserved : goal.loop-own-preserved
-loop-own-preserved c =
-    let cells = cells_of c.args.cells.now c.args.number in
+none_listed : {X Y : Type 0} (f : X → Y) (xs : List X) (k : ℕ) → k < length xs → None ≡ option_map f (slice_get xs k) → ⊥
+none_listed f [] k within none = omega (arith, within)
+none_listed f (x ∷ xs) zero within none = cc
+none_listed f (x ∷ xs) (suc k) within none = none_listed f xs k (omega (arith, within)) none
+
+pub unreachable-requires : goal.unreachable-requires
+unreachable-requires c =
+    let table = c.args.cells.now in
+    let k = c.loop-id.id-index in
+    let cells = cells_of table c.args.number in
+    let id : c.id-item.result ≡ id_of c.args.number k =
+    ids_read c.args.number k cells c.cells_of.result.now c.id-item.result c.cells_of.ensures c.loop-id-test.true c.id-item.is in
+    let within : k < length cells = omega (arith, c.loop-id-test.true, ids_long c.args.number cells c.cells_of.result.now c.cells_of.ensures) in
+    none_listed (listed_of c.args.number) cells k within
+    (ap (option_map named) (sym c.in_default.is)
+    ∙ subst (λ (i : CellId). option_map named c.listed.result ≡ option_map (listed_of i.team) (slice_get (cells_of table i.team) i.own)) id c.listed.ensures)
+
+pub loop-id-preserved : goal.loop-id-preserved
+loop-id-preserved c =
+    let table = c.args.cells.now in
+    let k = c.loop-id.id-index in
+    let cells = cells_of table c.args.number in
+    let id : c.id-item.result ≡ id_of c.args.number k =
+    ids_read c.args.number k cells c.cells_of.result.now c.id-item.result c.cells_of.ensures c.loop-id-test.true c.id-item.is in
     ap (λ (ls : List (Listed (Bor (List ℕ)))). map named ls) (c.in_ok-push.ensures {u = tt}).items
-    ∙ map-append named c.loop-own.all.items (c.in-Some.cell ∷ [])
-    ∙ ap (λ (ls : List (Listed (List ℕ))). ls ++ named c.in-Some.cell ∷ []) c.loop-own.invariant
-    ∙ sym (one_more_told (listed_of c.args.number) cells c.loop-own.own (named c.in-Some.cell) c.in-Some.ensures)
+    ∙ map-append named c.loop-id.all.items (c.in-Some.cell ∷ [])
+    ∙ ap (λ (ls : List (Listed (List ℕ))). ls ++ named c.in-Some.cell ∷ []) c.loop-id.invariant
+    ∙ sym (one_more_told (listed_of c.args.number) cells k (named c.in-Some.cell)
+    (subst (λ (i : CellId). Some (named c.in-Some.cell) ≡ option_map (listed_of i.team) (slice_get (cells_of table i.team) i.own)) id c.in-Some.ensures))

@@ -2,14 +2,16 @@ use Rattle.std.proofs.Common.{◌≡◌, ◌+◌, ◌-◌, ℕ, length, map, ap,
 use Rattle.lf_rules.specs.Legalizer.{Legalizer}
 use Rattle.lf_rules.specs.Tidy.{Going, Stuck}
 use Rattle.lf_floorplan.specs.declared.frame.Frame.{Frame}
-use Rattle.lf_cells.specs.Cells.{Cells, cells_of}
+use Rattle.lf_cells.specs.declared.cell.CellId.{CellId}
+use Rattle.lf_cells.specs.Cells.{Cells, cells_of, id_of, ids_of}
+use Rattle.lf_cells.proofs.TeamIds.{ids_long}
 use Rattle.lf_legalize.specs.Members.{member_of}
 use Rattle.lf_teams.specs.Teams.{setting}
 use Rattle.lf_floor.specs.declared.tidy.Sent.{Sent}
 use Rattle.lf_floor.specs.Tidying.{Sends, sent_as}
 use Rattle.lf_floor.proofs.Fitting.{only_none, only_through}
 use Rattle.lf_floor.proofs.Marking.{marked_through}
-use Rattle.lf_floor.proofs.Sending.{all_to_go, on_going, stuck_stays}
+use Rattle.lf_floor.proofs.Sending.{all_to_go, id_at_turn, on_going, still_within, stuck_stays}
 use Rattle.lf_floor.proofs.tidy.send_all.Goals.{in-Stays, in-Goes}
 use Rattle.lf_floor.proofs.tidy.send_all.Goals as goal
 
@@ -19,26 +21,53 @@ loop-own-init g c =
     let number = c.args.around.now.number in
     let cells = cells_of c.args.placement.now.cells number in
     record {
-      going = λ l. all_to_go l f number c.count_of-own-end.result cells
-          (c.count_of-own-end.ensures ∙ ap (λ (cs : Cells). length (cells_of cs number)) c.cells.ensures);
+      going = λ l. all_to_go l f number (length c.cells_of-own-end.result.now) cells
+          (ids_long number (cells_of c.cells.result.now number) c.cells_of-own-end.result.now c.cells_of-own-end.ensures
+          ∙ ap (λ (cs : Cells). length (cells_of cs number)) c.cells.ensures);
       moved = λ before have. have;
       only = only_none number c.args.placement.now;
       marked = c.requires.marked;
       few = omega arith;
     }
 
+pub bounds-cells_of-own : goal.bounds-cells_of-own
+bounds-cells_of-own g c =
+    let number = c.args.around.now.number in
+    let ids = λ (cs : Cells). ids_of number (cells_of cs number) in
+    still_within number c.loop-own.own (cells_of c.args.placement.now.cells number) (cells_of c.loop-own.placement.cells number)
+    c.cells_of-own-end.result.now c.cells_of.result.now (c.cells_of-own-end.ensures ∙ ap ids c.cells.ensures)
+    (c.cells_of.ensures ∙ ap ids c.cells-in-loop-own.ensures) c.loop-own.invariant.only.same c.loop-own-test.true
+
+pub send-requires-clause-team : goal.send-requires-clause-team
+send-requires-clause-team g c =
+    let number = c.args.around.now.number in
+    let own = c.loop-own.own in
+    let ids = λ (cs : Cells). ids_of number (cells_of cs number) in
+    let id : c.index-cells_of-own.result ≡ id_of number own =
+    id_at_turn number own (cells_of c.args.placement.now.cells number) (cells_of c.loop-own.placement.cells number) c.cells_of-own-end.result.now
+    c.cells_of.result.now c.index-cells_of-own.result
+    (c.cells_of-own-end.ensures ∙ ap ids c.cells.ensures) (c.cells_of.ensures ∙ ap ids c.cells-in-loop-own.ensures) c.loop-own.invariant.only.same
+    c.loop-own-test.true c.index-cells_of-own.is in
+    ap (λ (i : CellId). i.team) id
+
 pub returns-in-Nowhere-clause-ok : goal.returns-in-Nowhere-clause-ok
 returns-in-Nowhere-clause-ok g c = λ l.
     let f = c.args.placement.now.frame in
     let number = c.args.around.now.number in
     let own = c.loop-own.own in
-    let last = c.count_of-own-end.result in
+    let last = length c.cells_of-own-end.result.now in
     let old = cells_of c.loop-own.placement.cells number in
+    let ids = λ (cs : Cells). ids_of number (cells_of cs number) in
+    let id : c.index-cells_of-own.result ≡ id_of number own =
+    id_at_turn number own (cells_of c.args.placement.now.cells number) old c.cells_of-own-end.result.now c.cells_of.result.now c.index-cells_of-own.result
+    (c.cells_of-own-end.ensures ∙ ap ids c.cells.ensures) (c.cells_of.ensures ∙ ap ids c.cells-in-loop-own.ensures) c.loop-own.invariant.only.same
+    c.loop-own-test.true c.index-cells_of-own.is in
     let new = cells_of c.send.new.placement.cells number in
     let sends : Sends (setting l f number) own old new c.in_ok-send.field-0 =
     subst (λ (h : Frame). Sends (setting l h number) own old new c.in_ok-send.field-0) c.loop-own.invariant.only.ground.frame
-    ((c.in_ok-send.ensures {u = tt}).ok l) in
-    sym (on_going (setting l f number) own last c.loop-own.moved (cells_of c.args.placement.now.cells number) old new c.in_ok-send.field-0 (Stuck own)
+    (subst (λ (i : CellId). Sends (setting l c.loop-own.placement.frame number) i.own old new c.in_ok-send.field-0) id ((c.in_ok-send.ensures {u = tt}).ok l)) in
+    ap (λ (i : CellId). Stuck i.own) id
+    ∙ sym (on_going (setting l f number) own last c.loop-own.moved (cells_of c.args.placement.now.cells number) old new c.in_ok-send.field-0 (Stuck own)
     c.loop-own-test.true sends (ap (λ (s : Sent). sent_as s new c.loop-own.moved own) c.in-Nowhere.is) (c.loop-own.invariant.going l))
     ∙ stuck_stays l f number (own + 1) (last - (own + 1)) own
 
@@ -48,10 +77,15 @@ loop-own-preserved g c =
     let f = first.frame in
     let number = c.args.around.now.number in
     let own = c.loop-own.own in
-    let last = c.count_of-own-end.result in
+    let last = length c.cells_of-own-end.result.now in
     let moved = c.loop-own.moved in
     let now = c.match-branch-2.moved in
     let old = cells_of c.loop-own.placement.cells number in
+    let ids = λ (cs : Cells). ids_of number (cells_of cs number) in
+    let id : c.index-cells_of-own.result ≡ id_of number own =
+    id_at_turn number own (cells_of c.args.placement.now.cells number) old c.cells_of-own-end.result.now c.cells_of.result.now c.index-cells_of-own.result
+    (c.cells_of-own-end.ensures ∙ ap ids c.cells.ensures) (c.cells_of.ensures ∙ ap ids c.cells-in-loop-own.ensures) c.loop-own.invariant.only.same
+    c.loop-own-test.true c.index-cells_of-own.is in
     let new = cells_of c.send.new.placement.cells number in
     let sent = c.in_ok-send.ensures {u = tt} in
     let goes : sent_as c.in_ok-send.field-0 new moved own ≡ Going (map member_of new) now =
@@ -60,7 +94,8 @@ loop-own-preserved g c =
       | in-Goes w ↦ ap (λ (s : Sent). sent_as s new moved own) w.in-Goes.is ∙ ap (λ (n : ℕ). Going (map member_of new) n) (sym w.moved-is)
     ] in
     let sends : (l : Legalizer) → Sends (setting l f number) own old new c.in_ok-send.field-0 = λ l.
-    subst (λ (h : Frame). Sends (setting l h number) own old new c.in_ok-send.field-0) c.loop-own.invariant.only.ground.frame (sent.ok l) in
+    subst (λ (h : Frame). Sends (setting l h number) own old new c.in_ok-send.field-0) c.loop-own.invariant.only.ground.frame
+    (subst (λ (i : CellId). Sends (setting l c.loop-own.placement.frame number) i.own old new c.in_ok-send.field-0) id (sent.ok l)) in
     let l = c.legalizer_is_there.ensures in
     record {
       going = λ l. on_going (setting l f number) own last moved (cells_of first.cells number) old new c.in_ok-send.field-0

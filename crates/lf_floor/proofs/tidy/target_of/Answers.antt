@@ -18,7 +18,8 @@ returns-in-Some-2 g c = λ l.
     ap (λ (p : Point). Some p) c.corner.ensures ∙ ap point (Rattle.std.proofs.Common.sym c.in-Some-2.is)
     ∙ target_placed (setting_at l c.args.around.now c.args.placement.now) (cells_of c.args.placement.now.cells number) own c.in-Some.standing
     c.in-Some-working.place c.in_ok-broken_at.field-0
-    (subst (λ (cs : Cells). Some c.in-Some.standing ≡ option_map standing_of (slice_get (cells_of cs number) own)) c.cells.ensures c.in-Some.ensures)
+    (subst (λ (k : ℕ). Some c.in-Some.standing ≡ option_map standing_of (slice_get (cells_of c.args.placement.now.cells k) own)) c.requires.team
+    (subst (λ (cs : Cells). Some c.in-Some.standing ≡ option_map standing_of (slice_get (cells_of cs c.args.id.team) own)) c.cells.ensures c.in-Some.ensures))
     c.in-Some-working.is (c.in_ok-broken_at.ensures {u = tt} l)
 
 pub returns-in-None : goal.returns-in-None
@@ -29,7 +30,8 @@ returns-in-None g c = λ l.
     ap point (Rattle.std.proofs.Common.sym c.in-None.is)
     ∙ target_placed (setting_at l c.args.around.now c.args.placement.now) (cells_of c.args.placement.now.cells number) own c.in-Some.standing
     c.in-Some-working.place c.in_ok-broken_at.field-0
-    (subst (λ (cs : Cells). Some c.in-Some.standing ≡ option_map standing_of (slice_get (cells_of cs number) own)) c.cells.ensures c.in-Some.ensures)
+    (subst (λ (k : ℕ). Some c.in-Some.standing ≡ option_map standing_of (slice_get (cells_of c.args.placement.now.cells k) own)) c.requires.team
+    (subst (λ (cs : Cells). Some c.in-Some.standing ≡ option_map standing_of (slice_get (cells_of cs c.args.id.team) own)) c.cells.ensures c.in-Some.ensures))
     c.in-Some-working.is (c.in_ok-broken_at.ensures {u = tt} l)
 
 pub returns-then-is_marked : goal.returns-then-is_marked

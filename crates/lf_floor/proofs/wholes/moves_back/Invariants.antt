@@ -5,5 +5,5 @@ use Rattle.lf_floor.proofs.Reverting.{back_first}
 use Rattle.lf_floor.proofs.wholes.moves_back.Given as goal
 
 -- the moves so far lead the cells so far back
-abbrev pub invariant-loop-own : goal.invariant-loop-own
-invariant-loop-own l = made l.moves (cells_of l.cells l.number) ≡ back_first l.own (cells_of l.cells l.number)
+abbrev pub invariant-loop-id : goal.invariant-loop-id
+invariant-loop-id l = made l.moves (cells_of l.cells l.number) ≡ back_first l.id-index (cells_of l.cells l.number)

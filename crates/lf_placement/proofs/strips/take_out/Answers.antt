@@ -5,4 +5,4 @@ use Rattle.lf_placement.proofs.strips.take_out.Goals as goal
 
 pub returns-in_default-clause-boxes : goal.returns-in_default-clause-boxes
 returns-in_default-clause-boxes c =
-    none_put c.args.team c.args.own (cells_of c.args.cells.now c.args.team) None c.args.occupancy.now c.requires (sym c.id_at.ensures ∙ c.in_default.is)
+    none_put c.args.team c.args.own (cells_of c.args.cells.now c.args.team) None c.args.occupancy.now c.requires (sym c.cell_of.ensures ∙ c.in_default.is)

@@ -5,4 +5,4 @@ use Rattle.lf_placement.proofs.table.put_at.Goals as goal
 
 pub returns-in_default-clause-own : goal.returns-in_default-clause-own
 returns-in_default-clause-own c =
-    sym (none_moved (cells_of c.args.cells.now c.args.team) c.args.team c.args.own c.args.place (sym c.id_at.ensures ∙ c.in_default.is))
+    sym (none_moved (cells_of c.args.cells.now c.args.team) c.args.team c.args.own c.args.place (sym c.cell_of.ensures ∙ c.in_default.is))

@@ -1,14 +1,15 @@
 use Rattle.std.proofs.Common.{◌∙◌, Option, ap, sym, map}
 use Rattle.std.specs.Prelude.{option_and_then}
 use Rattle.lf_floorplan.specs.declared.place.Place.{Place}
-use Rattle.lf_reports.specs.Reports.{named, trial_among}
+use Rattle.lf_reports.specs.Reports.{member_of, named, trial_among}
 use Rattle.lf_reports.proofs.ReportLemmas.{broken_is}
 use Rattle.lf_reports.proofs.report.broken_in.Goals as goal
 
 pub returns : goal.returns
 returns c = λ l.
-    let f = c.args.frame.now in
+    let f = c.args.plan.now in
     let cells = map named c.args.cells.now in
     let cell = named c.args.cell.now in
-    broken_is l f cells c.args.own cell c.in-Some.place c.in_ok-broken.broken c.verdict_is_one.ensures c.requires.this c.in_ok-broken.ensures
-    ∙ ap (λ (o : Option Place). option_and_then (λ p. l.first_broken (trial_among f cells c.args.own cell p)) o) (sym c.in-Some.is)
+    broken_is l f cells c.args.own cell c.in_ok-place.place c.broken_at.result c.verdict_is_one.ensures c.requires.this
+    (c.broken_at.ensures (map member_of cells) c.requires.tree)
+    ∙ ap (λ (o : Option Place). option_and_then (λ p. l.first_broken (trial_among f cells c.args.own cell p)) o) (sym c.in_ok-place.was)

@@ -13,7 +13,7 @@ nowhere = record { own = 0; rect = record { x1 = pos 0; y1 = pos 0; x2 = pos 0; 
 pub put_verdict-requires-clause-within : goal.put_verdict-requires-clause-within
 put_verdict-requires-clause-within c =
     let cells = map named c.args.cells.now in
-    let known = numbers_known c.args.frame.now (map member_of cells) c.args.boxes.now c.requires.boxes c.loop-number.number nowhere c.loop-number-test.true in
+    let known = numbers_known c.args.plan.now (map member_of cells) c.args.boxes.now c.requires.boxes c.loop-number.number nowhere c.loop-number-test.true in
     let long = length-map cells member_of in
     let named_long = length-map c.args.cells.now named in
     omega (arith, known, long, named_long)
@@ -21,7 +21,7 @@ put_verdict-requires-clause-within c =
 pub fetch-requires : goal.fetch-requires
 fetch-requires c =
     let cells = map named c.args.cells.now in
-    let known = numbers_known c.args.frame.now (map member_of cells) c.args.boxes.now c.requires.boxes in
+    let known = numbers_known c.args.plan.now (map member_of cells) c.args.boxes.now c.requires.boxes in
     let long : length (map member_of cells) ≡ length c.args.cells.now = length-map cells member_of ∙ length-map c.args.cells.now named in
     subst (λ (n : ℕ). All (λ p. p.own < n) c.args.boxes.now) long known
 
@@ -43,34 +43,29 @@ there c =
 pub put_verdict-requires-clause-there : goal.put_verdict-requires-clause-there
 put_verdict-requires-clause-there c = there c
 
-pub put_verdict-requires-clause-search : goal.put_verdict-requires-clause-search
-put_verdict-requires-clause-search c = c.in_ok-move_to.ensures c.args.frame.now (map member_of (map named c.args.cells.now)) c.requires.index c.loop-number.invariant.1
-
 pub put_verdict-requires-clause-this : goal.put_verdict-requires-clause-this
 put_verdict-requires-clause-this c =
-    listed_there c.args.frame.now c.args.cells.now (get_or c.args.boxes.now c.loop-number.number nowhere).own (named c.index-cell.result.now) c.requires.listed (there c)
+    listed_there c.args.plan.now c.args.cells.now (get_or c.args.boxes.now c.loop-number.number nowhere).own (named c.index-cell.result.now) c.requires.listed (there c)
 
 pub loop-number-init : goal.loop-number-init
 loop-number-init c =
     let cells = map named c.args.cells.now in
     let named_long = length-map c.args.cells.now named in (
       c.in_ok-verdicts.ensures.count,
-      c.requires.search,
-      λ l. none_yet l c.args.frame.now cells c.args.boxes.now c.in_ok-verdicts.verdicts.items (c.in_ok-verdicts.ensures.count ∙ sym named_long) c.in_ok-verdicts.ensures.none,
+      λ l. none_yet l c.args.plan.now cells c.args.boxes.now c.in_ok-verdicts.verdicts.items (c.in_ok-verdicts.ensures.count ∙ sym named_long) c.in_ok-verdicts.ensures.none,
     )
 
 pub loop-number-preserved : goal.loop-number-preserved
 loop-number-preserved c = (
-  c.in_ok-put_verdict.ensures.count,
-  c.in_ok-move_to.ensures c.args.frame.now (map member_of (map named c.args.cells.now)) c.requires.index c.loop-number.invariant.1,
-  λ l. one_more l c.args.frame.now (map named c.args.cells.now) c.args.boxes.now c.loop-number.number _ c.loop-number.verdicts.items _ c.loop-number-test.true (c.loop-number.invariant.2 l)
-      (c.in_ok-put_verdict.ensures.put l (c.loop-number.invariant.2 l).some),
+  c.put_verdict.ensures.count,
+  λ l. one_more l c.args.plan.now (map named c.args.cells.now) c.args.boxes.now c.loop-number.number _ c.loop-number.verdicts.items _ c.loop-number-test.true (c.loop-number.invariant.1 l)
+      (c.put_verdict.ensures.put l (c.loop-number.invariant.1 l).some),
 )
 
 pub returns-clause-each : goal.returns-clause-each
 returns-clause-each c = λ l.
-    let f = c.args.frame.now in
+    let f = c.args.plan.now in
     let cells = map named c.args.cells.now in
     let all : c.loop-number.number ≡ length c.args.boxes.now = omega arith in
     all_done l f cells c.args.boxes.now c.loop-number.verdicts.items c.requires.boxes
-    (subst (λ (k : ℕ). HaveVerdicts l f cells c.args.boxes.now k c.loop-number.verdicts.items) all (c.loop-number.invariant.2 l))
+    (subst (λ (k : ℕ). HaveVerdicts l f cells c.args.boxes.now k c.loop-number.verdicts.items) all (c.loop-number.invariant.1 l))

@@ -1,8 +1,6 @@
-use Rattle.lf_proto.specs.declared.request.Order.TheVariants.{Within}
-use Rattle.lf_proto.specs.declared.request.Action.TheVariants.{Change as Changing}
-use Rattle.lf_proto.specs.declared.request.Change.TheVariants.{Swap}
+use Rattle.lf_proto.specs.declared.verb.Change.TheVariants.{Swap}
 use Rattle.lf_teams.proofs.VerbLegal.{verb_legal}
 use Rattle.lf_teams.proofs.verb_laws.swap_makes_legal.Goals as goal
 
 pub returns : goal.returns
-returns c t session first second s known accepted = verb_legal t s known c.legal_in_range.ensures (Within session (Changing (Swap first second))) accepted
+returns c t session first second s known accepted = verb_legal t s known c.legal_in_range.ensures session (Swap first second) accepted

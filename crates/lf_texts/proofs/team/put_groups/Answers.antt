@@ -1,26 +1,28 @@
 use Rattle.std.proofs.Common.{[], ◌∷◌, ◌++◌, ◌≡◌, ℕ, List, length, sym, ap, subst, refl, rules, ◌∙◌}
-use Rattle.std.specs.Prelude.{codes, decimal, Some}
+use Rattle.std.specs.Prelude.{◌==◌, codes, decimal, false, Some}
 use Rattle.std.specs.List.{flat_map}
 use Rattle.std.proofs.lemmas.Option.{slice_get_read}
 use Rattle.std.proofs.lemmas.Result.{on_ok_weaker}
 use Rattle.lf_floorplan.specs.declared.parts.Team.{Team}
 use Rattle.lf_cells.specs.declared.cell.Cell.{Cell}
 use Rattle.lf_cells.specs.Cells.{cells_of}
+use Rattle.lf_cells.proofs.TeamIds.{ids_long}
 use Rattle.lf_texts.specs.TeamText.{line_of, group_lines, group_words, section_lines}
 use Rattle.lf_texts.proofs.Lines.{put_three}
 use Rattle.lf_texts.proofs.team.put_groups.Goals as goal
 
 -- a team with cells has a group
-has_group : (fence : Team) (cells : List Cell) (n : ℕ) → n ≡ length cells → (n ≡ 0 → ⊥)
+has_group : (fence : Team) (cells : List Cell) (n : ℕ) → n ≡ length cells → (n == 0) ≡ false
     → group_lines (Some fence) cells ≡ section_lines (codes "GROUPS") (group_words fence cells ∷ [])
-has_group fence [] n long some = absurd (some long)
+has_group fence [] n long some = let none : (0 == 0) ≡ false = subst (λ (k : ℕ). (k == 0) ≡ false) long some in absurd cc
 has_group fence (c ∷ cs) n long some = refl
 
 pub returns-in_ok-put_group-in-Some : goal.returns-in_ok-put_group-in-Some
 returns-in_ok-put_group-in-Some c =
     let there = slice_get_read c.args.frame.now.teams _ c.args.team c.in-Some.fence.now refl (search rules) (search rules) in
     let lines = ap (λ o. group_lines o (cells_of c.args.cells.now c.args.team)) there
-    ∙ has_group c.in-Some.fence.now (cells_of c.args.cells.now c.args.team) c.count_of.result c.count_of.ensures c.if-count_of-eq0.false in
+    ∙ has_group c.in-Some.fence.now (cells_of c.args.cells.now c.args.team) (length c.cells_of.result.now)
+    (ids_long c.args.team (cells_of c.args.cells.now c.args.team) c.cells_of.result.now c.cells_of.ensures) (sym c.is_empty.ensures ∙ c.if-is_empty.false) in
     on_ok_weaker c.put_end.result
     (λ e. subst (λ ls. c.put_end.new.out.items ≡ c.args.out.now.items ++ flat_map line_of ls) (sym lines)
     (put_three c.args.out.now.items c.put_begin.new.out.items c.put_group.new.out.items c.put_end.new.out.items

@@ -9,4 +9,4 @@ returns g c =
     let i = c.self.inside in
     rw (← c.self.view_is) (IfOk-weaker c.all_committed.result _ _
     (λ places (ids, all, is). rw (is, c.cells.ensures)
-    (all_places i.tables c.self.invariant.0 ids (subst (λ (cs : Cells). AreAll cs ids) c.cells.ensures all))) c.all_committed.ensures)
+    (all_places i.tables c.self.invariant ids (subst (λ (cs : Cells). AreAll cs ids) c.cells.ensures all))) c.all_committed.ensures)

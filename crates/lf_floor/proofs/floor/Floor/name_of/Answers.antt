@@ -3,7 +3,7 @@ use Rattle.std.specs.Prelude.{option_map}
 use Rattle.lf_floorplan.specs.declared.frame.Frame.{Frame}
 use Rattle.lf_cells.specs.declared.cell.Cell.{Cell}
 use Rattle.lf_cells.specs.declared.cell.CellFacts.{CellFacts}
-use Rattle.lf_cells.specs.Cells.{Cells, cell_at, cells_of, id_in}
+use Rattle.lf_cells.specs.Cells.{Cells, cell_at}
 use Rattle.lf_teams.specs.Outcomes.{name_at}
 use Rattle.lf_teams.specs.Teams.{IsTeamOf, team_number}
 use Rattle.lf_floor.specs.Tables.{cells_in, frame_of}
@@ -18,31 +18,27 @@ returns-in_err-id-clause-name g c =
     ap (option_map (λ name. name.now)) c.from_residual-in_err-id.ensures
     ∙ sym (cells_seen (λ (cells : List Cell). name_at cells c.args.own) i.tables c.args.self.now c.args.team.now number
     c.self.view_is (subst (λ (f : Frame). Some number ≡ team_number f c.args.team.now) c.frame.ensures c.in_ok-number.ensures.found)
-    (rw c.self.invariant.0.revisions (subst (λ (f : Frame). number < length f.teams + 1) c.frame.ensures c.in_ok-number.ensures.within))
-    ∙ names_none (cells_in number i.tables) number c.args.own
-    (subst (λ (cs : Cells). id_in (cells_of cs number) number c.args.own ≡ Rattle.std.proofs.Common.None) c.cells-cells.ensures
-    (sym c.id_at.ensures ∙ c.in_err-id.was {u = tt})))
+    (rw c.self.invariant.revisions (subst (λ (f : Frame). number < length f.teams + 1) c.frame.ensures c.in_ok-number.ensures.within))
+    ∙ names_none (cells_in number i.tables) number c.args.own (sym c.cell_at.ensures ∙ c.in_err-id.was {u = tt}))
 
 pub returns-clause-name : goal.returns-clause-name
 returns-clause-name g c =
     let i = c.self.inside in
     let number = c.in_ok-number.number in
-    name_told i.tables.placement.cells number c.args.own c.in_ok-id.id c.in_ok-cell.field-0
-    (subst (λ (cs : Cells). id_in (cells_of cs number) number c.args.own ≡ Some c.in_ok-id.id) c.cells-cells.ensures (sym c.id_at.ensures ∙ c.in_ok-id.was {u = tt}))
+    name_told i.tables.placement.cells number c.args.own c.in_ok-id.id c.in_ok-cell.field-0 (sym c.cell_at.ensures ∙ c.in_ok-id.was {u = tt})
     (ap (option_map (λ (f : CellFacts). f.name.now)) (sym (c.in_ok-cell.was {u = tt}))
-    ∙ c.cell.ensures.name ∙ ap (λ (cs : Cells). option_map (λ (d : Cell). d.name) (cell_at cs c.in_ok-id.id)) c.cells-cells.ensures)
+    ∙ c.cell.ensures.name ∙ ap (λ (cs : Cells). option_map (λ (d : Cell). d.name) (cell_at cs c.in_ok-id.id)) c.cells.ensures)
     ∙ sym (cells_seen (λ (cells : List Cell). name_at cells c.args.own) i.tables c.args.self.now c.args.team.now number
     c.self.view_is (subst (λ (f : Frame). Some number ≡ team_number f c.args.team.now) c.frame.ensures c.in_ok-number.ensures.found)
-    (rw c.self.invariant.0.revisions (subst (λ (f : Frame). number < length f.teams + 1) c.frame.ensures c.in_ok-number.ensures.within)))
+    (rw c.self.invariant.revisions (subst (λ (f : Frame). number < length f.teams + 1) c.frame.ensures c.in_ok-number.ensures.within)))
 
 pub returns-clause-printed : goal.returns-clause-printed
 returns-clause-printed g c =
     let i = c.self.inside in
     let number = c.in_ok-number.number in
     name_printed (cells_in number i.tables) c.args.own c.in_ok-cell.field-0.name.now
-    (each_team (λ t. IsTeamOf (frame_of i.tables) t) i.tables number c.self.invariant.0.teams
-    (rw c.self.invariant.0.revisions (subst (λ (f : Frame). number < length f.teams + 1) c.frame.ensures c.in_ok-number.ensures.within))).printed
-    (name_told i.tables.placement.cells number c.args.own c.in_ok-id.id c.in_ok-cell.field-0
-    (subst (λ (cs : Cells). id_in (cells_of cs number) number c.args.own ≡ Some c.in_ok-id.id) c.cells-cells.ensures (sym c.id_at.ensures ∙ c.in_ok-id.was {u = tt}))
+    (each_team (λ t. IsTeamOf (frame_of i.tables) t) i.tables number c.self.invariant.teams
+    (rw c.self.invariant.revisions (subst (λ (f : Frame). number < length f.teams + 1) c.frame.ensures c.in_ok-number.ensures.within))).printed
+    (name_told i.tables.placement.cells number c.args.own c.in_ok-id.id c.in_ok-cell.field-0 (sym c.cell_at.ensures ∙ c.in_ok-id.was {u = tt})
     (ap (option_map (λ (f : CellFacts). f.name.now)) (sym (c.in_ok-cell.was {u = tt}))
-    ∙ c.cell.ensures.name ∙ ap (λ (cs : Cells). option_map (λ (d : Cell). d.name) (cell_at cs c.in_ok-id.id)) c.cells-cells.ensures))
+    ∙ c.cell.ensures.name ∙ ap (λ (cs : Cells). option_map (λ (d : Cell). d.name) (cell_at cs c.in_ok-id.id)) c.cells.ensures))

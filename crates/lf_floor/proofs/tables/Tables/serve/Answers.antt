@@ -1,6 +1,6 @@
 use Rattle.std.proofs.Common.{◌≡◌, Option, ℕ, ap, sym}
 use Rattle.lf_proto.specs.declared.request.Order.TheVariants.{Within}
-use Rattle.lf_proto.specs.Commands.{action_of}
+use Rattle.lf_proto.specs.Verbs.{action_of}
 use Rattle.lf_teams.specs.Verbs.{outcome_by_slot, outcome_of, outcome_within}
 use Rattle.lf_floor.specs.Tables.{setting_in, team_in}
 use Rattle.lf_floor.proofs.tables.Tables.serve.Goals as goal
