@@ -85,7 +85,7 @@ impl Tables {
     }
 
     /// Puts a cell at its best place for a target: `NoCell` if the team has none of that name,
-    /// else `NoPlace` if no place is team-legal.
+    /// else `NoPlace` if it may go to no place.
     #[tactic(auto, unfolding(lf_teams::specs::Changes::legalized))]
     pub(crate) fn legalize<S: Seeker>(
         &mut self,

@@ -68,7 +68,7 @@ impl Tables {
     }
 
     /// Answers the best place of a cell: `NoCell` if the team has none of that name, else `NoPlace`
-    /// if no place is team-legal.
+    /// if it may go to no place.
     #[tactic(auto, unfolding(lf_teams::specs::Looks::found))]
     pub(crate) fn find<S: Seeker>(
         &self,

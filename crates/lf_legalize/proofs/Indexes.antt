@@ -15,7 +15,7 @@ use Rattle.lf_floorplan.specs.Standing.{IsBottomRow, IsSitesHigh}
 use Rattle.lf_floorplan.proofs.SizeBounds.{IsSmall, small_pitch, turned_small, sized_pitch}
 use Rattle.lf_rules.specs.declared.rule.Rule.TheVariants.{Height, Row as RowRule}
 use Rattle.lf_rules.specs.Legality.{Holds}
-use Rattle.lf_rules.specs.Choice.{Spot, Lifted, IsLegalAt, IsChoice, Precedes, distance, trial_at}
+use Rattle.lf_rules.specs.Choice.{Spot, Lifted, IsLegalAt, MayGo, IsChoice, Precedes, distance, trial_at}
 use Rattle.lf_rules.proofs.SiteLemmas.{legal_upright}
 use Rattle.lf_segments.specs.Grounds.{IsInside, IsExtentOf}
 use Rattle.lf_legalize.specs.Extents.{IsNearestPoint, IsNearDefPoint, IsWithin}
@@ -104,14 +104,14 @@ same_order target near p q more d e (inr same) = inr (d ∙ ap (λ (n : ℕ). n 
 
 -- the choice for the nearest point of the extent is that for the target
 pub choice_for : (cell : Lifted) (extent : Rect) (target near : Point) (found : Option Spot) → IsNearestPoint extent target near →
-    ((p : Spot) → IsLegalAt cell p → LiesIn extent p) → IsChoice cell near found → IsChoice cell target found
+    ((p : Spot) → MayGo cell p → LiesIn extent p) → IsChoice cell near found → IsChoice cell target found
 choice_for cell extent target near None of all choice = choice
 choice_for cell extent target near (Some b) of all choice = record {
-  legal = choice.legal;
-  least = λ p legal. elim (choice.least p legal) [
+  may_go = choice.may_go;
+  least = λ p may. elim (choice.least p may) [
     | inl same ↦ inl same
-    | inr after ↦ inr (same_order target near b p (farther target near) (distance_splits extent target near b of (all b choice.legal))
-        (distance_splits extent target near p of (all p legal)) after)
+    | inr after ↦ inr (same_order target near b p (farther target near) (distance_splits extent target near b of (all b choice.may_go))
+        (distance_splits extent target near p of (all p may)) after)
   ];
 }
 

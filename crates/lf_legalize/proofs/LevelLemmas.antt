@@ -21,11 +21,11 @@ use Rattle.lf_segments.specs.declared.segment.Segment.{Segment}
 use Rattle.lf_segments.specs.Segments.{IsCut, IsOf, IsOpen, IsSegment, LiesInSegment}
 use Rattle.lf_cells.specs.declared.cell.CellId.{CellId}
 use Rattle.lf_segments.specs.declared.strip.Strip.{Strip}
-use Rattle.lf_occupancy.specs.Occupied.{Occupied, IsFreeInRow, IsFreeOver, IsStripOf}
+use Rattle.lf_occupancy.specs.Occupied.{Occupied, IsFreeOver, IsStripOf}
 use Rattle.lf_segments.specs.Grounds.{IsGroundOf}
 use Rattle.lf_segments.specs.Strips.{strip_of}
 use Rattle.lf_legalize.specs.declared.row_search.RowSearch.{RowSearch}
-use Rattle.lf_legalize.specs.Levels.{AddsRow, AreFreeOn, AreLevels, IsFreeOnOne, IsFreeOnRow, IsLevel, IsLevelRow, IsRailed}
+use Rattle.lf_legalize.specs.Levels.{AddsRow, AreFreeOn, AreLevels, IsFreeOnOne, IsFreeOnRow, IsLevel, IsLevelRow, IsOpenInRow, IsRailed}
 
 -- ---- lists of spans
 
@@ -169,14 +169,14 @@ free_none Rows o id window none = record {
 -- ---- one row
 
 pub free_row : (Rows : ℕ → Type 0) (o : Occupied) (id : CellId) (window : Span) (n : ℕ) (xs : List Span) → Rows n → ((m : ℕ) → Rows m → m ≡ n) →
-    IsFreeInRow o n id window xs → AreFreeOn Rows o id window xs
+    IsOpenInRow o n id window xs → AreFreeOn Rows o id window xs
 free_row Rows o id window n xs this only free = record {
   rising = free.rising;
   exact = λ s filled. (
-    λ lies. let found = (free.exact s filled).0 lies in record { number = n; among = this; free = record { within = found.0; in_strip = found.1 } },
+    λ lies. record { number = n; among = this; free = (free.exact s filled).0 lies },
     λ one.
         let at = subst (λ (m : ℕ). IsFreeOnRow o id window m s) (only one.number one.among) one.free in
-        (free.exact s filled).1 (at.within, at.in_strip),
+        (free.exact s filled).1 at,
   );
 }
 
@@ -198,7 +198,7 @@ adds_none s bottom j n window old r stands not = record {
 }
 
 pub adds_row : (s : RowSearch) (bottom : Row) (j n : ℕ) (window : Span) (old new xs : List Span) (r : Row) → slice_get s.frame.now.rows n ≡ Some r →
-    rail_below r.orient ≡ option_map (changed j) (rail_below bottom.orient) → IsFreeInRow s.occupancy.now n s.id window xs → new ≡ old ++ xs →
+    rail_below r.orient ≡ option_map (changed j) (rail_below bottom.orient) → IsOpenInRow s.occupancy.now n s.id window xs → new ≡ old ++ xs →
     AddsRow s bottom j n window old new
 adds_row s bottom j n window old new xs r stands rail free is = record {
   added = xs;
@@ -210,7 +210,7 @@ adds_row s bottom j n window old new xs r stands rail free is = record {
 -- ---- all levels
 
 pub level_bottom : (s : RowSearch) (own : ℕ) (bottom : Row) (window : Span) (j : ℕ) (xs : List Span) → j ≡ 0 →
-    IsFreeInRow s.occupancy.now own s.id window xs → IsLevel s own bottom window j xs
+    IsOpenInRow s.occupancy.now own s.id window xs → IsLevel s own bottom window j xs
 level_bottom s own bottom window zero xs none free =
     free_row (λ n. n ≡ own) s.occupancy.now s.id window own xs refl (λ m p. p) free
 level_bottom s own bottom window (suc j) xs none free = absurd (omega (arith, none))

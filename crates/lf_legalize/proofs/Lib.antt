@@ -1,4 +1,5 @@
 mod Beside
+pub mod SoftLemmas
 pub mod LevelLemmas
 pub mod RunLemmas
 pub mod RowLegal

@@ -12,7 +12,7 @@ use Rattle.lf_floorplan.specs.Rows.{row_area}
 use Rattle.lf_floorplan.specs.Sizes.{box_at}
 use Rattle.lf_floorplan.specs.Standing.{IsBottomRow}
 use Rattle.lf_floorplan.proofs.SizeBounds.{IsSmall, small_pitch, sized_pitch}
-use Rattle.lf_rules.specs.Choice.{Spot, Lifted, IsLegalAt, Precedes, distance}
+use Rattle.lf_rules.specs.Choice.{Spot, Lifted, MayGo, Precedes, distance}
 use Rattle.lf_rules.proofs.Looking.{LooksAt, IsAsGood, taken_first, taken, left}
 use Rattle.lf_rules.proofs.Order.{through}
 use Rattle.lf_segments.specs.declared.rows_by_y.RowEntry.{RowEntry}
@@ -57,7 +57,7 @@ pub row_passed : (f : Frame) (size : Point) (cell : Lifted) (target : Point) (re
     limit target reach best < unsigned_abs (e.y -ℤ target.y) → LooksNear (IsOnRow f size e.row) cell target reach best best
 row_passed f size cell target reach best e known far = record {
   looked = record {
-    legal = λ h. h;
+    may_go = λ h. h;
     kept = λ p h. h;
     seen = λ p s l. beyond target reach best p s.0 (high p s.1);
   };
@@ -117,12 +117,12 @@ in_reach f size target lim rise y w r p at is less lo hi on =
     abs_within (negsuc m) n a b = omega (arith, ints)
 
 -- the better of two is what is known after a look at the second
-pub better_looks : (cell : Lifted) (target : Point) (best new : Option Spot) (s : Spot) → IsLegalAt cell s → IsBetter target best s new →
+pub better_looks : (cell : Lifted) (target : Point) (best new : Option Spot) (s : Spot) → MayGo cell s → IsBetter target best s new →
     LooksAt (λ p. p ≡ s) cell target best new
-better_looks cell target None new s legal (inl take) = rw take.0 (taken_first cell target s legal)
-better_looks cell target (Some b) new s legal (inl take) = rw take.0 (taken cell target b s legal take.1)
-better_looks cell target None new s legal (inr keep) = absurd keep.1
-better_looks cell target (Some b) new s legal (inr keep) = rw keep.0 (left cell target b s keep.1)
+better_looks cell target None new s may (inl take) = rw take.0 (taken_first cell target s may)
+better_looks cell target (Some b) new s may (inl take) = rw take.0 (taken cell target b s may take.1)
+better_looks cell target None new s may (inr keep) = absurd keep.1
+better_looks cell target (Some b) new s may (inr keep) = rw keep.0 (left cell target b s keep.1)
 
 -- what lies on a row and is within the reach lies in the window, or is beyond the limit
 split_row : (f : Frame) (size target : Point) (reach rise : ℕ) (best : Option Spot) (e : RowEntry) (known : IsEntryOf f e) (w : Span) →
@@ -147,7 +147,7 @@ pub row_empty : (f : Frame) (size : Point) (cell : Lifted) (target : Point) (rea
     IsChoiceAmong (IsOnRowIn f size known.row w) cell target None → LooksNear (IsOnRow f size e.row) cell target reach best best
 row_empty f size cell target reach rise best e known w is less lo hi none = record {
   looked = record {
-    legal = λ h. h;
+    may_go = λ h. h;
     kept = λ p h. h;
     seen = λ p s l. elim (split_row f size target reach rise best e known w is less lo hi p s.0 s.1) [ inl on ↦ absurd (none p on l) | inr good ↦ good ];
   };
@@ -173,10 +173,10 @@ pub row_found : (f : Frame) (size : Point) (cell : Lifted) (target : Point) (rea
     IsBestAmong (IsOnRowIn f size known.row w) cell target s → IsBetter target best s new → LooksNear (IsOnRow f size e.row) cell target reach best new
 row_found f size cell target reach rise best new e known w s is less lo hi found better = record {
   looked = record {
-    legal = looks.legal;
+    may_go = looks.may_go;
     kept = looks.kept;
     seen = λ p o l. elim (split_row f size target reach rise best e known w is less lo hi p o.0 o.1) [
-      | inl on ↦ no_better target new s p (looks.seen s refl found.legal) (found.least p on l)
+      | inl on ↦ no_better target new s p (looks.seen s refl found.may_go) (found.least p on l)
       | inr good ↦ looks.kept p good
     ];
   };
@@ -184,7 +184,7 @@ row_found f size cell target reach rise best new e known w s is less lo hi found
 }
   where
     looks : LooksAt (λ p. p ≡ s) cell target best new
-    looks = better_looks cell target best new s found.legal better
+    looks = better_looks cell target best new s found.may_go better
 
     level : s.y ≡ e.y
     level = row_level f size known.row s found.seen.bottom ∙ sym (ap (λ (x : RowEntry). x.y) known.is)

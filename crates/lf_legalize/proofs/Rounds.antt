@@ -16,7 +16,7 @@ use Rattle.lf_floorplan.specs.Sizes.{box_at, turned}
 use Rattle.lf_floorplan.specs.Standing.{IsBottomRow}
 use Rattle.lf_rules.specs.declared.rule.Rule.TheVariants.{Row as RowRule}
 use Rattle.lf_rules.specs.Legality.{Holds}
-use Rattle.lf_rules.specs.Choice.{Spot, Lifted, IsLegalAt, IsChoice, IsBest, distance, spot_of, trial_at}
+use Rattle.lf_rules.specs.Choice.{Spot, Lifted, IsLegalAt, MayGo, IsChoice, IsBest, distance, spot_of, trial_at}
 use Rattle.lf_rules.proofs.Looking.{onward}
 use Rattle.lf_rules.proofs.Order.{compared}
 use Rattle.lf_rules.proofs.SiteLemmas.{OneOfFour, legal_upright, rank_tells}
@@ -39,7 +39,7 @@ pub record IsOnEntries (f : Frame) (size : Point) (run : List RowEntry) (count :
 pub no_entry : (f : Frame) (size : Point) (run : List RowEntry) (cell : Lifted) (target : Point) (reach : ℕ) →
     LooksNear (IsOnEntries f size run 0) cell target reach None None
 no_entry f size run cell target reach = record {
-  looked = record { legal = λ h. h; kept = λ p h. h; seen = λ p s l. let within = s.1.within in absurd (omega arith) };
+  looked = record { may_go = λ h. h; kept = λ p h. h; seen = λ p s l. let within = s.1.within in absurd (omega arith) };
   near = λ h. h;
 }
 
@@ -56,9 +56,9 @@ next_entry f size run n e cell target reach a b c there first second = record {
     same_entry : {x y : RowEntry} → Some x ≡ Some y → x ≡ y
     same_entry is = cc
 
-    split : (p : Spot) → (IsWithin target reach p × IsOnEntries f size run (n + 1) p) → IsLegalAt cell p →
+    split : (p : Spot) → (IsWithin target reach p × IsOnEntries f size run (n + 1) p) → MayGo cell p →
         (IsWithin target reach p × IsOnEntries f size run n p) ⊎ (IsWithin target reach p × IsOnRow f size e.row p)
-    split p s legal =
+    split p s may =
         let within = s.1.within in
         let order : (s.1.place < n) ⊎ (s.1.place ≡ n) = grind arith in
         elim order [
@@ -125,39 +125,41 @@ all_seen s run reach from to law rows between low high p legal within =
     let any = both.1 (omega (arith, ints, level, above, below, low, high), omega (arith, ints, level, above, below, low, high)) in
     on_any s.frame.now s.size run stands.0 p any on
 
--- a look at all legal places within the reach finds the best of them
+-- a look at all places within the reach where the cell may go finds the best of them
 pub chosen_near : (Seen : Spot → Type 0) (cell : Lifted) (target : Point) (reach : ℕ) (found : Option Spot) →
-    ((p : Spot) → IsLegalAt cell p → IsWithin target reach p → Seen p) → LooksNear Seen cell target reach None found →
+    ((p : Spot) → MayGo cell p → IsWithin target reach p → Seen p) → LooksNear Seen cell target reach None found →
     IsChoiceAmong (IsWithin target reach) cell target found
-chosen_near Seen cell target reach None all looks = λ p within legal. looks.looked.seen p (within, all p legal within) legal
+chosen_near Seen cell target reach None all looks = λ p within may. looks.looked.seen p (within, all p may within) may
 chosen_near Seen cell target reach (Some b) all looks =
-    let legal : IsLegalAt cell b = looks.looked.legal tt in
+    let may : MayGo cell b = looks.looked.may_go tt in
     record {
       seen = looks.near tt;
-      legal = legal;
-      least = λ p within there. elim (compared target p b (rank_tells p.orient b.orient (legal_upright cell p there) (legal_upright cell b legal))) [
+      may_go = may;
+      least = λ p within there. elim (compared target p b (rank_tells p.orient b.orient (legal_upright cell p there.legal) (legal_upright cell b may.legal))) [
         | inl same ↦ inl same
         | inr rest ↦ elim rest [ inl less ↦ absurd (looks.looked.seen p (within, all p there within) there less) | inr more ↦ inr more ]
       ];
     }
 
+near_or_far : (m n : ℕ) → (m ≤ n) ⊎ (n < m)
+near_or_far m n = grind arith
+
 -- the best of the places within a reach is the best of all: the others are farther off
 pub best_of_all : (cell : Lifted) (target : Point) (reach : ℕ) (b : Spot) → IsBestAmong (IsWithin target reach) cell target b → IsBest cell target b
 best_of_all cell target reach b best = record {
-  legal = best.legal;
-  least = λ p legal.
+  may_go = best.may_go;
+  least = λ p may.
       let within = best.seen in
-      let order : (distance target p ≤ reach) ⊎ (reach < distance target p) = grind arith in
-      elim order [
-        | inl near ↦ best.least p near legal
+      elim (near_or_far (distance target p) reach) [
+        | inl near ↦ best.least p near may
         | inr far ↦ inr (inl (omega (arith, within, far)))
       ];
 }
 
--- where all legal places are within the reach, the choice of those within it is the choice
-pub choice_of_all : (cell : Lifted) (target : Point) (reach : ℕ) (found : Option Spot) → ((p : Spot) → IsLegalAt cell p → IsWithin target reach p) →
+-- where all places where the cell may go are within the reach, the choice of those within it is the choice
+pub choice_of_all : (cell : Lifted) (target : Point) (reach : ℕ) (found : Option Spot) → ((p : Spot) → MayGo cell p → IsWithin target reach p) →
     IsChoiceAmong (IsWithin target reach) cell target found → IsChoice cell target found
-choice_of_all cell target reach None all choice = λ p legal. choice p (all p legal) legal
+choice_of_all cell target reach None all choice = λ p may. choice p (all p may) may
 choice_of_all cell target reach (Some b) all choice = best_of_all cell target reach b choice
 
 -- what was found within a reach is the choice

@@ -18,7 +18,7 @@ use Rattle.lf_floorplan.specs.Rows.{row_area}
 use Rattle.lf_floorplan.specs.Boxes.{macro_of, size_of}
 use Rattle.lf_floorplan.proofs.SizeBounds.{sized_pitch}
 use Rattle.lf_gaps.specs.Gaps.{FitsRows}
-use Rattle.lf_rules.specs.Choice.{Spot, IsLegalAt, Precedes, distance, rank}
+use Rattle.lf_rules.specs.Choice.{Spot, MayGo, Precedes, distance, rank}
 use Rattle.lf_rules.proofs.Order.{same_spot}
 use Rattle.lf_rules.proofs.SiteLemmas.{one_of_four, rank_tells}
 use Rattle.lf_occupancy.specs.Floorplans.{IsOccupancyOf}
@@ -27,8 +27,8 @@ use Rattle.lf_legalize.specs.RowSearches.{IsBestAmong, IsOnRowIn, lifted_in}
 use Rattle.lf_legalize.specs.Levels.{AreLevels, HasBareLevel, IsFirstOrient, IsLevel, IsStandIn, MayStand}
 use Rattle.lf_legalize.proofs.LevelLemmas.{own_one, over_row}
 use Rattle.lf_legalize.proofs.RunLemmas.{heeded_at}
-use Rattle.lf_legalize.proofs.RowLegal.{filled, legal_is_free, legal_may, legal_y, reach, wide}
-use Rattle.lf_legalize.proofs.RowFree.{bottom_left, bottom_right, free_is_legal, free_is_on_row, free_place, spot_on}
+use Rattle.lf_legalize.proofs.RowLegal.{filled, may_go_is_free, legal_may, legal_y, reach, wide}
+use Rattle.lf_legalize.proofs.RowFree.{bottom_left, bottom_right, free_may_go, free_is_on_row, free_place, spot_on}
 
 -- ---- bounds
 
@@ -116,11 +116,11 @@ on_grid_of : (s x o : ℤ) (site : ℕ) → pos 0 <ℤ s → x -ℤ o ≡ pos si
 on_grid_of (pos n) x o site rising is = let none : 0 * n ≡ 0 = omega arith in omega (arith, ints, is, none)
 on_grid_of (negsuc n) x o site rising is = absurd (omega (arith, ints, rising))
 
--- a legal place is among those that are looked at
-pub legal_fits : (s : RowSearch) (own : ℕ) (bottom : Row) (window : Span) (lists : List (List Span)) (p : Spot) → slice_get s.frame.now.rows own ≡ Some bottom →
+-- a place where the cell may go is among those that are looked at
+pub may_go_fits : (s : RowSearch) (own : ℕ) (bottom : Row) (window : Span) (lists : List (List Span)) (p : Spot) → slice_get s.frame.now.rows own ≡ Some bottom →
     IsOccupancyOf s.frame.now s.cells.now s.occupancy.now → AreLevels s own bottom window s.height lists → IsOnRowIn s.frame.now s.size bottom window p →
-    IsLegalAt (lifted_in s) p → IsFit s bottom lists p.x
-legal_fits s own bottom window lists p there occupied levels on legal = record {
+    MayGo (lifted_in s) p → IsFit s bottom lists p.x
+may_go_fits s own bottom window lists p there occupied levels on may = record {
   on_grid = record {
     left = 0;
     right = on.bottom.site;
@@ -131,7 +131,7 @@ legal_fits s own bottom window lists p there occupied levels on legal = record {
       let less : k < s.height = omega (arith, known, inside) in
       subst (λ (spans : List Span). Any (λ t. IsWithin t s.size.x p.x) spans) (get_or_default lists k [] d inside)
       (within_of_lies s p.x (get_or lists k [])
-      (legal_is_free s own bottom window p k (get_or lists k []) there occupied on legal less (levels.each k less)));
+      (may_go_is_free s own bottom window p k (get_or lists k []) there occupied on may less (levels.each k less)));
 }
 
 pub of_none : {X : Type 0} (P : Type 0) (Q : X → Type 0) (found : Option X) → found ≡ None → MatchOption found P Q → P
@@ -140,9 +140,9 @@ of_none P Q (Some x) is h = absurd cc
 
 pub none_bare : (s : RowSearch) (own : ℕ) (bottom : Row) (window : Span) (p : Spot) → slice_get s.frame.now.rows own ≡ Some bottom →
     IsOccupancyOf s.frame.now s.cells.now s.occupancy.now → HasBareLevel s own bottom window → IsOnRowIn s.frame.now s.size bottom window p →
-    IsLegalAt (lifted_in s) p → ⊥
-none_bare s own bottom window p there occupied bare on legal =
-    any_nil (λ t. LiesIn (reach s p.x) t) (legal_is_free s own bottom window p bare.level [] there occupied on legal bare.within bare.bare)
+    MayGo (lifted_in s) p → ⊥
+none_bare s own bottom window p there occupied bare on may =
+    any_nil (λ t. LiesIn (reach s p.x) t) (may_go_is_free s own bottom window p bare.level [] there occupied on may bare.within bare.bare)
 
 -- of two places on one row the nearer one comes first, then the left one, then the one of lesser rank
 first_of : (target : Point) (a b : Spot) → a.y ≡ b.y → IsNoFarther target.x a.x b.x → (rank a.orient ≡ rank b.orient → a.orient ≡ b.orient) →
@@ -178,12 +178,12 @@ best_there s own bottom window lists o x there occupied levels first nearest =
     let free = free_place s own bottom window lists x there occupied levels nearest.fit in
     record {
       seen = free_is_on_row s own bottom window x o free;
-      legal = free_is_legal s own bottom window x o first.may free;
-      least = λ p on legal.
-          let may : MayStand s bottom p.orient = legal_may s bottom window p on legal in
+      may_go = free_may_go s own bottom window x o first.may free;
+      least = λ p on there_may.
+          let may : MayStand s bottom p.orient = legal_may s bottom window p on there_may.legal in
           let symmetry = (macro_of s.frame.now s.mac).symmetry in
           first_of s.target.now (spot_on bottom x o) p (sym (legal_y s bottom window p on))
-          (nearest.least p.x (legal_fits s own bottom window lists p there occupied levels on legal))
+          (nearest.least p.x (may_go_fits s own bottom window lists p there occupied levels on there_may))
           (rank_tells o p.orient (one_of_four symmetry o first.may.allowed) (one_of_four symmetry p.orient may.allowed))
           (first.least p.orient may);
     }

@@ -1,11 +1,11 @@
--- Where a cell's box is free at each level over a bottom row, the place is legal.
+-- Where a cell's box is free at each level over a bottom row, the cell may go.
 use Rattle.std.proofs.Common.{◌≡◌, ◌⊎◌, inl, inr, ℕ, zero, suc, ℤ, pos, negsuc, ◌+◌, ◌-◌, ◌*◌, ◌<◌, ◌≤◌, ◌%◌, ◌+ℤ◌, ◌-ℤ◌, ◌*ℤ◌, ◌≤ℤ◌, ◌<ℤ◌}
 use Rattle.std.proofs.Common.{List, [], Some, length, get_or, map, slice_get, refl, sym, ap, subst, ◌∙◌, arith, IsTrue}
 use Rattle.std.specs.Prelude.{All, Any, Contains}
 use Rattle.std.specs.Option.{option_map}
 use Rattle.std.proofs.Math.Nat.{mul-le-mul_right}
 use Rattle.std.proofs.lemmas.Int.{ints}
-use Rattle.std.proofs.lemmas.Option.{slice_get_within, get_or_from_slice_get}
+use Rattle.std.proofs.lemmas.Option.{slice_get-get_or, slice_get_within, get_or_from_slice_get}
 use Rattle.lf_units.proofs.Any.{any_mapped}
 use Rattle.lf_units.specs.declared.area.Rect.{Rect}
 use Rattle.lf_units.specs.Area.{Covers, SharesPoint}
@@ -19,14 +19,14 @@ use Rattle.lf_floorplan.specs.declared.frame.Frame.{Frame}
 use Rattle.lf_floorplan.specs.declared.parts.Row.{Row}
 use Rattle.lf_floorplan.specs.Rows.{row_area}
 use Rattle.lf_floorplan.specs.Boxes.{macro_of}
-use Rattle.lf_floorplan.specs.Ground.{StaysInGround, IsClear}
+use Rattle.lf_floorplan.specs.Ground.{StaysInGround, IsClear, MeetsSoft}
 use Rattle.lf_floorplan.specs.Standing.{Carries, IsBottomRow, IsCarried, IsSitesHigh, StandsOn, changed}
 use Rattle.lf_floorplan.proofs.StandingLemmas.{height_one, bottom_one}
 use Rattle.lf_segments.specs.declared.segment.Segment.{Segment}
 use Rattle.lf_segments.specs.Segments.{IsOpen}
 use Rattle.lf_gaps.specs.Gaps.{FitsRows}
 use Rattle.lf_rules.specs.Legality.{box_of as box_tried}
-use Rattle.lf_rules.specs.Choice.{Spot, IsLegalAt, trial_at}
+use Rattle.lf_rules.specs.Choice.{Spot, IsLegalAt, MayGo, trial_at}
 use Rattle.lf_rules.specs.Team.{box_in, boxes_beside}
 use Rattle.lf_rules.proofs.BesideLemmas.{beside_hold}
 use Rattle.lf_rules.proofs.LegalParts.{frame_kept, legal_by_parts}
@@ -34,13 +34,14 @@ use Rattle.lf_rules.proofs.SiteLemmas.{one_of_four}
 use Rattle.lf_cells.specs.Cells.{cells_of}
 use Rattle.lf_segments.specs.declared.strip.Strip.{Strip}
 use Rattle.lf_occupancy.specs.Occupied.{IsFreeOver, IsOther, IsStripOf}
-use Rattle.lf_segments.specs.Strips.{row_y, strip_of}
+use Rattle.lf_segments.specs.Strips.{IsNear, row_y, strip_of}
 use Rattle.lf_occupancy.specs.Floorplans.{IsOccupancyOf}
 use Rattle.lf_legalize.specs.declared.row_search.RowSearch.{RowSearch}
 use Rattle.lf_legalize.specs.Members.{member_of}
 use Rattle.lf_legalize.specs.RowSearches.{IsOnRowIn, lifted_in}
 use Rattle.lf_legalize.specs.Levels.{AreLevels, IsFreeOnOne, IsFreeOnRow, IsLevelRow, IsRowOfLevel, MayStand}
 use Rattle.lf_legalize.proofs.LevelLemmas.{open_over, same_row}
+use Rattle.lf_legalize.proofs.SoftLemmas.{point_soft, soft_over}
 use Rattle.lf_legalize.proofs.RowLegal.{upright_box, reach, filled, sites_high, box_is, wide, is_other, row_y_is, same_rail, none_high, level_of, IsAtLevel}
 
 -- ---- one level
@@ -294,6 +295,43 @@ is_apart s own bottom window x o free =
     (point_of s own bottom window x o shares.x shares.y free shares.in_first) record { low = shares.in_first.left; high = shares.in_first.right }
     (is_other s.frame.now s.cells.now s.occupancy.now s.id k m q free.occupied.boxes differ there placed) shares.in_second)
 
+-- nor is a soft blockage
+soft_at : (s : RowSearch) (own : ℕ) (bottom : Row) (window : Span) (x px py : ℤ) → IsOccupancyOf s.frame.now s.cells.now s.occupancy.now →
+    (p : IsPointOf s own bottom window x px py) → Holds (reach s x) px → Any (λ r. Covers r px py) s.frame.now.soft → ⊥
+soft_at s own bottom window x px py occupied p holds soft = by p.held.free.in_strip
+  where
+    f : Frame
+    f = s.frame.now
+
+    by : Any (λ g. IsStripOf p.held.number s.id.team g × IsFreeOver s.occupancy.now s.id g (reach s x)) s.occupancy.now.index.strips → ⊥
+    by (k, g, below, is, free) =
+        let here : slice_get s.occupancy.now.index.strips k ≡ Some g = slice_get-get_or s.occupancy.now.index.strips k g below ∙ ap (λ (z : Strip). Some z) is in
+        let spans = soft_over f s.occupancy.now.index k g occupied.index here in
+        let inside = free.1.within px holds in
+        let looked = p.held.free.within px holds in
+        let left = inside.low in
+        let right = inside.high in
+        let low = looked.low in
+        let high = looked.high in
+        let at : row_y f g.row ≡ p.held.row.y = ap (row_y f) free.0.in_row ∙ row_y_is f p.held.number p.held.row p.held.stands in
+        let first = spans.bottom in
+        let last = spans.top in
+        let from = p.from in
+        let to = p.to in
+        let near : IsNear p.held.number s.id.team window.lo window.hi g =
+        record { in_row = free.0.in_row; of_team = free.0.of_team; right = omega (arith, ints, low, right); left = omega (arith, ints, left, high) } in
+        point_soft f g (get_or s.occupancy.now.index.soft k []) (reach s x) px spans inside (p.held.free.off_soft k g here near) holds record {
+          y = py;
+          covers = record { left = left; right = right; bottom = omega (arith, ints, first, at, from); top = omega (arith, ints, last, at, to) };
+          soft = soft;
+        }
+
+off_soft : (s : RowSearch) (own : ℕ) (bottom : Row) (window : Span) (x : ℤ) (o : Orient) → IsFreePlace s own bottom window x →
+    MeetsSoft s.frame.now (upright_box s (spot_on bottom x o)) → ⊥
+off_soft s own bottom window x o free (m, r, below, is, shares) =
+    soft_at s own bottom window x shares.x shares.y free.occupied (point_of s own bottom window x o shares.x shares.y free shares.in_first)
+    record { low = shares.in_first.left; high = shares.in_first.right } (m, r, below, is, shares.in_second)
+
 -- ---- the rules
 
 -- the rules, of a box
@@ -360,9 +398,17 @@ pub free_is_on_row : (s : RowSearch) (own : ℕ) (bottom : Row) (window : Span) 
     IsOnRowIn s.frame.now s.size bottom window (spot_on bottom x o)
 free_is_on_row s own bottom window x o free = on_row_in s own bottom window x o free
 
-pub free_is_legal : (s : RowSearch) (own : ℕ) (bottom : Row) (window : Span) (x : ℤ) (o : Orient) → MayStand s bottom o → IsFreePlace s own bottom window x →
+free_is_legal : (s : RowSearch) (own : ℕ) (bottom : Row) (window : Span) (x : ℤ) (o : Orient) → MayStand s bottom o → IsFreePlace s own bottom window x →
     IsLegalAt (lifted_in s) (spot_on bottom x o)
 free_is_legal s own bottom window x o may free =
     let p = spot_on bottom x o in
     legal_of s p may.allowed
     (subst (KeepsAll s o) (sym (box_is s p (one_of_four (macro_of s.frame.now s.mac).symmetry o may.allowed))) (keeps_all s own bottom window x o may free))
+
+pub free_may_go : (s : RowSearch) (own : ℕ) (bottom : Row) (window : Span) (x : ℤ) (o : Orient) → MayStand s bottom o → IsFreePlace s own bottom window x →
+    MayGo (lifted_in s) (spot_on bottom x o)
+free_may_go s own bottom window x o may free = record {
+  legal = free_is_legal s own bottom window x o may free;
+  off_soft = subst (λ (box : Rect). MeetsSoft s.frame.now box → ⊥) (sym (box_is s (spot_on bottom x o) (one_of_four (macro_of s.frame.now s.mac).symmetry o may.allowed)))
+      (off_soft s own bottom window x o free);
+}

@@ -1,6 +1,6 @@
--- A place with a given bottom row is legal if and only if its box is free at each of its levels.
+-- Where a cell may go with a given bottom row, its box is free at each of its levels.
 use Rattle.std.proofs.Common.{◌≡◌, ◌⊎◌, inl, inr, ℕ, zero, suc, ℤ, pos, negsuc, ◌*◌, ◌<◌, ◌+ℤ◌, ◌*ℤ◌, ◌≤ℤ◌, ◌<ℤ◌}
-use Rattle.std.proofs.Common.{List, Option, Some, None, map, slice_get, refl, sym, ap, subst, ◌∙◌, arith}
+use Rattle.std.proofs.Common.{List, [], Option, Some, None, get_or, map, slice_get, refl, sym, ap, subst, ◌∙◌, arith}
 use Rattle.std.specs.Prelude.{All, Any, Contains}
 use Rattle.std.specs.Option.{option_map, option_and_then}
 use Rattle.std.proofs.Math.Nat.{suc-mul}
@@ -14,21 +14,21 @@ use Rattle.lf_orient.specs.declared.Orient.{Orient}
 use Rattle.lf_orient.specs.declared.Rail.{Rail}
 use Rattle.lf_orient.specs.Orientation.{rail_below}
 use Rattle.lf_spans.specs.declared.span.Span.{Span}
-use Rattle.lf_spans.specs.Spans.{IsFilled, LiesIn, LiesInOne}
+use Rattle.lf_spans.specs.Spans.{Holds, IsApart, IsFilled, LiesIn, LiesInOne}
 use Rattle.lf_spans.proofs.Anys.{any_weaker}
 use Rattle.lf_floorplan.specs.declared.frame.Frame.{Frame}
 use Rattle.lf_floorplan.specs.declared.parts.Row.{Row}
 use Rattle.lf_floorplan.specs.declared.place.Place.{Place}
 use Rattle.lf_floorplan.specs.Boxes.{macro_of, size_of}
 use Rattle.lf_floorplan.specs.Sizes.{box_at as box_sized, turned}
-use Rattle.lf_floorplan.specs.Ground.{StaysInGround, IsClear}
+use Rattle.lf_floorplan.specs.Ground.{StaysInGround, IsClear, MeetsSoft}
 use Rattle.lf_floorplan.specs.Standing.{Carries, IsBottomRow, IsSitesHigh, StandsOn, changed}
 use Rattle.lf_segments.specs.declared.segment.Segment.{Segment}
 use Rattle.lf_segments.specs.Segments.{IsOf, LiesInSegment}
 use Rattle.lf_segments.proofs.LawLemmas.{segments_hold}
 use Rattle.lf_rules.specs.Legality.{IsOnRail, IsOriented}
 use Rattle.lf_rules.specs.Legality.{box_of as box_tried}
-use Rattle.lf_rules.specs.Choice.{Spot, IsLegalAt, spot_of, trial_at}
+use Rattle.lf_rules.specs.Choice.{Spot, IsLegalAt, MayGo, spot_of, trial_at}
 use Rattle.lf_rules.specs.Team.{Member, box_in, boxes_beside}
 use Rattle.lf_rules.proofs.BesideLemmas.{beside_each}
 use Rattle.lf_rules.proofs.LegalParts.{frame_meant, legal_by_parts}
@@ -38,12 +38,14 @@ use Rattle.lf_cells.specs.declared.cell.CellId.{CellId}
 use Rattle.lf_cells.specs.Cells.{Cells, cells_of}
 use Rattle.lf_segments.specs.declared.strip.Strip.{Strip}
 use Rattle.lf_occupancy.specs.Occupied.{Occupied, IsFreeOver, IsOther, IsStripOf, boxes_of, over}
-use Rattle.lf_segments.specs.Strips.{row_y, strip_of}
+use Rattle.lf_segments.specs.Strips.{IsNear, row_y, strip_of}
 use Rattle.lf_occupancy.specs.Floorplans.{HoldsCells, IsOccupancyOf, box_of}
 use Rattle.lf_legalize.specs.declared.row_search.RowSearch.{RowSearch}
 use Rattle.lf_legalize.specs.Members.{member_of}
 use Rattle.lf_legalize.specs.RowSearches.{IsOnRowIn, lifted_in}
 use Rattle.lf_legalize.specs.Levels.{IsFreeOnRow, IsLevel, MayStand}
+use Rattle.lf_legalize.proofs.LevelLemmas.{own_one}
+use Rattle.lf_legalize.proofs.SoftLemmas.{soft_over}
 
 -- ---- levels of a box
 
@@ -183,26 +185,27 @@ is_other f table o id k m p held differ there placed =
 
 -- ---- from the rules to the levels
 
--- what the rules say of the box of a legal place
-record IsLegalBox (s : RowSearch) (box : Rect) : Type 0 where
+-- what is known of the box of a place where the cell may go
+record IsGoodBox (s : RowSearch) (box : Rect) : Type 0 where
   stands : StandsOn s.frame.now box
   ground : StaysInGround s.frame.now s.id.team box
   clear : IsClear s.frame.now box
   apart : All (λ b. SharesPoint box b.rect → ⊥) (boxes_beside s.frame.now (map member_of (cells_of s.cells.now s.id.team)) s.id.own)
+  off_soft : MeetsSoft s.frame.now box → ⊥
 
-legal_box : (s : RowSearch) (p : Spot) → IsLegalAt (lifted_in s) p → IsLegalBox s (upright_box s p)
-legal_box s p legal =
-    let parts = (legal_by_parts (trial_at (lifted_in s) p)).0 legal in
+good_box : (s : RowSearch) (p : Spot) → MayGo (lifted_in s) p → IsGoodBox s (upright_box s p)
+good_box s p may =
+    let parts = (legal_by_parts (trial_at (lifted_in s) p)).0 may.legal in
     let frame = frame_meant (trial_at (lifted_in s) p) parts.0 in
-    subst (IsLegalBox s) (box_is s p (legal_upright (lifted_in s) p legal))
-    record { stands = frame.stands; ground = frame.ground; clear = frame.clear; apart = parts.1 }
+    subst (IsGoodBox s) (box_is s p (legal_upright (lifted_in s) p may.legal))
+    record { stands = frame.stands; ground = frame.ground; clear = frame.clear; apart = parts.1; off_soft = may.off_soft }
 
 pub row_y_is : (f : Frame) (n : ℕ) (r : Row) → slice_get f.rows n ≡ Some r → row_y f n ≡ r.y
 row_y_is f n r there = rw there refl
 
 -- a row that carries the box is free over its reach
 free_on_carrier : (s : RowSearch) (bottom : Row) (window : Span) (p : Spot) (j n : ℕ) (r : Row) → IsOccupancyOf s.frame.now s.cells.now s.occupancy.now →
-    IsOnRowIn s.frame.now s.size bottom window p → IsLegalBox s (upright_box s p) → j < s.height → slice_get s.frame.now.rows n ≡ Some r →
+    IsOnRowIn s.frame.now s.size bottom window p → IsGoodBox s (upright_box s p) → j < s.height → slice_get s.frame.now.rows n ≡ Some r →
     Carries s.frame.now (upright_box s p) bottom j r → IsFreeOnRow s.occupancy.now s.id window n (reach s p.x)
 free_on_carrier s bottom window p j n r held on legal less there carries = record {
   within = λ x h. record {
@@ -212,6 +215,7 @@ free_on_carrier s bottom window p j n r held on legal less there carries = recor
   in_strip = subst (Any Free) (sym held.index.strips)
       (any_map (strip_of f) Free s.occupancy.now.index.segments
       (any_weaker (λ g. IsOf n s.id.team g × LiesIn (reach s p.x) g.span) (λ g. Free (strip_of f g)) free_over s.occupancy.now.index.segments lies));
+  off_soft = apart_at;
 }
   where
     f : Frame
@@ -224,23 +228,48 @@ free_on_carrier s bottom window p j n r held on legal less there carries = recor
     lies = segments_hold f f.obstacles s.occupancy.now.index.segments s.id.team (upright_box s p) held.index.segments legal.stands (filled s p.x) legal.ground legal.clear
         s.height bottom j n r (sites_high s p) on.bottom less there carries
 
-    point : (g : Segment) (x y : ℤ) → g.row ≡ n → Covers (over (strip_of f g) (reach s p.x)) x y → Covers (upright_box s p) x y
-    point g x y of covers =
-        let q : ℤ = f.pitch.y in
+    q : ℤ
+    q = f.pitch.y
+
+    in_row : (x y : ℤ) → Holds (reach s p.x) x → r.y ≤ℤ y → y <ℤ (r.y +ℤ q) → Covers (upright_box s p) x y
+    in_row x y holds from to =
         let up : pos 0 <ℤ q = f.pitch_whole.high in
         let low = above q up j in
         let top = rises q up j s.height less in
-        let at : row_y f g.row ≡ r.y = ap (row_y f) of ∙ row_y_is f n r there in
         let level : r.y ≡ p.y +ℤ (pos j *ℤ q) = carries.at_row.at_level in
         let size : s.size.y ≡ pos s.height *ℤ q = s.high in
+        record {
+          left = holds.low;
+          right = holds.high;
+          bottom = omega (arith, ints, low, level, from);
+          top = omega (arith, ints, top, level, size, to);
+        }
+
+    level_is : (row : ℕ) → row ≡ n → row_y f row ≡ r.y
+    level_is row of = ap (row_y f) of ∙ row_y_is f n r there
+
+    point : (g : Segment) (x y : ℤ) → g.row ≡ n → Covers (over (strip_of f g) (reach s p.x)) x y → Covers (upright_box s p) x y
+    point g x y of covers =
+        let at = level_is g.row of in
         let from : row_y f g.row ≤ℤ y = covers.bottom in
         let to : y <ℤ (row_y f g.row +ℤ q) = covers.top in
-        record {
-          left = covers.left;
-          right = covers.right;
-          bottom = omega (arith, ints, low, at, level, from);
-          top = omega (arith, ints, top, at, level, size, to);
-        }
+        in_row x y record { low = covers.left; high = covers.right } (omega (arith, ints, at, from)) (omega (arith, ints, at, to))
+
+    apart_at : (k : ℕ) (g : Strip) → slice_get s.occupancy.now.index.strips k ≡ Some g → IsNear n s.id.team window.lo window.hi g →
+        IsApart (get_or s.occupancy.now.index.soft k []) (reach s p.x)
+    apart_at k g here near i d below x in_reach in_soft =
+        let soft : List Span = get_or s.occupancy.now.index.soft k [] in
+        let spans = soft_over f s.occupancy.now.index k g held.index here in
+        let whole = (spans.exact (get_or soft i d) (spans.rising.filled i d below)).0 (own_one soft i d below) in
+        let at = whole.1 x in_soft in
+        let level = level_is g.row near.in_row in
+        let bottom = spans.bottom in
+        let top = spans.top in
+        let from = at.covers.bottom in
+        let to = at.covers.top in
+        let inside = in_row x at.y in_reach (omega (arith, ints, level, bottom, from)) (omega (arith, ints, level, top, to)) in
+        legal.off_soft (any_weaker (λ z. Covers z x at.y) (λ z. SharesPoint (upright_box s p) z)
+        (λ z covers. record { x = x; y = at.y; in_first = inside; in_second = covers }) f.soft at.soft)
 
     free_over : (g : Segment) → IsOf n s.id.team g × LiesIn (reach s p.x) g.span → Free (strip_of f g)
     free_over g both = (
@@ -265,9 +294,9 @@ same_rail (Some r) = refl
 row_at : (f : Frame) (r : Row) → Contains f.rows r → (n : ℕ) × (slice_get f.rows n ≡ Some r)
 row_at f r (n, within, is) = (n, slice_get-get_or f.rows n r within ∙ ap (λ (t : Row). Some t) is)
 
--- at each level some row is free over the reach of a legal place
+-- at each level some row is free over the reach of a place where the cell may go
 free_at_level : (s : RowSearch) (own : ℕ) (bottom : Row) (window : Span) (p : Spot) (j : ℕ) (free : List Span) → slice_get s.frame.now.rows own ≡ Some bottom →
-    IsOccupancyOf s.frame.now s.cells.now s.occupancy.now → IsOnRowIn s.frame.now s.size bottom window p → IsLegalBox s (upright_box s p) → j < s.height →
+    IsOccupancyOf s.frame.now s.cells.now s.occupancy.now → IsOnRowIn s.frame.now s.size bottom window p → IsGoodBox s (upright_box s p) → j < s.height →
     IsLevel s own bottom window j free → LiesInOne free (reach s p.x)
 free_at_level s own bottom window p zero free there held on legal less level =
     (level.exact (reach s p.x) (filled s p.x)).1 record {
@@ -291,11 +320,11 @@ free_at_level s own bottom window p (suc j) free there held on legal less level 
       free = free_on_carrier s bottom window p (suc j) at.0 r held on legal less at.1 carries;
     }
 
-pub legal_is_free : (s : RowSearch) (own : ℕ) (bottom : Row) (window : Span) (p : Spot) (j : ℕ) (free : List Span) →
+pub may_go_is_free : (s : RowSearch) (own : ℕ) (bottom : Row) (window : Span) (p : Spot) (j : ℕ) (free : List Span) →
     slice_get s.frame.now.rows own ≡ Some bottom → IsOccupancyOf s.frame.now s.cells.now s.occupancy.now → IsOnRowIn s.frame.now s.size bottom window p →
-    IsLegalAt (lifted_in s) p → j < s.height → IsLevel s own bottom window j free → LiesInOne free (reach s p.x)
-legal_is_free s own bottom window p j free there held on legal less level =
-    free_at_level s own bottom window p j free there held on (legal_box s p legal) less level
+    MayGo (lifted_in s) p → j < s.height → IsLevel s own bottom window j free → LiesInOne free (reach s p.x)
+may_go_is_free s own bottom window p j free there held on may less level =
+    free_at_level s own bottom window p j free there held on (good_box s p may) less level
 
 -- a legal place with this bottom row has the row's y
 pub legal_y : (s : RowSearch) (bottom : Row) (window : Span) (p : Spot) → IsOnRowIn s.frame.now s.size bottom window p → p.y ≡ bottom.y

@@ -3,7 +3,7 @@ use Rattle.std.specs.Prelude.{◌≡◌, ◌↔◌, ℕ, zero, suc, ℤ, pos, �
 use Rattle.std.specs.Prelude.{length, slice_get, slice_index_or}
 use Rattle.std.specs.Option.{option_map}
 use Rattle.lf_spans.specs.declared.span.Span.{Span}
-use Rattle.lf_spans.specs.Spans.{IsFilled, IsRising, LiesIn, LiesInOne}
+use Rattle.lf_spans.specs.Spans.{IsApart, IsFilled, IsRising, LiesIn, LiesInOne}
 use Rattle.lf_spans.specs.Grids.{IsNoFarther, IsBounded}
 use Rattle.lf_orient.specs.declared.Orient.{Orient}
 use Rattle.lf_orient.specs.Orientation.{is_allowed, EqualUnder, rail_below}
@@ -12,6 +12,8 @@ use Rattle.lf_floorplan.specs.declared.parts.Row.{Row}
 use Rattle.lf_floorplan.specs.Bounds.{IsDefNumber}
 use Rattle.lf_floorplan.specs.Boxes.{macro_of}
 use Rattle.lf_floorplan.specs.Standing.{changed}
+use Rattle.lf_segments.specs.declared.strip.Strip.{Strip}
+use Rattle.lf_segments.specs.Strips.{IsNear}
 use Rattle.lf_rules.specs.Choice.{rank}
 use Rattle.lf_cells.specs.declared.cell.CellId.{CellId}
 use Rattle.lf_occupancy.specs.Occupied.{Occupied, IsFreeOver, IsStripOf}
@@ -35,10 +37,23 @@ abbrev pub IsRowOfLevel : Frame → ℕ → Row → ℕ → ℕ → Type 0
 IsRowOfLevel f own bottom zero n = n ≡ own
 IsRowOfLevel f own bottom (suc j) n = IsLevelRow f bottom (suc j) n
 
--- the span lies in the window and is free for the cell in one strip of the row of this number
+-- the span lies in the window, is free for the cell in one strip of the row of this number, and shares no number with the soft spans
+-- of the row's strips near the window
 pub record IsFreeOnRow (o : Occupied) (id : CellId) (window : Span) (n : ℕ) (s : Span) : Type 0 where
   pub within : LiesIn s window
   pub in_strip : Any (λ g. IsStripOf n id.team g × IsFreeOver o id g s) o.index.strips
+  pub off_soft : (k : ℕ) (g : Strip) → slice_get o.index.strips k ≡ Some g → IsNear n id.team window.lo window.hi g → IsApart (slice_index_or o.index.soft k []) s
+
+-- those spans of a row: a span that holds a number lies in one of them if and only if it is so free
+pub record IsOpenInRow (o : Occupied) (row : ℕ) (id : CellId) (window : Span) (open_spans : List Span) : Type 0 where
+  pub rising : IsRising open_spans
+  pub exact : (s : Span) → IsFilled s → (LiesInOne open_spans s ↔ IsFreeOnRow o id window row s)
+
+-- the free spans without the soft ones of the strips from start on and below end
+pub record AreWithoutSoft (soft : List (List Span)) (start end : ℕ) (free left : List Span) : Type 0 where
+  pub rising : IsRising left
+  pub exact : (s : Span) → IsFilled s →
+      (LiesInOne left s ↔ (LiesInOne free s × ((k : ℕ) → start ≤ k → k < end → IsApart (slice_index_or soft k []) s)))
 
 -- the span is so free on one of these rows
 pub record IsFreeOnOne (Rows : ℕ → Type 0) (o : Occupied) (id : CellId) (window s : Span) : Type 0 where

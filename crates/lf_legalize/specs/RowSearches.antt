@@ -6,7 +6,7 @@ use Rattle.lf_floorplan.specs.declared.frame.Frame.{Frame}
 use Rattle.lf_floorplan.specs.declared.parts.Row.{Row}
 use Rattle.lf_floorplan.specs.Sizes.{box_at}
 use Rattle.lf_floorplan.specs.Standing.{IsBottomRow}
-use Rattle.lf_rules.specs.Choice.{Spot, Lifted, IsLegalAt, Precedes}
+use Rattle.lf_rules.specs.Choice.{Spot, Lifted, MayGo, Precedes}
 use Rattle.lf_rules.specs.Team.{lifted_from}
 use Rattle.lf_cells.specs.Cells.{cells_of}
 use Rattle.lf_legalize.specs.Members.{member_of}
@@ -22,12 +22,12 @@ pub record IsOnRowIn (f : Frame) (size : Point) (r : Row) (window : Span) (p : S
   pub left : window.lo ≤ℤ p.x
   pub right : (p.x +ℤ size.x) ≤ℤ window.hi
 
--- a legal place, which no other legal one of those that are looked at precedes
+-- a place where the search may put the cell, which no other such one of those that are looked at precedes
 pub record IsBestAmong (Seen : Spot → Type 0) (c : Lifted) (target : Point) (best : Spot) : Type 0 where
   pub seen : Seen best
-  pub legal : IsLegalAt c best
-  pub least : (p : Spot) → Seen p → IsLegalAt c p → (p ≡ best) ⊎ Precedes target best p
+  pub may_go : MayGo c best
+  pub least : (p : Spot) → Seen p → MayGo c p → (p ≡ best) ⊎ Precedes target best p
 
--- the result of looking at some places: the best of them, or nothing only if none of them is legal
+-- the result of looking at some places: the best of them, or nothing only if it may put the cell at none of them
 abbrev pub IsChoiceAmong : (Spot → Type 0) → Lifted → Point → Option Spot → Type 0
-IsChoiceAmong Seen c target found = MatchOption found ((p : Spot) → Seen p → IsLegalAt c p → ⊥) (λ best. IsBestAmong Seen c target best)
+IsChoiceAmong Seen c target found = MatchOption found ((p : Spot) → Seen p → MayGo c p → ⊥) (λ best. IsBestAmong Seen c target best)

@@ -1,4 +1,4 @@
-//! What is free for a cell over a bottom row, level by level.
+//! What is free for a cell over a bottom row, off soft blockages, level by level.
 
 ghost use Rattle.std.specs.Prelude.{◌≡◌, ◌↔◌, ◌<◌, ◌≤◌, ◌+ℤ◌, ◌*ℤ◌, ◌≤ℤ◌, ◌<ℤ◌, IfOk, IsTrue, MatchOption, OnOk, Some, length, map, negsuc, pos, slice_get};
 ghost use Rattle.std.specs.Option.{option_map};
@@ -10,6 +10,7 @@ ghost use Rattle.lf_occupancy.specs.Floorplans.{IsOccupancyOf};
 ghost use Rattle.lf_legalize.specs.Levels.{AddsRow, AreFreeOn, AreLevels, HasBareLevel, IsLevel, IsLevelRow};
 
 use crate::row_search::{RowSearch, rows_of};
+use crate::soft::open_in_row;
 use lf_floorplan::Row;
 use lf_orient::{Rail, opposite, row_rail};
 use lf_segments::RowEntry;
@@ -72,6 +73,7 @@ fn push_row(
     number: usize,
     spans: &mut Vec<Span>,
 ) -> Result<(), AllocError>
+    requires held { IsOccupancyOf search.now.frame.now search.now.cells.now search.now.occupancy.now }
     requires within { number < length search.now.frame.now.rows }
     requires low { negsuc 4611686018427387903 ≤ℤ bottom.now.window.now.lo }
     ensures { OnOk result (AddsRow search.now bottom.now.row.now level number bottom.now.window.now spans.old.items spans.new.items) }
@@ -80,9 +82,7 @@ fn push_row(
     if !is_railed(bottom.row, level, row) {
         return Ok(());
     }
-    let free = search
-        .occupancy
-        .free_in_row(alloc, number, search.id, bottom.window)?;
+    let free = open_in_row(alloc, search, number, bottom.window)?;
     spans.extend_from_slice(free.as_slice())?;
     Ok(())
 }
@@ -121,9 +121,7 @@ fn free_at(
     ensures { IfOk result (λ free. IsLevel search.now bottom.now.number bottom.now.row.now bottom.now.window.now level free.items) }
 {
     if level == 0 {
-        return search
-            .occupancy
-            .free_in_row(alloc, bottom.number, search.id, bottom.window);
+        return open_in_row(alloc, search, bottom.number, bottom.window);
     }
     free_above(alloc, search, bottom, level)
 }

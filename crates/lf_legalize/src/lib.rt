@@ -1,4 +1,4 @@
-//! The best place of a cell: of all places that are legal for it, the one of least key for a target.
+//! The best place of a cell: of all places that are legal for it and off soft blockages, the one of least key for a target.
 #![tactic(auto)]
 
 mod extent;
@@ -13,6 +13,7 @@ mod reach;
 mod row_search;
 mod search;
 mod seeker;
+mod soft;
 mod target;
 
 pub use index::IndexSeeker;

@@ -3,7 +3,7 @@
 ghost use Rattle.std.specs.Prelude.{◌≡◌, ◌↔◌, ◌⊎◌, ◌≤◌, ◌<◌, ◌≤ℤ◌, ◌<ℤ◌, IfOk, IsTrue, Some, length, negsuc, option_map, pos, slice_get};
 ghost use Rattle.lf_floorplan.specs.declared.parts.Row.{Row};
 ghost use Rattle.lf_floorplan.specs.Rows.{IsHeeded, row_area};
-ghost use Rattle.lf_rules.specs.Choice.{IsChoice, IsLegalAt, Spot, spot_of};
+ghost use Rattle.lf_rules.specs.Choice.{IsChoice, MayGo, Spot, spot_of};
 ghost use Rattle.lf_segments.specs.RowsByY.{IsEntryOf};
 ghost use Rattle.lf_occupancy.specs.Floorplans.{IsOccupancyOf};
 ghost use Rattle.lf_legalize.specs.Extents.{IsNearDefPoint, IsOnRow, IsWithin, LooksNear};
@@ -75,8 +75,8 @@ fn with_row(
     }
 }
 
-/// The best of the places that are at most `reach` away from the target; none if none of them is
-/// legal.
+/// The best of the places that are at most `reach` away from the target; none if the cell may go to none
+/// of them.
 fn best_within(
     alloc: Global,
     search: &RowSearch<'_>,
@@ -99,7 +99,7 @@ fn best_within(
     Ok(best)
 }
 
-/// The best place of the cell, if no legal one is farther from the target than `farthest`.
+/// The best place of the cell, if none where it may go is farther from the target than `farthest`.
 ///
 /// It first looks at places less than a row's height away, which lie on the row of the target's y if there is one, and
 /// then at ones up to twice as far, until there is one.
@@ -111,7 +111,7 @@ pub(crate) fn nearest(
     requires held { IsOccupancyOf search.now.frame.now search.now.cells.now search.now.occupancy.now }
     requires near { IsNearDefPoint search.now.target.now }
     requires small { farthest ≤ 68719476736 }
-    requires all { (p : Spot) → IsLegalAt (lifted_in search.now) p → IsWithin search.now.target.now farthest p }
+    requires all { (p : Spot) → MayGo (lifted_in search.now) p → IsWithin search.now.target.now farthest p }
     ensures { IfOk result (λ found. IsChoice (lifted_in search.now) search.now.target.now (option_map spot_of found)) }
 {
     let mut reach = (search.frame.pitch.y as u64).max(2) - 1;

@@ -157,7 +157,7 @@ fn best_at(
 }
 
 /// The best place of the cell on this row as its bottom row, of the places at which its box lies over
-/// the window; none if none of them is legal. `Err` if an allocation fails.
+/// the window; none if the cell may go to none of them. `Err` if an allocation fails.
 pub(crate) fn best_on_row(
     alloc: Global,
     search: &RowSearch<'_>,

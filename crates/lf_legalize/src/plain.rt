@@ -4,7 +4,7 @@ ghost use Rattle.std.specs.Prelude.{◌≡◌, ◌↔◌, ◌+ℤ◌, ◌*ℤ◌
 ghost use Rattle.std.specs.Option.{option_map};
 ghost use Rattle.lf_floorplan.specs.Boxes.{IsSized};
 ghost use Rattle.lf_floorplan.specs.Rows.{IsHeeded};
-ghost use Rattle.lf_rules.specs.Choice.{spot_of, IsChoice, IsLegalAt};
+ghost use Rattle.lf_rules.specs.Choice.{spot_of, IsChoice, IsLegalAt, MayGo};
 ghost use Rattle.lf_rules.specs.Legalizer.{Legalizer};
 ghost use Rattle.lf_rules.proofs.Looking.{IsAtSite, IsOnSites, spot_at};
 ghost use Rattle.lf_legalize.specs.Lifting.{lifted};
@@ -14,7 +14,7 @@ use crate::reach::better;
 use crate::search::Search;
 use lf_floorplan::{Frame, Macro, Place, Row};
 use lf_orient::Orient;
-use lf_rules::{Placed, first_broken};
+use lf_rules::{Placed, box_of, first_broken, meets_soft};
 use lf_units::Point;
 
 /// Whether the place is legal for the cell.
@@ -24,11 +24,22 @@ fn is_legal(search: &Search<'_>, place: &Place) -> bool
     first_broken(search.frame, search.team, search.mac, place, search.others).is_none()
 }
 
+/// Whether the search may put the cell at the place: it is legal, and the cell's box there keeps clear of soft blockages.
+fn may_go(search: &Search<'_>, place: &Place) -> bool
+    ensures { IsTrue result ↔ MayGo (cell_of search.now) (spot_of place.now) }
+{
+    let rect = box_of(search.frame, search.mac, place);
+    if meets_soft(search.frame, &rect) {
+        return false;
+    }
+    is_legal(search, place)
+}
+
 /// The best place so far, after looking also at this one.
 fn with_place(search: &Search<'_>, best: Option<Place>, place: Place) -> Option<Place>
     ensures { LooksAt (λ p. p ≡ spot_of place) search.now best result }
 {
-    if !is_legal(search, &place) {
+    if !may_go(search, &place) {
         return best;
     }
     better(search.target, best, place)
@@ -83,14 +94,14 @@ fn with_row(search: &Search<'_>, best: Option<Place>, row: &Row) -> Option<Place
 }
 
 /// The best place of a cell for a target: of all places that are legal for it beside the team's other
-/// placed cells, the one of least key; none if no place is legal.
+/// placed cells, and at which its box shares no point with a soft blockage, the one of least key; none if there is no such place.
 ///
 /// `team` is a fence's position in the frame, or the number of fences for the ground team. `others`
 /// are the team's other placed cells. The key is that of `precedes`; no two legal places have the same
 /// key, so there is one best place at most. The target may be any point. It allocates nothing.
 ///
 /// It tries each orientation on every site of every row: the time grows as the number of sites times
-/// that of the rows, obstacles and other cells. Faster searches are compared with it.
+/// that of the rows, obstacles, soft blockages and other cells. Faster searches are compared with it.
 pub fn best_place(
     frame: &Frame,
     team: usize,

@@ -20,9 +20,10 @@ use std::alloc::{AllocError, Global};
 /// how long they take.
 pub trait Seeker {
     /// The best place of a cell for a target: the cell is taken away from its place, and of all
-    /// places that are team-legal beside the team's other placed cells it is the one of least key.
+    /// places that are team-legal beside the team's other placed cells, and at which its box shares no point with a soft
+    /// blockage, it is the one of least key.
     ///
-    /// None if no place is team-legal, or there is no such cell. `Err` if an allocation fails.
+    /// None if there is no such place, or no such cell. `Err` if an allocation fails.
     /// The target may be any point, in database units.
     fn seek(
         &self,

@@ -1,10 +1,10 @@
--- Where it is settled which places are legal, there is a choice.
+-- Where it is settled at which places the cell may go, there is a choice.
 use Rattle.std.proofs.Common.{◌≡◌, ◌⊎◌, ℕ, zero, suc, ◌<◌, ◌≤◌, List, [], ◌∷◌, length, Option, Some, None, inl, inr, refl, sym, subst, arith, slice_get}
 use Rattle.lf_units.specs.declared.area.Point.{Point}
 use Rattle.lf_orient.specs.declared.Orient.TheVariants.{N, S, FN, FS}
 use Rattle.lf_floorplan.specs.declared.parts.Row.{Row}
 use Rattle.lf_floorplan.specs.Boxes.{IsSized}
-use Rattle.lf_rules.specs.Choice.{Spot, Lifted, IsLegalAt, IsChoice, Precedes, distance, rank}
+use Rattle.lf_rules.specs.Choice.{Spot, Lifted, MayGo, IsChoice, Precedes, distance, rank}
 use Rattle.lf_rules.proofs.Looking.{LooksAt, IsAtSite, IsOnSites, IsOnRows, spot_at, passed_over, taken_first, taken, left, idle}
 use Rattle.lf_rules.proofs.Order.{ordered, through, not_itself, by_rank}
 use Rattle.lf_rules.proofs.SiteLemmas.{all_four, next_site, next_row, chosen}
@@ -43,9 +43,9 @@ decided target p q = by_distance order
     ]
 
 abbrev Settled : Lifted → Type 0
-Settled cell = (p : Spot) → IsLegalAt cell p ⊎ (IsLegalAt cell p → ⊥)
+Settled cell = (p : Spot) → MayGo cell p ⊎ (MayGo cell p → ⊥)
 
-one_more : (cell : Lifted) (target : Point) (best : Option Spot) (s : Spot) → IsLegalAt cell s ⊎ (IsLegalAt cell s → ⊥) → (new : Option Spot) × LooksAt (λ p. p ≡ s) cell target best new
+one_more : (cell : Lifted) (target : Point) (best : Option Spot) (s : Spot) → MayGo cell s ⊎ (MayGo cell s → ⊥) → (new : Option Spot) × LooksAt (λ p. p ≡ s) cell target best new
 one_more cell target best s (inr not_so) = (best, passed_over cell target best s not_so)
 one_more cell target None s (inl is) = (Some s, taken_first cell target s is)
 one_more cell target (Some b) s (inl is) = elim (decided target s b) [

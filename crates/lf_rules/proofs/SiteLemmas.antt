@@ -13,7 +13,7 @@ use Rattle.lf_rules.specs.declared.rule.Rule.TheVariants.{Row as RowRule, Orient
 use Rattle.lf_floorplan.specs.Boxes.{IsSized, size_of}
 use Rattle.lf_floorplan.specs.Sizes.{turned}
 use Rattle.lf_rules.specs.Legality.{Holds}
-use Rattle.lf_rules.specs.Choice.{Spot, Lifted, IsLegalAt, IsChoice, IsUpright, trial_at, rank}
+use Rattle.lf_rules.specs.Choice.{Spot, Lifted, IsLegalAt, MayGo, IsChoice, IsUpright, trial_at, rank}
 use Rattle.lf_floorplan.proofs.SizeBounds.{IsSmall, small_pitch, turned_small, sized_pitch}
 use Rattle.lf_rules.proofs.Looking.{LooksAt, IsAtSite, IsOnSites, IsOnRows, spot_at, onward}
 use Rattle.lf_rules.proofs.Order.{same_spot, compared}
@@ -51,10 +51,10 @@ one_of_four s FE t = absurd cc
 pub legal_upright : (cell : Lifted) (p : Spot) → IsLegalAt cell p → OneOfFour p.orient
 legal_upright cell p legal = let held : Holds (trial_at cell p) OrientRule = legal OrientRule in one_of_four cell.mac.symmetry p.orient held.0
 
--- a legal place on a site is one of the four there
-pub which : (cell : Lifted) (pitch : Point) (r : Row) (site : ℕ) (p : Spot) → IsAtSite pitch r site p → IsLegalAt cell p →
+-- a place on a site where the cell may go is one of the four there
+pub which : (cell : Lifted) (pitch : Point) (r : Row) (site : ℕ) (p : Spot) → IsAtSite pitch r site p → MayGo cell p →
     (p ≡ spot_at pitch r site N) ⊎ ((p ≡ spot_at pitch r site S) ⊎ ((p ≡ spot_at pitch r site FN) ⊎ (p ≡ spot_at pitch r site FS)))
-which cell pitch r site p at legal = elim (legal_upright cell p legal) [
+which cell pitch r site p at may = elim (legal_upright cell p may.legal) [
   | inl n ↦ inl (same_spot p (spot_at pitch r site N) at.x_is at.y_is n)
   | inr rest ↦ elim rest [
     | inl s ↦ inr (inl (same_spot p (spot_at pitch r site S) at.x_is at.y_is s))
@@ -75,7 +75,7 @@ all_four cell target pitch r site a b c d e n s fn fs is_n is_s is_fn is_fs l1 l
     let last = onward (λ p. p ≡ fn) (λ p. p ≡ fs) (λ p. (p ≡ fn) ⊎ (p ≡ fs)) cell target c d e (λ p h l. h) l3 l4 in
     let later = onward (λ p. p ≡ s) (λ p. (p ≡ fn) ⊎ (p ≡ fs)) (λ p. (p ≡ s) ⊎ ((p ≡ fn) ⊎ (p ≡ fs))) cell target b c e (λ p h l. h) l2 last in
     onward (λ p. p ≡ n) (λ p. (p ≡ s) ⊎ ((p ≡ fn) ⊎ (p ≡ fs))) (IsAtSite pitch r site) cell target a b e
-    (λ p at legal. rw (is_n, is_s, is_fn, is_fs) (which cell pitch r site p at legal)) l1 later
+    (λ p at may. rw (is_n, is_s, is_fn, is_fs) (which cell pitch r site p at may)) l1 later
 
 -- one more site of a row
 pub next_site : (cell : Lifted) (target pitch : Point) (r : Row) (site : ℕ) (a b c : Option Spot) →
@@ -84,8 +84,8 @@ pub next_site : (cell : Lifted) (target pitch : Point) (r : Row) (site : ℕ) (a
 next_site cell target pitch r site a b c l1 l2 =
     onward (IsOnSites pitch r site) (IsAtSite pitch r site) (IsOnSites pitch r (site + 1)) cell target a b c split l1 l2
   where
-    split : (p : Spot) → IsOnSites pitch r (site + 1) p → IsLegalAt cell p → IsOnSites pitch r site p ⊎ IsAtSite pitch r site p
-    split p on legal =
+    split : (p : Spot) → IsOnSites pitch r (site + 1) p → MayGo cell p → IsOnSites pitch r site p ⊎ IsAtSite pitch r site p
+    split p on may =
         let within = on.within in
         let order : (on.site < site) ⊎ (on.site ≡ site) = grind arith in
         elim order [
@@ -100,8 +100,8 @@ pub next_row : (cell : Lifted) (target pitch : Point) (rows : List Row) (n : ℕ
 next_row cell target pitch rows n r a b c there l1 l2 =
     onward (IsOnRows pitch rows n) (IsOnSites pitch r r.sites) (IsOnRows pitch rows (n + 1)) cell target a b c split l1 l2
   where
-    split : (p : Spot) → IsOnRows pitch rows (n + 1) p → IsLegalAt cell p → IsOnRows pitch rows n p ⊎ IsOnSites pitch r r.sites p
-    split p on legal =
+    split : (p : Spot) → IsOnRows pitch rows (n + 1) p → MayGo cell p → IsOnRows pitch rows n p ⊎ IsOnSites pitch r r.sites p
+    split p on may =
         let within = on.within in
         let order : (on.number < n) ⊎ (on.number ≡ n) = grind arith in
         elim order [
@@ -165,16 +165,16 @@ rank_tells a b (inr (inr (inr p))) (inl q) e = absurd (clash a b _ _ p q e (omeg
 rank_tells a b (inr (inr (inr p))) (inr (inl q)) e = absurd (clash a b _ _ p q e (omega arith))
 rank_tells a b (inr (inr (inr p))) (inr (inr (inl q))) e = absurd (clash a b _ _ p q e (omega arith))
 
--- what was looked at holds every legal place, so the best of it is the choice
+-- what was looked at holds every place where the cell may go, so the best of it is the choice
 pub chosen : (cell : Lifted) (target : Point) (found : Option Spot) → IsSized cell.frame cell.mac →
     LooksAt (IsOnRows cell.frame.pitch cell.frame.rows (length cell.frame.rows)) cell target None found → IsChoice cell target found
-chosen cell target None sized looked = λ p legal. looked.seen p (stands cell p sized legal) legal
+chosen cell target None sized looked = λ p may. looked.seen p (stands cell p sized may.legal) may
 chosen cell target (Some b) sized looked =
-    let legal : IsLegalAt cell b = looked.legal tt in
+    let may : MayGo cell b = looked.may_go tt in
     record {
-      legal = legal;
-      least = λ p there. elim (compared target p b (rank_tells p.orient b.orient (legal_upright cell p there) (legal_upright cell b legal))) [
+      may_go = may;
+      least = λ p there. elim (compared target p b (rank_tells p.orient b.orient (legal_upright cell p there.legal) (legal_upright cell b may.legal))) [
         | inl same ↦ inl same
-        | inr rest ↦ elim rest [ inl less ↦ absurd (looked.seen p (stands cell p sized there) there less) | inr more ↦ inr more ]
+        | inr rest ↦ elim rest [ inl less ↦ absurd (looked.seen p (stands cell p sized there.legal) there less) | inr more ↦ inr more ]
       ];
     }

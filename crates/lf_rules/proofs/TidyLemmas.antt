@@ -160,7 +160,7 @@ sent : (f : Frame) (team n count : ℕ) (cells : List Member) (moved : ℕ) (m :
     IsChoice (lifted_from f team cells n m.mac) target found → Came f team n count cells → CameTo f team (n + 1) count (sent_to found cells moved n m.mac)
 sent f team n count cells moved m target None there choice came = tt
 sent f team n count cells moved m target (Some p) there choice came = record {
-  done = gone f team n cells m p there choice.legal came.done;
+  done = gone f team n cells m p there choice.may_go.legal came.done;
   sized = sized_set f cells n m p there came.sized;
   many = length_set cells n (placed_at m.mac p) ∙ came.many;
 }
@@ -248,8 +248,8 @@ legal_when_sent f team cells new moved count own other m target None there choic
 legal_when_sent f team cells new moved count own other m target (Some p) there choice is stands =
     subst (λ (ms : List Member). StandsLegal f team ms other) (same_cells is)
     (elim (order_of other own) [
-      | inl same ↦ subst (λ (j : ℕ). StandsLegal f team (slice_set cells own (placed_at m.mac p)) j) (sym same) (went_legal f team own cells m p choice.legal)
-      | inr differ ↦ others_stay f team own other cells m p there choice.legal differ stands
+      | inl same ↦ subst (λ (j : ℕ). StandsLegal f team (slice_set cells own (placed_at m.mac p)) j) (sym same) (went_legal f team own cells m p choice.may_go.legal)
+      | inr differ ↦ others_stay f team own other cells m p there choice.may_go.legal differ stands
     ])
 
 legal_when_aimed : (l : Legalizer) (f : Frame) (team : ℕ) (cells new : List Member) (moved count own other : ℕ) (m : Member) (target : Option Point) →

@@ -13,8 +13,9 @@ use Rattle.lf_floorplan.specs.declared.parts.Row.{Row}
 use Rattle.lf_floorplan.specs.declared.place.Place.{Place}
 use Rattle.lf_floorplan.specs.Bounds.{IsDefNumber}
 use Rattle.lf_floorplan.specs.Boxes.{IsSized}
+use Rattle.lf_floorplan.specs.Ground.{MeetsSoft}
 use Rattle.lf_rtree.specs.declared.placed.Placed.{Placed}
-use Rattle.lf_rules.specs.Legality.{Trial, IsTeamLegal}
+use Rattle.lf_rules.specs.Legality.{Trial, box_of, IsTeamLegal}
 
 -- a place over all whole numbers
 pub record Spot : Type 0 where
@@ -40,6 +41,11 @@ trial_at c p = record { frame = c.frame; team = c.team; mac = c.mac; x = p.x; y 
 -- the place is team-legal for the cell
 abbrev pub IsLegalAt : Lifted → Spot → Type 0
 IsLegalAt c p = IsTeamLegal (trial_at c p)
+
+-- a search may put the cell at the place: it is team-legal, and the cell's box there shares no point with a soft blockage
+pub record MayGo (c : Lifted) (p : Spot) : Type 0 where
+  pub legal : IsLegalAt c p
+  pub off_soft : MeetsSoft c.frame (box_of (trial_at c p)) → ⊥
 
 -- a legal place of a macro of whole size has coordinates that a DEF text can hold
 abbrev pub LegalInRange : Type 0
@@ -92,14 +98,14 @@ pub record KeyOrders : Type 0 where
 abbrev pub LegalIsUpright : Type 0
 LegalIsUpright = (c : Lifted) (p : Spot) → IsLegalAt c p → IsUpright p.orient
 
--- the team-legal place of least key
+-- the place of least key among those where a search may put the cell
 pub record IsBest (c : Lifted) (target : Point) (best : Spot) : Type 0 where
-  pub legal : IsLegalAt c best
-  pub least : (p : Spot) → IsLegalAt c p → (p ≡ best) ⊎ Precedes target best p
+  pub may_go : MayGo c best
+  pub least : (p : Spot) → MayGo c p → (p ≡ best) ⊎ Precedes target best p
 
--- what a search for the best place finds: that place, or nothing only if no place is team-legal
+-- what a search for the best place finds: that place, or nothing only if there is no place where it may put the cell
 abbrev pub IsChoice : Lifted → Point → Option Spot → Type 0
-IsChoice c target found = MatchOption found ((p : Spot) → IsLegalAt c p → ⊥) (λ best. IsBest c target best)
+IsChoice c target found = MatchOption found ((p : Spot) → MayGo c p → ⊥) (λ best. IsBest c target best)
 
 -- a search has one answer
 abbrev pub ChoiceIsOne : Type 0

@@ -9,6 +9,7 @@ mod report;
 mod rows;
 mod rule;
 mod size;
+mod soft;
 mod whole;
 
 pub use cover::is_covered;
@@ -24,4 +25,5 @@ pub use report::{Listed, Report, Violation};
 pub use rows::{carries, height_in_sites, is_bottom_row};
 pub use rule::{Broken, Rule};
 pub use size::{box_of, solid_box};
+pub use soft::meets_soft;
 pub use whole::Whole;

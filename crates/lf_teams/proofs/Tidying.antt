@@ -136,7 +136,7 @@ module _ (t : Setting) (cells : List Cell) (sized : All (λ c. IsSizedCell t.fra
       let at : (k : ℕ) (m : Member) → slice_get new k ≡ Some m → IsPlacedAt m = λ k m there. placed_legal new k m (mac_there new k m same there) m.place refl (legal k m there) in
       subst (λ (ms : List Member). StandsLegal t.frame t.number ms own) (sym (restored_members new cells same at)) (legal own)
 
-  -- the place that is found for a cell is its best place; none is found only if none is team-legal
+  -- the place that is found for a cell is its best place; none is found only if it may go to none
   pub best_choice : (own : ℕ) (c : Cell) (target : Point) → slice_get cells own ≡ Some c
       → IsChoice (lifted_cell t cells own c) target (option_map spot_of (best_at t cells own target))
   best_choice own c target there =
@@ -155,7 +155,7 @@ module _ (t : Setting) (cells : List Cell) (sized : All (λ c. IsSizedCell t.fra
       by : (o : Option Spot) → IsChoice lifted target o → IsChoice lifted target (option_map spot_of (option_and_then place_of_spot o))
       by None choice = choice
       by (Some p) choice =
-          let place = place_is in_range lifted p whole choice.legal in
+          let place = place_is in_range lifted p whole choice.may_go.legal in
           subst (λ (q : Option Spot). IsChoice lifted target q) (sym (ap (λ (q : Option Place). option_map spot_of q) place.1 ∙ ap (λ (s : Spot). Some s) place.2)) choice
 
   -- the place that is found is team-legal
@@ -163,7 +163,7 @@ module _ (t : Setting) (cells : List Cell) (sized : All (λ c. IsSizedCell t.fra
       → IsLegalAt (lifted_cell t cells own c) (spot_of place)
   best_legal own c target place there is =
       let choice = subst (λ (o : Option Place). IsChoice (lifted_cell t cells own c) target (option_map spot_of o)) is (best_choice own c target there) in
-      choice.legal
+      choice.may_go.legal
 
 -- ---- what a commit has tested
 

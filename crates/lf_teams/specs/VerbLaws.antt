@@ -142,7 +142,7 @@ OnlyCommitCommits =
 
 -- ---- legal places
 
--- the place that find and legalize take is the best place; they find none only if no place is team-legal for the cell
+-- the place that find and legalize take is the best place; they find none only if the cell may go to no place
 abbrev pub BestIsFound : Type 0
 BestIsFound =
     (t : Setting) (s : TeamState) (own : ℕ) (c : Cell) (target : Point) → IsTeamOf t.frame s → slice_get s.cells own ≡ Some c

@@ -45,7 +45,7 @@ pub fn only_commit_commits()
     ensures { OnlyCommitCommits }
 {}
 
-/// The place that find and legalize take is the best place; they find none only if no place is team-legal.
+/// The place that find and legalize take is the best place; they find none only if the cell may go to no place.
 pub fn best_is_found()
     ensures { BestIsFound }
 {

@@ -5,16 +5,16 @@ use Rattle.lf_spans.specs.Grids.{FindsNearest, IsNearest}
 use Rattle.lf_legalize.specs.RowSearches.{IsBestAmong, IsOnRowIn, lifted_in}
 use Rattle.lf_legalize.proofs.RowFree.{spot_on}
 use Rattle.lf_legalize.proofs.RunLemmas.{heeded_at}
-use Rattle.lf_legalize.proofs.RowChoice.{IsFit, best_there, fit_in_def, legal_fits}
+use Rattle.lf_legalize.proofs.RowChoice.{IsFit, best_there, fit_in_def, may_go_fits}
 use Rattle.lf_legalize.proofs.on_row.best_at.Goals as goal
 
 pub returns-in_default : goal.returns-in_default
-returns-in_default c p on legal =
+returns-in_default c p on may =
     let s = c.args.search.now in
     let rows = map (λ list. list.items) c.args.lists.now in
     let none = subst (λ (found : Option ℤ). FindsNearest (IsFit s c.args.bottom.now.row.now rows) s.target.now.x found) c.in_default.is c.in_ok-x.ensures in
-    none p.x (legal_fits s c.args.bottom.now.number c.args.bottom.now.row.now c.args.bottom.now.window.now rows p c.requires.stands c.requires.held
-    c.requires.levels on legal)
+    none p.x (may_go_fits s c.args.bottom.now.number c.args.bottom.now.row.now c.args.bottom.now.window.now rows p c.requires.stands c.requires.held
+    c.requires.levels on may)
 
 pub place_on-requires-clause-x_in_def : goal.place_on-requires-clause-x_in_def
 place_on-requires-clause-x_in_def c =

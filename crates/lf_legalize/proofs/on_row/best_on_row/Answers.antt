@@ -1,6 +1,6 @@
 use Rattle.std.specs.Prelude.{IfOk}
 use Rattle.std.specs.Option.{option_map}
-use Rattle.lf_rules.specs.Choice.{IsLegalAt, Spot, spot_of}
+use Rattle.lf_rules.specs.Choice.{MayGo, Spot, spot_of}
 use Rattle.lf_legalize.specs.RowSearches.{IsChoiceAmong, IsOnRowIn, lifted_in}
 use Rattle.lf_legalize.specs.Levels.{HasBareLevel}
 use Rattle.lf_legalize.proofs.LevelLemmas.{of_row}
@@ -12,17 +12,17 @@ pub returns-in_default : goal.returns-in_default
 returns-in_default c r is =
     let s = c.args.search.now in
     let bottom = c.row_at-row.result.now in
-    of_row s.frame.now c.args.number bottom r (λ b. (p : Spot) → IsOnRowIn s.frame.now s.size b c.args.window.now p → IsLegalAt (lifted_in s) p → ⊥)
-    c.row_at-row.ensures is (λ p on legal. c.in_default.ensures p.orient (legal_may s bottom c.args.window.now p on legal))
+    of_row s.frame.now c.args.number bottom r (λ b. (p : Spot) → IsOnRowIn s.frame.now s.size b c.args.window.now p → MayGo (lifted_in s) p → ⊥)
+    c.row_at-row.ensures is (λ p on may. c.in_default.ensures p.orient (legal_may s bottom c.args.window.now p on may.legal))
 
 pub returns-in_default-2 : goal.returns-in_default-2
 returns-in_default-2 c r is =
     let s = c.args.search.now in
     let bottom = c.row_at-row.result.now in
     let bare : HasBareLevel s c.args.number bottom c.args.window.now = of_none _ _ _ c.in_default-2.is c.in_ok-lists.ensures in
-    of_row s.frame.now c.args.number bottom r (λ b. (p : Spot) → IsOnRowIn s.frame.now s.size b c.args.window.now p → IsLegalAt (lifted_in s) p → ⊥)
+    of_row s.frame.now c.args.number bottom r (λ b. (p : Spot) → IsOnRowIn s.frame.now s.size b c.args.window.now p → MayGo (lifted_in s) p → ⊥)
     c.row_at-row.ensures is
-    (λ p on legal. none_bare s c.args.number bottom c.args.window.now p c.row_at-row.ensures c.requires.held bare on legal)
+    (λ p on may. none_bare s c.args.number bottom c.args.window.now p c.row_at-row.ensures c.requires.held bare on may)
 
 pub returns : goal.returns
 returns c r is =

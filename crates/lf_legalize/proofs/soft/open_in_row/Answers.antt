@@ -1,0 +1,32 @@
+use Rattle.std.proofs.Common.{◌≡◌, ℕ, subst, sym}
+use Rattle.std.proofs.lemmas.Result.{IfOk-weaker}
+use Rattle.lf_spans.specs.Spans.{IsRising}
+use Rattle.std.specs.Prelude.{slice_index_or, []}
+use Rattle.lf_segments.specs.Grounds.{Lookups}
+use Rattle.lf_segments.specs.Strips.{AreNear}
+use Rattle.lf_legalize.specs.Levels.{AreWithoutSoft, IsOpenInRow}
+use Rattle.lf_legalize.proofs.SoftLemmas.{open_row, soft_rising}
+use Rattle.lf_legalize.proofs.soft.open_in_row.Goals as goal
+
+pub without_soft-requires-clause-free : goal.without_soft-requires-clause-free
+without_soft-requires-clause-free c = c.in_ok-free.ensures.rising
+
+pub without_soft-requires-clause-soft : goal.without_soft-requires-clause-soft
+without_soft-requires-clause-soft c k =
+    subst (λ (g : Lookups). IsRising (slice_index_or g.soft k [])) (sym c.index-index.ensures)
+    (soft_rising c.args.search.now.frame.now c.args.search.now.occupancy.now.index c.requires.held.index k)
+
+pub returns : goal.returns
+returns c =
+    let o = c.args.search.now.occupancy.now in
+    let id = c.args.search.now.id in
+    let window = c.args.window.now in
+    let start = c.near-near.result.start in
+    let end = c.near-near.result.end in
+    let free = c.in_ok-free.free.items in
+    let near = subst (λ (g : Lookups). AreNear g.strips c.args.number id.team window.lo window.hi start end) c.index-index.ensures c.near-near.ensures in
+    IfOk-weaker c.without_soft.result (λ left. AreWithoutSoft c.index-index.result.now.soft start end free left.items)
+    (λ left. IsOpenInRow o c.args.number id window left.items)
+    (λ left is. open_row o c.args.number id window start end free left.items near c.in_ok-free.ensures
+    (subst (λ (g : Lookups). AreWithoutSoft g.soft start end free left.items) c.index-index.ensures is))
+    c.without_soft.ensures

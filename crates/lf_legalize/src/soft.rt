@@ -1,0 +1,62 @@
+//! What is free for a cell on a row, without what soft blockages cover.
+
+ghost use Rattle.std.specs.Prelude.{◌≤ℤ◌, ℕ, IfOk, [], negsuc, slice_index_or};
+ghost use Rattle.lf_spans.specs.Spans.{IsMinus, IsRising};
+ghost use Rattle.lf_occupancy.specs.Floorplans.{IsOccupancyOf};
+ghost use Rattle.lf_legalize.specs.Levels.{AreWithoutSoft, IsOpenInRow};
+
+use crate::row_search::RowSearch;
+use lf_segments::{Ground, NearStrips};
+use lf_spans::spans_minus;
+use lf_units::Span;
+use std::alloc::{AllocError, Global};
+
+/// The spans without the soft ones, of which there are mostly none.
+fn without(alloc: Global, spans: Vec<Span>, soft: &[Span]) -> Result<Vec<Span>, AllocError>
+    requires spans { IsRising spans.items }
+    requires soft { IsRising soft.now }
+    ensures { IfOk result (λ left. IsMinus spans.items soft.now left.items) }
+{
+    if soft.is_empty() {
+        return Ok(spans);
+    }
+    spans_minus(alloc, spans.as_slice(), soft)
+}
+
+/// The free spans without what soft blockages cover of these strips.
+fn without_soft(
+    alloc: Global,
+    index: &Ground,
+    near: &NearStrips,
+    free: Vec<Span>,
+) -> Result<Vec<Span>, AllocError>
+    requires free { IsRising free.items }
+    requires soft { (k : ℕ) → IsRising (slice_index_or index.now.soft k []) }
+    ensures { IfOk result (λ left. AreWithoutSoft index.now.soft near.now.start near.now.end free.items left.items) }
+{
+    let mut left = free;
+    for n in near.start..near.end {
+        left = without(alloc, left, index.soft_of(n))?;
+    }
+    Ok(left)
+}
+
+/// Within a window, the spans of a row that are free for the cell of the search and off soft
+/// blockages.
+pub(crate) fn open_in_row(
+    alloc: Global,
+    search: &RowSearch<'_>,
+    number: usize,
+    window: &Span,
+) -> Result<Vec<Span>, AllocError>
+    requires held { IsOccupancyOf search.now.frame.now search.now.cells.now search.now.occupancy.now }
+    requires low { negsuc 4611686018427387903 ≤ℤ window.now.lo }
+    ensures { IfOk result (λ left. IsOpenInRow search.now.occupancy.now number search.now.id window.now left.items) }
+{
+    let free = search
+        .occupancy
+        .free_in_row(alloc, number, search.id, window)?;
+    let index = search.occupancy.index();
+    let near = index.near(number, search.id.team as usize, &window.lo, &window.hi);
+    without_soft(alloc, index, &near, free)
+}
