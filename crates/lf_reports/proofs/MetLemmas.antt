@@ -10,7 +10,7 @@ use Rattle.lf_rules.specs.declared.rule.Rule.{Rule}
 use Rattle.lf_rules.specs.declared.rule.Rule.TheVariants.{Overlap}
 use Rattle.lf_rules.specs.Legality.{Trial, IsFirstMet, IsFrameVerdict, box_of}
 use Rattle.lf_rules.specs.Legalizer.{IsVerdict}
-use Rattle.lf_rules.specs.Team.{boxes_from, boxes_beside}
+use Rattle.lf_rules.specs.Team.{Member, boxes_from, boxes_beside}
 use Rattle.lf_rules.proofs.LeastMet.{first_beside, none_beside}
 use Rattle.lf_rules.proofs.RuleLemmas.{ApartAt, met_verdict}
 
