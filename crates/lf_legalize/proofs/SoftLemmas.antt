@@ -1,6 +1,6 @@
 -- What soft blockages leave of the free spans of a row.
-use Rattle.std.proofs.Common.{◌≡◌, ◌⊎◌, inl, inr, ℕ, zero, suc, ℤ, pos, ◌+◌, ◌<◌, ◌≤◌, ◌+ℤ◌, List, [], ◌∷◌, Option, Some, None, length, map, get_or, slice_get, refl, sym, ap, subst, ◌∙◌, arith}
-use Rattle.std.specs.Prelude.{◌↔◌, Any}
+use Rattle.std.proofs.Common.{◌≡◌, ◌⊎◌, inl, inr, ℕ, zero, suc, ℤ, pos, ◌+◌, ◌<◌, ◌≤◌, ◌+ℤ◌, List, [], ◌∷◌, Option, Some, None, length, get_or, slice_get, refl, sym, ap, subst, ◌∙◌, arith}
+use Rattle.std.specs.Prelude.{◌↔◌}
 use Rattle.std.specs.Option.{option_map}
 use Rattle.std.proofs.lemmas.Int.{ints}
 use Rattle.std.proofs.lemmas.List.Elements.{All-nil}
@@ -16,7 +16,7 @@ use Rattle.lf_segments.specs.Soft.{IsSoftAt}
 use Rattle.lf_segments.specs.Strips.{AreNear, IsNear, row_y, strip_of}
 use Rattle.lf_cells.specs.declared.cell.CellId.{CellId}
 use Rattle.lf_occupancy.specs.Occupied.{Occupied, IsFreeInRow, across}
-use Rattle.lf_legalize.specs.Levels.{AreWithoutSoft, IsFreeOnRow, IsOpenInRow}
+use Rattle.lf_legalize.specs.Levels.{AreWithoutSoft, IsOpenInRow}
 
 -- ---- the soft spans of a strip
 
