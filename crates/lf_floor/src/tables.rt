@@ -50,7 +50,6 @@ impl Tables {
     }
 
     /// The team's cell of that position; none if the team has no such cell.
-    #[tactic(auto, using(lf_cells::proofs::TeamIds::ids_get))]
     pub(crate) fn cell_at(&self, number: usize, own: usize) -> Option<CellId>
         ensures { result ≡ id_in (cells_in number self.now) number own }
     {

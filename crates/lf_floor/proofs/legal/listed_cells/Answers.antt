@@ -1,8 +1,9 @@
 use Rattle.std.proofs.Common.{◌≡◌, ◌<◌, ◌++◌, ◌∷◌, [], ℕ, zero, suc, List, length, Some, None, map, ap, subst, sym, ◌∙◌, arith, get_or}
 use Rattle.std.specs.Borrow.{Bor}
 use Rattle.std.specs.Prelude.{option_map, slice_get}
-use Rattle.std.proofs.lemmas.List.{get_or_default, map-append}
+use Rattle.std.proofs.lemmas.List.{get_or_default, map-append, take_all}
 use Rattle.lf_rules.specs.declared.report.Listed.{Listed}
+use Rattle.lf_cells.specs.declared.cell.Cell.{Cell}
 use Rattle.lf_cells.specs.declared.cell.CellId.{CellId}
 use Rattle.lf_cells.specs.Cells.{cells_of, id_of}
 use Rattle.lf_cells.proofs.TeamIds.{ids_long, ids_read}
@@ -47,3 +48,10 @@ loop-id-preserved c =
     ∙ ap (λ (ls : List (Listed (List ℕ))). ls ++ named c.in-Some.cell ∷ []) c.loop-id.invariant
     ∙ sym (one_more_told (listed_of c.args.number) cells k (named c.in-Some.cell)
     (subst (λ (i : CellId). Some (named c.in-Some.cell) ≡ option_map (listed_of i.team) (slice_get (cells_of table i.team) i.own)) id c.in-Some.ensures))
+
+pub returns : goal.returns
+returns c =
+    let cells = cells_of c.args.cells.now c.args.number in
+    let many = ids_long c.args.number cells c.cells_of-id-items.result.now c.cells_of-id-items.ensures in
+    c.loop-id.invariant
+    ∙ ap (λ (cs : List Cell). map (listed_of c.args.number) cs) (take_all c.loop-id.id-index cells (omega (arith, many, c.loop-id-test.false)))

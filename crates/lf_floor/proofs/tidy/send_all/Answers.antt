@@ -1,4 +1,5 @@
-use Rattle.std.proofs.Common.{◌≡◌, ◌+◌, ◌-◌, ℕ, length, map, ap, sym, subst, ◌∙◌, arith}
+use Rattle.std.proofs.Common.{◌≡◌, ◌+◌, ◌-◌, ℕ, get_or, length, map, ap, sym, subst, ◌∙◌, arith}
+use Rattle.std.proofs.lemmas.List.{get_or_default}
 use Rattle.lf_rules.specs.Legalizer.{Legalizer}
 use Rattle.lf_rules.specs.Tidy.{Going, Stuck}
 use Rattle.lf_floorplan.specs.declared.frame.Frame.{Frame}
@@ -14,6 +15,9 @@ use Rattle.lf_floor.proofs.Marking.{marked_through}
 use Rattle.lf_floor.proofs.Sending.{all_to_go, id_at_turn, on_going, still_within, stuck_stays}
 use Rattle.lf_floor.proofs.tidy.send_all.Goals.{in-Stays, in-Goes}
 use Rattle.lf_floor.proofs.tidy.send_all.Goals as goal
+
+abbrev no_id : CellId
+no_id = record { team = 0; own = 0 }
 
 pub loop-own-init : goal.loop-own-init
 loop-own-init g c =
@@ -43,11 +47,14 @@ send-requires-clause-team g c =
     let number = c.args.around.now.number in
     let own = c.loop-own.own in
     let ids = λ (cs : Cells). ids_of number (cells_of cs number) in
-    let id : c.index-cells_of-own.result ≡ id_of number own =
+    let id : get_or c.cells_of.result.now own no_id ≡ id_of number own =
     id_at_turn number own (cells_of c.args.placement.now.cells number) (cells_of c.loop-own.placement.cells number) c.cells_of-own-end.result.now
-    c.cells_of.result.now c.index-cells_of-own.result
+    c.cells_of.result.now (get_or c.cells_of.result.now own no_id)
     (c.cells_of-own-end.ensures ∙ ap ids c.cells.ensures) (c.cells_of.ensures ∙ ap ids c.cells-in-loop-own.ensures) c.loop-own.invariant.only.same
-    c.loop-own-test.true c.index-cells_of-own.is in
+    c.loop-own-test.true
+    (get_or_default c.cells_of.result.now own no_id (get_or c.cells_of.result.now own no_id)
+    (still_within number own (cells_of c.args.placement.now.cells number) (cells_of c.loop-own.placement.cells number) c.cells_of-own-end.result.now c.cells_of.result.now
+    (c.cells_of-own-end.ensures ∙ ap ids c.cells.ensures) (c.cells_of.ensures ∙ ap ids c.cells-in-loop-own.ensures) c.loop-own.invariant.only.same c.loop-own-test.true)) in
     ap (λ (i : CellId). i.team) id
 
 pub returns-in-Nowhere-clause-ok : goal.returns-in-Nowhere-clause-ok
@@ -58,10 +65,13 @@ returns-in-Nowhere-clause-ok g c = λ l.
     let last = length c.cells_of-own-end.result.now in
     let old = cells_of c.loop-own.placement.cells number in
     let ids = λ (cs : Cells). ids_of number (cells_of cs number) in
-    let id : c.index-cells_of-own.result ≡ id_of number own =
-    id_at_turn number own (cells_of c.args.placement.now.cells number) old c.cells_of-own-end.result.now c.cells_of.result.now c.index-cells_of-own.result
+    let id : get_or c.cells_of.result.now own no_id ≡ id_of number own =
+    id_at_turn number own (cells_of c.args.placement.now.cells number) old c.cells_of-own-end.result.now c.cells_of.result.now (get_or c.cells_of.result.now own no_id)
     (c.cells_of-own-end.ensures ∙ ap ids c.cells.ensures) (c.cells_of.ensures ∙ ap ids c.cells-in-loop-own.ensures) c.loop-own.invariant.only.same
-    c.loop-own-test.true c.index-cells_of-own.is in
+    c.loop-own-test.true
+    (get_or_default c.cells_of.result.now own no_id (get_or c.cells_of.result.now own no_id)
+    (still_within number own (cells_of c.args.placement.now.cells number) (cells_of c.loop-own.placement.cells number) c.cells_of-own-end.result.now c.cells_of.result.now
+    (c.cells_of-own-end.ensures ∙ ap ids c.cells.ensures) (c.cells_of.ensures ∙ ap ids c.cells-in-loop-own.ensures) c.loop-own.invariant.only.same c.loop-own-test.true)) in
     let new = cells_of c.send.new.placement.cells number in
     let sends : Sends (setting l f number) own old new c.in_ok-send.field-0 =
     subst (λ (h : Frame). Sends (setting l h number) own old new c.in_ok-send.field-0) c.loop-own.invariant.only.ground.frame
@@ -82,10 +92,13 @@ loop-own-preserved g c =
     let now = c.match-branch-2.moved in
     let old = cells_of c.loop-own.placement.cells number in
     let ids = λ (cs : Cells). ids_of number (cells_of cs number) in
-    let id : c.index-cells_of-own.result ≡ id_of number own =
-    id_at_turn number own (cells_of c.args.placement.now.cells number) old c.cells_of-own-end.result.now c.cells_of.result.now c.index-cells_of-own.result
+    let id : get_or c.cells_of.result.now own no_id ≡ id_of number own =
+    id_at_turn number own (cells_of c.args.placement.now.cells number) old c.cells_of-own-end.result.now c.cells_of.result.now (get_or c.cells_of.result.now own no_id)
     (c.cells_of-own-end.ensures ∙ ap ids c.cells.ensures) (c.cells_of.ensures ∙ ap ids c.cells-in-loop-own.ensures) c.loop-own.invariant.only.same
-    c.loop-own-test.true c.index-cells_of-own.is in
+    c.loop-own-test.true
+    (get_or_default c.cells_of.result.now own no_id (get_or c.cells_of.result.now own no_id)
+    (still_within number own (cells_of c.args.placement.now.cells number) (cells_of c.loop-own.placement.cells number) c.cells_of-own-end.result.now c.cells_of.result.now
+    (c.cells_of-own-end.ensures ∙ ap ids c.cells.ensures) (c.cells_of.ensures ∙ ap ids c.cells-in-loop-own.ensures) c.loop-own.invariant.only.same c.loop-own-test.true)) in
     let new = cells_of c.send.new.placement.cells number in
     let sent = c.in_ok-send.ensures {u = tt} in
     let goes : sent_as c.in_ok-send.field-0 new moved own ≡ Going (map member_of new) now =
