@@ -161,7 +161,7 @@ fn the_built_in_design(rt: HostRuntime) -> Result<(), Fail> {
 
 #[test]
 fn soft_blockages(rt: HostRuntime) -> Result<(), Fail> {
-    let def = with_line(rt.alloc(), W_DEF, 26, SOFT_LINES)?;
+    let def = with_line(rt.alloc(), W_DEF, 22, SOFT_LINES)?;
     assert!(rt; holds(rt.alloc(), &def, &Case::SoftBlockages)?);
     Ok(())
 }
