@@ -76,10 +76,9 @@ returns-in-Nowhere-clause-ok g c = λ l.
     let sends : Sends (setting l f number) own old new c.in_ok-send.field-0 =
     subst (λ (h : Frame). Sends (setting l h number) own old new c.in_ok-send.field-0) c.loop-own.invariant.only.ground.frame
     (subst (λ (i : CellId). Sends (setting l c.loop-own.placement.frame number) i.own old new c.in_ok-send.field-0) id ((c.in_ok-send.ensures {u = tt}).ok l)) in
-    ap (λ (i : CellId). Stuck i.own) id
-    ∙ sym (on_going (setting l f number) own last c.loop-own.moved (cells_of c.args.placement.now.cells number) old new c.in_ok-send.field-0 (Stuck own)
+    sym (on_going (setting l f number) own last c.loop-own.moved (cells_of c.args.placement.now.cells number) old new c.in_ok-send.field-0 (Stuck own)
     c.loop-own-test.true sends (ap (λ (s : Sent). sent_as s new c.loop-own.moved own) c.in-Nowhere.is) (c.loop-own.invariant.going l))
-    ∙ stuck_stays l f number (own + 1) (last - (own + 1)) own
+    ∙ stuck_stays l f number (own + 1) (last - (own + 1)) own ∙ sym (ap (λ (i : CellId). Stuck i.own) id)
 
 pub loop-own-preserved : goal.loop-own-preserved
 loop-own-preserved g c =
@@ -122,3 +121,16 @@ loop-own-preserved g c =
         | in-Goes w ↦ omega (arith, w.moved-is, c.loop-own.invariant.few)
       ];
     }
+
+pub overflow_add-moved : goal.overflow_add-moved
+overflow_add-moved g c =
+    let number = c.args.around.now.number in
+    let ids = λ (cs : Cells). ids_of number (cells_of cs number) in
+    let here = c.cells_of.ensures ∙ ap ids c.cells-in-loop-own.ensures in
+    let within = still_within number c.loop-own.own (cells_of c.args.placement.now.cells number) (cells_of c.loop-own.placement.cells number)
+        c.cells_of-own-end.result.now c.cells_of.result.now (c.cells_of-own-end.ensures ∙ ap ids c.cells.ensures) here c.loop-own.invariant.only.same
+        c.loop-own-test.true in
+    let many = ids_long number (cells_of c.loop-own.placement.cells number) c.cells_of.result.now here in
+    let most = c.cells_are_sized.ensures.few number in
+    let less = c.loop-own.invariant.few in
+    omega (arith, within, many, most, less)
