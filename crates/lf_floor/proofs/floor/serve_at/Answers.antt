@@ -11,8 +11,8 @@ use Rattle.lf_floor.specs.Tables.{floor_in, frame_of, own_team, teams_in}
 use Rattle.lf_floor.proofs.Rows.{each_team, floor_changed, served, tables_still, team_there}
 use Rattle.lf_floor.proofs.floor.serve_at.Goals as goal
 
-pub serve-requires-clause-served : goal.serve-requires-clause-served
-serve-requires-clause-served g c = served c.args.tables.now c.args.around.now.number c.requires.tables c.requires.within
+pub serve-requires : goal.serve-requires
+serve-requires g c = record { served = served c.args.tables.now c.args.around.now.number c.requires.tables c.requires.within }
 
 pub returns-clause-ok : goal.returns-clause-ok
 returns-clause-ok g c = λ l.

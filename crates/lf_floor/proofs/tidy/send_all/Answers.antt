@@ -128,8 +128,8 @@ overflow_add-moved g c =
     let ids = λ (cs : Cells). ids_of number (cells_of cs number) in
     let here = c.cells_of.ensures ∙ ap ids c.cells-in-loop-own.ensures in
     let within = still_within number c.loop-own.own (cells_of c.args.placement.now.cells number) (cells_of c.loop-own.placement.cells number)
-        c.cells_of-own-end.result.now c.cells_of.result.now (c.cells_of-own-end.ensures ∙ ap ids c.cells.ensures) here c.loop-own.invariant.only.same
-        c.loop-own-test.true in
+    c.cells_of-own-end.result.now c.cells_of.result.now (c.cells_of-own-end.ensures ∙ ap ids c.cells.ensures) here c.loop-own.invariant.only.same
+    c.loop-own-test.true in
     let many = ids_long number (cells_of c.loop-own.placement.cells number) c.cells_of.result.now here in
     let most = c.cells_are_sized.ensures.few number in
     let less = c.loop-own.invariant.few in
