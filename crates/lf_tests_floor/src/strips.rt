@@ -1,10 +1,10 @@
 //! What stands in the strips of the built-in design, where a1 stands at (400 0).
 
-ghost use Rattle.std.specs.Prelude.{◌≡◌, ◌+◌, ◌<◌, ◌≤◌, ◌≤ℤ◌, ℕ, pos, IfOk, IfSome, length};
+ghost use Rattle.std.specs.Prelude.{◌≡◌, ◌+◌, ◌<◌, ◌≤◌, ◌≤ℤ◌, ℕ, pos, All, IfOk, IfSome, length};
 ghost use Rattle.lf_cells.specs.Cells.{cells_of};
 ghost use Rattle.lf_cells.specs.Openings.{opening_cells};
 ghost use Rattle.lf_cells.specs.declared.cell.CellId.{CellId};
-ghost use Rattle.lf_occupancy.specs.Floorplans.{IsOccupancyOf};
+ghost use Rattle.lf_occupancy.specs.Floorplans.{HasSize, IsOccupancyOf};
 ghost use Rattle.lf_occupancy.specs.Occupied.{HasRoomFor, boxes_of, count_in};
 ghost use Rattle.lf_occupancy.specs.Strips.{HasCell};
 ghost use Rattle.lf_segments.specs.declared.strip.Strip.{Strip};
@@ -12,7 +12,7 @@ ghost use Rattle.lf_segments.specs.declared.strip.Strip.{Strip};
 use crate::designs::{Asked, holds};
 use lf_cells::{CellId, CellTable};
 use lf_def::W_DEF;
-use lf_frame::Loaded;
+use lf_frame::{Frame, Loaded};
 use lf_occupancy::Occupancy;
 use lf_segments::Ground;
 use lf_tests_texts::with_line;
@@ -38,13 +38,21 @@ fn inverter(x: i64, y: i64) -> Rect
     }
 }
 
+/// What stands in the strips of the frame: the cells at their working places.
+fn filled(alloc: Global, frame: &Frame, cells: &CellTable) -> Result<Occupancy, AllocError>
+    requires { (team : ℕ) → All (HasSize frame.now) (cells_of cells.now team) }
+    ensures { IfOk result (λ held. IsOccupancyOf frame.now cells.now held) }
+{
+    let index = Ground::build(alloc, frame)?;
+    Occupancy::build(alloc, frame, index, cells)
+}
+
 /// What stands in the strips of a design as it is loaded.
 fn occupancy_of(alloc: Global, design: &Loaded, cells: &CellTable) -> Result<Occupancy, AllocError>
     requires { cells.now.cells ≡ opening_cells design.now }
     ensures { IfOk result (λ occupancy. IsOccupancyOf design.now.frame cells.now occupancy) }
 {
-    let index = Ground::build(alloc, &design.frame)?;
-    Occupancy::build(alloc, &design.frame, index, cells)
+    filled(alloc, &design.frame, cells)
 }
 
 /// The cell of that name of A.
