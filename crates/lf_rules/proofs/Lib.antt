@@ -1,4 +1,5 @@
 pub mod GroundLemmas
+pub mod PaddingLemmas
 pub mod CoverLemmas
 pub mod LegalParts
 pub mod RuleLemmas

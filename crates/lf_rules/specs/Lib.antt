@@ -1,3 +1,4 @@
+pub mod Padding
 pub mod Legality
 pub mod Solid
 pub mod Choice

@@ -5,6 +5,7 @@ mod area;
 mod cover;
 mod first;
 mod laws;
+mod padding;
 mod report;
 mod rows;
 mod rule;
@@ -21,6 +22,7 @@ pub use laws::{
 };
 pub use lf_floorplan::Place;
 pub use lf_rtree::Placed;
+pub use padding::{Padding, wider};
 pub use report::{Listed, Report, Violation};
 pub use rows::{carries, height_in_sites, is_bottom_row};
 pub use rule::{Broken, Rule};

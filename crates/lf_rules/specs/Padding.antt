@@ -1,0 +1,22 @@
+-- Boxes made wider, by which a team keeps its cells apart.
+use Rattle.std.specs.Prelude.{ℕ, ℤ, pos, negsuc, ◌+ℤ◌, ◌-ℤ◌, ◌*ℤ◌, ◌≤ℤ◌}
+use Rattle.lf_units.specs.declared.area.Rect.{Rect}
+use Rattle.lf_floorplan.specs.declared.frame.Frame.{Frame}
+
+-- the rectangle made wider by that length on its left and on its right
+abbrev pub wider : ℤ → Rect → Rect
+wider by r = record { x1 = r.x1 -ℤ by; y1 = r.y1; x2 = r.x2 +ℤ by; y2 = r.y2 }
+
+-- a padding of this many core sites, as a length
+abbrev pub length_of : Frame → ℕ → ℤ
+length_of f sites = pos sites *ℤ f.pitch.x
+
+-- a length from 0 up to that of 16 core sites, of which none is wider than 20,000,000,000
+pub record IsShort (length : ℤ) : Type 0 where
+  pub least : pos 0 ≤ℤ length
+  pub most : length ≤ℤ pos 320000000000
+
+-- the x range of the rectangle is far from the ends of the numbers of 64 bits
+pub record HasRoomAround (r : Rect) : Type 0 where
+  pub low : negsuc 4611686018427387903 ≤ℤ r.x1
+  pub high : r.x2 ≤ℤ pos 4611686018427387904
