@@ -36,24 +36,24 @@ to_target : (macs : List ℕ) (target : Option Point) (l : Legalizer) (c : Lifte
 to_target macs None l c cells moved n m there is = is
 to_target macs (Some target) l c cells moved n m there is = sent macs (l.best_place c target) cells moved n m there is
 
-one_own : (macs : List ℕ) (found : Option Member) (l : Legalizer) (f : Frame) (team : ℕ) (cells : List Member) (moved n : ℕ) → slice_get cells n ≡ found → macs_of cells ≡ macs →
-    HasMacs macs (tidied_own found l f team cells moved n)
-one_own macs None l f team cells moved n there is = is
-one_own macs (Some m) l f team cells moved n there is =
-    to_target macs (target_of l (lifted_from f team cells n m.mac) m.place) l (lifted_from f team cells n m.mac) cells moved n m there is
+one_own : (macs : List ℕ) (found : Option Member) (l : Legalizer) (f : Frame) (team padding : ℕ) (cells : List Member) (moved n : ℕ) → slice_get cells n ≡ found → macs_of cells ≡ macs →
+    HasMacs macs (tidied_own found l f team padding cells moved n)
+one_own macs None l f team padding cells moved n there is = is
+one_own macs (Some m) l f team padding cells moved n there is =
+    to_target macs (target_of l (lifted_from f team padding cells n m.mac) m.place) l (lifted_from f team padding cells n m.mac) cells moved n m there is
 
-one_cell : (macs : List ℕ) (l : Legalizer) (f : Frame) (team n : ℕ) (t : Tidied) → HasMacs macs t → HasMacs macs (tidy_cell l f team t n)
-one_cell macs l f team n (Stuck own) is = tt
-one_cell macs l f team n (Going cells moved) is = one_own macs (slice_get cells n) l f team cells moved n refl is
+one_cell : (macs : List ℕ) (l : Legalizer) (f : Frame) (team padding n : ℕ) (t : Tidied) → HasMacs macs t → HasMacs macs (tidy_cell l f team padding t n)
+one_cell macs l f team padding n (Stuck own) is = tt
+one_cell macs l f team padding n (Going cells moved) is = one_own macs (slice_get cells n) l f team padding cells moved n refl is
 
-all_cells : (macs : List ℕ) (l : Legalizer) (f : Frame) (team n count : ℕ) (t : Tidied) → HasMacs macs t → HasMacs macs (tidied_from l f team n count t)
-all_cells macs l f team n zero t is = is
-all_cells macs l f team n (suc count) t is = all_cells macs l f team (n + 1) count (tidy_cell l f team t n) (one_cell macs l f team n t is)
+all_cells : (macs : List ℕ) (l : Legalizer) (f : Frame) (team padding n count : ℕ) (t : Tidied) → HasMacs macs t → HasMacs macs (tidied_from l f team padding n count t)
+all_cells macs l f team padding n zero t is = is
+all_cells macs l f team padding n (suc count) t is = all_cells macs l f team padding (n + 1) count (tidy_cell l f team padding t n) (one_cell macs l f team padding n t is)
 
 going : (macs : List ℕ) (t : Tidied) (new : List Member) (moved : ℕ) → t ≡ Going new moved → HasMacs macs t → macs_of new ≡ macs
 going macs t new moved is has = let at : HasMacs macs (Going new moved) = rw is at has in at
 
-pub tidied_kept : (l : Legalizer) (f : Frame) (team : ℕ) (cells new : List Member) (moved : ℕ) → tidied l f team cells ≡ Going new moved → map (λ m. m.mac) new ≡ map (λ m. m.mac) cells
+pub tidied_kept : (l : Legalizer) (f : Frame) (team padding : ℕ) (cells new : List Member) (moved : ℕ) → tidied l f team padding cells ≡ Going new moved → map (λ m. m.mac) new ≡ map (λ m. m.mac) cells
 unfolding tidied
-tidied_kept l f team cells new moved is =
-    going (macs_of cells) (tidied l f team cells) new moved is (all_cells (macs_of cells) l f team 0 (length cells) (Going cells 0) refl)
+tidied_kept l f team padding cells new moved is =
+    going (macs_of cells) (tidied l f team padding cells) new moved is (all_cells (macs_of cells) l f team padding 0 (length cells) (Going cells 0) refl)

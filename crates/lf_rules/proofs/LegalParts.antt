@@ -6,7 +6,9 @@ use Rattle.lf_floorplan.specs.Standing.{StandsOn}
 use Rattle.lf_rtree.specs.declared.placed.Placed.{Placed}
 use Rattle.lf_rules.specs.declared.rule.Rule.{Rule}
 use Rattle.lf_rules.specs.declared.rule.Rule.TheVariants.{Height, Row as RowRule, Stand, Orient as OrientRule, Rail as RailRule, Fence, Obstacle, Overlap}
-use Rattle.lf_rules.specs.Legality.{Trial, box_of, Holds, IsApart, IsOnRail, IsOriented, IsTeamLegal, number_of, IsFirstBroken}
+use Rattle.lf_rules.specs.Legality.{Trial, box_of, Holds, IsApart, IsOnRail, IsOriented, IsTeamLegal, number_of, IsFirstBroken, LessPadding}
+use Rattle.lf_rules.specs.Padding.{length_of}
+use Rattle.lf_rules.proofs.WiderLemmas.{length_upto, shares_wider}
 
 -- each lesser rule holds
 abbrev pub HoldsBelow : Trial → Rule → Type 0
@@ -129,3 +131,18 @@ pub frame_beside : (t : Trial) (others : List Placed) → KeepsFrame t → Keeps
 frame_beside t others keeps =
     let s = frame_meant t keeps in
     frame_kept (beside t others) record { stands = s.stands; oriented = s.oriented; on_rail = s.on_rail; ground = s.ground; clear = s.clear }
+
+-- nor for the padding
+pub frame_padded : (t : Trial) (padding : ℕ) → KeepsFrame t → KeepsFrame (record t { padding = padding })
+frame_padded t padding keeps =
+    let s = frame_meant t keeps in
+    frame_kept (record t { padding = padding }) record { stands = s.stands; oriented = s.oriented; on_rail = s.on_rail; ground = s.ground; clear = s.clear }
+
+-- with less padding a legal place stays legal
+pub legal_with_less : LessPadding
+legal_with_less t less upto legal =
+    let longer = length_upto t.frame less t.padding upto in
+    (legal_by_parts (record t { padding = less })).1 (
+      frame_padded t less ((legal_by_parts t).0 legal).0,
+      λ k d within meets. legal Overlap k d within (shares_wider (length_of t.frame less) (length_of t.frame t.padding) (box_of t) _ longer meets),
+    )

@@ -1,5 +1,6 @@
 pub mod GroundLemmas
 pub mod PaddingLemmas
+pub mod WiderLemmas
 pub mod CoverLemmas
 pub mod LegalParts
 pub mod RuleLemmas

@@ -11,7 +11,7 @@ use Rattle.lf_floorplan.specs.declared.parts.Row.{Row}
 use Rattle.lf_floorplan.proofs.StandingLemmas.{height_one, bottom_one}
 use Rattle.lf_rules.specs.declared.rule.Rule.{Rule}
 use Rattle.lf_rules.specs.declared.rule.Rule.TheVariants.{Height, Row as RowRule, Stand, Orient as OrientRule, Rail as RailRule, Fence, Obstacle, Overlap}
-use Rattle.lf_rules.specs.Legality.{IsFirstMet, IsFrameVerdict, Trial, box_of, Holds, number_of, IsTeamLegal, IsFirstBroken}
+use Rattle.lf_rules.specs.Legality.{IsFirstMet, IsFrameVerdict, Trial, box_of, padded_box, Holds, number_of, IsTeamLegal, IsFirstBroken}
 use Rattle.lf_rules.specs.Legalizer.{IsVerdict}
 use Rattle.lf_rules.proofs.LegalParts.{HoldsBelow, KeepsFrame, below_overlap, first_broken_by, frame_below, legal_by_parts, next_below, none_below}
 use Rattle.lf_floorplan.specs.Standing.{IsSitesHigh, IsBottomRow, Carries, StandsOn}
@@ -142,13 +142,13 @@ pub frame_of : (t : Trial) → OnRows t → Holds t Fence → Holds t Obstacle �
 frame_of t rows ground clear = frame_below t (next_below t Obstacle Overlap refl (below_obstacle t rows ground) clear)
 
 -- if a cell is met, not all are clear
-met_is_met : (t : Trial) (own : ℕ) → IsFirstMet (box_of t) t.others own → Holds t Overlap → ⊥
+met_is_met : (t : Trial) (own : ℕ) → IsFirstMet (padded_box t) t.others own → Holds t Overlap → ⊥
 met_is_met t own met clear =
     let within : met.place < length t.others = slice_get_within t.others met.place met.cell met.there in
     let is : get_or t.others met.place met.cell ≡ met.cell = get_or_from_slice_get t.others met.place met.cell met.cell met.there in
     clear met.place met.cell within (rw is met.meets)
 
-pub overlap_broken : (t : Trial) (own : ℕ) → KeepsFrame t → IsFirstMet (box_of t) t.others own → IsFirstBroken t record { rule = Overlap; other = Some own }
+pub overlap_broken : (t : Trial) (own : ℕ) → KeepsFrame t → IsFirstMet (padded_box t) t.others own → IsFirstBroken t record { rule = Overlap; other = Some own }
 overlap_broken t own keeps met = record {
   broken = λ h. met_is_met t own met h;
   lesser = below_overlap t keeps;
@@ -181,11 +181,11 @@ obstacle_not t box is f g not_so = obstacle_broken t f (fence_at t box is g) (λ
 pub frame_at : (t : Trial) (box : Rect) → box ≡ box_of t → OnRows t → InGroundAt t box → ClearAt t box → KeepsFrame t
 frame_at t box is rows g o = frame_of t rows (fence_at t box is g) (obstacle_at t box is o)
 
-pub overlap_not : (t : Trial) (box : Rect) (own : ℕ) → box ≡ box_of t → KeepsFrame t → IsFirstMet box t.others own →
+pub overlap_not : (t : Trial) (box : Rect) (own : ℕ) → box ≡ padded_box t → KeepsFrame t → IsFirstMet box t.others own →
     IsFirstBroken t record { rule = Overlap; other = Some own }
 overlap_not t box own is keeps met = overlap_broken t own keeps (subst (λ (b : Rect). IsFirstMet b t.others own) is met)
 
-pub all_at : (t : Trial) (box : Rect) → box ≡ box_of t → KeepsFrame t → ApartAt t box → IsTeamLegal t
+pub all_at : (t : Trial) (box : Rect) → box ≡ padded_box t → KeepsFrame t → ApartAt t box → IsTeamLegal t
 all_at t box is keeps a = (legal_by_parts t).1 (keeps, subst (ApartAt t) is a)
 
 -- ---- the verdict
@@ -196,7 +196,7 @@ pub frame_broken : (t : Trial) (verdict : Option Rule) (rule : Rule) → verdict
 frame_broken t verdict rule is said = subst (IsFrameVerdict t) is said
 
 -- where all rules but overlap hold, the other cell that is met decides
-pub met_verdict : (t : Trial) (box : Rect) (verdict : Option Rule) (met : Option ℕ) → box ≡ box_of t → verdict ≡ None → IsFrameVerdict t verdict →
+pub met_verdict : (t : Trial) (box : Rect) (verdict : Option Rule) (met : Option ℕ) → box ≡ padded_box t → verdict ≡ None → IsFrameVerdict t verdict →
     MatchOption met (ApartAt t box) (λ own. IsFirstMet box t.others own) → IsVerdict t (option_map (λ own. record { rule = Overlap; other = Some own }) met)
 met_verdict t box verdict met at none said found = by met found
   where

@@ -1,5 +1,6 @@
 -- After a tidy in which no cell was stuck, every cell is placed and team-legal.
-use Rattle.std.proofs.Common.{◌≡◌, ◌⊎◌, ℕ, zero, suc, ◌+◌, ◌<◌, List, [], ◌∷◌, length, Option, Some, None, inl, inr, refl, sym, ◌∙◌, ap, subst, arith, slice_get, get_or}
+use Rattle.std.proofs.lemmas.Int.{ints}
+use Rattle.std.proofs.Common.{◌≡◌, ◌⊎◌, ℤ, pos, ◌+ℤ◌, ◌<ℤ◌, ℕ, zero, suc, ◌+◌, ◌<◌, ◌≤◌, List, [], ◌∷◌, length, Option, Some, None, inl, inr, refl, sym, ◌∙◌, ap, subst, arith, slice_get, get_or}
 use Rattle.std.specs.Prelude.{All, slice_set, MatchOption}
 use Rattle.std.specs.Option.{option_map}
 use Rattle.std.proofs.lemmas.Option.{slice_get_within, get_or_from_slice_get}
@@ -7,16 +8,20 @@ use Rattle.lf_units.specs.declared.area.Rect.{Rect}
 use Rattle.lf_units.specs.declared.area.Point.{Point}
 use Rattle.lf_units.specs.Area.{SharesPoint}
 use Rattle.lf_floorplan.specs.declared.frame.Frame.{Frame}
-use Rattle.lf_floorplan.specs.Boxes.{IsSized, macro_of}
+use Rattle.lf_floorplan.specs.Boxes.{IsSized, macro_of, size_of}
+use Rattle.lf_floorplan.specs.Sizes.{turned}
+use Rattle.lf_floorplan.proofs.SizeBounds.{IsSmall, small_pitch, turned_small, sized_pitch}
 use Rattle.lf_rtree.specs.declared.placed.Placed.{Placed}
 use Rattle.lf_rules.specs.declared.rule.Broken.{Broken}
 use Rattle.lf_rules.specs.Legality.{IsApart}
+use Rattle.lf_rules.specs.Padding.{length_of, wider}
 use Rattle.lf_rules.specs.Choice.{Spot, Lifted, trial_at, IsLegalAt, IsChoice, anchor}
 use Rattle.lf_rules.specs.Legalizer.{Legalizer, IsVerdict}
 use Rattle.lf_rules.specs.Team.{Member, box_in, boxes_beside, lifted_from, StandsLegal}
 use Rattle.lf_rules.specs.Tidy.{Tidied, Going, Stuck, target_of, sent_to, tidied_to, tidied_own, tidy_cell, tidied_from, tidied, point_of}
+use Rattle.lf_rules.proofs.WiderLemmas.{either_way, length_least}
 use Rattle.lf_rules.proofs.BesideLemmas.{beside_hold, beside_each}
-use Rattle.lf_rules.proofs.LegalParts.{beside, frame_beside, legal_by_parts}
+use Rattle.lf_rules.proofs.LegalParts.{beside, frame_beside, legal_by_parts, legal_with_less}
 
 -- rules 1 to 7 do not ask for the other cells
 beside_others : (c : Lifted) (others : List Placed) (p : Spot) → IsLegalAt c p →
@@ -28,19 +33,35 @@ beside_others c others p legal apart =
 pub turn : (a b : Rect) → SharesPoint a b → SharesPoint b a
 turn a b m = record { x = m.x; y = m.y; in_first = m.in_second; in_second = m.in_first }
 
+-- the box of the macro at the place, made wider by the padding
+abbrev pub padded_in : Frame → ℕ → ℕ → Spot → Rect
+padded_in f padding mac p = wider (length_of f padding) (box_in f mac p)
+
 -- no other placed cell meets the box
 abbrev pub Clear : Frame → List Member → ℕ → Rect → Type 0
 Clear f cells own box = (k : ℕ) (m : Member) (p : Spot) → (k ≡ own → ⊥) → slice_get cells k ≡ Some m → m.place ≡ Some p → SharesPoint box (box_in f m.mac p) → ⊥
 
--- a legal place meets none
-pub clear_of_legal : (f : Frame) (team : ℕ) (cells : List Member) (own mac : ℕ) (p : Spot) → IsLegalAt (lifted_from f team cells own mac) p → Clear f cells own (box_in f mac p)
-clear_of_legal f team cells own mac p legal = beside_each (λ rect. SharesPoint (box_in f mac p) rect → ⊥) f cells own ((legal_by_parts (trial_at (lifted_from f team cells own mac) p)).0 legal).1
+-- a legal place meets none, its box made wider by the padding
+pub clear_of_legal : (f : Frame) (team padding : ℕ) (cells : List Member) (own mac : ℕ) (p : Spot) → IsLegalAt (lifted_from f team padding cells own mac) p →
+    Clear f cells own (padded_in f padding mac p)
+clear_of_legal f team padding cells own mac p legal =
+    beside_each (λ rect. SharesPoint (padded_in f padding mac p) rect → ⊥) f cells own ((legal_by_parts (trial_at (lifted_from f team padding cells own mac) p)).0 legal).1
 
 -- a place that was legal among other cells is so among these if it meets none
-legal_of_clear : (f : Frame) (team : ℕ) (old new : List Member) (own mac : ℕ) (p : Spot) → IsLegalAt (lifted_from f team old own mac) p →
-    Clear f new own (box_in f mac p) → IsLegalAt (lifted_from f team new own mac) p
-legal_of_clear f team old new own mac p legal clear =
-    beside_others (lifted_from f team old own mac) (boxes_beside f new own) p legal (beside_hold (λ rect. SharesPoint (box_in f mac p) rect → ⊥) f new own clear)
+legal_of_clear : (f : Frame) (team padding : ℕ) (old new : List Member) (own mac : ℕ) (p : Spot) → IsLegalAt (lifted_from f team padding old own mac) p →
+    Clear f new own (padded_in f padding mac p) → IsLegalAt (lifted_from f team padding new own mac) p
+legal_of_clear f team padding old new own mac p legal clear =
+    beside_others (lifted_from f team padding old own mac) (boxes_beside f new own) p legal
+    (beside_hold (λ rect. SharesPoint (padded_in f padding mac p) rect → ⊥) f new own clear)
+
+-- the box of a macro of whole size holds a point
+pub wide_box : (f : Frame) (mac : ℕ) (p : Spot) → IsSized f (macro_of f mac) → (box_in f mac p).x1 <ℤ (box_in f mac p).x2
+wide_box f mac p sized =
+    let small : IsSmall (turned (size_of f (macro_of f mac)) p.orient) = turned_small _ _ (small_pitch _ _ _ (sized_pitch f (macro_of f mac) sized)) in
+    wide p.x _ small.wide
+  where
+    wide : (x w : ℤ) → pos 0 <ℤ w → x <ℤ (x +ℤ w)
+    wide x w h = omega (arith, ints)
 
 get_set : {X : Type 0} (xs : List X) (n : ℕ) (x y : X) → slice_get (slice_set xs n y) n ≡ Some x → x ≡ y
 get_set [] n x y e = absurd cc
@@ -83,63 +104,69 @@ old_clear f cells own n mac p box clear apart k m q differ there is meets = elim
     some_one e = cc
 
 -- the first cells are placed and team-legal
-abbrev Done : Frame → ℕ → ℕ → List Member → Type 0
-Done f team n cells = (own : ℕ) → own < n → StandsLegal f team cells own
+abbrev Done : Frame → ℕ → ℕ → ℕ → List Member → Type 0
+Done f team padding n cells = (own : ℕ) → own < n → StandsLegal f team padding cells own
 
 below_or_at : (own n : ℕ) → own < n + 1 → (own < n) ⊎ (own ≡ n)
 below_or_at own n less = grind arith
 
 -- a cell that goes to a place that is legal for it stands there legally
-went_legal : (f : Frame) (team n : ℕ) (cells : List Member) (m : Member) (p : Spot) →
-    IsLegalAt (lifted_from f team cells n m.mac) p → StandsLegal f team (slice_set cells n (placed_at m.mac p)) n
-went_legal f team n cells m p legal x here =
-    subst (λ (y : Member). MatchOption y.place ⊥ (λ s. IsLegalAt (lifted_from f team (slice_set cells n (placed_at m.mac p)) n y.mac) s)) (sym (get_set cells n x (placed_at m.mac p) here))
-    (legal_of_clear f team cells (slice_set cells n (placed_at m.mac p)) n m.mac p legal (new_clear f cells n m.mac p (box_in f m.mac p) (clear_of_legal f team cells n m.mac p legal)))
-
--- and a cell that stands legally stays so where another one goes there
-others_stay : (f : Frame) (team n own : ℕ) (cells : List Member) (m : Member) (p : Spot) → slice_get cells n ≡ Some m →
-    IsLegalAt (lifted_from f team cells n m.mac) p → (own ≡ n → ⊥) → StandsLegal f team cells own →
-    StandsLegal f team (slice_set cells n (placed_at m.mac p)) own
-others_stay f team n own cells m p there legal other stands x here =
-    let was : slice_get cells own ≡ Some x = sym (get_other cells n own (placed_at m.mac p) other) ∙ here in
-    earlier x was x.place refl (stands x was)
-  where
-    earlier : (x : Member) → slice_get cells own ≡ Some x → (place : Option Spot) → x.place ≡ place →
-        MatchOption place ⊥ (λ s. IsLegalAt (lifted_from f team cells own x.mac) s) →
-        MatchOption place ⊥ (λ s. IsLegalAt (lifted_from f team (slice_set cells n (placed_at m.mac p)) own x.mac) s)
-    earlier x was None is stands = stands
-    earlier x was (Some q) is stands =
-        legal_of_clear f team cells (slice_set cells n (placed_at m.mac p)) own x.mac q stands
-        (old_clear f cells own n m.mac p (box_in f x.mac q) (clear_of_legal f team cells own x.mac q stands)
-        (λ meets. clear_of_legal f team cells n m.mac p legal own x q other was is (turn (box_in f x.mac q) (box_in f m.mac p) meets)))
-
--- the cell of number n goes to a place that is legal for it
-gone : (f : Frame) (team n : ℕ) (cells : List Member) (m : Member) (p : Spot) → slice_get cells n ≡ Some m →
-    IsLegalAt (lifted_from f team cells n m.mac) p → Done f team n cells → Done f team (n + 1) (slice_set cells n (placed_at m.mac p))
-gone f team n cells m p there legal done own less = elim (below_or_at own n less) [
-  | inr same ↦ subst (λ (j : ℕ). StandsLegal f team (slice_set cells n (placed_at m.mac p)) j) (sym same) (went_legal f team n cells m p legal)
-  | inl before ↦ others_stay f team n own cells m p there legal (λ e. omega (arith, before, e)) (done own before)
-]
-
--- the cell of number n stays, and its place is legal for it
-stayed : (f : Frame) (team n : ℕ) (cells : List Member) → StandsLegal f team cells n → Done f team n cells → Done f team (n + 1) cells
-stayed f team n cells stands done own less = elim (below_or_at own n less) [
-  | inl before ↦ done own before
-  | inr same ↦ subst (λ (j : ℕ). StandsLegal f team cells j) (sym same) stands
-]
+went_legal : (f : Frame) (team padding n : ℕ) (cells : List Member) (m : Member) (p : Spot) →
+    IsLegalAt (lifted_from f team padding cells n m.mac) p → StandsLegal f team padding (slice_set cells n (placed_at m.mac p)) n
+went_legal f team padding n cells m p legal x here =
+    subst (λ (y : Member). MatchOption y.place ⊥ (λ s. IsLegalAt (lifted_from f team padding (slice_set cells n (placed_at m.mac p)) n y.mac) s)) (sym (get_set cells n x (placed_at m.mac p) here))
+    (legal_of_clear f team padding cells (slice_set cells n (placed_at m.mac p)) n m.mac p legal (new_clear f cells n m.mac p (padded_in f padding m.mac p) (clear_of_legal f team padding cells n m.mac p legal)))
 
 abbrev Sized : Frame → List Member → Type 0
 Sized f cells = (k : ℕ) (m : Member) → slice_get cells k ≡ Some m → IsSized f (macro_of f m.mac)
 
+-- and a cell that stands legally stays so where another one goes there
+others_stay : (f : Frame) (team padding n own : ℕ) (cells : List Member) (m : Member) (p : Spot) → Sized f cells → slice_get cells n ≡ Some m →
+    IsLegalAt (lifted_from f team padding cells n m.mac) p → (own ≡ n → ⊥) → StandsLegal f team padding cells own →
+    StandsLegal f team padding (slice_set cells n (placed_at m.mac p)) own
+others_stay f team padding n own cells m p sized there legal other stands x here =
+    let was : slice_get cells own ≡ Some x = sym (get_other cells n own (placed_at m.mac p) other) ∙ here in
+    earlier x was x.place refl (stands x was)
+  where
+    meets_back : (x : Member) (q : Spot) → IsSized f (macro_of f x.mac) → SharesPoint (padded_in f padding x.mac q) (box_in f m.mac p) →
+        SharesPoint (padded_in f padding m.mac p) (box_in f x.mac q)
+    meets_back x q whole meets =
+        either_way (length_of f padding) (box_in f x.mac q) (box_in f m.mac p) (length_least f padding) (wide_box f x.mac q whole)
+        (wide_box f m.mac p (sized n m there)) meets
+
+    earlier : (x : Member) → slice_get cells own ≡ Some x → (place : Option Spot) → x.place ≡ place →
+        MatchOption place ⊥ (λ s. IsLegalAt (lifted_from f team padding cells own x.mac) s) →
+        MatchOption place ⊥ (λ s. IsLegalAt (lifted_from f team padding (slice_set cells n (placed_at m.mac p)) own x.mac) s)
+    earlier x was None is stands = stands
+    earlier x was (Some q) is stands =
+        legal_of_clear f team padding cells (slice_set cells n (placed_at m.mac p)) own x.mac q stands
+        (old_clear f cells own n m.mac p (padded_in f padding x.mac q) (clear_of_legal f team padding cells own x.mac q stands)
+        (λ meets. clear_of_legal f team padding cells n m.mac p legal own x q other was is (meets_back x q (sized own x was) meets)))
+
+-- the cell of number n goes to a place that is legal for it
+gone : (f : Frame) (team padding n : ℕ) (cells : List Member) (m : Member) (p : Spot) → Sized f cells → slice_get cells n ≡ Some m →
+    IsLegalAt (lifted_from f team padding cells n m.mac) p → Done f team padding n cells → Done f team padding (n + 1) (slice_set cells n (placed_at m.mac p))
+gone f team padding n cells m p sized there legal done own less = elim (below_or_at own n less) [
+  | inr same ↦ subst (λ (j : ℕ). StandsLegal f team padding (slice_set cells n (placed_at m.mac p)) j) (sym same) (went_legal f team padding n cells m p legal)
+  | inl before ↦ others_stay f team padding n own cells m p sized there legal (λ e. omega (arith, before, e)) (done own before)
+]
+
+-- the cell of number n stays, and its place is legal for it
+stayed : (f : Frame) (team padding n : ℕ) (cells : List Member) → StandsLegal f team padding cells n → Done f team padding n cells → Done f team padding (n + 1) cells
+stayed f team padding n cells stands done own less = elim (below_or_at own n less) [
+  | inl before ↦ done own before
+  | inr same ↦ subst (λ (j : ℕ). StandsLegal f team padding cells j) (sym same) stands
+]
+
 -- how far tidying has come after the cells below n
-pub record Came (f : Frame) (team n count : ℕ) (cells : List Member) : Type 0 where
-  pub done : Done f team n cells
+pub record Came (f : Frame) (team padding n count : ℕ) (cells : List Member) : Type 0 where
+  pub done : Done f team padding n cells
   pub sized : Sized f cells
   pub many : length cells ≡ count
 
-abbrev CameTo : Frame → ℕ → ℕ → ℕ → Tidied → Type 0
-CameTo f team n count (Going cells moved) = Came f team n count cells
-CameTo f team n count (Stuck own) = Unit {0}
+abbrev CameTo : Frame → ℕ → ℕ → ℕ → ℕ → Tidied → Type 0
+CameTo f team padding n count (Going cells moved) = Came f team padding n count cells
+CameTo f team padding n count (Stuck own) = Unit {0}
 
 length_set : {X : Type 0} (xs : List X) (n : ℕ) (y : X) → length (slice_set xs n y) ≡ length xs
 length_set [] n y = refl
@@ -156,11 +183,11 @@ sized_set f cells n m p there sized k x here = elim (order_of k n) [
 ]
 
 -- the cell is sent to what the search has found
-sent : (f : Frame) (team n count : ℕ) (cells : List Member) (moved : ℕ) (m : Member) (target : Point) (found : Option Spot) → slice_get cells n ≡ Some m →
-    IsChoice (lifted_from f team cells n m.mac) target found → Came f team n count cells → CameTo f team (n + 1) count (sent_to found cells moved n m.mac)
-sent f team n count cells moved m target None there choice came = tt
-sent f team n count cells moved m target (Some p) there choice came = record {
-  done = gone f team n cells m p there choice.may_go.legal came.done;
+sent : (f : Frame) (team padding n count : ℕ) (cells : List Member) (moved : ℕ) (m : Member) (target : Point) (found : Option Spot) → slice_get cells n ≡ Some m →
+    IsChoice (lifted_from f team padding cells n m.mac) target found → Came f team padding n count cells → CameTo f team padding (n + 1) count (sent_to found cells moved n m.mac)
+sent f team padding n count cells moved m target None there choice came = tt
+sent f team padding n count cells moved m target (Some p) there choice came = record {
+  done = gone f team padding n cells m p came.sized there choice.may_go.legal came.done;
   sized = sized_set f cells n m p there came.sized;
   many = length_set cells n (placed_at m.mac p) ∙ came.many;
 }
@@ -169,71 +196,71 @@ same_member : {a b : Member} → Some a ≡ Some b → a ≡ b
 same_member e = cc
 
 -- a cell that stays breaks no rule
-stays : (f : Frame) (team n : ℕ) (cells : List Member) (m : Member) (p : Spot) → slice_get cells n ≡ Some m → m.place ≡ Some p →
-    IsLegalAt (lifted_from f team cells n m.mac) p → StandsLegal f team cells n
-stays f team n cells m p there is legal x here =
+stays : (f : Frame) (team padding n : ℕ) (cells : List Member) (m : Member) (p : Spot) → slice_get cells n ≡ Some m → m.place ≡ Some p →
+    IsLegalAt (lifted_from f team padding cells n m.mac) p → StandsLegal f team padding cells n
+stays f team padding n cells m p there is legal x here =
     let same : m ≡ x = same_member (sym there ∙ here) in
-    subst (λ (y : Member). MatchOption y.place ⊥ (λ s. IsLegalAt (lifted_from f team cells n y.mac) s)) same (rw is legal)
+    subst (λ (y : Member). MatchOption y.place ⊥ (λ s. IsLegalAt (lifted_from f team padding cells n y.mac) s)) same (rw is legal)
 
 -- a placed cell stays or is sent, by its first broken rule
-judged : (l : Legalizer) (f : Frame) (team n count : ℕ) (cells : List Member) (moved : ℕ) (m : Member) (p : Spot) (verdict : Option Broken) →
-    slice_get cells n ≡ Some m → m.place ≡ Some p → IsVerdict (trial_at (lifted_from f team cells n m.mac) p) verdict → Came f team n count cells →
-    CameTo f team (n + 1) count (tidied_to (option_map (λ broken. point_of p) verdict) l (lifted_from f team cells n m.mac) cells moved n m.mac)
-judged l f team n count cells moved m p None there is legal came = record {
-  done = stayed f team n cells (stays f team n cells m p there is legal) came.done;
+judged : (l : Legalizer) (f : Frame) (team padding n count : ℕ) (cells : List Member) (moved : ℕ) (m : Member) (p : Spot) (verdict : Option Broken) →
+    slice_get cells n ≡ Some m → m.place ≡ Some p → IsVerdict (trial_at (lifted_from f team padding cells n m.mac) p) verdict → Came f team padding n count cells →
+    CameTo f team padding (n + 1) count (tidied_to (option_map (λ broken. point_of p) verdict) l (lifted_from f team padding cells n m.mac) cells moved n m.mac)
+judged l f team padding n count cells moved m p None there is legal came = record {
+  done = stayed f team padding n cells (stays f team padding n cells m p there is legal) came.done;
   sized = came.sized;
   many = came.many;
 }
-judged l f team n count cells moved m p (Some b) there is broken came =
-    sent f team n count cells moved m (point_of p) _ there (l.finds_best_place (lifted_from f team cells n m.mac) (point_of p) (came.sized n m there)) came
+judged l f team padding n count cells moved m p (Some b) there is broken came =
+    sent f team padding n count cells moved m (point_of p) _ there (l.finds_best_place (lifted_from f team padding cells n m.mac) (point_of p) (came.sized n m there)) came
 
-placed_or_not : (l : Legalizer) (f : Frame) (team n count : ℕ) (cells : List Member) (moved : ℕ) (m : Member) (place : Option Spot) →
-    slice_get cells n ≡ Some m → m.place ≡ place → Came f team n count cells →
-    CameTo f team (n + 1) count (tidied_to (target_of l (lifted_from f team cells n m.mac) place) l (lifted_from f team cells n m.mac) cells moved n m.mac)
-placed_or_not l f team n count cells moved m None there is came =
-    sent f team n count cells moved m (anchor f team) _ there (l.finds_best_place (lifted_from f team cells n m.mac) (anchor f team) (came.sized n m there)) came
-placed_or_not l f team n count cells moved m (Some p) there is came =
-    judged l f team n count cells moved m p _ there is (l.finds_first_broken (trial_at (lifted_from f team cells n m.mac) p) (came.sized n m there)) came
+placed_or_not : (l : Legalizer) (f : Frame) (team padding n count : ℕ) (cells : List Member) (moved : ℕ) (m : Member) (place : Option Spot) →
+    slice_get cells n ≡ Some m → m.place ≡ place → Came f team padding n count cells →
+    CameTo f team padding (n + 1) count (tidied_to (target_of l (lifted_from f team padding cells n m.mac) place) l (lifted_from f team padding cells n m.mac) cells moved n m.mac)
+placed_or_not l f team padding n count cells moved m None there is came =
+    sent f team padding n count cells moved m (anchor f team) _ there (l.finds_best_place (lifted_from f team padding cells n m.mac) (anchor f team) (came.sized n m there)) came
+placed_or_not l f team padding n count cells moved m (Some p) there is came =
+    judged l f team padding n count cells moved m p _ there is (l.finds_first_broken (trial_at (lifted_from f team padding cells n m.mac) p) (came.sized n m there)) came
 
-there_or_not : (l : Legalizer) (f : Frame) (team n count : ℕ) (cells : List Member) (moved : ℕ) (found : Option Member) → slice_get cells n ≡ found →
-    Came f team n count cells → CameTo f team (n + 1) count (tidied_own found l f team cells moved n)
-there_or_not l f team n count cells moved None past came = record {
-  done = stayed f team n cells (λ m here. absurd (none_some (sym past ∙ here))) came.done;
+there_or_not : (l : Legalizer) (f : Frame) (team padding n count : ℕ) (cells : List Member) (moved : ℕ) (found : Option Member) → slice_get cells n ≡ found →
+    Came f team padding n count cells → CameTo f team padding (n + 1) count (tidied_own found l f team padding cells moved n)
+there_or_not l f team padding n count cells moved None past came = record {
+  done = stayed f team padding n cells (λ m here. absurd (none_some (sym past ∙ here))) came.done;
   sized = came.sized;
   many = came.many;
 }
   where
     none_some : {m : Member} → None ≡ Some m → ⊥
     none_some e = cc
-there_or_not l f team n count cells moved (Some m) there came = placed_or_not l f team n count cells moved m m.place there refl came
+there_or_not l f team padding n count cells moved (Some m) there came = placed_or_not l f team padding n count cells moved m m.place there refl came
 
-one_cell : (l : Legalizer) (f : Frame) (team n count : ℕ) (t : Tidied) → CameTo f team n count t → CameTo f team (n + 1) count (tidy_cell l f team t n)
-one_cell l f team n count (Stuck own) came = tt
-one_cell l f team n count (Going cells moved) came = there_or_not l f team n count cells moved (slice_get cells n) refl came
+one_cell : (l : Legalizer) (f : Frame) (team padding n count : ℕ) (t : Tidied) → CameTo f team padding n count t → CameTo f team padding (n + 1) count (tidy_cell l f team padding t n)
+one_cell l f team padding n count (Stuck own) came = tt
+one_cell l f team padding n count (Going cells moved) came = there_or_not l f team padding n count cells moved (slice_get cells n) refl came
 
-all_cells : (l : Legalizer) (f : Frame) (team n count rest : ℕ) (t : Tidied) → CameTo f team n count t → CameTo f team (n + rest) count (tidied_from l f team n rest t)
-all_cells l f team n count zero t came = subst (λ (k : ℕ). CameTo f team k count t) (omega arith) came
-all_cells l f team n count (suc rest) t came =
-    subst (λ (k : ℕ). CameTo f team k count (tidied_from l f team (n + 1) rest (tidy_cell l f team t n))) (omega arith)
-    (all_cells l f team (n + 1) count rest (tidy_cell l f team t n) (one_cell l f team n count t came))
+all_cells : (l : Legalizer) (f : Frame) (team padding n count rest : ℕ) (t : Tidied) → CameTo f team padding n count t → CameTo f team padding (n + rest) count (tidied_from l f team padding n rest t)
+all_cells l f team padding n count zero t came = subst (λ (k : ℕ). CameTo f team padding k count t) (omega arith) came
+all_cells l f team padding n count (suc rest) t came =
+    subst (λ (k : ℕ). CameTo f team padding k count (tidied_from l f team padding (n + 1) rest (tidy_cell l f team padding t n))) (omega arith)
+    (all_cells l f team padding (n + 1) count rest (tidy_cell l f team padding t n) (one_cell l f team padding n count t came))
 
 sized_each : (f : Frame) (cells : List Member) → All (λ m. IsSized f (macro_of f m.mac)) cells → Sized f cells
 sized_each f cells all k m there =
     let is : get_or cells k m ≡ m = get_or_from_slice_get cells k m m there in
     rw is at (all k m (slice_get_within cells k m there))
 
-every : (f : Frame) (team : ℕ) (new : List Member) → Came f team (length new) (length new) new → (own : ℕ) → StandsLegal f team new own
-every f team new came own m here = came.done own (slice_get_within new own m here) m here
+every : (f : Frame) (team padding : ℕ) (new : List Member) → Came f team padding (length new) (length new) new → (own : ℕ) → StandsLegal f team padding new own
+every f team padding new came own m here = came.done own (slice_get_within new own m here) m here
 
-pub tidied_legal : (l : Legalizer) (f : Frame) (team : ℕ) (cells new : List Member) (moved : ℕ) → All (λ m. IsSized f (macro_of f m.mac)) cells →
-    tidied l f team cells ≡ Going new moved → (own : ℕ) → StandsLegal f team new own
+pub tidied_legal : (l : Legalizer) (f : Frame) (team padding : ℕ) (cells new : List Member) (moved : ℕ) → All (λ m. IsSized f (macro_of f m.mac)) cells →
+    tidied l f team padding cells ≡ Going new moved → (own : ℕ) → StandsLegal f team padding new own
 unfolding tidied
-tidied_legal l f team cells new moved all is =
-    let begin : CameTo f team 0 (length cells) (Going cells 0) = record { done = λ own less. absurd (omega arith); sized = sized_each f cells all; many = refl } in
-    let end : CameTo f team (0 + length cells) (length cells) (tidied l f team cells) = all_cells l f team 0 (length cells) (length cells) (Going cells 0) begin in
-    let came : CameTo f team (0 + length cells) (length cells) (Going new moved) = subst (λ (t : Tidied). CameTo f team (0 + length cells) (length cells) t) is end in
-    let upto : Came f team (length cells) (length cells) new = subst (λ (k : ℕ). Came f team k (length cells) new) (omega arith) came in
-    every f team new (subst (λ (k : ℕ). Came f team k k new) (sym came.many) upto)
+tidied_legal l f team padding cells new moved all is =
+    let begin : CameTo f team padding 0 (length cells) (Going cells 0) = record { done = λ own less. absurd (omega arith); sized = sized_each f cells all; many = refl } in
+    let end : CameTo f team padding (0 + length cells) (length cells) (tidied l f team padding cells) = all_cells l f team padding 0 (length cells) (length cells) (Going cells 0) begin in
+    let came : CameTo f team padding (0 + length cells) (length cells) (Going new moved) = subst (λ (t : Tidied). CameTo f team padding (0 + length cells) (length cells) t) is end in
+    let upto : Came f team padding (length cells) (length cells) new = subst (λ (k : ℕ). Came f team padding k (length cells) new) (omega arith) came in
+    every f team padding new (subst (λ (k : ℕ). Came f team padding k k new) (sym came.many) upto)
 
 -- ---- while one cell is tidied, the others stay legal
 
@@ -241,32 +268,40 @@ same_cells : {a b : List Member} {i j : ℕ} → Going a i ≡ Going b j → a �
 same_cells e = cc
 
 -- the cell that is sent finds its choice
-legal_when_sent : (f : Frame) (team : ℕ) (cells new : List Member) (moved count own other : ℕ) (m : Member) (target : Point) (found : Option Spot) →
-    slice_get cells own ≡ Some m → IsChoice (lifted_from f team cells own m.mac) target found → sent_to found cells moved own m.mac ≡ Going new count →
-    StandsLegal f team cells other → StandsLegal f team new other
-legal_when_sent f team cells new moved count own other m target None there choice is stands = absurd cc
-legal_when_sent f team cells new moved count own other m target (Some p) there choice is stands =
-    subst (λ (ms : List Member). StandsLegal f team ms other) (same_cells is)
+legal_when_sent : (f : Frame) (team padding : ℕ) (cells new : List Member) (moved count own other : ℕ) (m : Member) (target : Point) (found : Option Spot) →
+    Sized f cells → slice_get cells own ≡ Some m → IsChoice (lifted_from f team padding cells own m.mac) target found → sent_to found cells moved own m.mac ≡ Going new count →
+    StandsLegal f team padding cells other → StandsLegal f team padding new other
+legal_when_sent f team padding cells new moved count own other m target None sized there choice is stands = absurd cc
+legal_when_sent f team padding cells new moved count own other m target (Some p) sized there choice is stands =
+    subst (λ (ms : List Member). StandsLegal f team padding ms other) (same_cells is)
     (elim (order_of other own) [
-      | inl same ↦ subst (λ (j : ℕ). StandsLegal f team (slice_set cells own (placed_at m.mac p)) j) (sym same) (went_legal f team own cells m p choice.may_go.legal)
-      | inr differ ↦ others_stay f team own other cells m p there choice.may_go.legal differ stands
+      | inl same ↦ subst (λ (j : ℕ). StandsLegal f team padding (slice_set cells own (placed_at m.mac p)) j) (sym same) (went_legal f team padding own cells m p choice.may_go.legal)
+      | inr differ ↦ others_stay f team padding own other cells m p sized there choice.may_go.legal differ stands
     ])
 
-legal_when_aimed : (l : Legalizer) (f : Frame) (team : ℕ) (cells new : List Member) (moved count own other : ℕ) (m : Member) (target : Option Point) →
-    slice_get cells own ≡ Some m → IsSized f (macro_of f m.mac) → tidied_to target l (lifted_from f team cells own m.mac) cells moved own m.mac ≡ Going new count →
-    StandsLegal f team cells other → StandsLegal f team new other
-legal_when_aimed l f team cells new moved count own other m None there sized is stands =
-    subst (λ (ms : List Member). StandsLegal f team ms other) (same_cells is) stands
-legal_when_aimed l f team cells new moved count own other m (Some target) there sized is stands =
-    legal_when_sent f team cells new moved count own other m target (l.best_place (lifted_from f team cells own m.mac) target) there
-    (l.finds_best_place (lifted_from f team cells own m.mac) target sized) is stands
+legal_when_aimed : (l : Legalizer) (f : Frame) (team padding : ℕ) (cells new : List Member) (moved count own other : ℕ) (m : Member) (target : Option Point) →
+    Sized f cells → slice_get cells own ≡ Some m → tidied_to target l (lifted_from f team padding cells own m.mac) cells moved own m.mac ≡ Going new count →
+    StandsLegal f team padding cells other → StandsLegal f team padding new other
+legal_when_aimed l f team padding cells new moved count own other m None sized there is stands =
+    subst (λ (ms : List Member). StandsLegal f team padding ms other) (same_cells is) stands
+legal_when_aimed l f team padding cells new moved count own other m (Some target) sized there is stands =
+    legal_when_sent f team padding cells new moved count own other m target (l.best_place (lifted_from f team padding cells own m.mac) target) sized there
+    (l.finds_best_place (lifted_from f team padding cells own m.mac) target (sized own m there)) is stands
 
-pub legal_when_tidied : (l : Legalizer) (f : Frame) (team : ℕ) (cells new : List Member) (moved count own other : ℕ) →
-    All (λ m. IsSized f (macro_of f m.mac)) cells → tidy_cell l f team (Going cells moved) own ≡ Going new count →
-    StandsLegal f team cells other → StandsLegal f team new other
-legal_when_tidied l f team cells new moved count own other all is stands = go (slice_get cells own) refl is where
-  go : (o : Option Member) → slice_get cells own ≡ o → tidied_own o l f team cells moved own ≡ Going new count → StandsLegal f team new other
-  go None there is = subst (λ (ms : List Member). StandsLegal f team ms other) (same_cells is) stands
+pub legal_when_tidied : (l : Legalizer) (f : Frame) (team padding : ℕ) (cells new : List Member) (moved count own other : ℕ) →
+    All (λ m. IsSized f (macro_of f m.mac)) cells → tidy_cell l f team padding (Going cells moved) own ≡ Going new count →
+    StandsLegal f team padding cells other → StandsLegal f team padding new other
+legal_when_tidied l f team padding cells new moved count own other all is stands = go (slice_get cells own) refl is where
+  go : (o : Option Member) → slice_get cells own ≡ o → tidied_own o l f team padding cells moved own ≡ Going new count → StandsLegal f team padding new other
+  go None there is = subst (λ (ms : List Member). StandsLegal f team padding ms other) (same_cells is) stands
   go (Some m) there is =
-      legal_when_aimed l f team cells new moved count own other m (target_of l (lifted_from f team cells own m.mac) m.place) there
-      (sized_each f cells all own m there) is stands
+      legal_when_aimed l f team padding cells new moved count own other m (target_of l (lifted_from f team padding cells own m.mac) m.place) (sized_each f cells all) there is stands
+
+-- ---- with less padding a cell that stands legal stays so
+
+pub less_stands : (f : Frame) (team less more : ℕ) (cells : List Member) (own : ℕ) → less ≤ more → StandsLegal f team more cells own → StandsLegal f team less cells own
+less_stands f team less more cells own upto stands m there = go m.place (stands m there) where
+  go : (place : Option Spot) → MatchOption place ⊥ (λ p. IsLegalAt (lifted_from f team more cells own m.mac) p) →
+      MatchOption place ⊥ (λ p. IsLegalAt (lifted_from f team less cells own m.mac) p)
+  go None h = h
+  go (Some p) h = legal_with_less (trial_at (lifted_from f team more cells own m.mac) p) less upto h

@@ -12,7 +12,7 @@ use Rattle.lf_orient.specs.Orientation.{is_allowed, EqualUnder, rail_below, flip
 use Rattle.lf_floorplan.specs.declared.parts.Row.{Row}
 use Rattle.lf_rtree.specs.declared.placed.Placed.{Placed}
 use Rattle.lf_rules.specs.declared.rule.Broken.{Broken}
-use Rattle.lf_rules.specs.Legality.{IsFirstMet, Trial, IsFirstBroken, box_of}
+use Rattle.lf_rules.specs.Legality.{IsFirstMet, Trial, IsFirstBroken, box_of, padded_box}
 use Rattle.lf_floorplan.specs.Boxes.{IsSized, size_of}
 use Rattle.lf_floorplan.specs.Sizes.{turned}
 use Rattle.lf_floorplan.specs.Standing.{Carries}
@@ -88,7 +88,7 @@ on_areas t rows = elim (all_in_ground t.frame t.team (box_of t)) [
   | inr n ↦ broke (fence_broken t rows n)
   | inl g ↦ elim (each (λ o. SharesPoint (box_of t) o → ⊥) (λ o. elim (shares (box_of t) o) [ inl m ↦ inr (λ c. c m) | inr c ↦ inl c ]) t.frame.obstacles) [
     | inr n ↦ broke (obstacle_broken t rows g n)
-    | inl o ↦ elim (first_or_none (box_of t) t.others) [
+    | inl o ↦ elim (first_or_none (padded_box t) t.others) [
       | inl m ↦ broke (overlap_broken t m.0 (frame_of t rows g o) m.1)
       | inr v ↦ (None, (legal_by_parts t).1 (frame_of t rows g o, v))
     ]

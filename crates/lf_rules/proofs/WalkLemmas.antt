@@ -19,12 +19,12 @@ use Rattle.lf_rules.proofs.RuleLemmas.{Found, OnRows, OrientedAt, RailAt, Stands
 abbrev MeasuredFit : Frame → Macro → Place → ℕ → Row → Type 0
 MeasuredFit h mac place k r = IsTrue (is_allowed mac.symmetry place.orient) × (k % 2 ≡ 1 → EqualUnder h.site.symmetry place.orient r.orient)
 
-module _ (h f : Frame) (same : h ≡ f) (team : ℕ) (mac : Macro) (place : Place) (others : List Placed) (box : Rect) (is : box ≡ box_of (trial_of h team mac place others)) where
+module _ (h f : Frame) (same : h ≡ f) (team : ℕ) (mac : Macro) (place : Place) (padding : ℕ) (others : List Placed) (box : Rect) (is : box ≡ box_of (trial_of h team padding mac place others)) where
   abbrev t : Trial
-  t = trial_of f team mac place others
+  t = trial_of f team padding mac place others
 
   box_is : box ≡ box_of t
-  box_is = subst (λ (g : Frame). box ≡ box_of (trial_of g team mac place others)) same is
+  box_is = subst (λ (g : Frame). box ≡ box_of (trial_of g team padding mac place others)) same is
 
   fits : (k : ℕ) (r : Row) → MeasuredFit h mac place k r → OrientedAt t k r
   fits k r o = (o.0, λ odd. subst (λ (g : Frame). EqualUnder g.site.symmetry place.orient r.orient) same (o.1 odd))
@@ -68,8 +68,8 @@ module _ (h f : Frame) (same : h ≡ f) (team : ℕ) (mac : Macro) (place : Plac
   stand_there rows = rows_stand_at t box box_is rows
 
 -- the box stands on rows
-pub stands : (h f : Frame) (same : h ≡ f) (team : ℕ) (mac : Macro) (place : Place) (box : Rect) → box ≡ box_of (trial_of h team mac place []) → IsSolid box →
-    (k : ℕ) (r : Row) → IsSitesHigh h box k → IsBottomRow f box r → StandsAt (trial_of f team mac place []) box k r → MeasuredFit h mac place k r →
-    RailAt (trial_of f team mac place []) k r → StandsOn f box
+pub stands : (h f : Frame) (same : h ≡ f) (team : ℕ) (mac : Macro) (place : Place) (box : Rect) → box ≡ box_of (trial_of h team 0 mac place []) → IsSolid box →
+    (k : ℕ) (r : Row) → IsSitesHigh h box k → IsBottomRow f box r → StandsAt (trial_of f team 0 mac place []) box k r → MeasuredFit h mac place k r →
+    RailAt (trial_of f team 0 mac place []) k r → StandsOn f box
 stands h f same team mac place box is solid k r tall bottom s o p =
-    stand_there h f same team mac place [] box is (rows_kept h f same team mac place [] box is solid k r tall bottom s o p)
+    stand_there h f same team mac place 0 [] box is (rows_kept h f same team mac place 0 [] box is solid k r tall bottom s o p)

@@ -27,16 +27,18 @@ pub record Spot : Type 0 where
 abbrev pub spot_of : Place → Spot
 spot_of p = record { x = p.x; y = p.y; orient = p.orient }
 
--- a cell taken from its place: its team and its macro, and the team's other placed cells
+-- a cell taken from its place: its team, the team's padding, its macro, and the team's other placed cells
 pub record Lifted : Type 0 where
   pub frame : Frame
   pub team : ℕ
+  pub padding : ℕ
   pub mac : Macro
   pub others : List Placed
 
 -- the cell, tried at a place
 abbrev pub trial_at : Lifted → Spot → Trial
-trial_at c p = record { frame = c.frame; team = c.team; mac = c.mac; x = p.x; y = p.y; orient = p.orient; others = c.others }
+trial_at c p =
+    record { frame = c.frame; team = c.team; padding = c.padding; mac = c.mac; x = p.x; y = p.y; orient = p.orient; others = c.others }
 
 -- the place is team-legal for the cell
 abbrev pub IsLegalAt : Lifted → Spot → Type 0

@@ -19,7 +19,8 @@ pub record Standing : Type 0 where
 
 -- the cell at the place, with no other cell beside it
 abbrev pub alone_at : Frame → Standing → Spot → Trial
-alone_at f c p = record { frame = f; team = c.team; mac = macro_of f c.mac; x = p.x; y = p.y; orient = p.orient; others = [] }
+alone_at f c p =
+    record { frame = f; team = c.team; padding = 0; mac = macro_of f c.mac; x = p.x; y = p.y; orient = p.orient; others = [] }
 
 -- rules 1 to 7 hold for the cell at the place
 abbrev pub KeepsRules : Frame → Standing → Spot → Type 0
@@ -55,10 +56,10 @@ abbrev pub standing_from : ℕ → List (List Member) → List Standing
 standing_from team [] = []
 standing_from team (cells ∷ teams) = with_team team cells (standing_from (team + 1) teams)
 
--- a design in which each team's cells are placed and team-legal is fully legal: what each team tests on
+-- a design in which each team's cells are placed and team-legal, with no padding, is fully legal: what each team tests on
 -- its own holds for all together
 abbrev pub TeamsMakeLegal : Type 0
 TeamsMakeLegal =
     (f : Frame) (teams : List (List Member)) →
-    ((team : ℕ) (cells : List Member) → slice_get teams team ≡ Some cells → (own : ℕ) → StandsLegal f team cells own) →
+    ((team : ℕ) (cells : List Member) → slice_get teams team ≡ Some cells → (own : ℕ) → StandsLegal f team 0 cells own) →
     IsFullyLegal f (standing_from 0 teams)

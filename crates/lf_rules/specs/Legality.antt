@@ -12,15 +12,18 @@ use Rattle.lf_floorplan.specs.Boxes.{size_of}
 use Rattle.lf_floorplan.specs.Sizes.{turned, box_at}
 use Rattle.lf_floorplan.specs.Ground.{StaysInGround, IsClear}
 use Rattle.lf_floorplan.specs.Standing.{IsSitesHigh, IsBottomRow, HasHeight, HasBottomRow, IsCarried}
+use Rattle.lf_rules.specs.Padding.{length_of, wider}
 use Rattle.lf_rules.specs.declared.rule.Rule.{Rule}
 use Rattle.lf_rules.specs.declared.rule.Rule.TheVariants.{Height, Row as RowRule, Stand, Orient as OrientRule, Rail as RailRule, Fence, Obstacle, Overlap}
 use Rattle.lf_rtree.specs.declared.placed.Placed.{Placed}
 use Rattle.lf_rules.specs.declared.rule.Broken.{Broken}
 
--- a cell of a team, by its macro, tried at a place beside the team's other placed cells
+-- a cell of a team, by its macro, tried at a place beside the team's other placed cells, from which the team's padding, in core
+-- sites, is to keep it apart
 pub record Trial : Type 0 where
   pub frame : Frame
   pub team : ℕ
+  pub padding : ℕ
   pub mac : Macro
   pub x : ℤ
   pub y : ℤ
@@ -28,12 +31,17 @@ pub record Trial : Type 0 where
   pub others : List Placed
 
 -- the same, at a place of the program
-abbrev pub trial_of : Frame → ℕ → Macro → Place → List Placed → Trial
-trial_of f team m p others = record { frame = f; team = team; mac = m; x = p.x; y = p.y; orient = p.orient; others = others }
+abbrev pub trial_of : Frame → ℕ → ℕ → Macro → Place → List Placed → Trial
+trial_of f team padding m p others =
+    record { frame = f; team = team; padding = padding; mac = m; x = p.x; y = p.y; orient = p.orient; others = others }
 
 -- the box of the cell there
 abbrev pub box_of : Trial → Rect
 box_of t = box_at (turned (size_of t.frame t.mac) t.orient) t.x t.y
+
+-- that box, made wider on its left and right by the padding
+abbrev pub padded_box : Trial → Rect
+padded_box t = wider (length_of t.frame t.padding) (box_of t)
 
 -- the orientation fits the macro and, if the height is odd, also the bottom row (LEF SYMMETRY of MACRO and SITE)
 abbrev pub IsOriented : Trial → Type 0
@@ -48,9 +56,9 @@ IsOnRail t =
     (k : ℕ) (r : Row) → IsSitesHigh t.frame (box_of t) k → IsBottomRow t.frame (box_of t) r →
     k % 2 ≡ 0 → rail_below r.orient ≡ Some t.mac.rail
 
--- the box shares no point with the box of another placed cell of the team
+-- the box, made wider by the padding, shares no point with the box of another placed cell of the team
 abbrev pub IsApart : Trial → Type 0
-IsApart t = All (λ other. SharesPoint (box_of t) other.rect → ⊥) t.others
+IsApart t = All (λ other. SharesPoint (padded_box t) other.rect → ⊥) t.others
 
 -- The rule holds. A rule on the height or the bottom row speaks of every one there is, and a box has one
 -- of each at most. So if rule 1 or 2 fails, rules 3 and 5 hold trivially, and rule 4 only asks for an
@@ -80,7 +88,7 @@ number_of Fence = 6
 number_of Obstacle = 7
 number_of Overlap = 8
 
--- the first of the placed cells whose box shares a point with this one has this number
+-- the first of the placed cells whose box shares a point with this rectangle has this number
 pub record IsFirstMet (box : Rect) (others : List Placed) (own : ℕ) : Type 0 where
   pub place : ℕ
   pub cell : Placed
@@ -94,8 +102,12 @@ pub record IsFirstMet (box : Rect) (others : List Placed) (own : ℕ) : Type 0 w
 pub record IsFirstBroken (t : Trial) (b : Broken) : Type 0 where
   pub broken : Holds t b.rule → ⊥
   pub lesser : (r : Rule) → number_of r < number_of b.rule → Holds t r
-  pub other : MatchOption b.other (b.rule ≢ Overlap) (λ own. (b.rule ≡ Overlap) × IsFirstMet (box_of t) t.others own)
+  pub other : MatchOption b.other (b.rule ≢ Overlap) (λ own. (b.rule ≡ Overlap) × IsFirstMet (padded_box t) t.others own)
 
 -- the rules but overlap: all of them hold, or this one is the first that is broken
 abbrev pub IsFrameVerdict : Trial → Option Rule → Type 0
 IsFrameVerdict t verdict = MatchOption verdict ((r : Rule) → number_of r ≤ 7 → Holds t r) (λ rule. IsFirstBroken t record { rule = rule; other = None })
+
+-- with less padding a place that was team-legal stays so
+abbrev pub LessPadding : Type 0
+LessPadding = (t : Trial) (less : ℕ) → less ≤ t.padding → IsTeamLegal t → IsTeamLegal (record t { padding = less })

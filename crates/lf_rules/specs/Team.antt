@@ -30,11 +30,12 @@ boxes_from f own (m ∷ cells) = with_box f own m.mac m.place (boxes_from f (own
 abbrev pub boxes_beside : Frame → List Member → ℕ → List Placed
 boxes_beside f cells own = filter (λ box. not (box.own == own)) (boxes_from f 0 cells)
 
--- the cell of this number and macro, taken from its place among the team's cells
-abbrev pub lifted_from : Frame → ℕ → List Member → ℕ → ℕ → Lifted
-lifted_from f team cells own mac = record { frame = f; team = team; mac = macro_of f mac; others = boxes_beside f cells own }
+-- the cell of this number and macro, taken from its place among the cells of a team with this padding
+abbrev pub lifted_from : Frame → ℕ → ℕ → List Member → ℕ → ℕ → Lifted
+lifted_from f team padding cells own mac =
+    record { frame = f; team = team; padding = padding; mac = macro_of f mac; others = boxes_beside f cells own }
 
--- the cell of this number is placed, and team-legal among the team's other cells
-abbrev pub StandsLegal : Frame → ℕ → List Member → ℕ → Type 0
-StandsLegal f team cells own =
-    (m : Member) → slice_get cells own ≡ Some m → MatchOption m.place ⊥ (λ p. IsLegalAt (lifted_from f team cells own m.mac) p)
+-- the cell of this number is placed, and team-legal with this padding among the team's other cells
+abbrev pub StandsLegal : Frame → ℕ → ℕ → List Member → ℕ → Type 0
+StandsLegal f team padding cells own =
+    (m : Member) → slice_get cells own ≡ Some m → MatchOption m.place ⊥ (λ p. IsLegalAt (lifted_from f team padding cells own m.mac) p)

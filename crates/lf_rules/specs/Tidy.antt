@@ -33,42 +33,42 @@ abbrev pub tidied_to : Option Point → Legalizer → Lifted → List Member →
 tidied_to None l c cells moved own mac = Going cells moved
 tidied_to (Some target) l c cells moved own mac = sent_to (l.best_place c target) cells moved own mac
 
-abbrev pub tidied_own : Option Member → Legalizer → Frame → ℕ → List Member → ℕ → ℕ → Tidied
-tidied_own None l f team cells moved own = Going cells moved
-tidied_own (Some m) l f team cells moved own =
-    let c = lifted_from f team cells own m.mac in tidied_to (target_of l c m.place) l c cells moved own m.mac
+abbrev pub tidied_own : Option Member → Legalizer → Frame → ℕ → ℕ → List Member → ℕ → ℕ → Tidied
+tidied_own None l f team padding cells moved own = Going cells moved
+tidied_own (Some m) l f team padding cells moved own =
+    let c = lifted_from f team padding cells own m.mac in tidied_to (target_of l c m.place) l c cells moved own m.mac
 
 -- one cell is tidied, unless an earlier one has no best place
-abbrev pub tidy_cell : Legalizer → Frame → ℕ → Tidied → ℕ → Tidied
-tidy_cell l f team (Stuck stuck) own = Stuck stuck
-tidy_cell l f team (Going cells moved) own = tidied_own (slice_get cells own) l f team cells moved own
+abbrev pub tidy_cell : Legalizer → Frame → ℕ → ℕ → Tidied → ℕ → Tidied
+tidy_cell l f team padding (Stuck stuck) own = Stuck stuck
+tidy_cell l f team padding (Going cells moved) own = tidied_own (slice_get cells own) l f team padding cells moved own
 
 -- this many cells are tidied one after the other, from the number `own` on
-abbrev pub tidied_from : Legalizer → Frame → ℕ → ℕ → ℕ → Tidied → Tidied
-tidied_from l f team own zero t = t
-tidied_from l f team own (suc count) t = tidied_from l f team (own + 1) count (tidy_cell l f team t own)
+abbrev pub tidied_from : Legalizer → Frame → ℕ → ℕ → ℕ → ℕ → Tidied → Tidied
+tidied_from l f team padding own zero t = t
+tidied_from l f team padding own (suc count) t = tidied_from l f team padding (own + 1) count (tidy_cell l f team padding t own)
 
--- all cells of the team are tidied
-unfoldable pub tidied : Legalizer → Frame → ℕ → List Member → Tidied
-tidied l f team cells = tidied_from l f team 0 (length cells) (Going cells 0)
+-- all cells of the team, which has this padding, are tidied
+unfoldable pub tidied : Legalizer → Frame → ℕ → ℕ → List Member → Tidied
+tidied l f team padding cells = tidied_from l f team padding 0 (length cells) (Going cells 0)
 
 -- after a tidy in which no cell was stuck, every cell is placed and team-legal
 abbrev pub TidiedIsLegal : Type 0
 TidiedIsLegal =
-    (l : Legalizer) (f : Frame) (team : ℕ) (cells new : List Member) (moved : ℕ) →
+    (l : Legalizer) (f : Frame) (team padding : ℕ) (cells new : List Member) (moved : ℕ) →
     All (λ m. IsSized f (macro_of f m.mac)) cells →
-    tidied l f team cells ≡ Going new moved → (own : ℕ) → StandsLegal f team new own
+    tidied l f team padding cells ≡ Going new moved → (own : ℕ) → StandsLegal f team padding new own
 
 -- tidying only moves cells: their number, order and macros stay
 abbrev pub TidiedKeepsCells : Type 0
 TidiedKeepsCells =
-    (l : Legalizer) (f : Frame) (team : ℕ) (cells new : List Member) (moved : ℕ) →
-    tidied l f team cells ≡ Going new moved → map (λ m. m.mac) new ≡ map (λ m. m.mac) cells
+    (l : Legalizer) (f : Frame) (team padding : ℕ) (cells new : List Member) (moved : ℕ) →
+    tidied l f team padding cells ≡ Going new moved → map (λ m. m.mac) new ≡ map (λ m. m.mac) cells
 
 -- a cell that is placed and team-legal stays so while a cell is tidied
 abbrev pub TidyKeepsLegal : Type 0
 TidyKeepsLegal =
-    (l : Legalizer) (f : Frame) (team : ℕ) (cells new : List Member) (moved count own other : ℕ) →
+    (l : Legalizer) (f : Frame) (team padding : ℕ) (cells new : List Member) (moved count own other : ℕ) →
     All (λ m. IsSized f (macro_of f m.mac)) cells →
-    tidy_cell l f team (Going cells moved) own ≡ Going new count →
-    StandsLegal f team cells other → StandsLegal f team new other
+    tidy_cell l f team padding (Going cells moved) own ≡ Going new count →
+    StandsLegal f team padding cells other → StandsLegal f team padding new other

@@ -1,6 +1,6 @@
 //! The first broken rule.
 
-ghost use Rattle.std.specs.Prelude.{◌≡◌, ◌↔◌, ◌%◌, List, Some, None, IsTrue, option_map};
+ghost use Rattle.std.specs.Prelude.{◌≡◌, ◌↔◌, ◌%◌, ℕ, List, Some, None, IsTrue, option_map};
 ghost use Rattle.lf_orient.specs.Orientation.{is_allowed, EqualUnder, rail_below};
 ghost use Rattle.lf_floorplan.specs.Boxes.{IsSized};
 ghost use Rattle.lf_rules.specs.declared.rule.Rule.TheVariants.{Overlap};
@@ -8,9 +8,10 @@ ghost use Rattle.lf_rules.specs.Legality.{IsFrameVerdict, trial_of};
 ghost use Rattle.lf_rules.specs.Legalizer.{IsVerdict};
 
 use crate::area::first_met;
+use crate::padding::Padding;
 use crate::rows::{bottom_row, height_in_sites, is_standing};
 use crate::rule::{Broken, Rule};
-use crate::size::solid_box;
+use crate::size::{padded_box, solid_box};
 use crate::whole::Whole;
 use lf_floorplan::{Frame, Macro, Near, Place, Row};
 use lf_orient::{Orient, equal_under, is_candidate, row_rail};
@@ -38,7 +39,7 @@ pub fn is_on_rail(mac: &Macro, height: u32, bottom: &Row) -> bool
 /// `team` is a fence's position in the frame, or the number of fences for the ground team. It allocates nothing.
 pub fn broken_alone<N: Near>(near: &N, team: usize, mac: &Macro, place: &Place) -> Option<Rule>
     requires { IsSized (N.of near.now) mac.now }
-    ensures { (others : List Placed) → IsFrameVerdict (trial_of (N.of near.now) team mac.now place.now others) result }
+    ensures { (padding : ℕ) (others : List Placed) → IsFrameVerdict (trial_of (N.of near.now) team padding mac.now place.now others) result }
 {
     let frame = near.frame();
     let rect = solid_box(frame, mac, place);
@@ -83,19 +84,20 @@ pub fn overlap_with(met: Option<u32>) -> Option<Broken>
 /// none if the place is team-legal.
 ///
 /// `team` is a fence's position in the frame, or the number of fences for the ground team. `others`
-/// are the team's other placed cells in loading order. It allocates nothing.
+/// are the team's other placed cells in loading order, and `padding` is the team's. It allocates nothing.
 pub fn first_broken(
     frame: &Frame,
     team: usize,
     mac: &Macro,
     place: &Place,
     others: &[Placed],
+    padding: Padding,
 ) -> Option<Broken>
     requires { IsSized frame.now mac.now }
-    ensures { IsVerdict (trial_of frame.now team mac.now place.now others.now) result }
+    ensures { IsVerdict (trial_of frame.now team padding.sites mac.now place.now others.now) result }
 {
     if let Some(rule) = broken_alone(&Whole { frame }, team, mac, place) {
         return Some(Broken { rule, other: None });
     }
-    overlap_with(first_met(&solid_box(frame, mac, place), others))
+    overlap_with(first_met(&padded_box(frame, mac, place, padding), others))
 }

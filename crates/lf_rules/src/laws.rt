@@ -2,7 +2,9 @@
 
 ghost use Rattle.lf_rules.specs.Choice.{ChoiceIsOne, KeyOrders, KeysDiffer, LegalInRange, LegalIsUpright};
 ghost use Rattle.lf_rules.specs.FullyLegal.{TeamsMakeLegal};
+ghost use Rattle.lf_rules.specs.Legality.{LessPadding};
 ghost use Rattle.lf_rules.specs.Legalizer.{Legalizer, VerdictIsOne, VerdictIsThere};
+ghost use Rattle.lf_rules.specs.Padding.{WiderEitherWay};
 ghost use Rattle.lf_rules.specs.Tidy.{TidiedIsLegal, TidiedKeepsCells, TidyKeepsLegal};
 
 /// A trial has one verdict: one first broken rule with one other cell, or none.
@@ -63,4 +65,14 @@ pub fn tidy_keeps_legal()
 /// A design in which each team's cells are placed and team-legal is fully legal.
 pub fn teams_make_legal()
     ensures { TeamsMakeLegal }
+{}
+
+/// With less padding a place that was team-legal stays so.
+pub fn less_padding()
+    ensures { LessPadding }
+{}
+
+/// It makes no difference which of two boxes is made wider by a padding: rule 8 holds of both cells or of none.
+pub fn wider_either_way()
+    ensures { WiderEitherWay }
 {}

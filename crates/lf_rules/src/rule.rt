@@ -19,7 +19,7 @@ pub enum Rule {
     Fence,
     /// It meets no obstacle.
     Obstacle,
-    /// It meets no other placed cell of its team.
+    /// Made wider on its left and right by its team's padding, it meets no other placed cell of the team.
     Overlap,
 }
 

@@ -3,8 +3,10 @@
 ghost use Rattle.std.specs.Prelude.{◌≡◌};
 ghost use Rattle.lf_floorplan.specs.Boxes.{size_of, IsSized};
 ghost use Rattle.lf_floorplan.specs.Sizes.{turned, box_at};
+ghost use Rattle.lf_rules.specs.Padding.{length_of, wider as widened};
 ghost use Rattle.lf_rules.specs.Solid.{IsSolid};
 
+use crate::padding::{Padding, wider};
 use lf_floorplan::{Frame, Macro, Place, macro_box};
 use lf_units::Rect;
 
@@ -24,4 +26,13 @@ pub fn box_of(frame: &Frame, mac: &Macro, place: &Place) -> Rect
     ensures { result ≡ box_at (turned (size_of frame.now mac.now) place.now.orient) place.now.x place.now.y }
 {
     solid_box(frame, mac, place)
+}
+
+/// That box, made wider on its left and right by the padding: what rule 8 asks to share no point with another cell of the team.
+pub fn padded_box(frame: &Frame, mac: &Macro, place: &Place, padding: Padding) -> Rect
+    requires { IsSized frame.now mac.now }
+    ensures { result ≡ widened (length_of frame.now padding.sites) (box_at (turned (size_of frame.now mac.now) place.now.orient) place.now.x place.now.y) }
+{
+    let rect = solid_box(frame, mac, place);
+    wider(&rect, padding.length(frame))
 }

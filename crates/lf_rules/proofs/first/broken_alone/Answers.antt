@@ -3,25 +3,25 @@ use Rattle.lf_rules.proofs.WalkLemmas.{clear_first, fence_first, orient_first, r
 use Rattle.lf_rules.proofs.first.broken_alone.Goals as goal
 
 pub returns-in_default-bottom_row : goal.returns-in_default-bottom_row
-returns-in_default-bottom_row g c = λ others.
-    row_first c.frame-frame.result.now (g.N.Near.of c.args.near.now) c.frame-frame.ensures c.args.team c.args.mac.now c.args.place.now others c.solid_box-rect.result
+returns-in_default-bottom_row g c = λ padding others.
+    row_first c.frame-frame.result.now (g.N.Near.of c.args.near.now) c.frame-frame.ensures c.args.team c.args.mac.now c.args.place.now padding others c.solid_box-rect.result
     c.solid_box-rect.ensures.is c.in-Some.height c.in-Some.ensures c.in_default-bottom_row.ensures
 
 pub returns-then-not-is_standing : goal.returns-then-not-is_standing
-returns-then-not-is_standing g c = λ others.
-    stand_first c.frame-frame.result.now (g.N.Near.of c.args.near.now) c.frame-frame.ensures c.args.team c.args.mac.now c.args.place.now others c.solid_box-rect.result
+returns-then-not-is_standing g c = λ padding others.
+    stand_first c.frame-frame.result.now (g.N.Near.of c.args.near.now) c.frame-frame.ensures c.args.team c.args.mac.now c.args.place.now padding others c.solid_box-rect.result
     c.solid_box-rect.ensures.is c.solid_box-rect.ensures.solid c.in-Some.height c.in-Some-bottom_row.bottom.now c.in-Some.ensures c.in-Some-bottom_row.ensures
     (λ s. let t = c.if-not-is_standing.ensures.1 s in cc)
 
 pub returns-then-not-is_oriented : goal.returns-then-not-is_oriented
-returns-then-not-is_oriented g c = λ others.
-    orient_first c.frame-frame.result.now (g.N.Near.of c.args.near.now) c.frame-frame.ensures c.args.team c.args.mac.now c.args.place.now others c.solid_box-rect.result
+returns-then-not-is_oriented g c = λ padding others.
+    orient_first c.frame-frame.result.now (g.N.Near.of c.args.near.now) c.frame-frame.ensures c.args.team c.args.mac.now c.args.place.now padding others c.solid_box-rect.result
     c.solid_box-rect.ensures.is c.solid_box-rect.ensures.solid c.in-Some.height c.in-Some-bottom_row.bottom.now c.in-Some.ensures c.in-Some-bottom_row.ensures
     (c.if-not-is_standing.ensures.0 refl) (λ s. let t = c.if-not-is_oriented.ensures.1 s in cc)
 
 pub returns-then-not-is_on_rail : goal.returns-then-not-is_on_rail
-returns-then-not-is_on_rail g c = λ others.
-    rail_first c.frame-frame.result.now (g.N.Near.of c.args.near.now) c.frame-frame.ensures c.args.team c.args.mac.now c.args.place.now others c.solid_box-rect.result
+returns-then-not-is_on_rail g c = λ padding others.
+    rail_first c.frame-frame.result.now (g.N.Near.of c.args.near.now) c.frame-frame.ensures c.args.team c.args.mac.now c.args.place.now padding others c.solid_box-rect.result
     c.solid_box-rect.ensures.is c.solid_box-rect.ensures.solid c.in-Some.height c.in-Some-bottom_row.bottom.now c.in-Some.ensures c.in-Some-bottom_row.ensures
     (c.if-not-is_standing.ensures.0 refl) (c.if-not-is_oriented.ensures.0 refl) (λ s. let t = c.if-not-is_on_rail.ensures.1 s in cc)
 
@@ -32,10 +32,10 @@ keeps_ground-requires-clause-stands g c =
     (c.if-not-is_standing.ensures.0 refl) (c.if-not-is_oriented.ensures.0 refl) (c.if-not-is_on_rail.ensures.0 refl)
 
 pub returns-then-not-keeps_ground : goal.returns-then-not-keeps_ground
-returns-then-not-keeps_ground g c = λ others.
-    fence_first c.frame-frame.result.now (g.N.Near.of c.args.near.now) c.frame-frame.ensures c.args.team c.args.mac.now c.args.place.now others c.solid_box-rect.result
+returns-then-not-keeps_ground g c = λ padding others.
+    fence_first c.frame-frame.result.now (g.N.Near.of c.args.near.now) c.frame-frame.ensures c.args.team c.args.mac.now c.args.place.now padding others c.solid_box-rect.result
     c.solid_box-rect.ensures.is
-    (rows_kept c.frame-frame.result.now (g.N.Near.of c.args.near.now) c.frame-frame.ensures c.args.team c.args.mac.now c.args.place.now others c.solid_box-rect.result
+    (rows_kept c.frame-frame.result.now (g.N.Near.of c.args.near.now) c.frame-frame.ensures c.args.team c.args.mac.now c.args.place.now padding others c.solid_box-rect.result
     c.solid_box-rect.ensures.is c.solid_box-rect.ensures.solid c.in-Some.height c.in-Some-bottom_row.bottom.now c.in-Some.ensures c.in-Some-bottom_row.ensures
     (c.if-not-is_standing.ensures.0 refl) (c.if-not-is_oriented.ensures.0 refl) (c.if-not-is_on_rail.ensures.0 refl))
     (λ s. let t = c.if-not-keeps_ground.ensures.1 s in cc)
@@ -47,19 +47,19 @@ keeps_clear-requires-clause-stands g c =
     (c.if-not-is_standing.ensures.0 refl) (c.if-not-is_oriented.ensures.0 refl) (c.if-not-is_on_rail.ensures.0 refl)
 
 pub returns-then-not-keeps_clear : goal.returns-then-not-keeps_clear
-returns-then-not-keeps_clear g c = λ others.
-    clear_first c.frame-frame.result.now (g.N.Near.of c.args.near.now) c.frame-frame.ensures c.args.team c.args.mac.now c.args.place.now others c.solid_box-rect.result
+returns-then-not-keeps_clear g c = λ padding others.
+    clear_first c.frame-frame.result.now (g.N.Near.of c.args.near.now) c.frame-frame.ensures c.args.team c.args.mac.now c.args.place.now padding others c.solid_box-rect.result
     c.solid_box-rect.ensures.is
-    (rows_kept c.frame-frame.result.now (g.N.Near.of c.args.near.now) c.frame-frame.ensures c.args.team c.args.mac.now c.args.place.now others c.solid_box-rect.result
+    (rows_kept c.frame-frame.result.now (g.N.Near.of c.args.near.now) c.frame-frame.ensures c.args.team c.args.mac.now c.args.place.now padding others c.solid_box-rect.result
     c.solid_box-rect.ensures.is c.solid_box-rect.ensures.solid c.in-Some.height c.in-Some-bottom_row.bottom.now c.in-Some.ensures c.in-Some-bottom_row.ensures
     (c.if-not-is_standing.ensures.0 refl) (c.if-not-is_oriented.ensures.0 refl) (c.if-not-is_on_rail.ensures.0 refl))
     (c.if-not-keeps_ground.ensures.0 refl) (λ s. let t = c.if-not-keeps_clear.ensures.1 s in cc)
 
 pub returns : goal.returns
-returns g c = λ others.
-    all_kept c.frame-frame.result.now (g.N.Near.of c.args.near.now) c.frame-frame.ensures c.args.team c.args.mac.now c.args.place.now others c.solid_box-rect.result
+returns g c = λ padding others.
+    all_kept c.frame-frame.result.now (g.N.Near.of c.args.near.now) c.frame-frame.ensures c.args.team c.args.mac.now c.args.place.now padding others c.solid_box-rect.result
     c.solid_box-rect.ensures.is
-    (rows_kept c.frame-frame.result.now (g.N.Near.of c.args.near.now) c.frame-frame.ensures c.args.team c.args.mac.now c.args.place.now others c.solid_box-rect.result
+    (rows_kept c.frame-frame.result.now (g.N.Near.of c.args.near.now) c.frame-frame.ensures c.args.team c.args.mac.now c.args.place.now padding others c.solid_box-rect.result
     c.solid_box-rect.ensures.is c.solid_box-rect.ensures.solid c.in-Some.height c.in-Some-bottom_row.bottom.now c.in-Some.ensures c.in-Some-bottom_row.ensures
     (c.if-not-is_standing.ensures.0 refl) (c.if-not-is_oriented.ensures.0 refl) (c.if-not-is_on_rail.ensures.0 refl))
     (c.if-not-keeps_ground.ensures.0 refl) (c.if-not-keeps_clear.ensures.0 refl)

@@ -8,7 +8,7 @@ use Rattle.lf_rules.specs.declared.rule.Broken.{Broken}
 use Rattle.lf_units.specs.Area.{SharesPoint}
 use Rattle.std.proofs.lemmas.Grind.{common_steps}
 use Rattle.lf_rtree.specs.declared.placed.Placed.{Placed}
-use Rattle.lf_rules.specs.Legality.{IsFirstMet, Trial, IsFirstBroken, number_of, box_of}
+use Rattle.lf_rules.specs.Legality.{IsFirstMet, Trial, IsFirstBroken, number_of, padded_box}
 use Rattle.lf_rules.specs.Legalizer.{IsVerdict}
 use Rattle.lf_rules.proofs.LegalParts.{rule_same}
 use Rattle.lf_rules.proofs.laws.verdict_is_one.Goals as goal
@@ -50,12 +50,12 @@ met_one box others m n a b = elim order [
     order = grind arith
 
 other_one : (t : Trial) (a b : Rule) (p q : Option ℕ) → a ≡ b →
-    MatchOption p (a ≢ Overlap) (λ own. (a ≡ Overlap) × IsFirstMet (box_of t) t.others own) →
-    MatchOption q (b ≢ Overlap) (λ own. (b ≡ Overlap) × IsFirstMet (box_of t) t.others own) → p ≡ q
+    MatchOption p (a ≢ Overlap) (λ own. (a ≡ Overlap) × IsFirstMet (padded_box t) t.others own) →
+    MatchOption q (b ≢ Overlap) (λ own. (b ≡ Overlap) × IsFirstMet (padded_box t) t.others own) → p ≡ q
 other_one t a b None None e h k = refl
 other_one t a b None (Some n) e h k = absurd (h (e ∙ k.0))
 other_one t a b (Some m) None e h k = absurd (k (sym e ∙ h.0))
-other_one t a b (Some m) (Some n) e h k = ap Some (met_one (box_of t) t.others m n h.1 k.1)
+other_one t a b (Some m) (Some n) e h k = ap Some (met_one (padded_box t) t.others m n h.1 k.1)
 
 abbrev broken_of : Rule → Option ℕ → Broken
 broken_of r o = record { rule = r; other = o }

@@ -1,7 +1,6 @@
 use Rattle.std.proofs.Common.{◌≡◌, FitsSigned, w64, rules, subst, sym, to_z, of_z}
 use Rattle.lf_rules.specs.Padding.{IsShort}
 use Rattle.lf_rules.proofs.PaddingLemmas.{short_length}
-use Rattle.lf_units.proofs.Same.{same_number}
 use Rattle.lf_rules.proofs.padding.Padding.length.Goals as goal
 
 pub returns-clause-short : goal.returns-clause-short
