@@ -8,6 +8,7 @@ use Rattle.std.proofs.lemmas.Option.{slice_get_within, get_or_from_slice_get, sl
 use Rattle.std.proofs.lemmas.List.Elements.{All-nil, All-cons, All-head, All-tail}
 use Rattle.std.proofs.lemmas.List.Sums.{length-filter}
 use Rattle.std.proofs.lemmas.List.Kept.{AllPairs-cons}
+use Rattle.lf_units.specs.declared.area.Rect.{Rect}
 use Rattle.lf_units.specs.Area.{SharesPoint}
 use Rattle.lf_floorplan.specs.declared.frame.Frame.{Frame}
 use Rattle.lf_floorplan.specs.declared.loaded.Cell.{Cell}
@@ -28,6 +29,7 @@ use Rattle.lf_reports.specs.Reports.{named, member_of, standing_of, name_among, 
 use Rattle.lf_rules.proofs.BesideLemmas.{beside_hold}
 use Rattle.lf_rules.proofs.LegalParts.{frame_beside, legal_by_parts}
 use Rattle.lf_rules.proofs.TidyLemmas.{turn, Clear, clear_of_legal}
+use Rattle.lf_rules.proofs.WiderLemmas.{shares_padded, wider_none}
 use Rattle.lf_rules.proofs.DesignLemmas.{keeps}
 
 abbrev Cells : Type 0
@@ -96,12 +98,12 @@ all_none g a (suc n) none =
 -- ---- one cell
 
 -- the cell at this spot among the others that are listed
-abbrev lifted_among : Frame → Cells → ℕ → Listed (List ℕ) → Lifted
-lifted_among f cells own c = lifted_from f c.team (map member_of cells) own c.mac
+abbrev lifted_among : Frame → ℕ → Cells → ℕ → Listed (List ℕ) → Lifted
+lifted_among f padding cells own c = lifted_from f c.team padding (map member_of cells) own c.mac
 
 -- wherever the cell stands it is legal
-abbrev IsFine : Frame → Cells → ℕ → Listed (List ℕ) → Type 0
-IsFine f cells own c = (p : Spot) → option_map spot_of c.place ≡ Some p → IsLegalAt (lifted_among f cells own c) p
+abbrev IsFine : Frame → ℕ → Cells → ℕ → Listed (List ℕ) → Type 0
+IsFine f padding cells own c = (p : Spot) → option_map spot_of c.place ≡ Some p → IsLegalAt (lifted_among f padding cells own c) p
 
 none_of_map : {X Y : Type 0} (h : X → Y) (o : Option X) → option_map h o ≡ None → o ≡ None
 none_of_map h None e = refl
@@ -115,21 +117,21 @@ none_by : (t : Trial) (v : Option Broken) → IsVerdict t v → IsTeamLegal t �
 none_by t None verdict legal = refl
 none_by t (Some b) verdict legal = absurd (verdict.broken (legal b.rule))
 
-fine_at : (l : Legalizer) (f : Frame) (cells : Cells) (own : ℕ) (c : Listed (List ℕ)) → IsListed f c → (place : Option Place) →
-    option_and_then (λ p. l.first_broken (trial_among f cells own c p)) place ≡ None →
-    (p : Spot) → option_map spot_of place ≡ Some p → IsLegalAt (lifted_among f cells own c) p
-fine_at l f cells own c is None none p at = absurd cc
-fine_at l f cells own c is (Some place) none p at =
-    let t = trial_among f cells own c place in
+fine_at : (l : Legalizer) (f : Frame) (padding : ℕ) (cells : Cells) (own : ℕ) (c : Listed (List ℕ)) → IsListed f c → (place : Option Place) →
+    option_and_then (λ p. l.first_broken (trial_among f padding cells own c p)) place ≡ None →
+    (p : Spot) → option_map spot_of place ≡ Some p → IsLegalAt (lifted_among f padding cells own c) p
+fine_at l f padding cells own c is None none p at = absurd cc
+fine_at l f padding cells own c is (Some place) none p at =
+    let t = trial_among f padding cells own c place in
     let same : spot_of place ≡ p = cc in
-    subst (λ (s : Spot). IsLegalAt (lifted_among f cells own c) s) same (legal_by t (l.first_broken t) (l.finds_first_broken t is.sized) none)
+    subst (λ (s : Spot). IsLegalAt (lifted_among f padding cells own c) s) same (legal_by t (l.first_broken t) (l.finds_first_broken t is.sized) none)
 
-unbroken_at : (l : Legalizer) (f : Frame) (cells : Cells) (own : ℕ) (c : Listed (List ℕ)) → IsListed f c → (place : Option Place) →
-    ((p : Spot) → option_map spot_of place ≡ Some p → IsLegalAt (lifted_among f cells own c) p) →
-    option_and_then (λ p. l.first_broken (trial_among f cells own c p)) place ≡ None
-unbroken_at l f cells own c is None fine = refl
-unbroken_at l f cells own c is (Some place) fine =
-    let t = trial_among f cells own c place in
+unbroken_at : (l : Legalizer) (f : Frame) (padding : ℕ) (cells : Cells) (own : ℕ) (c : Listed (List ℕ)) → IsListed f c → (place : Option Place) →
+    ((p : Spot) → option_map spot_of place ≡ Some p → IsLegalAt (lifted_among f padding cells own c) p) →
+    option_and_then (λ p. l.first_broken (trial_among f padding cells own c p)) place ≡ None
+unbroken_at l f padding cells own c is None fine = refl
+unbroken_at l f padding cells own c is (Some place) fine =
+    let t = trial_among f padding cells own c place in
     none_by t (l.first_broken t) (l.finds_first_broken t is.sized) (fine (spot_of place) refl)
 
 -- ---- all cells
@@ -139,23 +141,23 @@ listed_is f cells all own c there =
     subst (IsListed f) (get_or_from_slice_get cells own c c there) (all own c (slice_get_within cells own c there))
 
 -- where there is no violation each cell is fine
-all_fine : (l : Legalizer) (f : Frame) (cells : Cells) → All (IsListed f) cells → violations_in l f cells ≡ [] →
-    (own : ℕ) (c : Listed (List ℕ)) → slice_get cells own ≡ Some c → IsFine f cells own c
-all_fine l f cells all none own c there =
-    let at : violation_at l f cells own ≡ None = subst (λ (k : ℕ). violation_at l f cells k ≡ None) (omega arith) (none_at (violation_at l f cells) 0 (length cells) own none (slice_get_within cells own c there)) in
-    let by : violation_by l f cells own c ≡ None = ap (option_and_then (violation_by l f cells own)) (sym there) ∙ at in
-    fine_at l f cells own c (listed_is f cells all own c there) c.place (none_of_map (violation_of cells c) (broken_among l f cells own c) by)
+all_fine : (l : Legalizer) (f : Frame) (padding : ℕ) (cells : Cells) → All (IsListed f) cells → violations_in l f padding cells ≡ [] →
+    (own : ℕ) (c : Listed (List ℕ)) → slice_get cells own ≡ Some c → IsFine f padding cells own c
+all_fine l f padding cells all none own c there =
+    let at : violation_at l f padding cells own ≡ None = subst (λ (k : ℕ). violation_at l f padding cells k ≡ None) (omega arith) (none_at (violation_at l f padding cells) 0 (length cells) own none (slice_get_within cells own c there)) in
+    let by : violation_by l f padding cells own c ≡ None = ap (option_and_then (violation_by l f padding cells own)) (sym there) ∙ at in
+    fine_at l f padding cells own c (listed_is f cells all own c there) c.place (none_of_map (violation_of cells c) (broken_among l f padding cells own c) by)
 
 -- and where each cell is fine there is no violation
-no_violation : (l : Legalizer) (f : Frame) (cells : Cells) → All (IsListed f) cells →
-    ((own : ℕ) (c : Listed (List ℕ)) → slice_get cells own ≡ Some c → IsFine f cells own c) → violations_in l f cells ≡ []
-no_violation l f cells all fine = all_none (violation_at l f cells) 0 (length cells) (λ k less. at (0 + k) (slice_get cells (0 + k)) refl)
+no_violation : (l : Legalizer) (f : Frame) (padding : ℕ) (cells : Cells) → All (IsListed f) cells →
+    ((own : ℕ) (c : Listed (List ℕ)) → slice_get cells own ≡ Some c → IsFine f padding cells own c) → violations_in l f padding cells ≡ []
+no_violation l f padding cells all fine = all_none (violation_at l f padding cells) 0 (length cells) (λ k less. at (0 + k) (slice_get cells (0 + k)) refl)
   where
-    at : (own : ℕ) (o : Option (Listed (List ℕ))) → slice_get cells own ≡ o → option_and_then (violation_by l f cells own) (slice_get cells own) ≡ None
-    at own None there = ap (option_and_then (violation_by l f cells own)) there
+    at : (own : ℕ) (o : Option (Listed (List ℕ))) → slice_get cells own ≡ o → option_and_then (violation_by l f padding cells own) (slice_get cells own) ≡ None
+    at own None there = ap (option_and_then (violation_by l f padding cells own)) there
     at own (Some c) there =
-        ap (option_and_then (violation_by l f cells own)) there
-        ∙ ap (option_map (violation_of cells c)) (unbroken_at l f cells own c (listed_is f cells all own c there) c.place (fine own c there))
+        ap (option_and_then (violation_by l f padding cells own)) there
+        ∙ ap (option_map (violation_of cells c)) (unbroken_at l f padding cells own c (listed_is f cells all own c there) c.place (fine own c there))
 
 -- ---- how many are unplaced
 
@@ -196,27 +198,28 @@ none_unplaced cells placed = sym (length-filter (λ c. is_none c.place) cells) �
 
 -- ---- the law
 
-to_legal : (l : Legalizer) (f : Frame) (cells : Cells) → All (IsListed f) cells → IsClean (report_of l f cells) → IsFullyLegal f (map standing_of cells)
+to_legal : (l : Legalizer) (f : Frame) (cells : Cells) → All (IsListed f) cells → IsClean (report_of l f 0 cells) → IsFullyLegal f (map standing_of cells)
 to_legal l f cells all clean = record {
   placed = each_hold standing_of (λ s. IsSome s.place) cells (placed_all cells clean.all_placed);
   kept = each_hold standing_of (λ s. ForSome s.place (λ p. KeepsRules f s p)) cells
       (λ own c there p is. keeps f c.team (map member_of cells) own (member_of c) p (fine own c there p is));
   apart = pairs_hold standing_of (λ a b. StandApart f a b) cells
-      (λ i j a b less here there p is_p q is_q meet. clear_of_legal f a.team (map member_of cells) i a.mac p (fine i a here p is_p) j (member_of b) q
-      (λ e. omega (arith, less, e)) (image_at member_of cells j b there) is_q meet);
+      (λ i j a b less here there p is_p q is_q meet. clear_of_legal f a.team 0 (map member_of cells) i a.mac p (fine i a here p is_p) j (member_of b) q
+      (λ e. omega (arith, less, e)) (image_at member_of cells j b there) is_q (shares_padded f 0 (box_in f a.mac p) (box_in f b.mac q) meet));
 }
   where
-    fine : (own : ℕ) (c : Listed (List ℕ)) → slice_get cells own ≡ Some c → IsFine f cells own c
-    fine = all_fine l f cells all clean.none_broken
+    fine : (own : ℕ) (c : Listed (List ℕ)) → slice_get cells own ≡ Some c → IsFine f 0 cells own c
+    fine = all_fine l f 0 cells all clean.none_broken
 
 -- a cell that keeps rules 1 to 7 and is clear of the others is legal
 legal_of : (f : Frame) (cells : Cells) (own : ℕ) (c : Listed (List ℕ)) (p : Spot) → KeepsRules f (standing_of c) p →
-    Clear f (map member_of cells) own (box_in f c.mac p) → IsLegalAt (lifted_among f cells own c) p
+    Clear f (map member_of cells) own (box_in f c.mac p) → IsLegalAt (lifted_among f 0 cells own c) p
 legal_of f cells own c p kept clear =
-    let lifted = lifted_among f cells own c in
+    let lifted = lifted_among f 0 cells own c in
     (legal_by_parts (trial_at lifted p)).1 (
       frame_beside (alone_at f (standing_of c) p) lifted.others kept,
-      beside_hold (λ rect. SharesPoint (box_in f c.mac p) rect → ⊥) f (map member_of cells) own clear,
+      subst (λ (box : Rect). All (λ other. SharesPoint box other.rect → ⊥) lifted.others) (sym (wider_none f (box_in f c.mac p)))
+          (beside_hold (λ rect. SharesPoint (box_in f c.mac p) rect → ⊥) f (map member_of cells) own clear),
     )
 
 -- each cell of a fully legal design is clear of the others
@@ -245,15 +248,15 @@ legal_clear f cells legal own c p here is k m q differ there is_q meets = elim o
     pair : (i j : ℕ) (a b : Listed (List ℕ)) → i < j → slice_get cells i ≡ Some a → slice_get cells j ≡ Some b → StandApart f (standing_of a) (standing_of b)
     pair = pairs_of standing_of (λ a b. StandApart f a b) cells legal.apart
 
-to_clean : (l : Legalizer) (f : Frame) (cells : Cells) → All (IsListed f) cells → IsFullyLegal f (map standing_of cells) → IsClean (report_of l f cells)
+to_clean : (l : Legalizer) (f : Frame) (cells : Cells) → All (IsListed f) cells → IsFullyLegal f (map standing_of cells) → IsClean (report_of l f 0 cells)
 to_clean l f cells all legal = record {
   all_placed = none_unplaced cells (each_of standing_of (λ s. IsSome s.place) cells legal.placed);
-  none_broken = no_violation l f cells all (λ own c there p is. legal_of f cells own c p
+  none_broken = no_violation l f 0 cells all (λ own c there p is. legal_of f cells own c p
       (each_of standing_of (λ s. ForSome s.place (λ q. KeepsRules f s q)) cells legal.kept own c there p is) (legal_clear f cells legal own c p there is));
 }
 
 pub clean_is_legal : (l : Legalizer) (f : Frame) (cells : Cells) → All (IsListed f) cells →
-    IsClean (report_of l f cells) ↔ IsFullyLegal f (map standing_of cells)
+    IsClean (report_of l f 0 cells) ↔ IsFullyLegal f (map standing_of cells)
 clean_is_legal l f cells all = (λ clean. to_legal l f cells all clean, λ legal. to_clean l f cells all legal)
 
 -- ---- the names in a report
@@ -281,12 +284,12 @@ told_by f cells all c is (Some b) v at =
     let same : violation_of cells c b ≡ v = cc in
     subst IsTold same (record { cell_printed = is.printed; other_printed = other_printed f cells all b.other })
 
-pub all_told : (l : Legalizer) (f : Frame) (cells : Cells) → All (IsListed f) cells → All IsTold (violations_in l f cells)
-all_told l f cells all = found_hold IsTold (violation_at l f cells) 0 (length cells) (λ own v at. by own v (slice_get cells own) refl at)
+pub all_told : (l : Legalizer) (f : Frame) (padding : ℕ) (cells : Cells) → All (IsListed f) cells → All IsTold (violations_in l f padding cells)
+all_told l f padding cells all = found_hold IsTold (violation_at l f padding cells) 0 (length cells) (λ own v at. by own v (slice_get cells own) refl at)
   where
-    by : (own : ℕ) (v : Violation) (o : Option (Listed (List ℕ))) → slice_get cells own ≡ o → option_and_then (violation_by l f cells own) o ≡ Some v → IsTold v
+    by : (own : ℕ) (v : Violation) (o : Option (Listed (List ℕ))) → slice_get cells own ≡ o → option_and_then (violation_by l f padding cells own) o ≡ Some v → IsTold v
     by own v None there at = absurd cc
-    by own v (Some c) there at = told_by f cells all c (listed_is f cells all own c there) (broken_among l f cells own c) v at
+    by own v (Some c) there at = told_by f cells all c (listed_is f cells all own c there) (broken_among l f padding cells own c) v at
 
 -- ---- the cells of a design
 
@@ -327,10 +330,10 @@ length_listed (c ∷ cells) (p ∷ places) = ap suc (length_listed cells places)
 abbrev pub report_with : ℕ → ℕ → List Violation → Report
 report_with cells unplaced violations = record { cells = cells; unplaced = unplaced; violations = violations }
 
-pub report_is : (l : Legalizer) (f : Frame) (cells : Cells) (count unplaced : ℕ) (violations : List Violation) → count ≡ length cells →
-    unplaced ≡ count_by (λ c. is_none c.place) cells → violations ≡ violations_in l f cells → report_with count unplaced violations ≡ report_of l f cells
-report_is l f cells count unplaced violations is_count is_unplaced is_violations =
-    let e : report_with count unplaced violations ≡ report_with (length cells) (count_by (λ c. is_none c.place) cells) (violations_in l f cells) = cc in e
+pub report_is : (l : Legalizer) (f : Frame) (padding : ℕ) (cells : Cells) (count unplaced : ℕ) (violations : List Violation) → count ≡ length cells →
+    unplaced ≡ count_by (λ c. is_none c.place) cells → violations ≡ violations_in l f padding cells → report_with count unplaced violations ≡ report_of l f padding cells
+report_is l f padding cells count unplaced violations is_count is_unplaced is_violations =
+    let e : report_with count unplaced violations ≡ report_with (length cells) (count_by (λ c. is_none c.place) cells) (violations_in l f padding cells) = cc in e
 
 pub joined : (cells lent : List Cell) (places : List (Option Place)) (slice items : List (Listed (Bor (List ℕ)))) → slice ≡ items →
     map named items ≡ listed_at lent places → lent ≡ cells → map named slice ≡ listed_at cells places

@@ -8,7 +8,7 @@ use Rattle.lf_rtree.specs.declared.placed.Placed.{Placed}
 use Rattle.lf_rtree.specs.Near.{IsLeastMet, IsNoneMet}
 use Rattle.lf_rules.specs.declared.rule.Rule.{Rule}
 use Rattle.lf_rules.specs.declared.rule.Rule.TheVariants.{Overlap}
-use Rattle.lf_rules.specs.Legality.{Trial, IsFirstMet, IsFrameVerdict, box_of}
+use Rattle.lf_rules.specs.Legality.{Trial, IsFirstMet, IsFrameVerdict, padded_box}
 use Rattle.lf_rules.specs.Legalizer.{IsVerdict}
 use Rattle.lf_rules.specs.Team.{Member, boxes_from, boxes_beside}
 use Rattle.lf_rules.proofs.LeastMet.{first_beside, none_beside}
@@ -16,7 +16,7 @@ use Rattle.lf_rules.proofs.RuleLemmas.{ApartAt, met_verdict}
 
 -- where all rules but overlap hold, the least number that is met in a tree of the cells' boxes decides
 pub met_in_tree : (t : Trial) (cells : List Member) (own : ℕ) (tree : List Placed) (box : Rect) (verdict : Option Rule) (met : Option ℕ) →
-    t.others ≡ boxes_beside t.frame cells own → box ≡ box_of t → verdict ≡ None → IsFrameVerdict t verdict →
+    t.others ≡ boxes_beside t.frame cells own → box ≡ padded_box t → verdict ≡ None → IsFrameVerdict t verdict →
     IsPermutation (boxes_from t.frame 0 cells) tree →
     MatchOption met (IsNoneMet tree box own) (IsLeastMet tree box own) → IsVerdict t (option_map (λ other. record { rule = Overlap; other = Some other }) met)
 met_in_tree t cells own tree box verdict met beside at none said same found = met_verdict t box verdict met at none said (by met found)

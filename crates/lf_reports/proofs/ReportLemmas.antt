@@ -10,10 +10,10 @@ use Rattle.lf_rules.specs.Legalizer.{Legalizer, IsVerdict, VerdictIsOne}
 use Rattle.lf_reports.specs.Reports.{IsListed, trial_among, broken_among, violation_of, violation_by, violation_at}
 
 -- a verdict on the cell's trial is what every legalizer says
-pub broken_is : (l : Legalizer) (f : Frame) (cells : List (Listed (List ℕ))) (own : ℕ) (c : Listed (List ℕ)) (place : Place) (found : Option Broken) →
-    VerdictIsOne → IsListed f c → IsVerdict (trial_among f cells own c place) found → found ≡ l.first_broken (trial_among f cells own c place)
-broken_is l f cells own c place found one listed verdict =
-    one (trial_among f cells own c place) found (l.first_broken (trial_among f cells own c place)) verdict (l.finds_first_broken (trial_among f cells own c place) listed.sized)
+pub broken_is : (l : Legalizer) (f : Frame) (padding : ℕ) (cells : List (Listed (List ℕ))) (own : ℕ) (c : Listed (List ℕ)) (place : Place) (found : Option Broken) →
+    VerdictIsOne → IsListed f c → IsVerdict (trial_among f padding cells own c place) found → found ≡ l.first_broken (trial_among f padding cells own c place)
+broken_is l f padding cells own c place found one listed verdict =
+    one (trial_among f padding cells own c place) found (l.first_broken (trial_among f padding cells own c place)) verdict (l.finds_first_broken (trial_among f padding cells own c place) listed.sized)
 
 -- what a number more adds to the list of what is found at each
 found_more : {Y : Type 0} (g : ℕ → Option Y) (a n : ℕ) →
@@ -36,9 +36,9 @@ told_more {Y = Y} g n old new is found =
     ∙ sym (ap (λ (k : ℕ). filter_map g (range_with_len 0 k)) next ∙ found_more g 0 n ∙ ap (λ (m : ℕ). filter_map g (range_with_len 0 n) ++ cons_option (g m) []) at)
 
 -- the cell of that number breaks this rule, or none
-pub told_at : (l : Legalizer) (f : Frame) (cells : List (Listed (List ℕ))) (own : ℕ) (c : Listed (List ℕ)) (o : Option Broken) → slice_get cells own ≡ Some c →
-    o ≡ broken_among l f cells own c → violation_at l f cells own ≡ option_map (violation_of cells c) o
-told_at l f cells own c o there is = ap (option_and_then (violation_by l f cells own)) there ∙ ap (option_map (violation_of cells c)) (sym is)
+pub told_at : (l : Legalizer) (f : Frame) (padding : ℕ) (cells : List (Listed (List ℕ))) (own : ℕ) (c : Listed (List ℕ)) (o : Option Broken) → slice_get cells own ≡ Some c →
+    o ≡ broken_among l f padding cells own c → violation_at l f padding cells own ≡ option_map (violation_of cells c) o
+told_at l f padding cells own c o there is = ap (option_and_then (violation_by l f padding cells own)) there ∙ ap (option_map (violation_of cells c)) (sym is)
 
 -- if nothing is reported nothing is added
 pub told_none : {Y : Type 0} (xs : List Y) (o : Option Y) → o ≡ None → xs ≡ xs ++ cons_option o []

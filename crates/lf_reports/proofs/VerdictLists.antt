@@ -75,50 +75,50 @@ differ_or_not a b =
       | inr (inr more) ↦ inr (λ e. omega (arith, more, e))
     ]
 
-pub puts : (l : Legalizer) (f : Frame) (cells : List (Listed (List ℕ))) (own : ℕ) (cell : Listed (List ℕ)) (v : Option Broken) (old : List (Option Broken)) →
+pub puts : (l : Legalizer) (f : Frame) (padding : ℕ) (cells : List (Listed (List ℕ))) (own : ℕ) (cell : Listed (List ℕ)) (v : Option Broken) (old : List (Option Broken)) →
     slice_get cells own ≡ Some cell →
-    v ≡ broken_among l f cells own cell → own < length old → AreSomeVerdicts l f cells old → PutsVerdict l f cells own old (set old own v)
-puts l f cells own cell v old there is within some = record {
+    v ≡ broken_among l f padding cells own cell → own < length old → AreSomeVerdicts l f padding cells old → PutsVerdict l f padding cells own old (set old own v)
+puts l f padding cells own cell v old there is within some = record {
   some = record { count = length-set old own v ∙ some.count; each = λ other c at. either other c at (differ_or_not other own) };
   put = λ c at. here own c refl at;
   kept = λ other c at had. keep other c at had (differ_or_not other own);
 }
   where
-    here : (other : ℕ) (c : Listed (List ℕ)) → other ≡ own → slice_get cells other ≡ Some c → verdict_at (set old own v) other ≡ broken_among l f cells other c
+    here : (other : ℕ) (c : Listed (List ℕ)) → other ≡ own → slice_get cells other ≡ Some c → verdict_at (set old own v) other ≡ broken_among l f padding cells other c
     here other c same at =
         let both : Some cell ≡ Some c = sym there ∙ ap (slice_get cells) (sym same) ∙ at in
         let one : cell ≡ c = cc in
-        get_or-set_at old own other v None same within ∙ is ∙ ap (λ (d : Listed (List ℕ)). broken_among l f cells own d) one ∙ ap (λ (n : ℕ). broken_among l f cells n c) (sym same)
+        get_or-set_at old own other v None same within ∙ is ∙ ap (λ (d : Listed (List ℕ)). broken_among l f padding cells own d) one ∙ ap (λ (n : ℕ). broken_among l f padding cells n c) (sym same)
 
     either : (other : ℕ) (c : Listed (List ℕ)) → slice_get cells other ≡ Some c → (other ≡ own) ⊎ (other ≢ own) →
-        (verdict_at (set old own v) other ≡ None) ⊎ (verdict_at (set old own v) other ≡ broken_among l f cells other c)
+        (verdict_at (set old own v) other ≡ None) ⊎ (verdict_at (set old own v) other ≡ broken_among l f padding cells other c)
     either other c at (inl same) = inr (here other c same at)
-    either other c at (inr differ) = subst (λ (o : Option Broken). (o ≡ None) ⊎ (o ≡ broken_among l f cells other c)) (sym (get_or-set_other old own other v None differ)) (some.each other c at)
+    either other c at (inr differ) = subst (λ (o : Option Broken). (o ≡ None) ⊎ (o ≡ broken_among l f padding cells other c)) (sym (get_or-set_other old own other v None differ)) (some.each other c at)
 
-    keep : (other : ℕ) (c : Listed (List ℕ)) → slice_get cells other ≡ Some c → verdict_at old other ≡ broken_among l f cells other c →
-        (other ≡ own) ⊎ (other ≢ own) → verdict_at (set old own v) other ≡ broken_among l f cells other c
+    keep : (other : ℕ) (c : Listed (List ℕ)) → slice_get cells other ≡ Some c → verdict_at old other ≡ broken_among l f padding cells other c →
+        (other ≡ own) ⊎ (other ≢ own) → verdict_at (set old own v) other ≡ broken_among l f padding cells other c
     keep other c at had (inl same) = here other c same at
     keep other c at had (inr differ) = get_or-set_other old own other v None differ ∙ had
 
 -- the same where the verdict is only set if a rule is broken
-pub puts_or_keeps : (l : Legalizer) (f : Frame) (cells : List (Listed (List ℕ))) (own : ℕ) (cell : Listed (List ℕ)) (v : Option Broken) (old new : List (Option Broken)) → slice_get cells own ≡ Some cell →
-    v ≡ broken_among l f cells own cell → own < length old → AreSomeVerdicts l f cells old → IsPut own v old new → PutsVerdict l f cells own old new
-puts_or_keeps l f cells own cell v old new there is within some (inr set_now) =
-    subst (λ (n : List (Option Broken)). PutsVerdict l f cells own old n) (sym set_now) (puts l f cells own cell v old there is within some)
-puts_or_keeps l f cells own cell v old new there is within some (inl (nothing, same)) =
-    subst (λ (n : List (Option Broken)). PutsVerdict l f cells own old n) (sym same) record {
+pub puts_or_keeps : (l : Legalizer) (f : Frame) (padding : ℕ) (cells : List (Listed (List ℕ))) (own : ℕ) (cell : Listed (List ℕ)) (v : Option Broken) (old new : List (Option Broken)) → slice_get cells own ≡ Some cell →
+    v ≡ broken_among l f padding cells own cell → own < length old → AreSomeVerdicts l f padding cells old → IsPut own v old new → PutsVerdict l f padding cells own old new
+puts_or_keeps l f padding cells own cell v old new there is within some (inr set_now) =
+    subst (λ (n : List (Option Broken)). PutsVerdict l f padding cells own old n) (sym set_now) (puts l f padding cells own cell v old there is within some)
+puts_or_keeps l f padding cells own cell v old new there is within some (inl (nothing, same)) =
+    subst (λ (n : List (Option Broken)). PutsVerdict l f padding cells own old n) (sym same) record {
       some = some;
       put = λ c at. right c at (some.each own c at);
       kept = λ other c at had. had;
     }
   where
-    right : (c : Listed (List ℕ)) → slice_get cells own ≡ Some c → (verdict_at old own ≡ None) ⊎ (verdict_at old own ≡ broken_among l f cells own c) →
-        verdict_at old own ≡ broken_among l f cells own c
+    right : (c : Listed (List ℕ)) → slice_get cells own ≡ Some c → (verdict_at old own ≡ None) ⊎ (verdict_at old own ≡ broken_among l f padding cells own c) →
+        verdict_at old own ≡ broken_among l f padding cells own c
     right c at (inr had) = had
     right c at (inl none) =
         let both : Some cell ≡ Some c = sym there ∙ at in
         let one : cell ≡ c = cc in
-        none ∙ sym nothing ∙ is ∙ ap (λ (d : Listed (List ℕ)). broken_among l f cells own d) one
+        none ∙ sym nothing ∙ is ∙ ap (λ (d : Listed (List ℕ)). broken_among l f padding cells own d) one
 
 -- ---- the cells of the boxes
 
@@ -163,14 +163,14 @@ fetched_more cells fetched boxes k d c within there so_far =
 -- ---- the verdicts of all boxes so far
 
 -- the cells of the first k boxes have their verdict, and the others have it or none yet
-pub record HaveVerdicts (l : Legalizer) (f : Frame) (cells : List (Listed (List ℕ))) (boxes : List Placed) (k : ℕ) (verdicts : List (Option Broken)) : Type 0 where
-  pub some : AreSomeVerdicts l f cells verdicts
+pub record HaveVerdicts (l : Legalizer) (f : Frame) (padding : ℕ) (cells : List (Listed (List ℕ))) (boxes : List Placed) (k : ℕ) (verdicts : List (Option Broken)) : Type 0 where
+  pub some : AreSomeVerdicts l f padding cells verdicts
   pub done : (j : ℕ) (d : Placed) (c : Listed (List ℕ)) → j < k → slice_get cells (get_or boxes j d).own ≡ Some c →
-      verdict_at verdicts (get_or boxes j d).own ≡ broken_among l f cells (get_or boxes j d).own c
+      verdict_at verdicts (get_or boxes j d).own ≡ broken_among l f padding cells (get_or boxes j d).own c
 
-pub one_more : (l : Legalizer) (f : Frame) (cells : List (Listed (List ℕ))) (boxes : List Placed) (k : ℕ) (e : Placed) (old new : List (Option Broken)) →
-    k < length boxes → HaveVerdicts l f cells boxes k old → PutsVerdict l f cells (get_or boxes k e).own old new → HaveVerdicts l f cells boxes (k + 1) new
-one_more l f cells boxes k e old new within have puts = record {
+pub one_more : (l : Legalizer) (f : Frame) (padding : ℕ) (cells : List (Listed (List ℕ))) (boxes : List Placed) (k : ℕ) (e : Placed) (old new : List (Option Broken)) →
+    k < length boxes → HaveVerdicts l f padding cells boxes k old → PutsVerdict l f padding cells (get_or boxes k e).own old new → HaveVerdicts l f padding cells boxes (k + 1) new
+one_more l f padding cells boxes k e old new within have puts = record {
   some = puts.some;
   done = λ j d c below at.
       let cases : (j < k) ⊎ (j ≡ k) = grind arith in
@@ -178,19 +178,19 @@ one_more l f cells boxes k e old new within have puts = record {
         | inl less ↦ puts.kept (get_or boxes j d).own c at (have.done j d c less at)
         | inr same ↦
             let one : get_or boxes j d ≡ get_or boxes k e = subst (λ (m : ℕ). get_or boxes m d ≡ get_or boxes k e) (sym same) (get_or_default boxes k d e within) in
-            subst (λ (p : Placed). slice_get cells p.own ≡ Some c → verdict_at new p.own ≡ broken_among l f cells p.own c) (sym one) (puts.put c) at
+            subst (λ (p : Placed). slice_get cells p.own ≡ Some c → verdict_at new p.own ≡ broken_among l f padding cells p.own c) (sym one) (puts.put c) at
       ];
 }
 
 -- where all boxes are done, each cell has its verdict: an unplaced one breaks no rule
-pub all_done : (l : Legalizer) (f : Frame) (cells : List (Listed (List ℕ))) (boxes : List Placed) (verdicts : List (Option Broken)) →
-    IsPermutation (boxes_from f 0 (map member_of cells)) boxes → HaveVerdicts l f cells boxes (length boxes) verdicts → AreVerdicts l f cells verdicts
-all_done l f cells boxes verdicts same have = record { count = have.some.count; each = λ own c at. by own c at c.place refl }
+pub all_done : (l : Legalizer) (f : Frame) (padding : ℕ) (cells : List (Listed (List ℕ))) (boxes : List Placed) (verdicts : List (Option Broken)) →
+    IsPermutation (boxes_from f 0 (map member_of cells)) boxes → HaveVerdicts l f padding cells boxes (length boxes) verdicts → AreVerdicts l f padding cells verdicts
+all_done l f padding cells boxes verdicts same have = record { count = have.some.count; each = λ own c at. by own c at c.place refl }
   where
     by : (own : ℕ) (c : Listed (List ℕ)) → slice_get cells own ≡ Some c → (place : Option Place) → c.place ≡ place →
-        verdict_at verdicts own ≡ broken_among l f cells own c
+        verdict_at verdicts own ≡ broken_among l f padding cells own c
     by own c at None unplaced =
-        let nothing : broken_among l f cells own c ≡ None = ap (λ (o : Option Place). option_and_then (λ p. l.first_broken (trial_among f cells own c p)) o) unplaced in
+        let nothing : broken_among l f padding cells own c ≡ None = ap (λ (o : Option Place). option_and_then (λ p. l.first_broken (trial_among f padding cells own c p)) o) unplaced in
         elim (have.some.each own c at) [
           | inl none ↦ none ∙ sym nothing
           | inr right ↦ right
@@ -204,12 +204,12 @@ all_done l f cells boxes verdicts same have = record { count = have.some.count; 
         let listed : Contains (boxes_from f 0 (map member_of cells)) box =
         subst (λ (i : ℕ). Contains (boxes_from f 0 (map member_of cells)) (record { own = i; rect = box_in f m.mac (spot_of p) })) number (box_there f 0 (map member_of cells) own m (spot_of p) there stands) in
         let among : Contains boxes box = Contains-permutation (boxes_from f 0 (map member_of cells)) boxes box same listed in
-        subst (λ (q : Placed). slice_get cells q.own ≡ Some c → verdict_at verdicts q.own ≡ broken_among l f cells q.own c) among.2 (have.done among.0 box c among.1) at
+        subst (λ (q : Placed). slice_get cells q.own ≡ Some c → verdict_at verdicts q.own ≡ broken_among l f padding cells q.own c) among.2 (have.done among.0 box c among.1) at
 
 -- none has a verdict before the first box
-pub none_yet : (l : Legalizer) (f : Frame) (cells : List (Listed (List ℕ))) (boxes : List Placed) (verdicts : List (Option Broken)) →
-    length verdicts ≡ length cells → ((own : ℕ) → verdict_at verdicts own ≡ None) → HaveVerdicts l f cells boxes 0 verdicts
-none_yet l f cells boxes verdicts count none = record {
+pub none_yet : (l : Legalizer) (f : Frame) (padding : ℕ) (cells : List (Listed (List ℕ))) (boxes : List Placed) (verdicts : List (Option Broken)) →
+    length verdicts ≡ length cells → ((own : ℕ) → verdict_at verdicts own ≡ None) → HaveVerdicts l f padding cells boxes 0 verdicts
+none_yet l f padding cells boxes verdicts count none = record {
   some = record { count = count; each = λ own c at. inl (none own) };
   done = λ j d c below at. absurd (omega (arith, below));
 }

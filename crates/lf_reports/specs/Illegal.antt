@@ -8,10 +8,10 @@ use Rattle.lf_reports.specs.declared.illegal.BrokenCell.{BrokenCell}
 use Rattle.lf_reports.specs.Reports.{broken_among}
 
 -- the cell of that number with the first rule that it breaks where it stands, if it breaks one
-abbrev pub broken_cell_at : Legalizer → Frame → List (Listed (List ℕ)) → ℕ → Option BrokenCell
-broken_cell_at l f cells own =
-    option_map (λ broken. record { own = own; broken = broken }) (option_and_then (broken_among l f cells own) (slice_get cells own))
+abbrev pub broken_cell_at : Legalizer → Frame → ℕ → List (Listed (List ℕ)) → ℕ → Option BrokenCell
+broken_cell_at l f padding cells own =
+    option_map (λ broken. record { own = own; broken = broken }) (option_and_then (broken_among l f padding cells own) (slice_get cells own))
 
 -- the cells that break a rule where they stand, in the list's order
-abbrev pub illegal_in : Legalizer → Frame → List (Listed (List ℕ)) → List BrokenCell
-illegal_in l f cells = filter_map (broken_cell_at l f cells) (range_with_len 0 (length cells))
+abbrev pub illegal_in : Legalizer → Frame → ℕ → List (Listed (List ℕ)) → List BrokenCell
+illegal_in l f padding cells = filter_map (broken_cell_at l f padding cells) (range_with_len 0 (length cells))

@@ -30,39 +30,39 @@ member_of c = record { mac = c.mac; place = option_map spot_of c.place }
 abbrev pub standing_of : Listed (List ℕ) → Standing
 standing_of c = record { team = c.team; mac = c.mac; place = option_map spot_of c.place }
 
--- the cell of that number, tried where it stands beside the other placed cells that are listed
-abbrev pub trial_among : Frame → List (Listed (List ℕ)) → ℕ → Listed (List ℕ) → Place → Trial
-trial_among f cells own c p = trial_of f c.team (macro_of f c.mac) p (boxes_beside f (map member_of cells) own)
+-- the cell of that number, tried where it stands, with a padding, beside the other placed cells that are listed
+abbrev pub trial_among : Frame → ℕ → List (Listed (List ℕ)) → ℕ → Listed (List ℕ) → Place → Trial
+trial_among f padding cells own c p = trial_of f c.team padding (macro_of f c.mac) p (boxes_beside f (map member_of cells) own)
 
 -- the first rule that the cell breaks where it stands; an unplaced cell breaks none
-abbrev pub broken_among : Legalizer → Frame → List (Listed (List ℕ)) → ℕ → Listed (List ℕ) → Option Broken
-broken_among l f cells own c = option_and_then (λ p. l.first_broken (trial_among f cells own c p)) c.place
+abbrev pub broken_among : Legalizer → Frame → ℕ → List (Listed (List ℕ)) → ℕ → Listed (List ℕ) → Option Broken
+broken_among l f padding cells own c = option_and_then (λ p. l.first_broken (trial_among f padding cells own c p)) c.place
 
 -- the verdict of that number: the first rule that is broken, or none
 abbrev pub verdict_at : List (Option Broken) → ℕ → Option Broken
 verdict_at verdicts own = slice_index_or verdicts own None
 
 -- each cell's verdict is the first rule that it breaks where it stands
-pub record AreVerdicts (l : Legalizer) (f : Frame) (cells : List (Listed (List ℕ))) (verdicts : List (Option Broken)) : Type 0 where
+pub record AreVerdicts (l : Legalizer) (f : Frame) (padding : ℕ) (cells : List (Listed (List ℕ))) (verdicts : List (Option Broken)) : Type 0 where
   pub count : length verdicts ≡ length cells
-  pub each : (own : ℕ) (c : Listed (List ℕ)) → slice_get cells own ≡ Some c → verdict_at verdicts own ≡ broken_among l f cells own c
+  pub each : (own : ℕ) (c : Listed (List ℕ)) → slice_get cells own ≡ Some c → verdict_at verdicts own ≡ broken_among l f padding cells own c
 
 -- some cells have their verdict, and the others none yet
-pub record AreSomeVerdicts (l : Legalizer) (f : Frame) (cells : List (Listed (List ℕ))) (verdicts : List (Option Broken)) : Type 0 where
+pub record AreSomeVerdicts (l : Legalizer) (f : Frame) (padding : ℕ) (cells : List (Listed (List ℕ))) (verdicts : List (Option Broken)) : Type 0 where
   pub count : length verdicts ≡ length cells
   pub each : (own : ℕ) (c : Listed (List ℕ)) → slice_get cells own ≡ Some c →
-      (verdict_at verdicts own ≡ None) ⊎ (verdict_at verdicts own ≡ broken_among l f cells own c)
+      (verdict_at verdicts own ≡ None) ⊎ (verdict_at verdicts own ≡ broken_among l f padding cells own c)
 
 -- the verdict is set at its number, if it says that a rule is broken; else nothing is changed
 abbrev pub IsPut : ℕ → Option Broken → List (Option Broken) → List (Option Broken) → Type 0
 IsPut own verdict old new = ((verdict ≡ None) × (new ≡ old)) ⊎ (new ≡ set old own verdict)
 
 -- the cell of this number has its verdict, and so has each cell that had it
-pub record PutsVerdict (l : Legalizer) (f : Frame) (cells : List (Listed (List ℕ))) (own : ℕ) (old new : List (Option Broken)) : Type 0 where
-  pub some : AreSomeVerdicts l f cells new
-  pub put : (c : Listed (List ℕ)) → slice_get cells own ≡ Some c → verdict_at new own ≡ broken_among l f cells own c
-  pub kept : (other : ℕ) (c : Listed (List ℕ)) → slice_get cells other ≡ Some c → verdict_at old other ≡ broken_among l f cells other c →
-      verdict_at new other ≡ broken_among l f cells other c
+pub record PutsVerdict (l : Legalizer) (f : Frame) (padding : ℕ) (cells : List (Listed (List ℕ))) (own : ℕ) (old new : List (Option Broken)) : Type 0 where
+  pub some : AreSomeVerdicts l f padding cells new
+  pub put : (c : Listed (List ℕ)) → slice_get cells own ≡ Some c → verdict_at new own ≡ broken_among l f padding cells own c
+  pub kept : (other : ℕ) (c : Listed (List ℕ)) → slice_get cells other ≡ Some c → verdict_at old other ≡ broken_among l f padding cells other c →
+      verdict_at new other ≡ broken_among l f padding cells other c
 
 -- the name of the cell of that number
 abbrev pub name_among : List (Listed (List ℕ)) → ℕ → Option (List ℕ)
@@ -73,21 +73,21 @@ abbrev pub violation_of : List (Listed (List ℕ)) → Listed (List ℕ) → Bro
 violation_of cells c b = record { cell = c.name; rule = b.rule; other = option_and_then (name_among cells) b.other }
 
 -- the violation of this cell, if it is placed and breaks a rule
-abbrev pub violation_by : Legalizer → Frame → List (Listed (List ℕ)) → ℕ → Listed (List ℕ) → Option Violation
-violation_by l f cells own c = option_map (violation_of cells c) (broken_among l f cells own c)
+abbrev pub violation_by : Legalizer → Frame → ℕ → List (Listed (List ℕ)) → ℕ → Listed (List ℕ) → Option Violation
+violation_by l f padding cells own c = option_map (violation_of cells c) (broken_among l f padding cells own c)
 
 -- the violation of the cell of that number
-abbrev pub violation_at : Legalizer → Frame → List (Listed (List ℕ)) → ℕ → Option Violation
-violation_at l f cells own = option_and_then (violation_by l f cells own) (slice_get cells own)
+abbrev pub violation_at : Legalizer → Frame → ℕ → List (Listed (List ℕ)) → ℕ → Option Violation
+violation_at l f padding cells own = option_and_then (violation_by l f padding cells own) (slice_get cells own)
 
 -- the violations of the listed cells, in their order
-abbrev pub violations_in : Legalizer → Frame → List (Listed (List ℕ)) → List Violation
-violations_in l f cells = filter_map (violation_at l f cells) (range_with_len 0 (length cells))
+abbrev pub violations_in : Legalizer → Frame → ℕ → List (Listed (List ℕ)) → List Violation
+violations_in l f padding cells = filter_map (violation_at l f padding cells) (range_with_len 0 (length cells))
 
--- the report of a list of cells, in which overlap is between any two of them: of a team's cells for the team's report, of
--- the cells of all teams for the report of a design
-abbrev pub report_of : Legalizer → Frame → List (Listed (List ℕ)) → Report
-report_of l f cells = record { cells = length cells; unplaced = count_by (λ c. is_none c.place) cells; violations = violations_in l f cells }
+-- the report of a list of cells, in which overlap is between any two of them: of a team's cells, with its padding, for the team's
+-- report, of the cells of all teams, with no padding, for the report of a design
+abbrev pub report_of : Legalizer → Frame → ℕ → List (Listed (List ℕ)) → Report
+report_of l f padding cells = record { cells = length cells; unplaced = count_by (λ c. is_none c.place) cells; violations = violations_in l f padding cells }
 
 -- the cell's macro is one of the frame's, of whole size, and its name is a name
 pub record IsListed (f : Frame) (c : Listed (List ℕ)) : Type 0 where
@@ -95,11 +95,11 @@ pub record IsListed (f : Frame) (c : Listed (List ℕ)) : Type 0 where
   pub sized : IsSized f (macro_of f c.mac)
   pub printed : IsName c.name
 
--- a report is clean if and only if its cells make a fully legal design
+-- a report with no padding is clean if and only if its cells make a fully legal design
 abbrev pub CleanIsLegal : Type 0
 CleanIsLegal =
     (l : Legalizer) (f : Frame) (cells : List (Listed (List ℕ))) → All (IsListed f) cells →
-    IsClean (report_of l f cells) ↔ IsFullyLegal f (map standing_of cells)
+    IsClean (report_of l f 0 cells) ↔ IsFullyLegal f (map standing_of cells)
 
 -- the cells of a loaded design at these places, one for each cell in its order
 abbrev pub listed_at : List Cell → List (Option Place) → List (Listed (List ℕ))

@@ -22,7 +22,7 @@ pub struct BrokenCell {
 /// it breaks. None if no cell breaks one.
 pub fn first_illegal(verdicts: &[Option<Broken>]) -> Option<BrokenCell>
     requires few { length verdicts.now ≤ 4000000 }
-    ensures { (l : Legalizer) (f : Frame) (cells : List (Listed (List ℕ))) → AreVerdicts l f cells verdicts.now → result ≡ slice_get (illegal_in l f cells) 0 }
+    ensures { (l : Legalizer) (f : Frame) (padding : ℕ) (cells : List (Listed (List ℕ))) → AreVerdicts l f padding cells verdicts.now → result ≡ slice_get (illegal_in l f padding cells) 0 }
 {
     for (own, verdict) in verdicts.iter().enumerate() {
         if let Some(broken) = *verdict {

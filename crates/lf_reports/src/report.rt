@@ -13,8 +13,8 @@ ghost use Rattle.lf_rules.specs.Team.{Member, boxes_beside, boxes_from, with_box
 use lf_floorplan::{Cell, Frame, Loaded, Macro, Near, Place, cell_is_sized};
 use lf_rtree::{Placed, RTree};
 use lf_rules::{
-    Broken, Listed, Report, Violation, box_of, broken_alone, legalizer_is_there, overlap_with,
-    verdict_is_one,
+    Broken, Listed, Padding, Report, Violation, box_of, broken_alone, legalizer_is_there,
+    overlap_with, padded_box, verdict_is_one,
 };
 use lf_segments::{Ground, Plan};
 use lf_units::{Name, Sequence};
@@ -55,17 +55,18 @@ fn broken_at(
     own: u32,
     cell: &Listed<&[u8]>,
     place: &Place,
+    padding: Padding,
 ) -> Option<Broken>
     requires { IsListed plan.now (named cell.now) }
     ensures { (cells : List Member) → IsPermutation (boxes_from plan.now 0 cells) boxes.now →
-        IsVerdict (trial_of plan.now cell.now.team (macro_of plan.now cell.now.mac) place.now (boxes_beside plan.now cells own)) result }
+        IsVerdict (trial_of plan.now cell.now.team padding.sites (macro_of plan.now cell.now.mac) place.now (boxes_beside plan.now cells own)) result }
 {
     let frame = plan.frame();
     let mac = macro_in(frame, cell);
     if let Some(rule) = broken_alone(plan, cell.team, mac, place) {
         return Some(Broken { rule, other: None });
     }
-    overlap_with(boxes.least_met(&box_of(frame, mac, place), own))
+    overlap_with(boxes.least_met(&padded_box(frame, mac, place, padding), own))
 }
 
 /// The first rule that the cell of that number breaks where it stands, beside the other placed cells.
@@ -75,16 +76,17 @@ fn broken_in(
     cells: &[Listed<&[u8]>],
     own: usize,
     cell: &Listed<&[u8]>,
+    padding: Padding,
 ) -> Option<Broken>
     requires few { length cells.now ≤ 4000000 }
     requires this { IsListed plan.now (named cell.now) }
     requires within { own < length cells.now }
     requires tree { IsPermutation (boxes_from plan.now 0 (map member_of (map named cells.now))) boxes.now }
-    ensures { (l : Legalizer) → result ≡ broken_among l plan.now (map named cells.now) own (named cell.now) }
+    ensures { (l : Legalizer) → result ≡ broken_among l plan.now padding.sites (map named cells.now) own (named cell.now) }
 {
     verdict_is_one();
     let place = cell.place?;
-    broken_at(plan, boxes, own as u32, cell, &place)
+    broken_at(plan, boxes, own as u32, cell, &place, padding)
 }
 
 /// A copy of the name of the cell of that number.
@@ -158,6 +160,7 @@ fn put_verdict(
     cells: &[Listed<&[u8]>],
     own: usize,
     cell: &Listed<&[u8]>,
+    padding: Padding,
     verdicts: &mut Vec<Option<Broken>>,
 )
     requires few { length cells.now ≤ 4000000 }
@@ -167,9 +170,9 @@ fn put_verdict(
     requires tree { IsPermutation (boxes_from plan.now 0 (map member_of (map named cells.now))) boxes.now }
     requires count { length verdicts.old.items ≡ length cells.now }
     ensures count { length verdicts.new.items ≡ length cells.now }
-    ensures put { (l : Legalizer) → AreSomeVerdicts l plan.now (map named cells.now) verdicts.old.items → PutsVerdict l plan.now (map named cells.now) own verdicts.old.items verdicts.new.items }
+    ensures put { (l : Legalizer) → AreSomeVerdicts l plan.now padding.sites (map named cells.now) verdicts.old.items → PutsVerdict l plan.now padding.sites (map named cells.now) own verdicts.old.items verdicts.new.items }
 {
-    let verdict = broken_in(plan, boxes, cells, own, cell);
+    let verdict = broken_in(plan, boxes, cells, own, cell, padding);
     put(verdicts, own, verdict);
 }
 
@@ -198,20 +201,21 @@ fn verdicts_in(
     tree: &RTree,
     cells: &[Listed<&[u8]>],
     boxes: &[Placed],
+    padding: Padding,
 ) -> Result<Vec<Option<Broken>>, AllocError>
     requires listed { All (λ c. IsListed plan.now (named c)) cells.now }
     requires few { length cells.now ≤ 4000000 }
     requires tree { IsPermutation (boxes_from plan.now 0 (map member_of (map named cells.now))) tree.now }
     requires boxes { IsPermutation (boxes_from plan.now 0 (map member_of (map named cells.now))) boxes.now }
     ensures count { IfOk result (λ verdicts. length verdicts.items ≡ length cells.now) }
-    ensures each { (l : Legalizer) → IfOk result (λ verdicts. AreVerdicts l plan.now (map named cells.now) verdicts.items) }
+    ensures each { (l : Legalizer) → IfOk result (λ verdicts. AreVerdicts l plan.now padding.sites (map named cells.now) verdicts.items) }
 {
     let fetched = fetch(alloc, cells, boxes)?;
     let mut verdicts = no_verdicts(alloc, cells.len())?;
     for (number, placed) in boxes.iter().enumerate() {
         let own = placed.own as usize;
         let cell = &fetched[number];
-        put_verdict(plan, tree, cells, own, cell, &mut verdicts);
+        put_verdict(plan, tree, cells, own, cell, padding, &mut verdicts);
     }
     Ok(verdicts)
 }
@@ -226,7 +230,7 @@ fn push_violation(
 ) -> Result<(), AllocError>
     requires within { own < length cells.now }
     requires count { length verdicts.now ≡ length cells.now }
-    ensures { (l : Legalizer) (f : Frame) → AreVerdicts l f (map named cells.now) verdicts.now → OnOk result (violations.new.items ≡ violations.old.items ++ cons_option (violation_at l f (map named cells.now) own) []) }
+    ensures { (l : Legalizer) (f : Frame) (padding : ℕ) → AreVerdicts l f padding (map named cells.now) verdicts.now → OnOk result (violations.new.items ≡ violations.old.items ++ cons_option (violation_at l f padding (map named cells.now) own) []) }
 {
     let cell = &cells[own];
     match verdicts[own] {
@@ -245,7 +249,7 @@ fn violations_in(
     verdicts: &[Option<Broken>],
 ) -> Result<Vec<Violation>, AllocError>
     requires { length verdicts.now ≡ length cells.now }
-    ensures { (l : Legalizer) (f : Frame) → AreVerdicts l f (map named cells.now) verdicts.now → IfOk result (λ violations. violations.items ≡ violations_in l f (map named cells.now)) }
+    ensures { (l : Legalizer) (f : Frame) (padding : ℕ) → AreVerdicts l f padding (map named cells.now) verdicts.now → IfOk result (λ violations. violations.items ≡ violations_in l f padding (map named cells.now)) }
 {
     let mut violations = Vec::new(alloc);
     for own in 0..cells.len() {
@@ -270,8 +274,8 @@ pub fn report_by_verdicts(
     verdicts: &[Option<Broken>],
 ) -> Result<Report, AllocError>
     requires { length verdicts.now ≡ length cells.now }
-    ensures report { (l : Legalizer) (f : Frame) → AreVerdicts l f (map named cells.now) verdicts.now → IfOk result (λ report. report ≡ report_of l f (map named cells.now)) }
-    ensures told { (l : Legalizer) (f : Frame) → AreVerdicts l f (map named cells.now) verdicts.now → All (λ c. IsListed f (named c)) cells.now →
+    ensures report { (l : Legalizer) (f : Frame) (padding : ℕ) → AreVerdicts l f padding (map named cells.now) verdicts.now → IfOk result (λ report. report ≡ report_of l f padding (map named cells.now)) }
+    ensures told { (l : Legalizer) (f : Frame) (padding : ℕ) → AreVerdicts l f padding (map named cells.now) verdicts.now → All (λ c. IsListed f (named c)) cells.now →
         IfOk result (λ report. All IsTold report.violations) }
 {
     let violations = violations_in(alloc, cells, verdicts)?;
@@ -302,33 +306,34 @@ fn boxes_in(
 /// For each of these cells the first rule that it breaks where it stands, and for Overlap the first other cell that it
 /// meets; none if it breaks no rule, or is unplaced.
 ///
-/// Overlap is between any two cells of the list: those of a team, or of a whole design. A cell is only compared with
-/// what lies near it. `Err` if an allocation fails.
+/// Overlap is between any two cells of the list: those of a team with its padding, or of a whole design with none. A cell is only
+/// compared with what lies near it. `Err` if an allocation fails.
 pub fn verdicts_on(
     alloc: Global,
     plan: &Plan<'_>,
     cells: &[Listed<&[u8]>],
+    padding: Padding,
 ) -> Result<Vec<Option<Broken>>, AllocError>
     requires listed { All (λ c. IsListed plan.now (named c)) cells.now }
     requires few { length cells.now ≤ 4000000 }
     ensures count { IfOk result (λ verdicts. length verdicts.items ≡ length cells.now) }
-    ensures each { (l : Legalizer) → IfOk result (λ verdicts. AreVerdicts l plan.now (map named cells.now) verdicts.items) }
+    ensures each { (l : Legalizer) → IfOk result (λ verdicts. AreVerdicts l plan.now padding.sites (map named cells.now) verdicts.items) }
 {
     let mut boxes = boxes_in(alloc, plan.frame(), cells)?;
     let tree = RTree::build(alloc, boxes.as_mut_slice())?;
-    verdicts_in(alloc, plan, &tree, cells, &boxes)
+    verdicts_in(alloc, plan, &tree, cells, &boxes, padding)
 }
 
-/// The report of these cells, in which overlap is between any two of them.
+/// The report of these cells with no padding, in which overlap is between any two of them.
 fn report_on(alloc: Global, plan: &Plan<'_>, cells: &[Listed<&[u8]>]) -> Result<Report, AllocError>
     requires listed { All (λ c. IsListed plan.now (named c)) cells.now }
     requires few { length cells.now ≤ 4000000 }
-    ensures report { (l : Legalizer) → IfOk result (λ report. report ≡ report_of l plan.now (map named cells.now)) }
+    ensures report { (l : Legalizer) → IfOk result (λ report. report ≡ report_of l plan.now 0 (map named cells.now)) }
     ensures legal { IfOk result (λ report. IsClean report ↔ IsFullyLegal plan.now (map standing_of (map named cells.now))) }
     ensures told { IfOk result (λ report. All IsTold report.violations) }
 {
     legalizer_is_there();
-    let verdicts = verdicts_on(alloc, plan, cells)?;
+    let verdicts = verdicts_on(alloc, plan, cells, Padding::none())?;
     report_by_verdicts(alloc, cells, &verdicts)
 }
 
@@ -336,7 +341,7 @@ fn report_on(alloc: Global, plan: &Plan<'_>, cells: &[Listed<&[u8]>]) -> Result<
 fn report_of(alloc: Global, frame: &Frame, cells: &[Listed<&[u8]>]) -> Result<Report, AllocError>
     requires listed { All (λ c. IsListed frame.now (named c)) cells.now }
     requires few { length cells.now ≤ 4000000 }
-    ensures report { (l : Legalizer) → IfOk result (λ report. report ≡ report_of l frame.now (map named cells.now)) }
+    ensures report { (l : Legalizer) → IfOk result (λ report. report ≡ report_of l frame.now 0 (map named cells.now)) }
     ensures legal { IfOk result (λ report. IsClean report ↔ IsFullyLegal frame.now (map standing_of (map named cells.now))) }
     ensures told { IfOk result (λ report. All IsTold report.violations) }
 {
@@ -366,7 +371,7 @@ fn listed_cells<'a>(
 }
 
 /// The report of a design whose movable cells stand at these places, one for each cell in loading order; overlap
-/// is between cells of any teams.
+/// is between cells of any teams, and paddings play no part.
 ///
 /// A cell is only compared with what lies near it. `Err` if an allocation fails.
 pub fn check_all(
@@ -375,7 +380,7 @@ pub fn check_all(
     places: &[Option<Place>],
 ) -> Result<Report, AllocError>
     requires { length places.now ≡ length loaded.now.cells }
-    ensures report { (l : Legalizer) → IfOk result (λ report. report ≡ report_of l loaded.now.frame (listed_at loaded.now.cells places.now)) }
+    ensures report { (l : Legalizer) → IfOk result (λ report. report ≡ report_of l loaded.now.frame 0 (listed_at loaded.now.cells places.now)) }
     ensures legal { IfOk result (λ report. IsClean report ↔ IsFullyLegal loaded.now.frame (standing_at loaded.now.cells places.now)) }
     ensures told { IfOk result (λ report. All IsTold report.violations) }
 {

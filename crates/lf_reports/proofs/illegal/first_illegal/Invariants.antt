@@ -10,5 +10,5 @@ use Rattle.lf_reports.proofs.illegal.first_illegal.Given as goal
 -- the cells so far break no rule
 abbrev pub invariant-loop-own : goal.invariant-loop-own
 invariant-loop-own l =
-    (lz : Legalizer) (f : Frame) (cells : List (Listed (List ℕ))) → AreVerdicts lz f cells l.verdicts →
-    illegal_in lz f cells ≡ illegal_from lz f cells l.own
+    (lz : Legalizer) (f : Frame) (padding : ℕ) (cells : List (Listed (List ℕ))) → AreVerdicts lz f padding cells l.verdicts →
+    illegal_in lz f padding cells ≡ illegal_from lz f padding cells l.own

@@ -4,7 +4,7 @@ use Rattle.lf_floorplan.specs.declared.frame.Frame.{Frame}
 use Rattle.lf_floorplan.specs.declared.macros.Macro.{Macro}
 use Rattle.lf_floorplan.specs.Boxes.{macro_of}
 use Rattle.lf_rules.specs.declared.rule.Rule.TheVariants.{Overlap}
-use Rattle.lf_rules.specs.Legality.{IsFirstBroken, box_of, trial_of}
+use Rattle.lf_rules.specs.Legality.{IsFirstBroken, padded_box, trial_of}
 use Rattle.lf_rules.specs.Legalizer.{IsVerdict}
 use Rattle.lf_rules.specs.Team.{boxes_beside}
 use Rattle.lf_rules.proofs.RuleLemmas.{frame_broken}
@@ -17,9 +17,9 @@ returns-in-Some c = λ cells same.
     let others = boxes_beside f cells c.args.own in
     let mac : c.macro_in-mac.result.now ≡ macro_of f c.args.cell.now.mac =
     c.macro_in-mac.ensures.mac ∙ ap {B = Macro} (λ (h : Frame). macro_of h c.args.cell.now.mac) c.frame-frame.ensures in
-    subst (λ (m : Macro). IsFirstBroken (trial_of f c.args.cell.now.team m c.args.place.now others) record { rule = c.in-Some.rule; other = None }) mac
-    (frame_broken (trial_of f c.args.cell.now.team c.macro_in-mac.result.now c.args.place.now others) c.broken_alone.result c.in-Some.rule c.in-Some.is
-    (c.broken_alone.ensures others))
+    subst (λ (m : Macro). IsFirstBroken (trial_of f c.args.cell.now.team c.args.padding.sites m c.args.place.now others) record { rule = c.in-Some.rule; other = None }) mac
+    (frame_broken (trial_of f c.args.cell.now.team c.args.padding.sites c.macro_in-mac.result.now c.args.place.now others) c.broken_alone.result c.in-Some.rule c.in-Some.is
+    (c.broken_alone.ensures c.args.padding.sites others))
 
 pub returns : goal.returns
 returns c = λ cells same.
@@ -28,8 +28,8 @@ returns c = λ cells same.
     let team = c.args.cell.now.team in
     let m = c.macro_in-mac.result.now in
     let mac : m ≡ macro_of f c.args.cell.now.mac = c.macro_in-mac.ensures.mac ∙ ap {B = Macro} (λ (h : Frame). macro_of h c.args.cell.now.mac) c.frame-frame.ensures in
-    let rect = subst (λ (h : Frame). c.box_of.result ≡ box_of (trial_of h team m c.args.place.now others)) c.frame-frame.ensures c.box_of.ensures in
+    let rect = subst (λ (h : Frame). c.padded_box.result ≡ padded_box (trial_of h team c.args.padding.sites m c.args.place.now others)) c.frame-frame.ensures c.padded_box.ensures in
     rw c.overlap_with.ensures
-    (subst (λ (n : Macro). IsVerdict (trial_of f team n c.args.place.now others) (option_map (λ own. record { rule = Overlap; other = Some own }) c.least_met.result)) mac
-    (met_in_tree (trial_of f team m c.args.place.now others) cells c.args.own c.args.boxes.now c.box_of.result c.broken_alone.result c.least_met.result refl rect
-    c.in_default.is (c.broken_alone.ensures others) same c.least_met.ensures))
+    (subst (λ (n : Macro). IsVerdict (trial_of f team c.args.padding.sites n c.args.place.now others) (option_map (λ own. record { rule = Overlap; other = Some own }) c.least_met.result)) mac
+    (met_in_tree (trial_of f team c.args.padding.sites m c.args.place.now others) cells c.args.own c.args.boxes.now c.padded_box.result c.broken_alone.result c.least_met.result refl rect
+    c.in_default.is (c.broken_alone.ensures c.args.padding.sites others) same c.least_met.ensures))

@@ -10,6 +10,6 @@ returns c = λ l.
     let f = c.args.plan.now in
     let cells = map named c.args.cells.now in
     let cell = named c.args.cell.now in
-    broken_is l f cells c.args.own cell c.in_ok-place.place c.broken_at.result c.verdict_is_one.ensures c.requires.this
+    broken_is l f c.args.padding.sites cells c.args.own cell c.in_ok-place.place c.broken_at.result c.verdict_is_one.ensures c.requires.this
     (c.broken_at.ensures (map member_of cells) c.requires.tree)
-    ∙ ap (λ (o : Option Place). option_and_then (λ p. l.first_broken (trial_among f cells c.args.own cell p)) o) (sym c.in_ok-place.was)
+    ∙ ap (λ (o : Option Place). option_and_then (λ p. l.first_broken (trial_among f c.args.padding.sites cells c.args.own cell p)) o) (sym c.in_ok-place.was)

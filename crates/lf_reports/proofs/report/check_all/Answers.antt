@@ -26,7 +26,7 @@ report_of-requires-clause-few c =
 pub returns-clause-report : goal.returns-clause-report
 returns-clause-report c = λ l.
     let are = joined c.args.loaded.now.cells c.as_slice.result.now c.args.places.now c.deref.result.now c.in_ok-cells.cells.items c.deref.ensures.value (c.in_ok-cells.ensures {u = tt}) c.as_slice.ensures in
-    subst (λ (cells : List (Listed (List ℕ))). IfOk c.report_of.result (λ report. report ≡ report_of l c.args.loaded.now.frame cells)) are (c.report_of.ensures.report l)
+    subst (λ (cells : List (Listed (List ℕ))). IfOk c.report_of.result (λ report. report ≡ report_of l c.args.loaded.now.frame 0 cells)) are (c.report_of.ensures.report l)
 
 pub returns-clause-legal : goal.returns-clause-legal
 returns-clause-legal c =

@@ -8,12 +8,12 @@ use Rattle.lf_reports.proofs.CleanLemmas.{all_named, all_told, report_is}
 use Rattle.lf_reports.proofs.report.report_by_verdicts.Goals as goal
 
 pub returns-clause-report : goal.returns-clause-report
-returns-clause-report c = λ l f verdicts.
+returns-clause-report c = λ l f padding verdicts.
     let cells = map named c.args.cells.now in
     let count : length c.args.cells.now ≡ length cells = sym (length-map c.args.cells.now named) in
-    report_is l f cells (length c.args.cells.now) c.unplaced_in.result c.from_vec.result count c.unplaced_in.ensures (c.from_vec.ensures ∙ c.in_ok-violations.ensures {u = tt} l f verdicts)
+    report_is l f padding cells (length c.args.cells.now) c.unplaced_in.result c.from_vec.result count c.unplaced_in.ensures (c.from_vec.ensures ∙ c.in_ok-violations.ensures {u = tt} l f padding verdicts)
 
 pub returns-clause-told : goal.returns-clause-told
-returns-clause-told c = λ l f verdicts listed.
+returns-clause-told c = λ l f padding verdicts listed.
     let cells = map named c.args.cells.now in
-    subst (λ (violations : List Violation). All IsTold violations) (sym (c.from_vec.ensures ∙ c.in_ok-violations.ensures {u = tt} l f verdicts)) (all_told l f cells (all_named f c.args.cells.now listed))
+    subst (λ (violations : List Violation). All IsTold violations) (sym (c.from_vec.ensures ∙ c.in_ok-violations.ensures {u = tt} l f padding verdicts)) (all_told l f padding cells (all_named f c.args.cells.now listed))

@@ -11,7 +11,7 @@ report_on-requires-clause-listed c = subst (λ (f : Frame). All (λ x. IsListed 
 
 pub returns-clause-report : goal.returns-clause-report
 returns-clause-report c = λ l.
-    subst (λ (f : Frame). IfOk c.report_on.result (λ report. report ≡ report_of l f (map named c.args.cells.now))) c.new.ensures (c.report_on.ensures.report l)
+    subst (λ (f : Frame). IfOk c.report_on.result (λ report. report ≡ report_of l f 0 (map named c.args.cells.now))) c.new.ensures (c.report_on.ensures.report l)
 
 pub returns-clause-legal : goal.returns-clause-legal
 returns-clause-legal c =

@@ -52,13 +52,13 @@ loop-number-init c =
     let cells = map named c.args.cells.now in
     let named_long = length-map c.args.cells.now named in (
       c.in_ok-verdicts.ensures.count,
-      λ l. none_yet l c.args.plan.now cells c.args.boxes.now c.in_ok-verdicts.verdicts.items (c.in_ok-verdicts.ensures.count ∙ sym named_long) c.in_ok-verdicts.ensures.none,
+      λ l. none_yet l c.args.plan.now c.args.padding.sites cells c.args.boxes.now c.in_ok-verdicts.verdicts.items (c.in_ok-verdicts.ensures.count ∙ sym named_long) c.in_ok-verdicts.ensures.none,
     )
 
 pub loop-number-preserved : goal.loop-number-preserved
 loop-number-preserved c = (
   c.put_verdict.ensures.count,
-  λ l. one_more l c.args.plan.now (map named c.args.cells.now) c.args.boxes.now c.loop-number.number _ c.loop-number.verdicts.items _ c.loop-number-test.true (c.loop-number.invariant.1 l)
+  λ l. one_more l c.args.plan.now c.args.padding.sites (map named c.args.cells.now) c.args.boxes.now c.loop-number.number _ c.loop-number.verdicts.items _ c.loop-number-test.true (c.loop-number.invariant.1 l)
       (c.put_verdict.ensures.put l (c.loop-number.invariant.1 l).some),
 )
 
@@ -67,5 +67,5 @@ returns-clause-each c = λ l.
     let f = c.args.plan.now in
     let cells = map named c.args.cells.now in
     let all : c.loop-number.number ≡ length c.args.boxes.now = omega arith in
-    all_done l f cells c.args.boxes.now c.loop-number.verdicts.items c.requires.boxes
-    (subst (λ (k : ℕ). HaveVerdicts l f cells c.args.boxes.now k c.loop-number.verdicts.items) all (c.loop-number.invariant.1 l))
+    all_done l f c.args.padding.sites cells c.args.boxes.now c.loop-number.verdicts.items c.requires.boxes
+    (subst (λ (k : ℕ). HaveVerdicts l f c.args.padding.sites cells c.args.boxes.now k c.loop-number.verdicts.items) all (c.loop-number.invariant.1 l))

@@ -1,4 +1,4 @@
-use Rattle.std.proofs.Common.{◌≡◌, map}
+use Rattle.std.proofs.Common.{◌≡◌, ℕ, map}
 use Rattle.std.specs.Prelude.{filter_map}
 use Rattle.std.specs.List.{range_with_len}
 use Rattle.lf_floorplan.specs.declared.frame.Frame.{Frame}
@@ -8,4 +8,4 @@ use Rattle.lf_reports.proofs.report.violations_in.Given as goal
 
 -- the violations so far are those of the cells so far
 abbrev pub invariant-loop-own : goal.invariant-loop-own
-invariant-loop-own l = (lz : Legalizer) (f : Frame) → AreVerdicts lz f (map named l.cells) l.verdicts → l.violations.items ≡ filter_map (violation_at lz f (map named l.cells)) (range_with_len 0 l.own)
+invariant-loop-own l = (lz : Legalizer) (f : Frame) (padding : ℕ) → AreVerdicts lz f padding (map named l.cells) l.verdicts → l.violations.items ≡ filter_map (violation_at lz f padding (map named l.cells)) (range_with_len 0 l.own)
