@@ -53,7 +53,7 @@ some_answers l old new name order number reply some given =
 by_plain : (l : Legalizer) (floor : FloorState) (number : ℕ) (order : Order (List ℕ) Place) (o : Option TeamState)
     → is_short (answer_by o l floor number order).reply ≡ false
 by_plain l floor number order None = refl
-by_plain l floor number order (Some s) = never_short (setting l floor.frame number) order s
+by_plain l floor number order (Some s) = never_short (setting l floor.frame number s.padding) order s
 
 at_plain : (l : Legalizer) (floor : FloorState) (order : Order (List ℕ) Place) (o : Option ℕ) → is_short (answer_at o l floor order).reply ≡ false
 at_plain l floor order None = refl

@@ -15,13 +15,13 @@ use Rattle.lf_teams.specs.Teams.{setting, broken_at, broken_by}
 use Rattle.lf_legalize.specs.Members.{member_of}
 
 -- a verdict on the cell's trial is what every legalizer says
-pub broken_is : (l : Legalizer) (f : Frame) (team : ℕ) (cells : List Cell) (own : ℕ) (c : Cell) (mac : Macro) (place : Place) (others : List Placed) (found : Option Broken)
+pub broken_is : (l : Legalizer) (f : Frame) (team padding : ℕ) (cells : List Cell) (own : ℕ) (c : Cell) (mac : Macro) (place : Place) (others : List Placed) (found : Option Broken)
     → VerdictIsOne → slice_get cells own ≡ Some c → mac ≡ macro_of f c.mac → others ≡ boxes_beside f (map member_of cells) own → IsSized f mac
-    → IsVerdict (trial_of f team mac place others) found → found ≡ broken_at (setting l f team) cells own place
-broken_is l f team cells own c mac place others found one there is beside sized verdict =
-    let same : found ≡ l.first_broken (trial_of f team mac place others) =
-    one (trial_of f team mac place others) found (l.first_broken (trial_of f team mac place others)) verdict (l.finds_first_broken (trial_of f team mac place others) sized) in
+    → IsVerdict (trial_of f team padding mac place others) found → found ≡ broken_at (setting l f team padding) cells own place
+broken_is l f team padding cells own c mac place others found one there is beside sized verdict =
+    let same : found ≡ l.first_broken (trial_of f team padding mac place others) =
+    one (trial_of f team padding mac place others) found (l.first_broken (trial_of f team padding mac place others)) verdict (l.finds_first_broken (trial_of f team padding mac place others) sized) in
     same
-    ∙ ap (λ (m : Macro). l.first_broken (trial_of f team m place others)) is
-    ∙ ap (λ (os : List Placed). l.first_broken (trial_of f team (macro_of f c.mac) place os)) beside
-    ∙ ap (λ (o : Option Cell). broken_by o (setting l f team) cells own place) (sym there)
+    ∙ ap (λ (m : Macro). l.first_broken (trial_of f team padding m place others)) is
+    ∙ ap (λ (os : List Placed). l.first_broken (trial_of f team padding (macro_of f c.mac) place os)) beside
+    ∙ ap (λ (o : Option Cell). broken_by o (setting l f team padding) cells own place) (sym there)

@@ -5,6 +5,7 @@ use Rattle.std.proofs.lemmas.Bool.{eqb-true, ltb-true, false≢true}
 use Rattle.lf_units.specs.declared.area.Point.{Point}
 use Rattle.lf_floorplan.specs.declared.place.Place.{Place}
 use Rattle.lf_rules.specs.declared.rule.Broken.{Broken}
+use Rattle.lf_rules.specs.declared.padding.Padding.{Padding}
 use Rattle.lf_rules.specs.Team.{Member}
 use Rattle.lf_rules.specs.Tidy.{Tidied, Going, Stuck, tidied}
 use Rattle.lf_proto.specs.declared.reply.Reply.{Reply}
@@ -21,12 +22,12 @@ use Rattle.lf_proto.specs.declared.request.Order.TheVariants.{Open, Within}
 use Rattle.lf_proto.specs.declared.verb.Action.{Action}
 use Rattle.lf_proto.specs.declared.verb.Action.TheVariants.{Close, Sync, Check, Def, Where, Find, Change as Changing}
 use Rattle.lf_proto.specs.declared.verb.Change.{Change}
-use Rattle.lf_proto.specs.declared.verb.Change.TheVariants.{Place as PlaceAt, Legalize, Tidy, Unplace, Swap, Undo, Commit, Revert}
+use Rattle.lf_proto.specs.declared.verb.Change.TheVariants.{Place as PlaceAt, Legalize, Tidy, Unplace, Swap, Undo, Commit, Revert, Pad}
 use Rattle.lf_teams.specs.Outcomes.{Outcome, is_short, refused, changed, with_entry}
 use Rattle.lf_teams.specs.Sessions.{with_slot, seen_at, opened, opened_at, closed, synced}
 use Rattle.lf_teams.specs.Looks.{checked, written, located, located_own, located_at, best_at, found, found_own, found_at}
 use Rattle.lf_reports.specs.declared.illegal.BrokenCell.{BrokenCell}
-use Rattle.lf_teams.specs.Changes.{placed, placed_own, placed_unless, unplaced, unplaced_own, unplaced_from, legalized, legalized_own, legalized_at, restored, places_in, tidied_by, tidied_team, broken_where, exchanged, swapped_unless, swapped_from, swapped_own, swapped, back_to_committed, reverted, undone_by, undone, first_unplaced, broken_cells, committed_unless, committed, outcome_of_change}
+use Rattle.lf_teams.specs.Changes.{placed, placed_own, placed_unless, unplaced, unplaced_own, unplaced_from, legalized, legalized_own, legalized_at, restored, places_in, tidied_by, tidied_team, broken_where, exchanged, swapped_unless, swapped_from, swapped_own, swapped, back_to_committed, reverted, undone_by, undone, padded, first_unplaced, broken_cells, committed_unless, committed, outcome_of_change}
 use Rattle.lf_teams.specs.Verbs.{is_recorded, unless_spent, unless_stale, outcome_within, outcome_by_slot, outcome_of, takes_memory}
 use Rattle.lf_teams.specs.VerbLaws.{MayChange, is_accepted, is_change, is_commit, told_revision, outcome_of_asking}
 
@@ -55,7 +56,7 @@ pub record AreLegalized (t : Setting) (s : TeamState) (name : List ℕ) (target 
 pub record AreTidied (t : Setting) (s : TeamState) (cells : List Cell) : Type 0 where
   pub members : List Member
   pub count : ℕ
-  pub tidies : tidied t.legalizer t.frame t.number (map member_of s.cells) ≡ Going members count
+  pub tidies : tidied t.legalizer t.frame t.number t.padding (map member_of s.cells) ≡ Going members count
   pub are : cells ≡ restored (places_in members) s.cells
 
 -- after unplace: one cell is unplaced
@@ -98,6 +99,7 @@ CellsAfter t s (Swap name other) cells = AreSwapped t s name other cells
 CellsAfter t s Undo cells = AreRestored s cells
 CellsAfter t s Commit cells = AreCommitted t s cells
 CellsAfter t s Revert cells = cells ≡ map back_to_committed s.cells
+CellsAfter t s (Pad padding) cells = cells ≡ s.cells
 
 -- ---- what a change leaves of the cells
 
@@ -149,6 +151,7 @@ part_stays part fixed t s session (Swap name other) cells after =
 part_stays part fixed t s session Undo cells after = inl (ap (map part) after.are ∙ restored_part part fixed after.old s.cells)
 part_stays part fixed t s session Commit cells after = inr (refl, after)
 part_stays part fixed t s session Revert cells after = inl (ap (map part) after ∙ back_part part fixed s.cells)
+part_stays part fixed t s session (Pad padding) cells after = inl (ap (map part) after)
 
 -- a change leaves the macros of the cells
 pub macs_stay : (t : Setting) (s : TeamState) (change : Change (List ℕ) Place) (cells : List Cell) → CellsAfter t s change cells
@@ -176,14 +179,24 @@ AreLeft s entries = (entries ≡ s.entries) ⊎ ((old : List (Option Place)) × 
 abbrev pub EntriesAfter : Setting → TeamState → Change (List ℕ) Place → List (List (Option Place)) → Type 0
 EntriesAfter t s change entries = MatchBool (is_recorded change) (entries ≡ with_entry t.frame.limits s) (AreLeft s entries)
 
+-- the padding after an accepted change: that of a pad, else that before
+abbrev pub PaddingAfter : Change (List ℕ) Place → TeamState → ℕ → Type 0
+PaddingAfter (Pad padding) s new = new ≡ padding.sites
+PaddingAfter _ s new = new ≡ s.padding
+
+-- the team with another padding
+abbrev pub with_padding : ℕ → TeamState → TeamState
+with_padding padding s = record s { padding = padding }
+
 -- an accepted change: the session might change, one more revision is counted, which the reply gives and the session has
--- seen, and cells and undo entries are those after this change
+-- seen, and cells, undo entries and padding are those after this change
 pub record IsChangeOf (t : Setting) (session : ℕ) (change : Change (List ℕ) Place) (s : TeamState) (o : Outcome) : Type 0 where
   pub allowed : MayChange t session s
   pub told : told_revision o.reply ≡ Some (s.revision + 1)
-  pub team : o.team ≡ (changed session o.team.cells o.team.entries s).team
+  pub team : o.team ≡ (changed session o.team.cells o.team.entries (with_padding o.team.padding s)).team
   pub cells : CellsAfter t s change o.team.cells
   pub entries : EntriesAfter t s change o.team.entries
+  pub padding : PaddingAfter change s o.team.padding
 
 -- a refusal, for a reason that is not memory
 pub record IsRefusal (s : TeamState) (o : Outcome) : Type 0 where
@@ -235,16 +248,17 @@ module _ (t : Setting) (s : TeamState) (session : ℕ) where
 
   module _ (may : MayChange t session s) where
     done : (change : Change (List ℕ) Place) (reply : Reply) (cells : List Cell) (entries : List (List (Option Place)))
-        → told_revision reply ≡ Some (s.revision + 1) → CellsAfter t s change cells → EntriesAfter t s change entries
+        → told_revision reply ≡ Some (s.revision + 1) → PaddingAfter change s s.padding → CellsAfter t s change cells → EntriesAfter t s change entries
         → Ends t s session change (record { reply = reply; team = (changed session cells entries s).team })
-    done change reply cells entries told after left = inr (record { allowed = may; told = told; team = refl; cells = after; entries = left })
+    done change reply cells entries told same after left =
+        inr (record { allowed = may; told = told; team = refl; cells = after; entries = left; padding = same })
 
     placed_by : (name : List ℕ) (place : Place) → Ends t s session (PlaceAt name place) (placed t session name place s)
     unfolding placed
     placed_by name place = own (cell_named name s.cells) refl where
       unless : (n : ℕ) (b : Option Broken) → cell_named name s.cells ≡ Some n → broken_at t s.cells n place ≡ b
           → Ends t s session (PlaceAt name place) (placed_unless b n t.frame.limits session place s)
-      unless n None named e = done (PlaceAt name place) _ _ _ refl (record { own = n; named = named; unbroken = e; are = refl }) refl
+      unless n None named e = done (PlaceAt name place) _ _ _ refl refl (record { own = n; named = named; unbroken = e; are = refl }) refl
       unless n (Some b) named e = denied _ (Illegal b.rule n b.other) refl
 
       own : (o : Option ℕ) → cell_named name s.cells ≡ o → Ends t s session (PlaceAt name place) (placed_own o t session place s)
@@ -258,7 +272,7 @@ module _ (t : Setting) (s : TeamState) (session : ℕ) where
           → Ends t s session (Legalize name target) (legalized_at o t session n s)
       at n None named e = denied _ (NoPlace n) refl
       at n (Some place) named e =
-          done (Legalize name target) _ _ _ refl (record { own = n; place = place; named = named; best = e; are = refl }) refl
+          done (Legalize name target) _ _ _ refl refl (record { own = n; place = place; named = named; best = e; are = refl }) refl
 
       own : (o : Option ℕ) → cell_named name s.cells ≡ o → Ends t s session (Legalize name target) (legalized_own o t session target s)
       own None named = denied _ NoCell refl
@@ -266,17 +280,17 @@ module _ (t : Setting) (s : TeamState) (session : ℕ) where
 
     tidied_all : Ends t s session Tidy (tidied_team t session s)
     unfolding tidied_team
-    tidied_all = go (tidied t.legalizer t.frame t.number (map member_of s.cells)) refl where
-      go : (d : Tidied) → tidied t.legalizer t.frame t.number (map member_of s.cells) ≡ d → Ends t s session Tidy (tidied_by d t session s)
+    tidied_all = go (tidied t.legalizer t.frame t.number t.padding (map member_of s.cells)) refl where
+      go : (d : Tidied) → tidied t.legalizer t.frame t.number t.padding (map member_of s.cells) ≡ d → Ends t s session Tidy (tidied_by d t session s)
       go (Stuck n) e = denied _ (NoPlace n) refl
-      go (Going members count) e = done Tidy _ _ _ refl (record { members = members; count = count; tidies = e; are = refl }) refl
+      go (Going members count) e = done Tidy _ _ _ refl refl (record { members = members; count = count; tidies = e; are = refl }) refl
 
     unplaced_by : (name : List ℕ) → Ends t s session (Unplace name) (unplaced t.frame.limits session name s)
     unfolding unplaced
     unplaced_by name = own (cell_named name s.cells) where
       from : (p : Option Place) (n : ℕ) → Ends t s session (Unplace name) (unplaced_from p n t.frame.limits session s)
       from None n = denied _ (Unplaced n) refl
-      from (Some p) n = done (Unplace name) _ _ _ refl (record { own = n; are = refl }) refl
+      from (Some p) n = done (Unplace name) _ _ _ refl refl (record { own = n; are = refl }) refl
 
       own : (o : Option ℕ) → Ends t s session (Unplace name) (unplaced_own o t.frame.limits session s)
       own None = denied _ NoCell refl
@@ -288,7 +302,7 @@ module _ (t : Setting) (s : TeamState) (session : ℕ) where
           → Ends t s session (Swap name other) (swapped_unless b c t session n m (exchanged s.cells n m) s)
       swap_unless p q at_n at_m (Some b) c e_b e_c = denied _ (Illegal b.rule n b.other) refl
       swap_unless p q at_n at_m None (Some c) e_b e_c = denied _ (Illegal c.rule m c.other) refl
-      swap_unless p q at_n at_m None None e_b e_c = done (Swap name other) _ _ _ refl record {
+      swap_unless p q at_n at_m None None e_b e_c = done (Swap name other) _ _ _ refl refl record {
         first = n;
         second = m;
         place = p;
@@ -323,7 +337,7 @@ module _ (t : Setting) (s : TeamState) (session : ℕ) where
     undone_all = go s.entries refl where
       go : (entries : List (List (Option Place))) → s.entries ≡ entries → Ends t s session Undo (undone_by entries session s)
       go [] e = denied _ NothingToUndo refl
-      go (old ∷ entries) e = done Undo _ _ _ refl (record { old = old; are = refl }) (inr (old, e))
+      go (old ∷ entries) e = done Undo _ _ _ refl refl (record { old = old; are = refl }) (inr (old, e))
 
     committed_all : Ends t s session Commit (committed t session s)
     unfolding committed
@@ -332,11 +346,15 @@ module _ (t : Setting) (s : TeamState) (session : ℕ) where
           → Ends t s session Commit (committed_unless o bs session s)
       go (Some n) bs u b = denied _ (Unplaced n) refl
       go None (c ∷ cs) u b = denied _ (Illegal c.broken.rule c.own c.broken.other) refl
-      go None [] u b = done Commit _ _ _ refl (record { placed = u; unbroken = b; are = refl }) (inl refl)
+      go None [] u b = done Commit _ _ _ refl refl (record { placed = u; unbroken = b; are = refl }) (inl refl)
 
     reverted_all : Ends t s session Revert (reverted t session s)
     unfolding reverted
-    reverted_all = done Revert _ _ _ refl refl refl
+    reverted_all = done Revert _ _ _ refl refl refl refl
+
+    padded_by : (padding : Padding) → Ends t s session (Pad padding) (padded padding session s)
+    unfolding padded
+    padded_by padding = inr (record { allowed = may; told = refl; team = refl; cells = refl; entries = inl refl; padding = refl })
 
     change_by : (change : Change (List ℕ) Place) → Ends t s session change (outcome_of_change t session change s)
     change_by (PlaceAt name place) = placed_by name place
@@ -347,6 +365,7 @@ module _ (t : Setting) (s : TeamState) (session : ℕ) where
     change_by Undo = undone_all
     change_by Commit = committed_all
     change_by Revert = reverted_all
+    change_by (Pad padding) = padded_by padding
 
   spent_by : (change : Change (List ℕ) Place) → seen_at s.slots session ≡ Some s.revision → Ends t s session change (unless_spent t session change s)
   spent_by change seen = go (ltb s.revision t.frame.limits.revisions) refl where

@@ -1,5 +1,5 @@
 -- The committed places of a team: which orders change them, and that they stay legal.
-use Rattle.std.proofs.Common.{◌≡◌, inl, inr, ℕ, List, [], ◌∷◌, true, map, Option, refl, ap, sym, subst}
+use Rattle.std.proofs.Common.{◌≡◌, inl, inr, ℕ, List, [], ◌∷◌, true, map, Option, refl, ap, sym, subst, arith}
 use Rattle.lf_floorplan.specs.declared.place.Place.{Place}
 use Rattle.lf_rules.specs.Team.{Member, StandsLegal}
 use Rattle.lf_proto.specs.declared.request.Order.{Order}
@@ -16,6 +16,7 @@ use Rattle.lf_teams.specs.Verbs.{outcome_of}
 use Rattle.lf_teams.specs.VerbLaws.{AreLegal, is_accepted, committed_places}
 use Rattle.lf_teams.specs.Committed.{committed_member, AreCommittedLegal}
 use Rattle.lf_teams.proofs.Cases.{AreCommitted, Facts, accepted_is, order_facts, part_stays}
+use Rattle.lf_rules.proofs.TidyLemmas.{less_stands}
 use Rattle.lf_teams.proofs.Tidying.{committed_stand}
 
 -- after a commit the committed places are the working ones
@@ -35,8 +36,8 @@ pub record Commits (t : Setting) (s : TeamState) : Type 0 where
 
 -- cells of the same macros and committed places keep what was legal
 alike : (t : Setting) (s : TeamState) (cells : List Cell) → map committed_member cells ≡ map committed_member s.cells → AreCommittedLegal t.frame t.number s
-    → (own : ℕ) → StandsLegal t.frame t.number (map committed_member cells) own
-alike t s cells same before own = subst (λ (ms : List Member). StandsLegal t.frame t.number ms own) (sym same) (before own)
+    → (own : ℕ) → StandsLegal t.frame t.number 0 (map committed_member cells) own
+alike t s cells same before own = subst (λ (ms : List Member). StandsLegal t.frame t.number 0 ms own) (sym same) (before own)
 
 module _ (t : Setting) (s : TeamState) (known : IsTeamOf t.frame s) where
   commit_ends : (team : TeamState) → AreCommitted t s team.cells → Commits t team
@@ -44,9 +45,10 @@ module _ (t : Setting) (s : TeamState) (known : IsTeamOf t.frame s) where
       let legal = committed_stand t s.cells known.sized after.placed after.unbroken in
       record {
         same = subst (λ (cs : List Cell). map (λ (c : Cell). c.committed) cs ≡ map (λ (c : Cell). c.working) cs) (sym after.are) (places_as s.cells);
-        legal = λ own. subst (λ (cs : List Cell). StandsLegal t.frame t.number (map member_of cs) own) (sym after.are) (legal own);
-        committed = λ own. subst (λ (cs : List Cell). StandsLegal t.frame t.number (map committed_member cs) own) (sym after.are)
-            (subst (λ (ms : List Member). StandsLegal t.frame t.number ms own) (sym (committed_as s.cells)) (legal own));
+        legal = λ own. subst (λ (cs : List Cell). StandsLegal t.frame t.number t.padding (map member_of cs) own) (sym after.are) (legal own);
+        committed = λ own. subst (λ (cs : List Cell). StandsLegal t.frame t.number 0 (map committed_member cs) own) (sym after.are)
+            (subst (λ (ms : List Member). StandsLegal t.frame t.number 0 ms own) (sym (committed_as s.cells))
+            (less_stands t.frame t.number 0 t.padding (map member_of (map as_committed s.cells)) own (omega arith) (legal own)));
       }
 
   -- legal committed places stay legal after any order

@@ -13,12 +13,15 @@ use Rattle.lf_teams.specs.States.{TeamState}
 use Rattle.lf_teams.specs.Teams.{Setting, IsTeamOf}
 use Rattle.lf_legalize.specs.Members.{IsSizedCell}
 use Rattle.lf_proto.specs.declared.request.Order.{Order}
+use Rattle.lf_proto.specs.declared.request.Order.TheVariants.{Within}
+use Rattle.lf_proto.specs.declared.verb.Action.TheVariants.{Change as Changing}
 use Rattle.lf_proto.specs.declared.verb.Change.{Change}
+use Rattle.lf_proto.specs.declared.verb.Change.TheVariants.{Place as PlaceAt, Legalize, Tidy, Unplace, Swap, Undo, Commit, Revert, Pad}
 use Rattle.lf_teams.specs.Outcomes.{Outcome, is_short, places_of, changed, with_entry}
 use Rattle.lf_teams.specs.Sessions.{with_slot, seen_at}
 use Rattle.lf_teams.specs.Verbs.{is_recorded, outcome_of}
-use Rattle.lf_teams.specs.VerbLaws.{CountsOne, KeepsCells, is_accepted, is_granted, is_change, is_commit, committed_places, told_revision, outcome_of_asking}
-use Rattle.lf_teams.proofs.Cases.{AreLeft, EntriesAfter, Facts, IsChangeOf, accepted_is, macs_stay, names_stay, order_facts, part_stays}
+use Rattle.lf_teams.specs.VerbLaws.{CountsOne, KeepsCells, is_accepted, is_granted, is_change, is_commit, is_pad, committed_places, told_revision, outcome_of_asking}
+use Rattle.lf_teams.proofs.Cases.{with_padding, PaddingAfter, AreLeft, EntriesAfter, Facts, IsChangeOf, accepted_is, macs_stay, names_stay, order_facts, part_stays}
 
 pub false_true : false ≡ true → ⊥
 false_true e = cc
@@ -89,7 +92,7 @@ change_counted t session change s accepted =
     }
 
 same_cells : (s : TeamState) (slots : List (Option ℕ)) → KeepsCells s (record s { slots = slots })
-same_cells s slots = record { cells = refl; revision = refl; entries = refl }
+same_cells s slots = record { cells = refl; revision = refl; entries = refl; padding = refl }
 
 -- the verb leaves the cells, if it is no change
 pub look_kept : (t : Setting) (verb : Order (List ℕ) Place) (s : TeamState) → is_change verb ≡ false → KeepsCells s (outcome_of t verb s).team
@@ -166,6 +169,20 @@ changed_team t s session cells entries h left alike whole few =
           (seen_later s.revision (s.revision + 1) s.slots (omega arith) h.seen_past);
     }
 
+-- another padding plays no part
+padded_team : (t : Setting) (s : TeamState) (padding : ℕ) → IsTeamOf t.frame s → IsTeamOf t.frame (with_padding padding s)
+padded_team t s padding h = record {
+  sized = h.sized;
+  printed = h.printed;
+  names_differ = h.names_differ;
+  few_cells = h.few_cells;
+  few_slots = h.few_slots;
+  whole_entries = h.whole_entries;
+  few_entries = h.few_entries;
+  few_revisions = h.few_revisions;
+  seen_past = h.seen_past;
+}
+
 -- one slot is written, with a revision that is past
 with_slot_team : (t : Setting) (s : TeamState) (session : ℕ) (seen : Option ℕ) → IfSome seen (λ n. n ≤ s.revision) → IsTeamOf t.frame s
     → IsTeamOf t.frame (with_slot session seen s)
@@ -217,7 +234,7 @@ change_keeps t s session change o h c =
     record { macs = macs_stay t s change o.team.cells c.cells; names = names_stay t s change o.team.cells c.cells } in
     let entries = entries_stay t s change o.team.entries h c.entries in
     subst (λ (n : TeamState). IsTeamOf t.frame n) (sym c.team)
-    (changed_team t s session o.team.cells o.team.entries h c.allowed.left alike entries.0 entries.1)
+    (changed_team t (with_padding o.team.padding s) session o.team.cells o.team.entries (padded_team t s o.team.padding h) c.allowed.left alike entries.0 entries.1)
 
 -- after any order a team of the frame is still one
 pub verb_keeps : (t : Setting) (verb : Order (List ℕ) Place) (s : TeamState) → IsTeamOf t.frame s → IsTeamOf t.frame (outcome_of t verb s).team
@@ -246,3 +263,27 @@ committed_stay t verb s other = by (outcome_of t verb s) (order_facts t verb s) 
     | inl same ↦ same
     | inr commits ↦ absurd (false_true (sym other ∙ ap is_commit done.order_is ∙ commits.0))
   ]
+
+-- ---- the padding
+
+-- the padding stays, unless the verb is a pad
+pub padding_stays : (t : Setting) (verb : Order (List ℕ) Place) (s : TeamState) → is_pad verb ≡ false → (outcome_of t verb s).team.padding ≡ s.padding
+padding_stays t verb s other = by (outcome_of t verb s) (order_facts t verb s) where
+  changes : (session : ℕ) (change : Change (List ℕ) Place) (new : ℕ) → is_pad (Within session (Changing change)) ≡ false → PaddingAfter change s new → new ≡ s.padding
+  changes session (Pad padding) new plain after = absurd (false_true (sym plain))
+  changes session (PlaceAt name place) new plain after = after
+  changes session (Legalize name target) new plain after = after
+  changes session Tidy new plain after = after
+  changes session (Unplace name) new plain after = after
+  changes session (Swap first second) new plain after = after
+  changes session Undo new plain after = after
+  changes session Commit new plain after = after
+  changes session Revert new plain after = after
+
+  by : (o : Outcome) → Facts t s verb o → o.team.padding ≡ s.padding
+  by o (inl r) = ap (λ (o : Outcome). o.team.padding) r.is
+  by o (inr (inl look)) = elim look.team [
+    | inl same ↦ ap (λ (n : TeamState). n.padding) same
+    | inr slot ↦ ap (λ (n : TeamState). n.padding) slot.is
+  ]
+  by o (inr (inr done)) = changes done.session done.change o.team.padding (ap is_pad (sym done.order_is) ∙ other) done.is.padding

@@ -54,7 +54,7 @@ opening_is design team number named =
     ∙ ap (λ (n : ℕ). Some (opening_team design n)) (zero-add number)
 
 fresh : ℕ → List Cell → TeamState
-fresh sessions cells = record { cells = cells; revision = 0; entries = []; slots = replicate sessions None }
+fresh sessions cells = record { cells = cells; revision = 0; entries = []; slots = replicate sessions None; padding = 0 }
 
 same_opening : (a b : Loaded) (number : ℕ) → a.frame ≡ b.frame → own_cells number a.cells ≡ own_cells number b.cells
     → opening_team a number ≡ opening_team b number

@@ -7,6 +7,7 @@ use Rattle.std.proofs.lemmas.Bool.Decides.{eqb_tells}
 use Rattle.std.proofs.lemmas.List.Elements.{All-nil, All-cons, All-head, All-tail, All-filter}
 use Rattle.std.proofs.lemmas.List.Kept.{AllPairs-cons, AllPairs-filter}
 use Rattle.std.proofs.lemmas.Option.{slice_get_within, get_or_from_slice_get}
+use Rattle.lf_units.specs.declared.area.Rect.{Rect}
 use Rattle.lf_units.specs.Area.{SharesPoint}
 use Rattle.lf_floorplan.specs.declared.frame.Frame.{Frame}
 use Rattle.lf_floorplan.proofs.GroundLemmas.{teams_apart}
@@ -16,6 +17,7 @@ use Rattle.lf_rules.specs.Team.{Member, box_in, lifted_from, StandsLegal}
 use Rattle.lf_rules.proofs.BesideLemmas.{beside_hold}
 use Rattle.lf_rules.proofs.LegalParts.{frame_beside, frame_meant, legal_by_parts}
 use Rattle.lf_rules.proofs.TidyLemmas.{Clear, turn}
+use Rattle.lf_rules.proofs.WiderLemmas.{wider_none}
 
 -- ---- lists
 
@@ -136,20 +138,21 @@ module _ (f : Frame) (team : ℕ) (cells : List Member) (legal : IsFullyLegal f 
   ]
 
   legal_where : (own : ℕ) (m : Member) (p : Spot) → KeepsRules f (standing_in team m) p → Clear f cells own (box_in f m.mac p)
-      → IsLegalAt (lifted_from f team cells own m.mac) p
+      → IsLegalAt (lifted_from f team 0 cells own m.mac) p
   legal_where own m p keeps clear =
-      let lifted = lifted_from f team cells own m.mac in
+      let lifted = lifted_from f team 0 cells own m.mac in
       (legal_by_parts (trial_at lifted p)).1 (
         frame_beside (alone_at f (standing_in team m) p) lifted.others keeps,
-        beside_hold (λ rect. SharesPoint (box_in f m.mac p) rect → ⊥) f cells own clear,
+        subst (λ (box : Rect). All (λ other. SharesPoint box other.rect → ⊥) lifted.others) (sym (wider_none f (box_in f m.mac p)))
+        (beside_hold (λ rect. SharesPoint (box_in f m.mac p) rect → ⊥) f cells own clear),
       )
 
-  stands_alone : (own : ℕ) → StandsLegal f team cells own
+  stands_alone : (own : ℕ) → StandsLegal f team 0 cells own
   stands_alone own m there = by m.place refl where
     placed : IsSome m.place
     placed = each (λ (c : Standing). IsSome c.place) (with_team team cells []) own (standing_in team m) legal.placed (stands_in team cells own m there)
 
-    by : (place : Option Spot) → m.place ≡ place → MatchOption place ⊥ (λ p. IsLegalAt (lifted_from f team cells own m.mac) p)
+    by : (place : Option Spot) → m.place ≡ place → MatchOption place ⊥ (λ p. IsLegalAt (lifted_from f team 0 cells own m.mac) p)
     by None is = absurd (not_placed m.place is placed)
     by (Some p) is =
         let keeps : KeepsRules f (standing_in team m) p =
@@ -159,7 +162,7 @@ module _ (f : Frame) (team : ℕ) (cells : List Member) (legal : IsFullyLegal f 
 
 -- in a fully legal design each team's cells are placed and team-legal
 pub legal_teams : (f : Frame) (teams : List (List Member)) → IsFullyLegal f (standing_from 0 teams)
-    → (team : ℕ) (cells : List Member) → slice_get teams team ≡ Some cells → (own : ℕ) → StandsLegal f team cells own
+    → (team : ℕ) (cells : List Member) → slice_get teams team ≡ Some cells → (own : ℕ) → StandsLegal f team 0 cells own
 legal_teams f teams legal team cells there own =
     let is : part_of team (standing_from 0 teams) ≡ with_team team cells [] =
     part_is team teams ∙ ap (λ (o : Option (List Member)). with_team team (unwrap_or o []) []) there in

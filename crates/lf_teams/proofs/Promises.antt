@@ -18,11 +18,11 @@ use Rattle.lf_proto.specs.declared.reply.Reply.TheVariants.{Refused}
 use Rattle.lf_proto.specs.declared.reply.Refusal.{Refusal}
 use Rattle.lf_teams.specs.States.{TeamState, FloorState}
 use Rattle.lf_teams.specs.Teams.{Setting, setting, team_number, state_at, state_of, IsTeamOf}
-use Rattle.lf_teams.specs.VerbLaws.{is_granted, AreLegal, HasLegal}
+use Rattle.lf_teams.specs.VerbLaws.{is_granted, is_pad, AreLegal, HasLegal}
 use Rattle.lf_teams.specs.Steps.{ruled, answer_by, answer_at, answer_of, Answers, PlacesLegally, LegalizesLegally, TidiesLegally, SwapsLegally, CommitsLegally, KeepsIfRefused}
 use Rattle.lf_teams.specs.Verbs.{outcome_of}
 use Rattle.lf_teams.proofs.Answering.{own_answer, frame_kept}
-use Rattle.lf_teams.proofs.Kept.{refusal_leaves, false_true}
+use Rattle.lf_teams.proofs.Kept.{refusal_leaves, false_true, padding_stays}
 use Rattle.lf_teams.proofs.VerbLegal.{verb_legal}
 use Rattle.lf_teams.proofs.Committing.{Commits, commit_commits}
 
@@ -37,7 +37,7 @@ by_refused : (l : Legalizer) (floor : FloorState) (number : ℕ) (order : Order 
 by_refused l floor number order None there denied = refl
 by_refused l floor number order (Some s) there denied =
     let refusal = denied_is (ruled l floor.frame number order s).reply denied in
-    let same : (ruled l floor.frame number order s).team ≡ s = refusal_leaves (setting l floor.frame number) order s refusal.0 refusal.1 in
+    let same : (ruled l floor.frame number order s).team ≡ s = refusal_leaves (setting l floor.frame number s.padding) order s refusal.0 refusal.1 in
     let read : slice_set floor.teams number s ≡ floor.teams =
     ap (slice_set floor.teams number) (sym (get_or_from_slice_get floor.teams number s s there)) ∙ set-get_or floor.teams number s in
     ap (λ (teams : List TeamState). record floor { teams = teams }) (ap (slice_set floor.teams number) same ∙ read)
@@ -66,14 +66,14 @@ pub record Ends (l : Legalizer) (floor : FloorState) (team : List ℕ) (Good : S
   pub state : TeamState
   pub named : team_number floor.frame team ≡ Some number
   pub there : state_of floor team ≡ Some state
-  pub good : Good (setting l floor.frame number) state
+  pub good : Good (setting l floor.frame number state.padding) state
 
 -- what holds of a team after an order that it accepts
 abbrev pub Makes : Order (List ℕ) Place → (Setting → TeamState → Type 0) → Type 0
 Makes order Good = (t : Setting) (s : TeamState) → IsTeamOf t.frame s → is_granted (outcome_of t order s).reply ≡ true → Good t (outcome_of t order s).team
 
 module _ (l : Legalizer) (old new : FloorState) (known : All (λ s. IsTeamOf old.frame s) old.teams) where
-  module _ (team : List ℕ) (order : Order (List ℕ) Place) (Good : Setting → TeamState → Type 0) (makes : Makes order Good) where
+  module _ (team : List ℕ) (order : Order (List ℕ) Place) (Good : Setting → TeamState → Type 0) (makes : Makes order Good) (plain : is_pad order ≡ false) where
     module _ (reply : Reply) (granted : is_granted reply ≡ true) (answers : Answers l old (To team order) reply new) where
       good_there : (number : ℕ) (s : TeamState) → team_number old.frame team ≡ Some number → slice_get old.teams number ≡ Some s → Ends l new team Good
       good_there number s named there =
@@ -82,14 +82,16 @@ module _ (l : Legalizer) (old new : FloorState) (known : All (λ s. IsTeamOf old
           let here : IsTeamOf old.frame (get_or old.teams number s) = known number s (slice_get_within old.teams number s there) in
           let one_of : IsTeamOf old.frame s = subst (λ (t : TeamState). IsTeamOf old.frame t) (get_or_from_slice_get old.teams number s s there) here in
           let accepted : is_granted (ruled l old.frame number order s).reply ≡ true = sym (ap is_granted (answers.reply_is ∙ own.0)) ∙ granted in
-          let good : Good (setting l old.frame number) after = makes (setting l old.frame number) s one_of accepted in
+          let padding : after.padding ≡ s.padding = padding_stays (setting l old.frame number s.padding) order s plain in
+          let good : Good (setting l old.frame number after.padding) after =
+          subst (λ (n : ℕ). Good (setting l old.frame number n) after) (sym padding) (makes (setting l old.frame number s.padding) s one_of accepted) in
           let frame : new.frame ≡ old.frame = ap (λ (f : FloorState). f.frame) answers.floor_is ∙ frame_kept l old (To team order) in
           record {
             number = number;
             state = after;
             named = ap (λ (f : Frame). team_number f team) frame ∙ named;
             there = ap (λ (f : FloorState). state_of f team) answers.floor_is ∙ own.1;
-            good = subst (λ (f : Frame). Good (setting l f number) after) (sym frame) good;
+            good = subst (λ (f : Frame). Good (setting l f number after.padding) after) (sym frame) good;
           }
 
       denied : {X : Type 0} → is_granted (answer_of l old (To team order)).reply ≡ false → X
@@ -110,10 +112,10 @@ module _ (l : Legalizer) (old new : FloorState) (known : All (λ s. IsTeamOf old
 -- after an accepted order its team is in such a state
 pub ends_good : (l : Legalizer) (old new : FloorState) (command : Command (List ℕ) Place) (reply : Reply) (team : List ℕ) (order : Order (List ℕ) Place)
     (Good : Setting → TeamState → Type 0) → All (λ s. IsTeamOf old.frame s) old.teams → Answers l old command reply new → command ≡ To team order
-    → is_granted reply ≡ true → Makes order Good → Ends l new team Good
-ends_good l old new command reply team order Good known answers is granted makes =
+    → is_granted reply ≡ true → is_pad order ≡ false → Makes order Good → Ends l new team Good
+ends_good l old new command reply team order Good known answers is granted plain makes =
     let asked = subst (λ (c : Command (List ℕ) Place). Answers l old c reply new) is answers in
-    by_number l old new known team order Good makes reply granted asked (team_number old.frame team) refl
+    by_number l old new known team order Good makes plain reply granted asked (team_number old.frame team) refl
 
 module _ (l : Legalizer) (in_range : LegalInRange) (old new : FloorState) (command : Command (List ℕ) Place) (reply : Reply) where
   module _ (known : All (λ s. IsTeamOf old.frame s) old.teams) (answers : Answers l old command reply new) where
@@ -121,7 +123,7 @@ module _ (l : Legalizer) (in_range : LegalInRange) (old new : FloorState) (comma
     pub places_legally : PlacesLegally l command reply new
     places_legally team name session place is granted =
         let order : Order (List ℕ) Place = Within session (Changing (PlaceAt name place)) in
-        let end = ends_good l old new command reply team order (λ t s. HasLegal t name s) known answers is granted
+        let end = ends_good l old new command reply team order (λ t s. HasLegal t name s) known answers is granted refl
         (λ t s one_of accepted. verb_legal t s one_of in_range session (PlaceAt name place) accepted) in
         record { number = end.number; state = end.state; named = end.named; there = end.there; legal = end.good }
 
@@ -129,7 +131,7 @@ module _ (l : Legalizer) (in_range : LegalInRange) (old new : FloorState) (comma
     pub legalizes_legally : LegalizesLegally l command reply new
     legalizes_legally team name session target is granted =
         let order : Order (List ℕ) Place = Within session (Changing (Legalize name target)) in
-        let end = ends_good l old new command reply team order (λ t s. HasLegal t name s) known answers is granted
+        let end = ends_good l old new command reply team order (λ t s. HasLegal t name s) known answers is granted refl
         (λ t s one_of accepted. verb_legal t s one_of in_range session (Legalize name target) accepted) in
         record { number = end.number; state = end.state; named = end.named; there = end.there; legal = end.good }
 
@@ -137,7 +139,7 @@ module _ (l : Legalizer) (in_range : LegalInRange) (old new : FloorState) (comma
     pub tidies_legally : TidiesLegally l command reply new
     tidies_legally team session is granted =
         let order : Order (List ℕ) Place = Within session (Changing Tidy) in
-        let end = ends_good l old new command reply team order AreLegal known answers is granted
+        let end = ends_good l old new command reply team order AreLegal known answers is granted refl
         (λ t s one_of accepted. verb_legal t s one_of in_range session Tidy accepted) in
         record { number = end.number; state = end.state; named = end.named; there = end.there; legal = end.good }
 
@@ -145,7 +147,7 @@ module _ (l : Legalizer) (in_range : LegalInRange) (old new : FloorState) (comma
     pub swaps_legally : SwapsLegally l command reply new
     swaps_legally team first second session is granted =
         let order : Order (List ℕ) Place = Within session (Changing (Swap first second)) in
-        let end = ends_good l old new command reply team order (λ t s. HasLegal t first s × HasLegal t second s) known answers is granted
+        let end = ends_good l old new command reply team order (λ t s. HasLegal t first s × HasLegal t second s) known answers is granted refl
         (λ t s one_of accepted. verb_legal t s one_of in_range session (Swap first second) accepted) in (
           record { number = end.number; state = end.state; named = end.named; there = end.there; legal = end.good.0 },
           record { number = end.number; state = end.state; named = end.named; there = end.there; legal = end.good.1 },
@@ -155,6 +157,6 @@ module _ (l : Legalizer) (in_range : LegalInRange) (old new : FloorState) (comma
     pub commits_legally : CommitsLegally l command reply new
     commits_legally team session is granted =
         let order : Order (List ℕ) Place = Within session (Changing Commit) in
-        let end = ends_good l old new command reply team order Commits known answers is granted
+        let end = ends_good l old new command reply team order Commits known answers is granted refl
         (λ t s one_of accepted. commit_commits t s one_of session accepted) in
         record { number = end.number; state = end.state; named = end.named; there = end.there; legal = end.good.legal; committed = end.good.same }

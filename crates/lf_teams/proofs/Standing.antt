@@ -96,11 +96,11 @@ sized_at f cells own c all there =
     subst (λ (d : Cell). IsSized f (macro_of f d.mac)) (get_or_from_slice_get cells own c c there) (all own c (slice_get_within cells own c there)).sized
 
 pub stands : (t : Setting) (cells : List Cell) (own : ℕ) (c : Cell) (place : Place) → slice_get cells own ≡ Some c → c.working ≡ Some place
-    → IsLegalAt (lifted_cell t cells own c) (spot_of place) → StandsLegal t.frame t.number (map member_of cells) own
+    → IsLegalAt (lifted_cell t cells own c) (spot_of place) → StandsLegal t.frame t.number t.padding (map member_of cells) own
 stands t cells own c place there placed legal m here =
     let same : member_of c ≡ m = some_one (sym (member_is cells own c there) ∙ here) in
     let P : Option Place → Type 0 = λ o. MatchOption (option_map spot_of o) ⊥ (λ p. IsLegalAt (lifted_cell t cells own c) p) in
-    subst (λ (x : Member). MatchOption x.place ⊥ (λ p. IsLegalAt (lifted_from t.frame t.number (map member_of cells) own x.mac) p)) same (subst P (sym placed) legal)
+    subst (λ (x : Member). MatchOption x.place ⊥ (λ p. IsLegalAt (lifted_from t.frame t.number t.padding (map member_of cells) own x.mac) p)) same (subst P (sym placed) legal)
 
 -- a place that breaks no rule is legal
 pub unbroken : (t : Setting) (cells : List Cell) (own : ℕ) (c : Cell) (place : Place) → slice_get cells own ≡ Some c → IsSized t.frame (macro_of t.frame c.mac)
@@ -113,7 +113,7 @@ unbroken t cells own c place there sized none =
 -- a placed cell that breaks no rule where it stands
 pub stands_where : (t : Setting) (cells : List Cell) (own : ℕ) (place : Place) → All (λ c. IsSizedCell t.frame c) cells → working_at cells own ≡ Some place
     → broken_where t cells own ≡ None
-    → StandsLegal t.frame t.number (map member_of cells) own
+    → StandsLegal t.frame t.number t.padding (map member_of cells) own
 stands_where t cells own place sized placed none =
     let found = working_is cells own place placed in
     let here : broken_at t cells own place ≡ None = sym (ap (λ (o : Option Place). option_and_then (λ (p : Place). broken_at t cells own p) o) placed) ∙ none in
@@ -167,8 +167,8 @@ beside_moved f cells own place =
 -- a cell that goes to a legal place stands there
 pub stands_moved : (t : Setting) (cells : List Cell) (own : ℕ) (c : Cell) (place : Place) → slice_get cells own ≡ Some c
     → IsLegalAt (lifted_cell t cells own c) (spot_of place)
-    → StandsLegal t.frame t.number (map member_of (moved cells own (Some place))) own
+    → StandsLegal t.frame t.number t.padding (map member_of (moved cells own (Some place))) own
 stands_moved t cells own c place there legal =
-    let P : List Placed → Type 0 = λ others. IsLegalAt (record { frame = t.frame; team = t.number; mac = macro_of t.frame c.mac; others = others }) (spot_of place) in
+    let P : List Placed → Type 0 = λ others. IsLegalAt (record { frame = t.frame; team = t.number; padding = t.padding; mac = macro_of t.frame c.mac; others = others }) (spot_of place) in
     stands t (moved cells own (Some place)) own (record c { working = Some place }) place (moved_here cells own (Some place) c there) refl
     (subst P (sym (beside_moved t.frame cells own (Some place))) legal)

@@ -97,7 +97,7 @@ module _ (l : Legalizer) (old new : FloorState) (command : Command (List ℕ) Pl
         by : (k : ℕ) (s : TeamState) → Was l old.frame old.teams k s → IsTeamOf old.frame s
         by k s w = elim w.is [
           | inl same ↦ subst (λ (t : TeamState). IsTeamOf old.frame t) (sym same) (one_of k w.old w.there)
-          | inr turn ↦ subst (λ (t : TeamState). IsTeamOf old.frame t) (sym turn.1) (verb_keeps (setting l old.frame k) turn.0 w.old (one_of k w.old w.there))
+          | inr turn ↦ subst (λ (t : TeamState). IsTeamOf old.frame t) (sym turn.1) (verb_keeps (setting l old.frame k w.old.padding) turn.0 w.old (one_of k w.old w.there))
         ]
 
   -- a team's legal committed places stay legal
@@ -107,7 +107,7 @@ module _ (l : Legalizer) (old new : FloorState) (command : Command (List ℕ) Pl
     by w = elim w.is [
       | inl same ↦ subst (λ (t : TeamState). AreCommittedLegal old.frame k t) (sym same) (before w.old w.there)
       | inr turn ↦ subst (λ (t : TeamState). AreCommittedLegal old.frame k t) (sym turn.1)
-          (order_keeps (setting l old.frame k) w.old (one_of k w.old w.there) turn.0 (before w.old w.there))
+          (order_keeps (setting l old.frame k w.old.padding) w.old (one_of k w.old w.there) turn.0 (before w.old w.there))
     ]
 
 -- ---- the committed design, team by team
@@ -125,7 +125,7 @@ committed_teams floor legal k s there =
 pub teams_committed : (floor : FloorState) → ((k : ℕ) → CommittedAt floor k) → IsCommittedLegal floor
 teams_committed floor legal = teams_legal floor.frame (map committed_members floor.teams) (λ k cells there own.
     let found = mapped_there committed_members floor.teams k cells there in
-    subst (λ (ms : List Member). StandsLegal floor.frame k ms own) found.2 (legal k found.0 found.1 own))
+    subst (λ (ms : List Member). StandsLegal floor.frame k 0 ms own) found.2 (legal k found.0 found.1 own))
 
 -- a step keeps a fully legal committed design
 pub step_keeps : (l : Legalizer) (old new : FloorState) (command : Command (List ℕ) Place) (reply : Reply) → HasFrameTeams old

@@ -33,7 +33,7 @@ use Rattle.lf_teams.specs.Steps.{ruled}
 use Rattle.lf_teams.specs.Runs.{Run, own_replies, asked}
 use Rattle.lf_teams.specs.CommittedRuns.{HasFrameTeams, finds_no_fault, TidyThenCommit, TidiedCommits, EachTidiedCommits}
 use Rattle.lf_teams.proofs.Isolation.{isolated_from_run, has_number}
-use Rattle.lf_teams.proofs.Kept.{look_kept, refusal_leaves, verb_keeps}
+use Rattle.lf_teams.proofs.Kept.{look_kept, padding_stays, refusal_leaves, verb_keeps}
 use Rattle.lf_teams.proofs.Parts.{each}
 use Rattle.lf_teams.proofs.Promises.{denied_is}
 use Rattle.lf_teams.proofs.Standing.{some_one, sized_at, there_within, member_is}
@@ -129,14 +129,36 @@ still_legal : (t : Setting) (s : TeamState) (order : Order (List ℕ) Place) →
 still_legal t s order legal quiet = by (is_change order) refl where
   by : (b : Bool) → is_change order ≡ b → AreLegal t (outcome_of t order s).team
   by false look = λ own.
-      subst (λ (cells : List Cell). StandsLegal t.frame t.number (map member_of cells) own) (sym (look_kept t order s look).cells) (legal own)
+      subst (λ (cells : List Cell). StandsLegal t.frame t.number t.padding (map member_of cells) own) (sym (look_kept t order s look).cells) (legal own)
   by true change =
       let refusal = denied_is (outcome_of t order s).reply (quiet change) in
       subst (λ (after : TeamState). AreLegal t after) (sym (refusal_leaves t order s refusal.0 refusal.1)) legal
 
+-- cells that are legal with the padding before are so with that after, if it is the same
+at_padding : (l : Legalizer) (f : Frame) (number : ℕ) (s after : TeamState) → after.padding ≡ s.padding → AreLegal (setting l f number s.padding) after
+    → AreLegal (setting l f number after.padding) after
+at_padding l f number s after same legal = subst (λ (n : ℕ). AreLegal (setting l f number n) after) (sym same) legal
+
+-- the padding stays too
+still_padded : (t : Setting) (s : TeamState) (order : Order (List ℕ) Place) → (is_change order ≡ true → is_granted (outcome_of t order s).reply ≡ false)
+    → (outcome_of t order s).team.padding ≡ s.padding
+still_padded t s order quiet = by (is_change order) refl where
+  by : (b : Bool) → is_change order ≡ b → (outcome_of t order s).team.padding ≡ s.padding
+  by false look = (look_kept t order s look).padding
+  by true change =
+      let refusal = denied_is (outcome_of t order s).reply (quiet change) in
+      ap (λ (after : TeamState). after.padding) (refusal_leaves t order s refusal.0 refusal.1)
+
+still_there : (l : Legalizer) (f : Frame) (number : ℕ) (s : TeamState) (order : Order (List ℕ) Place) → AreLegal (setting l f number s.padding) s
+    → (is_change order ≡ true → is_granted (ruled l f number order s).reply ≡ false)
+    → AreLegal (setting l f number (ruled l f number order s).team.padding) (ruled l f number order s).team
+still_there l f number s order legal quiet =
+    at_padding l f number s (ruled l f number order s).team (still_padded (setting l f number s.padding) s order quiet)
+    (still_legal (setting l f number s.padding) s order legal quiet)
+
 module _ (l : Legalizer) (f : Frame) (number : ℕ) where
   -- from a team whose cells are all legal on
-  after_legal : (orders : List (Order (List ℕ) Place)) (s : TeamState) → IsTeamOf f s → AreLegal (setting l f number) s → (j second : ℕ) (reply : Reply)
+  after_legal : (orders : List (Order (List ℕ) Place)) (s : TeamState) → IsTeamOf f s → AreLegal (setting l f number s.padding) s → (j second : ℕ) (reply : Reply)
       → slice_get orders j ≡ Some (Within second (Changing Commit)) → slice_get (own_replies l f number orders s) j ≡ Some reply
       → ((k : ℕ) (order : Order (List ℕ) Place) (told : Reply) → k < j → slice_get orders k ≡ Some order
       → slice_get (own_replies l f number orders s) k ≡ Some told
@@ -145,19 +167,21 @@ module _ (l : Legalizer) (f : Frame) (number : ℕ) where
   after_legal (o ∷ os) s known legal zero second reply commit answer quiet =
       ap finds_no_fault (sym (some_one answer))
       ∙ ap (λ (x : Order (List ℕ) Place). finds_no_fault (ruled l f number x s).reply) (some_one commit)
-      ∙ legal_commits (setting l f number) s known legal second
+      ∙ legal_commits (setting l f number s.padding) s known legal second
   after_legal (o ∷ os) s known legal (suc j) second reply commit answer quiet =
-      after_legal os (ruled l f number o s).team (verb_keeps (setting l f number) o s known)
-      (still_legal (setting l f number) s o legal (λ change. quiet 0 o (ruled l f number o s).reply (omega arith) refl refl change))
+      after_legal os (ruled l f number o s).team (verb_keeps (setting l f number s.padding) o s known)
+      (still_there l f number s o legal (λ change. quiet 0 o (ruled l f number o s).reply (omega arith) refl refl change))
       j second reply commit answer (λ k order told less here there change. quiet (suc k) order told (omega (arith, less)) here there change)
 
   tidy_first : LegalInRange → (s : TeamState) → IsTeamOf f s → (o : Order (List ℕ) Place) (first : ℕ) (reply : Reply) → o ≡ Within first (Changing Tidy)
-      → (ruled l f number o s).reply ≡ reply → is_granted reply ≡ true → AreLegal (setting l f number) (ruled l f number o s).team
+      → (ruled l f number o s).reply ≡ reply → is_granted reply ≡ true → AreLegal (setting l f number (ruled l f number o s).team.padding) (ruled l f number o s).team
   tidy_first in_range s known o first reply is answer accepted =
       let granted : is_granted (ruled l f number (Within first (Changing Tidy)) s).reply ≡ true =
       ap (λ (x : Order (List ℕ) Place). is_granted (ruled l f number x s).reply) (sym is) ∙ ap is_granted answer ∙ accepted in
-      subst (λ (x : Order (List ℕ) Place). AreLegal (setting l f number) (ruled l f number x s).team) (sym is)
-      (verb_legal (setting l f number) s known in_range first Tidy granted)
+      subst (λ (x : Order (List ℕ) Place). AreLegal (setting l f number (ruled l f number x s).team.padding) (ruled l f number x s).team) (sym is)
+      (at_padding l f number s (ruled l f number (Within first (Changing Tidy)) s).team
+      (padding_stays (setting l f number s.padding) (Within first (Changing Tidy)) s refl)
+      (verb_legal (setting l f number s.padding) s known in_range first Tidy granted))
 
   -- a team's own orders
   own_tidied : LegalInRange → (orders : List (Order (List ℕ) Place)) (s : TeamState) → IsTeamOf f s → (i j : ℕ) (reply : Reply)
@@ -165,13 +189,13 @@ module _ (l : Legalizer) (f : Frame) (number : ℕ) where
   own_tidied in_range [] s known i j reply h answer = absurd cc
   own_tidied in_range (o ∷ os) s known zero zero reply h answer = absurd (omega (arith, h.later))
   own_tidied in_range (o ∷ os) s known zero (suc j) reply h answer =
-      after_legal os (ruled l f number o s).team (verb_keeps (setting l f number) o s known)
+      after_legal os (ruled l f number o s).team (verb_keeps (setting l f number s.padding) o s known)
       (tidy_first in_range s known o h.first h.reply (some_one h.tidy) (some_one h.answer) h.accepted)
       j h.second reply h.commit answer
       (λ k order told less here there change. h.between (suc k) order told (omega arith) (omega (arith, less)) here there change)
   own_tidied in_range (o ∷ os) s known (suc i) zero reply h answer = absurd (omega (arith, h.later))
   own_tidied in_range (o ∷ os) s known (suc i) (suc j) reply h answer =
-      own_tidied in_range os (ruled l f number o s).team (verb_keeps (setting l f number) o s known) i j reply (record {
+      own_tidied in_range os (ruled l f number o s).team (verb_keeps (setting l f number s.padding) o s known) i j reply (record {
         first = h.first;
         second = h.second;
         reply = h.reply;

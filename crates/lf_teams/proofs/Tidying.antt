@@ -49,24 +49,24 @@ aimed_macs : (l : Legalizer) (c : Lifted) (old cells : List Member) (target : Op
 aimed_macs l c old cells None moved own m same there = same
 aimed_macs l c old cells (Some target) moved own m same there = sent_macs old cells (l.best_place c target) moved own m same there
 
-own_macs : (l : Legalizer) (f : Frame) (team : ℕ) (old cells : List Member) (moved own : ℕ) (o : Option Member) → macs cells ≡ macs old
-    → slice_get cells own ≡ o → SameMacs old (tidied_own o l f team cells moved own)
-own_macs l f team old cells moved own None same there = same
-own_macs l f team old cells moved own (Some m) same there =
-    let c = lifted_from f team cells own m.mac in aimed_macs l c old cells (target_of l c m.place) moved own m same there
+own_macs : (l : Legalizer) (f : Frame) (team padding : ℕ) (old cells : List Member) (moved own : ℕ) (o : Option Member) → macs cells ≡ macs old
+    → slice_get cells own ≡ o → SameMacs old (tidied_own o l f team padding cells moved own)
+own_macs l f team padding old cells moved own None same there = same
+own_macs l f team padding old cells moved own (Some m) same there =
+    let c = lifted_from f team padding cells own m.mac in aimed_macs l c old cells (target_of l c m.place) moved own m same there
 
-cell_macs : (l : Legalizer) (f : Frame) (team : ℕ) (old : List Member) (t : Tidied) (own : ℕ) → SameMacs old t → SameMacs old (tidy_cell l f team t own)
-cell_macs l f team old (Stuck stuck) own same = tt
-cell_macs l f team old (Going cells moved) own same = own_macs l f team old cells moved own (slice_get cells own) same refl
+cell_macs : (l : Legalizer) (f : Frame) (team padding : ℕ) (old : List Member) (t : Tidied) (own : ℕ) → SameMacs old t → SameMacs old (tidy_cell l f team padding t own)
+cell_macs l f team padding old (Stuck stuck) own same = tt
+cell_macs l f team padding old (Going cells moved) own same = own_macs l f team padding old cells moved own (slice_get cells own) same refl
 
-from_macs : (l : Legalizer) (f : Frame) (team : ℕ) (old : List Member) (own count : ℕ) (t : Tidied) → SameMacs old t
-    → SameMacs old (tidied_from l f team own count t)
-from_macs l f team old own zero t same = same
-from_macs l f team old own (suc count) t same = from_macs l f team old (own + 1) count (tidy_cell l f team t own) (cell_macs l f team old t own same)
+from_macs : (l : Legalizer) (f : Frame) (team padding : ℕ) (old : List Member) (own count : ℕ) (t : Tidied) → SameMacs old t
+    → SameMacs old (tidied_from l f team padding own count t)
+from_macs l f team padding old own zero t same = same
+from_macs l f team padding old own (suc count) t same = from_macs l f team padding old (own + 1) count (tidy_cell l f team padding t own) (cell_macs l f team padding old t own same)
 
-tidied_macs : (l : Legalizer) (f : Frame) (team : ℕ) (cells new : List Member) (moved : ℕ) → tidied l f team cells ≡ Going new moved → macs new ≡ macs cells
+tidied_macs : (l : Legalizer) (f : Frame) (team padding : ℕ) (cells new : List Member) (moved : ℕ) → tidied l f team padding cells ≡ Going new moved → macs new ≡ macs cells
 unfolding tidied
-tidied_macs l f team cells new moved is = subst (λ (t : Tidied). SameMacs cells t) is (from_macs l f team cells 0 (length cells) (Going cells 0) refl)
+tidied_macs l f team padding cells new moved is = subst (λ (t : Tidied). SameMacs cells t) is (from_macs l f team padding cells 0 (length cells) (Going cells 0) refl)
 
 -- ---- the cells of a tidied team
 
@@ -121,20 +121,20 @@ module _ (t : Setting) (cells : List Cell) (sized : All (λ c. IsSizedCell t.fra
         subst (λ (n : ℕ). IsSized t.frame (macro_of t.frame n)) mac (sized_at t.frame cells k c sized is)
 
   placed_legal : (new : List Member) (k : ℕ) (m : Member) → IsSized t.frame (macro_of t.frame m.mac) → (place : Option Spot) → m.place ≡ place
-      → MatchOption place ⊥ (λ p. IsLegalAt (lifted_from t.frame t.number new k m.mac) p) → IsPlacedAt m
+      → MatchOption place ⊥ (λ p. IsLegalAt (lifted_from t.frame t.number t.padding new k m.mac) p) → IsPlacedAt m
   placed_legal new k m whole None is legal = absurd legal
   placed_legal new k m whole (Some p) is legal =
-      let found = place_is in_range (lifted_from t.frame t.number new k m.mac) p whole legal in
+      let found = place_is in_range (lifted_from t.frame t.number t.padding new k m.mac) p whole legal in
       (found.0, is ∙ ap (λ (s : Spot). Some s) (sym found.2), ap (λ (s : Spot). place_of_spot s) found.2 ∙ found.1)
 
   -- a tidied team's cells stand at team-legal places
-  pub tidied_stand : (new : List Member) (moved : ℕ) → tidied t.legalizer t.frame t.number (map member_of cells) ≡ Going new moved
-      → (own : ℕ) → StandsLegal t.frame t.number (map member_of (restored (places_in new) cells)) own
+  pub tidied_stand : (new : List Member) (moved : ℕ) → tidied t.legalizer t.frame t.number t.padding (map member_of cells) ≡ Going new moved
+      → (own : ℕ) → StandsLegal t.frame t.number t.padding (map member_of (restored (places_in new) cells)) own
   tidied_stand new moved is own =
-      let legal = tidied_legal t.legalizer t.frame t.number (map member_of cells) new moved sized_members is in
-      let same = tidied_macs t.legalizer t.frame t.number (map member_of cells) new moved is in
+      let legal = tidied_legal t.legalizer t.frame t.number t.padding (map member_of cells) new moved sized_members is in
+      let same = tidied_macs t.legalizer t.frame t.number t.padding (map member_of cells) new moved is in
       let at : (k : ℕ) (m : Member) → slice_get new k ≡ Some m → IsPlacedAt m = λ k m there. placed_legal new k m (mac_there new k m same there) m.place refl (legal k m there) in
-      subst (λ (ms : List Member). StandsLegal t.frame t.number ms own) (sym (restored_members new cells same at)) (legal own)
+      subst (λ (ms : List Member). StandsLegal t.frame t.number t.padding ms own) (sym (restored_members new cells same at)) (legal own)
 
   -- the place that is found for a cell is its best place; none is found only if it may go to none
   pub best_choice : (own : ℕ) (c : Cell) (target : Point) → slice_get cells own ≡ Some c
@@ -219,12 +219,12 @@ committed_members (c ∷ cs) = ap (λ (ms : List Member). member_of c ∷ ms) (c
 
 -- after a commit each cell stands at a team-legal place
 pub committed_stand : (t : Setting) (cells : List Cell) → All (λ c. IsSizedCell t.frame c) cells → first_unplaced cells ≡ None → broken_cells t cells ≡ []
-    → (own : ℕ) → StandsLegal t.frame t.number (map member_of (map as_committed cells)) own
+    → (own : ℕ) → StandsLegal t.frame t.number t.padding (map member_of (map as_committed cells)) own
 committed_stand t cells sized placed unbroken own =
-    subst (λ (ms : List Member). StandsLegal t.frame t.number ms own) (sym (committed_members cells)) (λ m there. one m there (member_there cells own m there))
+    subst (λ (ms : List Member). StandsLegal t.frame t.number t.padding ms own) (sym (committed_members cells)) (λ m there. one m there (member_there cells own m there))
   where
     one : (m : Member) → slice_get (map member_of cells) own ≡ Some m → ((c : Cell) × (slice_get cells own ≡ Some c) × (member_of c ≡ m))
-        → MatchOption m.place ⊥ (λ p. IsLegalAt (lifted_from t.frame t.number (map member_of cells) own m.mac) p)
+        → MatchOption m.place ⊥ (λ p. IsLegalAt (lifted_from t.frame t.number t.padding (map member_of cells) own m.mac) p)
     one m there found =
         let at = each_placed cells placed own found.0 found.1 in
         let works : working_at cells own ≡ Some at.0 = ap (λ (o : Option Cell). option_and_then (λ (c : Cell). c.working) o) found.1 ∙ at.1 in

@@ -1,12 +1,13 @@
 -- What undo and revert bring back.
-use Rattle.std.proofs.Common.{◌≡◌, ℕ, zero, suc, ◌<◌, ◌≤◌, List, [], ◌∷◌, Bool, true, cond, map, take, length, Option, Some, None, refl, ap, sym, ◌∙◌, subst, arith}
+use Rattle.std.proofs.Common.{◌≡◌, ℕ, zero, suc, ◌+◌, ◌<◌, ◌≤◌, List, [], ◌∷◌, Bool, true, cond, map, take, length, Option, Some, None, refl, ap, sym, ◌∙◌, subst, arith}
 use Rattle.std.specs.Prelude.{MatchBool}
 use Rattle.std.proofs.lemmas.Bool.{eq-eqb, lt-ltb}
 use Rattle.lf_floorplan.specs.declared.place.Place.{Place}
 use Rattle.lf_rules.specs.Tidy.{Tidied, Stuck, tidied}
 use Rattle.lf_proto.specs.declared.verb.Action.TheVariants.{Change as Changing}
 use Rattle.lf_proto.specs.declared.verb.Change.{Change}
-use Rattle.lf_proto.specs.declared.verb.Change.TheVariants.{Tidy, Undo, Commit, Revert}
+use Rattle.lf_proto.specs.declared.verb.Change.TheVariants.{Tidy, Undo, Commit, Revert, Pad}
+use Rattle.lf_proto.specs.declared.reply.Reply.TheVariants.{Revision}
 use Rattle.lf_proto.specs.declared.reply.Refusal.TheVariants.{NoPlace, RevisionsSpent, Stale}
 use Rattle.lf_cells.specs.declared.cell.Cell.{Cell}
 use Rattle.lf_cells.specs.Cells.{as_committed}
@@ -15,9 +16,9 @@ use Rattle.lf_teams.specs.States.{TeamState}
 use Rattle.lf_teams.specs.Teams.{Setting}
 use Rattle.lf_teams.specs.Outcomes.{Outcome, refused, with_entry, places_of}
 use Rattle.lf_teams.specs.Sessions.{seen_at}
-use Rattle.lf_teams.specs.Changes.{restored, reverted, undone, undone_by, tidied_by, tidied_team, back_to_committed, outcome_of_change}
+use Rattle.lf_teams.specs.Changes.{restored, reverted, undone, undone_by, padded, tidied_by, tidied_team, back_to_committed, outcome_of_change}
 use Rattle.lf_teams.specs.Verbs.{is_recorded, unless_spent, outcome_by_slot}
-use Rattle.lf_teams.specs.VerbLaws.{MayChange, Leads, is_accepted, outcome_of_asking}
+use Rattle.lf_teams.specs.VerbLaws.{MayChange, IsPadded, Leads, PadKeeps, is_accepted, outcome_of_asking}
 use Rattle.lf_teams.proofs.Cases.{AreLeft, accepted_is, macs_stay}
 use Rattle.lf_teams.proofs.Kept.{same_length}
 
@@ -41,7 +42,7 @@ pub may_is : (t : Setting) (session : ℕ) (change : Change (List ℕ) Place) (s
 may_is t session change s may = slot_is t session change s (seen_at s.slots session) may.seen may.left
 
 pub stuck_is : (t : Setting) (session stuck : ℕ) (s : TeamState) → MayChange t session s
-    → tidied t.legalizer t.frame t.number (map member_of s.cells) ≡ Stuck stuck
+    → tidied t.legalizer t.frame t.number t.padding (map member_of s.cells) ≡ Stuck stuck
     → outcome_of_asking t session Tidy s ≡ refused (NoPlace stuck) s
 unfolding tidied_team
 stuck_is t session stuck s may is = may_is t session Tidy s may ∙ ap (λ (d : Tidied). tidied_by d t session s) is
@@ -111,3 +112,13 @@ revert_leads t session other s accepted may =
     let after = (outcome_of_asking t session Commit s).team in
     let P : Outcome → Type 0 = λ o. Leads o (places_of s.cells) in
     subst P (sym (may_is t other Revert after may)) (reverted_leads t other s after (accepted_is t session Commit s accepted).cells.are)
+
+-- ---- pad
+
+-- a pad that the session may make
+pub pad_keeps : PadKeeps
+unfolding padded
+pad_keeps t session padding s may =
+    let is = may_is t session (Pad padding) s may in
+    subst (λ (o : Outcome). (o.reply ≡ Revision (s.revision + 1)) × IsPadded padding s o.team) (sym is)
+    (refl, record { padding = refl; cells = refl; entries = refl })

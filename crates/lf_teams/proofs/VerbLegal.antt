@@ -82,7 +82,7 @@ module _ (t : Setting) (s : TeamState) (known : IsTeamOf t.frame s) (in_range : 
             ap (cell_named name) is
             ∙ named_alike name s.cells (moved s.cells own (Some place)) (moved_part (λ c. c.name) (λ c p. refl) s.cells own (Some place)) ∙ named;
         legal =
-            subst (λ (cs : List Cell). StandsLegal t.frame t.number (map member_of cs) own) (sym is) (stands_moved t s.cells own found.0 place found.1 legal);
+            subst (λ (cs : List Cell). StandsLegal t.frame t.number t.padding (map member_of cs) own) (sym is) (stands_moved t s.cells own found.0 place found.1 legal);
       }
 
   legalized_legal : (own : ℕ) (name : List ℕ) (target : Point) (place : Place) → cell_named name s.cells ≡ Some own → best_at t s.cells own target ≡ Some place
@@ -95,7 +95,7 @@ module _ (t : Setting) (s : TeamState) (known : IsTeamOf t.frame s) (in_range : 
             ap (cell_named name) is
             ∙ named_alike name s.cells (moved s.cells own (Some place)) (moved_part (λ c. c.name) (λ c p. refl) s.cells own (Some place)) ∙ named;
         legal =
-            subst (λ (cs : List Cell). StandsLegal t.frame t.number (map member_of cs) own) (sym is) (stands_moved t s.cells own found.0 place found.1 (best_legal t s.cells known.sized in_range own found.0 target place found.1 best));
+            subst (λ (cs : List Cell). StandsLegal t.frame t.number t.padding (map member_of cs) own) (sym is) (stands_moved t s.cells own found.0 place found.1 (best_legal t s.cells known.sized in_range own found.0 target place found.1 best));
       }
 
   exchanged_legal : (first second own : ℕ) (name : List ℕ) (place : Place) → cell_named name s.cells ≡ Some own
@@ -106,7 +106,7 @@ module _ (t : Setting) (s : TeamState) (known : IsTeamOf t.frame s) (in_range : 
     named =
         ap (cell_named name) is
         ∙ named_alike name s.cells (exchanged s.cells first second) (exchanged_part (λ c. c.name) (λ c p. refl) s.cells first second) ∙ named;
-    legal = subst (λ (cs : List Cell). StandsLegal t.frame t.number (map member_of cs) own) (sym is)
+    legal = subst (λ (cs : List Cell). StandsLegal t.frame t.number t.padding (map member_of cs) own) (sym is)
         (stands_where t (exchanged s.cells first second) own place (sized_like (exchanged s.cells first second) (exchanged_part (λ c. c.mac) (λ c p. refl) s.cells first second)) stands none);
   }
 
@@ -114,7 +114,7 @@ module _ (t : Setting) (s : TeamState) (known : IsTeamOf t.frame s) (in_range : 
   legal_after : (change : Change (List ℕ) Place) (team : TeamState) → CellsAfter t s change team.cells → MakesLegal t change team
   legal_after (PlaceAt name place) team after = placed_legal after.own name place after.named after.unbroken team after.are
   legal_after (Legalize name target) team after = legalized_legal after.own name target after.place after.named after.best team after.are
-  legal_after Tidy team after = λ own. subst (λ (cs : List Cell). StandsLegal t.frame t.number (map member_of cs) own) (sym after.are)
+  legal_after Tidy team after = λ own. subst (λ (cs : List Cell). StandsLegal t.frame t.number t.padding (map member_of cs) own) (sym after.are)
       (tidied_stand t s.cells known.sized in_range after.members after.count after.tidies own)
   legal_after (Swap name other) team after =
       let here = first_stands s.cells after.first after.second after.place after.place' after.stands after.stands' in
@@ -122,7 +122,7 @@ module _ (t : Setting) (s : TeamState) (known : IsTeamOf t.frame s) (in_range : 
         exchanged_legal after.first after.second after.first name here.0 after.named here.1 after.unbroken team after.are,
         exchanged_legal after.first after.second after.second other after.place after.named' there after.unbroken' team after.are,
       )
-  legal_after Commit team after = λ own. subst (λ (cs : List Cell). StandsLegal t.frame t.number (map member_of cs) own) (sym after.are)
+  legal_after Commit team after = λ own. subst (λ (cs : List Cell). StandsLegal t.frame t.number t.padding (map member_of cs) own) (sym after.are)
       (committed_stand t s.cells known.sized after.placed after.unbroken own)
   legal_after _ team after = tt
 

@@ -6,8 +6,8 @@ use Rattle.lf_proto.proofs.Places.{place_at-some}
 use Rattle.lf_teams.specs.Teams.{Setting}
 use Rattle.lf_teams.specs.Sessions.{opened, closed, synced}
 use Rattle.lf_teams.specs.Looks.{located, found}
-use Rattle.lf_teams.specs.Changes.{placed, unplaced, legalized, tidied_team, swapped, reverted, undone, committed}
-use Rattle.lf_teams.specs.VerbRows.{HasRoom, SessionRow, StaleRow, UndoRow, SpentRow, BestRow, NoPlaceRow, TidyRow, TidyCommitRow, CommitRow, RefusedRow, SwapRow}
+use Rattle.lf_teams.specs.Changes.{placed, unplaced, legalized, tidied_team, swapped, reverted, undone, committed, padded}
+use Rattle.lf_teams.specs.VerbRows.{HasRoom, SessionRow, StaleRow, UndoRow, SpentRow, BestRow, NoPlaceRow, TidyRow, TidyCommitRow, CommitRow, RefusedRow, SwapRow, PadRow}
 
 -- a revision is left at each number up to nine
 more_left : (t : Setting) (n : ℕ) → 9 < t.frame.limits.revisions → n < 10 → ltb n t.frame.limits.revisions ≡ true
@@ -89,3 +89,8 @@ pub swap_row : SwapRow
 unfolding swapped located undone
 swap_row t p q r room first second apart meets =
     rw (left t 3 room (omega arith), first, second, left t 4 room (omega arith), newest t room _ _, left t 5 room (omega arith), apart, meets) refl
+
+pub pad_row : PadRow
+unfolding placed padded located undone
+pad_row t padding p q room none =
+    rw (left t 0 room (omega arith), none, newest t room _ _, left t 1 room (omega arith), left t 2 room (omega arith)) refl

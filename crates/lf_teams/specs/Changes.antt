@@ -1,16 +1,17 @@
--- Changes: the outcomes of place, unplace, legalize, tidy, swap, revert, undo and commit.
+-- Changes: the outcomes of place, unplace, legalize, tidy, swap, revert, undo, commit and pad.
 use Rattle.std.specs.Prelude.{ℕ, ◌+◌, List, [], ◌∷◌, Option, Some, None, position, is_none, map, filter_map, length, option_map, option_and_then}
 use Rattle.std.specs.List.{range_with_len}
 use Rattle.lf_units.specs.declared.area.Point.{Point}
 use Rattle.lf_floorplan.specs.declared.place.Place.{Place}
 use Rattle.lf_floorplan.specs.declared.limits.Limits.{Limits}
 use Rattle.lf_rules.specs.declared.rule.Broken.{Broken}
+use Rattle.lf_rules.specs.declared.padding.Padding.{Padding}
 use Rattle.lf_rules.specs.Team.{Member}
 use Rattle.lf_rules.specs.Tidy.{Tidied, Going, Stuck, tidied}
 use Rattle.lf_reports.specs.declared.illegal.BrokenCell.{BrokenCell}
 use Rattle.lf_proto.specs.Numbers.{◌>>=◌}
 use Rattle.lf_proto.specs.declared.verb.Change.{Change}
-use Rattle.lf_proto.specs.declared.verb.Change.TheVariants.{Place as PlaceAt, Legalize, Tidy, Unplace, Swap, Undo, Commit, Revert}
+use Rattle.lf_proto.specs.declared.verb.Change.TheVariants.{Place as PlaceAt, Legalize, Tidy, Unplace, Swap, Undo, Commit, Revert, Pad}
 use Rattle.lf_proto.specs.declared.reply.Reply.TheVariants.{Legalized, Tidied as TidyDone}
 use Rattle.lf_proto.specs.declared.reply.Refusal.TheVariants.{NoCell, Unplaced, Illegal, NoPlace, NothingToUndo}
 use Rattle.lf_cells.specs.declared.cell.Cell.{Cell}
@@ -84,7 +85,7 @@ tidied_by (Going members count) t session s =
 
 -- tidy: in loading order, each cell that is unplaced or not team-legal goes to its best place
 unfoldable pub tidied_team : Setting → ℕ → TeamState → Outcome
-tidied_team t session s = tidied_by (tidied t.legalizer t.frame t.number (map member_of s.cells)) t session s
+tidied_team t session s = tidied_by (tidied t.legalizer t.frame t.number t.padding (map member_of s.cells)) t session s
 
 -- the first rule that the cell of that position breaks where it stands; an unplaced cell breaks none
 abbrev pub broken_where : Setting → List Cell → ℕ → Option Broken
@@ -162,6 +163,10 @@ committed_unless None [] session s = changed session (map as_committed s.cells) 
 unfoldable pub committed : Setting → ℕ → TeamState → Outcome
 committed t session s = committed_unless (first_unplaced s.cells) (broken_cells t s.cells) session s
 
+-- pad: the team has this padding from now on; no cell is moved or tested, and the undo entries stay
+unfoldable pub padded : Padding → ℕ → TeamState → Outcome
+padded padding session s = changed session s.cells s.entries (record s { padding = padding.sites })
+
 -- ---- all changes
 
 -- the outcome of a change
@@ -174,3 +179,4 @@ outcome_of_change t session (Swap first second) s = swapped t session first seco
 outcome_of_change t session Undo s = undone session s
 outcome_of_change t session Commit s = committed t session s
 outcome_of_change t session Revert s = reverted t session s
+outcome_of_change t session (Pad padding) s = padded padding session s

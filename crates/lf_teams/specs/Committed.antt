@@ -36,15 +36,15 @@ IsCommittedLegal floor = IsFullyLegal floor.frame (committed_design floor)
 abbrev pub KeepsCommittedLegal : FloorState → FloorState → Type 0
 KeepsCommittedLegal old new = IsCommittedLegal old → IsCommittedLegal new
 
--- every cell of the team has a committed place, which is team-legal among the team's other committed places
+-- every cell of the team has a committed place, which is team-legal among the team's other committed places; no padding plays a part
 abbrev pub AreCommittedLegal : Frame → ℕ → TeamState → Type 0
-AreCommittedLegal f team s = (own : ℕ) → StandsLegal f team (committed_members s) own
+AreCommittedLegal f team s = (own : ℕ) → StandsLegal f team 0 (committed_members s) own
 
--- in a fully legal design each team's cells are placed and team-legal
+-- in a fully legal design each team's cells are placed and, with no padding, team-legal
 abbrev pub LegalMakesTeams : Type 0
 LegalMakesTeams =
     (f : Frame) (teams : List (List Member)) → IsFullyLegal f (standing_from 0 teams) →
-    (team : ℕ) (cells : List Member) → slice_get teams team ≡ Some cells → (own : ℕ) → StandsLegal f team cells own
+    (team : ℕ) (cells : List Member) → slice_get teams team ≡ Some cells → (own : ℕ) → StandsLegal f team 0 cells own
 
 -- the committed design is fully legal if and only if each team's committed places are team-legal
 abbrev pub CommittedByTeams : Type 0

@@ -5,9 +5,15 @@ use Rattle.lf_cells.specs.Openings.{own_cells, opening_components}
 use Rattle.lf_teams.specs.States.{TeamState, FloorState}
 use Rattle.lf_teams.specs.Teams.{team_number}
 
--- a team at loading: no change, no undo entry, and every slot free
+-- a team at loading: no change, no undo entry, every slot free, and no padding
 abbrev pub opening_team : Loaded → ℕ → TeamState
-opening_team design number = record { cells = own_cells number design.cells; revision = 0; entries = []; slots = replicate design.frame.limits.sessions None }
+opening_team design number = record {
+  cells = own_cells number design.cells;
+  revision = 0;
+  entries = [];
+  slots = replicate design.frame.limits.sessions None;
+  padding = 0;
+}
 
 -- this many teams, from that number on
 abbrev pub opening_teams : Loaded → ℕ → ℕ → List TeamState

@@ -32,9 +32,9 @@ located_own (Some own) s = located_at (working_at s.cells own) own s
 unfoldable pub located : List ℕ → TeamState → Outcome
 located name s = located_own (cell_named name s.cells) s
 
--- check: the report of the team's cells at their working places
+-- check: the report of the team's cells at their working places, with its padding
 unfoldable pub checked : Setting → TeamState → Outcome
-checked t s = record { reply = Report (report_text (report_of t.legalizer t.frame (map (listed_of t.number) s.cells))); team = s }
+checked t s = record { reply = Report (report_text (report_of t.legalizer t.frame t.padding (map (listed_of t.number) s.cells))); team = s }
 
 -- def: the team's DEF text, its cells at their working places
 unfoldable pub written : Setting → TeamState → Outcome
@@ -48,7 +48,7 @@ place_of_spot p = place_at p.x p.y p.orient
 
 -- the cell of that position, taken from its place among its team's cells
 abbrev pub lifted_cell : Setting → List Cell → ℕ → Cell → Lifted
-lifted_cell t cells own c = lifted_from t.frame t.number (map member_of cells) own c.mac
+lifted_cell t cells own c = lifted_from t.frame t.number t.padding (map member_of cells) own c.mac
 
 -- the best place for a target of the cell of that position
 abbrev pub best_at : Setting → List Cell → ℕ → Point → Option Place

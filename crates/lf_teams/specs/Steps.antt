@@ -28,9 +28,9 @@ pub record Answer : Type 0 where
   pub reply : Reply
   pub floor : FloorState
 
--- the outcome of an order to the team of that number, in this state of the team
+-- the outcome of an order to the team of that number, in this state of the team and so with its padding
 abbrev pub ruled : Legalizer → Frame → ℕ → Order (List ℕ) Place → TeamState → Outcome
-ruled l f number order s = outcome_of (setting l f number) order s
+ruled l f number order s = outcome_of (setting l f number s.padding) order s
 
 -- the team's outcome on the floor: this team gets the outcome's state, the others are unchanged
 abbrev pub settled : FloorState → ℕ → Outcome → Answer
@@ -61,7 +61,7 @@ answer_of l floor (To team order) = answer_at (team_number floor.frame team) l f
 
 -- ---- a step
 
--- the commands that allocate nothing, so that they are never answered OutOfMemory: bye, open, close, sync, where and undo
+-- the commands that allocate nothing, so that they are never answered OutOfMemory: bye, open, close, sync, where, undo and pad
 abbrev pub TakesNone : Command (List ℕ) Place → Type 0
 TakesNone Bye = Unit {0}
 TakesNone (To team order) = takes_memory order ≡ false
@@ -98,7 +98,7 @@ pub record StandsIn (l : Legalizer) (floor : FloorState) (team name : List ℕ) 
   pub state : TeamState
   pub named : team_number floor.frame team ≡ Some number
   pub there : state_of floor team ≡ Some state
-  pub legal : HasLegal (setting l floor.frame number) name state
+  pub legal : HasLegal (setting l floor.frame number state.padding) name state
 
 -- after an accepted place the cell is team-legal
 abbrev pub PlacesLegally : Legalizer → Command (List ℕ) Place → Reply → FloorState → Type 0
@@ -118,7 +118,7 @@ pub record AllStandIn (l : Legalizer) (floor : FloorState) (team : List ℕ) : T
   pub state : TeamState
   pub named : team_number floor.frame team ≡ Some number
   pub there : state_of floor team ≡ Some state
-  pub legal : AreLegal (setting l floor.frame number) state
+  pub legal : AreLegal (setting l floor.frame number state.padding) state
 
 -- after an accepted tidy every cell of the team is placed and team-legal
 abbrev pub TidiesLegally : Legalizer → Command (List ℕ) Place → Reply → FloorState → Type 0
@@ -138,7 +138,7 @@ pub record AllCommittedIn (l : Legalizer) (floor : FloorState) (team : List ℕ)
   pub state : TeamState
   pub named : team_number floor.frame team ≡ Some number
   pub there : state_of floor team ≡ Some state
-  pub legal : AreLegal (setting l floor.frame number) state
+  pub legal : AreLegal (setting l floor.frame number state.padding) state
   pub committed : committed_places state ≡ places_of state.cells
 
 -- after an accepted commit every cell of the team is placed and team-legal, and its committed place is its working place

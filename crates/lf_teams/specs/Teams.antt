@@ -49,20 +49,21 @@ pub record IsTeamOf (f : Frame) (s : TeamState) : Type 0 where
   pub few_revisions : s.revision ≤ f.limits.revisions
   pub seen_past : All (λ slot. IfSome slot (λ seen. seen ≤ s.revision)) s.slots
 
--- what the rules use besides the team: the frame, the team's number in it, and the legalizer of its places
+-- what the rules use besides the team's cells: the frame, the team's number in it, its padding, and the legalizer of its places
 pub record Setting : Type 0 where
   pub legalizer : Legalizer
   pub frame : Frame
   pub number : ℕ
+  pub padding : ℕ
 
--- the setting of the team of that number
-abbrev pub setting : Legalizer → Frame → ℕ → Setting
-setting l f number = record { legalizer = l; frame = f; number = number }
+-- the setting of the team of that number, with that padding
+abbrev pub setting : Legalizer → Frame → ℕ → ℕ → Setting
+setting l f number padding = record { legalizer = l; frame = f; number = number; padding = padding }
 
 -- the cell of that position, tried at a place beside the team's other placed cells
 abbrev pub trial_of_cell : Setting → List Cell → ℕ → Cell → Place → Trial
 trial_of_cell t cells own c place =
-    trial_of t.frame t.number (macro_of t.frame c.mac) place (boxes_beside t.frame (map member_of cells) own)
+    trial_of t.frame t.number t.padding (macro_of t.frame c.mac) place (boxes_beside t.frame (map member_of cells) own)
 
 -- the first rule that this cell breaks; None if there is no cell
 abbrev pub broken_by : Option Cell → Setting → List Cell → ℕ → Place → Option Broken

@@ -3,13 +3,14 @@ use Rattle.std.specs.Prelude.{◌≡◌, ◌≢◌, ℕ, ◌+◌, ◌<◌, List,
 use Rattle.lf_units.specs.declared.area.Point.{Point}
 use Rattle.lf_floorplan.specs.declared.place.Place.{Place}
 use Rattle.lf_rules.specs.Choice.{IsChoice, spot_of}
+use Rattle.lf_rules.specs.declared.padding.Padding.{Padding}
 use Rattle.lf_rules.specs.Team.{StandsLegal}
 use Rattle.lf_rules.specs.Tidy.{Stuck, tidied}
 use Rattle.lf_proto.specs.declared.request.Order.{Order}
 use Rattle.lf_proto.specs.declared.request.Order.TheVariants.{Within}
 use Rattle.lf_proto.specs.declared.verb.Action.TheVariants.{Change as Changing}
 use Rattle.lf_proto.specs.declared.verb.Change.{Change}
-use Rattle.lf_proto.specs.declared.verb.Change.TheVariants.{Place as PlaceAt, Legalize, Tidy, Swap, Undo, Commit, Revert}
+use Rattle.lf_proto.specs.declared.verb.Change.TheVariants.{Place as PlaceAt, Legalize, Tidy, Swap, Undo, Commit, Revert, Pad}
 use Rattle.lf_proto.specs.declared.reply.Reply.{Reply}
 use Rattle.lf_proto.specs.declared.reply.Reply.TheVariants.{Revision, Legalized, Tidied as TidyDone, Refused}
 use Rattle.lf_proto.specs.declared.reply.Refusal.{Refusal}
@@ -58,7 +59,7 @@ RefusalKeeps =
 abbrev pub StuckTidyKeeps : Type 0
 StuckTidyKeeps =
     (t : Setting) (session stuck : ℕ) (s : TeamState) → MayChange t session s
-    → tidied t.legalizer t.frame t.number (map member_of s.cells) ≡ Stuck stuck
+    → tidied t.legalizer t.frame t.number t.padding (map member_of s.cells) ≡ Stuck stuck
     → outcome_of_asking t session Tidy s ≡ refused (NoPlace stuck) s
 
 -- ---- revisions
@@ -93,13 +94,14 @@ abbrev pub is_change : Order (List ℕ) Place → Bool
 is_change (Within session (Changing change)) = true
 is_change _ = false
 
--- the team has the same cells, revision and undo entries
+-- the team has the same cells, revision, undo entries and padding
 pub record KeepsCells (old new : TeamState) : Type 0 where
   pub cells : new.cells ≡ old.cells
   pub revision : new.revision ≡ old.revision
   pub entries : new.entries ≡ old.entries
+  pub padding : new.padding ≡ old.padding
 
--- a verb that is no change leaves cells, revision and undo entries unchanged
+-- a verb that is no change leaves cells, revision, undo entries and padding unchanged
 abbrev pub LookKeeps : Type 0
 LookKeeps = (t : Setting) (verb : Order (List ℕ) Place) (s : TeamState) → is_change verb ≡ false → KeepsCells s (outcome_of t verb s).team
 
@@ -140,6 +142,30 @@ OnlyCommitCommits =
     (t : Setting) (verb : Order (List ℕ) Place) (s : TeamState) → is_commit verb ≡ false
     → committed_places (outcome_of t verb s).team ≡ committed_places s
 
+-- ---- padding
+
+-- the verb is a pad
+abbrev pub is_pad : Order (List ℕ) Place → Bool
+is_pad (Within session (Changing (Pad padding))) = true
+is_pad _ = false
+
+-- no verb but pad changes the padding
+abbrev pub OnlyPadPads : Type 0
+OnlyPadPads = (t : Setting) (verb : Order (List ℕ) Place) (s : TeamState) → is_pad verb ≡ false → (outcome_of t verb s).team.padding ≡ s.padding
+
+-- the team has this padding, and its cells, at their working and committed places, and its undo entries as before
+pub record IsPadded (sites : Padding) (old new : TeamState) : Type 0 where
+  pub padding : new.padding ≡ sites.sites
+  pub cells : new.cells ≡ old.cells
+  pub entries : new.entries ≡ old.entries
+
+-- a pad that its session may make is accepted wherever the cells stand, and changes the padding and the revision alone
+abbrev pub PadKeeps : Type 0
+PadKeeps =
+    (t : Setting) (session : ℕ) (padding : Padding) (s : TeamState) → MayChange t session s →
+    let after = outcome_of_asking t session (Pad padding) s in
+    (after.reply ≡ Revision (s.revision + 1)) × IsPadded padding s after.team
+
 -- ---- legal places
 
 -- the place that find and legalize take is the best place; they find none only if the cell may go to no place
@@ -150,13 +176,13 @@ BestIsFound =
 
 -- every cell of the team is placed and team-legal
 abbrev pub AreLegal : Setting → TeamState → Type 0
-AreLegal t s = (own : ℕ) → StandsLegal t.frame t.number (map member_of s.cells) own
+AreLegal t s = (own : ℕ) → StandsLegal t.frame t.number t.padding (map member_of s.cells) own
 
 -- the team has a cell of that name, which is placed and team-legal
 pub record HasLegal (t : Setting) (name : List ℕ) (s : TeamState) : Type 0 where
   pub own : ℕ
   pub named : cell_named name s.cells ≡ Some own
-  pub legal : StandsLegal t.frame t.number (map member_of s.cells) own
+  pub legal : StandsLegal t.frame t.number t.padding (map member_of s.cells) own
 
 -- after an accepted tidy every cell of the team is placed and team-legal
 abbrev pub TidyMakesLegal : Type 0

@@ -3,12 +3,13 @@ use Rattle.std.specs.Prelude.{◌≡◌, ℕ, ◌<◌, List, [], ◌∷◌, Opti
 use Rattle.lf_units.specs.declared.area.Point.{Point}
 use Rattle.lf_floorplan.specs.declared.place.Place.{Place}
 use Rattle.lf_rules.specs.declared.rule.Rule.TheVariants.{Overlap}
+use Rattle.lf_rules.specs.declared.padding.Padding.{Padding}
 use Rattle.lf_rules.specs.Tidy.{Going, Stuck, tidied}
 use Rattle.lf_proto.specs.declared.request.Order.{Order}
 use Rattle.lf_proto.specs.declared.request.Order.TheVariants.{Open, Within}
 use Rattle.lf_proto.specs.declared.verb.Action.TheVariants.{Close, Sync, Where, Find, Change as Changing}
 use Rattle.lf_proto.specs.declared.verb.Change.{Change}
-use Rattle.lf_proto.specs.declared.verb.Change.TheVariants.{Place as PlaceAt, Legalize, Tidy, Unplace, Swap, Undo, Commit, Revert}
+use Rattle.lf_proto.specs.declared.verb.Change.TheVariants.{Place as PlaceAt, Legalize, Tidy, Unplace, Swap, Undo, Commit, Revert, Pad}
 use Rattle.lf_proto.specs.declared.reply.Reply.{Reply}
 use Rattle.lf_proto.specs.declared.reply.Reply.TheVariants.{Done, Opened, Revision, At, Legalized, Tidied as TidyDone, Refused}
 use Rattle.lf_proto.specs.declared.reply.Refusal.TheVariants.{NoSession, Stale, NoCell, Unplaced, Illegal, NoPlace, NothingToUndo, SessionsFull, RevisionsSpent}
@@ -35,7 +36,7 @@ three p q r = cell_at (codes "a1") 0 p ∷ cell_at (codes "a2") 0 q ∷ cell_at 
 
 -- a team that has made this many changes, the last of which its one session has seen
 abbrev pub team_after : ℕ → List (List (Option Place)) → List Cell → TeamState
-team_after revision entries cells = record { cells = cells; revision = revision; entries = entries; slots = Some revision ∷ [] }
+team_after revision entries cells = record { cells = cells; revision = revision; entries = entries; slots = Some revision ∷ []; padding = 0 }
 
 -- that session's question for a cell's place
 abbrev pub where_is : List ℕ → Order (List ℕ) Place
@@ -56,7 +57,7 @@ SessionRow =
     (t : Setting) (cells : List Cell) →
     replies_to t
     (Open ∷ Open ∷ Open ∷ Open ∷ Open ∷ Open ∷ Open ∷ Open ∷ Open ∷ Within 3 Close ∷ Open ∷ Within 9 (Where (codes "zz")) ∷ [])
-    (record { cells = cells; revision = 0; entries = []; slots = replicate 8 None })
+    (record { cells = cells; revision = 0; entries = []; slots = replicate 8 None; padding = 0 })
     ≡ (Opened 0 0 ∷ Opened 1 0 ∷ Opened 2 0 ∷ Opened 3 0 ∷ Opened 4 0 ∷ Opened 5 0 ∷ Opened 6 0 ∷ Opened 7 0 ∷ Refused SessionsFull
     ∷ Done ∷ Opened 3 0 ∷ Refused NoSession ∷ [])
 
@@ -66,7 +67,7 @@ StaleRow =
     (t : Setting) (p q : Place) → HasRoom t → broken_at t (three (Some p) None None) 1 q ≡ None →
     let place = Within 1 (Changing (PlaceAt (codes "a2") q)) in
     replies_to t (place ∷ Within 1 Sync ∷ place ∷ Within 1 (Where (codes "a2")) ∷ [])
-    (record { cells = three (Some p) None None; revision = 1; entries = (None ∷ None ∷ None ∷ []) ∷ []; slots = Some 1 ∷ Some 0 ∷ [] })
+    (record { cells = three (Some p) None None; revision = 1; entries = (None ∷ None ∷ None ∷ []) ∷ []; slots = Some 1 ∷ Some 0 ∷ []; padding = 0 })
     ≡ (Refused (Stale 1) ∷ Revision 1 ∷ Revision 2 ∷ At q ∷ [])
 
 -- with two undo entries allowed, three changes are made, and a third undo finds no entry
@@ -99,7 +100,7 @@ BestRow =
 abbrev pub NoPlaceRow : Type 0
 NoPlaceRow =
     (t : Setting) (target : Point) → HasRoom t → best_at t (three None None None) 2 target ≡ None →
-    tidied t.legalizer t.frame t.number (map member_of (three None None None)) ≡ Stuck 2 →
+    tidied t.legalizer t.frame t.number t.padding (map member_of (three None None None)) ≡ Stuck 2 →
     replies_to t
     (Within 0 (Find (codes "a3") target) ∷ change_to (Legalize (codes "a3") target) ∷ change_to Tidy ∷ where_is (codes "a1") ∷ change_to Undo ∷ [])
     (team_after 0 [] (three None None None))
@@ -109,7 +110,7 @@ NoPlaceRow =
 abbrev pub TidyRow : Type 0
 TidyRow =
     (t : Setting) (p q r : Place) → HasRoom t →
-    tidied t.legalizer t.frame t.number (map member_of (three None None None)) ≡ Going (map member_of (three (Some p) (Some q) (Some r))) 3 →
+    tidied t.legalizer t.frame t.number t.padding (map member_of (three None None None)) ≡ Going (map member_of (three (Some p) (Some q) (Some r))) 3 →
     replies_to t (change_to Tidy ∷ where_is (codes "a1") ∷ where_is (codes "a2") ∷ where_is (codes "a3") ∷ [])
     (team_after 0 [] (three None None None))
     ≡ (TidyDone 1 3 ∷ At p ∷ At q ∷ At r ∷ [])
@@ -118,7 +119,7 @@ TidyRow =
 abbrev pub TidyCommitRow : Type 0
 TidyCommitRow =
     (t : Setting) (p q r : Place) → HasRoom t →
-    tidied t.legalizer t.frame t.number (map member_of (three None None None)) ≡ Going (map member_of (three (Some p) (Some q) (Some r))) 3 →
+    tidied t.legalizer t.frame t.number t.padding (map member_of (three None None None)) ≡ Going (map member_of (three (Some p) (Some q) (Some r))) 3 →
     broken_cells t (three (Some p) (Some q) (Some r)) ≡ [] →
     replies_to t (change_to Tidy ∷ where_is (codes "a3") ∷ change_to Commit ∷ []) (team_after 0 [] (three None None None))
     ≡ (TidyDone 1 3 ∷ At r ∷ Revision 2 ∷ [])
@@ -152,6 +153,15 @@ SwapRow =
     (team_after 3 [] cells)
     ≡ (Revision 4 ∷ At q ∷ Revision 5 ∷ Refused (Illegal Overlap 2 (Some 1)) ∷ [])
 
+-- pad moves no cell, and undo takes back the change before it and not the padding
+abbrev pub PadRow : Type 0
+PadRow =
+    (t : Setting) (padding : Padding) (p q : Place) → HasRoom t → broken_at t (three (Some p) None None) 1 q ≡ None →
+    replies_to t
+    (change_to (PlaceAt (codes "a2") q) ∷ change_to (Pad padding) ∷ where_is (codes "a2") ∷ change_to Undo ∷ where_is (codes "a2") ∷ [])
+    (team_after 0 [] (three (Some p) None None))
+    ≡ (Revision 1 ∷ Revision 2 ∷ At q ∷ Revision 3 ∷ Refused (Unplaced 1) ∷ [])
+
 -- the worked rows
 pub record VerbRows : Type 0 where
   pub sessions : SessionRow
@@ -165,3 +175,4 @@ pub record VerbRows : Type 0 where
   pub commit : CommitRow
   pub refused : RefusedRow
   pub swap : SwapRow
+  pub pad : PadRow

@@ -12,7 +12,7 @@ use Rattle.lf_proto.specs.declared.request.Order.TheVariants.{Open, Within}
 use Rattle.lf_proto.specs.declared.verb.Action.{Action}
 use Rattle.lf_proto.specs.declared.verb.Action.TheVariants.{Close, Sync, Check, Def, Where, Find, Change as Changing}
 use Rattle.lf_proto.specs.declared.verb.Change.{Change}
-use Rattle.lf_proto.specs.declared.verb.Change.TheVariants.{Undo, Commit}
+use Rattle.lf_proto.specs.declared.verb.Change.TheVariants.{Undo, Commit, Pad}
 use Rattle.lf_proto.specs.declared.reply.Refusal.TheVariants.{NoSession, Stale, RevisionsSpent}
 use Rattle.lf_teams.specs.States.{TeamState}
 use Rattle.lf_teams.specs.Teams.{Setting}
@@ -54,13 +54,14 @@ outcome_of t (Within session verb) s = outcome_by_slot (seen_at s.slots session)
 
 -- ---- memory
 
--- the orders that may allocate: all but open, close, sync, where and undo
+-- the orders that may allocate: all but open, close, sync, where, undo and pad
 abbrev pub takes_memory : Order (List ℕ) Place → Bool
 takes_memory Open = false
 takes_memory (Within session Close) = false
 takes_memory (Within session Sync) = false
 takes_memory (Within session (Where name)) = false
 takes_memory (Within session (Changing Undo)) = false
+takes_memory (Within session (Changing (Pad padding))) = false
 takes_memory _ = true
 
 -- ---- undo
@@ -69,4 +70,5 @@ takes_memory _ = true
 abbrev pub is_recorded : Change (List ℕ) Place → Bool
 is_recorded Undo = false
 is_recorded Commit = false
+is_recorded (Pad padding) = false
 is_recorded _ = true

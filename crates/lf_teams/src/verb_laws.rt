@@ -1,6 +1,6 @@
 //! Laws on the outcomes of the verbs of the command table.
 
-ghost use Rattle.lf_teams.specs.VerbLaws.{NeverOutOfMemory, RefusalKeeps, StuckTidyKeeps, ChangeCounts, LookKeeps, UndoBringsBack, RevertAfterCommitKeeps, OnlyCommitCommits, BestIsFound, TidyMakesLegal, CommitFindsLegal, PlaceMakesLegal, LegalizeMakesLegal, SwapMakesLegal, VerbKeepsTeam};
+ghost use Rattle.lf_teams.specs.VerbLaws.{NeverOutOfMemory, RefusalKeeps, StuckTidyKeeps, ChangeCounts, LookKeeps, UndoBringsBack, RevertAfterCommitKeeps, OnlyCommitCommits, OnlyPadPads, PadKeeps, BestIsFound, TidyMakesLegal, CommitFindsLegal, PlaceMakesLegal, LegalizeMakesLegal, SwapMakesLegal, VerbKeepsTeam};
 ghost use Rattle.lf_teams.specs.VerbRows.{VerbRows};
 
 use lf_rules::legal_in_range;
@@ -25,7 +25,7 @@ pub fn change_counts()
     ensures { ChangeCounts }
 {}
 
-/// A verb that is no change leaves the team's cells, revision and undo entries unchanged.
+/// A verb that is no change leaves the team's cells, revision, undo entries and padding unchanged.
 pub fn look_keeps()
     ensures { LookKeeps }
 {}
@@ -43,6 +43,17 @@ pub fn revert_after_commit_keeps()
 /// No verb but commit changes a committed place.
 pub fn only_commit_commits()
     ensures { OnlyCommitCommits }
+{}
+
+/// No verb but pad changes a team's padding.
+pub fn only_pad_pads()
+    ensures { OnlyPadPads }
+{}
+
+/// A pad that its session may make is accepted wherever the cells stand. It changes the padding and the revision; the cells, at
+/// their working and committed places, and the undo entries are as before.
+pub fn pad_keeps()
+    ensures { PadKeeps }
 {}
 
 /// The place that find and legalize take is the best place; they find none only if the cell may go to no place.

@@ -1,4 +1,4 @@
-use Rattle.lf_teams.proofs.VerbRows.{session_row, stale_row, undo_row, spent_row, best_row, no_place_row, tidy_row, tidy_commit_row, commit_row, refused_row, swap_row}
+use Rattle.lf_teams.proofs.VerbRows.{session_row, stale_row, undo_row, spent_row, best_row, no_place_row, tidy_row, tidy_commit_row, commit_row, refused_row, swap_row, pad_row}
 use Rattle.lf_teams.proofs.verb_laws.verb_rows.Goals as goal
 
 pub returns : goal.returns
@@ -14,4 +14,5 @@ returns c = record {
   commit = commit_row;
   refused = refused_row;
   swap = swap_row;
+  pad = pad_row;
 }
