@@ -1,5 +1,5 @@
 -- A place is the one at its corner, a target the point that its coordinates write, and a padding that of its sites.
-use Rattle.std.proofs.Common.{◌≡◌, ℕ, ◌≤◌, ◌<◌, ◌∙◌, nat_le, Option, None, MatchOption, sym, subst, List, [], ◌∷◌, Bool, true, false, ℤ, negsuc, Some, ◌<ℤ◌, ap, refl}
+use Rattle.std.proofs.Common.{◌≡◌, ℕ, ◌<◌, ◌∙◌, nat_le, Option, None, MatchOption, sym, subst, List, [], ◌∷◌, Bool, true, false, ℤ, negsuc, Some, ◌<ℤ◌, ap, refl}
 use Rattle.std.proofs.Math.Dec.{T, T_prop}
 use Rattle.std.proofs.Math.Bridge.{le_prop}
 use Rattle.std.proofs.Math.Facts.{leb_yes, yes_leb}

@@ -102,7 +102,7 @@ target_of-printed t range =
 padding-printed : (p : Padding) → padding (decimal p.sites) ≡ Some p
 padding-printed p =
     let few = p.most in
-    ap (λ o. o >>= padding_at) (session_number-decimal p.sites (omega arith)) ∙ padding_at-some p
+    ap (λ o. o >>= padding_at) (digits-decimal p.sites (omega arith)) ∙ padding_at-some p
 
 operands-printed : (o : Operands (List ℕ) Place) → ArePlain o → operands_by (shape_in o) (operand_words o) ≡ Some o
 operands-printed Alone plain = refl

@@ -40,7 +40,7 @@ padding_at sites = do
 -- a padding: from 0 to 16
 abbrev pub padding : List ℕ → Option Padding
 padding text = do
-  sites ← session_number text
+  sites ← digits text
   padding_at sites
 
 -- what follows a minus, which is byte 45: its number negated

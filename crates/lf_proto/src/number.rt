@@ -49,7 +49,8 @@ pub(crate) fn session_of(word: &[u8]) -> Option<u32>
 pub(crate) fn padding_of(word: &[u8]) -> Option<Padding>
     ensures { result ≡ padding word.now }
 {
-    Padding::new(session_of(word)?)
+    let sites = u32::try_from(digits_of(word)?).ok()?;
+    Padding::new(sites)
 }
 
 /// The coordinate in database units that the word writes, if it writes one.
