@@ -1,16 +1,25 @@
--- A place is the one at its corner, and a target the point that its coordinates write.
-use Rattle.std.proofs.Common.{◌≡◌, ℕ, List, [], ◌∷◌, Bool, true, false, ℤ, negsuc, Some, ◌<ℤ◌, ap, refl}
+-- A place is the one at its corner, a target the point that its coordinates write, and a padding that of its sites.
+use Rattle.std.proofs.Common.{◌≡◌, ℕ, ◌<◌, ◌∙◌, nat_le, Option, None, MatchOption, sym, subst, List, [], ◌∷◌, Bool, true, false, ℤ, negsuc, Some, ◌<ℤ◌, ap, refl}
 use Rattle.std.proofs.Math.Dec.{T, T_prop}
+use Rattle.std.proofs.Math.Bridge.{le_prop}
+use Rattle.std.proofs.Math.Facts.{leb_yes, yes_leb}
+use Rattle.std.proofs.lemmas.Bool.{lt-leb}
 use Rattle.std.specs.Int.Signed.{lt_z, lt_z_yes}
 use Rattle.lf_units.specs.declared.area.Point.{Point}
 use Rattle.lf_floorplan.specs.declared.place.Place.{Place}
-use Rattle.lf_proto.specs.Requests.{shown, in_def, place_at, place_written, orient_named, target_of}
-use Rattle.lf_proto.specs.Numbers.{coordinate}
+use Rattle.lf_rules.specs.declared.padding.Padding.{Padding}
+use Rattle.lf_proto.specs.Requests.{in_def, place_at, place_written, orient_named, target_of}
+use Rattle.lf_proto.specs.Numbers.{shown, padding_at, coordinate}
 
 -- a test that succeeds shows its fact, of which there is one proof at most
 shown-yes : {Fact : Type 0} (unique : (a b : Fact) → a ≡ b) (test : Bool) (fact : T test → Fact) (known : Fact) → T test → shown test fact ≡ Some known
 shown-yes unique true fact known t = ap Some (unique (fact tt) known)
 shown-yes unique false fact known t = absurd t
+
+-- a test that fails shows nothing
+shown-no : {Fact : Type 0} (test : Bool) (fact : T test → Fact) → test ≡ false → shown test fact ≡ None
+shown-no true fact fails = absurd (subst T fails tt)
+shown-no false fact fails = refl
 
 less_unique : {x y : ℤ} (a b : x <ℤ y) → a ≡ b
 less_unique {x} {y} a b =
@@ -30,3 +39,16 @@ place_written-some x y orient p x_is y_is orient_is = rw (x_is, y_is, orient_is)
 -- two words write the target that has what each of them writes
 pub target_of-some : (x y : List ℕ) (t : Point) → coordinate x ≡ Some t.x → coordinate y ≡ Some t.y → target_of (x ∷ y ∷ []) ≡ Some t
 target_of-some x y t x_is y_is = rw (x_is, y_is) refl
+
+-- a padding is that of its sites
+pub padding_at-some : (p : Padding) → padding_at p.sites ≡ Some p
+padding_at-some p = rw (shown-yes le_prop (nat_le p.sites 16) leb_yes p.most (yes_leb p.most)) refl
+
+-- and there is none of more than 16
+pub padding_at-none : (sites : ℕ) → 16 < sites → padding_at sites ≡ None
+padding_at-none sites many = rw (shown-no (nat_le sites 16) leb_yes (lt-leb sites 16 many)) refl
+
+-- what is a padding of so many sites, or none if those are too many, is the padding of that many
+pub padding_at-of : (o : Option Padding) (sites : ℕ) → MatchOption o (16 < sites) (λ padding. padding.sites ≡ sites) → o ≡ padding_at sites
+padding_at-of None sites many = sym (padding_at-none sites many)
+padding_at-of (Some p) sites is = sym (padding_at-some p) ∙ ap padding_at is

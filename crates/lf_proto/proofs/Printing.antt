@@ -13,11 +13,12 @@ use Rattle.lf_units.specs.declared.area.Point.{Point}
 use Rattle.lf_orient.specs.declared.Orient.{Orient}
 use Rattle.lf_orient.specs.declared.Orient.TheVariants.{N, W, S, E, FN, FW, FS, FE}
 use Rattle.lf_floorplan.specs.declared.place.Place.{Place}
+use Rattle.lf_rules.specs.declared.padding.Padding.{Padding}
 use Rattle.lf_proto.proofs.Blanks.{fields-blank, line_bytes-blank}
 use Rattle.lf_proto.proofs.Digits.{all_digits, is_digit_at, Digits}
-use Rattle.lf_proto.proofs.Places.{place_written-some, target_of-some}
+use Rattle.lf_proto.proofs.Places.{place_written-some, target_of-some, padding_at-some}
 use Rattle.lf_proto.specs.Lines.{is_blank, is_line_byte, fields, is_visible, IsName}
-use Rattle.lf_proto.specs.Numbers.{◌>>=◌, digits, below, session_number, negative, positive, coordinate}
+use Rattle.lf_proto.specs.Numbers.{◌>>=◌, digits, below, session_number, padding_at, padding, negative, positive, coordinate}
 use Rattle.lf_proto.specs.Printed.{target_words, operand_words, action_words, printed_fields, printed, ReadsBack}
 use Rattle.lf_orient.specs.Words.{orient_word}
 use Rattle.lf_proto.specs.ReplyText.{place_words}
@@ -27,7 +28,7 @@ use Rattle.lf_proto.specs.declared.request.Command.{Command}
 use Rattle.lf_proto.specs.declared.request.Command.TheVariants.{Bye, To}
 use Rattle.lf_proto.specs.declared.request.Order.TheVariants.{Open, Within}
 use Rattle.lf_proto.specs.declared.verb.Operands.{Operands}
-use Rattle.lf_proto.specs.declared.verb.Operands.TheVariants.{Alone, Cell, CellAt, CellTo, Cells}
+use Rattle.lf_proto.specs.declared.verb.Operands.TheVariants.{Alone, Cell, CellAt, CellTo, Cells, Sites}
 use Rattle.lf_proto.specs.declared.verb.Action.{Action}
 
 -- the digits of a number that has at most ten
@@ -98,12 +99,18 @@ target_of-printed t range =
     (coordinate-signed_decimal t.x range.x_in_range.low range.x_in_range.high)
     (coordinate-signed_decimal t.y range.y_in_range.low range.y_in_range.high)
 
+padding-printed : (p : Padding) → padding (decimal p.sites) ≡ Some p
+padding-printed p =
+    let few = p.most in
+    ap (λ o. o >>= padding_at) (digits-decimal p.sites (omega arith)) ∙ padding_at-some p
+
 operands-printed : (o : Operands (List ℕ) Place) → ArePlain o → operands_by (shape_in o) (operand_words o) ≡ Some o
 operands-printed Alone plain = refl
 operands-printed (Cell cell) plain = refl
 operands-printed (CellAt cell place) (cell_is, range) = rw (place_written-printed place range) refl
 operands-printed (CellTo cell target) (cell_is, range) = rw (target_of-printed target range) refl
 operands-printed (Cells first second) plain = refl
+operands-printed (Sites padding) plain = rw (padding-printed padding) refl
 
 module _ (names : NamesReadBack) (parts : PartsJoin (List ℕ)) where
   action-printed : (action : Action (List ℕ) Place) → IsPlainAction action → action_by (parts_of action).0 (operand_words (parts_of action).1) ≡ Some action
@@ -205,6 +212,7 @@ operand_names (Cell cell) cell_is = (cell_is, tt)
 operand_names (CellAt cell place) (cell_is, range) = (cell_is, place_names place range)
 operand_names (CellTo cell target) (cell_is, range) = (cell_is, target_names target range)
 operand_names (Cells first second) (first_is, second_is) = (first_is, (second_is, tt))
+operand_names (Sites padding) plain = let few = padding.most in (decimal_name padding.sites (omega arith), tt)
 
 module _ (names : NamesReadBack) where
   printed_names : (command : Command (List ℕ) Place) → IsPlain command → AllNames (printed_fields command)

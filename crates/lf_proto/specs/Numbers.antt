@@ -1,8 +1,11 @@
 -- The numbers of a request line.
-use Rattle.std.specs.Prelude.{ℕ, nat_lt, nat_le, ◌==◌, ◌&&◌, ◌^◌, cond, List, length, drop, Option, Some, None, ℤ, pos, neg_ℤ, slice_index, option_and_then}
+use Rattle.std.specs.Prelude.{ℕ, Bool, true, false, nat_lt, nat_le, ◌==◌, ◌&&◌, ◌^◌, cond, List, length, drop, Option, Some, None, ℤ, pos, neg_ℤ, slice_index, option_and_then}
 use Rattle.std.specs.List.{list_all}
 use Rattle.std.specs.Char.{is_ascii_digit}
 use Rattle.std.specs.Str.Parse.{digits_value}
+use Rattle.std.proofs.Math.Dec.{T}
+use Rattle.std.proofs.Math.Facts.{leb_yes}
+use Rattle.lf_rules.specs.declared.padding.Padding.{Padding}
 
 -- each step goes on with what the one before it found, if it found anything
 infixl 10 ◌>>=◌
@@ -22,6 +25,23 @@ abbrev pub session_number : List ℕ → Option ℕ
 session_number text = do
   n ← digits text
   below (2 ^ 32) n
+
+-- what a test shows, if it succeeds
+abbrev pub shown : {Fact : Type 0} (test : Bool) → (T test → Fact) → Option Fact
+shown true fact = Some (fact tt)
+shown false fact = None
+
+-- the padding of that many core sites, of which it has at most 16
+abbrev pub padding_at : ℕ → Option Padding
+padding_at sites = do
+  most ← shown (nat_le sites 16) leb_yes
+  Some (record { sites = sites; most = most })
+
+-- a padding: from 0 to 16
+abbrev pub padding : List ℕ → Option Padding
+padding text = do
+  sites ← digits text
+  padding_at sites
 
 -- what follows a minus, which is byte 45: its number negated
 abbrev pub negative : List ℕ → Option ℤ

@@ -11,7 +11,7 @@ use Rattle.lf_proto.specs.declared.request.Command.{Command}
 use Rattle.lf_proto.specs.declared.request.Command.TheVariants.{Bye, To}
 use Rattle.lf_proto.specs.declared.request.Order.TheVariants.{Open, Within}
 use Rattle.lf_proto.specs.declared.verb.Operands.{Operands}
-use Rattle.lf_proto.specs.declared.verb.Operands.TheVariants.{Alone, Cell, CellAt, CellTo, Cells}
+use Rattle.lf_proto.specs.declared.verb.Operands.TheVariants.{Alone, Cell, CellAt, CellTo, Cells, Sites}
 use Rattle.lf_proto.specs.declared.verb.Action.{Action}
 use Rattle.lf_proto.specs.Verbs.{name_of, parts_of}
 
@@ -26,6 +26,7 @@ operand_words (Cell cell) = cell ∷ []
 operand_words (CellAt cell place) = cell ∷ place_words place
 operand_words (CellTo cell target) = cell ∷ target_words target
 operand_words (Cells first second) = first ∷ second ∷ []
+operand_words (Sites padding) = decimal padding.sites ∷ []
 
 -- the verb of a session's action, and its own fields
 abbrev pub action_words : Action (List ℕ) Place → List ℕ × List (List ℕ)

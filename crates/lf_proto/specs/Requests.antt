@@ -1,23 +1,22 @@
 -- The lines that are requests, by the shapes of their fields.
-use Rattle.std.specs.Prelude.{ℕ, ◌<◌, ◌^◌, Bool, true, false, cond, List, [], ◌∷◌, Option, Some, None, ℤ, pos, negsuc, ◌<ℤ◌, codes}
+use Rattle.std.specs.Prelude.{ℕ, ◌<◌, ◌^◌, cond, List, [], ◌∷◌, Option, Some, None, ℤ, pos, negsuc, ◌<ℤ◌, codes}
 use Rattle.std.specs.Int.Signed.{lt_z, lt_z_yes}
 use Rattle.std.specs.List.{list_all}
 use Rattle.std.specs.Str.{bytes_eq}
-use Rattle.std.proofs.Math.Dec.{T}
 use Rattle.lf_units.specs.declared.area.Point.{Point}
 use Rattle.lf_orient.specs.declared.Orient.{Orient}
 use Rattle.lf_orient.specs.declared.Orient.TheVariants.{N, W, S, E, FN, FW, FS, FE}
 use Rattle.lf_floorplan.specs.declared.place.Place.{Place}
 use Rattle.lf_proto.specs.Lines.{fields, is_line_byte, IsName}
-use Rattle.lf_proto.specs.Numbers.{◌>>=◌, session_number, coordinate}
+use Rattle.lf_proto.specs.Numbers.{◌>>=◌, session_number, shown, padding, coordinate}
 use Rattle.lf_proto.specs.declared.request.Command.{Command}
 use Rattle.lf_proto.specs.declared.request.Command.TheVariants.{Bye, To}
 use Rattle.lf_proto.specs.declared.request.Order.TheVariants.{Open, Within}
 use Rattle.lf_proto.specs.declared.verb.Verb.{Verb}
 use Rattle.lf_proto.specs.declared.verb.Shape.{Shape}
-use Rattle.lf_proto.specs.declared.verb.Shape.TheVariants.{Alone, Cell, CellAt, CellTo, Cells}
+use Rattle.lf_proto.specs.declared.verb.Shape.TheVariants.{Alone, Cell, CellAt, CellTo, Cells, Sites}
 use Rattle.lf_proto.specs.declared.verb.Operands.{Operands}
-use Rattle.lf_proto.specs.declared.verb.Operands.TheVariants.{Alone as NoField, Cell as OneCell, CellAt as CellThere, CellTo as CellTowards, Cells as TwoCells}
+use Rattle.lf_proto.specs.declared.verb.Operands.TheVariants.{Alone as NoField, Cell as OneCell, CellAt as CellThere, CellTo as CellTowards, Cells as TwoCells, Sites as SitesApart}
 use Rattle.lf_proto.specs.declared.verb.Action.{Action}
 use Rattle.lf_proto.specs.Verbs.{joined, parts_of, shape_of, verb_named}
 
@@ -33,11 +32,6 @@ orient_named text =
     (cond (bytes_eq text (codes "FS")) (Some FS)
     (cond (bytes_eq text (codes "FE")) (Some FE)
     None)))))))
-
--- what a test shows, if it succeeds
-abbrev pub shown : {Fact : Type 0} (test : Bool) → (T test → Fact) → Option Fact
-shown true fact = Some (fact tt)
-shown false fact = None
 
 -- that a coordinate is above -2147483648, which is no number of a DEF text
 abbrev pub in_def : (z : ℤ) → Option (negsuc 2147483647 <ℤ z)
@@ -102,6 +96,13 @@ abbrev pub cells_of : List (List ℕ) → Option (Operands (List ℕ) Place)
 cells_of (first ∷ second ∷ []) = Some (TwoCells first second)
 cells_of _ = None
 
+-- P
+abbrev pub sites_of : List (List ℕ) → Option (Operands (List ℕ) Place)
+sites_of (sites ∷ []) = do
+  padding ← padding sites
+  Some (SitesApart padding)
+sites_of _ = None
+
 -- the fields of that shape, and nothing more
 abbrev pub operands_by : Shape → List (List ℕ) → Option (Operands (List ℕ) Place)
 operands_by Alone = alone_of
@@ -109,6 +110,7 @@ operands_by Cell = cell_of
 operands_by CellAt = cell_at_of
 operands_by CellTo = cell_to_of
 operands_by Cells = cells_of
+operands_by Sites = sites_of
 
 -- a session's action, from its verb and the fields after its number
 abbrev pub action_by : Verb → List (List ℕ) → Option (Action (List ℕ) Place)
@@ -178,6 +180,7 @@ ArePlain (OneCell cell) = IsName cell
 ArePlain (CellThere cell place) = IsName cell × IsInRange place
 ArePlain (CellTowards cell target) = IsName cell × IsTarget target
 ArePlain (TwoCells first second) = IsName first × IsName second
+ArePlain (SitesApart padding) = Unit {0}
 
 -- what a session can ask by a line
 abbrev pub IsPlainAction : Action (List ℕ) Place → Type 0

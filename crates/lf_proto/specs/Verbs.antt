@@ -4,16 +4,16 @@ use denote.Ref.{Bor}
 use Rattle.lf_floorplan.specs.declared.place.Place.{Place as Placed}
 use Rattle.lf_proto.specs.Lines.{IsName}
 use Rattle.lf_proto.specs.declared.verb.Verb.{Verb}
-use Rattle.lf_proto.specs.declared.verb.Verb.TheVariants.{Close, Sync, Check, Def, Where, Find, Place, Legalize, Tidy, Unplace, Swap, Undo, Commit, Revert}
+use Rattle.lf_proto.specs.declared.verb.Verb.TheVariants.{Close, Sync, Check, Def, Where, Find, Place, Legalize, Tidy, Unplace, Swap, Undo, Commit, Revert, Pad}
 use Rattle.lf_proto.specs.declared.verb.TheConstants.{VERBS}
 use Rattle.lf_proto.specs.declared.verb.Shape.{Shape}
-use Rattle.lf_proto.specs.declared.verb.Shape.TheVariants.{Alone, Cell, CellAt, CellTo, Cells}
+use Rattle.lf_proto.specs.declared.verb.Shape.TheVariants.{Alone, Cell, CellAt, CellTo, Cells, Sites}
 use Rattle.lf_proto.specs.declared.verb.Operands.{Operands}
-use Rattle.lf_proto.specs.declared.verb.Operands.TheVariants.{Alone as NoField, Cell as OneCell, CellAt as CellThere, CellTo as CellTowards, Cells as TwoCells}
+use Rattle.lf_proto.specs.declared.verb.Operands.TheVariants.{Alone as NoField, Cell as OneCell, CellAt as CellThere, CellTo as CellTowards, Cells as TwoCells, Sites as SitesApart}
 use Rattle.lf_proto.specs.declared.verb.Action.{Action}
 use Rattle.lf_proto.specs.declared.verb.Action.TheVariants.{Close as Closing, Sync as Syncing, Check as Checking, Def as Exporting, Where as Asking, Find as Finding, Change as Changing}
 use Rattle.lf_proto.specs.declared.verb.Change.{Change}
-use Rattle.lf_proto.specs.declared.verb.Change.TheVariants.{Place as Placing, Legalize as Legalizing, Tidy as Tidying, Unplace as Unplacing, Swap as Swapping, Undo as Undoing, Commit as Committing, Revert as Reverting}
+use Rattle.lf_proto.specs.declared.verb.Change.TheVariants.{Place as Placing, Legalize as Legalizing, Tidy as Tidying, Unplace as Unplacing, Swap as Swapping, Undo as Undoing, Commit as Committing, Revert as Reverting, Pad as Padding}
 
 -- a verb's name: the first word of its line
 abbrev pub name_of : Verb → List ℕ
@@ -31,6 +31,7 @@ name_of Swap = codes "swap"
 name_of Undo = codes "undo"
 name_of Commit = codes "commit"
 name_of Revert = codes "revert"
+name_of Pad = codes "pad"
 
 -- the shape of a verb's own fields
 abbrev pub shape_of : Verb → Shape
@@ -48,6 +49,7 @@ shape_of Swap = Cells
 shape_of Undo = Alone
 shape_of Commit = Alone
 shape_of Revert = Alone
+shape_of Pad = Sites
 
 -- a verb by its name
 abbrev pub verb_named : List ℕ → Option Verb
@@ -70,6 +72,7 @@ module _ {N P : Type 0} where
   parts_of (Changing Undoing) = (Undo, NoField)
   parts_of (Changing Committing) = (Commit, NoField)
   parts_of (Changing Reverting) = (Revert, NoField)
+  parts_of (Changing (Padding padding)) = (Pad, SitesApart padding)
 
   -- the action of a verb with these fields, if they are of its shape
   abbrev pub joined : Verb → Operands N P → Option (Action N P)
@@ -87,6 +90,7 @@ module _ {N P : Type 0} where
   joined Undo NoField = Some (Changing Undoing)
   joined Commit NoField = Some (Changing Committing)
   joined Revert NoField = Some (Changing Reverting)
+  joined Pad (SitesApart padding) = Some (Changing (Padding padding))
   joined _ _ = None
 
   -- the shape of these fields
@@ -96,6 +100,7 @@ module _ {N P : Type 0} where
   shape_in (CellThere cell place) = CellAt
   shape_in (CellTowards cell target) = CellTo
   shape_in (TwoCells first second) = Cells
+  shape_in (SitesApart padding) = Sites
 
 module _ {N : Type 0} where
   -- a verb's own fields with the names themselves, in place of references to them
@@ -105,6 +110,7 @@ module _ {N : Type 0} where
   operands_of (CellThere cell place) = CellThere cell.now place
   operands_of (CellTowards cell target) = CellTowards cell.now target
   operands_of (TwoCells first second) = TwoCells first.now second.now
+  operands_of (SitesApart padding) = SitesApart padding
 
 -- a change whose cells are named by lists of bytes
 abbrev pub change_of : Change (Bor (List ℕ)) Placed → Change (List ℕ) Placed
@@ -116,6 +122,7 @@ change_of (Swapping first second) = Swapping first.now second.now
 change_of Undoing = Undoing
 change_of Committing = Committing
 change_of Reverting = Reverting
+change_of (Padding padding) = Padding padding
 
 -- a session's action, its cells named by lists of bytes
 abbrev pub action_of : Action (Bor (List ℕ)) Placed → Action (List ℕ) Placed

@@ -5,11 +5,11 @@ ghost use Rattle.std.specs.List.{list_all};
 ghost use Rattle.lf_proto.specs.Commands.{command_of};
 ghost use Rattle.lf_proto.specs.Lines.{fields, is_line_byte};
 ghost use Rattle.lf_proto.specs.Requests.{command_in, command_on, orient_named, place_of, place_written, target_of};
-ghost use Rattle.lf_proto.specs.Requests.{action_by, alone_of, bye_of, cell_at_of, cell_of, cell_to_of, cells_of, open_of, operands_by, outside_of, within_of};
+ghost use Rattle.lf_proto.specs.Requests.{action_by, alone_of, bye_of, cell_at_of, cell_of, cell_to_of, cells_of, open_of, operands_by, outside_of, sites_of, within_of};
 ghost use Rattle.lf_proto.specs.Verbs.{action_of, operands_of};
 ghost use Rattle.lf_proto.specs.Printed.{PassesBlanksAround, PassesBlanksBetween, ReadsBack};
 
-use crate::number::{coordinate_of, session_of};
+use crate::number::{coordinate_of, padding_of, session_of};
 use crate::request::{Command, Order, Request};
 use crate::verb::{
     Action, Operands, Shape, Verb, copies_join, join, names_read_back, parts_join, verb_of,
@@ -131,6 +131,18 @@ fn cells<'a>(mut fields: Fields<'a>) -> Option<Operands<&'a [u8]>>
     Some(Operands::Cells(first, second))
 }
 
+/// The field `P`.
+fn sites<'a>(mut fields: Fields<'a>) -> Option<Operands<&'a [u8]>>
+    ensures { option_map operands_of result ≡ sites_of fields.entry }
+{
+    let sites = fields.next()?;
+    if fields.next().is_some() {
+        return None;
+    }
+    let padding = padding_of(sites)?;
+    Some(Operands::Sites(padding))
+}
+
 /// The fields of that shape.
 fn operands_in<'a>(shape: Shape, fields: Fields<'a>) -> Option<Operands<&'a [u8]>>
     ensures { option_map operands_of result ≡ operands_by shape fields.entry }
@@ -141,6 +153,7 @@ fn operands_in<'a>(shape: Shape, fields: Fields<'a>) -> Option<Operands<&'a [u8]
         Shape::CellAt => cell_at(fields),
         Shape::CellTo => cell_to(fields),
         Shape::Cells => cells(fields),
+        Shape::Sites => sites(fields),
     }
 }
 

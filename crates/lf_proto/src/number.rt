@@ -4,7 +4,9 @@ ghost use Rattle.std.specs.Prelude.{◌≡◌, ◌≤◌, ◌<ℤ◌, IfSome, le
 ghost use Rattle.std.specs.Char.{is_ascii_digit};
 ghost use Rattle.std.specs.List.{list_all};
 ghost use Rattle.std.specs.Str.Parse.{digits_value};
-ghost use Rattle.lf_proto.specs.Numbers.{coordinate, digits, session_number};
+ghost use Rattle.lf_proto.specs.Numbers.{coordinate, digits, padding, session_number};
+
+use lf_rules::Padding;
 
 /// Whether each byte is a digit.
 fn are_digits(word: &[u8]) -> bool
@@ -41,6 +43,14 @@ pub(crate) fn session_of(word: &[u8]) -> Option<u32>
     ensures { result ≡ session_number word.now }
 {
     u32::try_from(digits_of(word)?).ok()
+}
+
+/// The padding of the number of core sites that the word writes, if it writes one.
+pub(crate) fn padding_of(word: &[u8]) -> Option<Padding>
+    ensures { result ≡ padding word.now }
+{
+    let sites = u32::try_from(digits_of(word)?).ok()?;
+    Padding::new(sites)
 }
 
 /// The coordinate in database units that the word writes, if it writes one.

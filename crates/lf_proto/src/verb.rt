@@ -6,6 +6,7 @@ ghost use Rattle.lf_proto.specs.Verbs.{CopiesJoin, NamesReadBack, PartsJoin};
 ghost use Rattle.lf_proto.specs.Verbs.{action_of, joined, name_of, operands_of, parts_of, shape_of, verb_named};
 
 use lf_floorplan::Place;
+use lf_rules::Padding;
 use lf_units::{Name, Point};
 use std::alloc::{AllocError, Global};
 
@@ -76,6 +77,10 @@ pub enum Change<N, P = Place> {
     ///
     /// Reply: `ok REV`. Refusals: 3, 4, 11.
     Revert,
+    /// Sets how far apart the team keeps its own cells along x, in core sites; no cell moves.
+    ///
+    /// Reply: `ok REV`. Refusals: 3, 4, 11.
+    Pad { padding: Padding },
 }
 
 /// The verb of an action.
@@ -95,10 +100,11 @@ pub(crate) enum Verb {
     Undo,
     Commit,
     Revert,
+    Pad,
 }
 
 /// All verbs of a session.
-const VERBS: [Verb; 14] = [
+const VERBS: [Verb; 15] = [
     Verb::Close,
     Verb::Sync,
     Verb::Check,
@@ -113,6 +119,7 @@ const VERBS: [Verb; 14] = [
     Verb::Undo,
     Verb::Commit,
     Verb::Revert,
+    Verb::Pad,
 ];
 
 /// The fields of its own that a verb has, after `TEAM N`.
@@ -128,9 +135,11 @@ pub(crate) enum Shape {
     CellTo,
     /// `CELL CELL`
     Cells,
+    /// `P`
+    Sites,
 }
 
-/// A verb's own fields: names, places and targets.
+/// A verb's own fields: names, places, targets and paddings.
 #[derive(Drop)]
 pub(crate) enum Operands<N, P = Place> {
     Alone,
@@ -138,6 +147,7 @@ pub(crate) enum Operands<N, P = Place> {
     CellAt(N, P),
     CellTo(N, Point),
     Cells(N, N),
+    Sites(Padding),
 }
 
 impl Verb {
@@ -160,6 +170,7 @@ impl Verb {
             Verb::Undo => b"undo",
             Verb::Commit => b"commit",
             Verb::Revert => b"revert",
+            Verb::Pad => b"pad",
         }
     }
 
@@ -182,6 +193,7 @@ impl Verb {
             Verb::Undo => Shape::Alone,
             Verb::Commit => Shape::Alone,
             Verb::Revert => Shape::Alone,
+            Verb::Pad => Shape::Sites,
         }
     }
 }
@@ -230,6 +242,7 @@ pub(crate) fn join<N: Drop, P: Drop>(verb: Verb, operands: Operands<N, P>) -> Op
         (Verb::Undo, Operands::Alone) => Some(Action::Change(Change::Undo)),
         (Verb::Commit, Operands::Alone) => Some(Action::Change(Change::Commit)),
         (Verb::Revert, Operands::Alone) => Some(Action::Change(Change::Revert)),
+        (Verb::Pad, Operands::Sites(padding)) => Some(Action::Change(Change::Pad { padding })),
         _ => None,
     }
 }
@@ -280,6 +293,7 @@ impl<N> Action<N> {
             Action::Change(Change::Undo) => (Verb::Undo, Operands::Alone),
             Action::Change(Change::Commit) => (Verb::Commit, Operands::Alone),
             Action::Change(Change::Revert) => (Verb::Revert, Operands::Alone),
+            Action::Change(Change::Pad { padding }) => (Verb::Pad, Operands::Sites(*padding)),
         }
     }
 }
@@ -302,6 +316,7 @@ impl Operands<&&[u8]> {
                 Name::from_slice(alloc, first)?,
                 Name::from_slice(alloc, second)?,
             ),
+            Operands::Sites(padding) => Operands::Sites(padding),
         })
     }
 }
@@ -317,6 +332,7 @@ impl<'a> Operands<&'a Name> {
             Operands::CellAt(cell, place) => Operands::CellAt(cell.as_bytes(), place),
             Operands::CellTo(cell, target) => Operands::CellTo(cell.as_bytes(), target),
             Operands::Cells(first, second) => Operands::Cells(first.as_bytes(), second.as_bytes()),
+            Operands::Sites(padding) => Operands::Sites(padding),
         }
     }
 }
