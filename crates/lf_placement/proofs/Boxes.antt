@@ -9,7 +9,7 @@ use Rattle.lf_cells.specs.declared.cell.Cell.{Cell}
 use Rattle.lf_cells.specs.declared.cell.CellId.{CellId}
 use Rattle.lf_cells.specs.Cells.{Cells, cells_of, id_in, id_of, working_at}
 use Rattle.lf_segments.specs.Grounds.{Lookups}
-use Rattle.lf_occupancy.specs.Occupied.{FitIn, HasRoomFor, Occupied, box_at, boxes_of, boxes_with, cell_box}
+use Rattle.lf_occupancy.specs.Occupied.{FitIn, HasRoomFor, Occupied, box_at, boxes_of, boxes_with, cell_box, felt, reach}
 use Rattle.lf_occupancy.specs.Strips.{HasCell}
 use Rattle.lf_occupancy.specs.Floorplans.{box_of}
 use Rattle.lf_occupancy.proofs.Counting.{part_leaves_room}
@@ -95,25 +95,27 @@ pub box_put : (id : CellId) (x : Option Rect) (old new : Occupied) → new.boxes
     → boxes_of new id.team ≡ set (boxes_of old id.team) id.own x
 box_put id x old new is = ap (λ (rows : List Boxes). get_or rows id.team []) is ∙ set_here old.boxes id.team id.own x
 
-pub keeps_put : (id : CellId) (x : Option Rect) (old new : Occupied) → new.boxes ≡ boxes_with old id x → new.index ≡ old.index → new.rooms ≡ old.rooms
+pub keeps_put : (id : CellId) (x : Option Rect) (old new : Occupied) → new.boxes ≡ boxes_with old id x → new.index ≡ old.index → new.site ≡ old.site → new.rooms ≡ old.rooms
     → KeepsStrips id.team old new
-keeps_put id x old new is index rooms = record {
+keeps_put id x old new is index site rooms = record {
   many = ap {B = ℕ} (λ (bs : Boxes). length bs) (box_put id x old new is) ∙ length-set (boxes_of old id.team) id.own x;
   boxes = λ other differ.
       ap (λ (rows : List Boxes). get_or rows other []) is
       ∙ get_or-set_other old.boxes id.team other (set (boxes_of old id.team) id.own x) [] differ;
   index = index;
+  site = site;
   rooms = rooms;
 }
 
 pub keeps : (team : ℕ) (o : Occupied) → KeepsStrips team o o
-keeps team o = record { many = refl; boxes = λ other differ. refl; index = refl; rooms = refl }
+keeps team o = record { many = refl; boxes = λ other differ. refl; index = refl; site = refl; rooms = refl }
 
 pub keeps_through : (team : ℕ) (a b c : Occupied) → KeepsStrips team a b → KeepsStrips team b c → KeepsStrips team a c
 keeps_through team a b c first second = record {
   many = second.many ∙ first.many;
   boxes = λ other differ. second.boxes other differ ∙ first.boxes other differ;
   index = second.index ∙ first.index;
+  site = second.site ∙ first.site;
   rooms = second.rooms ∙ first.rooms;
 }
 
@@ -150,9 +152,10 @@ out_next team named n own a b c is put kept out = record { each = each; rest = k
 
 -- ---- cells are put where they are to stand, one after the other
 
-pub fits_still : (team : ℕ) (boxes : Boxes) (a b : Occupied) → a.index ≡ b.index → a.rooms ≡ b.rooms → FitIn b team boxes → FitIn a team boxes
-fits_still team boxes a b index rooms fits =
-    λ n g there of_team. rw rooms (fits n g (subst (λ (looked : Lookups). slice_get looked.strips n ≡ Some g) index there) of_team)
+pub fits_still : (team : ℕ) (boxes : Boxes) (a b : Occupied) → a.index ≡ b.index → a.site ≡ b.site → a.rooms ≡ b.rooms → FitIn b team boxes
+    → FitIn a team boxes
+fits_still team boxes a b index site rooms fits =
+    λ n g there of_team. rw (rooms, site) (fits n g (subst (λ (looked : Lookups). slice_get looked.strips n ≡ Some g) index there) of_team)
 
 -- a cell is out
 pub may_without : (team own : ℕ) (boxes : Boxes) (a b : Occupied) → boxes_of b team ≡ set (boxes_of a team) own None → KeepsStrips team a b
@@ -161,7 +164,7 @@ may_without team own boxes a b put kept may = record {
   many = kept.many ∙ may.many;
   part = λ k. ⊎_elim (λ (same : k ≡ own). inl (rw (put, same) (none_here (boxes_of a team) own)))
       (λ (differ : k ≢ own). rw (put, there_still (boxes_of a team) own k None differ) (may.part k)) (cases_eq k own);
-  fits = fits_still team boxes b a kept.index kept.rooms may.fits;
+  fits = fits_still team boxes b a kept.index kept.site kept.rooms may.fits;
 }
 
 -- a cell stands
@@ -171,7 +174,7 @@ may_with team own boxes a b put kept may = record {
   many = kept.many ∙ may.many;
   part = λ k. ⊎_elim (λ (same : k ≡ own). inr (rw (put, same) (box_here (boxes_of a team) boxes own may.many)))
       (λ (differ : k ≢ own). rw (put, there_still (boxes_of a team) own k (cell_box boxes own) differ) (may.part k)) (cases_eq k own);
-  fits = fits_still team boxes b a kept.index kept.rooms may.fits;
+  fits = fits_still team boxes b a kept.index kept.site kept.rooms may.fits;
 }
 
 -- the cell of this box is one of those of the occupancy
@@ -191,7 +194,7 @@ has_cell id boxes o r may is =
 pub has_room : (id : CellId) (boxes : Boxes) (o : Occupied) (r : Rect) → MayStand id.team boxes o → box_at o id.team id.own ≡ None
     → cell_box boxes id.own ≡ Some r → HasRoomFor o id.team r 1
 has_room id boxes o r may nowhere is = λ n g there of_team shares.
-    let more = part_leaves_room g (boxes_of o id.team) boxes id.own r may.part nowhere is shares in
+    let more = part_leaves_room (felt (reach o) g) (boxes_of o id.team) boxes id.own r may.part nowhere is shares in
     let most = may.fits n g there of_team in
     omega (arith, more, most)
 
@@ -242,11 +245,11 @@ team_is team own cells id is = id_there cells team own id (sym is)
 
 -- the cell is out, and what is to stand is as it was
 pub may_out : (team own : ℕ) (f : Frame) (cells : Cells) (id : CellId) (a b : Occupied) → Some id ≡ id_in (cells_of cells team) team own
-    → b.boxes ≡ boxes_with a id None → b.index ≡ a.index → b.rooms ≡ a.rooms → MayStand team (working_boxes f cells team) a
+    → b.boxes ≡ boxes_with a id None → b.index ≡ a.index → b.site ≡ a.site → b.rooms ≡ a.rooms → MayStand team (working_boxes f cells team) a
     → MayStand id.team (working_boxes f cells id.team) b
-may_out team own f cells id a b is out index rooms may =
+may_out team own f cells id a b is out index site rooms may =
     let same = ap {B = ℕ} (λ (i : CellId). i.team) (team_is team own (cells_of cells team) id is) in
-    may_without id.team id.own (working_boxes f cells id.team) a b (box_put id None a b out) (keeps_put id None a b out index rooms)
+    may_without id.team id.own (working_boxes f cells id.team) a b (box_put id None a b out) (keeps_put id None a b out index site rooms)
     (subst (λ (k : ℕ). MayStand k (working_boxes f cells k) a) (sym same) may)
 
 pub put_twice : (team own : ℕ) (f : Frame) (cells : Cells) (id : CellId) (a b c : Occupied) → Some id ≡ id_in (cells_of cells team) team own
@@ -257,10 +260,10 @@ put_twice team own f cells id a b c is out put =
     (team_is team own (cells_of cells team) id is) (twice_put id (cell_box (working_boxes f cells id.team) id.own) a b c out put)
 
 pub keeps_twice : (team own : ℕ) (cells : List Cell) (id : CellId) (a b c : Occupied) → Some id ≡ id_in cells team own
-    → b.boxes ≡ boxes_with a id None → b.index ≡ a.index → b.rooms ≡ a.rooms → KeepsStrips id.team b c → KeepsStrips team a c
-keeps_twice team own cells id a b c is out index rooms kept =
+    → b.boxes ≡ boxes_with a id None → b.index ≡ a.index → b.site ≡ a.site → b.rooms ≡ a.rooms → KeepsStrips id.team b c → KeepsStrips team a c
+keeps_twice team own cells id a b c is out index site rooms kept =
     subst (λ (i : CellId). KeepsStrips i.team a c) (team_is team own cells id is)
-    (keeps_through id.team a b c (keeps_put id None a b out index rooms) kept)
+    (keeps_through id.team a b c (keeps_put id None a b out index site rooms) kept)
 
 -- the position that a move names
 pub own_there : (moves : List Move) (n : ℕ) (m : Move) → n < length moves → m ≡ get_or moves n m → m.own ≡ get_or (owns moves) n 0

@@ -151,7 +151,7 @@ module _ (f : Frame) (team : ℕ) (named : List ℕ) (count : ℕ) (old new : Li
     many =
         out.rest.many ∙ ap {B = ℕ} (λ (bs : List (Option Rect)). length bs) held ∙ length-map old (box_of f) ∙ sym many ∙ sym (length-map new (box_of f));
     part = λ k. part k (out.each k);
-    fits = fits_still team (map (box_of f) new) b a out.rest.index out.rest.rooms fits;
+    fits = fits_still team (map (box_of f) new) b a out.rest.index out.rest.site out.rest.rooms fits;
   }
 
   pub stand_but : StandButFor team (map (box_of f) new) named b

@@ -10,7 +10,7 @@ use Rattle.lf_cells.specs.declared.cell.Cell.{Cell}
 use Rattle.lf_cells.specs.declared.cell.CellId.{CellId}
 use Rattle.lf_cells.specs.Cells.{id_of, moved}
 use Rattle.lf_segments.specs.declared.strip.Strip.{Strip}
-use Rattle.lf_occupancy.specs.Occupied.{FitIn, HasRoomFor, Occupied, boxes_of, count_in, meets}
+use Rattle.lf_occupancy.specs.Occupied.{FitIn, HasRoomFor, Occupied, boxes_of, count_in, felt, meets, reach}
 use Rattle.lf_occupancy.specs.Floorplans.{box_of}
 use Rattle.lf_occupancy.proofs.Counting.{meets_shares, set_is_one_more}
 use Rattle.lf_undo.specs.declared.moves.Move.{Move}
@@ -99,26 +99,29 @@ no_id = record { team = 0; own = 0 }
 
 -- the room that was made for a box that meets the strip
 room_there : (g : Strip) (f : Frame) (team own more n : ℕ) (o : Occupied) (c : Option Cell) (place : Option Place) → slice_get o.index.strips n ≡ Some g
-    → g.team ≡ team → meets g (box_moved f c place) ≡ true
+    → g.team ≡ team → meets (felt (reach o) g) (box_moved f c place) ≡ true
     → IfSome (box_moved f c place) (λ r. HasRoomFor o (unwrap_or (option_map (λ (x : Cell). id_of team own) c) no_id).team r more)
-    → (count_in g (boxes_of o team) + more) ≤ get_or o.rooms n 0
+    → (count_in (felt (reach o) g) (boxes_of o team) + more) ≤ get_or o.rooms n 0
 room_there g f team own more n o None place there of_team met room = absurd cc
 room_there g f team own more n o (Some c) None there of_team met room = absurd cc
-room_there g f team own more n o (Some c) (Some p) there of_team met room = room n g there of_team (meets_shares g _ met)
+room_there g f team own more n o (Some c) (Some p) there of_team met room = room n g there of_team (meets_shares (felt (reach o) g) _ met)
 
 pub room_made : (f : Frame) (team : ℕ) (cells : List Cell) (moves : List Move) (o : Occupied) → boxes_of o team ≡ map (box_of f) cells
     → FitIn o team (boxes_of o team)
     → All (λ m. IfSome m.1 (λ r. HasRoomFor o m.0.team r (length (map (asked_for f team cells) moves)))) (map (asked_for f team cells) moves)
     → FitIn o team (map (box_of f) (made moves cells))
-room_made f team cells moves o held fits room n g there of_team = go (meets_or_not g f moves cells) where
-  same : count_in g (boxes_of o team) ≡ count_in g (map (box_of f) cells)
-  same = ap (count_in g) held
+room_made f team cells moves o held fits room n g there of_team = go (meets_or_not around f moves cells) where
+  around : Strip
+  around = felt (reach o) g
+
+  same : count_in around (boxes_of o team) ≡ count_in around (map (box_of f) cells)
+  same = ap (count_in around) held
 
   count : length (map (asked_for f team cells) moves) ≡ length moves
   count = length-map moves (asked_for f team cells)
 
-  go : Meets g f moves cells ⊎ (count_in g (map (box_of f) (made moves cells)) ≤ count_in g (map (box_of f) cells))
-      → count_in g (map (box_of f) (made moves cells)) ≤ get_or o.rooms n 0
+  go : Meets around f moves cells ⊎ (count_in around (map (box_of f) (made moves cells)) ≤ count_in around (map (box_of f) cells))
+      → count_in around (map (box_of f) (made moves cells)) ≤ get_or o.rooms n 0
   go (inr most) = let before = fits n g there of_team in omega (arith, most, same, before)
   go (inl one) =
       let m = one.move in
@@ -130,5 +133,5 @@ room_made f team cells moves o held fits room n g there of_team = go (meets_or_n
       let asked = subst (λ (a : CellId × Option Rect). IfSome a.1 (λ r. HasRoomFor o a.0.team r (length (map (asked_for f team cells) moves)))) at
       (room k (asked_for f team cells m) within) in
       let left = room_there g f team m.own (length (map (asked_for f team cells) moves)) n o (slice_get cells m.own) m.old there of_team one.yes asked in
-      let most = count_made g f moves cells in
+      let most = count_made around f moves cells in
       omega (arith, left, most, same, count)

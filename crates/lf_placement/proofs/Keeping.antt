@@ -68,16 +68,16 @@ each_team : (P : ℕ → List Cell → Type 0) (team : ℕ) (old new : Cells) �
 each_team P team old new others here each other =
     ⊎_elim (λ (same : other ≡ team). rw same here) (λ (differ : other ≢ team). rw (others.cells other differ) (each other)) (cases_eq other team)
 
-fits_as : (f : Frame) (a b : Occupied) (team : ℕ) (old new : List Cell) (places : Places) → SameMacros old new → b.index ≡ a.index → b.rooms ≡ a.rooms
+fits_as : (f : Frame) (a b : Occupied) (team : ℕ) (old new : List Cell) (places : Places) → SameMacros old new → b.index ≡ a.index → b.site ≡ a.site → b.rooms ≡ a.rooms
     → FitIn a team (boxes_at f old places) → FitIn b team (boxes_at f new places)
-fits_as f a b team old new places same index rooms fits =
-    fits_still team (boxes_at f new places) b a index rooms
+fits_as f a b team old new places same index site rooms fits =
+    fits_still team (boxes_at f new places) b a index site rooms
     (subst (λ (bs : List (Option Rect)). FitIn a team bs) (sym (boxes_alike_at f old new places same)) fits)
 
 pub placing_moved : (p : Placing) (team : ℕ) (cells : Cells) (held : Occupied) → IsPlacing p → OtherCellsStay team p.cells cells
-    → SameButPlaces (cells_of p.cells team) (cells_of cells team) → IsOccupancyOf p.frame cells held → held.index ≡ p.held.index
+    → SameButPlaces (cells_of p.cells team) (cells_of cells team) → IsOccupancyOf p.frame cells held → held.index ≡ p.held.index → held.site ≡ p.held.site
     → held.rooms ≡ p.held.rooms → IsPlacing record { frame = p.frame; cells = cells; held = held }
-placing_moved p team cells held is others same follows index rooms = record {
+placing_moved p team cells held is others same follows index site rooms = record {
   sized = each_team (λ n cs. All (IsSizedCell p.frame) cs) team p.cells cells others
       (sized_in p.frame (cells_of p.cells team) (cells_of cells team) macros (is.sized team)) is.sized;
   few = each_team (λ n cs. length cs ≤ 4000000) team p.cells cells others
@@ -85,9 +85,9 @@ placing_moved p team cells held is others same follows index rooms = record {
   follows = follows;
   committed = each_team (λ n cs. FitIn held n (boxes_at p.frame cs (committed_of cs))) team p.cells cells others
       (rw (committed_same (cells_of p.cells team) (cells_of cells team) same)
-      (fits_as p.frame p.held held team (cells_of p.cells team) (cells_of cells team) (committed_of (cells_of p.cells team)) macros index rooms
+      (fits_as p.frame p.held held team (cells_of p.cells team) (cells_of cells team) (committed_of (cells_of p.cells team)) macros index site rooms
       (is.committed team)))
-      (λ other. fits_still other (boxes_at p.frame (cells_of p.cells other) (committed_of (cells_of p.cells other))) held p.held index rooms
+      (λ other. fits_still other (boxes_at p.frame (cells_of p.cells other) (committed_of (cells_of p.cells other))) held p.held index site rooms
       (is.committed other));
 }
   where
@@ -113,12 +113,13 @@ placing_committed p team cells is others own fits = record {
   few = each_team (λ n cs. length cs ≤ 4000000) team p.cells cells others (rw (own, length-map old as_committed) (is.few team)) is.few;
   follows = record {
     index = is.follows.index;
+    site = is.follows.site;
     boxes = each_team (λ n cs. boxes_of p.held n ≡ map (box_of p.frame) cs) team p.cells cells others
         (rw own (is.follows.boxes team ∙ sym (boxes_committed p.frame old))) is.follows.boxes;
   };
   committed = each_team (λ n cs. FitIn p.held n (boxes_at p.frame cs (committed_of cs))) team p.cells cells others
       (subst (λ (places : Places). FitIn p.held team (boxes_at p.frame (cells_of cells team) places)) (sym (ap committed_of own ∙ committed_now old))
-      (fits_as p.frame p.held p.held team old (cells_of cells team) (places_of old) macros refl refl (places_fit p is.follows fits team)))
+      (fits_as p.frame p.held p.held team old (cells_of cells team) (places_of old) macros refl refl refl (places_fit p is.follows fits team)))
       is.committed;
 }
   where
@@ -218,8 +219,8 @@ placing_opening design cells held is follows fits = record {
 -- ---- laws
 
 pub last : (old new : Placing) (team : ℕ) (places : Places) → new.frame ≡ old.frame → new.held.index ≡ old.held.index
-    → NoLess old.held.rooms new.held.rooms → SameMacros (cells_of old.cells team) (cells_of new.cells team) → Fits old team places → Fits new team places
-last old new team places frame index rooms same fits = λ n g there of_team.
+    → new.held.site ≡ old.held.site → NoLess old.held.rooms new.held.rooms → SameMacros (cells_of old.cells team) (cells_of new.cells team) → Fits old team places → Fits new team places
+last old new team places frame index site rooms same fits = λ n g there of_team.
     let less = rooms.each n in
     let before = fits n g (subst (λ (looked : Lookups). slice_get looked.strips n ≡ Some g) index there) of_team in
-    rw (frame, boxes_alike_at old.frame (cells_of old.cells team) (cells_of new.cells team) places same) (omega (arith, before, less))
+    rw (frame, site, boxes_alike_at old.frame (cells_of old.cells team) (cells_of new.cells team) places same) (omega (arith, before, less))

@@ -1,5 +1,6 @@
 -- The first cell that is met in the strips is the first other cell of the team that the box meets.
-use Rattle.std.proofs.Common.{◌≡◌, ◌≢◌, ℕ, ℤ, zero, suc, ◌+◌, ◌≤◌, List, [], ◌∷◌, map, Option, Some, None, refl, ap, sym, subst, ◌∙◌, arith}
+use Rattle.std.proofs.Common.{◌≡◌, ◌≢◌, pos, ◌+ℤ◌, ◌<ℤ◌, ◌≤ℤ◌, ℕ, ℤ, zero, suc, ◌+◌, ◌≤◌, List, [], ◌∷◌, map, Option, Some, None, refl, ap, sym, subst, ◌∙◌, arith}
+use Rattle.std.proofs.lemmas.Int.{ints}
 use Rattle.std.specs.Prelude.{All, Any, Contains, option_and_then, slice_get}
 use Rattle.std.specs.Option.{option_map}
 use Rattle.std.proofs.lemmas.List.Elements.{All-nil, All-cons}
@@ -12,7 +13,12 @@ use Rattle.lf_rtree.specs.declared.placed.Placed.{Placed}
 use Rattle.lf_rtree.specs.Near.{IsLeastMet, IsNoneMet}
 use Rattle.lf_rules.specs.declared.rule.Rule.TheVariants.{Overlap}
 use Rattle.lf_rules.specs.Choice.{Spot, spot_of}
-use Rattle.lf_rules.specs.Legality.{IsFirstMet as IsFirstMetOf, Trial, box_of as box_of_trial}
+use Rattle.lf_rules.specs.Legality.{IsFirstMet as IsFirstMetOf, Trial, box_of as box_of_trial, padded_box}
+use Rattle.lf_rules.specs.Padding.{length_of, wider}
+use Rattle.lf_rules.proofs.WiderLemmas.{length_least, length_upto}
+use Rattle.lf_floorplan.specs.Boxes.{IsSized, size_of}
+use Rattle.lf_floorplan.specs.Sizes.{turned}
+use Rattle.lf_floorplan.proofs.SizeBounds.{IsSmall, small_pitch, turned_small, sized_pitch}
 use Rattle.lf_rules.specs.Legalizer.{IsVerdict}
 use Rattle.lf_rules.specs.Team.{Member, box_in, boxes_beside, boxes_from, with_box}
 use Rattle.lf_rules.proofs.LegalParts.{KeepsFrame, StandsInFrame, frame_meant, legal_by_parts}
@@ -23,8 +29,8 @@ use Rattle.lf_cells.specs.declared.cell.CellId.{CellId}
 use Rattle.lf_cells.specs.Cells.{Cells, cells_of}
 use Rattle.lf_legalize.specs.Members.{member_of}
 use Rattle.lf_segments.specs.declared.strip.Strip.{Strip}
-use Rattle.lf_occupancy.specs.Occupied.{IsFirstMet, MeetsInStrips, Occupied, box_at}
-use Rattle.lf_occupancy.specs.Floorplans.{IsOccupancyOf, StripsCover, box_of}
+use Rattle.lf_occupancy.specs.Occupied.{IsFirstMet, MeetsInStrips, Occupied, box_at, reach}
+use Rattle.lf_occupancy.specs.Floorplans.{IsOccupancyOf, StripsFeel, box_of}
 
 -- ---- the boxes of cells, by their numbers
 
@@ -117,7 +123,7 @@ module _ (f : Frame) (table : Cells) (o : Occupied) (of : IsOccupancyOf f table 
   placed_is k m p there at =
       box_is k ∙ ap (λ (x : Option Member). option_and_then (box_of_member f) x) there ∙ ap (λ (x : Option Spot). option_map (box_in f m.mac) x) at
 
-  module _ (covered : (x y : ℤ) → Covers rect x y → Any (λ (g : Strip). (g.team ≡ id.team) × Covers g.area x y) o.index.strips) where
+  module _ (covered : (x y : ℤ) → Covers rect x y → Any (λ (g : Strip). (g.team ≡ id.team) × Covers (wider (reach o) g.area) x y) o.index.strips) where
     -- a box that is met is met in the strips
     meets_in : (k : ℕ) (box : Rect) → k ≢ id.own → box_at o id.team k ≡ Some box → SharesPoint rect box → MeetsInStrips o id rect k
     meets_in k box other stands shares = record {
@@ -159,12 +165,22 @@ module _ (f : Frame) (table : Cells) (o : Occupied) (of : IsOccupancyOf f table 
 
 -- ---- the verdict
 
+-- the box of a macro of whole size holds a point
+wide_trial : (t : Trial) → IsSized t.frame t.mac → (box_of_trial t).x1 <ℤ (box_of_trial t).x2
+wide_trial t sized =
+    let small : IsSmall (turned (size_of t.frame t.mac) t.orient) = turned_small _ _ (small_pitch _ _ _ (sized_pitch t.frame t.mac sized)) in
+    wide t.x _ small.wide
+  where
+    wide : (x w : ℤ) → pos 0 <ℤ w → x <ℤ (x +ℤ w)
+    wide x w h = omega (arith, ints)
+
+
 -- where the rules but overlap hold, the cell that is met in the strips decides
-pub met_decides : (t : Trial) (table : Cells) (o : Occupied) (id : CellId) (rect : Rect) (met : Option ℕ) → IsOccupancyOf t.frame table o → StripsCover
-    → id.team ≡ t.team → t.others ≡ boxes_beside t.frame (map member_of (cells_of table t.team)) id.own → rect ≡ box_of_trial t
+pub met_decides : (t : Trial) (table : Cells) (o : Occupied) (id : CellId) (rect : Rect) (met : Option ℕ) → IsOccupancyOf t.frame table o → StripsFeel → t.padding ≤ 16 → IsSized t.frame t.mac
+    → id.team ≡ t.team → t.others ≡ boxes_beside t.frame (map member_of (cells_of table t.team)) id.own → rect ≡ padded_box t
     → KeepsFrame t → IsFirstMet o id rect met
     → IsVerdict t (option_map (λ own. record { rule = Overlap; other = Some own }) met)
-met_decides t table o id rect met of cover team beside at holds found = by met found
+met_decides t table o id rect met of feel few sized team beside at holds found = by met found
   where
     members : List Member
     members = map member_of (cells_of table id.team)
@@ -178,11 +194,14 @@ met_decides t table o id rect met of cover team beside at holds found = by met f
     frame : StandsInFrame t
     frame = frame_meant t holds
 
-    covered : (x y : ℤ) → Covers rect x y → Any (λ (g : Strip). (g.team ≡ id.team) × Covers g.area x y) o.index.strips
+    upto : length_of t.frame t.padding ≤ℤ reach o
+    upto = rw of.site (length_upto t.frame t.padding 16 few)
+
+    covered : (x y : ℤ) → Covers rect x y → Any (λ (g : Strip). (g.team ≡ id.team) × Covers (wider (reach o) g.area) x y) o.index.strips
     covered x y inside =
-        subst (λ (n : ℕ). Any (λ (g : Strip). (g.team ≡ n) × Covers g.area x y) o.index.strips) (sym team)
-        (cover t.frame o t.team (box_of_trial t) of.index frame.stands frame.ground frame.clear x y
-        (subst (λ (b : Rect). Covers b x y) at inside))
+        subst (λ (n : ℕ). Any (λ (g : Strip). (g.team ≡ n) × Covers (wider (reach o) g.area) x y) o.index.strips) (sym team)
+        (feel t.frame o t.team (box_of_trial t) (length_of t.frame t.padding) of.index of.site frame.stands frame.ground frame.clear
+        (wide_trial t sized) (length_least t.frame t.padding) upto x y (subst (λ (b : Rect). Covers b x y) at inside))
 
     by : (m : Option ℕ) → IsFirstMet o id rect m → IsVerdict t (option_map (λ own. record { rule = Overlap; other = Some own }) m)
     by None none =

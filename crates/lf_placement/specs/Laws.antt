@@ -16,7 +16,8 @@ SameMacros old new = map (λ c. c.mac) new ≡ map (λ c. c.mac) old
 -- places that fit the team still do where the frame and the strips stay, no room is less, and its cells keep their macros
 abbrev pub FitsLast : Type 0
 FitsLast =
-    (old new : Placing) (team : ℕ) (places : Places) → new.frame ≡ old.frame → new.held.index ≡ old.held.index → NoLess old.held.rooms new.held.rooms →
+    (old new : Placing) (team : ℕ) (places : Places) → new.frame ≡ old.frame → new.held.index ≡ old.held.index →
+    new.held.site ≡ old.held.site → NoLess old.held.rooms new.held.rooms →
     SameMacros (cells_of old.cells team) (cells_of new.cells team) → Fits old team places → Fits new team places
 
 -- the first of the rules but overlap that a cell breaks at a place stays where the frame stays and its team's cells keep their macros

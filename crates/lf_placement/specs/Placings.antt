@@ -79,6 +79,7 @@ pub record KeepsRest (old new : Placing) : Type 0 where
   pub frame : new.frame ≡ old.frame
   pub components : new.cells.components ≡ old.cells.components
   pub index : new.held.index ≡ old.held.index
+  pub site : new.held.site ≡ old.held.site
   pub rooms : new.held.rooms ≡ old.held.rooms
 
 -- only the rooms may differ, and none is less
@@ -86,6 +87,7 @@ pub record SameButRooms (old new : Placing) : Type 0 where
   pub frame : new.frame ≡ old.frame
   pub cells : new.cells ≡ old.cells
   pub index : new.held.index ≡ old.held.index
+  pub site : new.held.site ≡ old.held.site
   pub boxes : new.held.boxes ≡ old.held.boxes
   pub rooms : NoLess old.held.rooms new.held.rooms
 
@@ -104,16 +106,17 @@ pub record IsPlacing (p : Placing) : Type 0 where
 
 -- ---- a cell at a place
 
--- the trial of a cell at a place, beside the other placed cells of its team
-abbrev pub trial_at : Placing → CellId → Place → Cell → Trial
-trial_at p id place c = trial_of p.frame id.team (macro_of p.frame c.mac) place (boxes_beside p.frame (map member_of (cells_of p.cells id.team)) id.own)
+-- the trial of a cell at a place, beside the other placed cells of its team, which has this padding
+abbrev pub trial_at : Placing → ℕ → CellId → Place → Cell → Trial
+trial_at p padding id place c =
+    trial_of p.frame id.team padding (macro_of p.frame c.mac) place (boxes_beside p.frame (map member_of (cells_of p.cells id.team)) id.own)
 
 -- the first rule that the cell breaks there; None also where there is no such cell
-abbrev pub IsBrokenAt : Placing → CellId → Place → Option Broken → Type 0
-IsBrokenAt p id place broken = MatchOption (cell_at p.cells id) (broken ≡ None) (λ c. IsVerdict (trial_at p id place c) broken)
+abbrev pub IsBrokenAt : Placing → ℕ → CellId → Place → Option Broken → Type 0
+IsBrokenAt p padding id place broken = MatchOption (cell_at p.cells id) (broken ≡ None) (λ c. IsVerdict (trial_at p padding id place c) broken)
 
--- the first of the rules but overlap that the cell breaks there, whatever else stands; None also where there is no such cell
+-- the first of the rules but overlap that the cell breaks there, whatever else stands and whatever the padding is; None also where there is no such cell
 abbrev pub IsBrokenAlone : Placing → CellId → Place → Option Rule → Type 0
 IsBrokenAlone p id place broken =
     MatchOption (cell_at p.cells id) (broken ≡ None)
-    (λ c. (others : List Placed) → IsFrameVerdict (trial_of p.frame id.team (macro_of p.frame c.mac) place others) broken)
+    (λ c. (padding : ℕ) (others : List Placed) → IsFrameVerdict (trial_of p.frame id.team padding (macro_of p.frame c.mac) place others) broken)

@@ -44,6 +44,7 @@ pub record KeepsStrips (team : ℕ) (old new : Occupied) : Type 0 where
   pub many : length (boxes_of new team) ≡ length (boxes_of old team)
   pub boxes : (other : ℕ) → other ≢ team → boxes_of new other ≡ boxes_of old other
   pub index : new.index ≡ old.index
+  pub site : new.site ≡ old.site
   pub rooms : new.rooms ≡ old.rooms
 
 -- the first so many of the named cells were taken out

@@ -44,6 +44,7 @@ pub(crate) fn make_moves(
     ensures others { OtherCellsStay team cells.old cells.new }
     ensures held { IsOccupancyOf frame.now cells.new occupancy.new }
     ensures index { occupancy.new.index ≡ occupancy.old.index }
+    ensures site { occupancy.new.site ≡ occupancy.old.site }
     ensures rooms { occupancy.new.rooms ≡ occupancy.old.rooms }
 {
     lift(occupancy, cells, team, moves_from(moves.as_slice(), from));
@@ -72,6 +73,7 @@ pub(crate) fn take_back_moves(
     ensures others { OtherCellsStay team cells.old cells.new }
     ensures held { IsOccupancyOf frame.now cells.new occupancy.new }
     ensures index { occupancy.new.index ≡ occupancy.old.index }
+    ensures site { occupancy.new.site ≡ occupancy.old.site }
     ensures rooms { occupancy.new.rooms ≡ occupancy.old.rooms }
 {
     lift(occupancy, cells, team, moves.as_slice());

@@ -18,8 +18,8 @@ use crate::rooms::make_room;
 use lf_cells::{CellId, CellTable};
 use lf_floorplan::{Frame, Loaded, Place};
 use lf_legalize::Seeker;
-use lf_occupancy::{Occupancy, strips_cover};
-use lf_rules::{Broken, Rule, box_of, broken_alone, overlap_with};
+use lf_occupancy::{Occupancy, strips_feel};
+use lf_rules::{Broken, Padding, Rule, broken_alone, overlap_with, padded_box};
 use lf_segments::Plan;
 use lf_undo::{Move, Moves};
 use lf_units::Point;
@@ -98,30 +98,32 @@ impl Placement {
     }
 
     /// The first of the team's other cells, by their positions, whose box shares a point with that of
-    /// the cell at the place, where it breaks no other rule. It allocates nothing.
-    pub fn first_other(&self, id: CellId, place: &Place) -> Option<u32>
+    /// the cell at the place, made wider on its left and right by the padding, where it breaks no other
+    /// rule. It allocates nothing.
+    pub fn first_other(&self, id: CellId, place: &Place, padding: Padding) -> Option<u32>
         requires { IsBrokenAlone self.now id place.now None }
-        ensures { IsBrokenAt self.now id place.now (option_map (λ own. record { rule = Overlap; other = Some own }) result) }
+        ensures { IsBrokenAt self.now padding.sites id place.now (option_map (λ own. record { rule = Overlap; other = Some own }) result) }
     {
         let standing = self.cells.standing(id)?;
         let mac = &self.frame.macros.as_slice()[standing.mac];
-        let rect = box_of(&self.frame, mac, place);
-        strips_cover();
+        let rect = padded_box(&self.frame, mac, place, padding);
+        strips_feel();
         self.occupancy.first_met(id, &rect)
     }
 
-    /// The first rule that the cell breaks at the place beside the other cells of its team; none also
-    /// where there is no such cell. It allocates nothing.
-    pub fn first_broken(&self, id: CellId, place: &Place) -> Option<Broken>
-        ensures { IsBrokenAt self.now id place.now result }
+    /// The first rule that the cell breaks at the place beside the other cells of its team, which has
+    /// this padding; none also where there is no such cell. It allocates nothing.
+    pub fn first_broken(&self, id: CellId, place: &Place, padding: Padding) -> Option<Broken>
+        ensures { IsBrokenAt self.now padding.sites id place.now result }
     {
         if let Some(rule) = self.broken_alone(id, place) {
             return Some(Broken { rule, other: None });
         }
-        overlap_with(self.first_other(id, place))
+        overlap_with(self.first_other(id, place, padding))
     }
 
-    /// The best place of the cell for a target; none where it has none, or there is no such cell.
+    /// The best place of the cell for a target, with this padding of its team; none where it has none,
+    /// or there is no such cell.
     ///
     /// `Err` if an allocation fails.
     pub fn best_place<S: Seeker>(
@@ -130,11 +132,20 @@ impl Placement {
         seeker: &S,
         id: CellId,
         target: &Point,
+        padding: Padding,
     ) -> Result<Option<Place>, AllocError>
         ensures { (l : Legalizer) → IfOk result (λ found. option_map spot_of found
-            ≡ best_of l self.now.frame id.team (cells_of self.now.cells id.team) id.own target.now) }
+            ≡ best_of l self.now.frame id.team padding.sites (cells_of self.now.cells id.team) id.own target.now) }
     {
-        seeker.seek(alloc, &self.frame, &self.cells, &self.occupancy, id, target)
+        seeker.seek(
+            alloc,
+            &self.frame,
+            &self.cells,
+            &self.occupancy,
+            id,
+            target,
+            padding,
+        )
     }
 
     /// Makes the room that `make` asks where it makes these moves of the team's cells.

@@ -62,6 +62,7 @@ pub(crate) fn make_room(
     ensures ok { OnOk result (FitIn occupancy.new team (map (box_of frame.now) (made moves.now (cells_of cells.now team)))) }
     ensures boxes { occupancy.new.boxes ≡ occupancy.old.boxes }
     ensures index { occupancy.new.index ≡ occupancy.old.index }
+    ensures site { occupancy.new.site ≡ occupancy.old.site }
     ensures rooms { NoLess occupancy.old.rooms occupancy.new.rooms }
 {
     let asked = all_asked_for(alloc, frame, cells, team, moves)?;

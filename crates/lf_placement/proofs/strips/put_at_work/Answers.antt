@@ -10,7 +10,7 @@ use Rattle.lf_placement.proofs.strips.put_at_work.Goals as goal
 pub put_in-requires-clause-may : goal.put_in-requires-clause-may
 put_in-requires-clause-may c =
     may_out c.args.team c.args.own c.args.frame.now c.args.cells.now c.in-Some.id c.args.occupancy.now c.remove.new.self c.in-Some.ensures
-    c.remove.ensures.boxes c.remove.ensures.index c.remove.ensures.rooms c.requires.may
+    c.remove.ensures.boxes c.remove.ensures.index c.remove.ensures.site c.remove.ensures.rooms c.requires.may
 
 pub put_in-requires-clause-nowhere : goal.put_in-requires-clause-nowhere
 put_in-requires-clause-nowhere c = nowhere_now c.in-Some.id c.args.occupancy.now c.remove.new.self c.remove.ensures.boxes
@@ -23,7 +23,7 @@ returns-in-Some-clause-boxes c =
 pub returns-in-Some-clause-rest : goal.returns-in-Some-clause-rest
 returns-in-Some-clause-rest c =
     keeps_twice c.args.team c.args.own (cells_of c.args.cells.now c.args.team) c.in-Some.id c.args.occupancy.now c.remove.new.self c.put_in.new.occupancy
-    c.in-Some.ensures c.remove.ensures.boxes c.remove.ensures.index c.remove.ensures.rooms c.put_in.ensures.rest
+    c.in-Some.ensures c.remove.ensures.boxes c.remove.ensures.index c.remove.ensures.site c.remove.ensures.rooms c.put_in.ensures.rest
 
 pub returns-in_default-clause-boxes : goal.returns-in_default-clause-boxes
 returns-in_default-clause-boxes c =

@@ -6,5 +6,5 @@ use Rattle.lf_placement.proofs.placement.Placement.first_broken.Goals as goal
 
 pub returns-in-Some : goal.returns-in-Some
 returns-in-Some c =
-    broken_alone c.args.self.now c.args.id c.args.place.now c.in-Some.rule
+    broken_alone c.args.self.now c.args.padding.sites c.args.id c.args.place.now c.in-Some.rule
     (subst (λ (r : Option Rule). IsBrokenAlone c.args.self.now c.args.id c.args.place.now r) c.in-Some.is c.broken_alone.ensures)

@@ -9,11 +9,11 @@ use Rattle.lf_placement.proofs.placement.Placement.first_other.Goals as goal
 pub returns : goal.returns
 returns c =
     let mac = c.index-as_slice-standing.result in
-    subst (λ (p : Placing). IsBrokenAt p c.args.id c.args.place.now (option_map (λ own. record { rule = Overlap; other = Some own }) c.first_met.result))
+    subst (λ (p : Placing). IsBrokenAt p c.args.padding.sites c.args.id c.args.place.now (option_map (λ own. record { rule = Overlap; other = Some own }) c.first_met.result))
     c.self.view_is
-    (met_at record { frame = c.self.inside.frame; cells = c.self.inside.cells; held = c.self.inside.occupancy } c.args.id c.args.place.now
-    c.in_ok-standing.standing mac c.box_of-rect.result c.first_met.result (c.self.invariant.sized c.args.id.team) c.self.invariant.follows
-    c.strips_cover.ensures c.in_ok-standing.ensures
+    (met_at record { frame = c.self.inside.frame; cells = c.self.inside.cells; held = c.self.inside.occupancy } c.args.padding.sites c.args.id c.args.place.now
+    c.in_ok-standing.standing mac c.padded_box-rect.result c.first_met.result (c.self.invariant.sized c.args.id.team) c.self.invariant.follows
+    c.strips_feel.ensures c.args.padding.most c.in_ok-standing.ensures
     (subst (λ (ms : List Macro). mac ≡ get_or ms c.in_ok-standing.standing.mac mac) c.as_slice.ensures c.index-as_slice-standing.is)
-    c.box_of-rect.ensures
+    c.padded_box-rect.ensures
     (subst (λ (p : Placing). IsBrokenAlone p c.args.id c.args.place.now None) (sym c.self.view_is) c.requires) c.first_met.ensures)

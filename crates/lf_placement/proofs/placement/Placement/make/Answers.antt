@@ -18,5 +18,5 @@ invariant_of-self c =
     let moves = drop c.args.from c.args.moves.now in
     let same : SameButPlaces old (cells_of c.make_moves.new.cells team) = rw c.make_moves.ensures.own (same_made moves old) in
     placing_moved record { frame = c.self.inside.frame; cells = c.self.inside.cells; held = c.self.inside.occupancy } team c.make_moves.new.cells
-    c.make_moves.new.occupancy c.self.invariant c.make_moves.ensures.others same c.make_moves.ensures.held c.make_moves.ensures.index
+    c.make_moves.new.occupancy c.self.invariant c.make_moves.ensures.others same c.make_moves.ensures.held c.make_moves.ensures.index c.make_moves.ensures.site
     c.make_moves.ensures.rooms

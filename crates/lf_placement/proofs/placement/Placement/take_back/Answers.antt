@@ -19,7 +19,7 @@ invariant_of-self c =
     let same : SameButPlaces old (cells_of c.take_back_moves.new.cells team) = rw c.take_back_moves.ensures.own (same_back c.args.moves.now old) in
     placing_moved record { frame = c.self.inside.frame; cells = c.self.inside.cells; held = c.self.inside.occupancy } team c.take_back_moves.new.cells
     c.take_back_moves.new.occupancy c.self.invariant c.take_back_moves.ensures.others same c.take_back_moves.ensures.held
-    c.take_back_moves.ensures.index c.take_back_moves.ensures.rooms
+    c.take_back_moves.ensures.index c.take_back_moves.ensures.site c.take_back_moves.ensures.rooms
 
 pub returns-clause-own : goal.returns-clause-own
 returns-clause-own c = λ before have.
