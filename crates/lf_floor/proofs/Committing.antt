@@ -17,7 +17,7 @@ use Rattle.lf_teams.specs.Changes.{broken_cells, committed, committed_unless, fi
 use Rattle.lf_floor.specs.declared.tables.Tables.{Tables}
 use Rattle.lf_placement.specs.Placings.{KeepsRest, Placing}
 use Rattle.lf_placement.proofs.Changing.{macs_committed}
-use Rattle.lf_floor.specs.Tables.{Counts, EntriesFit, HasRows, cells_in, own_team, revision_of}
+use Rattle.lf_floor.specs.Tables.{Counts, EntriesFit, HasRows, cells_in, own_team, padding_of, revision_of}
 use Rattle.lf_floor.proofs.Fitting.{entries_as, same_rooms}
 use Rattle.lf_floor.proofs.Ends.{counted_own, team_of}
 
@@ -73,9 +73,9 @@ committed_reaches t k session revision old new placing rows none first are count
     record {
       reply_is = ap Revision told ∙ ap (λ (o : Outcome). o.reply) (sym outcome);
       team_is =
-          counted_own k session mid new (record { undo = rows.undo; sessions = rows.sessions; revisions = rows.revisions }) counts
-          ∙ ap (λ (cs : List Cell). team_of cs (revision_of old k + 1) (entries_of (places_of cs) (stack_of old.undo k)) slots) are
-          ∙ ap (λ (ps : List (Option Place)). team_of now (revision_of old k + 1) (entries_of ps (stack_of old.undo k)) slots) (places_stay s.cells)
+          counted_own k session mid new (record { undo = rows.undo; sessions = rows.sessions; revisions = rows.revisions; paddings = rows.paddings }) counts
+          ∙ ap (λ (cs : List Cell). team_of cs (revision_of old k + 1) (entries_of (places_of cs) (stack_of old.undo k)) slots (padding_of old k)) are
+          ∙ ap (λ (ps : List (Option Place)). team_of now (revision_of old k + 1) (entries_of ps (stack_of old.undo k)) slots (padding_of old k)) (places_stay s.cells)
           ∙ ap (λ (o : Outcome). o.team) (sym outcome);
     }
 
@@ -85,7 +85,7 @@ pub committed_fit : (k session : ℕ) (old new : Tables) (placing : Placing) →
 committed_fit k session old new placing rows are rest counts fit =
     let mid : Tables = record old { placement = placing } in
     let entries : (own_team k new).entries ≡ (own_team k old).entries =
-    ap (λ (s : TeamState). s.entries) (counted_own k session mid new (record { undo = rows.undo; sessions = rows.sessions; revisions = rows.revisions }) counts)
+    ap (λ (s : TeamState). s.entries) (counted_own k session mid new (record { undo = rows.undo; sessions = rows.sessions; revisions = rows.revisions; paddings = rows.paddings }) counts)
     ∙ ap (λ (cs : List Cell). entries_of (places_of cs) (stack_of old.undo k)) are
     ∙ ap (λ (ps : List (Option Place)). entries_of ps (stack_of old.undo k)) (places_stay (cells_in k old)) in
     entries_as k old new (rw counts.placement (same_rooms old.placement placing rest))

@@ -18,15 +18,16 @@ use Rattle.lf_teams.specs.Teams.{Setting}
 use Rattle.lf_teams.specs.States.{TeamState}
 use Rattle.lf_floor.specs.declared.tables.Tables.{Tables}
 use Rattle.lf_placement.specs.Placings.{HaveMoved, Placing, SameButPlaces}
-use Rattle.lf_floor.specs.Tables.{Counts, HasRows, cells_in, kept, own_team, revision_of, team_with}
+use Rattle.lf_floor.specs.Tables.{Counts, HasRows, cells_in, kept, own_team, padding_of, revision_of, team_with}
 use Rattle.lf_floor.specs.declared.tidy.Tidy.{Tidy}
 use Rattle.lf_floor.specs.declared.tidy.Tidy.TheVariants.{Done, Stopped}
 use Rattle.lf_floor.specs.Tidying.{Tidies}
 use Rattle.lf_floor.proofs.Sending.{tidied_done, tidied_short, tidied_stuck}
 
 -- a team of these parts
-abbrev pub team_of : List Cell → ℕ → List (List (Option Place)) → List (Option ℕ) → TeamState
-team_of cells revision entries slots = record { cells = cells; revision = revision; entries = entries; slots = slots }
+abbrev pub team_of : List Cell → ℕ → List (List (Option Place)) → List (Option ℕ) → ℕ → TeamState
+team_of cells revision entries slots padding =
+    record { cells = cells; revision = revision; entries = entries; slots = slots; padding = padding }
 
 -- ---- a change is counted
 
@@ -40,20 +41,27 @@ counted_slots k session old new rows counts =
     ap (λ (xs : List (List (Option ℕ))). slots_of xs k) counts.sessions
     ∙ get_or-set_same old.sessions k (slice_set (slots_of old.sessions k) session (Some (revision_of old k + 1))) [] rows.sessions
 
+counted_padding : (k session : ℕ) (old new : Tables) → Counts k session old new → padding_of new k ≡ padding_of old k
+counted_padding k session old new counts = rw counts.paddings refl
+
 -- the team, with these cells, after a change was counted
 pub counted_team : (k session : ℕ) (cells : List Cell) (old new : Tables) → HasRows k old → Counts k session old new
     → team_with k cells new
-    ≡ team_of cells (revision_of old k + 1) (entries_of (places_of cells) (stack_of old.undo k)) (slice_set (slots_of old.sessions k) session (Some (revision_of old k + 1)))
+    ≡ team_of cells (revision_of old k + 1) (entries_of (places_of cells) (stack_of old.undo k))
+    (slice_set (slots_of old.sessions k) session (Some (revision_of old k + 1))) (padding_of old k)
 counted_team k session cells old new rows counts =
-    ap (λ (n : ℕ). team_of cells n (entries_of (places_of cells) (stack_of new.undo k)) (slots_of new.sessions k)) (counted_revision k session old new rows counts)
-    ∙ ap (λ (u : Stacks (List Move)). team_of cells (revision_of old k + 1) (entries_of (places_of cells) (stack_of u k)) (slots_of new.sessions k)) counts.undo
-    ∙ ap (λ (ss : List (Option ℕ)). team_of cells (revision_of old k + 1) (entries_of (places_of cells) (stack_of old.undo k)) ss)
+    ap (λ (n : ℕ). team_of cells n (entries_of (places_of cells) (stack_of new.undo k)) (slots_of new.sessions k) (padding_of new k))
+    (counted_revision k session old new rows counts)
+    ∙ ap (λ (u : Stacks (List Move)). team_of cells (revision_of old k + 1) (entries_of (places_of cells) (stack_of u k)) (slots_of new.sessions k) (padding_of new k)) counts.undo
+    ∙ ap (λ (ss : List (Option ℕ)). team_of cells (revision_of old k + 1) (entries_of (places_of cells) (stack_of old.undo k)) ss (padding_of new k))
     (counted_slots k session old new rows counts)
+    ∙ ap (λ (n : ℕ). team_of cells (revision_of old k + 1) (entries_of (places_of cells) (stack_of old.undo k))
+    (slice_set (slots_of old.sessions k) session (Some (revision_of old k + 1))) n) (counted_padding k session old new counts)
 
 pub counted_own : (k session : ℕ) (old new : Tables) → HasRows k old → Counts k session old new
     → own_team k new
     ≡ team_of (cells_in k old) (revision_of old k + 1) (entries_of (places_of (cells_in k old)) (stack_of old.undo k))
-    (slice_set (slots_of old.sessions k) session (Some (revision_of old k + 1)))
+    (slice_set (slots_of old.sessions k) session (Some (revision_of old k + 1))) (padding_of old k)
 counted_own k session old new rows counts =
     ap (λ (p : Placing). team_with k (cells_of p.cells k) new) counts.placement ∙ counted_team k session (cells_in k old) old new rows counts
 
@@ -64,7 +72,7 @@ counted_own k session old new rows counts =
 -- the rows are still there if only the undo stacks have changed
 pub rows_by_undo : (k : ℕ) (old : Tables) (undo : Stacks (List Move)) → length undo.lists ≡ length old.undo.lists → HasRows k old
     → HasRows k (record old { undo = undo })
-rows_by_undo k old undo same rows = record { undo = rw same rows.undo; sessions = rows.sessions; revisions = rows.revisions }
+rows_by_undo k old undo same rows = record { undo = rw same rows.undo; sessions = rows.sessions; revisions = rows.revisions; paddings = rows.paddings }
 
 -- the team whose moves are kept
 pub kept_team : (k session : ℕ) (before : List Cell) (moves : List Move) (old : Tables) (undo : Stacks (List Move)) (new : Tables) → HasRows k old
@@ -77,9 +85,9 @@ kept_team k session before moves old undo new rows lists counts have =
     let same : length undo.lists ≡ length old.undo.lists = ap (λ (xs : List (List (List Move))). length xs) lists ∙ length-set old.undo.lists k stack in
     let slots = slice_set (slots_of old.sessions k) session (Some (revision_of old k + 1)) in
     counted_own k session mid new (rows_by_undo k old undo same rows) counts
-    ∙ ap (λ (xs : List (List Move)). team_of now (revision_of old k + 1) (entries_of (places_of now) xs) slots)
+    ∙ ap (λ (xs : List (List Move)). team_of now (revision_of old k + 1) (entries_of (places_of now) xs) slots (padding_of old k))
     (ap (λ (xs : List (List (List Move))). slice_index_or xs k []) lists ∙ get_or-set_same old.undo.lists k stack [] rows.undo)
-    ∙ ap (λ (es : List (List (Option Place))). team_of now (revision_of old k + 1) es slots)
+    ∙ ap (λ (es : List (List (Option Place))). team_of now (revision_of old k + 1) es slots (padding_of old k))
     (grow_entries (places_of before) (places_of now) moves (stack_of old.undo k) old.undo.limit have.places)
 
 -- ---- a change of a whole team

@@ -32,28 +32,28 @@ members_listed number (c ∷ cells) = ap (λ (members : List Member). member_of 
 
 -- the same rule is broken by the cell of a number, if there is one
 pub broken_listed : (t : Setting) (cells : List Cell) (own : ℕ) (o : Option Cell) →
-    option_and_then (broken_among t.legalizer t.frame (map (listed_of t.number) cells) own) (option_map (listed_of t.number) o)
+    option_and_then (broken_among t.legalizer t.frame t.padding (map (listed_of t.number) cells) own) (option_map (listed_of t.number) o)
     ≡ option_and_then (λ place. broken_by o t cells own place) (option_and_then (λ c. c.working) o)
 broken_listed t cells own None = refl
 broken_listed t cells own (Some c) =
     let beside : List Member → Option Broken = λ members.
-    option_and_then (λ (p : Place). t.legalizer.first_broken (trial_of t.frame t.number (macro_of t.frame c.mac) p (boxes_beside t.frame members own)))
+    option_and_then (λ (p : Place). t.legalizer.first_broken (trial_of t.frame t.number t.padding (macro_of t.frame c.mac) p (boxes_beside t.frame members own)))
     c.working in
     ap beside (members_listed t.number cells)
 
 found_at : (t : Setting) (cells : List Cell) (own : ℕ) →
-    broken_cell_at t.legalizer t.frame (map (listed_of t.number) cells) own
+    broken_cell_at t.legalizer t.frame t.padding (map (listed_of t.number) cells) own
     ≡ option_map (λ broken. record { own = own; broken = broken }) (broken_where t cells own)
 found_at t cells own =
-    let by : Listed (List ℕ) → Option Broken = broken_among t.legalizer t.frame (map (listed_of t.number) cells) own in
+    let by : Listed (List ℕ) → Option Broken = broken_among t.legalizer t.frame t.padding (map (listed_of t.number) cells) own in
     let numbered : Option Broken → Option BrokenCell = option_map (λ broken. record { own = own; broken = broken }) in
     ap (λ (o : Option (Listed (List ℕ))). numbered (option_and_then by o)) (slice_get-map (listed_of t.number) cells own)
     ∙ ap numbered (broken_listed t cells own (slice_get cells own))
 
 -- the cells of the list that break a rule are the team's
-pub illegal_cells : (t : Setting) (cells : List Cell) → illegal_in t.legalizer t.frame (map (listed_of t.number) cells) ≡ broken_cells t cells
+pub illegal_cells : (t : Setting) (cells : List Cell) → illegal_in t.legalizer t.frame t.padding (map (listed_of t.number) cells) ≡ broken_cells t cells
 illegal_cells t cells =
     let listed = map (listed_of t.number) cells in
-    ap (λ (n : ℕ). filter_map (broken_cell_at t.legalizer t.frame listed) (range_with_len 0 n)) (length-map cells (listed_of t.number))
-    ∙ found_alike (λ (own : ℕ). option_map (λ broken. record { own = own; broken = broken }) (broken_where t cells own)) (broken_cell_at t.legalizer t.frame listed)
+    ap (λ (n : ℕ). filter_map (broken_cell_at t.legalizer t.frame t.padding listed) (range_with_len 0 n)) (length-map cells (listed_of t.number))
+    ∙ found_alike (λ (own : ℕ). option_map (λ broken. record { own = own; broken = broken }) (broken_where t cells own)) (broken_cell_at t.legalizer t.frame t.padding listed)
     (found_at t cells) (range_with_len 0 (length cells))

@@ -23,15 +23,16 @@ no_less : (rooms : List ℕ) → NoLess rooms rooms
 no_less rooms = record { many = refl; each = λ n. omega arith }
 
 pub same_rooms : (old new : Placing) → KeepsRest old new → KeepsRooms old new
-same_rooms old new rest = record { frame = rest.frame; index = rest.index; rooms = rw rest.rooms (no_less old.held.rooms) }
+same_rooms old new rest = record { frame = rest.frame; index = rest.index; site = rest.site; rooms = rw rest.rooms (no_less old.held.rooms) }
 
 pub rooms_stay : (old new : Placing) → new ≡ old → KeepsRooms old new
-rooms_stay old new same = rw same record { frame = refl; index = refl; rooms = no_less old.held.rooms }
+rooms_stay old new same = rw same record { frame = refl; index = refl; site = refl; rooms = no_less old.held.rooms }
 
 pub rooms_through : (a b c : Placing) → KeepsRooms a b → KeepsRooms b c → KeepsRooms a c
 rooms_through a b c ab bc = record {
   frame = bc.frame ∙ ab.frame;
   index = bc.index ∙ ab.index;
+  site = bc.site ∙ ab.site;
   rooms = record { many = bc.rooms.many ∙ ab.rooms.many; each = λ n. let x = ab.rooms.each n in let y = bc.rooms.each n in omega (arith, x, y) };
 }
 
@@ -49,7 +50,7 @@ only_through k a b c ab bc = record {
 
 pub only_grown : (k : ℕ) (old new : Placing) → SameButRooms old new → OnlyMoves k old new
 only_grown k old new grown = record {
-  ground = record { frame = grown.frame; index = grown.index; rooms = grown.rooms };
+  ground = record { frame = grown.frame; index = grown.index; site = grown.site; rooms = grown.rooms };
   same = ap (λ (cs : Cells). map taken_up (cells_of cs k)) grown.cells;
   others = record {
     cells = λ other differ. ap (λ (cs : Cells). cells_of cs other) grown.cells;
@@ -74,7 +75,7 @@ fits_only k old new places only fits =
 
 pub fits_as : (k : ℕ) (old new : Placing) (places : Places) → KeepsRooms old new → SameMacros (cells_of old.cells k) (cells_of new.cells k) → Fits old k places
     → Fits new k places
-fits_as k old new places ground macros fits = last old new k places ground.frame ground.index ground.rooms macros fits
+fits_as k old new places ground macros fits = last old new k places ground.frame ground.index ground.site ground.rooms macros fits
 
 -- entries that stay fit still
 pub entries_as : (k : ℕ) (old new : Tables) → KeepsRooms old.placement new.placement → SameMacros (cells_in k old) (cells_in k new)
@@ -114,6 +115,7 @@ others_stay number tables = record {
   undo = refl;
   sessions = refl;
   revisions = refl;
+  paddings = refl;
   limit = refl;
 }
 
@@ -129,7 +131,7 @@ limit_grown old new is = ap (λ (s : Stacks (List Move)). s.limit) is
 pub grown_with : (k : ℕ) (cells : List Cell) (old new : Tables) → HaveGrown old new → team_with k cells new ≡ team_with k cells old
 grown_with k cells old new grown = go where
   go : team_with k cells new ≡ team_with k cells old
-  go = rw (grown.sessions, grown.revisions)
+  go = rw (grown.sessions, grown.revisions, grown.paddings)
       (ap (λ (lists : List (List (List Move))). team_with k cells (record old { undo = record old.undo { lists = lists } })) (lists_grown old.undo new.undo grown.undo))
 
 pub grown_team : (k : ℕ) (old new : Tables) → HaveGrown old new → own_team k new ≡ own_team k old
@@ -148,16 +150,18 @@ grown_kept k session before now old new grown =
       revision = s.revision + 1;
       entries = take old.undo.limit (places_of before ∷ s.entries);
       slots = slice_set s.slots session (Some (s.revision + 1));
+      padding = s.padding;
     }) (grown_with k before old new grown)
 
 pub others_grown : (k : ℕ) (old new : Tables) → HaveGrown old new → OthersStay k old new
 others_grown k old new grown = record {
   teams = λ other differ. grown_team other old new grown;
   components = ap (λ (cs : Cells). cs.components) grown.placement.cells;
-  ground = record { frame = grown.placement.frame; index = grown.placement.index; rooms = grown.placement.rooms };
+  ground = record { frame = grown.placement.frame; index = grown.placement.index; site = grown.placement.site; rooms = grown.placement.rooms };
   undo = ap (λ (ls : List (List (List Move))). length ls) (lists_grown old.undo new.undo grown.undo);
   sessions = ap (λ ss. length ss) grown.sessions;
   revisions = ap (λ rs. length rs.items) grown.revisions;
+  paddings = rw grown.paddings refl;
   limit = limit_grown old.undo new.undo grown.undo;
 }
 

@@ -31,20 +31,21 @@ the_verdict t cells own place broken (Some c) one sized there verdict =
     one (trial_of_cell t cells own c place) broken (t.legalizer.first_broken (trial_of_cell t cells own c place)) verdict
     (t.legalizer.finds_first_broken (trial_of_cell t cells own c place) (sized_there t.frame cells own c sized there).sized)
 
-pub broken_there : (l : Legalizer) (p : Placing) (id : CellId) (place : Place) (broken : Option Broken) → VerdictIsOne
-    → All (IsSizedCell p.frame) (cells_of p.cells id.team) → IsBrokenAt p id place broken
-    → broken ≡ broken_at (setting l p.frame id.team) (cells_of p.cells id.team) id.own place
-broken_there l p id place broken one sized is =
-    the_verdict (setting l p.frame id.team) (cells_of p.cells id.team) id.own place broken (cell_at p.cells id) one sized refl is
+pub broken_there : (l : Legalizer) (p : Placing) (padding : ℕ) (id : CellId) (place : Place) (broken : Option Broken) → VerdictIsOne
+    → All (IsSizedCell p.frame) (cells_of p.cells id.team) → IsBrokenAt p padding id place broken
+    → broken ≡ broken_at (setting l p.frame id.team padding) (cells_of p.cells id.team) id.own place
+broken_there l p padding id place broken one sized is =
+    the_verdict (setting l p.frame id.team padding) (cells_of p.cells id.team) id.own place broken (cell_at p.cells id) one sized refl is
 
 -- ---- the rules but overlap, which other cells play no part in
 
 abbrev pub first_broken : Rule → Option Broken
 first_broken rule = Some record { rule = rule; other = None }
 
-pub alone_first : (p : Placing) (id : CellId) (place : Place) (rule : Rule) (alone : Option Rule) → alone ≡ Some rule → IsBrokenAlone p id place alone
-    → IsBrokenAt p id place (first_broken rule)
-alone_first p id place rule alone is broken = broken_alone p id place rule (subst (λ (a : Option Rule). IsBrokenAlone p id place a) is broken)
+pub alone_first : (p : Placing) (padding : ℕ) (id : CellId) (place : Place) (rule : Rule) (alone : Option Rule) → alone ≡ Some rule → IsBrokenAlone p id place alone
+    → IsBrokenAt p padding id place (first_broken rule)
+alone_first p padding id place rule alone is broken =
+    broken_alone p padding id place rule (subst (λ (a : Option Rule). IsBrokenAlone p id place a) is broken)
 
 pub alone_moved : (k : ℕ) (old new : Placing) (id : CellId) (place : Place) (alone : Option Rule) → id.team ≡ k → OnlyMoves k old new
     → IsBrokenAlone old id place alone → IsBrokenAlone new id place alone
@@ -60,16 +61,16 @@ row_there (r ∷ rows) zero own place is = omega arith
 row_there (r ∷ rows) (suc k) own place is = let h = row_there rows k own place is in omega (arith, h)
 
 -- such a rule is the first that the cell breaks, wherever the team's cells are
-pub alone_anywhere : (l : Legalizer) (p : Placing) (id : CellId) (place was : Place) (rule : Rule) (now : List Cell) → VerdictIsOne
+pub alone_anywhere : (l : Legalizer) (p : Placing) (padding : ℕ) (id : CellId) (place was : Place) (rule : Rule) (now : List Cell) → VerdictIsOne
     → All (IsSizedCell p.frame) (cells_of p.cells id.team) → working_at (cells_of p.cells id.team) id.own ≡ Some was
     → SameButPlaces (cells_of p.cells id.team) now → IsBrokenAlone p id place (Some rule)
-    → first_broken rule ≡ broken_at (setting l p.frame id.team) now id.own place
-alone_anywhere l p id place was rule now one sized stood same alone =
+    → first_broken rule ≡ broken_at (setting l p.frame id.team padding) now id.own place
+alone_anywhere l p padding id place was rule now one sized stood same alone =
     let old = cells_of p.cells id.team in
     let q : Placing = record p { cells = record p.cells { cells = set p.cells.cells id.team now } } in
     let within : id.team < length p.cells.cells = row_there p.cells.cells id.team id.own was stood in
     let are : cells_of q.cells id.team ≡ now = get_or-set_same p.cells.cells id.team now [] within in
     let macros = macs_same old now same in
     let last = alone_lasts p q id place (Some rule) refl (ap (λ (cs : List Cell). Rattle.std.proofs.Common.map (λ (c : Cell). c.mac) cs) are ∙ macros) alone in
-    broken_there l q id place (first_broken rule) one (rw are (sized_in p.frame old now macros sized)) (broken_alone q id place rule last)
-    ∙ ap (λ (cs : List Cell). broken_at (setting l p.frame id.team) cs id.own place) are
+    broken_there l q padding id place (first_broken rule) one (rw are (sized_in p.frame old now macros sized)) (broken_alone q padding id place rule last)
+    ∙ ap (λ (cs : List Cell). broken_at (setting l p.frame id.team padding) cs id.own place) are

@@ -8,6 +8,7 @@ pub mod Judging
 pub mod Swaps
 pub mod Undoing
 pub mod Unplaced
+pub mod Padding
 pub mod Reverting
 pub mod Committing
 pub mod Sending

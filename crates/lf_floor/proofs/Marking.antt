@@ -34,7 +34,7 @@ legal_trial t cells own c (Some place) sized placed none =
     (t.legalizer.finds_first_broken (trial_of_cell t cells own c place) sized.sized)
 
 told_none : (t : Setting) (cells : List Cell) (verdicts : List (Option Broken)) (own : ℕ) (c : Cell) → slice_get cells own ≡ Some c →
-    AreVerdicts t.legalizer t.frame (map (listed_of t.number) cells) verdicts → slice_get verdicts own ≡ Some None →
+    AreVerdicts t.legalizer t.frame t.padding (map (listed_of t.number) cells) verdicts → slice_get verdicts own ≡ Some None →
     None ≡ option_and_then (λ place. broken_by (Some c) t cells own place) c.working
 told_none t cells verdicts own c there are kept =
     sym (get_or_from_slice_get verdicts own None None kept)
@@ -42,14 +42,14 @@ told_none t cells verdicts own c there are kept =
     ∙ broken_listed t cells own (Some c)
 
 pub judged_stands : (t : Setting) (cells : List Cell) (verdicts : List (Option Broken)) (own : ℕ) → All (IsSizedCell t.frame) cells →
-    AreVerdicts t.legalizer t.frame (map (listed_of t.number) cells) verdicts → IsJudged cells verdicts own →
-    StandsLegal t.frame t.number (map member_of cells) own
+    AreVerdicts t.legalizer t.frame t.padding (map (listed_of t.number) cells) verdicts → IsJudged cells verdicts own →
+    StandsLegal t.frame t.number t.padding (map member_of cells) own
 judged_stands t cells verdicts own all are judged = go (slice_get cells own) refl judged.placed where
-  go : (o : Option Cell) → slice_get cells own ≡ o → IsSome (option_and_then (λ c. c.working) o) → StandsLegal t.frame t.number (map member_of cells) own
+  go : (o : Option Cell) → slice_get cells own ≡ o → IsSome (option_and_then (λ c. c.working) o) → StandsLegal t.frame t.number t.padding (map member_of cells) own
   go None there placed = absurd cc
   go (Some c) there placed = λ m here.
       let same : member_of c ≡ m = some_one (sym (slice_get-map member_of cells own ∙ ap (option_map member_of) there) ∙ here) in
-      subst (λ (x : Member). MatchOption x.place ⊥ (λ p. IsLegalAt (lifted_from t.frame t.number (map member_of cells) own x.mac) p)) same
+      subst (λ (x : Member). MatchOption x.place ⊥ (λ p. IsLegalAt (lifted_from t.frame t.number t.padding (map member_of cells) own x.mac) p)) same
       (legal_trial t cells own c c.working (sized_there t.frame cells own c all there) placed (told_none t cells verdicts own c there are judged.kept))
 
 -- ---- marks, one after the other
@@ -63,12 +63,12 @@ get_end (z ∷ xs) x y (suc k) e = elim (get_end xs x y k e) [
   | inr last ↦ inr (ap suc last.0, last.1)
 ]
 
-pub one_more_mark : (f : Frame) (number own : ℕ) (cells : List Cell) (old new : List Bool) (mark : Bool) → new ≡ old ++ mark ∷ [] → length old ≡ own →
-    (mark ≡ true → StandsLegal f number (map member_of cells) own) → AreMarked f number cells old → AreMarked f number cells new
-one_more_mark f number own cells old new mark is long stands are other marked =
+pub one_more_mark : (f : Frame) (number padding own : ℕ) (cells : List Cell) (old new : List Bool) (mark : Bool) → new ≡ old ++ mark ∷ [] → length old ≡ own →
+    (mark ≡ true → StandsLegal f number padding (map member_of cells) own) → AreMarked f number padding cells old → AreMarked f number padding cells new
+one_more_mark f number padding own cells old new mark is long stands are other marked =
     elim (get_end old mark true other (subst (λ (ms : List Bool). slice_get ms other ≡ Some true) is marked)) [
       | inl before ↦ are other before
-      | inr last ↦ subst (λ (k : ℕ). StandsLegal f number (map member_of cells) k) (sym (last.0 ∙ long)) (stands last.1)
+      | inr last ↦ subst (λ (k : ℕ). StandsLegal f number padding (map member_of cells) k) (sym (last.0 ∙ long)) (stands last.1)
     ]
 
 length_end : (xs : List Bool) (x : Bool) → length (xs ++ x ∷ []) ≡ length xs + 1
@@ -87,7 +87,7 @@ no_rule t cells own c place one sized legal =
     (t.legalizer.finds_first_broken (trial_of_cell t cells own c place) sized.sized) legal
 
 pub legal_stays : (t : Setting) (cells : List Cell) (own : ℕ) → VerdictIsOne → All (IsSizedCell t.frame) cells →
-    StandsLegal t.frame t.number (map member_of cells) own → None ≡ target_at t cells own
+    StandsLegal t.frame t.number t.padding (map member_of cells) own → None ≡ target_at t cells own
 legal_stays t cells own one all stands = go (slice_get cells own) refl where
   by : (c : Cell) (o : Option Place) → IsSizedCell t.frame c → MatchOption (option_map spot_of o) ⊥ (λ p. IsLegalAt (lifted_cell t cells own c) p) →
       None ≡ target_of t.legalizer (lifted_cell t cells own c) (option_map spot_of o)
@@ -103,10 +103,10 @@ legal_stays t cells own one all stands = go (slice_get cells own) refl where
 
 -- marked cells stay legal while a cell is tidied
 pub marked_through : (t : Setting) (own moved count : ℕ) (old new : List Cell) (marks : List Bool) → TidyKeepsLegal → All (IsSizedCell t.frame) old →
-    tidy_cell t.legalizer t.frame t.number (Going (map member_of old) moved) own ≡ Going (map member_of new) count →
-    AreMarked t.frame t.number old marks → AreMarked t.frame t.number new marks
+    tidy_cell t.legalizer t.frame t.number t.padding (Going (map member_of old) moved) own ≡ Going (map member_of new) count →
+    AreMarked t.frame t.number t.padding old marks → AreMarked t.frame t.number t.padding new marks
 marked_through t own moved count old new marks keeps all is are other marked =
-    keeps t.legalizer t.frame t.number (map member_of old) (map member_of new) moved count own other sized is (are other marked)
+    keeps t.legalizer t.frame t.number t.padding (map member_of old) (map member_of new) moved count own other sized is (are other marked)
   where
     sized : All (λ m. IsSized t.frame (macro_of t.frame m.mac)) (map member_of old)
     sized = All-map (λ m. IsSized t.frame (macro_of t.frame m.mac)) member_of old (λ i d within. (all i d within).sized)

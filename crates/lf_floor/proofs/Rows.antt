@@ -26,7 +26,7 @@ use Rattle.lf_teams.specs.Designs.{opening, opening_team, opening_teams}
 use Rattle.lf_teams.proofs.Loading.{loaded_committed, loaded_places}
 use Rattle.lf_teams.proofs.Openings.{opened_at, opening_whole}
 use Rattle.lf_floor.specs.declared.tables.Tables.{Tables}
-use Rattle.lf_floor.specs.Tables.{AreOpening, AreTables, EntriesFit, IsServed, OthersStay, cells_in, floor_in, frame_of, own_team, revision_of, team_with, teams_in}
+use Rattle.lf_floor.specs.Tables.{AreOpening, AreTables, EntriesFit, IsServed, OthersStay, cells_in, floor_in, frame_of, own_team, padding_of, revision_of, sites_in, team_with, teams_in}
 use Rattle.lf_floor.proofs.Fitting.{entries_stay}
 
 -- ---- one team among all
@@ -82,7 +82,7 @@ cells_seen {Y} F tables view team number is named within =
 -- the team of that number is served
 pub served : (tables : Tables) (number : ℕ) → AreTables tables → number < length (frame_of tables).teams + 1 → IsServed number tables
 served tables number are within = record {
-  rows = record { undo = rw are.undo within; sessions = rw are.sessions within; revisions = rw are.revisions within };
+  rows = record { undo = rw are.undo within; sessions = rw are.sessions within; revisions = rw are.revisions within; paddings = rw are.paddings within };
   limit = are.limit;
   team = each_team (λ t. IsTeamOf (frame_of tables) t) tables number are.teams (rw are.revisions within);
   fit = are.fit number;
@@ -113,6 +113,7 @@ tables_still old new k others are own fit =
       undo = others.undo ∙ are.undo ∙ many;
       sessions = others.sessions ∙ are.sessions ∙ many;
       revisions = others.revisions ∙ are.revisions ∙ many;
+      paddings = others.paddings ∙ are.paddings ∙ many;
       limit = others.limit ∙ are.limit ∙ ap (λ (f : Frame). f.limits.undo) (sym others.ground.frame);
       teams =
           subst (λ (f : Frame). All (λ t. IsTeamOf f t) (teams_in new)) (sym others.ground.frame)
@@ -135,6 +136,9 @@ module _ (design : Loaded) (tables : Tables) (opens : AreOpening design tables) 
   revisions_are : length tables.revisions.items ≡ count
   revisions_are = ap (λ (xs : List ℕ). length xs) opens.revisions ∙ length-replicate count 0
 
+  paddings_are : length (sites_in tables) ≡ count
+  paddings_are = ap (λ (xs : List ℕ). length xs) opens.paddings ∙ length-replicate count 0
+
   opened_team : (k : ℕ) → k < count → own_team k tables ≡ opening_team design k
   opened_team k within =
       let cells : cells_in k tables ≡ own_cells k design.cells =
@@ -145,10 +149,12 @@ module _ (design : Loaded) (tables : Tables) (opens : AreOpening design tables) 
       let slots : slots_of tables.sessions k ≡ replicate design.frame.limits.sessions None =
       ap (λ (xs : List (List (Option ℕ))). slice_index_or xs k []) opens.sessions
       ∙ get_or-replicate count k (replicate design.frame.limits.sessions None) [] within in
+      let padding : padding_of tables k ≡ 0 = ap (λ (xs : List ℕ). slice_index_or xs k 0) opens.paddings ∙ get_or-replicate count k 0 0 within in
       ap (λ (cs : List Cell). team_with k cs tables) cells
-      ∙ ap (λ (n : ℕ). record { cells = own_cells k design.cells; revision = n; entries = entries_of (places_of (own_cells k design.cells)) (stack_of tables.undo k); slots = slots_of tables.sessions k }) revision
-      ∙ ap (λ (es : List (List Move)). record { cells = own_cells k design.cells; revision = 0; entries = entries_of (places_of (own_cells k design.cells)) es; slots = slots_of tables.sessions k }) stack
-      ∙ ap (λ (ss : List (Option ℕ)). record { cells = own_cells k design.cells; revision = 0; entries = []; slots = ss }) slots
+      ∙ ap (λ (n : ℕ). record { cells = own_cells k design.cells; revision = n; entries = entries_of (places_of (own_cells k design.cells)) (stack_of tables.undo k); slots = slots_of tables.sessions k; padding = padding_of tables k }) revision
+      ∙ ap (λ (es : List (List Move)). record { cells = own_cells k design.cells; revision = 0; entries = entries_of (places_of (own_cells k design.cells)) es; slots = slots_of tables.sessions k; padding = padding_of tables k }) stack
+      ∙ ap (λ (ss : List (Option ℕ)). record { cells = own_cells k design.cells; revision = 0; entries = []; slots = ss; padding = padding_of tables k }) slots
+      ∙ ap (λ (n : ℕ). record { cells = own_cells k design.cells; revision = 0; entries = []; slots = replicate design.frame.limits.sessions None; padding = n }) padding
 
   -- the tables that are built of a design give its opening teams
   pub opened_teams : teams_in tables ≡ opening_teams design 0 count
@@ -177,6 +183,7 @@ module _ (design : Loaded) (tables : Tables) (opens : AreOpening design tables) 
     sessions =
         ap (λ (xs : List (List (Option ℕ))). length xs) opens.sessions ∙ length-replicate count (replicate design.frame.limits.sessions None) ∙ teams_are;
     revisions = revisions_are ∙ teams_are;
+    paddings = paddings_are ∙ teams_are;
     limit = opens.limit ∙ ap (λ (f : Frame). f.limits.undo) (sym opens.frame);
     teams =
         rw opens.frame (subst (λ (ts : List TeamState). All (λ t. IsTeamOf design.frame t) ts) (sym opened_teams) (opening_whole design).1);

@@ -32,7 +32,7 @@ none_found None e = refl
 none_found (Some q) e = absurd cc
 
 pub sought : (t : Setting) (cells : List Cell) (own : ℕ) (target : Point) (found : Option Place)
-    → option_map spot_of found ≡ best_of t.legalizer t.frame t.number cells own target → best_at t cells own target ≡ found
+    → option_map spot_of found ≡ best_of t.legalizer t.frame t.number t.padding cells own target → best_at t cells own target ≡ found
 sought t cells own target found is = go (slice_get cells own) is where
   go : (o : Option Cell) → option_map spot_of found ≡ option_and_then (λ c. t.legalizer.best_place (lifted_cell t cells own c) target) o
       → (do

@@ -49,7 +49,7 @@ target_placed t cells own s place broken stands placed is = go (slice_get cells 
       rw at (ap (option_map (λ (x : Broken). point_of (spot_of place))) b)
 
 abbrev tidy_one : Setting → List Cell → ℕ → ℕ → Tidied
-tidy_one t cells own moved = tidy_cell t.legalizer t.frame t.number (Going (map member_of cells) moved) own
+tidy_one t cells own moved = tidy_cell t.legalizer t.frame t.number t.padding (Going (map member_of cells) moved) own
 
 abbrev one_by : Option Cell → Setting → List Cell → ℕ → ℕ → Tidied
 one_by None t cells own moved = Going (map member_of cells) moved
@@ -89,7 +89,7 @@ sent_by None cells own moved = Stuck own
 sent_by (Some place) cells own n = Going (map member_of (moved cells own (Some place))) (n + 1)
 
 pub one_sent : (t : Setting) (cells : List Cell) (own moved : ℕ) (target : Point) (found : Option Place) → Some target ≡ target_at t cells own
-    → option_map spot_of found ≡ best_of t.legalizer t.frame t.number cells own target → tidy_one t cells own moved ≡ sent_by found cells own moved
+    → option_map spot_of found ≡ best_of t.legalizer t.frame t.number t.padding cells own target → tidy_one t cells own moved ≡ sent_by found cells own moved
 one_sent t cells own n target found aimed best = tidy_one_is t cells own n ∙ go (slice_get cells own) refl aimed best where
   by : (c : Cell) (o : Option Place) → slice_get cells own ≡ Some c → sent_to (option_map spot_of o) (map member_of cells) n own c.mac ≡ sent_by o cells own n
   by c None there = refl
@@ -123,33 +123,33 @@ id_at_turn number own first now all ids id all_are are same within is =
     ids_read number own now ids id are (still_within number own first now all ids all_are are same within) is
 
 -- one cell less to go
-pub one_less : (l : Legalizer) (f : Frame) (team own last : ℕ) (t now : Tidied) → own < last → tidy_cell l f team t own ≡ now
-    → tidied_from l f team own (last - own) t ≡ tidied_from l f team (own + 1) (last - (own + 1)) now
-one_less l f team own last t now within is =
+pub one_less : (l : Legalizer) (f : Frame) (team padding own last : ℕ) (t now : Tidied) → own < last → tidy_cell l f team padding t own ≡ now
+    → tidied_from l f team padding own (last - own) t ≡ tidied_from l f team padding (own + 1) (last - (own + 1)) now
+one_less l f team padding own last t now within is =
     let left : last - own ≡ suc (last - (own + 1)) = omega (arith, within) in
-    rw left (ap (λ (x : Tidied). tidied_from l f team (own + 1) (last - (own + 1)) x) is)
+    rw left (ap (λ (x : Tidied). tidied_from l f team padding (own + 1) (last - (own + 1)) x) is)
 
-pub stuck_stays : (l : Legalizer) (f : Frame) (team own count stuck : ℕ) → tidied_from l f team own count (Stuck stuck) ≡ Stuck stuck
-stuck_stays l f team own zero stuck = refl
-stuck_stays l f team own (suc count) stuck = stuck_stays l f team (own + 1) count stuck
+pub stuck_stays : (l : Legalizer) (f : Frame) (team padding own count stuck : ℕ) → tidied_from l f team padding own count (Stuck stuck) ≡ Stuck stuck
+stuck_stays l f team padding own zero stuck = refl
+stuck_stays l f team padding own (suc count) stuck = stuck_stays l f team padding (own + 1) count stuck
 
-pub none_left : (l : Legalizer) (f : Frame) (team own last : ℕ) (t : Tidied) → last ≤ own → tidied_from l f team own (last - own) t ≡ t
-none_left l f team own last t past = let left : last - own ≡ 0 = omega (arith, past) in rw left refl
+pub none_left : (l : Legalizer) (f : Frame) (team padding own last : ℕ) (t : Tidied) → last ≤ own → tidied_from l f team padding own (last - own) t ≡ t
+none_left l f team padding own last t past = let left : last - own ≡ 0 = omega (arith, past) in rw left refl
 
-pub all_to_go : (l : Legalizer) (f : Frame) (team last : ℕ) (cells : List Cell) → last ≡ length cells
-    → tidied_from l f team 0 (last - 0) (Going (map member_of cells) 0) ≡ tidied l f team (map member_of cells)
+pub all_to_go : (l : Legalizer) (f : Frame) (team padding last : ℕ) (cells : List Cell) → last ≡ length cells
+    → tidied_from l f team padding 0 (last - 0) (Going (map member_of cells) 0) ≡ tidied l f team padding (map member_of cells)
 unfolding tidied
-all_to_go l f team last cells is =
+all_to_go l f team padding last cells is =
     let count : last - 0 ≡ length (map member_of cells) = omega (arith, is, length-map cells member_of) in
     rw count refl
 
 -- tidying goes on after a cell as it would have gone on from it
 pub on_going : (t : Setting) (own last moved : ℕ) (first old new : List Cell) (sent : Sent) (now : Tidied) → own < last → Sends t own old new sent
     → sent_as sent new moved own ≡ now
-    → tidied_from t.legalizer t.frame t.number own (last - own) (Going (map member_of old) moved) ≡ tidied t.legalizer t.frame t.number (map member_of first)
-    → tidied_from t.legalizer t.frame t.number (own + 1) (last - (own + 1)) now ≡ tidied t.legalizer t.frame t.number (map member_of first)
+    → tidied_from t.legalizer t.frame t.number t.padding own (last - own) (Going (map member_of old) moved) ≡ tidied t.legalizer t.frame t.number t.padding (map member_of first)
+    → tidied_from t.legalizer t.frame t.number t.padding (own + 1) (last - (own + 1)) now ≡ tidied t.legalizer t.frame t.number t.padding (map member_of first)
 on_going t own last moved first old new sent now within sends is going =
-    sym (one_less t.legalizer t.frame t.number own last (Going (map member_of old) moved) now within (sends moved ∙ is)) ∙ going
+    sym (one_less t.legalizer t.frame t.number t.padding own last (Going (map member_of old) moved) now within (sends moved ∙ is)) ∙ going
 
 -- ---- the team afterwards
 
@@ -177,7 +177,7 @@ tidied_stuck t session s new own is = ap (λ (x : Tidied). tidied_by x t session
 
 pub tidied_short : (t : Setting) (session : ℕ) (s : TeamState) → may_be_short (tidied_team t session s).reply ≡ true
 unfolding tidied_team
-tidied_short t session s = go (tidied t.legalizer t.frame t.number (map member_of s.cells)) where
+tidied_short t session s = go (tidied t.legalizer t.frame t.number t.padding (map member_of s.cells)) where
   go : (x : Tidied) → may_be_short (tidied_by x t session s).reply ≡ true
   go (Going members count) = refl
   go (Stuck own) = refl

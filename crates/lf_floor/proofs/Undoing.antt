@@ -17,7 +17,7 @@ use Rattle.lf_teams.specs.Outcomes.{Outcome, Reaches, changed, places_of}
 use Rattle.lf_teams.specs.Changes.{restored, undone, undone_by}
 use Rattle.lf_floor.specs.declared.tables.Tables.{Tables}
 use Rattle.lf_placement.specs.Placings.{Fits, HaveMoved, KeepsRest, OtherCellsStay, Placing, SameButPlaces, taken_up}
-use Rattle.lf_floor.specs.Tables.{Counts, EntriesFit, HasRows, OnlyMoves, cells_in, own_team, revision_of}
+use Rattle.lf_floor.specs.Tables.{Counts, EntriesFit, HasRows, OnlyMoves, cells_in, own_team, padding_of, revision_of}
 use Rattle.lf_floor.proofs.Ends.{counted_own, team_of}
 use Rattle.lf_floor.proofs.Fitting.{fits_only, only_same}
 
@@ -59,7 +59,7 @@ undone_reaches k session revision moves old new undo placing rows front lists ba
     let mid : Tables = record old { placement = placing; undo = undo } in
     let slots = slice_set (slots_of old.sessions k) session (Some (revision_of old k + 1)) in
     let same : length undo.lists ≡ length old.undo.lists = ap (λ (xs : List (List (List Move))). length xs) lists ∙ length-set old.undo.lists k (drop 1 stack) in
-    let there : HasRows k mid = record { undo = rw same rows.undo; sessions = rows.sessions; revisions = rows.revisions } in
+    let there : HasRows k mid = record { undo = rw same rows.undo; sessions = rows.sessions; revisions = rows.revisions; paddings = rows.paddings } in
     let entries : entries_of (places_of before) (drop 1 stack) ≡ entries_of (taken_back moves (places_of now)) (drop 1 stack) =
     ap (λ (ps : List (Option Place)). entries_of ps (drop 1 stack)) (places_before moves now) in
     let outcome : undone_by s.entries session s ≡ changed session before (entries_of (taken_back moves (places_of now)) (drop 1 stack)) s =
@@ -70,9 +70,9 @@ undone_reaches k session revision moves old new undo placing rows front lists ba
       reply_is = ap Revision told ∙ ap (λ (o : Outcome). o.reply) (sym outcome);
       team_is =
           counted_own k session mid new there counts
-          ∙ ap (λ (cs : List Cell). team_of cs (revision_of old k + 1) (entries_of (places_of cs) (stack_of undo k)) slots) back
-          ∙ ap (λ (xs : List (List Move)). team_of before (revision_of old k + 1) (entries_of (places_of before) xs) slots) left
-          ∙ ap (λ (es : List (List (Option Place))). team_of before (revision_of old k + 1) es slots) entries
+          ∙ ap (λ (cs : List Cell). team_of cs (revision_of old k + 1) (entries_of (places_of cs) (stack_of undo k)) slots (padding_of old k)) back
+          ∙ ap (λ (xs : List (List Move)). team_of before (revision_of old k + 1) (entries_of (places_of before) xs) slots (padding_of old k)) left
+          ∙ ap (λ (es : List (List (Option Place))). team_of before (revision_of old k + 1) es slots (padding_of old k)) entries
           ∙ ap (λ (o : Outcome). o.team) (sym outcome);
     }
 

@@ -8,8 +8,8 @@ use Rattle.lf_cells.specs.Cells.{working_at}
 use Rattle.lf_legalize.specs.Members.{member_of}
 
 -- each marked cell of the team is placed, and team-legal where it stands
-abbrev pub AreMarked : Frame → ℕ → List Cell → List Bool → Type 0
-AreMarked f number cells marks = (own : ℕ) → slice_get marks own ≡ Some true → StandsLegal f number (map member_of cells) own
+abbrev pub AreMarked : Frame → ℕ → ℕ → List Cell → List Bool → Type 0
+AreMarked f number padding cells marks = (own : ℕ) → slice_get marks own ≡ Some true → StandsLegal f number padding (map member_of cells) own
 
 -- the cell of that position is placed, and by its verdict it breaks no rule
 pub record IsJudged (cells : List Cell) (verdicts : List (Option Broken)) (own : ℕ) : Type 0 where

@@ -1,8 +1,10 @@
--- The teams of a floor, of which cells, undo entries, session slots and revisions stand in one table of each kind for all teams.
+-- The teams of a floor, of which cells, undo entries, session slots, revisions and paddings stand in one table of each kind for all
+-- teams.
 use Rattle.std.specs.Prelude.{◌≡◌, ◌≢◌, ℕ, ◌+◌, ◌<◌, All, List, [], length, map, replicate, take, ◌∷◌, None, Some, slice_index_or, slice_set}
 use Rattle.std.specs.List.{range_with_len}
 use Rattle.lf_floorplan.specs.declared.frame.Frame.{Frame}
 use Rattle.lf_floorplan.specs.declared.loaded.Loaded.{Loaded}
+use Rattle.lf_rules.specs.declared.padding.Padding.{Padding}
 use Rattle.lf_rules.specs.Legalizer.{Legalizer}
 use Rattle.lf_cells.specs.declared.cell.Cell.{Cell}
 use Rattle.lf_cells.specs.Cells.{cells_of}
@@ -33,6 +35,14 @@ cells_in number tables = cells_of tables.placement.cells number
 abbrev pub revision_of : Tables → ℕ → ℕ
 revision_of tables number = slice_index_or tables.revisions.items number 0
 
+-- the padding of each team, in core sites
+abbrev pub sites_in : Tables → List ℕ
+sites_in tables = map (λ p. p.sites) tables.paddings.items
+
+-- the padding of the team of that number
+abbrev pub padding_of : Tables → ℕ → ℕ
+padding_of tables number = slice_index_or (sites_in tables) number 0
+
 -- the team of that number, with these cells; an undo entry gives the places before its moves, the newest taken back first
 abbrev pub team_with : ℕ → List Cell → Tables → TeamState
 team_with number cells tables =
@@ -41,6 +51,7 @@ team_with number cells tables =
       revision = revision_of tables number;
       entries = entries_of (places_of cells) (stack_of tables.undo number);
       slots = slots_of tables.sessions number;
+      padding = padding_of tables number;
     }
 
 -- the team of that number, with its cells in the table
@@ -53,7 +64,7 @@ team_in around tables = own_team around.number tables
 
 -- the setting that a team's surroundings are, with a legalizer and the frame of the cells
 abbrev pub setting_at : {S : Type 0} → Legalizer → Surroundings S → Placing → Setting
-setting_at l around placing = setting l placing.frame around.number
+setting_at l around placing = setting l placing.frame around.number around.padding.sites
 
 -- so they are with the tables
 abbrev pub setting_in : {S : Type 0} → Legalizer → Surroundings S → Tables → Setting
@@ -74,6 +85,7 @@ pub record HasRows (number : ℕ) (tables : Tables) : Type 0 where
   pub undo : number < length tables.undo.lists
   pub sessions : number < length tables.sessions
   pub revisions : number < length tables.revisions.items
+  pub paddings : number < length (sites_in tables)
 
 -- the team's cells fit at the places before each of its undo entries
 abbrev pub EntriesFit : ℕ → Tables → Type 0
@@ -86,6 +98,7 @@ pub record AreTables (tables : Tables) : Type 0 where
   pub undo : length tables.undo.lists ≡ length (frame_of tables).teams + 1
   pub sessions : length tables.sessions ≡ length (frame_of tables).teams + 1
   pub revisions : length tables.revisions.items ≡ length (frame_of tables).teams + 1
+  pub paddings : length (sites_in tables) ≡ length (frame_of tables).teams + 1
   pub limit : tables.undo.limit ≡ (frame_of tables).limits.undo
   pub teams : All (λ t. IsTeamOf (frame_of tables) t) (teams_in tables)
   pub fit : (number : ℕ) → EntriesFit number tables
@@ -112,6 +125,7 @@ pub record CanChange (number session : ℕ) (tables : Tables) : Type 0 where
 pub record KeepsRooms (old new : Placing) : Type 0 where
   pub frame : new.frame ≡ old.frame
   pub index : new.held.index ≡ old.held.index
+  pub site : new.held.site ≡ old.held.site
   pub rooms : NoLess old.held.rooms new.held.rooms
 
 -- so it is, and but for the rooms only working places of that team's cells differ
@@ -128,6 +142,7 @@ pub record OthersStay (number : ℕ) (old new : Tables) : Type 0 where
   pub undo : length new.undo.lists ≡ length old.undo.lists
   pub sessions : length new.sessions ≡ length old.sessions
   pub revisions : length new.revisions.items ≡ length old.revisions.items
+  pub paddings : length (sites_in new) ≡ length (sites_in old)
   pub limit : new.undo.limit ≡ old.undo.limit
 
 -- there may be more room, and nothing else differs
@@ -136,6 +151,7 @@ pub record HaveGrown (old new : Tables) : Type 0 where
   pub undo : new.undo ≡ record old.undo { room = new.undo.room }
   pub sessions : new.sessions ≡ old.sessions
   pub revisions : new.revisions ≡ old.revisions
+  pub paddings : new.paddings ≡ old.paddings
 
 -- one more change of the team is counted, which this session has seen
 pub record Counts (number session : ℕ) (old new : Tables) : Type 0 where
@@ -143,6 +159,12 @@ pub record Counts (number session : ℕ) (old new : Tables) : Type 0 where
   pub undo : new.undo ≡ old.undo
   pub sessions : new.sessions ≡ with_slot old.sessions number session (Some (revision_of old number + 1))
   pub revisions : new.revisions.items ≡ slice_set old.revisions.items number (revision_of old number + 1)
+  pub paddings : new.paddings ≡ old.paddings
+
+-- the team has this padding, and nothing else differs
+pub record Pads (number : ℕ) (padding : Padding) (old new : Tables) : Type 0 where
+  pub rest : new ≡ record old { paddings = new.paddings }
+  pub paddings : sites_in new ≡ slice_set (sites_in old) number padding.sites
 
 -- the team after a change that the session makes, from the cells before to those now: the places before are its newest undo entry
 abbrev pub kept : ℕ → ℕ → List Cell → List Cell → Tables → TeamState
@@ -160,3 +182,4 @@ pub record AreOpening (design : Loaded) (tables : Tables) : Type 0 where
   pub limit : tables.undo.limit ≡ design.frame.limits.undo
   pub sessions : tables.sessions ≡ replicate (length design.frame.teams + 1) (replicate design.frame.limits.sessions None)
   pub revisions : tables.revisions.items ≡ replicate (length design.frame.teams + 1) 0
+  pub paddings : sites_in tables ≡ replicate (length design.frame.teams + 1) 0

@@ -27,7 +27,7 @@ sent_as Nowhere cells moved own = Stuck own
 -- tidying the cell of that position made these cells of the old ones
 abbrev pub Sends : Setting → ℕ → List Cell → List Cell → Sent → Type 0
 Sends t own old new sent =
-    (moved : ℕ) → tidy_cell t.legalizer t.frame t.number (Going (map member_of old) moved) own ≡ sent_as sent new moved own
+    (moved : ℕ) → tidy_cell t.legalizer t.frame t.number t.padding (Going (map member_of old) moved) own ≡ sent_as sent new moved own
 
 -- what became of all cells
 abbrev pub tidied_as : Tidy → List Cell → Tidied
@@ -36,4 +36,4 @@ tidied_as (Stopped own) cells = Stuck own
 
 -- tidying made these cells of the old ones
 abbrev pub Tidies : Setting → List Cell → List Cell → Tidy → Type 0
-Tidies t old new tidy = tidied t.legalizer t.frame t.number (map member_of old) ≡ tidied_as tidy new
+Tidies t old new tidy = tidied t.legalizer t.frame t.number t.padding (map member_of old) ≡ tidied_as tidy new

@@ -15,19 +15,24 @@ use lf_cells::{CellId, CellTable};
 use lf_floorplan::Place;
 use lf_legalize::Seeker;
 use lf_placement::Placement;
-use lf_rules::{Broken, verdict_is_one};
+use lf_rules::{Broken, Padding, verdict_is_one};
 use lf_units::Point;
 use std::alloc::AllocError;
 
-/// The first rule that the team's cell of that id breaks at the place, beside the others of its team;
-/// none where there is no such cell. It allocates nothing.
-pub(crate) fn broken_at(placement: &Placement, id: CellId, place: &Place) -> Option<Broken>
+/// The first rule that the team's cell of that id breaks at the place, beside the others of its team,
+/// which has this padding; none where there is no such cell. It allocates nothing.
+pub(crate) fn broken_at(
+    placement: &Placement,
+    id: CellId,
+    place: &Place,
+    padding: Padding,
+) -> Option<Broken>
     ensures { (l : Legalizer) → result
-        ≡ broken_at (setting l placement.now.frame id.team) (cells_of placement.now.cells id.team) id.own place.now }
+        ≡ broken_at (setting l placement.now.frame id.team padding.sites) (cells_of placement.now.cells id.team) id.own place.now }
 {
     verdict_is_one();
     placement.cells_are_sized();
-    placement.first_broken(id, place)
+    placement.first_broken(id, place, padding)
 }
 
 /// The best place of the team's cell of that id for a target; none if it has none.
@@ -43,9 +48,9 @@ pub(crate) fn best_place<S: Seeker>(
     ensures best { (l : Legalizer) → IfOk result (λ found. found
         ≡ best_at (setting_at l around.now placement.now) (cells_of placement.now.cells around.now.number) id.own target.now) }
     ensures spot { (l : Legalizer) → IfOk result (λ found. option_map spot_of found
-        ≡ best_of l placement.now.frame around.now.number (cells_of placement.now.cells around.now.number) id.own target.now) }
+        ≡ best_of l placement.now.frame around.now.number around.now.padding.sites (cells_of placement.now.cells around.now.number) id.own target.now) }
 {
-    placement.best_place(around.alloc, around.seeker, id, target)
+    placement.best_place(around.alloc, around.seeker, id, target, around.padding)
 }
 
 /// The position of the team's first unplaced cell, in loading order, found without allocating; none

@@ -47,6 +47,7 @@ impl Tables {
             Change::Undo => Ok(self.undo(around.number, session)),
             Change::Commit => self.commit(around, session),
             Change::Revert => self.revert(around, session),
+            Change::Pad { padding } => Ok(self.pad(around.number, session, *padding)),
         }
     }
 
@@ -73,7 +74,7 @@ impl Tables {
         let Some(id) = self.cell_named(around.number, name) else {
             return Ok(Reply::Refused(Refusal::NoCell));
         };
-        if let Some(broken) = broken_at(&self.placement, id, place) {
+        if let Some(broken) = broken_at(&self.placement, id, place, around.padding) {
             return Ok(Reply::Refused(Refusal::Illegal {
                 rule: broken.rule,
                 cell: id.own,

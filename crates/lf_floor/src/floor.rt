@@ -90,24 +90,32 @@ fn fence_named(frame: &Frame, name: &[u8]) -> Option<usize>
         .position(|team| team.name.is(name))
 }
 
-/// Answers an order to the team of these surroundings, unless an allocation fails.
+/// Answers an order to the team of that number, unless an allocation fails.
 fn serve_at<S: Seeker>(
-    around: &Surroundings<'_, S>,
+    alloc: Global,
+    seeker: &S,
+    number: usize,
     tables: &mut Tables,
     order: &Order<&[u8]>,
 ) -> Result<Reply, AllocError>
-    requires within { around.now.number < length (frame_of tables.old).teams + 1 }
+    requires within { number < length (frame_of tables.old).teams + 1 }
     requires tables { AreTables tables.old }
     ensures ok { (l : Legalizer) → IfOk result (λ reply. Gives
-        (answer_at (Some around.now.number) l (floor_in tables.old) (order_of order.now)) reply (floor_in tables.new)) }
+        (answer_at (Some number) l (floor_in tables.old) (order_of order.now)) reply (floor_in tables.new)) }
     ensures err { (l : Legalizer) → OnErr result (StaysShort
-        (answer_at (Some around.now.number) l (floor_in tables.old) (order_of order.now)) (floor_in tables.old) (floor_in tables.new)) }
+        (answer_at (Some number) l (floor_in tables.old) (order_of order.now)) (floor_in tables.old) (floor_in tables.new)) }
     ensures takes { OnErr result (takes_memory (order_of order.now) ≡ true) }
     ensures frame { frame_of tables.new ≡ frame_of tables.old }
     ensures tables { AreTables tables.new }
 {
     legalizer_is_there();
-    tables.serve(around, order)
+    let around = Surroundings {
+        alloc,
+        seeker,
+        number,
+        padding: tables.padding(number),
+    };
+    tables.serve(&around, order)
 }
 
 /// Appends a reply, if there is room.
@@ -194,12 +202,7 @@ impl<S: Seeker + Drop> Floor<S> {
                 let Some(number) = team_named(self.tables.placement.frame(), team) else {
                     return Ok(Reply::Refused(Refusal::NoTeam));
                 };
-                let around = Surroundings {
-                    alloc: self.alloc,
-                    seeker: &self.seeker,
-                    number,
-                };
-                serve_at(&around, &mut self.tables, order)
+                serve_at(self.alloc, &self.seeker, number, &mut self.tables, order)
             }
         }
     }
@@ -209,7 +212,7 @@ impl<S: Seeker + Drop> Floor<S> {
     ///
     /// `NoTeam` comes before any refusal of a team. `OutOfMemory` only replaces the reply to an accepted
     /// change, a broken rule, a best place, the lack of one, a report or a DEF text, and never that to
-    /// an undo; the floor is then unchanged. A refusal leaves the whole floor unchanged; after an
+    /// an undo or a pad; the floor is then unchanged. A refusal leaves the whole floor unchanged; after an
     /// accepted place or legalize the cell is team-legal, after
     /// a swap both cells are, and after a tidy or a commit every cell of the team. A committed design
     /// that is fully legal stays so after any command.

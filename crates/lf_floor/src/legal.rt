@@ -58,11 +58,16 @@ pub(crate) fn report_text<S>(
 ) -> Result<Text, AllocError>
     requires team { IsTeamOf (frame_of tables.now) (team_in around.now tables.now) }
     ensures { IfOk result (λ text. (l : Legalizer) → text ≡ report_text
-        (report_of l (frame_of tables.now) (map (listed_of around.now.number) (cells_in around.now.number tables.now)))) }
+        (report_of l (frame_of tables.now) around.now.padding.sites (map (listed_of around.now.number) (cells_in around.now.number tables.now)))) }
 {
     legalizer_is_there();
     let listed = listed_cells(around.alloc, around.number, tables.placement.cells())?;
-    let verdicts = verdicts_on(around.alloc, &tables.placement.plan(), &listed)?;
+    let verdicts = verdicts_on(
+        around.alloc,
+        &tables.placement.plan(),
+        &listed,
+        around.padding,
+    )?;
     let report = report_by_verdicts(around.alloc, &listed, &verdicts)?;
     report_json(around.alloc, &report)
 }
@@ -78,10 +83,15 @@ fn team_verdicts<S>(
     requires team { IsTeamOf (frame_of tables.now) (team_in around.now tables.now) }
     ensures count { IfOk result (λ verdicts. length verdicts.items ≡ length (cells_in around.now.number tables.now)) }
     ensures each { (l : Legalizer) → IfOk result (λ verdicts.
-        AreVerdicts l (frame_of tables.now) (map (listed_of around.now.number) (cells_in around.now.number tables.now)) verdicts.items) }
+        AreVerdicts l (frame_of tables.now) around.now.padding.sites (map (listed_of around.now.number) (cells_in around.now.number tables.now)) verdicts.items) }
 {
     let listed = listed_cells(around.alloc, around.number, tables.placement.cells())?;
-    verdicts_on(around.alloc, &tables.placement.plan(), &listed)
+    verdicts_on(
+        around.alloc,
+        &tables.placement.plan(),
+        &listed,
+        around.padding,
+    )
 }
 
 /// The team's first cell in loading order that breaks a rule where it stands; none if no cell
@@ -120,7 +130,7 @@ pub(crate) fn legal_marks<S>(
     tables: &Tables,
 ) -> Result<Vec<bool>, AllocError>
     requires team { IsTeamOf (frame_of tables.now) (team_in around.now tables.now) }
-    ensures { IfOk result (λ marks. AreMarked (frame_of tables.now) around.now.number (cells_in around.now.number tables.now) marks.items) }
+    ensures { IfOk result (λ marks. AreMarked (frame_of tables.now) around.now.number around.now.padding.sites (cells_in around.now.number tables.now) marks.items) }
 {
     legalizer_is_there();
     let verdicts = team_verdicts(around, tables)?;

@@ -17,7 +17,7 @@ use lf_cells::CellId;
 use lf_floorplan::Place;
 use lf_placement::Placement;
 use lf_proto::{Refusal, Reply};
-use lf_rules::{Broken, Rule, verdict_is_one};
+use lf_rules::{Broken, Padding, Rule, verdict_is_one};
 use lf_undo::{Move, Moves};
 use std::alloc::{AllocError, Global};
 
@@ -52,14 +52,15 @@ fn broken_beside(
     id: CellId,
     place: &Place,
     alone: Option<Rule>,
+    padding: Padding,
 ) -> Option<Broken>
     requires { IsBrokenAlone placement.now id place.now alone }
-    ensures { IsBrokenAt placement.now id place.now result }
+    ensures { IsBrokenAt placement.now padding.sites id place.now result }
 {
     if let Some(rule) = alone {
         return Some(Broken { rule, other: None });
     }
-    let own = placement.first_other(id, place)?;
+    let own = placement.first_other(id, place, padding)?;
     Some(Broken {
         rule: Rule::Overlap,
         other: Some(own),
@@ -85,28 +86,34 @@ fn refusal_at(
     id: CellId,
     place: &Place,
     alone: Option<Rule>,
+    padding: Padding,
 ) -> Option<Refusal>
     requires alone { IsBrokenAlone placement.now id place.now alone }
     requires there { working_at (cells_of placement.now.cells id.team) id.own ≡ Some place.now }
     ensures { (l : Legalizer) → result ≡ illegal_by
-        (broken_where (setting l placement.now.frame id.team) (cells_of placement.now.cells id.team) id.own) id.own }
+        (broken_where (setting l placement.now.frame id.team padding.sites) (cells_of placement.now.cells id.team) id.own) id.own }
 {
     verdict_is_one();
     placement.cells_are_sized();
-    illegal_by(broken_beside(placement, id, place, alone), id.own)
+    illegal_by(broken_beside(placement, id, place, alone, padding), id.own)
 }
 
 /// Why two cells that were exchanged are refused, the first before the second, where the first keeps all
 /// rules but overlap, and `alone` is the first of these that the second breaks; none where neither breaks
 /// a rule.
-fn refusal_of(placement: &Placement, exchange: &Exchange, alone: Option<Rule>) -> Option<Refusal>
+fn refusal_of(
+    placement: &Placement,
+    exchange: &Exchange,
+    alone: Option<Rule>,
+    padding: Padding,
+) -> Option<Refusal>
     requires { IsExchanged placement.now exchange.now alone }
-    ensures { (l : Legalizer) → result ≡ swap_refusal (setting l placement.now.frame exchange.now.first.team)
+    ensures { (l : Legalizer) → result ≡ swap_refusal (setting l placement.now.frame exchange.now.first.team padding.sites)
         (cells_of placement.now.cells exchange.now.first.team) exchange.now.first.own exchange.now.second.own }
 {
-    match refusal_at(placement, exchange.first, &exchange.to, None) {
+    match refusal_at(placement, exchange.first, &exchange.to, None, padding) {
         Some(refusal) => Some(refusal),
-        None => refusal_at(placement, exchange.second, &exchange.from, alone),
+        None => refusal_at(placement, exchange.second, &exchange.from, alone, padding),
     }
 }
 
@@ -119,6 +126,7 @@ impl Tables {
         exchange: &Exchange,
         moves: Moves,
         alone: Option<Rule>,
+        padding: Padding,
     ) -> Reply
         requires change { CanChange exchange.now.first.team session self.old }
         requires room { HasRoomFor self.old.undo exchange.now.first.team }
@@ -128,7 +136,7 @@ impl Tables {
         requires first { IsBrokenAlone self.old.placement exchange.now.first exchange.now.to None }
         requires second { IsBrokenAlone self.old.placement exchange.now.second exchange.now.from alone }
         ensures team { (l : Legalizer) → Reaches
-            (swapped_here (setting l (frame_of self.old) exchange.now.first.team) session exchange.now.first.own exchange.now.second.own
+            (swapped_here (setting l (frame_of self.old) exchange.now.first.team padding.sites) session exchange.now.first.own exchange.now.second.own
             (own_team exchange.now.first.team self.old)) result (own_team exchange.now.first.team self.new) }
         ensures others { OthersStay exchange.now.first.team self.old self.new }
         ensures fit { EntriesFit exchange.now.first.team self.new }
@@ -137,7 +145,7 @@ impl Tables {
         let mut moves = moves;
         self.placement.places_stand();
         self.placement.make(number, &mut moves, 0);
-        match refusal_of(&self.placement, exchange, alone) {
+        match refusal_of(&self.placement, exchange, alone, padding) {
             None => Reply::Revision(self.keep(number, session, moves)),
             Some(refusal) => {
                 self.placement.take_back(number, &moves);
@@ -182,7 +190,7 @@ impl Tables {
         let alone = self.placement.broken_alone(second, &from);
         let moves = exchange_moves(around.alloc, exchange)?;
         self.make_room_for(around.alloc, around.number, moves.as_slice())?;
-        Ok(self.exchange(session, exchange, moves, alone))
+        Ok(self.exchange(session, exchange, moves, alone, around.padding))
     }
 
     /// Exchanges the places of two cells: `NoCell` where the team has none of a name, else

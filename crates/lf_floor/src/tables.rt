@@ -2,17 +2,18 @@
 
 ghost use Rattle.std.specs.Prelude.{◌≡◌, ◌+◌, IfOk, IfSome, option_map};
 ghost use Rattle.lf_cells.specs.Cells.{cell_named, id_in, working_at};
-ghost use Rattle.lf_floor.specs.Tables.{AreOpening, Counts, HasRows, IsCurrent, cells_in, revision_of};
+ghost use Rattle.lf_floor.specs.Tables.{AreOpening, Counts, HasRows, IsCurrent, Pads, cells_in, padding_of, revision_of};
 
 use lf_cells::CellId;
 use lf_floorplan::{Loaded, Place};
 use lf_placement::Placement;
+use lf_rules::Padding;
 use lf_sessions::SessionTable;
 use lf_undo::UndoStore;
 use std::alloc::{AllocError, Global};
 
-/// The frame with the cells of all teams, and their undo entries, session slots and revisions: each
-/// table has a row for each team of the frame.
+/// The frame with the cells of all teams, and their undo entries, session slots, revisions and paddings:
+/// each table has a row for each team of the frame.
 #[derive(Drop)]
 pub(crate) struct Tables {
     pub(crate) placement: Placement,
@@ -20,11 +21,13 @@ pub(crate) struct Tables {
     pub(crate) sessions: SessionTable,
     /// How many changes each team has made.
     pub(crate) revisions: Vec<u32>,
+    /// How far apart each team keeps its cells.
+    pub(crate) paddings: Vec<Padding>,
 }
 
 impl Tables {
-    /// The tables of a design as it is loaded: no change is made, nothing can be undone, and no session
-    /// is open.
+    /// The tables of a design as it is loaded: no change is made, nothing can be undone, no session is
+    /// open, and no team has a padding.
     pub(crate) fn opening(alloc: Global, loaded: Loaded) -> Result<Tables, AllocError>
         ensures { IfOk result (λ tables. AreOpening loaded tables) }
     {
@@ -32,12 +35,14 @@ impl Tables {
         let undo = UndoStore::build(alloc, teams, loaded.frame.limits.undo as usize)?;
         let sessions = SessionTable::build(alloc, teams, loaded.frame.limits.sessions)?;
         let revisions = vec![in alloc; 0; teams]?;
+        let paddings = vec![in alloc; Padding::none(); teams]?;
         let placement = Placement::build(alloc, loaded)?;
         Ok(Tables {
             placement,
             undo,
             sessions,
             revisions,
+            paddings,
         })
     }
 
@@ -74,6 +79,24 @@ impl Tables {
             Some(revision) => *revision,
             None => 0,
         }
+    }
+
+    /// How far apart the team keeps its cells.
+    pub(crate) fn padding(&self, number: usize) -> Padding
+        ensures { result.sites ≡ padding_of self.now number }
+    {
+        match self.paddings.get(number) {
+            Some(padding) => *padding,
+            None => Padding::none(),
+        }
+    }
+
+    /// Gives the team this padding.
+    pub(crate) fn set_padding(&mut self, number: usize, padding: Padding)
+        requires { HasRows number self.old }
+        ensures { Pads number padding self.old self.new }
+    {
+        self.paddings[number] = padding;
     }
 
     /// Counts one more change of the team, which the session has then seen, and returns the revision.

@@ -21,7 +21,7 @@ use lf_floorplan::Place;
 use lf_legalize::{Seeker, anchor};
 use lf_placement::Placement;
 use lf_proto::{Refusal, Reply};
-use lf_rules::{legalizer_is_there, tidy_keeps_legal, verdict_is_one};
+use lf_rules::{Padding, legalizer_is_there, tidy_keeps_legal, verdict_is_one};
 use lf_undo::{Move, Moves};
 use lf_units::Point;
 use std::alloc::{AllocError, Global};
@@ -58,9 +58,14 @@ fn corner(place: &Place) -> Point
 
 /// Where the team's cell of that id is tidied to: the anchor where it is unplaced, its own corner where
 /// it breaks a rule; none where it stays, as each marked cell does.
-fn target_of(placement: &Placement, marks: &[bool], id: CellId) -> Option<Point>
-    requires { AreMarked placement.now.frame id.team (cells_of placement.now.cells id.team) marks.now }
-    ensures { (l : Legalizer) → result ≡ target_at (setting l placement.now.frame id.team) (cells_of placement.now.cells id.team) id.own }
+fn target_of(
+    placement: &Placement,
+    marks: &[bool],
+    id: CellId,
+    padding: Padding,
+) -> Option<Point>
+    requires { AreMarked placement.now.frame id.team padding.sites (cells_of placement.now.cells id.team) marks.now }
+    ensures { (l : Legalizer) → result ≡ target_at (setting l placement.now.frame id.team padding.sites) (cells_of placement.now.cells id.team) id.own }
 {
     verdict_is_one();
     placement.cells_are_sized();
@@ -71,7 +76,7 @@ fn target_of(placement: &Placement, marks: &[bool], id: CellId) -> Option<Point>
     let Some(place) = standing.working else {
         return Some(anchor(placement.frame(), id.team as usize));
     };
-    match broken_at(placement, id, &place) {
+    match broken_at(placement, id, &place, padding) {
         Some(_) => Some(corner(&place)),
         None => None,
     }
@@ -114,14 +119,14 @@ fn send<S: Seeker>(
     id: CellId,
 ) -> Result<Sent, AllocError>
     requires team { id.team ≡ around.now.number }
-    requires marked { AreMarked placement.old.frame around.now.number (cells_of placement.old.cells around.now.number) marks.now }
+    requires marked { AreMarked placement.old.frame around.now.number around.now.padding.sites (cells_of placement.old.cells around.now.number) marks.now }
     ensures ok { (l : Legalizer) → IfOk result (λ sent. Sends (setting_at l around.now placement.old) id.own
         (cells_of placement.old.cells around.now.number) (cells_of placement.new.cells around.now.number) sent) }
     ensures moved { (before : List Cell) → HaveMoved before moves.old (cells_of placement.old.cells around.now.number) →
         HaveMoved before moves.new (cells_of placement.new.cells around.now.number) }
     ensures only { OnlyMoves around.now.number placement.old placement.new }
 {
-    let Some(target) = target_of(placement, marks, id) else {
+    let Some(target) = target_of(placement, marks, id, around.padding) else {
         return Ok(Sent::Stays);
     };
     match best_place(around, placement, id, &target)? {
@@ -142,7 +147,7 @@ fn send_all<S: Seeker>(
     moves: &mut Moves,
     marks: &[bool],
 ) -> Result<Tidy, AllocError>
-    requires marked { AreMarked placement.old.frame around.now.number (cells_of placement.old.cells around.now.number) marks.now }
+    requires marked { AreMarked placement.old.frame around.now.number around.now.padding.sites (cells_of placement.old.cells around.now.number) marks.now }
     ensures ok { (l : Legalizer) → IfOk result (λ tidy. Tidies (setting_at l around.now placement.old)
         (cells_of placement.old.cells around.now.number) (cells_of placement.new.cells around.now.number) tidy) }
     ensures moved { (before : List Cell) → HaveMoved before moves.old (cells_of placement.old.cells around.now.number) →

@@ -1,11 +1,11 @@
-//! Changes of a whole team: what `revert`, `undo` and `commit` do.
+//! Changes of a whole team: what `revert`, `undo`, `commit` and `pad` do.
 
 ghost use Rattle.std.specs.Prelude.{◌≡◌, IfOk, OnErr, OnOk, IsTrue, ◌↔◌, map};
 ghost use Rattle.lf_rules.specs.Legalizer.{Legalizer};
 ghost use Rattle.lf_cells.specs.Cells.{cells_of, committed_at, working_at};
 ghost use Rattle.lf_placement.specs.Placings.{made};
 ghost use Rattle.lf_teams.specs.Outcomes.{Reaches, RunsOut};
-ghost use Rattle.lf_teams.specs.Changes.{back_to_committed, committed, reverted, undone};
+ghost use Rattle.lf_teams.specs.Changes.{back_to_committed, committed, padded, reverted, undone};
 ghost use Rattle.lf_floor.specs.Reverting.{IsNotedBack};
 ghost use Rattle.lf_floor.specs.Tables.{CanChange, EntriesFit, HasRows, IsCurrent, OthersStay, own_team, setting_in, team_in};
 
@@ -16,6 +16,7 @@ use crate::tables::Tables;
 use lf_cells::{CellId, CellTable};
 use lf_floorplan::Place;
 use lf_proto::{Refusal, Reply};
+use lf_rules::Padding;
 use lf_undo::{Move, Moves};
 use std::alloc::{AllocError, Global};
 
@@ -132,5 +133,19 @@ impl Tables {
         }
         self.placement.commit_team(around.number);
         Ok(Reply::Revision(self.count_change(around.number, session)))
+    }
+
+    /// Gives the team this padding, wherever its cells stand. It moves and tests no cell, and allocates
+    /// nothing.
+    pub(crate) fn pad(&mut self, number: usize, session: u32, padding: Padding) -> Reply
+        requires rows { HasRows number self.old }
+        requires current { IsCurrent number session self.old }
+        requires fit { EntriesFit number self.old }
+        ensures team { Reaches (padded padding session (own_team number self.old)) result (own_team number self.new) }
+        ensures others { OthersStay number self.old self.new }
+        ensures fit { EntriesFit number self.new }
+    {
+        self.set_padding(number, padding);
+        Reply::Revision(self.count_change(number, session))
     }
 }

@@ -1,5 +1,7 @@
-use Rattle.std.proofs.Common.{Some, subst, sym}
+use Rattle.std.proofs.Common.{ℕ, Some, subst, sym}
 use Rattle.std.specs.Prelude.{IfOk, OnErr}
+use Rattle.lf_teams.specs.Outcomes.{Reaches, RunsOut}
+use Rattle.lf_teams.specs.Verbs.{outcome_of}
 use Rattle.std.proofs.lemmas.Result.{IfOk-weaker, on_err_weaker}
 use Rattle.lf_proto.specs.Commands.{order_of}
 use Rattle.lf_teams.specs.States.{FloorState, TeamState}
@@ -12,41 +14,45 @@ use Rattle.lf_floor.proofs.Rows.{each_team, floor_changed, served, tables_still,
 use Rattle.lf_floor.proofs.floor.serve_at.Goals as goal
 
 pub serve-requires : goal.serve-requires
-serve-requires g c = record { served = served c.args.tables.now c.args.around.now.number c.requires.tables c.requires.within }
+serve-requires g c = record { served = served c.args.tables.now c.args.number c.requires.tables c.requires.within }
 
 pub returns-clause-ok : goal.returns-clause-ok
 returns-clause-ok g c = λ l.
-    let number = c.args.around.now.number in
+    let number = c.args.number in
     let old = c.args.tables.now in
     let new = c.serve.new.self in
     subst (λ (v : FloorState). IfOk c.serve.result (λ reply. Gives (answer_at (Some number) l (floor_in old) (order_of c.args.order.now)) reply v))
     (sym (floor_changed old new number c.serve.ensures.others))
     (IfOk-weaker c.serve.result _ _ (λ reply reaches.
     gives l (frame_of old) old.placement.cells.components (teams_in old) number (order_of c.args.order.now) (own_team number old) (own_team number new) reply
-    (team_there old number (rw c.requires.tables.revisions c.requires.within)) reaches) (c.serve.ensures.ok l))
+    (team_there old number (rw c.requires.tables.revisions c.requires.within)) reaches)
+    (subst (λ (n : ℕ). IfOk c.serve.result (λ reply.
+    Reaches (outcome_of (setting l (frame_of old) number n) (order_of c.args.order.now) (own_team number old)) reply (own_team number new))) c.padding.ensures (c.serve.ensures.ok l)))
 
 pub returns-clause-err : goal.returns-clause-err
 returns-clause-err g c = λ l.
-    let number = c.args.around.now.number in
+    let number = c.args.number in
     let old = c.args.tables.now in
     let new = c.serve.new.self in
     subst (λ (v : FloorState). OnErr c.serve.result (StaysShort (answer_at (Some number) l (floor_in old) (order_of c.args.order.now)) (floor_in old) v))
     (sym (floor_changed old new number c.serve.ensures.others))
     (on_err_weaker c.serve.result (λ out.
     stays_short l (frame_of old) old.placement.cells.components (teams_in old) number (order_of c.args.order.now) (own_team number old) (own_team number new)
-    (team_there old number (rw c.requires.tables.revisions c.requires.within)) out) (c.serve.ensures.err l))
+    (team_there old number (rw c.requires.tables.revisions c.requires.within)) out)
+    (subst (λ (n : ℕ). OnErr c.serve.result
+    (RunsOut (outcome_of (setting l (frame_of old) number n) (order_of c.args.order.now) (own_team number old)) (own_team number old) (own_team number new))) c.padding.ensures (c.serve.ensures.err l)))
 
 pub returns-clause-tables : goal.returns-clause-tables
 returns-clause-tables g c =
     let l = c.legalizer_is_there.ensures in
     let f = frame_of c.args.tables.now in
-    let number = c.args.around.now.number in
+    let number = c.args.number in
     let old = c.args.tables.now in
     let new = c.serve.new.self in
     let s = own_team number old in
     let order = order_of c.args.order.now in
     let before : IsTeamOf f s = each_team (λ t. IsTeamOf f t) old number c.requires.tables.teams (rw c.requires.tables.revisions c.requires.within) in
     tables_still old new number c.serve.ensures.others c.requires.tables
-    (kept_by (λ (t : TeamState). IsTeamOf f t) (ruled l f number order s) s (own_team number new) c.serve.result (c.serve.ensures.ok l) (c.serve.ensures.err l) before
-    (verb_keeps (setting l f number) order s before))
+    (kept_by (λ (t : TeamState). IsTeamOf f t) (outcome_of (setting l f number c.padding.result.sites) order s) s (own_team number new) c.serve.result (c.serve.ensures.ok l) (c.serve.ensures.err l) before
+    (verb_keeps (setting l f number c.padding.result.sites) order s before))
     c.serve.ensures.fit

@@ -13,6 +13,6 @@ returns g c = λ l.
     let f = frame_of c.args.tables.now in
     let cells = cells_in c.args.around.now.number c.args.tables.now in
     let listed = map (listed_of c.args.around.now.number) cells in
-    c.first_illegal.ensures l f listed
-    (subst (λ (vs : List (Option Broken)). AreVerdicts l f listed vs) (sym c.deref.ensures.value) ((c.in_ok-verdicts.ensures {u = tt}).each l))
+    c.first_illegal.ensures l f c.args.around.now.padding.sites listed
+    (subst (λ (vs : List (Option Broken)). AreVerdicts l f c.args.around.now.padding.sites listed vs) (sym c.deref.ensures.value) ((c.in_ok-verdicts.ensures {u = tt}).each l))
     ∙ ap (λ (found : List BrokenCell). slice_get found 0) (illegal_cells (setting_in l c.args.around.now c.args.tables.now) cells)

@@ -27,7 +27,7 @@ loop-id-preserved g c =
     let mark = c.stands_legal.result in
     record {
       count = one_longer k old c.push.new.self.items mark c.in_ok-push.ensures.items c.loop-id.invariant.count;
-      marked = one_more_mark (frame_of c.args.tables.now) number k cells old c.push.new.self.items mark c.in_ok-push.ensures.items c.loop-id.invariant.count
+      marked = one_more_mark (frame_of c.args.tables.now) number c.args.around.now.padding.sites k cells old c.push.new.self.items mark c.in_ok-push.ensures.items c.loop-id.invariant.count
           (λ e. judged_stands (setting_in l c.args.around.now c.args.tables.now) cells c.in_ok-verdicts.verdicts.items k c.requires.team.sized (c.in_ok-verdicts.ensures.each l)
           (subst (λ (vs : List (Option Broken)). IsJudged cells vs k) c.deref.ensures.value
           (subst (λ (cs : Cells). IsJudged (cells_of cs number) c.deref.result.now k) c.cells-cells.ensures

@@ -7,5 +7,5 @@ use Rattle.lf_floor.proofs.legal.legal_marks.Given as goal
 abbrev pub invariant-loop-id : goal.invariant-loop-id
 invariant-loop-id g l = record {
   count : length l.marks.items ≡ l.id-index;
-  marked : AreMarked (frame_of l.tables) l.around.number (cells_in l.around.number l.tables) l.marks.items;
+  marked : AreMarked (frame_of l.tables) l.around.number l.around.padding.sites (cells_in l.around.number l.tables) l.marks.items;
 }

@@ -24,11 +24,11 @@ verdicts_on-requires-clause-listed g c =
     c.requires.team.sized c.requires.team.printed)
 
 -- the verdicts as the report takes them
-lent_verdicts : (l : Legalizer) (f : Frame) (lent again items : List (Listed (Bor (List ℕ)))) (verdicts all : List (Option Broken)) →
-    lent ≡ items → again ≡ items → verdicts ≡ all → AreVerdicts l f (map named lent) all → AreVerdicts l f (map named again) verdicts
-lent_verdicts l f lent again items verdicts all is same these are =
-    subst (λ (vs : List (Option Broken)). AreVerdicts l f (map named again) vs) (sym these)
-    (subst (λ (cs : List (Listed (Bor (List ℕ)))). AreVerdicts l f (map named cs) all) (is ∙ sym same) are)
+lent_verdicts : (l : Legalizer) (f : Frame) (padding : ℕ) (lent again items : List (Listed (Bor (List ℕ)))) (verdicts all : List (Option Broken)) →
+    lent ≡ items → again ≡ items → verdicts ≡ all → AreVerdicts l f padding (map named lent) all → AreVerdicts l f padding (map named again) verdicts
+lent_verdicts l f padding lent again items verdicts all is same these are =
+    subst (λ (vs : List (Option Broken)). AreVerdicts l f padding (map named again) vs) (sym these)
+    (subst (λ (cs : List (Listed (Bor (List ℕ)))). AreVerdicts l f padding (map named cs) all) (is ∙ sym same) are)
 
 pub report_json-requires : goal.report_json-requires
 report_json-requires g c =
@@ -38,9 +38,9 @@ report_json-requires g c =
     let told : map named c.in_ok-listed.listed.items ≡ map (listed_of c.args.around.now.number) cells =
     subst (λ (cs : Cells). map named c.in_ok-listed.listed.items ≡ map (listed_of c.args.around.now.number) (cells_of cs c.args.around.now.number)) c.cells.ensures
     (c.in_ok-listed.ensures {u = tt}) in
-    c.in_ok-report.ensures.told l f
-    (lent_verdicts l f c.deref.result.now c.deref-2.result.now c.in_ok-listed.listed.items c.deref-3.result.now c.in_ok-verdicts.verdicts.items
-    c.deref.ensures.value c.deref-2.ensures.value c.deref-3.ensures.value (subst (λ (h : Frame). AreVerdicts l h (map named c.deref.result.now) c.in_ok-verdicts.verdicts.items) c.plan.ensures (c.in_ok-verdicts.ensures.each l)))
+    c.in_ok-report.ensures.told l f c.args.around.now.padding.sites
+    (lent_verdicts l f c.args.around.now.padding.sites c.deref.result.now c.deref-2.result.now c.in_ok-listed.listed.items c.deref-3.result.now c.in_ok-verdicts.verdicts.items
+    c.deref.ensures.value c.deref-2.ensures.value c.deref-3.ensures.value (subst (λ (h : Frame). AreVerdicts l h c.args.around.now.padding.sites (map named c.deref.result.now) c.in_ok-verdicts.verdicts.items) c.plan.ensures (c.in_ok-verdicts.ensures.each l)))
     (lent_listed f c.args.around.now.number cells c.deref-2.result.now
     (lent_are c.args.around.now.number cells c.deref-2.result.now c.in_ok-listed.listed.items c.deref-2.ensures.value told)
     c.requires.team.sized c.requires.team.printed)
@@ -54,7 +54,7 @@ returns g c =
     (c.in_ok-listed.ensures {u = tt}) in
     let are = lent_are c.args.around.now.number cells c.deref-2.result.now c.in_ok-listed.listed.items c.deref-2.ensures.value told in
     IfOk-weaker c.report_json.result _ _
-    (λ text is l. is ∙ ap report_text (c.in_ok-report.ensures.report l f
-    (lent_verdicts l f c.deref.result.now c.deref-2.result.now c.in_ok-listed.listed.items c.deref-3.result.now c.in_ok-verdicts.verdicts.items
-    c.deref.ensures.value c.deref-2.ensures.value c.deref-3.ensures.value (subst (λ (h : Frame). AreVerdicts l h (map named c.deref.result.now) c.in_ok-verdicts.verdicts.items) c.plan.ensures (c.in_ok-verdicts.ensures.each l)))
-    ∙ ap (λ (cs : List (Listed (List ℕ))). report_of l f cs) are)) c.report_json.ensures
+    (λ text is l. is ∙ ap report_text (c.in_ok-report.ensures.report l f c.args.around.now.padding.sites
+    (lent_verdicts l f c.args.around.now.padding.sites c.deref.result.now c.deref-2.result.now c.in_ok-listed.listed.items c.deref-3.result.now c.in_ok-verdicts.verdicts.items
+    c.deref.ensures.value c.deref-2.ensures.value c.deref-3.ensures.value (subst (λ (h : Frame). AreVerdicts l h c.args.around.now.padding.sites (map named c.deref.result.now) c.in_ok-verdicts.verdicts.items) c.plan.ensures (c.in_ok-verdicts.ensures.each l)))
+    ∙ ap (λ (cs : List (Listed (List ℕ))). report_of l f c.args.around.now.padding.sites cs) are)) c.report_json.ensures

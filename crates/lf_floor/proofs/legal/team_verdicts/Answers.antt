@@ -39,6 +39,6 @@ returns-clause-each g c = λ l.
     (c.in_ok-listed.ensures {u = tt}) in
     let are = lent_are c.args.around.now.number cells c.deref.result.now c.in_ok-listed.listed.items c.deref.ensures.value told in
     IfOk-weaker c.verdicts_on.result _ _
-    (λ verdicts each. subst (λ (cs : List (Listed (List ℕ))). AreVerdicts l (frame_of c.args.tables.now) cs verdicts.items) are
-    (subst (λ (f : Frame). AreVerdicts l f (map named c.deref.result.now) verdicts.items) c.plan.ensures each))
+    (λ verdicts each. subst (λ (cs : List (Listed (List ℕ))). AreVerdicts l (frame_of c.args.tables.now) c.args.around.now.padding.sites cs verdicts.items) are
+    (subst (λ (f : Frame). AreVerdicts l f c.args.around.now.padding.sites (map named c.deref.result.now) verdicts.items) c.plan.ensures each))
     (c.verdicts_on.ensures.each l)

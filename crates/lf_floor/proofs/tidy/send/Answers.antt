@@ -13,7 +13,7 @@ use Rattle.lf_floor.proofs.tidy.send.Goals as goal
 pub returns-in_default-clause-ok : goal.returns-in_default-clause-ok
 returns-in_default-clause-ok g c = λ l moved.
     one_stays (setting_at l c.args.around.now c.args.placement.now) (cells_of c.args.placement.now.cells c.args.around.now.number) c.args.id.own moved
-    (sym (subst (λ (k : ℕ). c.target_of.result ≡ target_at (setting l c.args.placement.now.frame k) (cells_of c.args.placement.now.cells k) c.args.id.own) c.requires.team
+    (sym (subst (λ (k : ℕ). c.target_of.result ≡ target_at (setting l c.args.placement.now.frame k c.args.around.now.padding.sites) (cells_of c.args.placement.now.cells k) c.args.id.own) c.requires.team
     (c.target_of.ensures l)) ∙ c.in_default.is)
 
 pub returns-in_ok-move_one-in-Some-2-clause-ok : goal.returns-in_ok-move_one-in-Some-2-clause-ok
@@ -23,7 +23,7 @@ returns-in_ok-move_one-in-Some-2-clause-ok g c = λ l moved.
     let cells = cells_of p.cells c.args.around.now.number in
     let t = setting_at l c.args.around.now p in
     let aimed : Some c.in-Some.target ≡ target_at t cells own =
-    sym c.in-Some.is ∙ subst (λ (k : ℕ). c.target_of.result ≡ target_at (setting l p.frame k) (cells_of p.cells k) own) c.requires.team (c.target_of.ensures l) in
+    sym c.in-Some.is ∙ subst (λ (k : ℕ). c.target_of.result ≡ target_at (setting l p.frame k c.args.around.now.padding.sites) (cells_of p.cells k) own) c.requires.team (c.target_of.ensures l) in
     one_sent t cells own moved c.in-Some.target c.in_ok-place.field-0 aimed ((c.in_ok-place.ensures {u = tt}).spot l)
     ∙ ap (λ (found : Option Place). sent_by found cells own moved) c.in-Some-2.is
     ∙ ap (λ (cs : List Cell). Going (map member_of cs) (moved + 1))
@@ -37,6 +37,6 @@ returns-in-None-clause-ok g c = λ l moved.
     let cells = cells_of p.cells c.args.around.now.number in
     let t = setting_at l c.args.around.now p in
     let aimed : Some c.in-Some.target ≡ target_at t cells own =
-    sym c.in-Some.is ∙ subst (λ (k : ℕ). c.target_of.result ≡ target_at (setting l p.frame k) (cells_of p.cells k) own) c.requires.team (c.target_of.ensures l) in
+    sym c.in-Some.is ∙ subst (λ (k : ℕ). c.target_of.result ≡ target_at (setting l p.frame k c.args.around.now.padding.sites) (cells_of p.cells k) own) c.requires.team (c.target_of.ensures l) in
     one_sent t cells own moved c.in-Some.target c.in_ok-place.field-0 aimed ((c.in_ok-place.ensures {u = tt}).spot l)
     ∙ ap (λ (found : Option Place). sent_by found cells own moved) c.in-None.is

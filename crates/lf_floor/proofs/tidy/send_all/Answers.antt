@@ -25,7 +25,7 @@ loop-own-init g c =
     let number = c.args.around.now.number in
     let cells = cells_of c.args.placement.now.cells number in
     record {
-      going = λ l. all_to_go l f number (length c.cells_of-own-end.result.now) cells
+      going = λ l. all_to_go l f number c.args.around.now.padding.sites (length c.cells_of-own-end.result.now) cells
           (ids_long number (cells_of c.cells.result.now number) c.cells_of-own-end.result.now c.cells_of-own-end.ensures
           ∙ ap (λ (cs : Cells). length (cells_of cs number)) c.cells.ensures);
       moved = λ before have. have;
@@ -73,12 +73,12 @@ returns-in-Nowhere-clause-ok g c = λ l.
     (still_within number own (cells_of c.args.placement.now.cells number) (cells_of c.loop-own.placement.cells number) c.cells_of-own-end.result.now c.cells_of.result.now
     (c.cells_of-own-end.ensures ∙ ap ids c.cells.ensures) (c.cells_of.ensures ∙ ap ids c.cells-in-loop-own.ensures) c.loop-own.invariant.only.same c.loop-own-test.true)) in
     let new = cells_of c.send.new.placement.cells number in
-    let sends : Sends (setting l f number) own old new c.in_ok-send.field-0 =
-    subst (λ (h : Frame). Sends (setting l h number) own old new c.in_ok-send.field-0) c.loop-own.invariant.only.ground.frame
-    (subst (λ (i : CellId). Sends (setting l c.loop-own.placement.frame number) i.own old new c.in_ok-send.field-0) id ((c.in_ok-send.ensures {u = tt}).ok l)) in
-    sym (on_going (setting l f number) own last c.loop-own.moved (cells_of c.args.placement.now.cells number) old new c.in_ok-send.field-0 (Stuck own)
+    let sends : Sends (setting l f number c.args.around.now.padding.sites) own old new c.in_ok-send.field-0 =
+    subst (λ (h : Frame). Sends (setting l h number c.args.around.now.padding.sites) own old new c.in_ok-send.field-0) c.loop-own.invariant.only.ground.frame
+    (subst (λ (i : CellId). Sends (setting l c.loop-own.placement.frame number c.args.around.now.padding.sites) i.own old new c.in_ok-send.field-0) id ((c.in_ok-send.ensures {u = tt}).ok l)) in
+    sym (on_going (setting l f number c.args.around.now.padding.sites) own last c.loop-own.moved (cells_of c.args.placement.now.cells number) old new c.in_ok-send.field-0 (Stuck own)
     c.loop-own-test.true sends (ap (λ (s : Sent). sent_as s new c.loop-own.moved own) c.in-Nowhere.is) (c.loop-own.invariant.going l))
-    ∙ stuck_stays l f number (own + 1) (last - (own + 1)) own
+    ∙ stuck_stays l f number c.args.around.now.padding.sites (own + 1) (last - (own + 1)) own
     ∙ ap {B = Tidied} (λ (i : CellId). Stuck i.own) (sym id)
 
 pub loop-own-preserved : goal.loop-own-preserved
@@ -106,16 +106,16 @@ loop-own-preserved g c =
       | in-Stays w ↦ ap (λ (s : Sent). sent_as s new moved own) w.in-Stays.is ∙ ap (λ (n : ℕ). Going (map member_of new) n) (sym w.moved-is)
       | in-Goes w ↦ ap (λ (s : Sent). sent_as s new moved own) w.in-Goes.is ∙ ap (λ (n : ℕ). Going (map member_of new) n) (sym w.moved-is)
     ] in
-    let sends : (l : Legalizer) → Sends (setting l f number) own old new c.in_ok-send.field-0 = λ l.
-    subst (λ (h : Frame). Sends (setting l h number) own old new c.in_ok-send.field-0) c.loop-own.invariant.only.ground.frame
-    (subst (λ (i : CellId). Sends (setting l c.loop-own.placement.frame number) i.own old new c.in_ok-send.field-0) id (sent.ok l)) in
+    let sends : (l : Legalizer) → Sends (setting l f number c.args.around.now.padding.sites) own old new c.in_ok-send.field-0 = λ l.
+    subst (λ (h : Frame). Sends (setting l h number c.args.around.now.padding.sites) own old new c.in_ok-send.field-0) c.loop-own.invariant.only.ground.frame
+    (subst (λ (i : CellId). Sends (setting l c.loop-own.placement.frame number c.args.around.now.padding.sites) i.own old new c.in_ok-send.field-0) id (sent.ok l)) in
     let l = c.legalizer_is_there.ensures in
     record {
-      going = λ l. on_going (setting l f number) own last moved (cells_of first.cells number) old new c.in_ok-send.field-0
+      going = λ l. on_going (setting l f number c.args.around.now.padding.sites) own last moved (cells_of first.cells number) old new c.in_ok-send.field-0
           (Going (map member_of new) now) c.loop-own-test.true (sends l) goes (c.loop-own.invariant.going l);
       moved = λ before have. sent.moved before (c.loop-own.invariant.moved before have);
       only = only_through number first c.loop-own.placement c.send.new.placement c.loop-own.invariant.only sent.only;
-      marked = marked_through (setting l f number) own moved now old new c.args.marks.now c.tidy_keeps_legal.ensures
+      marked = marked_through (setting l f number c.args.around.now.padding.sites) own moved now old new c.args.marks.now c.tidy_keeps_legal.ensures
           (rw (← c.loop-own.invariant.only.ground.frame) (c.cells_are_sized.ensures.sized number)) (sends l moved ∙ goes) c.loop-own.invariant.marked;
       few = elim c.match-branch-2.branch [
         | in-Stays w ↦ omega (arith, w.moved-is, c.loop-own.invariant.few)

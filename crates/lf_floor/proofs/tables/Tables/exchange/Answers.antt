@@ -53,13 +53,13 @@ returns-in-Some-clause-team c = λ l.
     let k = x.first.team in
     let old = c.args.self.now in
     let before = cells_in k old in
-    let t = setting l (frame_of old) k in
+    let t = setting l (frame_of old) k c.args.padding.sites in
     let now = cells_of c.make.new.self.cells k in
     let are : now ≡ exchanged before x.first.own x.second.own =
     c.make.ensures.own ∙ ap (λ (ms : List Move). made ms before) c.requires.moves ∙ exchange_made k x before c.requires.are in
     rw (swap_refused t c.args.session x.first.own x.second.own (own_team k old) c.in-Some.refusal
     (sym c.in-Some.is ∙ c.refusal_of.ensures l
-    ∙ ap (λ (f : Frame). swap_refusal (setting l f k) now x.first.own x.second.own) c.make.ensures.rest.frame
+    ∙ ap (λ (f : Frame). swap_refusal (setting l f k c.args.padding.sites) now x.first.own x.second.own) c.make.ensures.rest.frame
     ∙ ap (λ (cs : List Cell). swap_refusal t cs x.first.own x.second.own) are))
     record {
       reply_is = refl;

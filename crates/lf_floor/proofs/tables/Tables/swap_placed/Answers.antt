@@ -22,8 +22,8 @@ returns-in-Some-clause-ok g c = λ l.
     let cells = cells_of p.cells k in
     let here : IsExchange k cells x = subst (λ (n : ℕ). IsExchange n (cells_of p.cells n) x) (Rattle.std.proofs.Common.sym are.first) are in
     let now = moved (moved cells x.first.own (Some x.to)) x.second.own (Some x.from) in
-    let verdict : first_broken rule ≡ broken_at (setting l p.frame k) now x.first.own x.to =
-    alone_anywhere l p x.first x.to x.from rule now c.verdict_is_one.ensures (c.cells_are_sized.ensures.sized k) here.from
+    let verdict : first_broken rule ≡ broken_at (setting l p.frame k c.args.around.now.padding.sites) now x.first.own x.to =
+    alone_anywhere l p c.args.around.now.padding.sites x.first x.to x.from rule now c.verdict_is_one.ensures (c.cells_are_sized.ensures.sized k) here.from
     (same_both cells x.first.own x.second.own x.from x.to here.from here.to)
     (subst (λ (a : Option Rule). IsBrokenAlone p x.first x.to a) c.in-Some.is c.broken_alone-alone.ensures) in
     rw (swap_refused (setting_in l c.args.around.now c.args.self.now) c.args.session x.first.own x.second.own (team_in c.args.around.now c.args.self.now)
@@ -31,7 +31,7 @@ returns-in-Some-clause-ok g c = λ l.
     (first_refused (cells_in number c.args.self.now) x.first.own x.second.own x.from x.to are.from are.to
     (setting_in l c.args.around.now c.args.self.now) rule
     (subst (λ (n : ℕ). first_broken rule
-    ≡ broken_at (setting l p.frame n) (moved (moved (cells_of p.cells n) x.first.own (Some x.to)) x.second.own (Some x.from)) x.first.own x.to) are.first verdict)))
+    ≡ broken_at (setting l p.frame n c.args.around.now.padding.sites) (moved (moved (cells_of p.cells n) x.first.own (Some x.to)) x.second.own (Some x.from)) x.first.own x.to) are.first verdict)))
     record { reply_is = refl; team_is = refl }
 
 pub exchange-requires-clause-first : goal.exchange-requires-clause-first
