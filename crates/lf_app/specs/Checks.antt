@@ -15,7 +15,7 @@ def_places cells = map (λ cell. cell.place) cells
 
 -- the report of the cells of all teams, each at its place in the DEF text
 abbrev pub design_report : Legalizer → Loaded → Report
-design_report l loaded = report_of l loaded.frame (listed_at loaded.cells (def_places loaded.cells))
+design_report l loaded = report_of l loaded.frame 0 (listed_at loaded.cells (def_places loaded.cells))
 
 -- what a check writes: the text of that report, and a line feed
 abbrev pub report_line : Legalizer → Loaded → List ℕ

@@ -53,7 +53,7 @@ by_kept : (l : Legalizer) (floor : FloorState) (number : ℕ) (order : Order (Li
     → is_long (answer_by o l floor number order).reply ≡ true → ((answer_by o l floor number order).floor ≡ floor) × (takes_memory order ≡ true)
 by_kept l floor number order None there e = absurd (false≢true e)
 by_kept l floor number order (Some s) there e =
-    let looks = long_looks (setting l floor.frame number) order s e in
+    let looks = long_looks (setting l floor.frame number s.padding) order s e in
     let read : slice_set floor.teams number s ≡ floor.teams = ap (slice_set floor.teams number) (sym (get_or_from_slice_get floor.teams number s s there)) ∙ set-get_or floor.teams number s in
     (ap (λ (teams : List TeamState). record floor { teams = teams }) (ap (slice_set floor.teams number) looks.kept ∙ read), looks.takes)
 

@@ -16,7 +16,7 @@ use Rattle.lf_proto.specs.declared.request.Order.{Order}
 use Rattle.lf_proto.specs.declared.request.Order.TheVariants.{Within}
 use Rattle.lf_proto.specs.declared.verb.Action.TheVariants.{Change as Changing}
 use Rattle.lf_proto.specs.declared.verb.Change.{Change}
-use Rattle.lf_proto.specs.declared.verb.Change.TheVariants.{Place as PlaceAt, Legalize, Tidy, Unplace, Swap, Undo, Commit, Revert, Pad}
+use Rattle.lf_proto.specs.declared.verb.Change.TheVariants.{Pad}
 use Rattle.lf_teams.specs.Outcomes.{Outcome, is_short, places_of, changed, with_entry}
 use Rattle.lf_teams.specs.Sessions.{with_slot, seen_at}
 use Rattle.lf_teams.specs.Verbs.{is_recorded, outcome_of}
@@ -271,14 +271,7 @@ pub padding_stays : (t : Setting) (verb : Order (List ℕ) Place) (s : TeamState
 padding_stays t verb s other = by (outcome_of t verb s) (order_facts t verb s) where
   changes : (session : ℕ) (change : Change (List ℕ) Place) (new : ℕ) → is_pad (Within session (Changing change)) ≡ false → PaddingAfter change s new → new ≡ s.padding
   changes session (Pad padding) new plain after = absurd (false_true (sym plain))
-  changes session (PlaceAt name place) new plain after = after
-  changes session (Legalize name target) new plain after = after
-  changes session Tidy new plain after = after
-  changes session (Unplace name) new plain after = after
-  changes session (Swap first second) new plain after = after
-  changes session Undo new plain after = after
-  changes session Commit new plain after = after
-  changes session Revert new plain after = after
+  changes session _ new plain after = after
 
   by : (o : Outcome) → Facts t s verb o → o.team.padding ≡ s.padding
   by o (inl r) = ap (λ (o : Outcome). o.team.padding) r.is
