@@ -58,7 +58,7 @@ module _ (l : Legalizer) (old mid : FloorState) (team : List ℕ) (session : ℕ
   module _ (step : Step l old (commit_to team session) reply mid) (k : ℕ) (named : team_number old.frame team ≡ Some k) where
     end : Ends l mid team Commits
     end = ends_good l old mid (commit_to team session) reply team (Within session (Changing Commit)) Commits known
-        (plain_answers l old mid (commit_to team session) reply (is_short reply) (granted_plain reply accepted) step) refl accepted
+        (plain_answers l old mid (commit_to team session) reply (is_short reply) (granted_plain reply accepted) step) refl accepted refl
         (λ t s one_of granted. commit_commits t s one_of session granted)
 
     same_frame : mid.frame ≡ old.frame
