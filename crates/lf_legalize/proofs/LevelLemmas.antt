@@ -25,6 +25,7 @@ use Rattle.lf_occupancy.specs.Occupied.{Occupied, IsFreeOver, IsStripOf}
 use Rattle.lf_segments.specs.Grounds.{IsGroundOf}
 use Rattle.lf_segments.specs.Strips.{strip_of}
 use Rattle.lf_legalize.specs.declared.row_search.RowSearch.{RowSearch}
+use Rattle.lf_legalize.specs.RowSearches.{padding_in}
 use Rattle.lf_legalize.specs.Levels.{AddsRow, AreFreeOn, AreLevels, IsFreeOnOne, IsFreeOnRow, IsLevel, IsLevelRow, IsOpenInRow, IsRailed}
 
 -- ---- lists of spans
@@ -66,18 +67,18 @@ row_there [] n within = absurd (omega (arith, within))
 row_there (r ∷ rows) zero within = (r, refl)
 row_there (r ∷ rows) (suc n) within = row_there rows n (omega (arith, within))
 
-segment_of_strip : (f : Frame) (o : Occupied) (id : CellId) (n : ℕ) (s : Span) (segments : List Segment) →
-    Any (λ g. IsStripOf n id.team g × IsFreeOver o id g s) (map (strip_of f) segments) → LiesInSegment segments n id.team s
-segment_of_strip f o id n s segments a =
-    any_weaker (λ g. IsStripOf n id.team (strip_of f g) × IsFreeOver o id (strip_of f g) s) (λ g. IsOf n id.team g × LiesIn s g.span)
+segment_of_strip : (f : Frame) (o : Occupied) (id : CellId) (padding : ℤ) (n : ℕ) (s : Span) (segments : List Segment) →
+    Any (λ g. IsStripOf n id.team g × IsFreeOver o id padding g s) (map (strip_of f) segments) → LiesInSegment segments n id.team s
+segment_of_strip f o id padding n s segments a =
+    any_weaker (λ g. IsStripOf n id.team (strip_of f g) × IsFreeOver o id padding (strip_of f g) s) (λ g. IsOf n id.team g × LiesIn s g.span)
     (λ g both. (record { in_row = both.0.in_row; of_team = both.0.of_team }, both.1.within))
-    segments (any_mapped (strip_of f) (λ g. IsStripOf n id.team g × IsFreeOver o id g s) segments a)
+    segments (any_mapped (strip_of f) (λ g. IsStripOf n id.team g × IsFreeOver o id padding g s) segments a)
 
-pub lies_in_segment : (f : Frame) (o : Occupied) (id : CellId) (window : Span) (n : ℕ) (s : Span) → IsGroundOf f o.index → IsFreeOnRow o id window n s →
-    LiesInSegment o.index.segments n id.team s
-lies_in_segment f o id window n s h free =
-    segment_of_strip f o id n s o.index.segments
-    (subst (λ (gs : List Strip). Any (λ g. IsStripOf n id.team g × IsFreeOver o id g s) gs) h.strips free.in_strip)
+pub lies_in_segment : (f : Frame) (o : Occupied) (id : CellId) (window : Span) (padding : ℤ) (n : ℕ) (s : Span) → IsGroundOf f o.index →
+    IsFreeOnRow o id window padding n s → LiesInSegment o.index.segments n id.team s
+lies_in_segment f o id window padding n s h free =
+    segment_of_strip f o id padding n s o.index.segments
+    (subst (λ (gs : List Strip). Any (λ g. IsStripOf n id.team g × IsFreeOver o id padding g s) gs) h.strips free.in_strip)
 
 number_known : (f : Frame) (segments : List Segment) (n team : ℕ) (s : Span) → IsCut f segments → LiesInSegment segments n team s → n < length f.rows
 number_known f segments n team s cut (k, g, below, is, both) =
@@ -86,10 +87,10 @@ number_known f segments n team s cut (k, g, below, is, both) =
     let within : g.row < length f.rows = known.row_known in
     omega (arith, same, within)
 
-pub open_over : (f : Frame) (o : Occupied) (id : CellId) (window : Span) (n : ℕ) (s : Span) → IsGroundOf f o.index → IsFilled s → IsFreeOnRow o id window n s →
-    IsOpenOver f id.team n s
-open_over f o id window n s h filled free =
-    let lies = lies_in_segment f o id window n s h free in
+pub open_over : (f : Frame) (o : Occupied) (id : CellId) (window : Span) (padding : ℤ) (n : ℕ) (s : Span) → IsGroundOf f o.index → IsFilled s →
+    IsFreeOnRow o id window padding n s → IsOpenOver f id.team n s
+open_over f o id window padding n s h filled free =
+    let lies = lies_in_segment f o id window padding n s h free in
     let there = row_there f.rows n (number_known f o.index.segments n id.team s h.segments lies) in
     record { row = there.0; stands = there.1; is_open = (h.segments.exact n there.0 id.team s there.1 filled).0 lies }
 
@@ -100,10 +101,10 @@ pub record IsOverRow (f : Frame) (n : ℕ) (s : Span) : Type 0 where
   pub left : row.x ≤ℤ s.lo
   pub right : s.hi ≤ℤ (row_area f.pitch row).x2
 
-pub over_row : (f : Frame) (o : Occupied) (id : CellId) (window : Span) (n : ℕ) (s : Span) → IsGroundOf f o.index → IsFilled s → IsFreeOnRow o id window n s →
-    IsOverRow f n s
-over_row f o id window n s h filled free =
-    let there = open_over f o id window n s h filled free in
+pub over_row : (f : Frame) (o : Occupied) (id : CellId) (window : Span) (padding : ℤ) (n : ℕ) (s : Span) → IsGroundOf f o.index → IsFilled s →
+    IsFreeOnRow o id window padding n s → IsOverRow f n s
+over_row f o id window padding n s h filled free =
+    let there = open_over f o id window padding n s h filled free in
     let first = there.is_open s.lo record { low = omega (arith, ints); high = filled } in
     let last = there.is_open (s.hi -ℤ pos 1) record { low = omega (arith, ints); high = omega (arith, ints) } in
     let most = last.clear.right in
@@ -116,42 +117,43 @@ abbrev pub LieLeft : Frame → (ℕ → Type 0) → (ℕ → Type 0) → Type 0
 LieLeft f First Second =
     (m n : ℕ) (a b : Row) → First m → Second n → slice_get f.rows m ≡ Some a → slice_get f.rows n ≡ Some b → (row_area f.pitch a).x2 ≤ℤ b.x
 
-free_one : (First Second : ℕ → Type 0) (o : Occupied) (id : CellId) (window s : Span) → ((n : ℕ) → First n → Second n) → IsFreeOnOne First o id window s →
-    IsFreeOnOne Second o id window s
-free_one First Second o id window s f one = record { number = one.number; among = f one.number one.among; free = one.free }
+free_one : (First Second : ℕ → Type 0) (o : Occupied) (id : CellId) (window : Span) (padding : ℤ) (s : Span) → ((n : ℕ) → First n → Second n) →
+    IsFreeOnOne First o id window padding s → IsFreeOnOne Second o id window padding s
+free_one First Second o id window padding s f one = record { number = one.number; among = f one.number one.among; free = one.free }
 
-pub free_as : (First Second : ℕ → Type 0) (o : Occupied) (id : CellId) (window : Span) (xs : List Span) → ((n : ℕ) → First n ↔ Second n) →
-    AreFreeOn First o id window xs → AreFreeOn Second o id window xs
-free_as First Second o id window xs same free = record {
+pub free_as : (First Second : ℕ → Type 0) (o : Occupied) (id : CellId) (window : Span) (padding : ℤ) (xs : List Span) → ((n : ℕ) → First n ↔ Second n) →
+    AreFreeOn First o id window padding xs → AreFreeOn Second o id window padding xs
+free_as First Second o id window padding xs same free = record {
   rising = free.rising;
   exact = λ s filled. (
-    λ one. free_one First Second o id window s (λ n. (same n).0) ((free.exact s filled).0 one),
-    λ one. (free.exact s filled).1 (free_one Second First o id window s (λ n. (same n).1) one),
+    λ one. free_one First Second o id window padding s (λ n. (same n).0) ((free.exact s filled).0 one),
+    λ one. (free.exact s filled).1 (free_one Second First o id window padding s (λ n. (same n).1) one),
   );
 }
 
-spans_left : (First Second : ℕ → Type 0) (f : Frame) (o : Occupied) (id : CellId) (window : Span) (xs ys : List Span) → IsGroundOf f o.index →
-    LieLeft f First Second → AreFreeOn First o id window xs → AreFreeOn Second o id window ys → All (λ x. All (λ y. x.hi ≤ℤ y.lo) ys) xs
-spans_left First Second f o id window xs ys h left first second i d below j e under =
+spans_left : (First Second : ℕ → Type 0) (f : Frame) (o : Occupied) (id : CellId) (window : Span) (padding : ℤ) (xs ys : List Span) → IsGroundOf f o.index →
+    LieLeft f First Second → AreFreeOn First o id window padding xs → AreFreeOn Second o id window padding ys → All (λ x. All (λ y. x.hi ≤ℤ y.lo) ys) xs
+spans_left First Second f o id window padding xs ys h left first second i d below j e under =
     let x = get_or xs i d in
     let y = get_or ys j e in
     let one = (first.exact x (first.rising.filled i d below)).0 (own_one xs i d below) in
     let two = (second.exact y (second.rising.filled j e under)).0 (own_one ys j e under) in
-    let a = over_row f o id window one.number x h (first.rising.filled i d below) one.free in
-    let b = over_row f o id window two.number y h (second.rising.filled j e under) two.free in
+    let a = over_row f o id window padding one.number x h (first.rising.filled i d below) one.free in
+    let b = over_row f o id window padding two.number y h (second.rising.filled j e under) two.free in
     let between = left one.number two.number a.row b.row one.among two.among a.stands b.stands in
     let from = a.right in
     let to = b.left in
     omega (arith, ints, between, from, to)
 
-pub free_append : (First Second : ℕ → Type 0) (f : Frame) (o : Occupied) (id : CellId) (window : Span) (xs ys : List Span) → IsGroundOf f o.index →
-    LieLeft f First Second → AreFreeOn First o id window xs → AreFreeOn Second o id window ys → AreFreeOn (λ n. First n ⊎ Second n) o id window (xs ++ ys)
-free_append First Second f o id window xs ys h left first second = record {
-  rising = rising_append xs ys first.rising second.rising (spans_left First Second f o id window xs ys h left first second);
+pub free_append : (First Second : ℕ → Type 0) (f : Frame) (o : Occupied) (id : CellId) (window : Span) (padding : ℤ) (xs ys : List Span) → IsGroundOf f o.index →
+    LieLeft f First Second → AreFreeOn First o id window padding xs → AreFreeOn Second o id window padding ys →
+    AreFreeOn (λ n. First n ⊎ Second n) o id window padding (xs ++ ys)
+free_append First Second f o id window padding xs ys h left first second = record {
+  rising = rising_append xs ys first.rising second.rising (spans_left First Second f o id window padding xs ys h left first second);
   exact = λ s filled. (
     λ lies. elim (any_split (λ t. LiesIn s t) xs ys lies) [
-      | inl a ↦ free_one First (λ n. First n ⊎ Second n) o id window s (λ n p. inl p) ((first.exact s filled).0 a)
-      | inr b ↦ free_one Second (λ n. First n ⊎ Second n) o id window s (λ n p. inr p) ((second.exact s filled).0 b)
+      | inl a ↦ free_one First (λ n. First n ⊎ Second n) o id window padding s (λ n p. inl p) ((first.exact s filled).0 a)
+      | inr b ↦ free_one Second (λ n. First n ⊎ Second n) o id window padding s (λ n p. inr p) ((second.exact s filled).0 b)
     ],
     λ one. elim one.among [
       | inl p ↦ any_left (λ t. LiesIn s t) xs ys ((first.exact s filled).1 record { number = one.number; among = p; free = one.free })
@@ -160,22 +162,22 @@ free_append First Second f o id window xs ys h left first second = record {
   );
 }
 
-pub free_none : (Rows : ℕ → Type 0) (o : Occupied) (id : CellId) (window : Span) → ((n : ℕ) → Rows n → ⊥) → AreFreeOn Rows o id window []
-free_none Rows o id window none = record {
+pub free_none : (Rows : ℕ → Type 0) (o : Occupied) (id : CellId) (window : Span) (padding : ℤ) → ((n : ℕ) → Rows n → ⊥) → AreFreeOn Rows o id window padding []
+free_none Rows o id window padding none = record {
   rising = rising_nil;
   exact = λ s filled. (λ lies. absurd (any_nil (λ t. LiesIn s t) lies), λ one. absurd (none one.number one.among));
 }
 
 -- ---- one row
 
-pub free_row : (Rows : ℕ → Type 0) (o : Occupied) (id : CellId) (window : Span) (n : ℕ) (xs : List Span) → Rows n → ((m : ℕ) → Rows m → m ≡ n) →
-    IsOpenInRow o n id window xs → AreFreeOn Rows o id window xs
-free_row Rows o id window n xs this only free = record {
+pub free_row : (Rows : ℕ → Type 0) (o : Occupied) (id : CellId) (window : Span) (padding : ℤ) (n : ℕ) (xs : List Span) → Rows n → ((m : ℕ) → Rows m → m ≡ n) →
+    IsOpenInRow o n id window padding xs → AreFreeOn Rows o id window padding xs
+free_row Rows o id window padding n xs this only free = record {
   rising = free.rising;
   exact = λ s filled. (
     λ lies. record { number = n; among = this; free = (free.exact s filled).0 lies },
     λ one.
-        let at = subst (λ (m : ℕ). IsFreeOnRow o id window m s) (only one.number one.among) one.free in
+        let at = subst (λ (m : ℕ). IsFreeOnRow o id window padding m s) (only one.number one.among) one.free in
         (free.exact s filled).1 at,
   );
 }
@@ -192,31 +194,31 @@ pub adds_none : (s : RowSearch) (bottom : Row) (j n : ℕ) (window : Span) (old 
 adds_none s bottom j n window old r stands not = record {
   added = [];
   is = sym (append-nil old);
-  free = free_none (λ m. (m ≡ n) × IsRailed s.frame.now bottom j n) s.occupancy.now s.id window (λ m p.
+  free = free_none (λ m. (m ≡ n) × IsRailed s.frame.now bottom j n) s.occupancy.now s.id window (padding_in s) (λ m p.
       let q : IsRailed s.frame.now bottom j n = p.1 in
       not (ap (λ (t : Row). rail_below t.orient) (same_row s.frame.now n r q.row stands q.stands) ∙ q.rail));
 }
 
 pub adds_row : (s : RowSearch) (bottom : Row) (j n : ℕ) (window : Span) (old new xs : List Span) (r : Row) → slice_get s.frame.now.rows n ≡ Some r →
-    rail_below r.orient ≡ option_map (changed j) (rail_below bottom.orient) → IsOpenInRow s.occupancy.now n s.id window xs → new ≡ old ++ xs →
+    rail_below r.orient ≡ option_map (changed j) (rail_below bottom.orient) → IsOpenInRow s.occupancy.now n s.id window (padding_in s) xs → new ≡ old ++ xs →
     AddsRow s bottom j n window old new
 adds_row s bottom j n window old new xs r stands rail free is = record {
   added = xs;
   is = is;
-  free = free_row (λ m. (m ≡ n) × IsRailed s.frame.now bottom j n) s.occupancy.now s.id window n xs
+  free = free_row (λ m. (m ≡ n) × IsRailed s.frame.now bottom j n) s.occupancy.now s.id window (padding_in s) n xs
       (refl, record { row = r; stands = stands; rail = rail }) (λ m p. p.0) free;
 }
 
 -- ---- all levels
 
 pub level_bottom : (s : RowSearch) (own : ℕ) (bottom : Row) (window : Span) (j : ℕ) (xs : List Span) → j ≡ 0 →
-    IsOpenInRow s.occupancy.now own s.id window xs → IsLevel s own bottom window j xs
+    IsOpenInRow s.occupancy.now own s.id window (padding_in s) xs → IsLevel s own bottom window j xs
 level_bottom s own bottom window zero xs none free =
-    free_row (λ n. n ≡ own) s.occupancy.now s.id window own xs refl (λ m p. p) free
+    free_row (λ n. n ≡ own) s.occupancy.now s.id window (padding_in s) own xs refl (λ m p. p) free
 level_bottom s own bottom window (suc j) xs none free = absurd (omega (arith, none))
 
 pub level_above : (s : RowSearch) (own : ℕ) (bottom : Row) (window : Span) (j : ℕ) (xs : List Span) → (j ≡ 0 → ⊥) →
-    AreFreeOn (IsLevelRow s.frame.now bottom j) s.occupancy.now s.id window xs → IsLevel s own bottom window j xs
+    AreFreeOn (IsLevelRow s.frame.now bottom j) s.occupancy.now s.id window (padding_in s) xs → IsLevel s own bottom window j xs
 level_above s own bottom window zero xs some free = absurd (some refl)
 level_above s own bottom window (suc j) xs some free = free
 

@@ -15,10 +15,10 @@ use Rattle.lf_cells.specs.Cells.{standing_of}
 use Rattle.lf_legalize.specs.Members.{IsSizedCell, member_of, best_of}
 
 -- the choice for a cell that stands so is its best place
-pub best_is : (l : Legalizer) (f : Frame) (team own : ℕ) (cells : List Cell) (target : Point) (s : Standing) (found : Option Spot) →
+pub best_is : (l : Legalizer) (f : Frame) (team padding own : ℕ) (cells : List Cell) (target : Point) (s : Standing) (found : Option Spot) →
     All (IsSizedCell f) cells → option_map standing_of (slice_get cells own) ≡ Some s →
-    IsChoice (lifted_from f team (map member_of cells) own s.mac) target found → found ≡ best_of l f team cells own target
-best_is l f team own cells target s found all stands choice = go (slice_get cells own) refl stands
+    IsChoice (lifted_from f team padding (map member_of cells) own s.mac) target found → found ≡ best_of l f team padding cells own target
+best_is l f team padding own cells target s found all stands choice = go (slice_get cells own) refl stands
   where
     sized : (x : Cell) → slice_get cells own ≡ Some x → IsSizedCell f x
     sized x is = rw (get_or_from_slice_get cells own x x is) at (all own x (slice_get_within cells own x is))
@@ -27,9 +27,10 @@ best_is l f team own cells target s found all stands choice = go (slice_get cell
     same_mac x e = cc
 
     go : (o : Option Cell) → slice_get cells own ≡ o → option_map standing_of o ≡ Some s →
-        found ≡ option_and_then (λ c. l.best_place (lifted_from f team (map member_of cells) own c.mac) target) o
+        found ≡ option_and_then (λ c. l.best_place (lifted_from f team padding (map member_of cells) own c.mac) target) o
     go None is e = absurd cc
     go (Some x) is e =
-        choice_one (lifted_from f team (map member_of cells) own x.mac) target found (l.best_place (lifted_from f team (map member_of cells) own x.mac) target)
-        (subst (λ (n : ℕ). IsChoice (lifted_from f team (map member_of cells) own n) target found) (same_mac x e) choice)
-        (l.finds_best_place (lifted_from f team (map member_of cells) own x.mac) target (sized x is).sized)
+        choice_one (lifted_from f team padding (map member_of cells) own x.mac) target found
+        (l.best_place (lifted_from f team padding (map member_of cells) own x.mac) target)
+        (subst (λ (n : ℕ). IsChoice (lifted_from f team padding (map member_of cells) own n) target found) (same_mac x e) choice)
+        (l.finds_best_place (lifted_from f team padding (map member_of cells) own x.mac) target (sized x is).sized)

@@ -23,7 +23,7 @@ use Rattle.lf_rules.proofs.Order.{same_spot}
 use Rattle.lf_rules.proofs.SiteLemmas.{one_of_four, rank_tells}
 use Rattle.lf_occupancy.specs.Floorplans.{IsOccupancyOf}
 use Rattle.lf_legalize.specs.declared.row_search.RowSearch.{RowSearch}
-use Rattle.lf_legalize.specs.RowSearches.{IsBestAmong, IsOnRowIn, lifted_in}
+use Rattle.lf_legalize.specs.RowSearches.{IsBestAmong, IsOnRowIn, lifted_in, padding_in}
 use Rattle.lf_legalize.specs.Levels.{AreLevels, HasBareLevel, IsFirstOrient, IsLevel, IsStandIn, MayStand}
 use Rattle.lf_legalize.proofs.LevelLemmas.{own_one, over_row}
 use Rattle.lf_legalize.proofs.RunLemmas.{heeded_at}
@@ -61,7 +61,7 @@ level_bounded s own bottom window j spans occupied level k d within =
     let t = get_or spans k d in
     let some = level.rising.filled k d within in
     let one = (level.exact t some).0 (own_one spans k d within) in
-    let at = over_row s.frame.now s.occupancy.now s.id window one.number t occupied.index some one.free in
+    let at = over_row s.frame.now s.occupancy.now s.id window (padding_in s) one.number t occupied.index some one.free in
     bounded_row s one.number at.row t at.stands some at.left at.right
 
 pub grid_is : (s : RowSearch) (own : ℕ) (bottom : Row) → slice_get s.frame.now.rows own ≡ Some bottom → IsGrid (grid_of bottom.x s.frame.now.pitch.x)

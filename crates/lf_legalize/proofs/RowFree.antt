@@ -25,6 +25,7 @@ use Rattle.lf_floorplan.proofs.StandingLemmas.{height_one, bottom_one}
 use Rattle.lf_segments.specs.declared.segment.Segment.{Segment}
 use Rattle.lf_segments.specs.Segments.{IsOpen}
 use Rattle.lf_gaps.specs.Gaps.{FitsRows}
+use Rattle.lf_rules.specs.Padding.{wider}
 use Rattle.lf_rules.specs.Legality.{box_of as box_tried}
 use Rattle.lf_rules.specs.Choice.{Spot, IsLegalAt, MayGo, trial_at}
 use Rattle.lf_rules.specs.Team.{box_in, boxes_beside}
@@ -38,7 +39,7 @@ use Rattle.lf_segments.specs.Strips.{IsNear, row_y, strip_of}
 use Rattle.lf_occupancy.specs.Floorplans.{IsOccupancyOf}
 use Rattle.lf_legalize.specs.declared.row_search.RowSearch.{RowSearch}
 use Rattle.lf_legalize.specs.Members.{member_of}
-use Rattle.lf_legalize.specs.RowSearches.{IsOnRowIn, lifted_in}
+use Rattle.lf_legalize.specs.RowSearches.{IsOnRowIn, lifted_in, padding_in}
 use Rattle.lf_legalize.specs.Levels.{AreLevels, IsFreeOnOne, IsFreeOnRow, IsLevelRow, IsRowOfLevel, MayStand}
 use Rattle.lf_legalize.proofs.LevelLemmas.{open_over, same_row}
 use Rattle.lf_legalize.proofs.SoftLemmas.{point_soft, soft_over}
@@ -54,10 +55,10 @@ pub record IsHeldAt (s : RowSearch) (own : ℕ) (bottom : Row) (window : Span) (
   pub own_is : j ≡ 0 → row ≡ bottom
   pub at_level : row.y ≡ bottom.y +ℤ (pos j *ℤ s.frame.now.pitch.y)
   pub rail : rail_below row.orient ≡ option_map (changed j) (rail_below bottom.orient)
-  pub free : IsFreeOnRow s.occupancy.now s.id window number (reach s x)
+  pub free : IsFreeOnRow s.occupancy.now s.id window (padding_in s) number (reach s x)
 
 held_one : (s : RowSearch) (own : ℕ) (bottom : Row) (window : Span) (x : ℤ) (j : ℕ) → slice_get s.frame.now.rows own ≡ Some bottom →
-    IsFreeOnOne (λ n. IsRowOfLevel s.frame.now own bottom j n) s.occupancy.now s.id window (reach s x) → IsHeldAt s own bottom window x j
+    IsFreeOnOne (λ n. IsRowOfLevel s.frame.now own bottom j n) s.occupancy.now s.id window (padding_in s) (reach s x) → IsHeldAt s own bottom window x j
 held_one s own bottom window x zero there one =
     let number : one.number ≡ own = one.among in
     let none = none_high s.frame.now.pitch.y s.frame.now.pitch_whole.high in
@@ -101,7 +102,7 @@ held_at s own bottom window lists x there levels fits j less =
 pub open_at : (s : RowSearch) (own : ℕ) (bottom : Row) (window : Span) (x : ℤ) (j : ℕ) → IsOccupancyOf s.frame.now s.cells.now s.occupancy.now →
     (h : IsHeldAt s own bottom window x j) → (v : ℤ) → Holds (reach s x) v → IsOpen s.frame.now s.frame.now.obstacles h.row s.id.team v
 open_at s own bottom window x j held h v holds =
-    let o = open_over s.frame.now s.occupancy.now s.id window h.number (reach s x) held.index (filled s x) h.free in
+    let o = open_over s.frame.now s.occupancy.now s.id window (padding_in s) h.number (reach s x) held.index (filled s x) h.free in
     subst (λ (r : Row). IsOpen s.frame.now s.frame.now.obstacles r s.id.team v) (same_row s.frame.now h.number o.row h.row o.stands h.stands) (o.is_open v holds)
 
 pub left_at : (s : RowSearch) (own : ℕ) (bottom : Row) (window : Span) (x : ℤ) (j : ℕ) → IsOccupancyOf s.frame.now s.cells.now s.occupancy.now →
@@ -220,25 +221,28 @@ carried s own bottom window x o free k r high at j less =
     let same : r ≡ bottom = bottom_one f box r bottom (filled s x) at (bottom_row s own bottom window x o free) in
     subst (λ (b : Row). (t : Row) × Carries f box b j t) (sym same) (carries_at s own bottom window x o free j (omega (arith, less, tall)))
 
--- each point of the box lies in the row of a level
+-- each point of the box, or beside it at one of its heights, lies at the height of the row of a level
 record IsPointOf (s : RowSearch) (own : ℕ) (bottom : Row) (window : Span) (x px py : ℤ) : Type 0 where
   j : ℕ
   held : IsHeldAt s own bottom window x j
   from : held.row.y ≤ℤ py
   to : py <ℤ (held.row.y +ℤ s.frame.now.pitch.y)
 
-point_of : (s : RowSearch) (own : ℕ) (bottom : Row) (window : Span) (x : ℤ) (o : Orient) (px py : ℤ) → IsFreePlace s own bottom window x →
-    Covers (upright_box s (spot_on bottom x o)) px py → IsPointOf s own bottom window x px py
-point_of s own bottom window x o px py free covers =
+point_at : (s : RowSearch) (own : ℕ) (bottom : Row) (window : Span) (x px py : ℤ) → IsFreePlace s own bottom window x →
+    bottom.y ≤ℤ py → py <ℤ (bottom.y +ℤ s.size.y) → IsPointOf s own bottom window x px py
+point_at s own bottom window x px py free from to =
     let q : ℤ = s.frame.now.pitch.y in
     let size : s.size.y ≡ pos s.height *ℤ q = s.high in
-    let to : py <ℤ (bottom.y +ℤ s.size.y) = covers.top in
-    let l : IsAtLevel q bottom.y py s.height = level_of q bottom.y py s.frame.now.pitch_whole.high s.height covers.bottom (omega (arith, ints, size, to)) in
+    let l : IsAtLevel q bottom.y py s.height = level_of q bottom.y py s.frame.now.pitch_whole.high s.height from (omega (arith, ints, size, to)) in
     let h = free.held l.j l.less in
     let level : h.row.y ≡ bottom.y +ℤ (pos l.j *ℤ q) = h.at_level in
     let low = l.from in
     let high = l.below in
     record { j = l.j; held = h; from = omega (arith, ints, level, low); to = omega (arith, ints, level, high) }
+
+point_of : (s : RowSearch) (own : ℕ) (bottom : Row) (window : Span) (x : ℤ) (o : Orient) (px py : ℤ) → IsFreePlace s own bottom window x →
+    Covers (upright_box s (spot_on bottom x o)) px py → IsPointOf s own bottom window x px py
+point_of s own bottom window x o px py free covers = point_at s own bottom window x px py free covers.bottom covers.top
 
 open_point : (s : RowSearch) (own : ℕ) (bottom : Row) (window : Span) (x : ℤ) (px py : ℤ) → IsOccupancyOf s.frame.now s.cells.now s.occupancy.now →
     (p : IsPointOf s own bottom window x px py) → Holds (reach s x) px →
@@ -261,17 +265,18 @@ is_clear s own bottom window x o free m d within shares =
     let at = open_point s own bottom window x shares.x shares.y free.occupied p record { low = shares.in_first.left; high = shares.in_first.right } in
     at.0.clear.clear shares.y at.1 m d within shares.in_second
 
--- the rectangle of another cell is met in no level
+-- the rectangle of another cell comes in no level nearer to the box than the padding
 met_at : (s : RowSearch) (own : ℕ) (bottom : Row) (window : Span) (x px py : ℤ) (k : ℕ) (rect : Rect) → IsOccupancyOf s.frame.now s.cells.now s.occupancy.now →
-    (p : IsPointOf s own bottom window x px py) → Holds (reach s x) px → IsOther s.occupancy.now s.id k rect → Covers rect px py → ⊥
-met_at s own bottom window x px py k rect occupied p holds other covers =
+    (p : IsPointOf s own bottom window x px py) → (x -ℤ padding_in s) ≤ℤ px → px <ℤ ((x +ℤ s.size.x) +ℤ padding_in s) →
+    IsOther s.occupancy.now s.id k rect → Covers rect px py → ⊥
+met_at s own bottom window x px py k rect occupied p left right other covers =
     by (any_mapped (strip_of f) Free s.occupancy.now.index.segments (subst (Any Free) occupied.index.strips p.held.free.in_strip))
   where
     f : Frame
     f = s.frame.now
 
     Free : Strip → Type 0
-    Free g = IsStripOf p.held.number s.id.team g × IsFreeOver s.occupancy.now s.id g (reach s x)
+    Free g = IsStripOf p.held.number s.id.team g × IsFreeOver s.occupancy.now s.id (padding_in s) g (reach s x)
 
     by : Any (λ (g : Segment). Free (strip_of f g)) s.occupancy.now.index.segments → ⊥
     by (i, g, below, is, free) =
@@ -282,17 +287,19 @@ met_at s own bottom window x px py k rect occupied p holds other covers =
         free.1.clear k rect other record {
           x = px;
           y = py;
-          in_first = record { left = holds.low; right = holds.high; bottom = omega (arith, ints, at, from); top = omega (arith, ints, at, to) };
+          in_first = record { left = left; right = right; bottom = omega (arith, ints, at, from); top = omega (arith, ints, at, to) };
           in_second = covers;
         }
 
 is_apart : (s : RowSearch) (own : ℕ) (bottom : Row) (window : Span) (x : ℤ) (o : Orient) → IsFreePlace s own bottom window x →
-    All (λ b. SharesPoint (upright_box s (spot_on bottom x o)) b.rect → ⊥) (boxes_beside s.frame.now (map member_of (cells_of s.cells.now s.id.team)) s.id.own)
+    All (λ b. SharesPoint (wider (padding_in s) (upright_box s (spot_on bottom x o))) b.rect → ⊥)
+    (boxes_beside s.frame.now (map member_of (cells_of s.cells.now s.id.team)) s.id.own)
 is_apart s own bottom window x o free =
-    beside_hold (λ rect. SharesPoint (upright_box s (spot_on bottom x o)) rect → ⊥) s.frame.now (map member_of (cells_of s.cells.now s.id.team)) s.id.own
+    beside_hold (λ rect. SharesPoint (wider (padding_in s) (upright_box s (spot_on bottom x o))) rect → ⊥)
+    s.frame.now (map member_of (cells_of s.cells.now s.id.team)) s.id.own
     (λ k m q differ there placed shares.
     met_at s own bottom window x shares.x shares.y k (box_in s.frame.now m.mac q) free.occupied
-    (point_of s own bottom window x o shares.x shares.y free shares.in_first) record { low = shares.in_first.left; high = shares.in_first.right }
+    (point_at s own bottom window x shares.x shares.y free shares.in_first.bottom shares.in_first.top) shares.in_first.left shares.in_first.right
     (is_other s.frame.now s.cells.now s.occupancy.now s.id k m q free.occupied.boxes differ there placed) shares.in_second)
 
 -- nor is a soft blockage
@@ -303,7 +310,7 @@ soft_at s own bottom window x px py occupied p holds soft = by p.held.free.in_st
     f : Frame
     f = s.frame.now
 
-    by : Any (λ g. IsStripOf p.held.number s.id.team g × IsFreeOver s.occupancy.now s.id g (reach s x)) s.occupancy.now.index.strips → ⊥
+    by : Any (λ g. IsStripOf p.held.number s.id.team g × IsFreeOver s.occupancy.now s.id (padding_in s) g (reach s x)) s.occupancy.now.index.strips → ⊥
     by (k, g, below, is, free) =
         let here : slice_get s.occupancy.now.index.strips k ≡ Some g = slice_get-get_or s.occupancy.now.index.strips k g below ∙ ap (λ (z : Strip). Some z) is in
         let spans = soft_over f s.occupancy.now.index k g occupied.index here in
@@ -342,7 +349,7 @@ record KeepsAll (s : RowSearch) (o : Orient) (box : Rect) : Type 0 where
       rail_below r.orient ≡ Some (macro_of s.frame.now s.mac).rail
   ground : StaysInGround s.frame.now s.id.team box
   clear : IsClear s.frame.now box
-  apart : All (λ b. SharesPoint box b.rect → ⊥) (boxes_beside s.frame.now (map member_of (cells_of s.cells.now s.id.team)) s.id.own)
+  apart : All (λ b. SharesPoint (wider (padding_in s) box) b.rect → ⊥) (boxes_beside s.frame.now (map member_of (cells_of s.cells.now s.id.team)) s.id.own)
 
 keeps_all : (s : RowSearch) (own : ℕ) (bottom : Row) (window : Span) (x : ℤ) (o : Orient) → MayStand s bottom o → IsFreePlace s own bottom window x →
     KeepsAll s o (upright_box s (spot_on bottom x o))

@@ -26,6 +26,7 @@ use Rattle.lf_floorplan.specs.Standing.{Carries, IsBottomRow, IsSitesHigh, Stand
 use Rattle.lf_segments.specs.declared.segment.Segment.{Segment}
 use Rattle.lf_segments.specs.Segments.{IsOf, LiesInSegment}
 use Rattle.lf_segments.proofs.LawLemmas.{segments_hold}
+use Rattle.lf_rules.specs.Padding.{wider}
 use Rattle.lf_rules.specs.Legality.{IsOnRail, IsOriented}
 use Rattle.lf_rules.specs.Legality.{box_of as box_tried}
 use Rattle.lf_rules.specs.Choice.{Spot, IsLegalAt, MayGo, spot_of, trial_at}
@@ -42,7 +43,7 @@ use Rattle.lf_segments.specs.Strips.{IsNear, row_y, strip_of}
 use Rattle.lf_occupancy.specs.Floorplans.{HoldsCells, IsOccupancyOf, box_of}
 use Rattle.lf_legalize.specs.declared.row_search.RowSearch.{RowSearch}
 use Rattle.lf_legalize.specs.Members.{member_of}
-use Rattle.lf_legalize.specs.RowSearches.{IsOnRowIn, lifted_in}
+use Rattle.lf_legalize.specs.RowSearches.{IsOnRowIn, lifted_in, padding_in}
 use Rattle.lf_legalize.specs.Levels.{IsFreeOnRow, IsLevel, MayStand}
 use Rattle.lf_legalize.proofs.LevelLemmas.{own_one}
 use Rattle.lf_legalize.proofs.SoftLemmas.{soft_over}
@@ -190,7 +191,7 @@ record IsGoodBox (s : RowSearch) (box : Rect) : Type 0 where
   stands : StandsOn s.frame.now box
   ground : StaysInGround s.frame.now s.id.team box
   clear : IsClear s.frame.now box
-  apart : All (λ b. SharesPoint box b.rect → ⊥) (boxes_beside s.frame.now (map member_of (cells_of s.cells.now s.id.team)) s.id.own)
+  apart : All (λ b. SharesPoint (wider (padding_in s) box) b.rect → ⊥) (boxes_beside s.frame.now (map member_of (cells_of s.cells.now s.id.team)) s.id.own)
   off_soft : MeetsSoft s.frame.now box → ⊥
 
 good_box : (s : RowSearch) (p : Spot) → MayGo (lifted_in s) p → IsGoodBox s (upright_box s p)
@@ -206,7 +207,7 @@ row_y_is f n r there = rw there refl
 -- a row that carries the box is free over its reach
 free_on_carrier : (s : RowSearch) (bottom : Row) (window : Span) (p : Spot) (j n : ℕ) (r : Row) → IsOccupancyOf s.frame.now s.cells.now s.occupancy.now →
     IsOnRowIn s.frame.now s.size bottom window p → IsGoodBox s (upright_box s p) → j < s.height → slice_get s.frame.now.rows n ≡ Some r →
-    Carries s.frame.now (upright_box s p) bottom j r → IsFreeOnRow s.occupancy.now s.id window n (reach s p.x)
+    Carries s.frame.now (upright_box s p) bottom j r → IsFreeOnRow s.occupancy.now s.id window (padding_in s) n (reach s p.x)
 free_on_carrier s bottom window p j n r held on legal less there carries = record {
   within = λ x h. record {
     low = let a = on.left in let b = h.low in omega (arith, ints, a, b);
@@ -222,7 +223,7 @@ free_on_carrier s bottom window p j n r held on legal less there carries = recor
     f = s.frame.now
 
     Free : Strip → Type 0
-    Free g = IsStripOf n s.id.team g × IsFreeOver s.occupancy.now s.id g (reach s p.x)
+    Free g = IsStripOf n s.id.team g × IsFreeOver s.occupancy.now s.id (padding_in s) g (reach s p.x)
 
     lies : LiesInSegment s.occupancy.now.index.segments n s.id.team (reach s p.x)
     lies = segments_hold f f.obstacles s.occupancy.now.index.segments s.id.team (upright_box s p) held.index.segments legal.stands (filled s p.x) legal.ground legal.clear
@@ -231,29 +232,31 @@ free_on_carrier s bottom window p j n r held on legal less there carries = recor
     q : ℤ
     q = f.pitch.y
 
-    in_row : (x y : ℤ) → Holds (reach s p.x) x → r.y ≤ℤ y → y <ℤ (r.y +ℤ q) → Covers (upright_box s p) x y
-    in_row x y holds from to =
+    between : (y : ℤ) → r.y ≤ℤ y → y <ℤ (r.y +ℤ q) → (p.y ≤ℤ y) × (y <ℤ (p.y +ℤ s.size.y))
+    between y from to =
         let up : pos 0 <ℤ q = f.pitch_whole.high in
         let low = above q up j in
         let top = rises q up j s.height less in
         let level : r.y ≡ p.y +ℤ (pos j *ℤ q) = carries.at_row.at_level in
         let size : s.size.y ≡ pos s.height *ℤ q = s.high in
-        record {
-          left = holds.low;
-          right = holds.high;
-          bottom = omega (arith, ints, low, level, from);
-          top = omega (arith, ints, top, level, size, to);
-        }
+        (omega (arith, ints, low, level, from), omega (arith, ints, top, level, size, to))
+
+    in_row : (x y : ℤ) → Holds (reach s p.x) x → r.y ≤ℤ y → y <ℤ (r.y +ℤ q) → Covers (upright_box s p) x y
+    in_row x y holds from to =
+        let at = between y from to in
+        record { left = holds.low; right = holds.high; bottom = at.0; top = at.1 }
 
     level_is : (row : ℕ) → row ≡ n → row_y f row ≡ r.y
     level_is row of = ap (row_y f) of ∙ row_y_is f n r there
 
-    point : (g : Segment) (x y : ℤ) → g.row ≡ n → Covers (over (strip_of f g) (reach s p.x)) x y → Covers (upright_box s p) x y
-    point g x y of covers =
+    -- what is made wider over a strip of the row lies in the box made wider
+    point : (g : Segment) (by x y : ℤ) → g.row ≡ n → Covers (wider by (over (strip_of f g) (reach s p.x))) x y → Covers (wider by (upright_box s p)) x y
+    point g by x y of covers =
         let at = level_is g.row of in
         let from : row_y f g.row ≤ℤ y = covers.bottom in
         let to : y <ℤ (row_y f g.row +ℤ q) = covers.top in
-        in_row x y record { low = covers.left; high = covers.right } (omega (arith, ints, at, from)) (omega (arith, ints, at, to))
+        let inside = between y (omega (arith, ints, at, from)) (omega (arith, ints, at, to)) in
+        record { left = covers.left; right = covers.right; bottom = inside.0; top = inside.1 }
 
     apart_at : (k : ℕ) (g : Strip) → slice_get s.occupancy.now.index.strips k ≡ Some g → IsNear n s.id.team window.lo window.hi g →
         IsApart (get_or s.occupancy.now.index.soft k []) (reach s p.x)
@@ -277,13 +280,14 @@ free_on_carrier s bottom window p j n r held on legal less there carries = recor
       record {
         within = both.1;
         clear = λ own box other shares.
+            let by : ℤ = padding_in s in
             let cell = other_placed f s.cells.now s.occupancy.now s.id own box held.boxes other in
             let cells = cells_of s.cells.now s.id.team in
-            let apart = beside_each (λ rect. SharesPoint (upright_box s p) rect → ⊥) f (map member_of cells) s.id.own legal.apart own
+            let apart = beside_each (λ rect. SharesPoint (wider by (upright_box s p)) rect → ⊥) f (map member_of cells) s.id.own legal.apart own
             (member_of cell.cell) (spot_of cell.place) other.other
             (slice_get-map member_of cells own ∙ ap (option_map member_of) cell.there) (ap (option_map spot_of) cell.stands) in
-            apart (subst (SharesPoint (upright_box s p)) (sym cell.is)
-            record { x = shares.x; y = shares.y; in_first = point g shares.x shares.y both.0.in_row shares.in_first; in_second = shares.in_second });
+            apart (subst (SharesPoint (wider by (upright_box s p))) (sym cell.is)
+            record { x = shares.x; y = shares.y; in_first = point g by shares.x shares.y both.0.in_row shares.in_first; in_second = shares.in_second });
       },
     )
 

@@ -17,6 +17,7 @@ use Rattle.lf_segments.specs.RowsByY.{entry, IsEntryOf, IsRowsByY, IsRunAt, Prec
 use Rattle.lf_segments.proofs.HeightLemmas.{run_in_range, range_in_run, lower_is_not, higher_is_not}
 use Rattle.lf_segments.specs.Grounds.{IsGroundOf}
 use Rattle.lf_legalize.specs.declared.row_search.RowSearch.{RowSearch}
+use Rattle.lf_legalize.specs.RowSearches.{padding_in}
 use Rattle.lf_legalize.specs.Levels.{AddsRow, AreFreeOn, IsLevelRow, IsRailed}
 use Rattle.lf_legalize.proofs.LevelLemmas.{LieLeft, any_right, free_append, free_as, same_row}
 
@@ -133,7 +134,7 @@ abbrev pub IsPassed : Frame → Row → ℕ → List RowEntry → ℕ → ℕ �
 IsPassed f bottom j run count n = Any (λ e. e.row ≡ n) (take count run) × IsRailed f bottom j n
 
 abbrev pub FreeSoFar : RowSearch → Row → ℕ → Span → List RowEntry → ℕ → List Span → Type 0
-FreeSoFar s bottom j window run count free = AreFreeOn (IsPassed s.frame.now bottom j run count) s.occupancy.now s.id window free
+FreeSoFar s bottom j window run count free = AreFreeOn (IsPassed s.frame.now bottom j run count) s.occupancy.now s.id window (padding_in s) free
 
 next_left : (f : Frame) (es run : List RowEntry) (y : ℤ) (bottom : Row) (j k : ℕ) (d : RowEntry) → IsRowsByY f es → IsRunAt es y run → k < length run →
     LieLeft f (IsPassed f bottom j run k) (λ n. (n ≡ (get_or run k d).row) × IsRailed f bottom j (get_or run k d).row)
@@ -174,9 +175,9 @@ free_next s es run y bottom j window k d old new strips rows p within free adds 
     let First = IsPassed f bottom j run k in
     let Second : ℕ → Type 0 = λ n. (n ≡ (get_or run k d).row) × IsRailed f bottom j (get_or run k d).row in
     subst (FreeSoFar s bottom j window run (k + 1)) (sym adds.is)
-    (free_as (λ n. First n ⊎ Second n) (IsPassed f bottom j run (k + 1)) s.occupancy.now s.id window (old ++ adds.added)
+    (free_as (λ n. First n ⊎ Second n) (IsPassed f bottom j run (k + 1)) s.occupancy.now s.id window (padding_in s) (old ++ adds.added)
     (more_rows f bottom j run k d within)
-    (free_append First Second f s.occupancy.now s.id window old adds.added strips (next_left f es run y bottom j k d rows p within) free adds.free))
+    (free_append First Second f s.occupancy.now s.id window (padding_in s) old adds.added strips (next_left f es run y bottom j k d rows p within) free adds.free))
 
 level_rows : (f : Frame) (es run : List RowEntry) (y : ℤ) (bottom : Row) (j k : ℕ) → IsRowsByY f es → IsRunAt es y run → length run ≤ k →
     y ≡ bottom.y +ℤ (pos j *ℤ f.pitch.y) → (n : ℕ) → IsPassed f bottom j run k n ↔ IsLevelRow f bottom j n
@@ -195,7 +196,7 @@ level_rows f es run y bottom j k rows p all level n = (
 
 pub free_end : (s : RowSearch) (es run : List RowEntry) (y : ℤ) (bottom : Row) (j : ℕ) (window : Span) (k : ℕ) (free : List Span) → IsRowsByY s.frame.now es →
     IsRunAt es y run → length run ≤ k → y ≡ bottom.y +ℤ (pos j *ℤ s.frame.now.pitch.y) → FreeSoFar s bottom j window run k free →
-    AreFreeOn (IsLevelRow s.frame.now bottom j) s.occupancy.now s.id window free
+    AreFreeOn (IsLevelRow s.frame.now bottom j) s.occupancy.now s.id window (padding_in s) free
 free_end s es run y bottom j window k free rows p all level so_far =
-    free_as (IsPassed s.frame.now bottom j run k) (IsLevelRow s.frame.now bottom j) s.occupancy.now s.id window free
+    free_as (IsPassed s.frame.now bottom j run k) (IsLevelRow s.frame.now bottom j) s.occupancy.now s.id window (padding_in s) free
     (level_rows s.frame.now es run y bottom j k rows p all level) so_far

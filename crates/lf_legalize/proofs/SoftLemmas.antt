@@ -136,10 +136,10 @@ first_end soft start n end free left ended all = record {
 }
 
 -- what is free on the row without what is soft of the strips near the window is free off soft blockages
-pub open_row : (o : Occupied) (row : ℕ) (id : CellId) (window : Span) (start end : ℕ) (free left : List Span) →
-    AreNear o.index.strips row id.team window.lo window.hi start end → IsFreeInRow o row id window free → AreWithoutSoft o.index.soft start end free left →
-    IsOpenInRow o row id window left
-open_row o row id window start end free left near is without = record {
+pub open_row : (o : Occupied) (row : ℕ) (id : CellId) (window : Span) (padding : ℤ) (start end : ℕ) (free left : List Span) →
+    AreNear o.index.strips row id.team window.lo window.hi start end → IsFreeInRow o row id window padding free → AreWithoutSoft o.index.soft start end free left →
+    IsOpenInRow o row id window padding left
+open_row o row id window padding start end free left near is without = record {
   rising = without.rising;
   exact = λ s filled. (
     λ lies.

@@ -18,6 +18,7 @@ use Rattle.lf_rules.specs.Choice.{rank}
 use Rattle.lf_cells.specs.declared.cell.CellId.{CellId}
 use Rattle.lf_occupancy.specs.Occupied.{Occupied, IsFreeOver, IsStripOf}
 use Rattle.lf_legalize.specs.declared.row_search.RowSearch.{RowSearch}
+use Rattle.lf_legalize.specs.RowSearches.{padding_in}
 
 -- the rail of the row of this number is the bottom row's, changed j times
 pub record IsRailed (f : Frame) (bottom : Row) (j n : ℕ) : Type 0 where
@@ -37,17 +38,17 @@ abbrev pub IsRowOfLevel : Frame → ℕ → Row → ℕ → ℕ → Type 0
 IsRowOfLevel f own bottom zero n = n ≡ own
 IsRowOfLevel f own bottom (suc j) n = IsLevelRow f bottom (suc j) n
 
--- the span lies in the window, is free for the cell in one strip of the row of this number, and shares no number with the soft spans
+-- the span lies in the window, is free for the cell and its padding in one strip of the row of this number, and shares no number with the soft spans
 -- of the row's strips near the window
-pub record IsFreeOnRow (o : Occupied) (id : CellId) (window : Span) (n : ℕ) (s : Span) : Type 0 where
+pub record IsFreeOnRow (o : Occupied) (id : CellId) (window : Span) (padding : ℤ) (n : ℕ) (s : Span) : Type 0 where
   pub within : LiesIn s window
-  pub in_strip : Any (λ g. IsStripOf n id.team g × IsFreeOver o id g s) o.index.strips
+  pub in_strip : Any (λ g. IsStripOf n id.team g × IsFreeOver o id padding g s) o.index.strips
   pub off_soft : (k : ℕ) (g : Strip) → slice_get o.index.strips k ≡ Some g → IsNear n id.team window.lo window.hi g → IsApart (slice_index_or o.index.soft k []) s
 
 -- those spans of a row: a span that holds a number lies in one of them if and only if it is so free
-pub record IsOpenInRow (o : Occupied) (row : ℕ) (id : CellId) (window : Span) (open_spans : List Span) : Type 0 where
+pub record IsOpenInRow (o : Occupied) (row : ℕ) (id : CellId) (window : Span) (padding : ℤ) (open_spans : List Span) : Type 0 where
   pub rising : IsRising open_spans
-  pub exact : (s : Span) → IsFilled s → (LiesInOne open_spans s ↔ IsFreeOnRow o id window row s)
+  pub exact : (s : Span) → IsFilled s → (LiesInOne open_spans s ↔ IsFreeOnRow o id window padding row s)
 
 -- the free spans without the soft ones of the strips from start on and below end
 pub record AreWithoutSoft (soft : List (List Span)) (start end : ℕ) (free left : List Span) : Type 0 where
@@ -56,26 +57,26 @@ pub record AreWithoutSoft (soft : List (List Span)) (start end : ℕ) (free left
       (LiesInOne left s ↔ (LiesInOne free s × ((k : ℕ) → start ≤ k → k < end → IsApart (slice_index_or soft k []) s)))
 
 -- the span is so free on one of these rows
-pub record IsFreeOnOne (Rows : ℕ → Type 0) (o : Occupied) (id : CellId) (window s : Span) : Type 0 where
+pub record IsFreeOnOne (Rows : ℕ → Type 0) (o : Occupied) (id : CellId) (window : Span) (padding : ℤ) (s : Span) : Type 0 where
   pub number : ℕ
   pub among : Rows number
-  pub free : IsFreeOnRow o id window number s
+  pub free : IsFreeOnRow o id window padding number s
 
 -- the free spans in the window on one of these rows: a span that holds a number lies in one of them if and only if it is free on
 -- such a row
-pub record AreFreeOn (Rows : ℕ → Type 0) (o : Occupied) (id : CellId) (window : Span) (free : List Span) : Type 0 where
+pub record AreFreeOn (Rows : ℕ → Type 0) (o : Occupied) (id : CellId) (window : Span) (padding : ℤ) (free : List Span) : Type 0 where
   pub rising : IsRising free
-  pub exact : (s : Span) → IsFilled s → (LiesInOne free s ↔ IsFreeOnOne Rows o id window s)
+  pub exact : (s : Span) → IsFilled s → (LiesInOne free s ↔ IsFreeOnOne Rows o id window padding s)
 
 -- what is free on the row of this number is appended to the other spans, if its rail is the bottom row's, changed j times
 pub record AddsRow (s : RowSearch) (bottom : Row) (j n : ℕ) (window : Span) (old new : List Span) : Type 0 where
   pub added : List Span
   pub is : new ≡ old ++ added
-  pub free : AreFreeOn (λ m. (m ≡ n) × IsRailed s.frame.now bottom j n) s.occupancy.now s.id window added
+  pub free : AreFreeOn (λ m. (m ≡ n) × IsRailed s.frame.now bottom j n) s.occupancy.now s.id window (padding_in s) added
 
 -- what is free on the rows of level j
 abbrev pub IsLevel : RowSearch → ℕ → Row → Span → ℕ → List Span → Type 0
-IsLevel s own bottom window j free = AreFreeOn (λ n. IsRowOfLevel s.frame.now own bottom j n) s.occupancy.now s.id window free
+IsLevel s own bottom window j free = AreFreeOn (λ n. IsRowOfLevel s.frame.now own bottom j n) s.occupancy.now s.id window (padding_in s) free
 
 -- what is free on the rows of each of the first levels
 pub record AreLevels (s : RowSearch) (own : ℕ) (bottom : Row) (window : Span) (count : ℕ) (lists : List (List Span)) : Type 0 where

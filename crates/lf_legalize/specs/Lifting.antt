@@ -5,6 +5,6 @@ use Rattle.lf_floorplan.specs.declared.macros.Macro.{Macro}
 use Rattle.lf_rtree.specs.declared.placed.Placed.{Placed}
 use Rattle.lf_rules.specs.Choice.{Lifted}
 
--- the cell of a team, by its macro, taken from its place among the team's other placed cells
-abbrev pub lifted : Frame → ℕ → Macro → List Placed → Lifted
-lifted f team m others = record { frame = f; team = team; mac = m; others = others }
+-- the cell of a team with this padding, in core sites, by its macro, taken from its place among the team's other placed cells
+abbrev pub lifted : Frame → ℕ → ℕ → Macro → List Placed → Lifted
+lifted f team padding m others = record { frame = f; team = team; padding = padding; mac = m; others = others }

@@ -17,8 +17,8 @@ member_of c = record { mac = c.mac; place = option_map spot_of c.working }
 abbrev pub IsSizedCell : Frame → Cell → Type 0
 IsSizedCell f c = HasSize f c
 
--- the best place for a target of the cell of that position, taken from its place among its team's cells; None if no
--- place is team-legal, or there is no such cell
-abbrev pub best_of : Legalizer → Frame → ℕ → List Cell → ℕ → Point → Option Spot
-best_of l f team cells own target =
-    option_and_then (λ c. l.best_place (lifted_from f team (map member_of cells) own c.mac) target) (slice_get cells own)
+-- the best place for a target of the cell of that position, taken from its place among the cells of its team, which has this padding
+-- in core sites; None if no place is team-legal, or there is no such cell
+abbrev pub best_of : Legalizer → Frame → ℕ → ℕ → List Cell → ℕ → Point → Option Spot
+best_of l f team padding cells own target =
+    option_and_then (λ c. l.best_place (lifted_from f team padding (map member_of cells) own c.mac) target) (slice_get cells own)

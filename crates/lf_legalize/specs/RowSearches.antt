@@ -1,5 +1,5 @@
 -- The best place of a cell on one row; no public clause cites it.
-use Rattle.std.specs.Prelude.{◌≡◌, ◌⊎◌, ◌+ℤ◌, ◌≤ℤ◌, Option, map, MatchOption}
+use Rattle.std.specs.Prelude.{◌≡◌, ◌⊎◌, ℤ, ◌+ℤ◌, ◌≤ℤ◌, Option, map, MatchOption}
 use Rattle.lf_units.specs.declared.area.Point.{Point}
 use Rattle.lf_spans.specs.declared.span.Span.{Span}
 use Rattle.lf_floorplan.specs.declared.frame.Frame.{Frame}
@@ -7,14 +7,19 @@ use Rattle.lf_floorplan.specs.declared.parts.Row.{Row}
 use Rattle.lf_floorplan.specs.Sizes.{box_at}
 use Rattle.lf_floorplan.specs.Standing.{IsBottomRow}
 use Rattle.lf_rules.specs.Choice.{Spot, Lifted, MayGo, Precedes}
+use Rattle.lf_rules.specs.Padding.{length_of}
 use Rattle.lf_rules.specs.Team.{lifted_from}
 use Rattle.lf_cells.specs.Cells.{cells_of}
 use Rattle.lf_legalize.specs.Members.{member_of}
 use Rattle.lf_legalize.specs.declared.row_search.RowSearch.{RowSearch}
 
--- the cell whose best place is looked for, taken from its place among its team's cells
+-- the cell whose best place is looked for, taken from its place among its team's cells, under the team's padding
 abbrev pub lifted_in : RowSearch → Lifted
-lifted_in s = lifted_from s.frame.now s.id.team (map member_of (cells_of s.cells.now s.id.team)) s.id.own s.mac
+lifted_in s = lifted_from s.frame.now s.id.team s.padding.sites (map member_of (cells_of s.cells.now s.id.team)) s.id.own s.mac
+
+-- the padding of the search as a length
+abbrev pub padding_in : RowSearch → ℤ
+padding_in s = length_of s.frame.now s.padding.sites
 
 -- at this place a box of that size has the row as its bottom row, and lies over the window
 pub record IsOnRowIn (f : Frame) (size : Point) (r : Row) (window : Span) (p : Spot) : Type 0 where

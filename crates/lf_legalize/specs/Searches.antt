@@ -9,7 +9,7 @@ use Rattle.lf_legalize.specs.declared.search.Search.{Search}
 
 -- the cell whose best place is looked for
 abbrev pub cell_of : Search → Lifted
-cell_of s = lifted s.frame.now s.team s.mac.now s.others.now
+cell_of s = lifted s.frame.now s.team s.padding.sites s.mac.now s.others.now
 
 -- from the best place so far to the one after looking also at these places
 abbrev pub LooksAt : (Spot → Type 0) → Search → Option Place → Option Place → Type 0

@@ -18,7 +18,7 @@ use lf_cells::{CellId, CellTable};
 use lf_floorplan::{Frame, Macro, Place, mac_at, size_in_units};
 use lf_occupancy::Occupancy;
 use lf_orient::Orient;
-use lf_rules::{height_in_sites, solid_box};
+use lf_rules::{Padding, height_in_sites, solid_box};
 use lf_units::Point;
 use std::alloc::{AllocError, Global};
 
@@ -53,7 +53,7 @@ fn height_of(frame: &Frame, mac: &Macro) -> Option<u32>
     height_in_sites(frame, &solid_box(frame, mac, &origin))
 }
 
-/// The best place of the cell of this macro.
+/// The best place of the cell of this macro, under its team's padding.
 fn best_for(
     alloc: Global,
     frame: &Frame,
@@ -62,12 +62,13 @@ fn best_for(
     id: CellId,
     mac: usize,
     target: &Point,
+    padding: Padding,
 ) -> Result<Option<Place>, AllocError>
     requires held { IsOccupancyOf frame.now cells.now occupancy.now }
     requires known { mac < length frame.now.macros }
     requires sized { IsSized frame.now (macro_of frame.now mac) }
     ensures { IfOk result (λ found.
-        IsChoice (lifted_from frame.now id.team (map member_of (cells_of cells.now id.team)) id.own mac) target.now (option_map spot_of found)) }
+        IsChoice (lifted_from frame.now id.team padding.sites (map member_of (cells_of cells.now id.team)) id.own mac) target.now (option_map spot_of found)) }
 {
     let of_cell = mac_at(frame, mac);
     let Some(height) = height_of(frame, of_cell) else {
@@ -84,6 +85,7 @@ fn best_for(
         size: size_of(frame, of_cell),
         height,
         target: &near,
+        padding,
     };
     nearest(alloc, &search, farthest_in(extent))
 }
@@ -97,10 +99,12 @@ impl Seeker for IndexSeeker {
         occupancy: &Occupancy,
         cell: CellId,
         target: &Point,
+        padding: Padding,
     ) -> Result<Option<Place>, AllocError> {
         let Some(standing) = cells.standing(cell) else {
             return Ok(None);
         };
-        best_for(alloc, frame, cells, occupancy, cell, standing.mac, target)
+        let mac = standing.mac;
+        best_for(alloc, frame, cells, occupancy, cell, mac, target, padding)
     }
 }

@@ -8,6 +8,7 @@ ghost use Rattle.lf_floorplan.specs.Standing.{changed};
 ghost use Rattle.lf_segments.specs.RowsByY.{IsRunAt};
 ghost use Rattle.lf_occupancy.specs.Floorplans.{IsOccupancyOf};
 ghost use Rattle.lf_legalize.specs.Levels.{AddsRow, AreFreeOn, AreLevels, HasBareLevel, IsLevel, IsLevelRow};
+ghost use Rattle.lf_legalize.specs.RowSearches.{padding_in};
 
 use crate::row_search::{RowSearch, rows_of};
 use crate::soft::open_in_row;
@@ -99,7 +100,7 @@ fn free_above(
     requires few { level ≤ 8 }
     requires low { negsuc 4611686018427387903 ≤ℤ bottom.now.window.now.lo }
     ensures { IfOk result (λ free.
-        AreFreeOn (IsLevelRow search.now.frame.now bottom.now.row.now level) search.now.occupancy.now search.now.id bottom.now.window.now free.items) }
+        AreFreeOn (IsLevelRow search.now.frame.now bottom.now.row.now level) search.now.occupancy.now search.now.id bottom.now.window.now (padding_in search.now) free.items) }
 {
     let mut spans = Vec::new(alloc);
     for entry in rows_above(search, bottom.row, level) {

@@ -14,14 +14,22 @@ use crate::reach::better;
 use crate::search::Search;
 use lf_floorplan::{Frame, Macro, Place, Row};
 use lf_orient::Orient;
-use lf_rules::{Placed, box_of, first_broken, meets_soft};
+use lf_rules::{Padding, Placed, box_of, first_broken, meets_soft};
 use lf_units::Point;
 
 /// Whether the place is legal for the cell.
 fn is_legal(search: &Search<'_>, place: &Place) -> bool
     ensures { IsTrue result ↔ IsLegalAt (cell_of search.now) (spot_of place.now) }
 {
-    first_broken(search.frame, search.team, search.mac, place, search.others).is_none()
+    first_broken(
+        search.frame,
+        search.team,
+        search.mac,
+        place,
+        search.others,
+        search.padding,
+    )
+    .is_none()
 }
 
 /// Whether the search may put the cell at the place: it is legal, and the cell's box there keeps clear of soft blockages.
@@ -100,6 +108,10 @@ fn with_row(search: &Search<'_>, best: Option<Place>, row: &Row) -> Option<Place
 /// are the team's other placed cells. The key is that of `precedes`; no two legal places have the same
 /// key, so there is one best place at most. The target may be any point. It allocates nothing.
 ///
+/// `padding` is the team's, in core sites. It is heeded against each of the team's other cells, wherever
+/// it stands, across obstacles and from one segment to the next; not against the ends of segments, nor
+/// against the cells of other teams.
+///
 /// It tries each orientation on every site of every row: the time grows as the number of sites times
 /// that of the rows, obstacles, soft blockages and other cells. Faster searches are compared with it.
 pub fn best_place(
@@ -108,10 +120,11 @@ pub fn best_place(
     mac: &Macro,
     others: &[Placed],
     target: &Point,
+    padding: Padding,
 ) -> Option<Place>
     requires { IsSized frame.now mac.now }
-    ensures best { IsChoice (lifted frame.now team mac.now others.now) target.now (option_map spot_of result) }
-    ensures one { (l : Legalizer) → option_map spot_of result ≡ l.best_place (lifted frame.now team mac.now others.now) target.now }
+    ensures best { IsChoice (lifted frame.now team padding.sites mac.now others.now) target.now (option_map spot_of result) }
+    ensures one { (l : Legalizer) → option_map spot_of result ≡ l.best_place (lifted frame.now team padding.sites mac.now others.now) target.now }
 {
     let search = Search {
         frame,
@@ -119,6 +132,7 @@ pub fn best_place(
         mac,
         others,
         target,
+        padding,
     };
     let mut best = None;
     for row in frame.rows.as_slice() {

@@ -6,10 +6,11 @@ ghost use Rattle.lf_floorplan.specs.Boxes.{IsSized, macro_of, size_of};
 use lf_cells::{CellId, CellTable};
 use lf_floorplan::Frame;
 use lf_occupancy::Occupancy;
+use lf_rules::Padding;
 use lf_segments::RowsByY;
 use lf_units::Point;
 
-/// A cell taken from its place, and the target for its best place.
+/// A cell taken from its place, the target for its best place, and its team's padding.
 #[derive(Clone, Copy)]
 pub(crate) struct RowSearch<'a> {
     pub frame: &'a Frame,
@@ -23,6 +24,7 @@ pub(crate) struct RowSearch<'a> {
     /// The macro's height in core sites.
     pub height: u32,
     pub target: &'a Point,
+    pub padding: Padding,
     pub ghost known: { mac < length frame.now.macros },
     pub ghost sized: { IsSized frame.now (macro_of frame.now mac) },
     pub ghost size_is: { size ≡ size_of frame.now (macro_of frame.now mac) },

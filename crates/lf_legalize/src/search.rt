@@ -3,10 +3,10 @@
 ghost use Rattle.lf_floorplan.specs.Boxes.{IsSized};
 
 use lf_floorplan::{Frame, Macro};
-use lf_rules::Placed;
+use lf_rules::{Padding, Placed};
 use lf_units::Point;
 
-/// A cell taken from its place, and the target for its best place.
+/// A cell taken from its place, the target for its best place, and its team's padding.
 #[derive(Clone, Copy)]
 pub(crate) struct Search<'a> {
     pub frame: &'a Frame,
@@ -14,5 +14,6 @@ pub(crate) struct Search<'a> {
     pub mac: &'a Macro,
     pub others: &'a [Placed],
     pub target: &'a Point,
+    pub padding: Padding,
     pub ghost sized: { IsSized frame.now mac.now },
 }

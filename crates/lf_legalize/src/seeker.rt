@@ -13,6 +13,7 @@ use crate::plain::best_place;
 use lf_cells::{CellId, CellTable};
 use lf_floorplan::{Frame, Place};
 use lf_occupancy::Occupancy;
+use lf_rules::Padding;
 use lf_units::Point;
 use std::alloc::{AllocError, Global};
 
@@ -25,6 +26,10 @@ pub trait Seeker {
     ///
     /// None if there is no such place, or no such cell. `Err` if an allocation fails.
     /// The target may be any point, in database units.
+    ///
+    /// `padding` is that of the cell's team, in core sites. It keeps the cell apart from each of the team's other
+    /// cells, wherever it stands, across obstacles and from one segment to the next; not from the ends of segments,
+    /// nor from the cells of other teams.
     fn seek(
         &self,
         alloc: Global,
@@ -33,11 +38,12 @@ pub trait Seeker {
         occupancy: &Occupancy,
         cell: CellId,
         target: &Point,
+        padding: Padding,
     ) -> Result<Option<Place>, AllocError>
         requires held { IsOccupancyOf frame.now cells.now occupancy.now }
         requires sized { All (IsSizedCell frame.now) (cells_of cells.now cell.team) }
         requires few { length (cells_of cells.now cell.team) ≤ 4000000 }
-        ensures best { (l : Legalizer) → IfOk result (λ found. option_map spot_of found ≡ best_of l frame.now cell.team (cells_of cells.now cell.team) cell.own target.now) };
+        ensures best { (l : Legalizer) → IfOk result (λ found. option_map spot_of found ≡ best_of l frame.now cell.team padding.sites (cells_of cells.now cell.team) cell.own target.now) };
 }
 
 /// Tries each orientation on every site of every row, as the definition of the best place has it;
@@ -54,12 +60,14 @@ impl Seeker for PlainSeeker {
         _occupancy: &Occupancy,
         cell: CellId,
         target: &Point,
+        padding: Padding,
     ) -> Result<Option<Place>, AllocError> {
         let Some(standing) = cells.standing(cell) else {
             return Ok(None);
         };
         let others = boxes_beside(alloc, frame, cells, cell)?;
         let mac = &frame.macros.as_slice()[standing.mac];
-        Ok(best_place(frame, cell.team as usize, mac, &others, target))
+        let team = cell.team as usize;
+        Ok(best_place(frame, team, mac, &others, target, padding))
     }
 }

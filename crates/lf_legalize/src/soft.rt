@@ -1,9 +1,11 @@
 //! What is free for a cell on a row, without what soft blockages cover.
 
-ghost use Rattle.std.specs.Prelude.{◌≤ℤ◌, ℕ, IfOk, [], negsuc, slice_index_or};
+ghost use Rattle.std.specs.Prelude.{◌≡◌, ◌≤ℤ◌, ℕ, IfOk, [], negsuc, slice_index_or};
 ghost use Rattle.lf_spans.specs.Spans.{IsMinus, IsRising};
 ghost use Rattle.lf_occupancy.specs.Floorplans.{IsOccupancyOf};
+ghost use Rattle.lf_occupancy.specs.Occupied.{IsPaddingOf};
 ghost use Rattle.lf_legalize.specs.Levels.{AreWithoutSoft, IsOpenInRow};
+ghost use Rattle.lf_legalize.specs.RowSearches.{padding_in};
 
 use crate::row_search::RowSearch;
 use lf_segments::{Ground, NearStrips};
@@ -41,8 +43,17 @@ fn without_soft(
     Ok(left)
 }
 
-/// Within a window, the spans of a row that are free for the cell of the search and off soft
-/// blockages.
+/// The padding of the search, in database units.
+fn padding_length(search: &RowSearch<'_>) -> i64
+    requires { IsOccupancyOf search.now.frame.now search.now.cells.now search.now.occupancy.now }
+    ensures is { result ≡ padding_in search.now }
+    ensures padding { IsPaddingOf search.now.occupancy.now result }
+{
+    search.padding.length(search.frame)
+}
+
+/// Within a window, the spans of a row that are free for the cell of the search, with the padding
+/// around the team's other cells, and off soft blockages.
 pub(crate) fn open_in_row(
     alloc: Global,
     search: &RowSearch<'_>,
@@ -51,11 +62,12 @@ pub(crate) fn open_in_row(
 ) -> Result<Vec<Span>, AllocError>
     requires held { IsOccupancyOf search.now.frame.now search.now.cells.now search.now.occupancy.now }
     requires low { negsuc 4611686018427387903 ≤ℤ window.now.lo }
-    ensures { IfOk result (λ left. IsOpenInRow search.now.occupancy.now number search.now.id window.now left.items) }
+    ensures { IfOk result (λ left. IsOpenInRow search.now.occupancy.now number search.now.id window.now (padding_in search.now) left.items) }
 {
+    let padding = padding_length(search);
     let free = search
         .occupancy
-        .free_in_row(alloc, number, search.id, window)?;
+        .free_in_row(alloc, number, search.id, window, padding)?;
     let index = search.occupancy.index();
     let near = index.near(number, search.id.team as usize, &window.lo, &window.hi);
     without_soft(alloc, index, &near, free)

@@ -17,7 +17,8 @@ use Rattle.lf_legalize.proofs.index.best_for.Goals as goal
 pub returns-in_default : goal.returns-in_default
 returns-in_default c =
     let none = rw c.mac_at-of_cell.ensures at c.in_default.ensures in
-    λ p may. none_legal (lifted_from c.args.frame.now c.args.id.team (map member_of (cells_of c.args.cells.now c.args.id.team)) c.args.id.own c.args.mac) p
+    λ p may. none_legal (lifted_from c.args.frame.now c.args.id.team c.args.padding.sites (map member_of (cells_of c.args.cells.now c.args.id.team))
+    c.args.id.own c.args.mac) p
     (λ k high. none k high) may.legal
 
 pub invariant_of-search : goal.invariant_of-search
@@ -46,7 +47,8 @@ pub nearest-requires-clause-all : goal.nearest-requires-clause-all
 nearest-requires-clause-all c = λ p may.
     let extent = c.extent-extent.result.now in
     let same = c.extent-extent.ensures ∙ ap (λ (g : Lookups). g.extent) c.index.ensures in
-    let cell : Lifted = lifted_from c.args.frame.now c.args.id.team (map member_of (cells_of c.args.cells.now c.args.id.team)) c.args.id.own c.args.mac in
+    let cell : Lifted = lifted_from c.args.frame.now c.args.id.team c.args.padding.sites (map member_of (cells_of c.args.cells.now c.args.id.team))
+    c.args.id.own c.args.mac in
     let holds = subst (IsExtentOf c.args.frame.now) (sym same) c.requires.held.index.extent in
     within_extent extent c.args.target.now c.nearest_point-near.result p c.farthest_in.result c.nearest_point-near.ensures c.farthest_in.ensures
     (lies_in cell extent p c.requires.sized holds may.legal)
@@ -55,7 +57,8 @@ pub returns : goal.returns
 returns c =
     let extent = c.extent-extent.result.now in
     let same = c.extent-extent.ensures ∙ ap (λ (g : Lookups). g.extent) c.index.ensures in
-    let cell : Lifted = lifted_from c.args.frame.now c.args.id.team (map member_of (cells_of c.args.cells.now c.args.id.team)) c.args.id.own c.args.mac in
+    let cell : Lifted = lifted_from c.args.frame.now c.args.id.team c.args.padding.sites (map member_of (cells_of c.args.cells.now c.args.id.team))
+    c.args.id.own c.args.mac in
     let holds = subst (IsExtentOf c.args.frame.now) (sym same) c.requires.held.index.extent in
     IfOk-weaker c.nearest.result
     (λ (found : Option Place). IsChoice cell c.nearest_point-near.result (option_map spot_of found))

@@ -1,5 +1,6 @@
 use Rattle.std.proofs.Common.{arith}
 use Rattle.std.proofs.lemmas.Result.{IfOk-weaker}
+use Rattle.lf_legalize.specs.RowSearches.{padding_in}
 use Rattle.lf_legalize.specs.Levels.{AreFreeOn, IsLevel, IsLevelRow, IsOpenInRow}
 use Rattle.lf_legalize.proofs.LevelLemmas.{level_bottom, level_above}
 use Rattle.lf_legalize.proofs.levels.free_at.Goals as goal
@@ -7,7 +8,7 @@ use Rattle.lf_legalize.proofs.levels.free_at.Goals as goal
 pub returns-then-level-eq0 : goal.returns-then-level-eq0
 returns-then-level-eq0 c =
     let s = c.args.search.now in
-    IfOk-weaker c.open_in_row.result (λ free. IsOpenInRow s.occupancy.now c.args.bottom.now.number s.id c.args.bottom.now.window.now free.items)
+    IfOk-weaker c.open_in_row.result (λ free. IsOpenInRow s.occupancy.now c.args.bottom.now.number s.id c.args.bottom.now.window.now (padding_in s) free.items)
     (λ free. IsLevel s c.args.bottom.now.number c.args.bottom.now.row.now c.args.bottom.now.window.now c.args.level free.items)
     (λ free is. level_bottom s c.args.bottom.now.number c.args.bottom.now.row.now c.args.bottom.now.window.now c.args.level free.items (omega (
       arith,
@@ -19,7 +20,7 @@ pub returns : goal.returns
 returns c =
     let s = c.args.search.now in
     IfOk-weaker c.free_above.result (λ free. AreFreeOn (IsLevelRow s.frame.now c.args.bottom.now.row.now c.args.level) s.occupancy.now s.id
-    c.args.bottom.now.window.now free.items)
+    c.args.bottom.now.window.now (padding_in s) free.items)
     (λ free. IsLevel s c.args.bottom.now.number c.args.bottom.now.row.now c.args.bottom.now.window.now c.args.level free.items)
     (λ free is. level_above s c.args.bottom.now.number c.args.bottom.now.row.now c.args.bottom.now.window.now c.args.level free.items
     (λ none. let some = c.if-level-eq0.false in omega (arith, none, some)) is)

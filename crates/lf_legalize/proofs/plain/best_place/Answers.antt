@@ -14,7 +14,7 @@ loop-row-preserved c =
     next_row _ _ _ _ _ c.row-item.result _ _ _ there c.loop-row.invariant c.with_row-best.ensures
 
 found : (c : goal.After-loop-row) →
-    IsChoice (lifted c.args.frame.now c.args.team c.args.mac.now c.args.others.now) c.args.target.now (option_map spot_of c.loop-row.best)
+    IsChoice (lifted c.args.frame.now c.args.team c.args.padding.sites c.args.mac.now c.args.others.now) c.args.target.now (option_map spot_of c.loop-row.best)
 found c =
     let all : c.loop-row.row-index ≡ length c.args.frame.now.rows = search rules in
     chosen _ _ _ c.requires (rw (← all) c.loop-row.invariant)
@@ -24,6 +24,6 @@ returns-clause-best c = found c
 
 pub returns-clause-one : goal.returns-clause-one
 returns-clause-one c l =
-    let cell = lifted c.args.frame.now c.args.team c.args.mac.now c.args.others.now in
+    let cell = lifted c.args.frame.now c.args.team c.args.padding.sites c.args.mac.now c.args.others.now in
     choice_one cell c.args.target.now (option_map spot_of c.loop-row.best) (l.best_place cell c.args.target.now)
     (found c) (l.finds_best_place cell c.args.target.now c.requires)

@@ -8,4 +8,4 @@ use Rattle.lf_legalize.proofs.plain.best_place.Given as goal
 -- the first rows were looked at
 abbrev pub invariant-loop-row : goal.invariant-loop-row
 invariant-loop-row l =
-    LooksAt (IsOnRows l.frame.pitch l.frame.rows l.row-index) (lifted l.frame l.team l.mac l.others) l.target None (option_map spot_of l.best)
+    LooksAt (IsOnRows l.frame.pitch l.frame.rows l.row-index) (lifted l.frame l.team l.fn.padding.sites l.mac l.others) l.target None (option_map spot_of l.best)

@@ -1,9 +1,12 @@
-use Rattle.std.proofs.Common.{subst, sym}
+use Rattle.std.proofs.Common.{◌∙◌, ℤ, FitsSigned, w64, rules, subst, sym}
+use Rattle.std.proofs.lemmas.Int.{to_z-of_z}
 use Rattle.std.proofs.lemmas.Result.{IfOk-weaker}
 use Rattle.lf_spans.specs.Spans.{IsRising}
 use Rattle.std.specs.Prelude.{slice_index_or, []}
 use Rattle.lf_segments.specs.Grounds.{Lookups}
 use Rattle.lf_segments.specs.Strips.{AreNear}
+use Rattle.lf_occupancy.specs.Occupied.{IsFreeInRow}
+use Rattle.lf_legalize.specs.RowSearches.{padding_in}
 use Rattle.lf_legalize.specs.Levels.{AreWithoutSoft, IsOpenInRow}
 use Rattle.lf_legalize.proofs.SoftLemmas.{open_row, soft_rising}
 use Rattle.lf_legalize.proofs.soft.open_in_row.Goals as goal
@@ -23,10 +26,14 @@ returns c =
     let window = c.args.window.now in
     let start = c.near-near.result.start in
     let end = c.near-near.result.end in
+    let padding = padding_in c.args.search.now in
+    let by : ℤ = c.padding_length-padding.result in
+    let fits : FitsSigned w64 by = search rules in
     let free = c.in_ok-free.free.items in
     let near = subst (λ (g : Lookups). AreNear g.strips c.args.number id.team window.lo window.hi start end) c.index-index.ensures c.near-near.ensures in
     IfOk-weaker c.without_soft.result (λ left. AreWithoutSoft c.index-index.result.now.soft start end free left.items)
-    (λ left. IsOpenInRow o c.args.number id window left.items)
-    (λ left is. open_row o c.args.number id window start end free left.items near c.in_ok-free.ensures
+    (λ left. IsOpenInRow o c.args.number id window padding left.items)
+    (λ left is. open_row o c.args.number id window padding start end free left.items near
+    (subst (λ (v : ℤ). IsFreeInRow o c.args.number id window v free) (to_z-of_z w64 by fits ∙ c.padding_length-padding.ensures.is) c.in_ok-free.ensures)
     (subst (λ (g : Lookups). AreWithoutSoft g.soft start end free left.items) c.index-index.ensures is))
     c.without_soft.ensures
