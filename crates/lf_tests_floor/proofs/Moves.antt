@@ -1,13 +1,14 @@
 -- Cells that are known to an occupancy, and room that is left when one of them is moved.
-use Rattle.std.proofs.Common.{◌≡◌, inl, inr, ℕ, ◌+◌, ◌<◌, ◌≤◌, ◌⊎◌, List, [], Option, Some, None, length, get_or, sym, ap, ◌∙◌, arith}
+use Rattle.std.proofs.Common.{◌≡◌, inl, inr, ℕ, ℤ, pos, ◌*ℤ◌, ◌+◌, ◌<◌, ◌≤◌, ◌⊎◌, List, [], Option, Some, None, length, get_or, sym, ap, subst, ◌∙◌, arith}
 use Rattle.std.specs.Prelude.{slice_get}
 use Rattle.std.proofs.lemmas.List.{get_or_past, length-map}
 use Rattle.lf_units.specs.declared.area.Rect.{Rect}
+use Rattle.lf_units.specs.Area.{SharesPoint}
 use Rattle.lf_floorplan.specs.declared.frame.Frame.{Frame}
 use Rattle.lf_cells.specs.declared.cell.CellId.{CellId}
 use Rattle.lf_cells.specs.Cells.{Cells, cells_of}
 use Rattle.lf_occupancy.specs.Floorplans.{IsOccupancyOf, box_of}
-use Rattle.lf_occupancy.specs.Occupied.{HasRoomFor, Occupied, boxes_of, boxes_with, count_in}
+use Rattle.lf_occupancy.specs.Occupied.{HasRoomFor, Occupied, boxes_of, boxes_with, count_in, felt, reach}
 use Rattle.lf_occupancy.specs.Strips.{HasCell}
 use Rattle.lf_occupancy.proofs.Counting.{with_is_one_more, without_is_no_more}
 use Rattle.lf_segments.specs.declared.strip.Strip.{Strip}
@@ -30,14 +31,15 @@ has_cell f cells o id is within = record { team = team; own = own }
     ]
 
 -- what room is left where strips and rooms are the same and no strip has more boxes than by so many
-pub room_left : (old new : Occupied) (team : ℕ) (rect : Rect) (by more : ℕ) → new.index ≡ old.index → new.rooms ≡ old.rooms →
-    ((g : Strip) → count_in g (boxes_of new team) ≤ count_in g (boxes_of old team) + by) → HasRoomFor old team rect (more + by) →
+pub room_left : (old new : Occupied) (team : ℕ) (rect : Rect) (by more : ℕ) → new.index ≡ old.index → new.site ≡ old.site →
+    new.rooms ≡ old.rooms → ((g : Strip) → count_in g (boxes_of new team) ≤ count_in g (boxes_of old team) + by) → HasRoomFor old team rect (more + by) →
     HasRoomFor new team rect more
-room_left old new team rect by more index rooms grown room n g is of_team shares =
-    let before = room n g (ap (λ (looked : Lookups). slice_get looked.strips n) (sym index) ∙ is) of_team shares in
-    let grows = grown g in
+room_left old new team rect by more index site rooms grown room n g is of_team shares =
+    let there = subst (λ (w : ℤ). SharesPoint (felt (pos 16 *ℤ w) g).area rect) site shares in
+    let before = room n g (ap (λ (looked : Lookups). slice_get looked.strips n) (sym index) ∙ is) of_team there in
+    let grows = grown (felt (reach old) g) in
     let same = ap (λ (xs : List ℕ). get_or xs n 0) rooms in
-    omega (arith, before, grows, same)
+    rw site (omega (arith, before, grows, same))
 
 -- a cell that is taken away leaves no strip more boxes
 pub none_more : (old new : Occupied) (id : CellId) (team : ℕ) (g : Strip) → new.boxes ≡ boxes_with old id None →

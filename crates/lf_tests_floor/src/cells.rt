@@ -6,6 +6,7 @@ use lf_def::W_DEF;
 use lf_frame::{Frame, Loaded, Place, is_sized};
 use lf_legalize::best_place;
 use lf_orient::Orient;
+use lf_rules::Padding;
 use lf_units::Point;
 use std::alloc::Global;
 use std::test::Fail;
@@ -18,7 +19,8 @@ fn strangers_have_none(frame: &Frame) -> bool {
     if !is_sized(frame, inverter) {
         return false;
     }
-    best_place(frame, 3, inverter, &[], &Point { x: 4000, y: 0 }).is_none()
+    let target = Point { x: 4000, y: 0 };
+    best_place(frame, 3, inverter, &[], &target, Padding::none()).is_none()
 }
 
 /// Whether the table of the built-in design's cells has a2 as the second cell of A, and no other team's cell.

@@ -10,7 +10,7 @@ use lf_lef::{Library, W_LEF, read_lef};
 use lf_legalize::PlainSeeker;
 use lf_orient::Orient;
 use lf_reports::{BrokenCell, Report, Violation, check_all, first_illegal};
-use lf_rules::{Broken, Placed, Rule, box_of, first_broken};
+use lf_rules::{Broken, Padding, Placed, Rule, box_of, first_broken};
 use lf_tests_texts::with_line;
 use lf_units::Rect;
 use std::alloc::Global;
@@ -237,7 +237,15 @@ fn broken_by_all(
     ) else {
         return Ok(None);
     };
-    Ok(first_broken(&design.frame, cell.team, mac, place, &others))
+    let padding = Padding::none();
+    Ok(first_broken(
+        &design.frame,
+        cell.team,
+        mac,
+        place,
+        &others,
+        padding,
+    ))
 }
 
 /// Whether the violation is that of the cell of that number.

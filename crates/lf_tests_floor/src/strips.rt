@@ -5,7 +5,7 @@ ghost use Rattle.lf_cells.specs.Cells.{cells_of};
 ghost use Rattle.lf_cells.specs.Openings.{opening_cells};
 ghost use Rattle.lf_cells.specs.declared.cell.CellId.{CellId};
 ghost use Rattle.lf_occupancy.specs.Floorplans.{HasSize, IsOccupancyOf};
-ghost use Rattle.lf_occupancy.specs.Occupied.{HasRoomFor, boxes_of, count_in};
+ghost use Rattle.lf_occupancy.specs.Occupied.{HasRoomFor, IsPaddingOf, boxes_of, count_in};
 ghost use Rattle.lf_occupancy.specs.Strips.{HasCell};
 ghost use Rattle.lf_segments.specs.declared.strip.Strip.{Strip};
 
@@ -75,6 +75,27 @@ fn are(spans: &[Span], wanted: &[(i64, i64)]) -> bool {
     true
 }
 
+/// A padding, in database units, which the strips are felt around.
+fn padding_of(occupancy: &Occupancy, length: i64) -> i64
+    ensures { IsPaddingOf occupancy.now result }
+{
+    length.clamp(0, occupancy.reach())
+}
+
+/// Whether these spans of the strip are free with that padding, the cell left out.
+fn is_padded(
+    alloc: Global,
+    occupancy: &Occupancy,
+    strip: usize,
+    without: &CellId,
+    padding: i64,
+    wanted: &[(i64, i64)],
+) -> Result<bool, AllocError> {
+    let padding = padding_of(occupancy, padding);
+    let free = occupancy.free_spans(alloc, strip, *without, padding)?;
+    Ok(are(&free, wanted))
+}
+
 /// Whether these spans of the strip are free, the cell left out.
 fn is_left(
     alloc: Global,
@@ -83,8 +104,7 @@ fn is_left(
     without: &CellId,
     wanted: &[(i64, i64)],
 ) -> Result<bool, AllocError> {
-    let free = occupancy.free_spans(alloc, strip, *without)?;
-    Ok(are(&free, wanted))
+    is_padded(alloc, occupancy, strip, without, 0, wanted)
 }
 
 /// Takes the cell away and puts it in again. No memory is taken.
@@ -93,6 +113,7 @@ fn put(occupancy: &mut Occupancy, id: &CellId, rect: &Rect)
     requires room { HasRoomFor occupancy.old id.now.team rect.now 1 }
     ensures known { (other : CellId) → HasCell occupancy.old.boxes other → HasCell occupancy.new.boxes other }
     ensures index { occupancy.new.index ≡ occupancy.old.index }
+    ensures site { occupancy.new.site ≡ occupancy.old.site }
     ensures rooms { occupancy.new.rooms ≡ occupancy.old.rooms }
     ensures more { (team : ℕ) → (g : Strip) → count_in g (boxes_of occupancy.new team) ≤ count_in g (boxes_of occupancy.old team) + 1 }
 {
@@ -118,7 +139,7 @@ fn put_both(
     Ok(())
 }
 
-/// Whether the strips show what a1 leaves free, and nothing where there is no strip.
+/// Whether the strips show what a1 leaves free, also with a padding, and nothing where there is no strip.
 fn shows_what_is_free(
     alloc: Global,
     occupancy: &Occupancy,
@@ -131,10 +152,13 @@ fn shows_what_is_free(
     if !is_left(alloc, occupancy, LOWEST, a1, &[(0, 4000)])? {
         return Ok(false);
     }
+    if !is_padded(alloc, occupancy, LOWEST, a2, 300, &[(0, 100), (1100, 4000)])? {
+        return Ok(false);
+    }
     Ok(is_left(alloc, occupancy, 10, a1, &[])?)
 }
 
-/// Whether a window shows what a1 leaves free, and a box that overlaps a1 meets it.
+/// Whether a window shows what a1 leaves free with a padding, and a box that overlaps a1 meets it.
 fn shows_what_is_near(
     alloc: Global,
     occupancy: &Occupancy,
@@ -142,8 +166,9 @@ fn shows_what_is_near(
     a2: &CellId,
 ) -> Result<bool, Fail> {
     let window = Span { lo: 200, hi: 1000 };
-    let near = occupancy.free_in_row(alloc, 0, *a2, &window)?;
-    if !are(&near, &[(200, 400), (800, 1000)]) {
+    let padding = padding_of(occupancy, 100);
+    let near = occupancy.free_in_row(alloc, 0, *a2, &window, padding)?;
+    if !are(&near, &[(200, 300), (900, 1000)]) {
         return Ok(false);
     }
     let overlapping = inverter(600, 0);

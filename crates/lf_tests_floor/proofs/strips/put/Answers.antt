@@ -22,7 +22,7 @@ insert-requires-clause-nowhere c =
 pub insert-requires-clause-room : goal.insert-requires-clause-room
 insert-requires-clause-room c =
     let id = c.args.id.now in
-    room_left c.args.occupancy.now c.remove.new.self id.team c.args.rect.now 0 1 c.remove.ensures.index c.remove.ensures.rooms
+    room_left c.args.occupancy.now c.remove.new.self id.team c.args.rect.now 0 1 c.remove.ensures.index c.remove.ensures.site c.remove.ensures.rooms
     (λ g. none_more c.args.occupancy.now c.remove.new.self id id.team g c.remove.ensures.boxes) c.requires.room
 
 pub returns-clause-more : goal.returns-clause-more
