@@ -20,6 +20,10 @@ from program import DEF, LEF, PROGRAM, TESTS, Session
 
 ALL = 2**63
 SHORT = "no 12 OutOfMemory"
+# The verbs of random requests.
+VERBS = ("place", "legalize", "unplace", "swap", "tidy", "undo", "revert", "commit", "pad", "check", "find", "def")
+# The verbs that take no memory: they ask for no growth that could be refused.
+WITHOUT_MEMORY = ("open", "close", "sync", "where", "undo", "pad")
 # How many growths a task can do without: one of the command line, and of a check the first one behind loading, for the list of the
 # cells' places. What was refused alone is then asked for again.
 SPARED = 2
@@ -81,6 +85,24 @@ SCRIPTS: list[tuple[str, dict[int, str], list[tuple[str, str]]]] = [
         ],
     ),
     (
+        "paddings",
+        {},
+        [
+            ("pad A 0 1", "ok 1"),
+            ("place A 0 a1 0 0 N", "ok 2"),
+            ("place A 0 a2 400 0 N", "no 7 Illegal 8 a2 a1"),
+            ("find A 0 a2 0 0", "ok 600 0 N"),
+            ("tidy A 0", "ok 3 2"),
+            ("pad A 0 17", "no 1 BadRequest"),
+            ("pad A 0 2", "ok 4"),
+            ("commit A 0", "no 7 Illegal 8 a1 a2"),
+            ("tidy A 0", "ok 5 2"),
+            ("commit A 0", "ok 6"),
+            ("undo A 0", "ok 7"),
+            ("where A 0 a2", "ok 600 0 N"),
+        ],
+    ),
+    (
         "a team's text",
         {},
         [
@@ -129,13 +151,14 @@ def random_requests(source: random.Random, count: int) -> list[str]:
         team = source.choice("AB-")
         cell, other = (f"{ {'A': 'a', 'B': 'b', '-': 'g'}[team]}{source.randrange(8)}" for _ in range(2))
         spot = f"{200 * source.randrange(50)} {2000 * source.randrange(6)}"
-        verb = source.choice(("place", "legalize", "unplace", "swap", "tidy", "undo", "revert", "commit", "check", "find", "def"))
+        verb = source.choice(VERBS)
         rest = {
             "place": f"{cell} {spot} {source.choice(('N', 'FS', 'FN'))}",
             "legalize": f"{cell} {spot}",
             "find": f"{cell} {spot}",
             "unplace": cell,
             "swap": f"{cell} {other}",
+            "pad": f"{source.randrange(4)}",
         }.get(verb, "")
         found.append(f"{verb} {team} 0 {rest}".strip())
     return found
@@ -232,6 +255,7 @@ class GrowthsRefused(WithRefusals):
                     if not refused:
                         self.assertEqual(answer, reply, line)
                         break
+                    self.assertNotIn(line.split()[0], WITHOUT_MEMORY, f"{line}, growth {number}")
                     whole += refused
                     self.assertEqual(answer, SHORT, f"{line}, growth {number}")
                     self.assertEqual(self.places(session, cells), before, f"{line}, growth {number}")
