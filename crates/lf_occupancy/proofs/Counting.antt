@@ -1,5 +1,5 @@
 -- How many boxes share a point with a strip.
-use Rattle.std.proofs.Common.{◌≡◌, ◌≢◌, ◌⊎◌, inl, inr, ℕ, zero, suc, ◌+◌, ◌<◌, ◌≤◌, ℤ, ◌<ℤ◌, Bool, true, false, cond, List, [], ◌∷◌, Option, Some, None, arith}
+use Rattle.std.proofs.Common.{◌≡◌, ◌≢◌, ◌⊎◌, inl, inr, ℕ, zero, suc, ◌+◌, ◌<◌, ◌≤◌, ℤ, pos, ◌*ℤ◌, ◌<ℤ◌, Bool, true, false, cond, List, [], ◌∷◌, Option, Some, None, arith}
 use Rattle.std.proofs.Common.{length, get_or, set, take, eqb, ltb, int_lt, refl, sym, ap, subst, ◌∙◌}
 use Rattle.std.specs.Prelude.{AllPairs, Contains, ◌&&◌, ◌↔◌, count_by, slice_get}
 use Rattle.std.specs.Int.{int_max, int_min}
@@ -9,7 +9,7 @@ use Rattle.std.proofs.lemmas.List.Sums.{sum_by-cons, count_by_more_yes, count_by
 use Rattle.lf_units.specs.declared.area.Rect.{Rect}
 use Rattle.lf_units.specs.Area.{SharesPoint}
 use Rattle.lf_segments.specs.declared.strip.Strip.{Strip}
-use Rattle.lf_occupancy.specs.Occupied.{ArePartOf, FitIn, NoLess, Occupied, cell_box, count_in, meets}
+use Rattle.lf_occupancy.specs.Occupied.{ArePartOf, FitIn, NoLess, Occupied, cell_box, count_in, felt, meets}
 
 -- 1 for true
 abbrev one_if : Bool → ℕ
@@ -130,12 +130,13 @@ part_leaves_room g (b ∷ bs) (c ∷ cs) (suc own) r p none is shares =
     omega (arith, rest, first, before, after)
 
 -- what fits still does where no room is less
-pub fits_still : (old new : Occupied) (team : ℕ) (boxes : List (Option Rect)) → new.index.strips ≡ old.index.strips → NoLess old.rooms new.rooms → FitIn old team boxes →
-    FitIn new team boxes
-fits_still old new team boxes strips rooms fits n g at of_team =
+pub fits_still : (old new : Occupied) (team : ℕ) (boxes : List (Option Rect)) → new.index.strips ≡ old.index.strips → new.site ≡ old.site →
+    NoLess old.rooms new.rooms → FitIn old team boxes → FitIn new team boxes
+fits_still old new team boxes strips site rooms fits n g at of_team =
+    let same = ap (λ (w : ℤ). count_in (felt (pos 16 *ℤ w) g) boxes) site in
     let most = fits n g (ap (λ (xs : List Strip). slice_get xs n) (sym strips) ∙ at) of_team in
     let no_less = rooms.each n in
-    omega (arith, most, no_less)
+    omega (arith, same, most, no_less)
 
 -- another box of one cell makes it one more at most
 pub set_is_one_more : (g : Strip) (boxes : List (Option Rect)) (own : ℕ) (box : Option Rect) → count_in g (set boxes own box) ≤ count_in g boxes + 1

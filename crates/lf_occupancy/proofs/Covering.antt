@@ -1,12 +1,12 @@
 -- Each point of a legal box lies in a strip.
-use Rattle.std.proofs.Common.{◌≡◌, ◌∙◌, inl, inr, ℕ, ℤ, pos, ◌<ℤ◌, List, [], ◌∷◌, Option, Some, ap, map, slice_get, subst, sym, arith}
+use Rattle.std.proofs.Common.{◌≡◌, ◌∙◌, ℕ, ℤ, pos, ◌≤ℤ◌, ◌<ℤ◌, List, Option, Some, ap, slice_get, subst, sym, arith}
 use Rattle.std.specs.Prelude.{Any}
 use Rattle.std.specs.Option.{option_map_or}
 use Rattle.std.proofs.lemmas.Int.{ints}
 use Rattle.lf_units.specs.declared.area.Rect.{Rect}
 use Rattle.lf_units.specs.Area.{Covers}
 use Rattle.lf_spans.specs.Spans.{Holds, LiesIn}
-use Rattle.lf_spans.proofs.Anys.{any_cases, any_head, any_nil, any_tail, any_weaker}
+use Rattle.lf_spans.proofs.Anys.{any_weaker}
 use Rattle.lf_floorplan.specs.declared.frame.Frame.{Frame}
 use Rattle.lf_floorplan.specs.declared.parts.Row.{Row}
 use Rattle.lf_floorplan.specs.Rows.{row_area}
@@ -19,7 +19,10 @@ use Rattle.lf_segments.specs.Grounds.{IsGroundOf}
 use Rattle.lf_segments.specs.Strips.{row_y, strip_of}
 use Rattle.lf_segments.proofs.LawLemmas.{InSegment, in_segment, segments_hold}
 use Rattle.lf_segments.specs.declared.strip.Strip.{Strip}
-use Rattle.lf_occupancy.specs.Occupied.{Occupied}
+use Rattle.lf_rules.specs.Padding.{wider}
+use Rattle.lf_occupancy.specs.Occupied.{Occupied, reach}
+use Rattle.lf_occupancy.proofs.Lists.{any_made}
+use Rattle.lf_occupancy.proofs.Padded.{NearIn, nearest_in}
 
 -- the y of the row of this number
 row_y_is : (f : Frame) (n : ℕ) (r : Row) → slice_get f.rows n ≡ Some r → row_y f n ≡ r.y
@@ -36,14 +39,6 @@ covers_in_strip f g r x y stands holds covers =
       bottom = let h = covers.bottom in omega (arith, ints, is, h);
       top = let h = covers.top in omega (arith, ints, is, h);
     }
-
--- some strip that is made of a segment, where some segment makes such a one
-any_made : {X Y : Type 0} (P : Y → Type 0) (make : X → Y) (xs : List X) → Any (λ x. P (make x)) xs → Any P (map make xs)
-any_made P make [] found = absurd (any_nil (λ x. P (make x)) found)
-any_made P make (x ∷ xs) found = elim (any_cases (λ x. P (make x)) x xs found) [
-  | inl here ↦ any_head P (make x) (map make xs) here
-  | inr there ↦ any_tail P (make x) (map make xs) (any_made P make xs there)
-]
 
 module _ (f : Frame) (o : Occupied) (team : ℕ) (box : Rect) (plan : IsGroundOf f o.index) (stands : StandsOn f box)
     (ground : StaysInGround f team box) (clear : IsClear f box) (x y : ℤ) (covers : Covers box x y) where
@@ -67,3 +62,25 @@ module _ (f : Frame) (o : Occupied) (team : ℕ) (box : Rect) (plan : IsGroundOf
   strips_hold = subst (λ (list : List Strip). Any Found list) (sym plan.strips)
       (any_made Found (strip_of f) o.index.segments
       (any_weaker (λ g. IsOf in_one.number team g × LiesIn (across box) g.span) (λ g. Found (strip_of f g)) made o.index.segments in_one.lies))
+
+-- each point of such a box made wider lies in a strip that is felt around
+pub strips_feel_all : (f : Frame) (o : Occupied) (team : ℕ) (box : Rect) (by : ℤ) → IsGroundOf f o.index → StandsOn f box → StaysInGround f team box →
+    IsClear f box → box.x1 <ℤ box.x2 → pos 0 ≤ℤ by → by ≤ℤ reach o → (x y : ℤ) → Covers (wider by box) x y →
+    Any (λ g. (g.team ≡ team) × Covers (wider (reach o) g.area) x y) o.index.strips
+strips_feel_all f o team box by plan stands ground clear filled some most x y covers =
+    any_weaker (λ g. (g.team ≡ team) × Covers g.area at.z y) (λ g. (g.team ≡ team) × Covers (wider (reach o) g.area) x y) around o.index.strips
+    (strips_hold f o team box plan stands ground clear at.z y record { left = at.low; right = at.high; bottom = covers.bottom; top = covers.top })
+  where
+    at : NearIn box.x1 box.x2 by x
+    at = nearest_in box.x1 box.x2 by x filled covers.left covers.right some
+
+    around : (g : Strip) → (g.team ≡ team) × Covers g.area at.z y → (g.team ≡ team) × Covers (wider (reach o) g.area) x y
+    around g (of_team, c) = (
+      of_team,
+      record {
+        left = let l = c.left in let h = at.from in omega (arith, ints, l, h, most);
+        right = let r = c.right in let h = at.to in omega (arith, ints, r, h, most);
+        bottom = c.bottom;
+        top = c.top;
+      },
+    )

@@ -1,6 +1,6 @@
 -- What is met in the strips of a row, and in those of all rows.
 use Rattle.std.proofs.Common.{◌≡◌, ◌⊎◌, inl, inr, ℕ, ◌+◌, ◌<◌, ◌≤◌, pos, ◌≤ℤ◌, ◌<ℤ◌, List, [], ◌∷◌, ◌++◌, Option, length, get_or, sym, ap, subst, ◌∙◌, arith}
-use Rattle.std.specs.Prelude.{Any, Contains}
+use Rattle.std.specs.Prelude.{All, Any, Contains}
 use Rattle.std.proofs.lemmas.Int.{ints}
 use Rattle.std.proofs.lemmas.List.{get_or_default}
 use Rattle.std.proofs.lemmas.List.Elements.{All-contains, Contains-append_cases}
@@ -10,8 +10,9 @@ use Rattle.lf_occupancy.specs.declared.lane.Lane.{Lane}
 use Rattle.lf_segments.specs.declared.strip.Strip.{Strip}
 use Rattle.lf_segments.specs.Grounds.{Lookups}
 use Rattle.lf_occupancy.specs.Lanes.{IsInside, IsLeast, MeetsOne}
-use Rattle.lf_segments.specs.Strips.{AreNear, AreRowsNear, AreStrips, IsPlaced}
+use Rattle.lf_segments.specs.Strips.{AreNear, AreRowsNear}
 use Rattle.lf_occupancy.specs.Strips.{AreOrderly, MeetsAt, MeetsInOne, MeetsInRow}
+use Rattle.lf_occupancy.proofs.Around.{IsFelt}
 use Rattle.lf_occupancy.proofs.Leasts.{least_alike, least_of_both}
 
 -- a lane between two numbers has an entry that is met
@@ -111,7 +112,7 @@ row_in_between xs lanes row team start n end rect but own near orderly past (m, 
     record { m = m; from = both.0; below = omega (arith, until, past); until = until; meets = at.meets }
 
 -- the row of a strip in which an entry is met stands among the near ones
-pub row_is_near : (s : Lookups) (lanes : List Lane) (team : ℕ) (rect : Rect) (but own n : ℕ) (run : List RowEntry) → AreStrips s.rows s.height s.strips →
+pub row_is_near : (s : Lookups) (lanes : List Lane) (team : ℕ) (rect : Rect) (but own n : ℕ) (run : List RowEntry) → All (IsFelt s.rows s.height) s.strips →
     AreOrderly s.strips lanes →
     AreRowsNear s.rows s.height rect run → MeetsAt s.strips lanes team rect but own n →
     Any (λ e. MeetsInRow s.strips lanes e.row team rect but own) run
@@ -130,8 +131,8 @@ row_is_near s lanes team rect but own n run strips orderly rows at =
     g : Strip
     g = get_or xs n no_strip
 
-    placed : IsPlaced s.rows s.height g
-    placed = strips.placed n no_strip at.within
+    placed : IsFelt s.rows s.height g
+    placed = strips n no_strip at.within
 
     e : RowEntry
     e = placed.found.1

@@ -10,31 +10,31 @@ use Rattle.lf_spans.proofs.Anys.{any_left, any_split}
 use Rattle.lf_spans.proofs.Edges.{in_of_lies}
 use Rattle.lf_occupancy.specs.declared.lane.Lane.{Lane}
 use Rattle.lf_segments.specs.declared.strip.Strip.{Strip}
-use Rattle.lf_occupancy.specs.Lanes.{others_in, spans_in, x_range}
+use Rattle.lf_occupancy.specs.Lanes.{all_padded, others_in, spans_in, x_range}
 use Rattle.lf_occupancy.specs.Occupied.{across}
 use Rattle.lf_segments.specs.Strips.{AreNear, LiesBefore, IsNear}
 use Rattle.lf_occupancy.specs.Strips.{AreFreeTo, LiesFree}
 use Rattle.lf_occupancy.proofs.Lists.{pairs_append, any_right}
 use Rattle.lf_occupancy.proofs.Finds.{no_strip}
 
--- the span lies in the strip of that number between two, and shares no number with another cell's entry
-pub record FreeBetween (xs : List Strip) (lanes : List Lane) (own start k end : ℕ) (s : Span) : Type 0 where
+-- the span lies in the strip of that number between two, and shares no number with another cell's entry made wider by the padding
+pub record FreeBetween (xs : List Strip) (lanes : List Lane) (own : ℕ) (padding : ℤ) (start k end : ℕ) (s : Span) : Type 0 where
   pub m : ℕ
   pub from : start ≤ m
   pub below : m < k
   pub until : m < end
   pub inside : (d : Strip) → LiesIn s (across (get_or xs m d))
-  pub apart : (d : Lane) → IsApart (spans_in (others_in (get_or lanes m d).entries.items own)) s
+  pub apart : (d : Lane) → IsApart (spans_in (others_in (all_padded padding (get_or lanes m d).entries.items) own)) s
 
 -- the free spans of the strips passed
-pub record AreFreeBetween (xs : List Strip) (lanes : List Lane) (own start k end : ℕ) (window : Span) (free : List Span) : Type 0 where
+pub record AreFreeBetween (xs : List Strip) (lanes : List Lane) (own : ℕ) (padding : ℤ) (start k end : ℕ) (window : Span) (free : List Span) : Type 0 where
   pub rising : IsRising free
   pub ends : (m : ℕ) (d : Strip) → k ≤ m → m < end → All (λ t. t.hi ≤ℤ (get_or xs m d).area.x1) free
-  pub exact : (s : Span) → IsFilled s → (LiesInOne free s → LiesIn s window × FreeBetween xs lanes own start k end s) ×
-      (LiesIn s window × FreeBetween xs lanes own start k end s → LiesInOne free s)
+  pub exact : (s : Span) → IsFilled s → (LiesInOne free s → LiesIn s window × FreeBetween xs lanes own padding start k end s) ×
+      (LiesIn s window × FreeBetween xs lanes own padding start k end s → LiesInOne free s)
 
-pub none_free : (xs : List Strip) (lanes : List Lane) (own start end : ℕ) (window : Span) → AreFreeBetween xs lanes own start start end window []
-none_free xs lanes own start end window = record {
+pub none_free : (xs : List Strip) (lanes : List Lane) (own : ℕ) (padding : ℤ) (start end : ℕ) (window : Span) → AreFreeBetween xs lanes own padding start start end window []
+none_free xs lanes own padding start end window = record {
   rising = record { filled = All-nil IsFilled; apart = λ i j d less within. absurd (omega (arith, within)) };
   ends = λ m d from until. All-nil (λ t. t.hi ≤ℤ (get_or xs m d).area.x1);
   exact = λ s filled. (
@@ -58,12 +58,12 @@ near_rise row team lo hi a b p q (inl less) = let e = p.in_row in let f = q.in_r
 near_rise row team lo hi a b p q (inr (same, inl less)) = let e = p.of_team in let f = q.of_team in absurd (omega (arith, less, e, f))
 near_rise row team lo hi a b p q (inr (same, inr (alike, apart))) = apart
 
-pub free_further : (xs : List Strip) (lanes : List Lane) (row team own start k end : ℕ) (window : Span) (lane : Lane) (g : Strip) (free part : List Span) →
+pub free_further : (xs : List Strip) (lanes : List Lane) (row team own : ℕ) (padding : ℤ) (start k end : ℕ) (window : Span) (lane : Lane) (g : Strip) (free part : List Span) →
     AllPairs LiesBefore xs → AreNear xs row team window.lo window.hi start end → start ≤ k → k < end → k < length lanes →
     All (λ x. x.area.x1 <ℤ x.area.x2) xs →
-    lane ≡ get_or lanes k lane → ((d : Strip) → g ≡ get_or xs k d) → AreFreeBetween xs lanes own start k end window free →
-    IsFreeIn (x_range g.area) (spans_in (others_in lane.entries.items own)) window part → AreFreeBetween xs lanes own start (k + 1) end window (free ++ part)
-free_further xs lanes row team own start k end window lane g free part pairs near from until has wide is at old new = record {
+    lane ≡ get_or lanes k lane → ((d : Strip) → g ≡ get_or xs k d) → AreFreeBetween xs lanes own padding start k end window free →
+    IsFreeIn (x_range g.area) (spans_in (others_in (all_padded padding lane.entries.items) own)) window part → AreFreeBetween xs lanes own padding start (k + 1) end window (free ++ part)
+free_further xs lanes row team own padding start k end window lane g free part pairs near from until has wide is at old new = record {
   rising = record {
     filled = All-append IsFilled free part old.rising.filled new.rising.filled;
     apart = pairs_append (λ s t. s.hi ≤ℤ t.lo) free part cross old.rising.apart new.rising.apart;
@@ -85,7 +85,7 @@ free_further xs lanes row team own start k end window lane g free part pairs nea
     here = let b = bound in omega (arith, b, until)
 
     inside : All (λ t. (g.area.x1 ≤ℤ t.lo) × (t.hi ≤ℤ g.area.x2)) part
-    inside = part_inside (x_range g.area) window (spans_in (others_in lane.entries.items own)) part new
+    inside = part_inside (x_range g.area) window (spans_in (others_in (all_padded padding lane.entries.items) own)) part new
 
     cross : All (λ s. All (λ t. s.hi ≤ℤ t.lo) part) free
     cross i d within j e inner =
@@ -102,7 +102,7 @@ free_further xs lanes row team own start k end window lane g free part pairs nea
         let same : g.area.x2 ≡ (get_or xs k d).area.x2 = ap (λ (x : Strip). x.area.x2) (at d) in
         omega (arith, ints, up, same)
 
-    to : (s : Span) → IsFilled s → LiesInOne free s ⊎ LiesInOne part s → LiesIn s window × FreeBetween xs lanes own start (k + 1) end s
+    to : (s : Span) → IsFilled s → LiesInOne free s ⊎ LiesInOne part s → LiesIn s window × FreeBetween xs lanes own padding start (k + 1) end s
     to s filled (inl first) =
         let h = (old.exact s filled).0 first in
         let f = h.1 in
@@ -116,11 +116,11 @@ free_further xs lanes row team own start k end window lane g free part pairs nea
             below = omega arith;
             until = until;
             inside = λ d. subst (λ (x : Strip). LiesIn s (across x)) (at d) h.0;
-            apart = λ d. subst (λ (l : Lane). IsApart (spans_in (others_in l.entries.items own)) s) (is ∙ get_or_default lanes k lane d has) h.2;
+            apart = λ d. subst (λ (l : Lane). IsApart (spans_in (others_in (all_padded padding l.entries.items) own)) s) (is ∙ get_or_default lanes k lane d has) h.2;
           },
         )
 
-    back : (s : Span) → IsFilled s → LiesIn s window → FreeBetween xs lanes own start (k + 1) end s → LiesInOne (free ++ part) s
+    back : (s : Span) → IsFilled s → LiesIn s window → FreeBetween xs lanes own padding start (k + 1) end s → LiesInOne (free ++ part) s
     back s filled shown f = elim order [
       | inl h ↦ any_left (LiesIn s) free part
           ((old.exact s filled).1 (shown, record { m = f.m; from = f.from; below = h; until = f.until; inside = f.inside; apart = f.apart }))
@@ -128,8 +128,8 @@ free_further xs lanes row team own start k end window lane g free part pairs nea
           ((new.exact s filled).1 (
             subst (λ (x : Strip). LiesIn s (across x)) (sym (at no_strip)) (subst (λ (m : ℕ). LiesIn s (across (get_or xs m no_strip))) h (f.inside no_strip)),
             shown,
-            subst (λ (l : Lane). IsApart (spans_in (others_in l.entries.items own)) s) (sym is)
-                (subst (λ (m : ℕ). IsApart (spans_in (others_in (get_or lanes m lane).entries.items own)) s) h (f.apart lane)),
+            subst (λ (l : Lane). IsApart (spans_in (others_in (all_padded padding l.entries.items) own)) s) (sym is)
+                (subst (λ (m : ℕ). IsApart (spans_in (others_in (all_padded padding (get_or lanes m lane).entries.items) own)) s) h (f.apart lane)),
           ))
     ]
       where
@@ -137,16 +137,16 @@ free_further xs lanes row team own start k end window lane g free part pairs nea
         order = let b = f.below in grind (arith, b)
 
 -- what is free between the two bisections is what is free in the strips of the row and the team
-pub free_of_row : (xs : List Strip) (lanes : List Lane) (row team own start k end : ℕ) (window : Span) (free : List Span) →
+pub free_of_row : (xs : List Strip) (lanes : List Lane) (row team own : ℕ) (padding : ℤ) (start k end : ℕ) (window : Span) (free : List Span) →
     AreNear xs row team window.lo window.hi start end →
-    end ≤ k → AreFreeBetween xs lanes own start k end window free → AreFreeTo xs lanes row team own window (length xs) free
-free_of_row xs lanes row team own start k end window free near past f = record {
+    end ≤ k → AreFreeBetween xs lanes own padding start k end window free → AreFreeTo xs lanes row team own window padding (length xs) free
+free_of_row xs lanes row team own padding start k end window free near past f = record {
   rising = f.rising;
   exact = λ s filled. (λ lies. to s ((f.exact s filled).0 lies), λ both. (f.exact s filled).1 (back s filled both.0 both.1.0 both.1.1.1));
 }
   where
-    to : (s : Span) → LiesIn s window × FreeBetween xs lanes own start k end s → LiesIn s window × ((n : ℕ) ×
-        ((n < length xs) × LiesFree xs lanes row team own s n))
+    to : (s : Span) → LiesIn s window × FreeBetween xs lanes own padding start k end s → LiesIn s window × ((n : ℕ) ×
+        ((n < length xs) × LiesFree xs lanes row team own padding s n))
     to s (shown, b) =
         let bound = near.within in
         let until = b.until in
@@ -167,7 +167,7 @@ free_of_row xs lanes row team own start k end window free near past f = record {
           ),
         )
 
-    back : (s : Span) → IsFilled s → LiesIn s window → (n : ℕ) → LiesFree xs lanes row team own s n → LiesIn s window × FreeBetween xs lanes own start k end s
+    back : (s : Span) → IsFilled s → LiesIn s window → (n : ℕ) → LiesFree xs lanes row team own padding s n → LiesIn s window × FreeBetween xs lanes own padding start k end s
     back s filled shown n l =
         let w = in_of_lies s window filled shown in
         let i = in_of_lies s (across (get_or xs n no_strip)) filled (l.inside no_strip) in

@@ -11,7 +11,7 @@ use Rattle.lf_units.specs.declared.area.Rect.{Rect}
 use Rattle.lf_units.specs.Area.{Covers}
 use Rattle.lf_occupancy.specs.declared.lane.Entry.{Entry}
 use Rattle.lf_occupancy.specs.declared.lane.Lane.{Lane}
-use Rattle.lf_occupancy.specs.Lanes.{AreInOrder, HoldsPoint, IsInside, IsJoined, IsKept, IsLane, IsPruned, IsPutIn, IsWhole, IsWithinDef, LiesInBox}
+use Rattle.lf_occupancy.specs.Lanes.{AreInOrder, HoldsPoint, IsInside, IsJoined, IsKept, IsLane, IsPruned, IsPutIn, IsWhole, IsNearZero, LiesInBox}
 use Rattle.lf_occupancy.specs.Occupied.{cell_box}
 use Rattle.lf_occupancy.specs.Lanes.{entry_for}
 use Rattle.lf_occupancy.proofs.Lists.{contains_filter, pairs_filter, pairs_append, pairs_cons}
@@ -259,7 +259,7 @@ once_insert xs i e once fresh = pairs_append R (take i xs) (e ∷ drop i xs) cro
 
 -- the lane with the cell's part is that of the boxes where the cell stands there
 pub lane_put : (cells : List (Option Rect)) (area : Rect) (own : ℕ) (rect : Rect) (old new : Lane) → own < length cells → cell_box cells own ≡ None →
-    IsWithinDef area →
+    IsNearZero area →
     IsLane cells area old → IsPutIn own rect area old new → IsLane (set cells own (Some rect)) area new
 lane_put cells area own rect old new has nowhere def lane put = elim put.change [
   | inl both ↦ joined both.0 both.1

@@ -1,6 +1,8 @@
 pub mod Lists
 pub mod Leasts
+pub mod Around
 pub mod Runs
+pub mod Padded
 pub mod Parts
 pub mod Finds
 pub mod Frees

@@ -1,10 +1,10 @@
 -- Lists: what a filter keeps of them, and parts of a list.
 use Rattle.std.proofs.Common.{◌≡◌, ◌⊎◌, inl, inr, ℕ, zero, suc, ◌+◌, ◌<◌, Bool, true, false, cond, List, [], ◌∷◌, ◌++◌, length, get_or}
 use Rattle.std.proofs.Common.{take, map, refl, sym, ap, subst, ◌∙◌, arith}
-use Rattle.std.specs.Prelude.{All, AllPairs, Any, Contains, filter}
+use Rattle.std.specs.Prelude.{All, AllPairs, Any, Contains, Some, filter, slice_get}
 use Rattle.std.proofs.lemmas.List.{take_more}
 use Rattle.std.proofs.lemmas.List.Elements.{All-append, All-filter}
-use Rattle.lf_spans.proofs.Anys.{any_head, any_left, any_split}
+use Rattle.lf_spans.proofs.Anys.{any_cases, any_head, any_left, any_nil, any_split, any_tail}
 
 -- what a filter keeps of a list it contains
 pub contains_filter : {X : Type 0} (p : X → Bool) (xs : List X) (x : X) → Contains xs x → p x ≡ true → Contains (filter p xs) x
@@ -81,3 +81,30 @@ maps_alike f (x ∷ xs) [] long each = absurd (omega (arith, long))
 maps_alike f (x ∷ xs) (y ∷ ys) long each =
     ap (λ z. z ∷ map f xs) (each 0 x (omega arith))
     ∙ ap (λ zs. f y ∷ zs) (maps_alike f xs ys (omega (arith, long)) (λ n d within. each (suc n) d (omega (arith, within))))
+
+-- an element of a list of images that has a property
+pub any_made : {X Y : Type 0} (P : Y → Type 0) (make : X → Y) (xs : List X) → Any (λ x. P (make x)) xs → Any P (map make xs)
+any_made P make [] found = absurd (any_nil (λ x. P (make x)) found)
+any_made P make (x ∷ xs) found = elim (any_cases (λ x. P (make x)) x xs found) [
+  | inl here ↦ any_head P (make x) (map make xs) here
+  | inr there ↦ any_tail P (make x) (map make xs) (any_made P make xs there)
+]
+
+pub any_unmade : {X Y : Type 0} (P : Y → Type 0) (make : X → Y) (xs : List X) → Any P (map make xs) → Any (λ x. P (make x)) xs
+any_unmade P make [] found = absurd (any_nil P found)
+any_unmade P make (x ∷ xs) found = elim (any_cases P (make x) (map make xs) found) [
+  | inl here ↦ any_head (λ x. P (make x)) x xs here
+  | inr there ↦ any_tail (λ x. P (make x)) x xs (any_unmade P make xs there)
+]
+
+-- the image of the element of that number
+pub made_at : {X Y : Type 0} (make : X → Y) (xs : List X) (n : ℕ) (x : X) → slice_get xs n ≡ Some x → slice_get (map make xs) n ≡ Some (make x)
+made_at make [] n x is = absurd cc
+made_at make (y ∷ ys) zero x is = cc
+made_at make (y ∷ ys) (suc n) x is = made_at make ys n x is
+
+pub unmade_at : {X Y : Type 0} (make : X → Y) (xs : List X) (n : ℕ) (y : Y) → slice_get (map make xs) n ≡ Some y →
+    (x : X) × ((slice_get xs n ≡ Some x) × (y ≡ make x))
+unmade_at make [] n y is = absurd cc
+unmade_at make (x ∷ xs) zero y is = (x, (refl, cc))
+unmade_at make (x ∷ xs) (suc n) y is = unmade_at make xs n y is

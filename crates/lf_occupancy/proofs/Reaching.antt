@@ -1,7 +1,7 @@
 -- Which strips a rectangle reaches, and what becomes of the lanes when a cell's box changes.
 use Rattle.std.proofs.Common.{◌≡◌, ◌≢◌, ◌⊎◌, inl, inr, ℕ, ◌+◌, ◌<◌, ◌≤◌, ℤ, ◌≤ℤ◌, ◌<ℤ◌, List, [], ◌∷◌, ◌++◌, Option, Some, None, length, get_or}
 use Rattle.std.proofs.Common.{set, refl, sym, ap, subst, ◌∙◌, arith}
-use Rattle.std.specs.Prelude.{AllPairs, Any, Contains, IfSome, IsSomeAnd, map, not}
+use Rattle.std.specs.Prelude.{All, AllPairs, Any, Contains, IfSome, IsSomeAnd, map, not}
 use Rattle.std.specs.Vec.{vec_capacity}
 use Rattle.std.proofs.lemmas.Bool.Decides.{eqb_tells}
 use Rattle.std.proofs.lemmas.Int.{ints}
@@ -17,18 +17,19 @@ use Rattle.lf_occupancy.specs.declared.lane.Lane.{Lane}
 use Rattle.lf_segments.specs.declared.strip.Strip.{Strip}
 use Rattle.lf_segments.specs.Grounds.{Lookups}
 use Rattle.lf_occupancy.specs.Lanes.{IsLane, IsPruned}
-use Rattle.lf_segments.specs.Strips.{AreRowsNear, AreStrips}
-use Rattle.lf_occupancy.specs.Strips.{AreChanged, AreKept, AreLanes, AreOrderly, MeetsStrip}
-use Rattle.lf_segments.specs.Strips.{IsNear, IsPlaced}
+use Rattle.lf_segments.specs.Strips.{AreRowsNear}
+use Rattle.lf_occupancy.specs.Strips.{AreChanged, AreKept, AreLanes, AreOrderly, AreRoomy, MeetsStrip, felt_strips}
+use Rattle.lf_segments.specs.Strips.{IsNear}
 use Rattle.lf_occupancy.specs.Strips.{IsReached, PutsIn, CanTake, HaveRoom, rooms_in}
 use Rattle.lf_occupancy.specs.Occupied.{NoLess, cell_box}
+use Rattle.lf_occupancy.proofs.Around.{IsFelt, felt_many}
 use Rattle.lf_occupancy.proofs.Finds.{no_strip, some_lane}
 use Rattle.lf_occupancy.proofs.Lists.{maps_alike}
 use Rattle.lf_occupancy.proofs.Changes.{room_kept}
 use Rattle.lf_occupancy.proofs.Laning.{lane_beside, lane_kept, lane_pruned, lane_put}
 
 -- a strip that shares a point with the rectangle is reached
-pub point_is_reached : (s : Lookups) (rect : Rect) (run : List RowEntry) (team n : ℕ) (d : Strip) (x y : ℤ) → AreStrips s.rows s.height s.strips →
+pub point_is_reached : (s : Lookups) (rect : Rect) (run : List RowEntry) (team n : ℕ) (d : Strip) (x y : ℤ) → All (IsFelt s.rows s.height) s.strips →
     AreRowsNear s.rows s.height rect run →
     n < length s.strips → (get_or s.strips n d).team ≡ team → Covers (get_or s.strips n d).area x y → Covers rect x y →
     IsReached s.strips run team rect n
@@ -47,8 +48,8 @@ point_is_reached s rect run team n d x y strips rows within of_team in_strip in_
     g : Strip
     g = get_or xs n d
 
-    placed : IsPlaced s.rows s.height g
-    placed = strips.placed n d within
+    placed : IsFelt s.rows s.height g
+    placed = strips n d within
 
     e : RowEntry
     e = placed.found.1
@@ -157,7 +158,7 @@ lanes_of_team xs boxes team cells lanes new has many old own others = record {
 }
 
 -- the lanes that are pruned where the old box reaches
-pub lanes_out : (s : Lookups) (boxes : List (List (Option Rect))) (team own : ℕ) (rect : Rect) (run : List RowEntry) (lanes new : List Lane) → AreStrips s.rows s.height s.strips →
+pub lanes_out : (s : Lookups) (boxes : List (List (Option Rect))) (team own : ℕ) (rect : Rect) (run : List RowEntry) (lanes new : List Lane) → All (IsFelt s.rows s.height) s.strips →
     AreRowsNear s.rows s.height rect run → team < length boxes → own < length (get_or boxes team []) → cell_box (get_or boxes team []) own ≡ Some rect →
     AreLanes s.strips boxes lanes → AreChanged (IsReached s.strips run team rect) (λ n. IsPruned own) lanes new →
     AreLanes s.strips (set boxes team (set (get_or boxes team []) own None)) new
@@ -209,7 +210,7 @@ lanes_without xs boxes team own lanes has_team has is old =
     nothing r same = cc
 
 -- the lanes that take the parts of the new box where it reaches
-pub lanes_in : (s : Lookups) (boxes : List (List (Option Rect))) (team own : ℕ) (rect : Rect) (run : List RowEntry) (lanes new : List Lane) → AreStrips s.rows s.height s.strips →
+pub lanes_in : (s : Lookups) (boxes : List (List (Option Rect))) (team own : ℕ) (rect : Rect) (run : List RowEntry) (lanes new : List Lane) → All (IsFelt s.rows s.height) s.strips →
     AreRowsNear s.rows s.height rect run → team < length boxes → own < length (get_or boxes team []) → cell_box (get_or boxes team []) own ≡ None →
     AreLanes s.strips boxes lanes → AreChanged (IsReached s.strips run team rect) (PutsIn s.strips own rect) lanes new →
     AreLanes s.strips (set boxes team (set (get_or boxes team []) own (Some rect))) new
@@ -233,9 +234,8 @@ lanes_in s boxes team own rect run lanes new strips rows has_team has is old cha
         IsLane cells (get_or s.strips n d).area (get_or lanes n e) → IsLane (set cells own (Some rect)) (get_or s.strips n d).area (get_or new n e)
     each n d e within of_team lane = elim (decide_reached s.strips run team rect n within) [
       | inl reached ↦
-          let placed = strips.placed n d within in
           lane_put cells (get_or s.strips n d).area own rect (get_or lanes n e)
-          (get_or new n e) has is record { low = placed.x_low; high = placed.x_high } lane
+          (get_or new n e) has is (strips n d within).near lane
           (changed.chosen n e (inside n within) reached d)
       | inr never ↦
           subst (IsLane (set cells own (Some rect)) (get_or s.strips n d).area) (sym (changed.others n e (inside n within) never))
@@ -259,6 +259,25 @@ lanes_orderly xs boxes lanes l = record {
   each = λ n e within. (l.each n no_strip e within).orderly;
   inside = λ n d e within. (l.each n d e within).inside;
 }
+
+-- lanes of strips that are felt around have room around their entries
+pub lanes_roomy : (site : ℤ) (s : Lookups) (boxes : List (List (Option Rect))) (lanes : List Lane) → All (IsFelt s.rows s.height) (felt_strips site s.strips) →
+    AreLanes (felt_strips site s.strips) boxes lanes → AreRoomy (length s.strips) lanes
+lanes_roomy site s boxes lanes felt l = record {
+  many = l.many ∙ felt_many site s.strips;
+  each = λ n e within. (l.each n no_strip e (inner n within)).orderly;
+  around = λ n e within k d at.
+      let near = (felt n no_strip (inner n within)).near in
+      let a = near.low in
+      let b = near.high in
+      let inside = (l.each n no_strip e (inner n within)).inside k d at in
+      let p = inside.left in
+      let q = inside.right in
+      record { low = omega (arith, ints, a, p); high = omega (arith, ints, b, q) };
+}
+  where
+    inner : (n : ℕ) → n < length s.strips → n < length (felt_strips site s.strips)
+    inner n within = let m = felt_many site s.strips in omega (arith, m, within)
 
 -- a team's boxes changed twice are changed once
 pub set_twice : (boxes : List (List (Option Rect))) (team own : ℕ) (a b : Option Rect) → team < length boxes →
@@ -328,7 +347,7 @@ takes_parts xs boxes team rect run lanes are room n d e (within, (k, r, below, a
 }
 
 -- the strips that the box meets have room where those that are reached have it
-pub room_of_met : (s : Lookups) (team : ℕ) (rect : Rect) (run : List RowEntry) (more : ℕ) (lanes : List Lane) → AreStrips s.rows s.height s.strips →
+pub room_of_met : (s : Lookups) (team : ℕ) (rect : Rect) (run : List RowEntry) (more : ℕ) (lanes : List Lane) → All (IsFelt s.rows s.height) s.strips →
     AreRowsNear s.rows s.height rect run → HaveRoom (IsReached s.strips run team rect) more lanes →
     HaveRoom (MeetsStrip s.strips team rect) more lanes
 room_of_met s team rect run more lanes strips rows room n e meets = elim (order_of n (length s.strips)) [

@@ -11,7 +11,7 @@ use Rattle.std.proofs.lemmas.List.Elements.{All-contains, All-contains_itself, A
 use Rattle.std.proofs.lemmas.List.Elements.{Contains-append_left, Contains-append_right, Contains-append_cases, Contains-get_or}
 use Rattle.lf_units.specs.declared.area.Rect.{Rect}
 use Rattle.lf_spans.specs.declared.span.Span.{Span}
-use Rattle.lf_spans.specs.Spans.{AreApart, IsApart, IsFreeIn, LiesIn}
+use Rattle.lf_spans.specs.Spans.{AreApart, Holds, IsApart, IsFreeIn, LiesIn}
 use Rattle.lf_occupancy.specs.declared.lane.Entry.{Entry}
 use Rattle.lf_occupancy.specs.Lanes.{AreInOrder, IsNearRun, MeetsOne, others_in, spans_in, x_range}
 use Rattle.lf_occupancy.proofs.Lists.{contains_filter, pairs_filter}
@@ -132,30 +132,31 @@ each_apart xs own s each =
     each (get_or (others_in xs own) k d) (All-filter p (Contains xs) xs (All-contains_itself xs) k d within)
     (test_other (get_or (others_in xs own) k d).own own (filter_passes p xs k d within)))
 
--- what a window shows of a strip rests on the entries near the window alone
-pub free_near : (xs near : List Entry) (own : ℕ) (strip window : Span) (free : List Span) → IsNearRun xs window.lo window.hi near →
+-- what a window shows of a strip rests on the entries near both alone
+pub free_near : (xs near : List Entry) (own : ℕ) (strip window : Span) (lo hi : ℤ) (free : List Span) → IsNearRun xs lo hi near →
+    ((x : ℤ) → Holds strip x → Holds window x → (lo ≤ℤ x) × (x <ℤ hi)) →
     IsFreeIn strip (spans_in (others_in near own)) window free → IsFreeIn strip (spans_in (others_in xs own)) window free
-free_near xs near own strip window free run f = record {
+free_near xs near own strip window lo hi free run shown f = record {
   rising = f.rising;
   exact = λ s filled. (
     λ lies.
         let h = (f.exact s filled).0 lies in
-        (h.0, h.1, each_apart xs own s (λ e there other. all_apart s h.1 h.2 e there other)),
+        (h.0, h.1, each_apart xs own s (λ e there other. all_apart s h.0 h.1 h.2 e there other)),
     λ h.
         (f.exact s filled).1
-        (h.0, h.1, each_apart near own s (λ e there other. apart_each xs own s h.2 e (near_in xs near window.lo window.hi e run there) other)),
+        (h.0, h.1, each_apart near own s (λ e there other. apart_each xs own s h.2 e (near_in xs near lo hi e run there) other)),
   );
 }
   where
-    all_apart : (s : Span) → LiesIn s window → IsApart (spans_in (others_in near own)) s → (e : Entry) → Contains xs e → (e.own ≡ own → ⊥) →
-        AreApart s (x_range e.area)
-    all_apart s inside apart e there other x first second =
-        let w = inside x first in
-        let a = w.low in
-        let b = w.high in
+    all_apart : (s : Span) → LiesIn s strip → LiesIn s window → IsApart (spans_in (others_in near own)) s → (e : Entry) → Contains xs e →
+        (e.own ≡ own → ⊥) → AreApart s (x_range e.area)
+    all_apart s in_strip in_window apart e there other x first second =
+        let w = shown x (in_strip x first) (in_window x first) in
+        let a = w.0 in
+        let b = w.1 in
         let c = second.low in
         let d = second.high in
-        let at : Contains near e = in_near xs near window.lo window.hi e run there (omega (arith, ints, a, d)) (omega (arith, ints, b, c)) in
+        let at : Contains near e = in_near xs near lo hi e run there (omega (arith, ints, a, d)) (omega (arith, ints, b, c)) in
         apart_each near own s apart e at other x first second
 
 -- the spans of the other cells' entries stand in order, and none is wider than the widest

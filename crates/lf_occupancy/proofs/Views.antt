@@ -1,5 +1,5 @@
 -- What lanes tell of the boxes of teams' cells.
-use Rattle.std.proofs.Common.{refl, ◌≡◌, ◌⊎◌, inl, inr, ℕ, zero, suc, ◌<◌, ◌≤◌, ℤ, ◌<ℤ◌, true, List, [], ◌∷◌, Option, Some, None, length, get_or, sym, ap, subst, ◌∙◌, arith}
+use Rattle.std.proofs.Common.{refl, ◌≡◌, ◌⊎◌, inl, inr, ℕ, zero, suc, ◌<◌, ◌≤◌, ℤ, pos, ◌≤ℤ◌, ◌<ℤ◌, true, List, [], ◌∷◌, Option, Some, None, length, get_or, sym, ap, subst, ◌∙◌, arith}
 use Rattle.std.specs.Prelude.{Any, Contains, IfSome, IsSomeAnd, map, slice_get}
 use Rattle.std.specs.Vec.{vec_capacity, vec_len}
 use Rattle.std.proofs.lemmas.Bool.Decides.{eqb_tells}
@@ -10,41 +10,49 @@ use Rattle.std.proofs.lemmas.List.Elements.{All-contains}
 use Rattle.lf_units.specs.declared.area.Rect.{Rect}
 use Rattle.lf_units.specs.Area.{Covers, SharesPoint}
 use Rattle.lf_spans.specs.declared.span.Span.{Span}
-use Rattle.lf_spans.specs.Spans.{AreApart, Holds, LiesIn}
+use Rattle.lf_spans.specs.Spans.{AreApart, Holds, IsFilled, LiesIn}
+use Rattle.lf_spans.proofs.Edges.{in_of_lies}
 use Rattle.lf_cells.specs.declared.cell.CellId.{CellId}
 use Rattle.lf_occupancy.specs.declared.lane.Entry.{Entry}
 use Rattle.lf_occupancy.specs.declared.lane.Lane.{Lane}
 use Rattle.lf_segments.specs.declared.strip.Strip.{Strip}
-use Rattle.lf_occupancy.specs.Lanes.{IsLane, LiesInBox, IsLeast, x_range}
-use Rattle.lf_occupancy.specs.Strips.{AreFreeTo, AreLanes, AreLeft, HaveRoom, LiesFree, LiesLeft, MeetsInOne, MeetsStrip, rooms_in}
+use Rattle.lf_rules.specs.Padding.{wider}
+use Rattle.lf_occupancy.specs.Lanes.{IsLane, LiesInBox, IsLeast, padded, x_range}
+use Rattle.lf_occupancy.specs.Strips.{AreFreeTo, AreLanes, AreLeft, HaveRoom, LiesFree, LiesLeft, MeetsInOne, MeetsStrip, felt_strips, rooms_in}
 use Rattle.lf_occupancy.specs.Occupied.{AreFreeSpans, FitIn, HasRoomFor, IsLeftOver, StandsBut, boxes_of, cell_box, count_in, meets}
-use Rattle.lf_occupancy.specs.Occupied.{Occupied, IsFirstMet, IsFreeInRow, IsFreeOver, IsOther, IsStripOf, MeetsInStrips, across, over}
+use Rattle.lf_occupancy.specs.Occupied.{Occupied, IsFirstMet, IsFreeInRow, IsFreeOver, IsOther, IsPaddingOf, IsStripOf, MeetsInStrips, across, felt, over, reach}
 use Rattle.lf_occupancy.proofs.Counting.{meets_shares, named_are_counted, shares_meets}
 use Rattle.lf_occupancy.proofs.Finds.{no_strip, some_lane}
 use Rattle.lf_occupancy.proofs.Leasts.{least_alike, least_from_none}
-use Rattle.lf_occupancy.proofs.Runs.{all_apart_each, apart_each, each_all_apart, each_apart}
+use Rattle.lf_occupancy.proofs.Around.{felt_at, felt_many}
+use Rattle.lf_occupancy.proofs.Lists.{any_made, any_unmade, made_at, unmade_at}
+use Rattle.lf_occupancy.proofs.Padded.{each_padded, nearest_in, one_padded, other_padded, others_padded}
+
+-- the strips as far as their lanes reach
+abbrev pub felts : Occupied → List Strip
+felts o = felt_strips o.site o.index.strips
 
 -- the lane of a strip of the team
-team_lane : (o : Occupied) (lanes : List Lane) (team n : ℕ) (d : Strip) (e : Lane) → AreLanes o.index.strips o.boxes lanes → n < length o.index.strips →
-    (get_or o.index.strips n d).team ≡ team → IsLane (get_or o.boxes team []) (get_or o.index.strips n d).area (get_or lanes n e)
+team_lane : (o : Occupied) (lanes : List Lane) (team n : ℕ) (d : Strip) (e : Lane) → AreLanes (felts o) o.boxes lanes → n < length (felts o) →
+    (get_or (felts o) n d).team ≡ team → IsLane (get_or o.boxes team []) (get_or (felts o) n d).area (get_or lanes n e)
 team_lane o lanes team n d e are within of_team =
-    let At : ℕ → Type 0 = λ t. IsLane (get_or o.boxes t []) (get_or o.index.strips n d).area (get_or lanes n e) in
+    let At : ℕ → Type 0 = λ t. IsLane (get_or o.boxes t []) (get_or (felts o) n d).area (get_or lanes n e) in
     subst At of_team (are.each n d e within)
 
-met_in_lanes : (o : Occupied) (lanes : List Lane) (id : CellId) (rect : Rect) (own : ℕ) → AreLanes o.index.strips o.boxes lanes → MeetsInStrips o id rect own →
-    MeetsInOne o.index.strips lanes id.team rect id.own own
+met_in_lanes : (o : Occupied) (lanes : List Lane) (id : CellId) (rect : Rect) (own : ℕ) → AreLanes (felts o) o.boxes lanes → MeetsInStrips o id rect own →
+    MeetsInOne (felts o) lanes id.team rect id.own own
 met_in_lanes o lanes id rect own are m =
-    let strip = m.in_strip in
+    let strip = any_made (λ (g : Strip). (g.team ≡ id.team) × Covers g.area m.x m.y) (felt (reach o)) o.index.strips m.in_strip in
     let n = strip.0 in
     let g = strip.1 in
     let within = strip.2 in
-    let is : get_or o.index.strips n g ≡ g = strip.3 in
-    let of_team : (get_or o.index.strips n g).team ≡ id.team = ap (λ (x : Strip). x.team) is ∙ strip.4.0 in
+    let is : get_or (felts o) n g ≡ g = strip.3 in
+    let of_team : (get_or (felts o) n g).team ≡ id.team = ap (λ (x : Strip). x.team) is ∙ strip.4.0 in
     let covers = subst (λ (x : Strip). Covers x.area m.x m.y) (sym is) strip.4.1 in (
       n,
       record {
         within = within;
-        of_team = λ d. ap (λ (x : Strip). x.team) (get_or_default o.index.strips n d g within) ∙ of_team;
+        of_team = λ d. ap (λ (x : Strip). x.team) (get_or_default (felts o) n d g within) ∙ of_team;
         meets = λ d.
             let found = (team_lane o lanes id.team n g d are within of_team).held own m.x m.y
             record { box = m.box; is = m.is.stands; in_area = covers; in_box = m.in_box } in (
@@ -61,8 +69,8 @@ met_in_lanes o lanes id rect own are m =
       },
     )
 
-met_in_strips : (o : Occupied) (lanes : List Lane) (id : CellId) (rect : Rect) (own : ℕ) → AreLanes o.index.strips o.boxes lanes →
-    MeetsInOne o.index.strips lanes id.team rect id.own own → MeetsInStrips o id rect own
+met_in_strips : (o : Occupied) (lanes : List Lane) (id : CellId) (rect : Rect) (own : ℕ) → AreLanes (felts o) o.boxes lanes →
+    MeetsInOne (felts o) lanes id.team rect id.own own → MeetsInStrips o id rect own
 met_in_strips o lanes id rect own are (n, at) =
     let within = at.within in
     let many = are.many in
@@ -71,7 +79,7 @@ met_in_strips o lanes id rect own are (n, at) =
     let e = met.1 in
     let m = met.4 in
     let l = team_lane o lanes id.team n no_strip lane are within (at.of_team no_strip) in
-    let told = All-contains (λ z. (x y : ℤ) → Covers z.area x y → LiesInBox (get_or o.boxes id.team []) (get_or o.index.strips n no_strip).area z.own x y)
+    let told = All-contains (λ z. (x y : ℤ) → Covers z.area x y → LiesInBox (get_or o.boxes id.team []) (get_or (felts o) n no_strip).area z.own x y)
     (get_or lanes n lane).entries.items e l.told (met.0, met.2, met.3) in
     let lies = told m.meets.x m.meets.y m.meets.in_second in
     let At : ℕ → Type 0 = λ k. cell_box (get_or o.boxes id.team []) k ≡ Some lies.box in
@@ -80,24 +88,108 @@ met_in_strips o lanes id rect own are (n, at) =
       is = record { other = m.other; stands = subst At m.is lies.is };
       x = m.meets.x;
       y = m.meets.y;
-      in_strip = (n, get_or o.index.strips n no_strip, within, get_or_default o.index.strips n _ no_strip within, (at.of_team no_strip, lies.in_area));
+      in_strip = any_unmade (λ (g : Strip). (g.team ≡ id.team) × Covers g.area m.meets.x m.meets.y) (felt (reach o)) o.index.strips
+          (n, get_or (felts o) n no_strip, within, get_or_default (felts o) n _ no_strip within, (at.of_team no_strip, lies.in_area));
       in_rect = m.meets.in_first;
       in_box = lies.in_box;
     }
 
-pub first_of_least : (o : Occupied) (lanes : List Lane) (id : CellId) (rect : Rect) (met : Option ℕ) → AreLanes o.index.strips o.boxes lanes →
-    IsLeast (MeetsInOne o.index.strips lanes id.team rect id.own) None met → IsFirstMet o id rect met
+pub first_of_least : (o : Occupied) (lanes : List Lane) (id : CellId) (rect : Rect) (met : Option ℕ) → AreLanes (felts o) o.boxes lanes →
+    IsLeast (MeetsInOne (felts o) lanes id.team rect id.own) None met → IsFirstMet o id rect met
 first_of_least o lanes id rect met are least =
     least_from_none (MeetsInStrips o id rect) met
-    (least_alike (MeetsInOne o.index.strips lanes id.team rect id.own) (MeetsInStrips o id rect) None met (λ own m. met_in_strips o lanes id rect own are m)
+    (least_alike (MeetsInOne (felts o) lanes id.team rect id.own) (MeetsInStrips o id rect) None met (λ own m. met_in_strips o lanes id rect own are m)
     (λ own m. met_in_lanes o lanes id rect own are m) least)
 
-pub free_of_strips : (o : Occupied) (lanes : List Lane) (row : ℕ) (id : CellId) (window : Span) (free : List Span) → AreLanes o.index.strips o.boxes lanes →
-    AreFreeTo o.index.strips lanes row id.team id.own window (length o.index.strips) free → IsFreeInRow o row id window free
-free_of_strips o lanes row id window free are f = record {
+-- the lane of a strip, which is felt around
+felt_lane : (o : Occupied) (lanes : List Lane) (n : ℕ) (d : Strip) (e : Lane) → AreLanes (felts o) o.boxes lanes → n < length o.index.strips →
+    IsLane (get_or o.boxes (get_or o.index.strips n d).team []) (wider (reach o) (get_or o.index.strips n d).area) (get_or lanes n e)
+felt_lane o lanes n d e are within =
+    let many = felt_many o.site o.index.strips in
+    let At : Strip → Type 0 = λ g. IsLane (get_or o.boxes g.team []) g.area (get_or lanes n e) in
+    subst At (felt_at o.site o.index.strips n d d within) (are.each n d e (omega (arith, within, many)))
+
+-- a box that shares a point with what is made wider over a span of a strip has an entry in the strip's lane, and that made wider
+-- shares a number with the span
+record IsTooNear (padding : ℤ) (own : ℕ) (s : Span) (l : Lane) : Type 0 where
+  e : Entry
+  there : Contains l.entries.items e
+  is : e.own ≡ own
+  x : ℤ
+  held : Holds s x
+  taken : Holds (x_range (padded padding e).area) x
+
+too_near : (by padding : ℤ) (cells : List (Option Rect)) (g : Strip) (s : Span) (l : Lane) (own : ℕ) (box : Rect) → IsLane cells (wider by g.area) l →
+    pos 0 ≤ℤ padding → padding ≤ℤ by → IsFilled s → LiesIn s (across g) → cell_box cells own ≡ Some box → SharesPoint (wider padding (over g s)) box →
+    IsTooNear padding own s l
+too_near by padding cells g s l own box lane some most filled within is shares =
+    let inside = in_of_lies s (across g) filled within in
+    let low = inside.low in
+    let high = inside.high in
+    let left = shares.in_first.left in
+    let right = shares.in_first.right in
+    let found = lane.held own shares.x shares.y record {
+      box = box;
+      is = is;
+      in_area = record {
+        left = omega (arith, ints, left, low, most);
+        right = omega (arith, ints, right, high, most);
+        bottom = shares.in_first.bottom;
+        top = shares.in_first.top;
+      };
+      in_box = shares.in_second;
+    } in
+    let near = nearest_in s.lo s.hi padding shares.x filled left right some in
+    record {
+      e = found.1;
+      there = (found.0, found.2, found.3);
+      is = found.4.is;
+      x = near.z;
+      held = record { low = near.low; high = near.high };
+      taken = record {
+        low = let a = near.to in let b = found.4.covers.left in omega (arith, ints, a, b);
+        high = let a = near.from in let b = found.4.covers.right in omega (arith, ints, a, b);
+      };
+    }
+
+-- an entry that, made wider, holds a number of a span of a strip is of a box that shares a point with what is made wider over the span
+record HasNearBox (cells : List (Option Rect)) (padding : ℤ) (g : Strip) (s : Span) (own : ℕ) : Type 0 where
+  box : Rect
+  is : cell_box cells own ≡ Some box
+  shares : SharesPoint (wider padding (over g s)) box
+
+near_box : (by padding : ℤ) (cells : List (Option Rect)) (g : Strip) (s : Span) (l : Lane) (e : Entry) (x : ℤ) → IsLane cells (wider by g.area) l →
+    pos 0 ≤ℤ padding → Contains l.entries.items e → Holds s x → Holds (x_range (padded padding e).area) x → HasNearBox cells padding g s e.own
+near_box by padding cells g s l e x lane some there first second =
+    let whole = All-contains (λ z. (z.area.x1 <ℤ z.area.x2) × (z.area.y1 <ℤ z.area.y2)) l.entries.items e
+    (λ k c inner. let w = lane.whole k c inner in (w.wide, w.high)) there in
+    let high = whole.1 in
+    let told = All-contains (λ z. (x y : ℤ) → Covers z.area x y → LiesInBox cells (wider by g.area) z.own x y) l.entries.items e lane.told there in
+    let near = nearest_in e.area.x1 e.area.x2 padding x whole.0 second.low second.high some in
+    let lies = told near.z e.area.y1 record { left = near.low; right = near.high; bottom = omega (arith, ints); top = high } in
+    record {
+      box = lies.box;
+      is = lies.is;
+      shares = record {
+        x = near.z;
+        y = e.area.y1;
+        in_first = record {
+          left = let a = first.low in let b = near.to in omega (arith, ints, a, b);
+          right = let a = first.high in let b = near.from in omega (arith, ints, a, b);
+          bottom = lies.in_area.bottom;
+          top = lies.in_area.top;
+        };
+        in_second = lies.in_box;
+      };
+    }
+
+pub free_of_strips : (o : Occupied) (lanes : List Lane) (row : ℕ) (id : CellId) (window : Span) (padding : ℤ) (free : List Span) → IsPaddingOf o padding →
+    AreLanes (felts o) o.boxes lanes → AreFreeTo o.index.strips lanes row id.team id.own window padding (length o.index.strips) free →
+    IsFreeInRow o row id window padding free
+free_of_strips o lanes row id window padding free short are f = record {
   rising = f.rising;
   exact = λ s filled. (
-    λ lies. let h = (f.exact s filled).0 lies in (h.0, to s h.1.0 h.1.1.1),
+    λ lies. let h = (f.exact s filled).0 lies in (h.0, to s filled h.1.0 h.1.1.1),
     λ both. (f.exact s filled).1 (both.0, back s both.1),
   );
 }
@@ -105,8 +197,15 @@ free_of_strips o lanes row id window free are f = record {
     xs : List Strip
     xs = o.index.strips
 
-    to : (s : Span) (n : ℕ) → LiesFree xs lanes row id.team id.own s n → Any (λ g. IsStripOf row id.team g × IsFreeOver o id g s) xs
-    to s n l = (
+    lane_of : (n : ℕ) (d : Strip) (e : Lane) → n < length xs → (get_or xs n d).team ≡ id.team →
+        IsLane (get_or o.boxes id.team []) (wider (reach o) (get_or xs n d).area) (get_or lanes n e)
+    lane_of n d e within of_team =
+        let At : ℕ → Type 0 = λ t. IsLane (get_or o.boxes t []) (wider (reach o) (get_or xs n d).area) (get_or lanes n e) in
+        subst At of_team (felt_lane o lanes n d e are within)
+
+    to : (s : Span) → IsFilled s → (n : ℕ) → LiesFree xs lanes row id.team id.own padding s n →
+        Any (λ g. IsStripOf row id.team g × IsFreeOver o id padding g s) xs
+    to s filled n l = (
       n,
       g,
       l.within,
@@ -123,24 +222,19 @@ free_of_strips o lanes row id window free are f = record {
         g : Strip
         g = get_or xs n no_strip
 
-        clear : (own : ℕ) (box : Rect) → IsOther o id own box → SharesPoint (over g s) box → ⊥
+        clear : (own : ℕ) (box : Rect) → IsOther o id own box → SharesPoint (wider padding (over g s)) box → ⊥
         clear own box other shares =
             let many = are.many in
+            let felt_too = felt_many o.site xs in
             let within = l.within in
-            let lane = some_lane lanes n (omega (arith, many, within)) in
-            let held : Holds s shares.x = record { low = shares.in_first.left; high = shares.in_first.right } in
-            let inside = l.inside no_strip shares.x held in
-            let found = (team_lane o lanes id.team n no_strip lane are within (l.of_team no_strip)).held own shares.x shares.y record {
-              box = box;
-              is = other.stands;
-              in_area = record { left = inside.low; right = inside.high; bottom = shares.in_first.bottom; top = shares.in_first.top };
-              in_box = shares.in_second;
-            } in
-            apart_each (get_or lanes n lane).entries.items id.own s (l.apart lane) found.1 (found.0, found.2, found.3)
-            (λ same. other.other (sym found.4.is ∙ same)) shares.x held record { low = found.4.covers.left; high = found.4.covers.right }
+            let lane = some_lane lanes n (omega (arith, many, felt_too, within)) in
+            let near = too_near (reach o) padding (get_or o.boxes id.team []) g s (get_or lanes n lane) own box
+            (lane_of n no_strip lane within (l.of_team no_strip)) short.least short.most filled (l.inside no_strip) other.stands shares in
+            other_padded padding (get_or lanes n lane).entries.items id.own s (l.apart lane) near.e near.there
+            (λ same. other.other (sym near.is ∙ same)) near.x near.held near.taken
 
-    back : (s : Span) → Any (λ g. IsStripOf row id.team g × IsFreeOver o id g s) xs →
-        (n : ℕ) × ((n < length xs) × LiesFree xs lanes row id.team id.own s n)
+    back : (s : Span) → Any (λ g. IsStripOf row id.team g × IsFreeOver o id padding g s) xs →
+        (n : ℕ) × ((n < length xs) × LiesFree xs lanes row id.team id.own padding s n)
     back s (n, g, within, is, (strip, free_over)) = (
       n,
       (
@@ -150,7 +244,7 @@ free_of_strips o lanes row id window free are f = record {
           in_row = λ d. ap (λ (x : Strip). x.row) (same d) ∙ strip.in_row;
           of_team = λ d. ap (λ (x : Strip). x.team) (same d) ∙ strip.of_team;
           inside = λ d. subst (λ (x : Strip). LiesIn s (across x)) (sym (same d)) free_over.within;
-          apart = λ d. each_apart (get_or lanes n d).entries.items id.own s (λ e there other x first second. never d e there other x first second);
+          apart = λ d. others_padded padding (get_or lanes n d).entries.items id.own s (λ e there other x first second. never d e there other x first second);
         },
       ),
     )
@@ -161,102 +255,80 @@ free_of_strips o lanes row id window free are f = record {
         of_team : (get_or xs n g).team ≡ id.team
         of_team = ap (λ (x : Strip). x.team) is ∙ strip.of_team
 
-        never : (d : Lane) (e : Entry) → Contains (get_or lanes n d).entries.items e → (e.own ≡ id.own → ⊥) → AreApart s (x_range e.area)
+        never : (d : Lane) (e : Entry) → Contains (get_or lanes n d).entries.items e → (e.own ≡ id.own → ⊥) → AreApart s (x_range (padded padding e).area)
         never d e there other x first second =
-            let lane = team_lane o lanes id.team n g d are within of_team in
-            let whole = All-contains (λ z. (z.area.x1 <ℤ z.area.x2) × (z.area.y1 <ℤ z.area.y2)) (get_or lanes n d).entries.items e
-            (λ k c inner. let w = lane.whole k c inner in (w.wide, w.high)) there in
-            let high = whole.1 in
-            let told = All-contains (λ z. (x y : ℤ) → Covers z.area x y → LiesInBox (get_or o.boxes id.team []) (get_or xs n g).area z.own x y)
-            (get_or lanes n d).entries.items e lane.told there in
-            let lies = told x e.area.y1 record { left = second.low; right = second.high; bottom = omega (arith, ints); top = high } in
-            let covers = subst (λ (z : Strip). Covers z.area x e.area.y1) is lies.in_area in
-            free_over.clear e.own lies.box record { other = other; stands = lies.is } record {
-              x = x;
-              y = e.area.y1;
-              in_first = record { left = first.low; right = first.high; bottom = covers.bottom; top = covers.top };
-              in_second = lies.in_box;
-            }
+            let At : Strip → Type 0 = λ q. HasNearBox (get_or o.boxes id.team []) padding q s e.own in
+            let near : At g = subst At is
+            (near_box (reach o) padding (get_or o.boxes id.team []) (get_or xs n g) s (get_or lanes n d) e x (lane_of n g d within of_team) short.least there
+            first second) in
+            free_over.clear e.own near.box record { other = other; stands = near.is } near.shares
 
--- what lies over the strip of that number, and no entry of the lane shares a number with it
-left_over : (o : Occupied) (lanes : List Lane) (id : CellId) (n : ℕ) (s : Span) → AreLanes o.index.strips o.boxes lanes → LiesLeft o.index.strips lanes id n s →
-    IsLeftOver o id (get_or o.index.strips n no_strip) s
-left_over o lanes id n s are l = record { within = l.inside no_strip; clear = clear }
+-- what lies over the strip of that number, and no entry of the lane made wider shares a number with it
+left_over : (o : Occupied) (lanes : List Lane) (id : CellId) (padding : ℤ) (n : ℕ) (s : Span) → IsPaddingOf o padding → IsFilled s →
+    AreLanes (felts o) o.boxes lanes → LiesLeft o.index.strips lanes id padding n s → IsLeftOver o id padding (get_or o.index.strips n no_strip) s
+left_over o lanes id padding n s short filled are l = record { within = l.inside no_strip; clear = clear }
   where
     g : Strip
     g = get_or o.index.strips n no_strip
 
-    clear : (own : ℕ) (box : Rect) → StandsBut o id g.team own box → SharesPoint (over g s) box → ⊥
+    clear : (own : ℕ) (box : Rect) → StandsBut o id g.team own box → SharesPoint (wider padding (over g s)) box → ⊥
     clear own box stands shares =
         let many = are.many in
+        let felt_too = felt_many o.site o.index.strips in
         let within = l.within in
-        let lane = some_lane lanes n (omega (arith, many, within)) in
-        let held : Holds s shares.x = record { low = shares.in_first.left; high = shares.in_first.right } in
-        let inside = l.inside no_strip shares.x held in
-        let found = (are.each n no_strip lane within).held own shares.x shares.y record {
-          box = box;
-          is = stands.stands;
-          in_area = record { left = inside.low; right = inside.high; bottom = shares.in_first.bottom; top = shares.in_first.top };
-          in_box = shares.in_second;
-        } in
-        let taken : Holds (x_range found.1.area) shares.x = record { low = found.4.covers.left; high = found.4.covers.right } in
+        let lane = some_lane lanes n (omega (arith, many, felt_too, within)) in
+        let near = too_near (reach o) padding (get_or o.boxes g.team []) g s (get_or lanes n lane) own box (felt_lane o lanes n no_strip lane are within)
+        short.least short.most filled (l.inside no_strip) stands.stands shares in
         elim (eqb_tells g.team id.team) [
-          | inl same ↦ apart_each (get_or lanes n lane).entries.items id.own s (l.own no_strip lane same.1) found.1 (found.0, found.2, found.3)
-              (λ is. stands.other same.1 (sym found.4.is ∙ is)) shares.x held taken
-          | inr away ↦ all_apart_each (get_or lanes n lane).entries.items s (l.foreign no_strip lane away.1) found.1 (found.0, found.2, found.3)
-              shares.x held taken
+          | inl same ↦ other_padded padding (get_or lanes n lane).entries.items id.own s (l.own no_strip lane same.1) near.e near.there
+              (λ is. stands.other same.1 (sym near.is ∙ is)) near.x near.held near.taken
+          | inr away ↦ one_padded padding (get_or lanes n lane).entries.items s (l.foreign no_strip lane away.1) near.e near.there near.x near.held
+              near.taken
         ]
 
-over_left : (o : Occupied) (lanes : List Lane) (id : CellId) (n : ℕ) (g : Strip) (s : Span) → AreLanes o.index.strips o.boxes lanes → n < length o.index.strips →
-    ((d : Strip) → get_or o.index.strips n d ≡ g) → IsLeftOver o id g s → LiesLeft o.index.strips lanes id n s
-over_left o lanes id n g s are within is left = record {
+over_left : (o : Occupied) (lanes : List Lane) (id : CellId) (padding : ℤ) (n : ℕ) (g : Strip) (s : Span) → IsPaddingOf o padding →
+    AreLanes (felts o) o.boxes lanes → n < length o.index.strips → ((d : Strip) → get_or o.index.strips n d ≡ g) → IsLeftOver o id padding g s →
+    LiesLeft o.index.strips lanes id padding n s
+over_left o lanes id padding n g s short are within is left = record {
   within = within;
   inside = λ d. subst (λ (x : Strip). LiesIn s (across x)) (sym (is d)) left.within;
   own = λ d e same.
-      each_apart (get_or lanes n e).entries.items id.own s (λ x there other. never e x there (λ team. other));
+      others_padded padding (get_or lanes n e).entries.items id.own s (λ x there other. never e x there (λ team. other));
   foreign = λ d e away.
-      each_all_apart (get_or lanes n e).entries.items s
+      each_padded padding (get_or lanes n e).entries.items s
       (λ x there. never e x there (λ team. absurd (away (ap (λ (q : Strip). q.team) (is d) ∙ team))));
 }
   where
-    never : (d : Lane) (e : Entry) → Contains (get_or lanes n d).entries.items e → (g.team ≡ id.team → e.own ≡ id.own → ⊥) → AreApart s (x_range e.area)
+    never : (d : Lane) (e : Entry) → Contains (get_or lanes n d).entries.items e → (g.team ≡ id.team → e.own ≡ id.own → ⊥) →
+        AreApart s (x_range (padded padding e).area)
     never d e there other x first second =
-        let At : Strip → Type 0 = λ q. IsLane (get_or o.boxes q.team []) q.area (get_or lanes n d) in
-        let lane : At g = subst At (is no_strip) (are.each n no_strip d within) in
-        let whole = All-contains (λ z. (z.area.x1 <ℤ z.area.x2) × (z.area.y1 <ℤ z.area.y2)) (get_or lanes n d).entries.items e
-        (λ k c inner. let w = lane.whole k c inner in (w.wide, w.high)) there in
-        let high = whole.1 in
-        let told = All-contains (λ z. (x y : ℤ) → Covers z.area x y → LiesInBox (get_or o.boxes g.team []) g.area z.own x y)
-        (get_or lanes n d).entries.items e lane.told there in
-        let lies = told x e.area.y1 record { left = second.low; right = second.high; bottom = omega (arith, ints); top = high } in
-        left.clear e.own lies.box record { other = other; stands = lies.is } record {
-          x = x;
-          y = e.area.y1;
-          in_first = record { left = first.low; right = first.high; bottom = lies.in_area.bottom; top = lies.in_area.top };
-          in_second = lies.in_box;
-        }
+        let At : Strip → Type 0 = λ q. IsLane (get_or o.boxes q.team []) (wider (reach o) q.area) (get_or lanes n d) in
+        let lane : At g = subst At (is no_strip) (felt_lane o lanes n no_strip d are within) in
+        let near = near_box (reach o) padding (get_or o.boxes g.team []) g s (get_or lanes n d) e x lane short.least there first second in
+        left.clear e.own near.box record { other = other; stands = near.is } near.shares
 
-pub spans_of_strip : (o : Occupied) (lanes : List Lane) (id : CellId) (n : ℕ) (free : List Span) → AreLanes o.index.strips o.boxes lanes →
-    AreLeft o.index.strips lanes id n free → AreFreeSpans o n id free
-spans_of_strip o lanes id n free are left = record {
+pub spans_of_strip : (o : Occupied) (lanes : List Lane) (id : CellId) (padding : ℤ) (n : ℕ) (free : List Span) → IsPaddingOf o padding →
+    AreLanes (felts o) o.boxes lanes → AreLeft o.index.strips lanes id padding n free → AreFreeSpans o n id padding free
+spans_of_strip o lanes id padding n free short are left = record {
   rising = left.rising;
-  exact = λ s filled. (λ lies. to s ((left.exact s filled).0 lies), λ some. (left.exact s filled).1 (back s some));
+  exact = λ s filled. (λ lies. to s filled ((left.exact s filled).0 lies), λ some. (left.exact s filled).1 (back s some));
 }
   where
-    to : (s : Span) → LiesLeft o.index.strips lanes id n s → IsSomeAnd (slice_get o.index.strips n) (λ g. IsLeftOver o id g s)
-    to s l =
-        subst (λ (found : Option Strip). IsSomeAnd found (λ g. IsLeftOver o id g s)) (sym (slice_get-get_or o.index.strips n no_strip l.within))
-        (left_over o lanes id n s are l)
+    to : (s : Span) → IsFilled s → LiesLeft o.index.strips lanes id padding n s →
+        IsSomeAnd (slice_get o.index.strips n) (λ g. IsLeftOver o id padding g s)
+    to s filled l =
+        subst (λ (found : Option Strip). IsSomeAnd found (λ g. IsLeftOver o id padding g s)) (sym (slice_get-get_or o.index.strips n no_strip l.within))
+        (left_over o lanes id padding n s short filled are l)
 
     order : (n < length o.index.strips) ⊎ (length o.index.strips ≤ n)
     order = grind arith
 
-    back : (s : Span) → IsSomeAnd (slice_get o.index.strips n) (λ g. IsLeftOver o id g s) → LiesLeft o.index.strips lanes id n s
+    back : (s : Span) → IsSomeAnd (slice_get o.index.strips n) (λ g. IsLeftOver o id padding g s) → LiesLeft o.index.strips lanes id padding n s
     back s some = elim order [
       | inl within ↦
-          over_left o lanes id n (get_or o.index.strips n no_strip) s are within (λ d. get_or_default o.index.strips n d no_strip within)
-          (subst (λ (found : Option Strip). IsSomeAnd found (λ g. IsLeftOver o id g s)) (slice_get-get_or o.index.strips n no_strip within) some)
-      | inr past ↦ absurd (subst (λ (found : Option Strip). IsSomeAnd found (λ g. IsLeftOver o id g s)) (slice_get_past o.index.strips n past) some)
+          over_left o lanes id padding n (get_or o.index.strips n no_strip) s short are within (λ d. get_or_default o.index.strips n d no_strip within)
+          (subst (λ (found : Option Strip). IsSomeAnd found (λ g. IsLeftOver o id padding g s)) (slice_get-get_or o.index.strips n no_strip within) some)
+      | inr past ↦ absurd (subst (λ (found : Option Strip). IsSomeAnd found (λ g. IsLeftOver o id padding g s)) (slice_get_past o.index.strips n past) some)
     ]
 
 -- a lane has an entry for each of its team's boxes that meet the strip, and no other
@@ -341,11 +413,13 @@ lane_at : (xs : List Strip) (boxes : List (List (Option Rect))) (lanes : List La
 lane_at xs boxes lanes n g are is = let within = (strip_is_within xs n g is).0 in let many = are.many in some_lane lanes n (omega (arith, many, within))
 
 -- each strip has room for the boxes that meet it
-pub boxes_that_stand_fit : (o : Occupied) (lanes : List Lane) → o.rooms ≡ rooms_in lanes → AreLanes o.index.strips o.boxes lanes → (team : ℕ) →
+pub boxes_that_stand_fit : (o : Occupied) (lanes : List Lane) → o.rooms ≡ rooms_in lanes → AreLanes (felts o) o.boxes lanes → (team : ℕ) →
     FitIn o team (boxes_of o team)
 boxes_that_stand_fit o lanes rooms are team n g is of_team =
-    let e = lane_at o.index.strips o.boxes lanes n g are is in
-    let numbers = in_numbers o.index.strips o.boxes lanes n g team e are is of_team in
+    let around : Strip = felt (reach o) g in
+    let at : slice_get (felts o) n ≡ Some around = made_at (felt (reach o)) o.index.strips n g is in
+    let e = lane_at (felts o) o.boxes lanes n around are at in
+    let numbers = in_numbers (felts o) o.boxes lanes n around team e are at of_team in
     let a = numbers.count in
     let b = numbers.room in
     let c = ap (λ (ns : List ℕ). get_or ns n 0) rooms in
@@ -353,26 +427,32 @@ boxes_that_stand_fit o lanes rooms are team n g is of_team =
     omega (arith, a, b, c, most)
 
 -- room in lanes is room in what a contract sees
-pub room_is_seen : (o : Occupied) (lanes : List Lane) (team : ℕ) (rect : Rect) (more : ℕ) → o.rooms ≡ rooms_in lanes → AreLanes o.index.strips o.boxes lanes →
-    HaveRoom (MeetsStrip o.index.strips team rect) more lanes → HasRoomFor o team rect more
+pub room_is_seen : (o : Occupied) (lanes : List Lane) (team : ℕ) (rect : Rect) (more : ℕ) → o.rooms ≡ rooms_in lanes → AreLanes (felts o) o.boxes lanes →
+    HaveRoom (MeetsStrip (felts o) team rect) more lanes → HasRoomFor o team rect more
 room_is_seen o lanes team rect more rooms are room n g is of_team shares =
-    let e = lane_at o.index.strips o.boxes lanes n g are is in
-    let numbers = in_numbers o.index.strips o.boxes lanes n g team e are is of_team in
+    let around : Strip = felt (reach o) g in
+    let at : slice_get (felts o) n ≡ Some around = made_at (felt (reach o)) o.index.strips n g is in
+    let e = lane_at (felts o) o.boxes lanes n around are at in
+    let numbers = in_numbers (felts o) o.boxes lanes n around team e are at of_team in
     let a = numbers.count in
     let b = numbers.room in
     let c = ap (λ (ns : List ℕ). get_or ns n 0) rooms in
-    let h = room n e (subst (λ (found : Option Strip). IsSomeAnd found (λ q. (q.team ≡ team) × SharesPoint q.area rect)) (sym is) (of_team, shares)) in
+    let h = room n e (subst (λ (found : Option Strip). IsSomeAnd found (λ q. (q.team ≡ team) × SharesPoint q.area rect)) (sym at) (of_team, shares)) in
     omega (arith, a, b, c, h)
 
-pub seen_is_room : (o : Occupied) (lanes : List Lane) (team : ℕ) (rect : Rect) (more : ℕ) → o.rooms ≡ rooms_in lanes → AreLanes o.index.strips o.boxes lanes →
-    HasRoomFor o team rect more → HaveRoom (MeetsStrip o.index.strips team rect) more lanes
+pub seen_is_room : (o : Occupied) (lanes : List Lane) (team : ℕ) (rect : Rect) (more : ℕ) → o.rooms ≡ rooms_in lanes → AreLanes (felts o) o.boxes lanes →
+    HasRoomFor o team rect more → HaveRoom (MeetsStrip (felts o) team rect) more lanes
 seen_is_room o lanes team rect more rooms are room n e meets =
-    let found = some_strip (slice_get o.index.strips n) meets in
-    let numbers = in_numbers o.index.strips o.boxes lanes n found.0 team e are found.1.0 found.1.1.0 in
+    let found = some_strip (slice_get (felts o) n) meets in
+    let plain = unmade_at (felt (reach o)) o.index.strips n found.0 found.1.0 in
+    let At : Strip → Type 0 = λ g. (g.team ≡ team) × SharesPoint g.area rect in
+    let there : At (felt (reach o) plain.0) = subst At plain.1.1 found.1.1 in
+    let at : slice_get (felts o) n ≡ Some (felt (reach o) plain.0) = made_at (felt (reach o)) o.index.strips n plain.0 plain.1.0 in
+    let numbers = in_numbers (felts o) o.boxes lanes n (felt (reach o) plain.0) team e are at there.0 in
     let a = numbers.count in
     let b = numbers.room in
     let c = ap (λ (ns : List ℕ). get_or ns n 0) rooms in
-    let h = room n found.0 found.1.0 found.1.1.0 found.1.1.1 in
+    let h = room n plain.0 plain.1.0 there.0 there.1 in
     omega (arith, a, b, c, h)
   where
     some_strip : (found : Option Strip) → IsSomeAnd found (λ q. (q.team ≡ team) × SharesPoint q.area rect) →
@@ -380,7 +460,7 @@ seen_is_room o lanes team rect more rooms are room n e meets =
     some_strip None none = absurd none
     some_strip (Some g) m = (g, (refl, m))
 
-pub move_is_seen : (o : Occupied) (lanes : List Lane) (team : ℕ) (to : Option Rect) (more : ℕ) → o.rooms ≡ rooms_in lanes → AreLanes o.index.strips o.boxes lanes →
-    IfSome to (λ rect. HaveRoom (MeetsStrip o.index.strips team rect) more lanes) → IfSome to (λ rect. HasRoomFor o team rect more)
+pub move_is_seen : (o : Occupied) (lanes : List Lane) (team : ℕ) (to : Option Rect) (more : ℕ) → o.rooms ≡ rooms_in lanes → AreLanes (felts o) o.boxes lanes →
+    IfSome to (λ rect. HaveRoom (MeetsStrip (felts o) team rect) more lanes) → IfSome to (λ rect. HasRoomFor o team rect more)
 move_is_seen o lanes team None more rooms are room = tt
 move_is_seen o lanes team (Some rect) more rooms are room = room_is_seen o lanes team rect more rooms are room

@@ -1,4 +1,4 @@
--- The entries of one strip: one for the part of each cell's box that lies in it.
+-- The entries of one strip, which is felt around: one for the part of each cell's box that lies in it.
 use Rattle.std.specs.Prelude.{◌≡◌, ◌≢◌, ◌⊎◌, ◌↔◌, ◌==◌, ℕ, ◌+◌, ◌<◌, ◌≤◌, ℤ, pos, negsuc}
 use Rattle.std.specs.Prelude.{◌-ℤ◌, ◌≤ℤ◌, ◌<ℤ◌, List, ◌++◌, map, filter, not, length, All, AllPairs, Any}
 use Rattle.std.specs.Prelude.{Option, Some, IfSome, insert, IsSomeAnd, slice_index_or}
@@ -9,6 +9,7 @@ use Rattle.lf_units.specs.Area.{Covers, SharesPoint}
 use Rattle.lf_spans.specs.declared.span.Span.{Span}
 use Rattle.lf_occupancy.specs.declared.lane.Entry.{Entry}
 use Rattle.lf_occupancy.specs.declared.lane.Lane.{Lane}
+use Rattle.lf_rules.specs.Padding.{wider}
 use Rattle.lf_occupancy.specs.Occupied.{cell_box}
 
 -- the x range of a rectangle
@@ -47,7 +48,7 @@ pub record IsOrderly (l : Lane) : Type 0 where
   pub order : AreInOrder l.entries.items
   pub wide : All (λ e. (e.area.x2 -ℤ e.area.x1) ≤ℤ l.widest) l.entries.items
   pub some : pos 0 ≤ℤ l.widest
-  pub most : l.widest ≤ℤ pos 8589934592
+  pub most : l.widest ≤ℤ pos 1099511627776
 
 -- the entry lies in the area
 pub record IsInside (area : Rect) (e : Entry) : Type 0 where
@@ -80,6 +81,13 @@ others_in entries own = filter (λ e. not (e.own == own)) entries
 -- the spans of entries
 abbrev pub spans_in : List Entry → List Span
 spans_in entries = map (λ e. x_range e.area) entries
+
+-- the entries made wider by a length on their left and on their right
+abbrev pub padded : ℤ → Entry → Entry
+padded by e = record { own = e.own; area = wider by e.area }
+
+abbrev pub all_padded : ℤ → List Entry → List Entry
+all_padded by entries = map (padded by) entries
 
 -- the entry is the cell's, another one than `but`, and shares a point with the rectangle
 pub record MeetsEntry (rect : Rect) (but own : ℕ) (e : Entry) : Type 0 where
@@ -164,7 +172,7 @@ pub record IsPutIn (own : ℕ) (rect area : Rect) (old new : Lane) : Type 0 wher
   pub is : IsPart area rect part
   pub change : (IsWhole part × IsJoined (entry_for own part) old new) ⊎ ((IsWhole part → ⊥) × (new ≡ old))
 
--- the rectangle lies within the coordinates of a DEF text, from left to right
-pub record IsWithinDef (r : Rect) : Type 0 where
-  pub low : negsuc 2147483647 ≤ℤ r.x1
-  pub high : r.x2 ≤ℤ pos 2147483647
+-- the rectangle lies no farther from 0 along x than a strip that is felt around
+pub record IsNearZero (r : Rect) : Type 0 where
+  pub low : negsuc 549755813887 ≤ℤ r.x1
+  pub high : r.x2 ≤ℤ pos 549755813888

@@ -1,5 +1,5 @@
 -- What stands in strips: the boxes of teams' cells, and what they leave free.
-use Rattle.std.specs.Prelude.{◌≡◌, ◌≢◌, ◌⊎◌, ◌↔◌, ℕ, ◌+◌, ℤ, ◌≤◌, Bool, false, ◌&&◌, int_lt, length, List}
+use Rattle.std.specs.Prelude.{◌≡◌, ◌≢◌, ◌⊎◌, ◌↔◌, ℕ, ◌+◌, ℤ, pos, ◌*ℤ◌, ◌≤ℤ◌, ◌≤◌, Bool, false, ◌&&◌, int_lt, length, List}
 use Rattle.std.specs.Prelude.{[], Option, None, Some, Any, IsSomeAnd, MatchOption, count_by, option_and_then, slice_get, slice_index_or, slice_set}
 use Rattle.std.specs.Int.{int_max, int_min}
 use Rattle.lf_units.specs.declared.area.Rect.{Rect}
@@ -8,14 +8,25 @@ use Rattle.lf_spans.specs.declared.span.Span.{Span}
 use Rattle.lf_spans.specs.Spans.{IsFilled, IsRising, LiesIn, LiesInOne}
 use Rattle.lf_segments.specs.declared.strip.Strip.{Strip}
 use Rattle.lf_segments.specs.Grounds.{Lookups}
+use Rattle.lf_rules.specs.Padding.{wider}
 use Rattle.lf_cells.specs.declared.cell.CellId.{CellId}
 
--- what of the frame is looked up, for each team the boxes of its cells in loading order, and for each strip how many boxes it has
--- room for
+-- what of the frame is looked up, the width of a core site, for each team the boxes of its cells in loading order, and for each strip
+-- how many boxes it has room for
 pub record Occupied : Type 0 where
   pub index : Lookups
+  pub site : ℤ
   pub boxes : List (List (Option Rect))
   pub rooms : List ℕ
+
+-- the greatest padding as a length: 16 core sites
+abbrev pub reach : Occupied → ℤ
+reach o = pos 16 *ℤ o.site
+
+-- the length is from 0 up to the greatest padding
+pub record IsPaddingOf (o : Occupied) (padding : ℤ) : Type 0 where
+  pub least : pos 0 ≤ℤ padding
+  pub most : padding ≤ℤ reach o
 
 -- the boxes of a team's cells; none if there is no such team
 abbrev pub boxes_of : Occupied → ℕ → List (Option Rect)
@@ -37,6 +48,10 @@ boxes_with o id box = slice_set o.boxes id.team (slice_set (boxes_of o id.team) 
 abbrev pub across : Strip → Span
 across g = record { lo = g.area.x1; hi = g.area.x2 }
 
+-- the strip felt that far around: made wider by the length on its left and on its right
+abbrev pub felt : ℤ → Strip → Strip
+felt by g = record { row = g.row; team = g.team; area = wider by g.area }
+
 -- the part of a strip that lies over a span
 abbrev pub over : Strip → Span → Rect
 over g s = record { x1 = s.lo; y1 = g.area.y1; x2 = s.hi; y2 = g.area.y2 }
@@ -55,40 +70,42 @@ pub record IsStripOf (row team : ℕ) (g : Strip) : Type 0 where
   pub in_row : g.row ≡ row
   pub of_team : g.team ≡ team
 
--- the span lies in the strip, and no other cell of the team is over it
-pub record IsFreeOver (o : Occupied) (id : CellId) (g : Strip) (s : Span) : Type 0 where
+-- the span lies in the strip, and no other cell of the team is over it or closer to it than the padding
+pub record IsFreeOver (o : Occupied) (id : CellId) (padding : ℤ) (g : Strip) (s : Span) : Type 0 where
   pub within : LiesIn s (across g)
-  pub clear : IsClearOfOthers o id (over g s)
+  pub clear : IsClearOfOthers o id (wider padding (over g s))
 
 -- within a window, the spans of a row that are free for a cell, which is taken away first: a span that holds a number lies in one
 -- of them if and only if it lies in the window and is free in one strip of the row and the cell's team
-pub record IsFreeInRow (o : Occupied) (row : ℕ) (id : CellId) (window : Span) (free : List Span) : Type 0 where
+pub record IsFreeInRow (o : Occupied) (row : ℕ) (id : CellId) (window : Span) (padding : ℤ) (free : List Span) : Type 0 where
   pub rising : IsRising free
-  pub exact : (s : Span) → IsFilled s → (LiesInOne free s ↔ (LiesIn s window × Any (λ g. IsStripOf row id.team g × IsFreeOver o id g s) o.index.strips))
+  pub exact : (s : Span) → IsFilled s →
+      (LiesInOne free s ↔ (LiesIn s window × Any (λ g. IsStripOf row id.team g × IsFreeOver o id padding g s) o.index.strips))
 
 -- the team's cell of that position, which is not the one that is left out, has this box
 pub record StandsBut (o : Occupied) (without : CellId) (team own : ℕ) (box : Rect) : Type 0 where
   pub other : team ≡ without.team → own ≢ without.own
   pub stands : box_at o team own ≡ Some box
 
--- the span lies in the strip, and no cell of the strip's team is over it but the one that is left out
-pub record IsLeftOver (o : Occupied) (without : CellId) (g : Strip) (s : Span) : Type 0 where
+-- the span lies in the strip, and no cell of the strip's team is over it or closer to it than the padding, but the one that is left out
+pub record IsLeftOver (o : Occupied) (without : CellId) (padding : ℤ) (g : Strip) (s : Span) : Type 0 where
   pub within : LiesIn s (across g)
-  pub clear : (own : ℕ) (box : Rect) → StandsBut o without g.team own box → SharesPoint (over g s) box → ⊥
+  pub clear : (own : ℕ) (box : Rect) → StandsBut o without g.team own box → SharesPoint (wider padding (over g s)) box → ⊥
 
 -- the free spans of one strip, a cell left out: a span that holds a number lies in one of them if and only if it lies in the
--- strip and no other cell of the strip's team is over it; there are none if there is no such strip
-pub record AreFreeSpans (o : Occupied) (segment : ℕ) (without : CellId) (free : List Span) : Type 0 where
+-- strip and no other cell of the strip's team is over it or closer to it than the padding; there are none if there is no such strip
+pub record AreFreeSpans (o : Occupied) (segment : ℕ) (without : CellId) (padding : ℤ) (free : List Span) : Type 0 where
   pub rising : IsRising free
-  pub exact : (s : Span) → IsFilled s → (LiesInOne free s ↔ IsSomeAnd (slice_get o.index.strips segment) (λ g. IsLeftOver o without g s))
+  pub exact : (s : Span) → IsFilled s →
+      (LiesInOne free s ↔ IsSomeAnd (slice_get o.index.strips segment) (λ g. IsLeftOver o without padding g s))
 
--- another placed cell of the team shares with the rectangle a point of one of the team's strips
+-- another placed cell of the team shares with the rectangle a point of one of the team's strips, felt as far around as the reach
 pub record MeetsInStrips (o : Occupied) (id : CellId) (rect : Rect) (own : ℕ) : Type 0 where
   pub box : Rect
   pub is : IsOther o id own box
   pub x : ℤ
   pub y : ℤ
-  pub in_strip : Any (λ g. (g.team ≡ id.team) × Covers g.area x y) o.index.strips
+  pub in_strip : Any (λ g. (g.team ≡ id.team) × Covers (wider (reach o) g.area) x y) o.index.strips
   pub in_rect : Covers rect x y
   pub in_box : Covers box x y
 
@@ -108,16 +125,18 @@ meets g (Some r) =
 abbrev pub count_in : Strip → List (Option Rect) → ℕ
 count_in g boxes = count_by (meets g) boxes
 
--- these boxes of the team's cells fit: each strip of the team has room for as many as share a point with it
+-- these boxes of the team's cells fit: each strip of the team has room for as many as share a point with it, felt as far around
+-- as the reach
 abbrev pub FitIn : Occupied → ℕ → List (Option Rect) → Type 0
 FitIn o team boxes =
-    (n : ℕ) (g : Strip) → slice_get o.index.strips n ≡ Some g → g.team ≡ team → count_in g boxes ≤ slice_index_or o.rooms n 0
+    (n : ℕ) (g : Strip) → slice_get o.index.strips n ≡ Some g → g.team ≡ team → count_in (felt (reach o) g) boxes ≤ slice_index_or o.rooms n 0
 
--- each strip of the team that shares a point with the rectangle has room for its boxes and so many more
+-- each strip of the team that shares a point with the rectangle, felt as far around as the reach, has room for its boxes and so
+-- many more
 abbrev pub HasRoomFor : Occupied → ℕ → Rect → ℕ → Type 0
 HasRoomFor o team rect more =
-    (n : ℕ) (g : Strip) → slice_get o.index.strips n ≡ Some g → g.team ≡ team → SharesPoint g.area rect →
-    (count_in g (boxes_of o team) + more) ≤ slice_index_or o.rooms n 0
+    (n : ℕ) (g : Strip) → slice_get o.index.strips n ≡ Some g → g.team ≡ team → SharesPoint (felt (reach o) g).area rect →
+    (count_in (felt (reach o) g) (boxes_of o team) + more) ≤ slice_index_or o.rooms n 0
 
 -- the first boxes are part of the others: each is none or the other list's
 abbrev pub ArePartOf : List (Option Rect) → List (Option Rect) → Type 0

@@ -5,7 +5,7 @@ ghost use Rattle.lf_cells.specs.declared.cell.Cell.{Cell};
 ghost use Rattle.lf_cells.specs.Cells.{cell_at, cells_of};
 ghost use Rattle.lf_occupancy.specs.Building.{AreBare, AreFilled, AreNowhere};
 ghost use Rattle.lf_occupancy.specs.Floorplans.{HasSize, box_of};
-ghost use Rattle.lf_occupancy.specs.Strips.{AreLanes};
+ghost use Rattle.lf_occupancy.specs.Strips.{AreLanes, felt_strips};
 
 use crate::boxes::TeamBoxes;
 use crate::change::settle;
@@ -150,15 +150,22 @@ pub(crate) fn fill(
     frame: &Frame,
     cells: &CellTable,
 ) -> Result<(), AllocError>
-    requires lanes { AreLanes index.now.strips boxes.old.items lanes.old.items }
+    requires lanes { AreLanes (felt_strips frame.now.pitch.x index.now.strips) boxes.old.items lanes.old.items }
     requires sized { (team : ℕ) → All (HasSize frame.now) (cells_of cells.now team) }
     requires many { (team : ℕ) → length (slice_index_or boxes.old.items team []) ≡ length (cells_of cells.now team) }
-    ensures lanes { OnOk result (AreLanes index.now.strips boxes.new.items lanes.new.items) }
+    ensures lanes { OnOk result (AreLanes (felt_strips frame.now.pitch.x index.now.strips) boxes.new.items lanes.new.items) }
     ensures boxes { OnOk result ((team : ℕ) → slice_index_or boxes.new.items team [] ≡ map (box_of frame.now) (cells_of cells.now team)) }
 {
     let order = by_place(alloc, cells, cells.all())?;
     for id in &order {
-        settle(lanes, boxes, index, id, &box_at_work(frame, cells, id))?;
+        settle(
+            lanes,
+            boxes,
+            index,
+            &frame.pitch.x,
+            id,
+            &box_at_work(frame, cells, id),
+        )?;
     }
     Ok(())
 }

@@ -1,35 +1,37 @@
-//! How the entries of strips are changed.
+//! How the entries of strips are changed. The strips are felt around here.
 
 ghost use Rattle.std.specs.Prelude.{AllPairs, IfSome, [], ◌≡◌, ◌≢◌, None, OnErr, OnOk, Some, length, slice_index_or};
 ghost use Rattle.lf_occupancy.specs.declared.lane.Lane.{Lane};
-ghost use Rattle.lf_occupancy.specs.Lanes.{IsPruned};
-ghost use Rattle.lf_occupancy.specs.Strips.{AreChanged, AreKept, AreLanes, HaveRoomForAll, Follows, HasCell, IsReached, MeetsStrip};
-ghost use Rattle.lf_occupancy.specs.Strips.{IsReachedIn, CanTake, HaveAtMostOne, HaveRoom, StandOnce, PutInRow, PutInRows, boxes_set};
-ghost use Rattle.lf_occupancy.specs.Strips.{rooms_in};
+ghost use Rattle.lf_occupancy.specs.Strips.{AreKept, AreLanes, CanTakeInRow, CanTakeInRows, Follows, HasCell, HaveRoom, HaveRoomForAll, IsReached};
+ghost use Rattle.lf_occupancy.specs.Strips.{IsReachedIn, IsSite, MeetsStrip, PruneInRow, PruneInRows, PutInRow, PutInRows, StandOnce, StandOnceInRow};
+ghost use Rattle.lf_occupancy.specs.Strips.{StandOnceInRows, boxes_set, felt_strips, rooms_in};
 ghost use Rattle.lf_occupancy.specs.Occupied.{NoLess, cell_box};
 
 use crate::boxes::{TeamBoxes, box_of_cell, has_cell, set_box};
+use crate::felt::{felt_area, near_felt};
 use crate::lane::{Lane, make_room, prune, put_in};
 use lf_cells::CellId;
 use lf_segments::{Ground, RowEntry};
 use lf_units::Rect;
 use std::alloc::AllocError;
 
-/// Makes room for this many more entries in the strips of a row and the cell's team that the rectangle
-/// reaches. Also on `Err` each strip holds what it held.
+/// Makes room for this many more entries in the strips of a row and the cell's team that, felt around, the
+/// rectangle reaches. Also on `Err` each strip holds what it held.
 fn make_room_in_row(
     lanes: &mut Vec<Lane>,
     index: &Ground,
+    site: &i64,
     row: usize,
     id: &CellId,
     rect: &Rect,
     more: usize,
 ) -> Result<(), AllocError>
-    requires { length lanes.old.items ≡ length index.now.strips }
+    requires site { IsSite site.now }
+    requires many { length lanes.old.items ≡ length (felt_strips site.now index.now.strips) }
     ensures kept { AreKept lanes.old.items lanes.new.items }
-    ensures ok { OnOk result (HaveRoom (IsReachedIn index.now.strips row id.now.team rect.now) more lanes.new.items) }
+    ensures ok { OnOk result (HaveRoom (IsReachedIn (felt_strips site.now index.now.strips) row id.now.team rect.now) more lanes.new.items) }
 {
-    let near = index.near(row, id.team as usize, &rect.x1, &rect.x2);
+    let near = near_felt(index, site, row, id.team as usize, rect);
     for n in near.start..near.end {
         make_room(&mut lanes[n], more)?;
     }
@@ -40,82 +42,118 @@ fn make_room_in_row(
 fn make_room_in_rows(
     lanes: &mut Vec<Lane>,
     index: &Ground,
+    site: &i64,
     rows: &[RowEntry],
     id: &CellId,
     rect: &Rect,
     more: usize,
 ) -> Result<(), AllocError>
-    requires { length lanes.old.items ≡ length index.now.strips }
+    requires site { IsSite site.now }
+    requires many { length lanes.old.items ≡ length (felt_strips site.now index.now.strips) }
     ensures kept { AreKept lanes.old.items lanes.new.items }
-    ensures ok { OnOk result (HaveRoom (IsReached index.now.strips rows.now id.now.team rect.now) more lanes.new.items) }
+    ensures ok { OnOk result (HaveRoom (IsReached (felt_strips site.now index.now.strips) rows.now id.now.team rect.now) more lanes.new.items) }
 {
     for entry in rows {
-        make_room_in_row(lanes, index, entry.row, id, rect, more)?;
+        make_room_in_row(lanes, index, site, entry.row, id, rect, more)?;
     }
     Ok(())
 }
 
 /// Takes the cell's entries out of the strips of a row and the cell's team that its box reaches.
-fn prune_row(lanes: &mut Vec<Lane>, index: &Ground, row: usize, id: &CellId, rect: &Rect)
-    requires many { length lanes.old.items ≡ length index.now.strips }
-    requires one { HaveAtMostOne index.now.strips id.now.own rect.now (IsReachedIn index.now.strips row id.now.team rect.now) lanes.old.items }
-    ensures { AreChanged (IsReachedIn index.now.strips row id.now.team rect.now) (λ n. IsPruned id.now.own) lanes.old.items lanes.new.items }
+fn prune_row(
+    lanes: &mut Vec<Lane>,
+    index: &Ground,
+    site: &i64,
+    row: usize,
+    id: &CellId,
+    rect: &Rect,
+)
+    requires site { IsSite site.now }
+    requires many { length lanes.old.items ≡ length (felt_strips site.now index.now.strips) }
+    requires one { StandOnceInRow (felt_strips site.now index.now.strips) row id.now rect.now lanes.old.items }
+    ensures { PruneInRow (felt_strips site.now index.now.strips) row id.now rect.now lanes.old.items lanes.new.items }
 {
-    let list = index.strips();
-    let near = index.near(row, id.team as usize, &rect.x1, &rect.x2);
+    let near = near_felt(index, site, row, id.team as usize, rect);
     for n in near.start..near.end {
-        prune(&mut lanes[n], id.own, &list[n].area.x1.max(rect.x1));
+        prune(
+            &mut lanes[n],
+            id.own,
+            &felt_area(index, site, n).x1.max(rect.x1),
+        );
     }
 }
 
 /// The same for all these rows.
-fn prune_rows(lanes: &mut Vec<Lane>, index: &Ground, rows: &[RowEntry], id: &CellId, rect: &Rect)
-    requires many { length lanes.old.items ≡ length index.now.strips }
+fn prune_rows(
+    lanes: &mut Vec<Lane>,
+    index: &Ground,
+    site: &i64,
+    rows: &[RowEntry],
+    id: &CellId,
+    rect: &Rect,
+)
+    requires site { IsSite site.now }
+    requires many { length lanes.old.items ≡ length (felt_strips site.now index.now.strips) }
     requires once { AllPairs (λ a b. a.row ≢ b.row) rows.now }
-    requires one { HaveAtMostOne index.now.strips id.now.own rect.now (IsReached index.now.strips rows.now id.now.team rect.now) lanes.old.items }
-    ensures { AreChanged (IsReached index.now.strips rows.now id.now.team rect.now) (λ n. IsPruned id.now.own) lanes.old.items lanes.new.items }
+    requires one { StandOnceInRows (felt_strips site.now index.now.strips) rows.now id.now rect.now lanes.old.items }
+    ensures { PruneInRows (felt_strips site.now index.now.strips) rows.now id.now rect.now lanes.old.items lanes.new.items }
 {
     for entry in rows {
-        prune_row(lanes, index, entry.row, id, rect);
+        prune_row(lanes, index, site, entry.row, id, rect);
     }
 }
 
 /// Puts the parts of the cell's box into the strips of a row and the cell's team that it reaches.
-fn put_in_row(lanes: &mut Vec<Lane>, index: &Ground, row: usize, id: &CellId, rect: &Rect)
-    requires many { length lanes.old.items ≡ length index.now.strips }
-    requires room { CanTake index.now.strips rect.now (IsReachedIn index.now.strips row id.now.team rect.now) lanes.old.items }
-    ensures { PutInRow index.now.strips row id.now rect.now lanes.old.items lanes.new.items }
+fn put_in_row(
+    lanes: &mut Vec<Lane>,
+    index: &Ground,
+    site: &i64,
+    row: usize,
+    id: &CellId,
+    rect: &Rect,
+)
+    requires site { IsSite site.now }
+    requires many { length lanes.old.items ≡ length (felt_strips site.now index.now.strips) }
+    requires room { CanTakeInRow (felt_strips site.now index.now.strips) row id.now rect.now lanes.old.items }
+    ensures { PutInRow (felt_strips site.now index.now.strips) row id.now rect.now lanes.old.items lanes.new.items }
 {
-    index.strips_are_placed();
-    let list = index.strips();
-    let near = index.near(row, id.team as usize, &rect.x1, &rect.x2);
+    let near = near_felt(index, site, row, id.team as usize, rect);
     for n in near.start..near.end {
-        put_in(&mut lanes[n], &list[n].area, id.own, rect);
+        put_in(&mut lanes[n], &felt_area(index, site, n), id.own, rect);
     }
 }
 
 /// The same for all these rows.
-fn put_in_rows(lanes: &mut Vec<Lane>, index: &Ground, rows: &[RowEntry], id: &CellId, rect: &Rect)
-    requires many { length lanes.old.items ≡ length index.now.strips }
+fn put_in_rows(
+    lanes: &mut Vec<Lane>,
+    index: &Ground,
+    site: &i64,
+    rows: &[RowEntry],
+    id: &CellId,
+    rect: &Rect,
+)
+    requires site { IsSite site.now }
+    requires many { length lanes.old.items ≡ length (felt_strips site.now index.now.strips) }
     requires once { AllPairs (λ a b. a.row ≢ b.row) rows.now }
-    requires room { CanTake index.now.strips rect.now (IsReached index.now.strips rows.now id.now.team rect.now) lanes.old.items }
-    ensures { PutInRows index.now.strips rows.now id.now rect.now lanes.old.items lanes.new.items }
+    requires room { CanTakeInRows (felt_strips site.now index.now.strips) rows.now id.now rect.now lanes.old.items }
+    ensures { PutInRows (felt_strips site.now index.now.strips) rows.now id.now rect.now lanes.old.items lanes.new.items }
 {
     for entry in rows {
-        put_in_row(lanes, index, entry.row, id, rect);
+        put_in_row(lanes, index, site, entry.row, id, rect);
     }
 }
 
 /// Takes the cell out of all strips that its old box reaches.
-fn take_out(lanes: &mut Vec<Lane>, index: &Ground, id: &CellId, old: &Option<Rect>)
-    requires many { length lanes.old.items ≡ length index.now.strips }
-    requires one { StandOnce index.now.strips id.now old.now lanes.old.items }
-    ensures follows { Follows index.now.strips id.now old.now None lanes.old.items lanes.new.items }
+fn take_out(lanes: &mut Vec<Lane>, index: &Ground, site: &i64, id: &CellId, old: &Option<Rect>)
+    requires site { IsSite site.now }
+    requires many { length lanes.old.items ≡ length (felt_strips site.now index.now.strips) }
+    requires one { StandOnce (felt_strips site.now index.now.strips) id.now old.now lanes.old.items }
+    ensures follows { Follows (felt_strips site.now index.now.strips) id.now old.now None lanes.old.items lanes.new.items }
     ensures rooms { rooms_in lanes.new.items ≡ rooms_in lanes.old.items }
 {
     index.strips_are_placed();
     if let Some(rect) = old {
-        prune_rows(lanes, index, index.rows_near(rect), id, rect);
+        prune_rows(lanes, index, site, index.rows_near(rect), id, rect);
     }
 }
 
@@ -125,10 +163,12 @@ pub(crate) fn remove_box(
     lanes: &mut Vec<Lane>,
     boxes: &mut Vec<TeamBoxes>,
     index: &Ground,
+    site: &i64,
     id: &CellId,
 )
-    requires { AreLanes index.now.strips boxes.old.items lanes.old.items }
-    ensures lanes { AreLanes index.now.strips boxes.new.items lanes.new.items }
+    requires site { IsSite site.now }
+    requires lanes { AreLanes (felt_strips site.now index.now.strips) boxes.old.items lanes.old.items }
+    ensures lanes { AreLanes (felt_strips site.now index.now.strips) boxes.new.items lanes.new.items }
     ensures boxes { boxes.new.items ≡ boxes_set boxes.old.items id.now None }
     ensures rooms { rooms_in lanes.new.items ≡ rooms_in lanes.old.items }
 {
@@ -136,7 +176,7 @@ pub(crate) fn remove_box(
         return;
     }
     let old = box_of_cell(boxes, id);
-    take_out(lanes, index, id, &old);
+    take_out(lanes, index, site, id, &old);
     set_box(boxes, id, &None);
 }
 
@@ -145,19 +185,21 @@ pub(crate) fn insert_box(
     lanes: &mut Vec<Lane>,
     boxes: &mut Vec<TeamBoxes>,
     index: &Ground,
+    site: &i64,
     id: &CellId,
     rect: &Rect,
 )
-    requires lanes { AreLanes index.now.strips boxes.old.items lanes.old.items }
+    requires site { IsSite site.now }
+    requires lanes { AreLanes (felt_strips site.now index.now.strips) boxes.old.items lanes.old.items }
     requires known { HasCell boxes.old.items id.now }
     requires nowhere { cell_box (slice_index_or boxes.old.items id.now.team []) id.now.own ≡ None }
-    requires room { HaveRoom (MeetsStrip index.now.strips id.now.team rect.now) 1 lanes.old.items }
-    ensures lanes { AreLanes index.now.strips boxes.new.items lanes.new.items }
+    requires room { HaveRoom (MeetsStrip (felt_strips site.now index.now.strips) id.now.team rect.now) 1 lanes.old.items }
+    ensures lanes { AreLanes (felt_strips site.now index.now.strips) boxes.new.items lanes.new.items }
     ensures boxes { boxes.new.items ≡ boxes_set boxes.old.items id.now (Some rect.now) }
     ensures rooms { rooms_in lanes.new.items ≡ rooms_in lanes.old.items }
 {
     index.strips_are_placed();
-    put_in_rows(lanes, index, index.rows_near(rect), id, rect);
+    put_in_rows(lanes, index, site, index.rows_near(rect), id, rect);
     set_box(boxes, id, &Some(*rect));
 }
 
@@ -166,17 +208,19 @@ pub(crate) fn insert_box(
 fn reserve_box(
     lanes: &mut Vec<Lane>,
     index: &Ground,
+    site: &i64,
     id: &CellId,
     to: &Option<Rect>,
     more: usize,
 ) -> Result<(), AllocError>
-    requires { length lanes.old.items ≡ length index.now.strips }
+    requires site { IsSite site.now }
+    requires many { length lanes.old.items ≡ length (felt_strips site.now index.now.strips) }
     ensures kept { AreKept lanes.old.items lanes.new.items }
-    ensures ok { OnOk result (IfSome to.now (λ rect. HaveRoom (MeetsStrip index.now.strips id.now.team rect) more lanes.new.items)) }
+    ensures ok { OnOk result (IfSome to.now (λ rect. HaveRoom (MeetsStrip (felt_strips site.now index.now.strips) id.now.team rect) more lanes.new.items)) }
 {
     index.strips_are_placed();
     if let Some(rect) = to {
-        make_room_in_rows(lanes, index, index.rows_near(rect), id, rect, more)?;
+        make_room_in_rows(lanes, index, site, index.rows_near(rect), id, rect, more)?;
     }
     Ok(())
 }
@@ -185,14 +229,16 @@ fn reserve_box(
 pub(crate) fn reserve_moves(
     lanes: &mut Vec<Lane>,
     index: &Ground,
+    site: &i64,
     moves: &[(CellId, Option<Rect>)],
 ) -> Result<(), AllocError>
-    requires { length lanes.old.items ≡ length index.now.strips }
+    requires site { IsSite site.now }
+    requires many { length lanes.old.items ≡ length (felt_strips site.now index.now.strips) }
     ensures kept { AreKept lanes.old.items lanes.new.items }
-    ensures ok { OnOk result (HaveRoomForAll index.now.strips moves.now (length moves.now) lanes.new.items) }
+    ensures ok { OnOk result (HaveRoomForAll (felt_strips site.now index.now.strips) moves.now (length moves.now) lanes.new.items) }
 {
     for (id, to) in moves {
-        reserve_box(lanes, index, id, to, moves.len())?;
+        reserve_box(lanes, index, site, id, to, moves.len())?;
     }
     Ok(())
 }
@@ -203,20 +249,22 @@ pub(crate) fn settle(
     lanes: &mut Vec<Lane>,
     boxes: &mut Vec<TeamBoxes>,
     index: &Ground,
+    site: &i64,
     id: &CellId,
     to: &Option<Rect>,
 ) -> Result<(), AllocError>
-    requires { AreLanes index.now.strips boxes.old.items lanes.old.items }
-    ensures lanes { AreLanes index.now.strips boxes.new.items lanes.new.items }
+    requires site { IsSite site.now }
+    requires lanes { AreLanes (felt_strips site.now index.now.strips) boxes.old.items lanes.old.items }
+    ensures lanes { AreLanes (felt_strips site.now index.now.strips) boxes.new.items lanes.new.items }
     ensures ok { OnOk result (boxes.new.items ≡ boxes_set boxes.old.items id.now to.now) }
 {
     if !has_cell(boxes, id) {
         return Ok(());
     }
-    remove_box(lanes, boxes, index, id);
-    reserve_box(lanes, index, id, to, 1)?;
+    remove_box(lanes, boxes, index, site, id);
+    reserve_box(lanes, index, site, id, to, 1)?;
     if let Some(rect) = to {
-        insert_box(lanes, boxes, index, id, rect);
+        insert_box(lanes, boxes, index, site, id, rect);
     }
     Ok(())
 }

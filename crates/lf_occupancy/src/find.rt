@@ -1,9 +1,11 @@
 //! What is met in strips, and what is free in them.
 
 ghost use Rattle.std.specs.Prelude.{IfOk, None, negsuc, ◌≤ℤ◌, length};
+ghost use Rattle.lf_rules.specs.Padding.{IsShort};
 ghost use Rattle.lf_occupancy.specs.Lanes.{IsLeast};
-ghost use Rattle.lf_occupancy.specs.Strips.{AreFreeTo, AreLeft, AreOrderly, MeetsInOne, MeetsInRow};
+ghost use Rattle.lf_occupancy.specs.Strips.{AreFreeTo, AreLeft, AreOrderly, AreRoomy, IsSite, MeetsInOne, MeetsInRow, felt_strips};
 
+use crate::felt::{felt_area, near_felt};
 use crate::lane::{Lane, free_in_lane, free_of_all, least_in_lane, x_range_of};
 use lf_cells::CellId;
 use lf_segments::Ground;
@@ -11,43 +13,56 @@ use lf_units::{Rect, Span};
 use std::alloc::{AllocError, Global};
 
 /// The least number of a cell, other than this one, of which an entry in a strip of the row and the
-/// cell's team shares a point with the rectangle; the number so far if that is less, or none is met.
+/// cell's team, felt around, shares a point with the rectangle; the number so far if that is less, or none is met.
 fn least_in_row(
     index: &Ground,
+    site: &i64,
     lanes: &[Lane],
     row: usize,
     id: &CellId,
     rect: &Rect,
     so_far: Option<u32>,
 ) -> Option<u32>
-    requires { AreOrderly index.now.strips lanes.now }
-    ensures { IsLeast (MeetsInRow index.now.strips lanes.now row id.now.team rect.now id.now.own) so_far result }
+    requires site { IsSite site.now }
+    requires lanes { AreOrderly (felt_strips site.now index.now.strips) lanes.now }
+    ensures { IsLeast (MeetsInRow (felt_strips site.now index.now.strips) lanes.now row id.now.team rect.now id.now.own) so_far result }
 {
-    index.strips_are_placed();
-    let list = index.strips();
-    let near = index.near(row, id.team as usize, &rect.x1, &rect.x2);
+    let near = near_felt(index, site, row, id.team as usize, rect);
     let mut least = so_far;
     for n in near.start..near.end {
-        least = least_in_lane(&lanes[n], &list[n].area.x1, rect, id.own, least);
+        least = least_in_lane(
+            &lanes[n],
+            &felt_area(index, site, n).x1,
+            rect,
+            id.own,
+            least,
+        );
     }
     least
 }
 
 /// The same in the strips of all rows: none if none is met.
-pub(crate) fn least_met(index: &Ground, lanes: &[Lane], id: &CellId, rect: &Rect) -> Option<u32>
-    requires { AreOrderly index.now.strips lanes.now }
-    ensures { IsLeast (MeetsInOne index.now.strips lanes.now id.now.team rect.now id.now.own) None result }
+pub(crate) fn least_met(
+    index: &Ground,
+    site: &i64,
+    lanes: &[Lane],
+    id: &CellId,
+    rect: &Rect,
+) -> Option<u32>
+    requires site { IsSite site.now }
+    requires lanes { AreOrderly (felt_strips site.now index.now.strips) lanes.now }
+    ensures { IsLeast (MeetsInOne (felt_strips site.now index.now.strips) lanes.now id.now.team rect.now id.now.own) None result }
 {
     index.strips_are_placed();
     let mut least = None;
     for entry in index.rows_near(rect) {
-        least = least_in_row(index, lanes, entry.row, id, rect, least);
+        least = least_in_row(index, site, lanes, entry.row, id, rect, least);
     }
     least
 }
 
 /// Within a window, the spans of a row's strips that are left free by the cells of the cell's team
-/// other than this one.
+/// other than this one, with the padding around each.
 pub(crate) fn free_in_strips(
     alloc: Global,
     index: &Ground,
@@ -55,33 +70,38 @@ pub(crate) fn free_in_strips(
     row: usize,
     id: &CellId,
     window: &Span,
+    padding: &i64,
 ) -> Result<Vec<Span>, AllocError>
-    requires lanes { AreOrderly index.now.strips lanes.now }
+    requires lanes { AreRoomy (length index.now.strips) lanes.now }
+    requires short { IsShort padding.now }
     requires low { negsuc 4611686018427387903 ≤ℤ window.now.lo }
-    ensures { IfOk result (λ free. AreFreeTo index.now.strips lanes.now row id.now.team id.now.own window.now (length index.now.strips) free.items) }
+    ensures { IfOk result (λ free. AreFreeTo index.now.strips lanes.now row id.now.team id.now.own window.now padding.now (length index.now.strips) free.items) }
 {
     index.strips_are_placed();
     let list = index.strips();
     let near = index.near(row, id.team as usize, &window.lo, &window.hi);
     let mut free = Vec::new(alloc);
     for n in near.start..near.end {
-        let part = free_in_lane(alloc, &lanes[n], &x_range_of(&list[n].area), id.own, window)?;
+        let span = x_range_of(&list[n].area);
+        let part = free_in_lane(alloc, &lanes[n], &span, id.own, window, padding)?;
         free.extend_from_slice(&part)?;
     }
     Ok(free)
 }
 
-/// The spans of the strip of that number that the cells of its team leave free, but for one that is
-/// left out; none if there is no such strip.
+/// The spans of the strip of that number that the cells of its team leave free with the padding around
+/// each, but for one that is left out; none if there is no such strip.
 pub(crate) fn free_in_one(
     alloc: Global,
     index: &Ground,
     lanes: &[Lane],
     number: usize,
     without: &CellId,
+    padding: &i64,
 ) -> Result<Vec<Span>, AllocError>
-    requires { AreOrderly index.now.strips lanes.now }
-    ensures { IfOk result (λ free. AreLeft index.now.strips lanes.now without.now number free.items) }
+    requires lanes { AreRoomy (length index.now.strips) lanes.now }
+    requires short { IsShort padding.now }
+    ensures { IfOk result (λ free. AreLeft index.now.strips lanes.now without.now padding.now number free.items) }
 {
     index.strips_are_placed();
     let list = index.strips();
@@ -90,7 +110,7 @@ pub(crate) fn free_in_one(
     }
     let span = x_range_of(&list[number].area);
     if list[number].team == without.team as usize {
-        return free_in_lane(alloc, &lanes[number], &span, without.own, &span);
+        return free_in_lane(alloc, &lanes[number], &span, without.own, &span, padding);
     }
-    free_of_all(alloc, &lanes[number], &span)
+    free_of_all(alloc, &lanes[number], &span, padding)
 }

@@ -1,18 +1,21 @@
 //! The entries of one strip.
 
-ghost use Rattle.std.specs.Prelude.{All, ◌≡◌, ◌↔◌, ◌<◌, ◌≤◌, ◌≤ℤ◌, ◌<ℤ◌, ℕ, IfOk, IsTrue, MatchOption, OnOk, insert, length, negsuc, slice_index_or};
+ghost use Rattle.std.specs.Prelude.{All, ◌≡◌, ◌↔◌, ◌<◌, ◌≤◌, ◌≤ℤ◌, ◌<ℤ◌, ◌+ℤ◌, ◌*ℤ◌, ℕ, IfOk, IsTrue, MatchOption, OnOk, insert, length, negsuc, pos, slice_index_or};
 ghost use Rattle.lf_spans.specs.Spans.{IsFreeIn};
+ghost use Rattle.lf_rules.specs.Padding.{HasRoomAround, IsShort};
 ghost use Rattle.lf_units.specs.declared.area.Rect.{Rect};
 ghost use Rattle.lf_occupancy.specs.declared.lane.Entry.{Entry};
 ghost use Rattle.lf_occupancy.specs.Lanes.{AreInOrder, HasAtMostOne, HasRoom, HasRoomOf, IsKept, IsLeast, IsNearRun, IsOrderly, IsPart, IsPruned, IsWhole};
-ghost use Rattle.lf_occupancy.specs.Lanes.{IsJoined, IsPutIn, IsWithinDef, MeetsEntry, MeetsOne, StandsAt, StandsNotFrom, entry_for, others_in};
-ghost use Rattle.lf_occupancy.specs.Lanes.{spans_in, x_range};
+ghost use Rattle.lf_occupancy.specs.Lanes.{IsJoined, IsPutIn, IsNearZero, MeetsEntry, MeetsOne, StandsAt, StandsNotFrom, entry_for, others_in};
+ghost use Rattle.lf_occupancy.specs.Lanes.{all_padded, padded, spans_in, x_range};
 
+use lf_rules::wider;
 use lf_spans::{HasSpan, Span, free_in};
 use lf_units::Rect;
 use std::alloc::{AllocError, Global};
 
-/// The part of a strip where the box of a cell lies, in database units. A point lies in it.
+/// The part of a strip, felt around, where the box of a cell lies, in database units. A point lies in
+/// it.
 #[derive(Clone, Copy, Debug, PartialEq, Eq)]
 pub(crate) struct Entry {
     /// The position of the cell among its team's cells.
@@ -28,8 +31,8 @@ impl HasSpan for Entry {
     }
 }
 
-/// The entries of one strip, in the order of their left edges, and a width that none exceeds, in
-/// database units.
+/// The entries of one strip, felt around, in the order of their left edges, and a width that none
+/// exceeds, in database units.
 #[derive(Drop)]
 pub(crate) struct Lane {
     pub(crate) entries: Vec<Entry>,
@@ -132,51 +135,119 @@ pub(crate) fn least_in_lane(
 ) -> Option<u32>
     requires orderly { IsOrderly lane.now }
     requires inside { All (λ e. left.now ≤ℤ e.area.x1) lane.now.entries.items }
-    requires low { negsuc 2147483647 ≤ℤ left.now }
+    requires low { negsuc 549755813887 ≤ℤ left.now }
     ensures { IsLeast (λ own. MeetsOne lane.now.entries.items rect.now but own) so_far result }
 {
     let lo = rect.x1.max(*left);
     least_in(near_entries(lane, &lo, &rect.x2), rect, but, so_far)
 }
 
-/// The entries of all cells but this one.
-fn others_of(alloc: Global, entries: &[Entry], own: u32) -> Result<Vec<Entry>, AllocError>
-    ensures { IfOk result (λ others. others.items ≡ others_in entries.now own) }
+/// The entry made wider by the padding on its left and on its right.
+fn padded_entry(entry: &Entry, padding: &i64) -> Entry
+    requires short { IsShort padding.now }
+    requires around { HasRoomAround entry.now.area }
+    ensures { result ≡ padded padding.now entry.now }
+{
+    Entry {
+        own: entry.own,
+        area: wider(&entry.area, *padding),
+    }
+}
+
+/// The entries, each made wider by the padding.
+fn padded_of(alloc: Global, entries: &[Entry], padding: &i64) -> Result<Vec<Entry>, AllocError>
+    requires short { IsShort padding.now }
+    requires around { All (λ e. HasRoomAround e.area) entries.now }
+    ensures { IfOk result (λ list. list.items ≡ all_padded padding.now entries.now) }
+{
+    let mut list = Vec::with_capacity(alloc, entries.len())?;
+    for entry in entries {
+        list.push(padded_entry(entry, padding))?;
+    }
+    Ok(list)
+}
+
+/// The entries of all cells but this one, each made wider by the padding.
+fn others_of(
+    alloc: Global,
+    entries: &[Entry],
+    own: u32,
+    padding: &i64,
+) -> Result<Vec<Entry>, AllocError>
+    requires short { IsShort padding.now }
+    requires around { All (λ e. HasRoomAround e.area) entries.now }
+    ensures { IfOk result (λ others. others.items ≡ others_in (all_padded padding.now entries.now) own) }
 {
     let mut others = Vec::new(alloc);
     for entry in entries {
         if entry.own != own {
-            others.push(*entry)?;
+            others.push(padded_entry(entry, padding))?;
         }
     }
     Ok(others)
 }
 
-/// Within a window, the spans of a strip that other cells than this one leave free. Only entries near
-/// the window are looked at.
+/// A width that no entry of the lane exceeds that is made wider by the padding.
+fn widest_padded(lane: &Lane, padding: &i64) -> i64
+    requires orderly { IsOrderly lane.now }
+    requires short { IsShort padding.now }
+    ensures { result ≡ lane.now.widest +ℤ (pos 2 *ℤ padding.now) }
+{
+    lane.widest + 2 * *padding
+}
+
+/// Within a window, the spans of a strip that other cells than this one leave free, with the padding
+/// around each. Only entries near the window are looked at.
 pub(crate) fn free_in_lane(
     alloc: Global,
     lane: &Lane,
     strip: &Span,
     own: u32,
     window: &Span,
+    padding: &i64,
 ) -> Result<Vec<Span>, AllocError>
     requires orderly { IsOrderly lane.now }
+    requires around { All (λ e. HasRoomAround e.area) lane.now.entries.items }
+    requires short { IsShort padding.now }
+    requires left { negsuc 2147483647 ≤ℤ strip.now.lo }
+    requires right { strip.now.hi ≤ℤ pos 2147483647 }
     requires low { negsuc 4611686018427387903 ≤ℤ window.now.lo }
-    ensures { IfOk result (λ free. IsFreeIn strip.now (spans_in (others_in lane.now.entries.items own)) window.now free.items) }
+    ensures { IfOk result (λ free. IsFreeIn strip.now (spans_in (others_in (all_padded padding.now lane.now.entries.items) own)) window.now free.items) }
 {
-    let near = near_entries(lane, &window.lo, &window.hi);
-    let others = others_of(alloc, near, own)?;
-    free_in(alloc, strip, others.as_slice(), lane.widest, window)
+    let lo = window.lo.max(strip.lo) - *padding;
+    let hi = window.hi.min(strip.hi) + *padding;
+    let near = near_entries(lane, &lo, &hi);
+    let others = others_of(alloc, near, own, padding)?;
+    free_in(
+        alloc,
+        strip,
+        others.as_slice(),
+        widest_padded(lane, padding),
+        window,
+    )
 }
 
-/// The spans of a strip that its cells leave free.
-pub(crate) fn free_of_all(alloc: Global, lane: &Lane, strip: &Span) -> Result<Vec<Span>, AllocError>
+/// The spans of a strip that its cells leave free, with the padding around each.
+pub(crate) fn free_of_all(
+    alloc: Global,
+    lane: &Lane,
+    strip: &Span,
+    padding: &i64,
+) -> Result<Vec<Span>, AllocError>
     requires orderly { IsOrderly lane.now }
+    requires around { All (λ e. HasRoomAround e.area) lane.now.entries.items }
+    requires short { IsShort padding.now }
     requires low { negsuc 4611686018427387903 ≤ℤ strip.now.lo }
-    ensures { IfOk result (λ free. IsFreeIn strip.now (spans_in lane.now.entries.items) strip.now free.items) }
+    ensures { IfOk result (λ free. IsFreeIn strip.now (spans_in (all_padded padding.now lane.now.entries.items)) strip.now free.items) }
 {
-    free_in(alloc, strip, lane.entries.as_slice(), lane.widest, strip)
+    let all = padded_of(alloc, lane.entries.as_slice(), padding)?;
+    free_in(
+        alloc,
+        strip,
+        all.as_slice(),
+        widest_padded(lane, padding),
+        strip,
+    )
 }
 
 /// The position of the cell's entry among those from a position on; none if it has none there.
@@ -214,7 +285,7 @@ pub(crate) fn make_room(lane: &mut Lane, more: usize) -> Result<(), AllocError>
 /// Inserts an entry at its place in the order. It allocates nothing.
 fn join(lane: &mut Lane, entry: &Entry)
     requires order { AreInOrder lane.old.entries.items }
-    requires within { IsWithinDef entry.now.area }
+    requires within { IsNearZero entry.now.area }
     requires whole { IsWhole entry.now.area }
     requires room { HasRoom lane.old }
     ensures { IsJoined entry.now lane.old lane.new }
@@ -237,7 +308,7 @@ fn entry_of(own: u32, area: &Rect) -> Entry
 /// nothing.
 pub(crate) fn put_in(lane: &mut Lane, area: &Rect, own: u32, rect: &Rect)
     requires order { AreInOrder lane.old.entries.items }
-    requires within { IsWithinDef area.now }
+    requires within { IsNearZero area.now }
     requires room { (part : Rect) → IsPart area.now rect.now part → IsWhole part → HasRoom lane.old }
     ensures { IsPutIn own rect.now area.now lane.old lane.new }
 {

@@ -1,9 +1,15 @@
 //! Laws on strips.
 
-ghost use Rattle.lf_occupancy.specs.Floorplans.{StripsCover};
+ghost use Rattle.lf_occupancy.specs.Floorplans.{StripsCover, StripsFeel};
 
 /// Each point of a box that stands on rows, stays in a team's ground and is clear of obstacles lies
 /// in one of the team's strips.
 pub fn strips_cover()
     ensures { StripsCover }
+{}
+
+/// Each point of such a box that has points, made wider by no more than 16 core sites, lies in one of
+/// the team's strips felt 16 core sites around.
+pub fn strips_feel()
+    ensures { StripsFeel }
 {}

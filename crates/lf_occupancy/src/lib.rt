@@ -4,10 +4,11 @@
 mod boxes;
 mod build;
 mod change;
+mod felt;
 mod find;
 mod lane;
 mod laws;
 mod occupancy;
 
-pub use laws::strips_cover;
+pub use laws::{strips_cover, strips_feel};
 pub use occupancy::Occupancy;

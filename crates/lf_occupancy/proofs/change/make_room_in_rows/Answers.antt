@@ -4,7 +4,7 @@ use Rattle.lf_spans.proofs.Anys.{any_nil}
 use Rattle.lf_segments.specs.declared.rows_by_y.RowEntry.{RowEntry}
 use Rattle.lf_occupancy.specs.declared.lane.Lane.{Lane}
 use Rattle.lf_occupancy.specs.Lanes.{HasRoomOf}
-use Rattle.lf_occupancy.specs.Strips.{IsReached}
+use Rattle.lf_occupancy.specs.Strips.{IsReached, felt_strips}
 use Rattle.lf_occupancy.proofs.Changes.{kept_same, kept_along, rooms_further}
 use Rattle.lf_occupancy.proofs.change.make_room_in_rows.Goals as goal
 
@@ -16,9 +16,9 @@ loop-entry-preserved c =
     let kept = c.in_ok-make_room_in_row.ensures.kept in
     record {
       kept = kept_along c.args.lanes.now.items c.loop-entry.lanes.items c.make_room_in_row.new.lanes.items c.loop-entry.invariant.kept kept;
-      room = rooms_further c.args.more c.args.index.now.strips c.args.rows.now c.loop-entry.entry-index _ c.args.id.now.team c.args.rect.now
+      room = rooms_further c.args.more (felt_strips c.args.site.now c.args.index.now.strips) c.args.rows.now c.loop-entry.entry-index _ c.args.id.now.team c.args.rect.now
           c.loop-entry.lanes.items c.make_room_in_row.new.lanes.items (omega arith)
-          (get_or_default c.args.rows.now c.loop-entry.entry-index _ _ (omega arith)) (c.loop-entry.invariant.kept.many ∙ c.requires) kept
+          (get_or_default c.args.rows.now c.loop-entry.entry-index _ _ (omega arith)) (c.loop-entry.invariant.kept.many ∙ c.requires.many) kept
           c.loop-entry.invariant.room c.in_ok-make_room_in_row.ensures.ok;
     }
 
@@ -27,7 +27,7 @@ returns c = record {
   kept = c.loop-entry.invariant.kept;
   ok = subst
       (λ (es : List RowEntry).
-      (n : ℕ) (e : Lane) → IsReached c.args.index.now.strips es c.args.id.now.team c.args.rect.now n →
+      (n : ℕ) (e : Lane) → IsReached (felt_strips c.args.site.now c.args.index.now.strips) es c.args.id.now.team c.args.rect.now n →
       HasRoomOf c.args.more (get_or c.loop-entry.lanes.items n e))
       (take_all c.loop-entry.entry-index c.args.rows.now (omega arith)) c.loop-entry.invariant.room;
 }

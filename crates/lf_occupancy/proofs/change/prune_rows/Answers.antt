@@ -4,7 +4,7 @@ use Rattle.std.proofs.lemmas.List.{get_or_default, take_all}
 use Rattle.lf_spans.proofs.Anys.{any_nil}
 use Rattle.lf_segments.specs.declared.rows_by_y.RowEntry.{RowEntry}
 use Rattle.lf_occupancy.specs.Lanes.{HasAtMostOne, IsPruned}
-use Rattle.lf_occupancy.specs.Strips.{IsReached}
+use Rattle.lf_occupancy.specs.Strips.{IsReached, felt_strips}
 use Rattle.lf_occupancy.specs.Strips.{AreChanged}
 use Rattle.lf_occupancy.proofs.Changes.{none_changed, other_row, rows_further}
 use Rattle.lf_occupancy.proofs.change.prune_rows.Goals as goal
@@ -14,7 +14,7 @@ loop-entry-init c = none_changed _ _ _ (λ n r. any_nil _ r.1)
 
 pub prune_row-requires-clause-one : goal.prune_row-requires-clause-one
 prune_row-requires-clause-one c = λ n d e reached.
-    let xs = c.args.index.now.strips in
+    let xs = felt_strips c.args.site.now c.args.index.now.strips in
     let rows = c.args.rows.now in
     let team = c.args.id.now.team in
     let rect = c.args.rect.now in
@@ -30,7 +30,7 @@ prune_row-requires-clause-one c = λ n d e reached.
 
 pub loop-entry-preserved : goal.loop-entry-preserved
 loop-entry-preserved c =
-    rows_further (λ n. IsPruned c.args.id.now.own) c.args.index.now.strips c.args.rows.now c.loop-entry.entry-index _ c.args.id.now.team c.args.rect.now
+    rows_further (λ n. IsPruned c.args.id.now.own) (felt_strips c.args.site.now c.args.index.now.strips) c.args.rows.now c.loop-entry.entry-index _ c.args.id.now.team c.args.rect.now
     c.args.lanes.now.items c.loop-entry.lanes.items c.prune_row.new.lanes.items c.requires.once (omega arith)
     (get_or_default c.args.rows.now c.loop-entry.entry-index _ _ (omega arith)) c.loop-entry.invariant c.prune_row.ensures
 
@@ -38,6 +38,6 @@ pub returns : goal.returns
 returns c =
     subst
     (λ (es : List RowEntry).
-    AreChanged (IsReached c.args.index.now.strips es c.args.id.now.team c.args.rect.now) (λ n. IsPruned c.args.id.now.own)
+    AreChanged (IsReached (felt_strips c.args.site.now c.args.index.now.strips) es c.args.id.now.team c.args.rect.now) (λ n. IsPruned c.args.id.now.own)
     c.args.lanes.now.items c.loop-entry.lanes.items)
     (take_all c.loop-entry.entry-index c.args.rows.now (omega arith)) c.loop-entry.invariant

@@ -1,8 +1,6 @@
-use Rattle.std.proofs.Common.{◌≡◌, ◌<◌, List, arith, get_or, length, ap, sym, subst, ◌∙◌}
-use Rattle.std.proofs.lemmas.List.{get_or_default}
-use Rattle.lf_segments.specs.declared.strip.Strip.{Strip}
-use Rattle.lf_segments.specs.Strips.{IsPlaced}
-use Rattle.lf_occupancy.specs.Strips.{PutsIn}
+use Rattle.std.proofs.Common.{◌≡◌, ◌<◌, arith, get_or, length, sym, subst, ◌∙◌}
+use Rattle.lf_units.specs.declared.area.Rect.{Rect}
+use Rattle.lf_occupancy.specs.Strips.{PutsIn, felt_strips}
 use Rattle.lf_occupancy.specs.Lanes.{IsPutIn, TakesPart}
 use Rattle.lf_occupancy.proofs.Finds.{no_strip}
 use Rattle.lf_occupancy.proofs.Changes.{none_changed, changed_further, between_is_reached}
@@ -13,15 +11,15 @@ loop-n-init c = none_changed _ _ _ (λ n b. let f = b.from in let h = b.below in
 
 pub put_in-requires : goal.put_in-requires
 put_in-requires c =
-    let xs = c.args.index.now.strips in
+    let xs = felt_strips c.args.site.now c.args.index.now.strips in
     let row = c.args.row in
     let team = c.args.id.now.team in
     let rect = c.args.rect.now in
     let n = c.loop-n.n in
-    let start = c.near-near.result.start in
-    let end = c.near-near.result.end in
+    let start = c.near_felt-near.result.start in
+    let end = c.near_felt-near.result.end in
     let lane = c.index_mut.result.now in
-    let near = c.near-near.ensures in
+    let near = c.near_felt-near.ensures in
     let bound = near.within in
     let test = c.loop-n-test.true in
     let many = c.requires.many in
@@ -30,38 +28,32 @@ put_in-requires c =
     let same : get_or c.loop-n.lanes.items n lane ≡ get_or c.args.lanes.now.items n lane =
     c.loop-n.invariant.others n lane (omega (arith, within, many)) (λ b. let h = b.below in omega (arith, h)) in
     let one = subst (TakesPart (get_or xs n no_strip).area rect) (sym same ∙ sym c.index_mut.ensures.value) takes in
-    let part = subst (λ (zs : List Strip). TakesPart (get_or zs n no_strip).area rect lane) (sym c.strips-list.ensures) one in
-    let placed : IsPlaced c.args.index.now.rows c.args.index.now.height (get_or c.strips-list.result.now n no_strip) =
-    subst (λ (zs : List Strip). IsPlaced c.args.index.now.rows c.args.index.now.height (get_or zs n no_strip)) (sym c.strips-list.ensures)
-    (c.strips_are_placed.ensures.placed n no_strip within) in
-    record { order = part.order; within = record { low = placed.x_low; high = placed.x_high }; room = part.room }
+    let part = subst (λ (a : Rect). TakesPart a rect lane) (sym (c.felt_area.ensures.is no_strip)) one in
+    record { order = part.order; within = c.felt_area.ensures.near; room = part.room }
 
 pub loop-n-preserved : goal.loop-n-preserved
 loop-n-preserved c =
-    let xs = c.args.index.now.strips in
+    let xs = felt_strips c.args.site.now c.args.index.now.strips in
     let n = c.loop-n.n in
-    let list = c.strips-list.ensures in
-    let bound = c.near-near.ensures.within in
+    let bound = c.near_felt-near.ensures.within in
     let test = c.loop-n-test.true in
     let many = c.requires.many in
     let same = c.loop-n.invariant.many in
     let inner : n < length xs = omega (arith, bound, test) in
     let put : PutsIn xs c.args.id.now.own c.args.rect.now n c.index_mut.result.now c.put_in.new.lane =
-    λ d.
-    subst (λ (g : Strip). IsPutIn c.args.id.now.own c.args.rect.now g.area c.index_mut.result.now c.put_in.new.lane)
-    (ap (λ (zs : List Strip). get_or zs n no_strip) list ∙ get_or_default xs n no_strip d inner) c.put_in.ensures in
-    changed_further (PutsIn xs c.args.id.now.own c.args.rect.now) c.near-near.result.start n c.near-near.result.end c.args.lanes.now.items
+    λ d. subst (λ (a : Rect). IsPutIn c.args.id.now.own c.args.rect.now a c.index_mut.result.now c.put_in.new.lane) (c.felt_area.ensures.is d) c.put_in.ensures in
+    changed_further (PutsIn xs c.args.id.now.own c.args.rect.now) c.near_felt-near.result.start n c.near_felt-near.result.end c.args.lanes.now.items
     c.loop-n.lanes.items c.index_mut.result.now c.put_in.new.lane c.loop-n.auto.n test (omega (arith, inner, many, same)) c.index_mut.ensures.value
     put c.loop-n.invariant
 
 pub returns : goal.returns
 returns c =
-    let xs = c.args.index.now.strips in
+    let xs = felt_strips c.args.site.now c.args.index.now.strips in
     let row = c.args.row in
     let team = c.args.id.now.team in
     let rect = c.args.rect.now in
-    let start = c.near-near.result.start in
-    let end = c.near-near.result.end in
-    let near = c.near-near.ensures in
+    let start = c.near_felt-near.result.start in
+    let end = c.near_felt-near.result.end in
+    let near = c.near_felt-near.ensures in
     between_is_reached xs row team start c.loop-n.n end rect (PutsIn xs c.args.id.now.own rect) c.args.lanes.now.items c.loop-n.lanes.items near
     c.loop-n-test.false c.loop-n.invariant

@@ -5,7 +5,7 @@ use Rattle.std.proofs.lemmas.List.Elements.{All-more, All-weaker}
 use Rattle.lf_units.specs.declared.area.Rect.{Rect}
 use Rattle.lf_cells.specs.declared.cell.CellId.{CellId}
 use Rattle.lf_occupancy.specs.declared.lane.Lane.{Lane}
-use Rattle.lf_occupancy.specs.Strips.{HaveRoom, MeetsStrip}
+use Rattle.lf_occupancy.specs.Strips.{HaveRoom, MeetsStrip, felt_strips}
 use Rattle.lf_occupancy.proofs.Changes.{kept_same, kept_along}
 use Rattle.lf_occupancy.proofs.Reaching.{move_stays}
 use Rattle.lf_occupancy.proofs.change.reserve_moves.Goals as goal
@@ -15,7 +15,7 @@ loop-id-init c = record { kept = kept_same c.args.lanes.now.items; room = λ k d
 
 pub loop-id-preserved : goal.loop-id-preserved
 loop-id-preserved c =
-    let xs = c.args.index.now.strips in
+    let xs = felt_strips c.args.site.now c.args.index.now.strips in
     let moves = c.args.moves.now in
     let i = c.loop-id.id-index in
     let mid = c.loop-id.lanes.items in
@@ -26,14 +26,14 @@ loop-id-preserved c =
     record {
       kept = kept_along c.args.lanes.now.items mid new c.loop-id.invariant.kept kept;
       room = All-more (Room new) moves i _ (omega arith)
-          (All-weaker (Room mid) (Room new) (λ m h. move_stays xs m.0.team m.1 (length moves) mid new (c.loop-id.invariant.kept.many ∙ c.requires) kept h)
+          (All-weaker (Room mid) (Room new) (λ m h. move_stays xs m.0.team m.1 (length moves) mid new (c.loop-id.invariant.kept.many ∙ c.requires.many) kept h)
           (take i moves) c.loop-id.invariant.room)
           c.in_ok-reserve_box.ensures.ok;
     }
 
 pub returns-clause-ok : goal.returns-clause-ok
 returns-clause-ok c =
-    let xs = c.args.index.now.strips in
+    let xs = felt_strips c.args.site.now c.args.index.now.strips in
     let moves = c.args.moves.now in
     let lanes = c.loop-id.lanes.items in
     subst (λ (ms : List (CellId × Option Rect)). All (λ m. IfSome m.1 (λ rect. HaveRoom (MeetsStrip xs m.0.team rect) (length moves) lanes)) ms)

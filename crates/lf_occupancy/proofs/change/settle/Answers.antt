@@ -1,19 +1,19 @@
 use Rattle.std.proofs.Common.{◌≡◌, List, Option, Some, None, get_or, [], refl, sym, subst, ap, ◌∙◌}
 use Rattle.lf_units.specs.declared.area.Rect.{Rect}
 use Rattle.lf_occupancy.specs.Occupied.{cell_box}
-use Rattle.lf_occupancy.specs.Strips.{HasCell, boxes_set}
+use Rattle.lf_occupancy.specs.Strips.{HasCell, boxes_set, felt_strips}
 use Rattle.lf_occupancy.proofs.Knowing.{stands_nowhere}
 use Rattle.lf_occupancy.proofs.Reaching.{lanes_kept, set_twice}
 use Rattle.lf_occupancy.proofs.change.settle.Goals as goal
 
 pub returns-in_err-reserve_box-clause-lanes : goal.returns-in_err-reserve_box-clause-lanes
 returns-in_err-reserve_box-clause-lanes c =
-    lanes_kept c.args.index.now.strips c.remove_box.new.boxes.items c.remove_box.new.lanes.items c.reserve_box.new.lanes.items
+    lanes_kept (felt_strips c.args.site.now c.args.index.now.strips) c.remove_box.new.boxes.items c.remove_box.new.lanes.items c.reserve_box.new.lanes.items
     c.in_err-reserve_box.ensures.kept c.remove_box.ensures.lanes
 
 pub insert_box-requires-clause-lanes : goal.insert_box-requires-clause-lanes
 insert_box-requires-clause-lanes c =
-    lanes_kept c.args.index.now.strips c.remove_box.new.boxes.items c.remove_box.new.lanes.items c.reserve_box.new.lanes.items
+    lanes_kept (felt_strips c.args.site.now c.args.index.now.strips) c.remove_box.new.boxes.items c.remove_box.new.lanes.items c.reserve_box.new.lanes.items
     c.in_ok-reserve_box.ensures.kept c.remove_box.ensures.lanes
 
 pub insert_box-requires-clause-nowhere : goal.insert_box-requires-clause-nowhere
@@ -34,5 +34,5 @@ returns-in-Some-clause-ok c =
 
 pub returns-in_default-clause-lanes : goal.returns-in_default-clause-lanes
 returns-in_default-clause-lanes c =
-    lanes_kept c.args.index.now.strips c.remove_box.new.boxes.items c.remove_box.new.lanes.items c.reserve_box.new.lanes.items
+    lanes_kept (felt_strips c.args.site.now c.args.index.now.strips) c.remove_box.new.boxes.items c.remove_box.new.lanes.items c.reserve_box.new.lanes.items
     c.in_ok-reserve_box.ensures.kept c.remove_box.ensures.lanes

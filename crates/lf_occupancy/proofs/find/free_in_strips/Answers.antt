@@ -3,7 +3,7 @@ use Rattle.std.proofs.lemmas.List.{get_or_default}
 use Rattle.lf_spans.specs.declared.span.Span.{Span}
 use Rattle.lf_spans.specs.Spans.{IsFreeIn}
 use Rattle.lf_segments.specs.declared.strip.Strip.{Strip}
-use Rattle.lf_occupancy.specs.Lanes.{others_in, spans_in, x_range}
+use Rattle.lf_occupancy.specs.Lanes.{all_padded, others_in, spans_in, x_range}
 use Rattle.lf_occupancy.proofs.Frees.{AreFreeBetween, none_free, free_further, free_of_row}
 use Rattle.lf_occupancy.proofs.Finds.{no_strip}
 use Rattle.lf_occupancy.proofs.find.free_in_strips.Goals as goal
@@ -15,8 +15,9 @@ loop-n-init c =
     let xs = c.args.index.now.strips in
     let lanes = c.args.lanes.now in
     let own = c.args.id.now.own in
-    subst (λ (free : List Span). AreFreeBetween xs lanes own start start end c.args.window.now free) (sym c.new-free.ensures.items)
-    (none_free xs lanes own start end c.args.window.now)
+    let padding = c.args.padding.now in
+    subst (λ (free : List Span). AreFreeBetween xs lanes own padding start start end c.args.window.now free) (sym c.new-free.ensures.items)
+    (none_free xs lanes own padding start end c.args.window.now)
 
 pub loop-n-preserved : goal.loop-n-preserved
 loop-n-preserved c =
@@ -28,6 +29,7 @@ loop-n-preserved c =
     let row = c.args.row in
     let team = c.args.id.now.team in
     let own = c.args.id.now.own in
+    let padding = c.args.padding.now in
     let window = c.args.window.now in
     let lane = c.index-lanes-n.result in
     let list = c.strips-list.ensures in
@@ -39,11 +41,11 @@ loop-n-preserved c =
     let many = c.requires.lanes.many in
     let within : n < length xs = omega (arith, bound, test) in
     let g : Strip = get_or xs n no_strip in
-    let is : c.x_range_of.result ≡ x_range g.area = c.x_range_of.ensures ∙ ap (λ (zs : List Strip). x_range (get_or zs n no_strip).area) list in
-    let new = subst (λ (s : Span). IsFreeIn s (spans_in (others_in lane.entries.items own)) window part) is c.in_ok-part.ensures in
-    subst (λ (zs : List Span). AreFreeBetween xs lanes own start (n + 1) end window zs)
+    let is : c.x_range_of-span.result ≡ x_range g.area = c.x_range_of-span.ensures ∙ ap (λ (zs : List Strip). x_range (get_or zs n no_strip).area) list in
+    let new = subst (λ (s : Span). IsFreeIn s (spans_in (others_in (all_padded padding lane.entries.items) own)) window part) is c.in_ok-part.ensures in
+    subst (λ (zs : List Span). AreFreeBetween xs lanes own padding start (n + 1) end window zs)
     (sym (c.in_ok-extend_from_slice.ensures.items ∙ ap (λ (zs : List Span). free ++ zs) c.deref.ensures.value))
-    (free_further xs lanes row team own start n end window lane g free part c.strips_are_placed.ensures.in_order near c.loop-n.auto.n test
+    (free_further xs lanes row team own padding start n end window lane g free part c.strips_are_placed.ensures.in_order near c.loop-n.auto.n test
     (omega (arith, within, many)) (λ k d inner. (c.strips_are_placed.ensures.placed k d inner).wide) c.index-lanes-n.is
     (λ d. get_or_default xs n no_strip d within) c.loop-n.invariant new)
 
@@ -56,4 +58,4 @@ returns c =
     let team = c.args.id.now.team in
     let window = c.args.window.now in
     let near = c.near-near.ensures in
-    free_of_row xs c.args.lanes.now row team c.args.id.now.own start c.loop-n.n end window c.loop-n.free.items near c.loop-n-test.false c.loop-n.invariant
+    free_of_row xs c.args.lanes.now row team c.args.id.now.own c.args.padding.now start c.loop-n.n end window c.loop-n.free.items near c.loop-n-test.false c.loop-n.invariant

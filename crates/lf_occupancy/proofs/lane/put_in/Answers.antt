@@ -2,7 +2,7 @@ use Rattle.std.proofs.Common.{inl, inr, refl, sym, subst, arith}
 use Rattle.std.proofs.lemmas.Bool.{false≢true}
 use Rattle.std.proofs.lemmas.Int.{ints}
 use Rattle.lf_occupancy.specs.declared.lane.Entry.{Entry}
-use Rattle.lf_occupancy.specs.Lanes.{IsJoined, IsWhole, IsWithinDef}
+use Rattle.lf_occupancy.specs.Lanes.{IsJoined, IsWhole, IsNearZero}
 use Rattle.lf_occupancy.proofs.lane.put_in.Goals as goal
 
 pub join-requires : goal.join-requires
@@ -13,7 +13,7 @@ join-requires c =
     let high = c.requires.within.high in
     record {
       order = c.requires.order;
-      within = subst (λ (e : Entry). IsWithinDef e.area) (sym c.entry_of.ensures)
+      within = subst (λ (e : Entry). IsNearZero e.area) (sym c.entry_of.ensures)
           record { low = omega (arith, ints, low, left); high = omega (arith, ints, high, right) };
       whole = subst (λ (e : Entry). IsWhole e.area) (sym c.entry_of.ensures) (c.if-is_whole.ensures.0 refl);
       room = c.requires.room c.part_of-part.result c.part_of-part.ensures (c.if-is_whole.ensures.0 refl);

@@ -7,6 +7,6 @@ use Rattle.lf_occupancy.proofs.occupancy.Occupancy.boxes_fit.Goals as goal
 pub returns : goal.returns
 returns c =
     let o = c.self.inside in
-    let seen : Occupied = record { index = o.index; boxes = o.boxes.items; rooms = rooms_in o.lanes.items } in
+    let seen : Occupied = record { index = o.index; site = o.site; boxes = o.boxes.items; rooms = rooms_in o.lanes.items } in
     subst (λ (o : Occupied). (team : ℕ) → FitIn o team (boxes_of o team)) c.self.view_is
-    (boxes_that_stand_fit seen o.lanes.items refl c.self.invariant)
+    (boxes_that_stand_fit seen o.lanes.items refl c.self.invariant.1)

@@ -1,17 +1,30 @@
-use Rattle.std.proofs.Common.{List, sym, subst}
+use Rattle.std.proofs.Common.{◌≡◌, ℤ, List, arith, length, of_z, rules, subst, sym, to_z, w64}
+use Rattle.std.proofs.lemmas.Int.{ints}
 use Rattle.std.proofs.lemmas.Result.{IfOk-weaker}
+use Rattle.lf_rules.specs.Padding.{IsShort}
 use Rattle.lf_occupancy.specs.declared.lane.Lane.{Lane}
-use Rattle.lf_occupancy.specs.Occupied.{Occupied, AreFreeSpans}
-use Rattle.lf_occupancy.specs.Strips.{AreLeft, AreOrderly}
-use Rattle.lf_occupancy.proofs.Reaching.{lanes_orderly}
+use Rattle.lf_occupancy.specs.Occupied.{Occupied, AreFreeSpans, IsPaddingOf}
+use Rattle.lf_occupancy.specs.Strips.{AreLeft, AreRoomy}
+use Rattle.lf_occupancy.proofs.Around.{site_short, strips_felt}
+use Rattle.lf_occupancy.proofs.Reaching.{lanes_roomy}
 use Rattle.lf_occupancy.proofs.Views.{spans_of_strip}
 use Rattle.lf_occupancy.proofs.occupancy.Occupancy.free_spans.Goals as goal
 
-pub free_in_one-requires : goal.free_in_one-requires
-free_in_one-requires c =
+pub free_in_one-requires-clause-lanes : goal.free_in_one-requires-clause-lanes
+free_in_one-requires-clause-lanes c =
     let o = c.self.inside in
-    subst (λ (ls : List Lane). AreOrderly o.index.strips ls) (sym c.deref.ensures.value)
-    (lanes_orderly o.index.strips o.boxes.items o.lanes.items c.self.invariant)
+    subst (λ (ls : List Lane). AreRoomy (length o.index.strips) ls) (sym c.deref.ensures.value)
+    (lanes_roomy o.site o.index o.boxes.items o.lanes.items (strips_felt o.site o.index c.self.invariant.0 c.strips_are_placed.ensures) c.self.invariant.1)
+
+pub free_in_one-requires-clause-short : goal.free_in_one-requires-clause-short
+free_in_one-requires-clause-short c =
+    let o = c.self.inside in
+    let padding = subst (λ (v : Occupied). IsPaddingOf v c.args.padding) (sym c.self.view_is) c.requires in
+    let is : to_z w64 (of_z w64 c.args.padding) ≡ c.args.padding = search rules in
+    let a = padding.least in
+    let b = padding.most in
+    let h = (site_short o.site c.self.invariant.0).most in
+    subst IsShort (sym is) record { least = a; most = omega (arith, ints, b, h) }
 
 pub returns : goal.returns
 returns c =
@@ -19,9 +32,16 @@ returns c =
     let id = c.args.without in
     let n = c.args.segment in
     let xs = o.index.strips in
-    IfOk-weaker c.free_in_one.result (λ free. AreLeft xs c.deref.result.now id n free.items) (λ free. AreFreeSpans c.args.self.now n id free.items)
+    let padding : ℤ = to_z w64 (of_z w64 c.args.padding) in
+    let is : to_z w64 (of_z w64 c.args.padding) ≡ c.args.padding = search rules in
+    let short : IsPaddingOf c.args.self.now padding = subst (λ (q : ℤ). IsPaddingOf c.args.self.now q) (sym is) c.requires in
+    IfOk-weaker c.free_in_one.result (λ free. AreLeft xs c.deref.result.now id padding n free.items)
+    (λ free. AreFreeSpans c.args.self.now n id c.args.padding free.items)
     (λ free h.
-    subst (λ (v : Occupied). AreFreeSpans v n id free.items) c.self.view_is
-    (spans_of_strip _ o.lanes.items id n free.items c.self.invariant
-    (subst (λ (ls : List Lane). AreLeft xs ls id n free.items) c.deref.ensures.value h)))
+    subst (λ (q : ℤ). AreFreeSpans c.args.self.now n id q free.items) is
+    (subst (λ (v : Occupied). IsPaddingOf v padding → AreFreeSpans v n id padding free.items) c.self.view_is
+    (λ near.
+    spans_of_strip _ o.lanes.items id padding n free.items near c.self.invariant.1
+    (subst (λ (ls : List Lane). AreLeft xs ls id padding n free.items) c.deref.ensures.value h))
+    short))
     c.free_in_one.ensures

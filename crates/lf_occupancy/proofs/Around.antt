@@ -1,0 +1,131 @@
+-- Strips felt around.
+use Rattle.std.proofs.Common.{◌≡◌, ℕ, ◌*◌, ◌<◌, ◌≤◌, ℤ, pos, negsuc, ◌+ℤ◌, ◌-ℤ◌, ◌*ℤ◌, ◌≤ℤ◌, ◌<ℤ◌, List, length, get_or, sym, subst, arith}
+use Rattle.std.specs.Prelude.{All, Any}
+use Rattle.std.specs.Int.{int_max, int_min}
+use Rattle.std.proofs.lemmas.Int.{ints, clamps}
+use Rattle.std.proofs.lemmas.Nat.{mul-le}
+use Rattle.std.proofs.lemmas.List.{get_or-map, length-map}
+use Rattle.std.proofs.lemmas.List.Elements.{All-map}
+use Rattle.lf_segments.specs.declared.rows_by_y.RowEntry.{RowEntry}
+use Rattle.lf_segments.specs.declared.strip.Strip.{Strip}
+use Rattle.lf_segments.specs.Grounds.{Lookups}
+use Rattle.lf_segments.specs.Strips.{AreNear, AreStrips, IsNear, IsPlaced}
+use Rattle.lf_floorplan.specs.declared.frame.Frame.{Frame}
+use Rattle.lf_rules.specs.Padding.{IsShort, length_of}
+use Rattle.lf_rules.proofs.PaddingLemmas.{short_length, short_sites}
+use Rattle.lf_occupancy.specs.Lanes.{IsNearZero}
+use Rattle.lf_occupancy.specs.Occupied.{IsPaddingOf, Occupied, felt}
+use Rattle.lf_occupancy.specs.Strips.{IsSite, felt_strips}
+
+-- the strip lies not far from 0, is as high as a row, and its row has an entry
+pub record IsFelt (rows : List RowEntry) (height : ℤ) (g : Strip) : Type 0 where
+  pub near : IsNearZero g.area
+  pub y_low : negsuc 2147483647 ≤ℤ g.area.y1
+  pub high : g.area.y2 ≡ g.area.y1 +ℤ height
+  pub found : Any (λ e. (e.row ≡ g.row) × (e.y ≡ g.area.y1)) rows
+
+-- the look-ups, with the strips felt around
+abbrev pub around : ℤ → Lookups → Lookups
+around site s = record {
+  rows = s.rows;
+  segments = s.segments;
+  land = s.land;
+  strips = felt_strips site s.strips;
+  soft = s.soft;
+  extent = s.extent;
+  height = s.height;
+}
+
+-- a padding of sites is one of an occupancy of the frame
+pub padding_of_sites : (f : Frame) (o : Occupied) (sites : ℕ) → o.site ≡ f.pitch.x → sites ≤ 16 → IsPaddingOf o (length_of f sites)
+padding_of_sites f o sites same few = record {
+  least = (short_length f sites few).least;
+  most = subst (λ (site : ℤ). (pos sites *ℤ f.pitch.x) ≤ℤ (pos 16 *ℤ site)) (sym same) (no_longer f.pitch.x f.pitch_whole.wide);
+}
+  where
+    no_longer : (site : ℤ) → pos 0 <ℤ site → (pos sites *ℤ site) ≤ℤ (pos 16 *ℤ site)
+    no_longer (pos n) positive = let most : sites * n ≤ 16 * n = mul-le sites n 16 n few (omega arith) in omega (arith, ints, most)
+    no_longer (negsuc n) positive = absurd (omega (arith, ints))
+
+-- and so is none at all
+pub no_padding : (f : Frame) (o : Occupied) → o.site ≡ f.pitch.x → IsPaddingOf o (pos 0)
+no_padding f o same = record { least = omega (arith, ints); most = let wide = f.pitch_whole.wide in omega (arith, ints, wide, same) }
+
+-- the greatest padding is short
+pub site_short : (site : ℤ) → IsSite site → IsShort (pos 16 *ℤ site)
+site_short site is = short_sites site 16 is.wide is.small (omega arith)
+
+pub felt_many : (site : ℤ) (xs : List Strip) → length (felt_strips site xs) ≡ length xs
+felt_many site xs = length-map xs (felt (pos 16 *ℤ site))
+
+pub felt_at : (site : ℤ) (xs : List Strip) (n : ℕ) (d e : Strip) → n < length xs → get_or (felt_strips site xs) n d ≡ felt (pos 16 *ℤ site) (get_or xs n e)
+felt_at site xs n d e within = get_or-map (felt (pos 16 *ℤ site)) xs n e d within
+
+near_zero : (by : ℤ) (rows : List RowEntry) (height : ℤ) (g : Strip) → IsShort by → IsPlaced rows height g → IsNearZero (felt by g).area
+near_zero by rows height g short placed =
+    let a = short.most in
+    let b = short.least in
+    let l = placed.x_low in
+    let h = placed.x_high in
+    record { low = omega (arith, ints, a, b, l); high = omega (arith, ints, a, b, h) }
+
+-- strips that are placed are felt near 0
+pub strips_felt : (site : ℤ) (s : Lookups) → IsSite site → AreStrips s.rows s.height s.strips → All (IsFelt s.rows s.height) (felt_strips site s.strips)
+strips_felt site s is strips = All-map (IsFelt s.rows s.height) (felt (pos 16 *ℤ site)) s.strips each
+  where
+    each : All (λ g. IsFelt s.rows s.height (felt (pos 16 *ℤ site) g)) s.strips
+    each k d within =
+        let p = strips.placed k d within in
+        record {
+          near = near_zero (pos 16 *ℤ site) s.rows s.height (get_or s.strips k d) (site_short site is) p;
+          y_low = p.y_low;
+          high = p.high;
+          found = p.found;
+        }
+
+near_to : (by : ℤ) (rows : List RowEntry) (height : ℤ) (row team : ℕ) (lo hi low high : ℤ) (g : Strip) → IsShort by → IsPlaced rows height g →
+    low ≡ int_max lo (negsuc 1099511627775) -ℤ by → high ≡ int_min hi (pos 1099511627776) +ℤ by → IsNear row team low high g →
+    IsNear row team lo hi (felt by g)
+near_to by rows height row team lo hi low high g short placed from to near =
+    let r = near.right in
+    let l = near.left in
+    record { in_row = near.in_row; of_team = near.of_team; right = omega (arith, ints, clamps, from, r); left = omega (arith, ints, clamps, to, l) }
+
+near_back : (by : ℤ) (rows : List RowEntry) (height : ℤ) (row team : ℕ) (lo hi low high : ℤ) (g : Strip) → IsShort by → IsPlaced rows height g →
+    low ≡ int_max lo (negsuc 1099511627775) -ℤ by → high ≡ int_min hi (pos 1099511627776) +ℤ by → IsNear row team lo hi (felt by g) →
+    IsNear row team low high g
+near_back by rows height row team lo hi low high g short placed from to near =
+    let r = near.right in
+    let l = near.left in
+    let a = short.most in
+    let b = short.least in
+    let p = placed.x_low in
+    let q = placed.x_high in
+    let w = placed.wide in
+    record {
+      in_row = near.in_row;
+      of_team = near.of_team;
+      right = omega (arith, ints, clamps, from, r, a, b, p, w);
+      left = omega (arith, ints, clamps, to, l, a, b, q, w);
+    }
+
+-- the strips near a range that is wider by the reach are those that, felt around, are near the range
+pub near_is_felt : (site : ℤ) (s : Lookups) (row team : ℕ) (lo hi low high : ℤ) (start end : ℕ) → IsSite site → AreStrips s.rows s.height s.strips →
+    low ≡ int_max lo (negsuc 1099511627775) -ℤ (pos 16 *ℤ site) → high ≡ int_min hi (pos 1099511627776) +ℤ (pos 16 *ℤ site) →
+    AreNear s.strips row team low high start end → AreNear (felt_strips site s.strips) row team lo hi start end
+near_is_felt site s row team lo hi low high start end is strips from to near = record {
+  within = let h = near.within in let m = felt_many site s.strips in omega (arith, h, m);
+  exact = λ n d within.
+      let m = felt_many site s.strips in
+      let inner : n < length s.strips = omega (arith, within, m) in
+      let at = felt_at site s.strips n d d inner in
+      let g : Strip = get_or s.strips n d in
+      let placed = strips.placed n d inner in
+      let by : ℤ = pos 16 *ℤ site in
+      let short = site_short site is in (
+        λ both. subst (IsNear row team lo hi) (sym at)
+            (near_to by s.rows s.height row team lo hi low high g short placed from to ((near.exact n d inner).0 both)),
+        λ there. (near.exact n d inner).1
+            (near_back by s.rows s.height row team lo hi low high g short placed from to (subst (IsNear row team lo hi) at there)),
+      );
+}

@@ -1,0 +1,139 @@
+-- Entries made wider by a padding.
+use Rattle.std.proofs.Common.{◌≡◌, ◌⊎◌, inl, inr, ℕ, ◌+◌, ◌<◌, ℤ, pos, ◌+ℤ◌, ◌-ℤ◌, ◌*ℤ◌, ◌≤ℤ◌, ◌<ℤ◌, Bool, true, false, cond, List, [], ◌∷◌, ◌++◌}
+use Rattle.std.proofs.Common.{length, get_or, take, eqb, sym, ap, subst, ◌∙◌, arith}
+use Rattle.std.specs.Prelude.{All, Contains, not}
+use Rattle.std.proofs.lemmas.Bool.Decides.{nat_tests}
+use Rattle.std.proofs.lemmas.Int.{ints}
+use Rattle.std.proofs.lemmas.List.{append-nil, get_or-map, get_or_default, length-map, map-append, take_more}
+use Rattle.std.proofs.lemmas.List.Elements.{All-contains, All-map, Contains-get_or, filter-append}
+use Rattle.lf_rules.specs.Padding.{HasRoomAround}
+use Rattle.lf_spans.specs.declared.span.Span.{Span}
+use Rattle.lf_spans.specs.Spans.{AreApart, IsApart}
+use Rattle.lf_occupancy.specs.declared.lane.Entry.{Entry}
+use Rattle.lf_occupancy.specs.Lanes.{AreInOrder, IsNearRun, all_padded, others_in, padded, spans_in, x_range}
+use Rattle.lf_occupancy.proofs.Runs.{apart_each, each_apart, all_apart_each, each_all_apart, near_in}
+
+pub padded_in_order : (by : ℤ) (es : List Entry) → AreInOrder es → AreInOrder (all_padded by es)
+padded_in_order by es order i j d less within =
+    let long = length-map es (padded by) in
+    let inner : j < length es = omega (arith, long, within) in
+    let first : (get_or (all_padded by es) i d).area.x1 ≡ (get_or es i d).area.x1 -ℤ by =
+    ap (λ (e : Entry). e.area.x1) (get_or-map (padded by) es i d d (omega (arith, less, inner))) in
+    let second : (get_or (all_padded by es) j d).area.x1 ≡ (get_or es j d).area.x1 -ℤ by =
+    ap (λ (e : Entry). e.area.x1) (get_or-map (padded by) es j d d inner) in
+    let up = order i j d less inner in
+    omega (arith, ints, first, second, up)
+
+pub padded_narrow : (by widest : ℤ) (es : List Entry) → All (λ e. (e.area.x2 -ℤ e.area.x1) ≤ℤ widest) es →
+    All (λ e. (e.area.x2 -ℤ e.area.x1) ≤ℤ (widest +ℤ (pos 2 *ℤ by))) (all_padded by es)
+padded_narrow by widest es wide =
+    All-map (λ e. (e.area.x2 -ℤ e.area.x1) ≤ℤ (widest +ℤ (pos 2 *ℤ by))) (padded by) es (λ k d within. let h = wide k d within in omega (arith, ints, h))
+
+pub padded_near : (by : ℤ) (es near : List Entry) (lo hi low high : ℤ) → low ≡ lo -ℤ by → high ≡ hi +ℤ by → IsNearRun es low high near →
+    IsNearRun (all_padded by es) lo hi (all_padded by near)
+padded_near by es near lo hi low high from to run = record {
+  before = all_padded by run.before;
+  behind = all_padded by run.behind;
+  parts = ap (all_padded by) run.parts ∙ map-append (padded by) run.before (near ++ run.behind)
+      ∙ ap (λ (rest : List Entry). all_padded by run.before ++ rest) (map-append (padded by) near run.behind);
+  left = All-map (λ e. e.area.x2 ≤ℤ lo) (padded by) run.before (λ k d within. let h = run.left k d within in omega (arith, ints, h, from));
+  right = All-map (λ e. hi ≤ℤ e.area.x1) (padded by) run.behind (λ k d within. let h = run.right k d within in omega (arith, ints, h, to));
+}
+
+pub padded_there : (by : ℤ) (es : List Entry) (e : Entry) → Contains es e → Contains (all_padded by es) (padded by e)
+padded_there by es e (k, within, is) =
+    let long = length-map es (padded by) in
+    (k, omega (arith, within, long), get_or-map (padded by) es k e (padded by e) within ∙ ap (padded by) is)
+
+pub there_padded : (by : ℤ) (es : List Entry) (e : Entry) → Contains (all_padded by es) e → (x : Entry) × (Contains es x × (e ≡ padded by x))
+there_padded by es e (k, within, is) =
+    let long = length-map es (padded by) in
+    let inner : k < length es = omega (arith, within, long) in
+    (get_or es k e, ((k, inner, same_at es k e inner), sym is ∙ get_or-map (padded by) es k e e inner))
+  where
+    same_at : (xs : List Entry) (i : ℕ) (d : Entry) → i < length xs → get_or xs i (get_or xs i d) ≡ get_or xs i d
+    same_at xs i d inside = get_or_default xs i (get_or xs i d) d inside
+
+-- what holds of each of the other cells' entries, where they are made wider
+pub other_padded : (by : ℤ) (es : List Entry) (own : ℕ) (s : Span) → IsApart (spans_in (others_in (all_padded by es) own)) s → (e : Entry) → Contains es e →
+    (e.own ≡ own → ⊥) → AreApart s (x_range (padded by e).area)
+other_padded by es own s apart e there other = apart_each (all_padded by es) own s apart (padded by e) (padded_there by es e there) other
+
+pub others_padded : (by : ℤ) (es : List Entry) (own : ℕ) (s : Span) →
+    ((e : Entry) → Contains es e → (e.own ≡ own → ⊥) → AreApart s (x_range (padded by e).area)) → IsApart (spans_in (others_in (all_padded by es) own)) s
+others_padded by es own s each =
+    each_apart (all_padded by es) own s
+    (λ e there other.
+    let found = there_padded by es e there in
+    let At : Entry → Type 0 = λ x. AreApart s (x_range x.area) in
+    subst At (sym found.1.1) (each found.0 found.1.0 (λ same. other (ap (λ (x : Entry). x.own) found.1.1 ∙ same))))
+
+pub one_padded : (by : ℤ) (es : List Entry) (s : Span) → IsApart (spans_in (all_padded by es)) s → (e : Entry) → Contains es e →
+    AreApart s (x_range (padded by e).area)
+one_padded by es s apart e there = all_apart_each (all_padded by es) s apart (padded by e) (padded_there by es e there)
+
+pub each_padded : (by : ℤ) (es : List Entry) (s : Span) → ((e : Entry) → Contains es e → AreApart s (x_range (padded by e).area)) →
+    IsApart (spans_in (all_padded by es)) s
+each_padded by es s each =
+    each_all_apart (all_padded by es) s
+    (λ e there.
+    let found = there_padded by es e there in
+    let At : Entry → Type 0 = λ x. AreApart s (x_range x.area) in
+    subst At (sym found.1.1) (each found.0 found.1.0))
+
+-- entries near a range are of the lane's
+pub near_around : (es near : List Entry) (lo hi : ℤ) → IsNearRun es lo hi near → All (λ e. HasRoomAround e.area) es → All (λ e. HasRoomAround e.area) near
+near_around es near lo hi run all k d within =
+    All-contains (λ e. HasRoomAround e.area) es (get_or near k d) all (near_in es near lo hi (get_or near k d) run (Contains-get_or near k d within))
+
+-- a number between two that is no farther from this one than the length
+pub record NearIn (lo hi by x : ℤ) : Type 0 where
+  pub z : ℤ
+  pub low : lo ≤ℤ z
+  pub high : z <ℤ hi
+  pub from : (z -ℤ by) ≤ℤ x
+  pub to : x ≤ℤ (z +ℤ by)
+
+pub nearest_in : (lo hi by x : ℤ) → lo <ℤ hi → (lo -ℤ by) ≤ℤ x → x <ℤ (hi +ℤ by) → pos 0 ≤ℤ by → NearIn lo hi by x
+nearest_in lo hi by x wide low high some = elim order [
+  | inl left ↦ record { z = lo; low = omega (arith, ints); high = wide; from = low; to = omega (arith, ints, left, some) }
+  | inr (inl right) ↦ record {
+    z = hi -ℤ pos 1;
+    low = omega (arith, ints, wide);
+    high = omega (arith, ints);
+    from = omega (arith, ints, right, some);
+    to = omega (arith, ints, high);
+  }
+  | inr (inr inside) ↦ record { z = x; low = inside.0; high = inside.1; from = omega (arith, ints, some); to = omega (arith, ints, some) }
+]
+  where
+    order : (x <ℤ lo) ⊎ ((hi ≤ℤ x) ⊎ ((lo ≤ℤ x) × (x <ℤ hi)))
+    order = grind (arith, ints)
+
+further : (by : ℤ) (es : List Entry) (i : ℕ) (e : Entry) (own : ℕ) → i < length es → e ≡ get_or es i e →
+    others_in (all_padded by (take (i + 1) es)) own ≡ others_in (all_padded by (take i es)) own ++ cond (not (eqb e.own own)) (padded by e ∷ []) []
+further by es i e own within is =
+    ap (λ (xs : List Entry). others_in (all_padded by xs) own) (take_more es i e within ∙ ap (λ (x : Entry). take i es ++ x ∷ []) (sym is))
+    ∙ ap (λ (xs : List Entry). others_in xs own) (map-append (padded by) (take i es) (e ∷ []))
+    ∙ filter-append (λ (x : Entry). not (eqb x.own own)) (all_padded by (take i es)) (padded by e ∷ [])
+
+-- one more entry of the others
+pub other_further : (by : ℤ) (es : List Entry) (i : ℕ) (e : Entry) (own : ℕ) → i < length es → e ≡ get_or es i e → (e.own ≡ own → ⊥) →
+    others_in (all_padded by (take (i + 1) es)) own ≡ others_in (all_padded by (take i es)) own ++ padded by e ∷ []
+other_further by es i e own within is apart =
+    further by es i e own within is
+    ∙ ap (λ (b : Bool). others_in (all_padded by (take i es)) own ++ cond b (padded by e ∷ []) []) (apart_test e.own own apart)
+  where
+    apart_test : (a b : ℕ) → (a ≡ b → ⊥) → not (eqb a b) ≡ true
+    apart_test a b away = grind (arith, nat_tests, away)
+
+-- and where the next entry is the cell's, none more
+pub other_no_further : (by : ℤ) (es : List Entry) (i : ℕ) (e : Entry) (own : ℕ) → i < length es → e ≡ get_or es i e → e.own ≡ own →
+    others_in (all_padded by (take (i + 1) es)) own ≡ others_in (all_padded by (take i es)) own
+other_no_further by es i e own within is same =
+    further by es i e own within is
+    ∙ ap (λ (b : Bool). others_in (all_padded by (take i es)) own ++ cond b (padded by e ∷ []) []) (same_test e.own own same)
+    ∙ append-nil (others_in (all_padded by (take i es)) own)
+  where
+    same_test : (a b : ℕ) → a ≡ b → not (eqb a b) ≡ false
+    same_test a b is = grind (arith, nat_tests)
