@@ -3,7 +3,7 @@
 ghost use Rattle.std.specs.Prelude.{ℕ, ◌≡◌, ◌≤ℤ◌, ◌*ℤ◌, All, IfOk, IfSome, None, OnErr, OnOk, Some, length, negsuc, pos};
 ghost use Rattle.lf_floorplan.specs.declared.frame.Frame.{Frame};
 ghost use Rattle.lf_segments.specs.Grounds.{IsGroundOf};
-ghost use Rattle.lf_occupancy.specs.Occupied.{box_at, boxes_of, boxes_with, AreFreeSpans, FitIn, HasRoomFor, NoLess, IsFirstMet, IsFreeInRow, IsPaddingOf};
+ghost use Rattle.lf_occupancy.specs.Occupied.{reach, box_at, boxes_of, boxes_with, AreFreeSpans, FitIn, HasRoomFor, NoLess, IsFirstMet, IsFreeInRow, IsPaddingOf};
 ghost use Rattle.lf_occupancy.specs.Floorplans.{HasSize, IsOccupancyOf};
 ghost use Rattle.lf_cells.specs.Cells.{cells_of};
 ghost use Rattle.lf_occupancy.specs.Strips.{HasCell};
@@ -34,7 +34,7 @@ pub struct Occupancy {
 }
 
 impl Model for Occupancy {
-    ghost use Rattle.lf_occupancy.specs.Occupied.{Occupied};
+    ghost use Rattle.lf_occupancy.specs.Occupied.{reach, Occupied};
 
     ghost Value = { Occupied };
 
@@ -80,6 +80,14 @@ impl Occupancy {
         ensures { result.now ≡ self.now.index }
     {
         &self.index
+    }
+
+    /// The greatest padding as a length, in database units: 16 core sites.
+    pub fn reach(&self) -> i64
+        ensures is { result ≡ reach self.now }
+        ensures least { pos 0 ≤ℤ result }
+    {
+        16 * self.site
     }
 
     /// Within a window, the spans of a row that are free for a cell, which is taken away first:
