@@ -27,8 +27,8 @@ pub use lf_teams::{
     loaded_is_committed, loaded_places_are_committed, loaded_run_stays_legal, look_keeps,
     never_out_of_memory, only_commit_commits, only_pad_pads, order_keeps_committed,
     other_designs_do_not_matter, others_do_not_matter, pad_keeps, place_makes_legal,
-    places_begin_as_loaded, places_follow_design,
-    refusal_keeps, revert_after_commit_keeps, run_commits_make_legal, run_stays_legal,
-    run_tidied_commits, step_keeps_committed, stuck_tidy_keeps, swap_makes_legal, tidy_makes_legal,
-    undo_brings_back, verb_keeps_team, verb_rows,
+    places_begin_as_loaded, places_follow_design, refusal_keeps, revert_after_commit_keeps,
+    run_commits_make_legal, run_stays_legal, run_tidied_commits, step_keeps_committed,
+    stuck_tidy_keeps, swap_makes_legal, tidy_makes_legal, undo_brings_back, verb_keeps_team,
+    verb_rows,
 };

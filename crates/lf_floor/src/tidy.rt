@@ -58,12 +58,7 @@ fn corner(place: &Place) -> Point
 
 /// Where the team's cell of that id is tidied to: the anchor where it is unplaced, its own corner where
 /// it breaks a rule; none where it stays, as each marked cell does.
-fn target_of(
-    placement: &Placement,
-    marks: &[bool],
-    id: CellId,
-    padding: Padding,
-) -> Option<Point>
+fn target_of(placement: &Placement, marks: &[bool], id: CellId, padding: Padding) -> Option<Point>
     requires { AreMarked placement.now.frame id.team padding.sites (cells_of placement.now.cells id.team) marks.now }
     ensures { (l : Legalizer) → result ≡ target_at (setting l placement.now.frame id.team padding.sites) (cells_of placement.now.cells id.team) id.own }
 {

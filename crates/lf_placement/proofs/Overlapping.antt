@@ -174,7 +174,6 @@ wide_trial t sized =
     wide : (x w : ℤ) → pos 0 <ℤ w → x <ℤ (x +ℤ w)
     wide x w h = omega (arith, ints)
 
-
 -- where the rules but overlap hold, the cell that is met in the strips decides
 pub met_decides : (t : Trial) (table : Cells) (o : Occupied) (id : CellId) (rect : Rect) (met : Option ℕ) → IsOccupancyOf t.frame table o → StripsFeel → t.padding ≤ 16 → IsSized t.frame t.mac
     → id.team ≡ t.team → t.others ≡ boxes_beside t.frame (map member_of (cells_of table t.team)) id.own → rect ≡ padded_box t

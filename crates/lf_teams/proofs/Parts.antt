@@ -144,7 +144,7 @@ module _ (f : Frame) (team : ℕ) (cells : List Member) (legal : IsFullyLegal f 
       (legal_by_parts (trial_at lifted p)).1 (
         frame_beside (alone_at f (standing_in team m) p) lifted.others keeps,
         subst (λ (box : Rect). All (λ other. SharesPoint box other.rect → ⊥) lifted.others) (sym (wider_none f (box_in f m.mac p)))
-        (beside_hold (λ rect. SharesPoint (box_in f m.mac p) rect → ⊥) f cells own clear),
+            (beside_hold (λ rect. SharesPoint (box_in f m.mac p) rect → ⊥) f cells own clear),
       )
 
   stands_alone : (own : ℕ) → StandsLegal f team 0 cells own

@@ -15,7 +15,7 @@ pub use committed_laws::{
 pub use laws::{other_designs_do_not_matter, others_do_not_matter};
 pub use verb_laws::{
     best_is_found, change_counts, commit_finds_legal, legalize_makes_legal, look_keeps,
-    never_out_of_memory, only_commit_commits, only_pad_pads, pad_keeps, place_makes_legal, refusal_keeps,
-    revert_after_commit_keeps, stuck_tidy_keeps, swap_makes_legal, tidy_makes_legal,
+    never_out_of_memory, only_commit_commits, only_pad_pads, pad_keeps, place_makes_legal,
+    refusal_keeps, revert_after_commit_keeps, stuck_tidy_keeps, swap_makes_legal, tidy_makes_legal,
     undo_brings_back, verb_keeps_team, verb_rows,
 };

@@ -238,14 +238,7 @@ fn broken_by_all(
         return Ok(None);
     };
     let padding = Padding::none();
-    Ok(first_broken(
-        &design.frame,
-        cell.team,
-        mac,
-        place,
-        &others,
-        padding,
-    ))
+    Ok(first_broken(&design.frame, cell.team, mac, place, &others, padding))
 }
 
 /// Whether the violation is that of the cell of that number.
