@@ -82,10 +82,11 @@ others_in entries own = filter (λ e. not (e.own == own)) entries
 abbrev pub spans_in : List Entry → List Span
 spans_in entries = map (λ e. x_range e.area) entries
 
--- the entries made wider by a length on their left and on their right
+-- the entry made wider by a length on its left and on its right
 abbrev pub padded : ℤ → Entry → Entry
 padded by e = record { own = e.own; area = wider by e.area }
 
+-- each of the entries made wider so
 abbrev pub all_padded : ℤ → List Entry → List Entry
 all_padded by entries = map (padded by) entries
 

@@ -15,8 +15,8 @@ use lf_segments::{Ground, RowEntry};
 use lf_units::Rect;
 use std::alloc::AllocError;
 
-/// Makes room for this many more entries in the strips of a row and the cell's team that, felt around, the
-/// rectangle reaches. Also on `Err` each strip holds what it held.
+/// Makes room for this many more entries in the strips of a row and the cell's team that the rectangle
+/// reaches. Also on `Err` each strip holds what it held.
 fn make_room_in_row(
     lanes: &mut Vec<Lane>,
     index: &Ground,

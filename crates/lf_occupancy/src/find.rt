@@ -13,7 +13,8 @@ use lf_units::{Rect, Span};
 use std::alloc::{AllocError, Global};
 
 /// The least number of a cell, other than this one, of which an entry in a strip of the row and the
-/// cell's team, felt around, shares a point with the rectangle; the number so far if that is less, or none is met.
+/// cell's team, felt around, shares a point with the rectangle; the number so far if that is less, or
+/// none is met.
 fn least_in_row(
     index: &Ground,
     site: &i64,

@@ -3,7 +3,7 @@
 ghost use Rattle.std.specs.Prelude.{ℕ, ◌≡◌, ◌≤ℤ◌, ◌*ℤ◌, All, IfOk, IfSome, None, OnErr, OnOk, Some, length, negsuc, pos};
 ghost use Rattle.lf_floorplan.specs.declared.frame.Frame.{Frame};
 ghost use Rattle.lf_segments.specs.Grounds.{IsGroundOf};
-ghost use Rattle.lf_occupancy.specs.Occupied.{reach, box_at, boxes_of, boxes_with, AreFreeSpans, FitIn, HasRoomFor, NoLess, IsFirstMet, IsFreeInRow, IsPaddingOf};
+ghost use Rattle.lf_occupancy.specs.Occupied.{box_at, boxes_of, boxes_with, reach, AreFreeSpans, FitIn, HasRoomFor, NoLess, IsFirstMet, IsFreeInRow, IsPaddingOf};
 ghost use Rattle.lf_occupancy.specs.Floorplans.{HasSize, IsOccupancyOf};
 ghost use Rattle.lf_cells.specs.Cells.{cells_of};
 ghost use Rattle.lf_occupancy.specs.Strips.{HasCell};
@@ -34,7 +34,7 @@ pub struct Occupancy {
 }
 
 impl Model for Occupancy {
-    ghost use Rattle.lf_occupancy.specs.Occupied.{reach, Occupied};
+    ghost use Rattle.lf_occupancy.specs.Occupied.{Occupied};
 
     ghost Value = { Occupied };
 
@@ -111,9 +111,9 @@ impl Occupancy {
     }
 
     /// The free spans of one strip, that of the segment of that number, in database units: what the
-    /// cells of its team leave of it with the padding around each, one cell left out. A cell of another team plays no part, so with
-    /// such a cell none is left out. None if there is no such segment. `Err` if an allocation
-    /// fails.
+    /// cells of its team leave of it with the padding around each, one cell left out. A cell of another
+    /// team plays no part, so with such a cell none is left out. None if there is no such segment.
+    /// `Err` if an allocation fails.
     pub fn free_spans(
         &self,
         alloc: Global,
@@ -154,8 +154,8 @@ impl Occupancy {
         );
     }
 
-    /// Gives a cell without a box this one. It allocates nothing: each strip of its team that, felt around,
-    /// shares a point with the box has room for one more. Each strip keeps the room that it has.
+    /// Gives a cell without a box this one. It allocates nothing: each strip of its team that, felt
+    /// around, shares a point with the box has room for one more. Each strip keeps the room that it has.
     pub fn insert(&mut self, id: CellId, rect: &Rect)
         requires known { HasCell self.old.boxes id }
         requires nowhere { box_at self.old id.team id.own ≡ None }
@@ -177,8 +177,9 @@ impl Occupancy {
 
     /// Makes the room that `insert` needs if the moves are made in their order, each by removing the
     /// cell's box and inserting its new one, if it has one: for as many more boxes as there are moves, in
-    /// each strip of a cell's team that, felt around, shares a point with its box. The boxes are unchanged. `Err`
-    /// if an allocation fails: then strips may have gained room, and nothing else is changed.
+    /// each strip of a cell's team that, felt around, shares a point with its box. The boxes are
+    /// unchanged. `Err` if an allocation fails: then strips may have gained room, and nothing else is
+    /// changed.
     pub fn reserve_for(&mut self, moves: &[(CellId, Option<Rect>)]) -> Result<(), AllocError>
         ensures ok { OnOk result (All (λ m. IfSome m.1 (λ rect. HasRoomFor self.new m.0.team rect (length moves.now))) moves.now) }
         ensures boxes { self.new.boxes ≡ self.old.boxes }
