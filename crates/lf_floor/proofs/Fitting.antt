@@ -71,7 +71,7 @@ only_made k moves old new are others rest =
 
 pub fits_only : (k : ℕ) (old new : Placing) (places : Places) → OnlyMoves k old new → Fits old k places → Fits new k places
 fits_only k old new places only fits =
-    last old new k places only.ground.frame only.ground.index only.ground.rooms (macs_same (cells_of old.cells k) (cells_of new.cells k) only.same) fits
+    last old new k places only.ground.frame only.ground.index only.ground.site only.ground.rooms (macs_same (cells_of old.cells k) (cells_of new.cells k) only.same) fits
 
 pub fits_as : (k : ℕ) (old new : Placing) (places : Places) → KeepsRooms old new → SameMacros (cells_of old.cells k) (cells_of new.cells k) → Fits old k places
     → Fits new k places

@@ -9,6 +9,7 @@ pub mod Swaps
 pub mod Undoing
 pub mod Unplaced
 pub mod Padding
+pub mod Unpadded
 pub mod Reverting
 pub mod Committing
 pub mod Sending

@@ -59,10 +59,10 @@ one_by (Some c) t cells own moved =
 
 tidy_one_is : (t : Setting) (cells : List Cell) (own moved : ℕ) → tidy_one t cells own moved ≡ one_by (slice_get cells own) t cells own moved
 tidy_one_is t cells own moved =
-    ap (λ (o : Option Member). tidied_own o t.legalizer t.frame t.number (map member_of cells) moved own) (slice_get-map member_of cells own)
+    ap (λ (o : Option Member). tidied_own o t.legalizer t.frame t.number t.padding (map member_of cells) moved own) (slice_get-map member_of cells own)
     ∙ go (slice_get cells own)
   where
-    go : (o : Option Cell) → tidied_own (option_map member_of o) t.legalizer t.frame t.number (map member_of cells) moved own ≡ one_by o t cells own moved
+    go : (o : Option Cell) → tidied_own (option_map member_of o) t.legalizer t.frame t.number t.padding (map member_of cells) moved own ≡ one_by o t cells own moved
     go None = refl
     go (Some c) = refl
 

@@ -1,6 +1,6 @@
 //! The state of all teams, in one table of each kind.
 
-ghost use Rattle.std.specs.Prelude.{◌≡◌, ◌+◌, IfOk, IfSome, option_map};
+ghost use Rattle.std.specs.Prelude.{◌≡◌, ◌+◌, IfOk, IfSome, map, option_map, replicate};
 ghost use Rattle.lf_cells.specs.Cells.{cell_named, id_in, working_at};
 ghost use Rattle.lf_floor.specs.Tables.{AreOpening, Counts, HasRows, IsCurrent, Pads, cells_in, padding_of, revision_of};
 
@@ -25,6 +25,13 @@ pub(crate) struct Tables {
     pub(crate) paddings: Vec<Padding>,
 }
 
+/// The paddings of this many teams that have none.
+fn unpadded(alloc: Global, teams: usize) -> Result<Vec<Padding>, AllocError>
+    ensures { IfOk result (λ paddings. map (λ padding. padding.sites) paddings.items ≡ replicate teams 0) }
+{
+    vec![in alloc; Padding::none(); teams]
+}
+
 impl Tables {
     /// The tables of a design as it is loaded: no change is made, nothing can be undone, no session is
     /// open, and no team has a padding.
@@ -35,7 +42,7 @@ impl Tables {
         let undo = UndoStore::build(alloc, teams, loaded.frame.limits.undo as usize)?;
         let sessions = SessionTable::build(alloc, teams, loaded.frame.limits.sessions)?;
         let revisions = vec![in alloc; 0; teams]?;
-        let paddings = vec![in alloc; Padding::none(); teams]?;
+        let paddings = unpadded(alloc, teams)?;
         let placement = Placement::build(alloc, loaded)?;
         Ok(Tables {
             placement,

@@ -6,7 +6,7 @@ use Rattle.lf_placement.specs.Placings.{Fits, Placing, made, places_of}
 use Rattle.lf_teams.specs.Changes.{back_to_committed}
 use Rattle.lf_floor.specs.Tables.{cells_in, kept, setting_in, team_in}
 use Rattle.lf_floor.proofs.Ends.{reverted_reaches, reverted_short}
-use Rattle.lf_floor.proofs.Fitting.{grown_kept, grown_revision, grown_team}
+use Rattle.lf_floor.proofs.Fitting.{fit_grown, grown_kept, grown_revision, grown_team}
 use Rattle.lf_floor.proofs.Reverting.{places_reverted}
 use Rattle.lf_floor.proofs.tables.Tables.revert.Goals as goal
 
@@ -49,3 +49,8 @@ returns-clause-ok g c = λ l.
     ∙ ap (λ (p : Placing). kept number c.args.session (cells_of p.cells number) (made moves (cells_of p.cells number)) mid) c.make_room.ensures.placement
     ∙ grown_kept number c.args.session cells (made moves cells) old mid c.make_room.ensures.grown)
     (c.change_places.ensures.revision ∙ ap (λ (n : ℕ). n + 1) (grown_revision number old mid c.make_room.ensures.grown))
+
+pub returns-clause-fit : goal.returns-clause-fit
+returns-clause-fit g c =
+    c.change_places.ensures.fit
+    (fit_grown c.args.around.now.number c.args.self.now c.make_room.new.self c.make_room.ensures.grown c.requires.served.fit)

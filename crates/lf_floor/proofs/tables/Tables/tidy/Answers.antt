@@ -5,7 +5,7 @@ use Rattle.lf_placement.specs.Placings.{Placing, SameButPlaces}
 use Rattle.lf_floor.specs.Tables.{cells_in, kept, own_team, setting_at, setting_in, team_in}
 use Rattle.lf_floor.specs.Tidying.{Tidies}
 use Rattle.lf_floor.proofs.Ends.{back_to, stuck_reaches, tidied_reaches, tidy_short}
-use Rattle.lf_floor.proofs.Fitting.{back_fits, fit_grown, grown_kept, grown_revision, grown_team, kept_fit}
+use Rattle.lf_floor.proofs.Fitting.{back_fits, entries_stay, fit_grown, grown_kept, grown_revision, grown_team, kept_fit, rooms_through, same_rooms}
 use Rattle.lf_floor.proofs.Moves.{from_none}
 use Rattle.lf_floor.proofs.tables.Tables.tidy.Goals as goal
 
@@ -90,3 +90,29 @@ returns-clause-err g c = λ l.
     tidy_short (setting_in l c.args.around.now old) c.args.session (team_in c.args.around.now old)
     (own_team number record mid { placement = c.take_back-in-Err.new.self })
     (back_to number mid c.take_back-in-Err.new.self (c.take_back-in-Err.ensures.own before have) ∙ grown_team number old mid c.make_room.ensures.grown)
+
+pub returns-in-Ok-Stopped-clause-fit : goal.returns-in-Ok-Stopped-clause-fit
+returns-in-Ok-Stopped-clause-fit g c =
+    let number = c.args.around.now.number in
+    let old = c.args.self.now in
+    let mid = c.make_room.new.self in
+    let sent = c.send_all.new.placement in
+    let back = c.take_back.new.self in
+    let before = cells_in number mid in
+    let have = c.send_all.ensures.moved before (from_none before c.new-moves.result c.new-moves.ensures) in
+    entries_stay number mid record mid { placement = back }
+    (rooms_through mid.placement sent back c.send_all.ensures.only.ground (same_rooms sent back c.take_back.ensures.rest))
+    (back_to number mid back (c.take_back.ensures.own before have)) (fit_grown number old mid c.make_room.ensures.grown c.requires.change.served.fit)
+
+pub returns-clause-fit : goal.returns-clause-fit
+returns-clause-fit g c =
+    let number = c.args.around.now.number in
+    let old = c.args.self.now in
+    let mid = c.make_room.new.self in
+    let sent = c.send_all.new.placement in
+    let back = c.take_back-in-Err.new.self in
+    let before = cells_in number mid in
+    let have = c.send_all.ensures.moved before (from_none before c.new-moves.result c.new-moves.ensures) in
+    entries_stay number mid record mid { placement = back }
+    (rooms_through mid.placement sent back c.send_all.ensures.only.ground (same_rooms sent back c.take_back-in-Err.ensures.rest))
+    (back_to number mid back (c.take_back-in-Err.ensures.own before have)) (fit_grown number old mid c.make_room.ensures.grown c.requires.change.served.fit)
