@@ -1,5 +1,5 @@
 -- A team gets another padding, and nothing else of it changes but its revision.
-use Rattle.std.proofs.Common.{◌≡◌, ℕ, ◌+◌, List, Some, length, map, refl, ap, sym, ◌∙◌, subst}
+use Rattle.std.proofs.Common.{◌≡◌, ℕ, ◌+◌, List, Some, length, map, refl, ap, ◌∙◌}
 use Rattle.std.specs.Prelude.{slice_index_or, slice_set}
 use Rattle.std.proofs.lemmas.List.{length-set, get_or-set_same}
 use Rattle.lf_rules.specs.declared.padding.Padding.{Padding as Sites}

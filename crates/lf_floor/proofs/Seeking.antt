@@ -8,10 +8,9 @@ use Rattle.lf_rules.specs.Choice.{Spot, spot_of}
 use Rattle.lf_proto.specs.Numbers.{◌>>=◌}
 use Rattle.lf_proto.proofs.Places.{place_at-some}
 use Rattle.lf_cells.specs.declared.cell.Cell.{Cell}
-use Rattle.lf_cells.specs.declared.cell.Standing.{Standing}
 use Rattle.lf_cells.specs.declared.cell.CellId.{CellId}
 use Rattle.lf_cells.specs.declared.cell.CellFacts.{CellFacts}
-use Rattle.lf_cells.specs.Cells.{Cells, cell_at, cells_of, id_in, id_of, standing_of}
+use Rattle.lf_cells.specs.Cells.{Cells, cell_at, cells_of, id_in, id_of}
 use Rattle.lf_legalize.specs.Members.{best_of}
 use Rattle.lf_placement.proofs.Moves.{id_there}
 use Rattle.lf_floorplan.specs.Bounds.{IsName}

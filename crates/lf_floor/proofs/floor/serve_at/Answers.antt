@@ -5,7 +5,7 @@ use Rattle.lf_teams.specs.Verbs.{outcome_of}
 use Rattle.std.proofs.lemmas.Result.{IfOk-weaker, on_err_weaker}
 use Rattle.lf_proto.specs.Commands.{order_of}
 use Rattle.lf_teams.specs.States.{FloorState, TeamState}
-use Rattle.lf_teams.specs.Steps.{Gives, StaysShort, answer_at, ruled}
+use Rattle.lf_teams.specs.Steps.{Gives, StaysShort, answer_at}
 use Rattle.lf_teams.specs.Teams.{IsTeamOf, setting}
 use Rattle.lf_teams.proofs.Kept.{verb_keeps}
 use Rattle.lf_teams.proofs.Serving.{kept_by, gives, stays_short}
