@@ -2,7 +2,7 @@
 use Rattle.std.proofs.Common.{◌≡◌, ℕ, suc, ◌+◌, List, [], Option, None, true, false, refl, subst, arith}
 use Rattle.lf_rules.specs.Legalizer.{Legalizer}
 use Rattle.lf_teams.specs.States.{FloorState}
-use Rattle.lf_server.specs.Connections.{Connects, HasServed, Stays}
+use Rattle.lf_server.specs.Connections.{Connects, HasServed}
 use Rattle.lf_server.specs.Devices.{Writer, writer}
 use Rattle.lf_server.specs.Endings.{Serves}
 use Rattle.lf_server.specs.declared.serving.Ending.TheVariants.{Done}

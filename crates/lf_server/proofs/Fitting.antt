@@ -1,8 +1,8 @@
 -- How long the text of a reply is.
 use Rattle.std.proofs.Common.{◌≡◌, ℕ, ◌+◌, ◌≤◌, List, [], ◌∷◌, ◌++◌, length, arith, length-append, refl}
 use Rattle.std.specs.List.{join_with_byte}
-use Rattle.std.proofs.Common.{◌<◌, ◌^◌}
-use Rattle.std.specs.Prelude.{Option, None, Some, codes, decimal}
+use Rattle.std.proofs.Common.{◌<◌}
+use Rattle.std.specs.Prelude.{None, Some, codes, decimal}
 use Rattle.std.proofs.lemmas.Fmt.{length-decimal-le}
 use Rattle.lf_rules.specs.declared.rule.Rule.{Rule}
 use Rattle.lf_rules.specs.declared.rule.Rule.TheVariants.{Height, Row, Stand, Orient, Rail, Fence, Obstacle, Overlap}

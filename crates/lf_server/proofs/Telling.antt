@@ -1,6 +1,6 @@
 -- A connection gives a team the replies to its own orders.
-use Rattle.std.proofs.Common.{◌≡◌, ℕ, List, [], ◌∷◌, ◌++◌, Bool, true, false, ◌&&◌, not, cond, Option, Some, None, refl, ap, sym, ◌∙◌, subst, append-nil}
-use Rattle.std.specs.Prelude.{MatchBool, MatchOption, bytes_eq, option_and_then, unwrap_or}
+use Rattle.std.proofs.Common.{◌≡◌, ℕ, List, [], ◌∷◌, ◌++◌, Bool, true, false, ◌&&◌, not, cond, Option, Some, None, refl, ap, sym, ◌∙◌, subst}
+use Rattle.std.specs.Prelude.{MatchBool, bytes_eq, option_and_then, unwrap_or}
 use Rattle.std.proofs.lemmas.Slice.Eq.{bytes_eq-Decides}
 use Rattle.lf_floorplan.specs.declared.frame.Frame.{Frame}
 use Rattle.lf_floorplan.specs.declared.place.Place.{Place}
@@ -13,12 +13,12 @@ use Rattle.lf_proto.specs.ReplyText.{reply_text}
 use Rattle.lf_teams.specs.States.{TeamState, FloorState}
 use Rattle.lf_teams.specs.Teams.{team_number, state_of}
 use Rattle.lf_teams.specs.Outcomes.{is_short, name_at}
-use Rattle.lf_teams.specs.Steps.{ruled, Answers, RunsShort, Step, IsTo}
-use Rattle.lf_teams.specs.Runs.{Run, asked, asked_before}
+use Rattle.lf_teams.specs.Steps.{ruled, Answers, RunsShort, IsTo}
+use Rattle.lf_teams.specs.Runs.{Run, asked}
 use Rattle.lf_teams.proofs.Answering.{own_answer, others_kept}
 use Rattle.lf_teams.proofs.Isolation.{step_frame}
 use Rattle.lf_server.specs.Devices.{Writer}
-use Rattle.lf_server.specs.Exchanges.{AnswersTo, BreaksOff, Exchange, Exchanges, RefusesLine, StepsOn, asked_on, cells_in, name_in, team_of, text_of}
+use Rattle.lf_server.specs.Exchanges.{AnswersTo, Exchange, Exchanges, asked_on, cells_in, name_in, team_of, text_of}
 use Rattle.lf_server.specs.Endings.{Comes}
 use Rattle.lf_server.specs.Laws.{commands, replies, told_before, texts_told, with_command, with_reply}
 use Rattle.lf_server.specs.declared.serving.Ending.{Ending}

@@ -1,6 +1,4 @@
-use Rattle.std.proofs.Common.{ap, ◌∙◌, sym, refl}
-use Rattle.lf_floorplan.specs.declared.frame.Frame.{Frame}
-use Rattle.lf_teams.specs.Teams.{team_number}
+use Rattle.std.proofs.Common.{sym, refl}
 use Rattle.lf_teams.proofs.Isolation.{has_number}
 use Rattle.lf_server.proofs.Telling.{acts_at, told_own}
 use Rattle.lf_server.proofs.laws.texts_are_own.Goals as goal

@@ -1,4 +1,4 @@
-use Rattle.std.proofs.Common.{ap, ◌∙◌, sym, refl}
+use Rattle.std.proofs.Common.{sym, refl}
 use Rattle.lf_teams.specs.Designs.{opening, opening_team}
 use Rattle.lf_teams.proofs.Openings.{opening_is, agreeing_is}
 use Rattle.lf_server.proofs.Telling.{acts_at, told_own}

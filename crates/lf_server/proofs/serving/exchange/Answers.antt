@@ -1,4 +1,4 @@
-use Rattle.std.proofs.Common.{◌≡◌, ◌∙◌, ap, sym, refl, Option, Some, None, List, ℕ}
+use Rattle.std.proofs.Common.{◌∙◌, ap, sym, Some, None}
 use Rattle.std.specs.Prelude.{option_map}
 use Rattle.lf_proto.specs.Commands.{command_of}
 use Rattle.lf_server.specs.declared.serving.Ending.TheVariants.{Bye, WriteFault}

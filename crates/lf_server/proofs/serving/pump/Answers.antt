@@ -1,5 +1,5 @@
-use Rattle.std.proofs.Common.{◌≡◌, ◌∙◌, ◌+◌, ◌≤◌, arith, rules, take, length, None, drop}
-use Rattle.lf_server.proofs.Steps.{goes_none, stays_join, piece_done, piece_on, piece_stop}
+use Rattle.std.proofs.Common.{◌∙◌, arith, rules}
+use Rattle.lf_server.proofs.Steps.{stays_join, piece_done, piece_on, piece_stop}
 use Rattle.lf_server.proofs.serving.pump.Goals as goal
 
 pub returns-in-Some-clause-serves : goal.returns-in-Some-clause-serves

@@ -1,9 +1,6 @@
-use Rattle.std.proofs.Common.{◌≡◌, ◌∙◌, ◌+◌, ◌≤◌, arith, refl, rules, take, length, [], Some, None, List, ℕ, subst, sym, Option}
-use Rattle.std.specs.Io.KnownBytes.{Consumes}
-use Rattle.lf_server.specs.Devices.{writer}
-use Rattle.lf_server.specs.Progress.{Goes}
+use Rattle.std.proofs.Common.{◌∙◌, arith, refl, take, []}
 use Rattle.lf_server.proofs.Known.{Consumes-none}
-use Rattle.lf_server.proofs.Steps.{goes_none, stays_join, stays_none}
+use Rattle.lf_server.proofs.Steps.{stays_join, stays_none}
 use Rattle.lf_server.proofs.Finishing.{goes_start, keeps_itself, read_end, read_fault, read_on, read_stop}
 use Rattle.lf_server.proofs.serving.serve_lines.Goals as goal
 

@@ -1,4 +1,3 @@
-use Rattle.std.proofs.Common.{◌≤◌}
 use Rattle.lf_rules.specs.Legalizer.{Legalizer}
 use Rattle.lf_server.specs.Connections.{Connects, Stays}
 use Rattle.lf_server.proofs.tcp.serve_tcp.Given as goal
