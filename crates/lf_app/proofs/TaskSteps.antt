@@ -1,5 +1,5 @@
 -- Tasks over a design that is loaded.
-use Rattle.std.proofs.Common.{◌≡◌, ◌⊎◌, arith, inl, inr, ℕ, List, Option}
+use Rattle.std.proofs.Common.{◌≡◌, ◌⊎◌, arith, inl, inr, refl, ℕ, List, Option, Some, None}
 use Rattle.std.specs.Prelude.{IfErr, IfOk, Result}
 use Rattle.std.proofs.lemmas.Result.{IfErr-weaker, IfOk-weaker}
 use Rattle.lf_floorplan.specs.declared.loaded.Loaded.{Loaded}
@@ -10,7 +10,7 @@ use Rattle.lf_app.specs.declared.faults.Exit.{Exit}
 use Rattle.lf_app.specs.declared.faults.Fault.{Fault}
 use Rattle.lf_app.specs.declared.faults.Fault.TheVariants.{Refused, File, ReadFault, WriteFault, TooManyLines, OutOfMemory, Output, Bind, Accept, Unwritten, NoRoom}
 use Rattle.lf_app.specs.Designs.{Gives}
-use Rattle.lf_app.specs.Exits.{Ends, IsOutcome, Streams}
+use Rattle.lf_app.specs.Exits.{AsksForNoFile, Ends, IsOutcome, Streams}
 use Rattle.lf_app.specs.Faults.{IsDone, IsFailure}
 
 -- what follows loading is the outcome of a task over a design
@@ -53,6 +53,16 @@ succeeds gives demo io status is = inl is.3
 succeeds gives (replay def lefs export) io status is = inl is.1
 succeeds gives (serve def lefs port connections export) io status is = inl is.1
 succeeds gives (check def lefs) io status is = is.2.done
+
+-- a job on the lines of a design that asks for no file has no path for one
+pub replay_asks : (def : List ℕ) (lefs : List (List ℕ)) (export : Option (List ℕ)) → AsksForNoFile (replay def lefs export) → export ≡ None
+replay_asks def lefs None asks = refl
+replay_asks def lefs (Some path) asks = absurd asks
+
+pub serve_asks : (def : List ℕ) (lefs : List (List ℕ)) (port connections : ℕ) (export : Option (List ℕ))
+    → AsksForNoFile (serve def lefs port connections export) → export ≡ None
+serve_asks def lefs port connections None asks = refl
+serve_asks def lefs port connections (Some path) asks = absurd asks
 
 -- 4 is the status of a check alone
 pub checked : (gives : Gives) (task : Task) (io : Streams) (status : ℕ) → IsOutcome gives (as_job task) io status → status ≡ 4 → IsCheck task

@@ -94,6 +94,12 @@ pub record IsWorked (gives : Gives) (def : List ℕ) (lefs : List (List ℕ)) (e
   pub opened : IsOpened gives def lefs text document loaded
   pub finished : IsFinished (Work loaded) export text document io
 
+-- a job that asks for no exported text
+abbrev pub AsksForNoFile : Job → Type 0
+AsksForNoFile (replay def lefs (Some path)) = ⊥
+AsksForNoFile (serve def lefs port connections (Some path)) = ⊥
+AsksForNoFile job = Unit {0}
+
 -- the outcome of a job that is done, with this status
 abbrev pub IsOutcome : Gives → Job → Streams → ℕ → Type 0
 IsOutcome gives demo io status =

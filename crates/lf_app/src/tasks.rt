@@ -1,11 +1,11 @@
 //! What the program does for a task.
 
-ghost use Rattle.std.specs.Prelude.{◌≡◌, ◌⊎◌, None, map, ⊤, IfErr, IfOk, IsTrue, OnOk};
+ghost use Rattle.std.specs.Prelude.{◌≡◌, ◌⊎◌, None, map, ⊤, IfErr, IfOk, IsTrue, OnErr, OnOk};
 ghost use Rattle.lf_command.specs.Command.{IsCheck, as_job};
 ghost use Rattle.lf_floorplan.specs.declared.loaded.Loaded.{Loaded};
 ghost use Rattle.lf_teams.specs.States.{FloorState};
 ghost use Rattle.lf_app.specs.Designs.{IsDesignFault, IsDesignOf, IsTextDesign, IsTextFault};
-ghost use Rattle.lf_app.specs.Exits.{Ends, IsAnswered, IsEarly, IsJobFault, IsJobStop, IsLinesFault, IsOutcome, IsReported, streams};
+ghost use Rattle.lf_app.specs.Exits.{AsksForNoFile, Ends, IsAnswered, IsEarly, IsJobFault, IsJobStop, IsLinesFault, IsOutcome, IsReported, streams};
 ghost use Rattle.lf_app.specs.Faults.{IsDone, IsFailure, IsReportFault};
 
 use crate::designs::{design_of_files, design_of_texts};
@@ -106,6 +106,8 @@ fn outcome<T: Texts, N: Net + AllocGlobal, E: Exports, R: Read, W: Write, F: Wri
         × (IsEarly fault → writer.new ≡ writer.old))
         (F.contents faults.old) (F.contents faults.new)) }
     ensures unread { IsCheck task.now → reader.new ≡ reader.old }
+    ensures unput { OnErr result (E.puts exports.new ≡ E.puts exports.old) }
+    ensures unasked { AsksForNoFile (as_job task.now) → exports.new ≡ exports.old }
 {
     match task {
         Task::Demo => demo(rt.alloc(), reader, writer, faults),
@@ -155,7 +157,7 @@ fn outcome<T: Texts, N: Net + AllocGlobal, E: Exports, R: Read, W: Write, F: Wri
 ///
 /// The LEF files are read in the order of the words, then the DEF file, then the design is loaded, then the port is
 /// listened on, up to the first fault; only then is the first line read, or the report made. A check reads no line. After
-/// all that has ended without a fault the exported text is written, to `exports`.
+/// all that has ended without a fault the exported text is written, to `exports`: no other text ever is.
 pub fn perform_over<T: Texts, N: Net + AllocGlobal, E: Exports, R: Read, W: Write, F: Write>(
     rt: &N,
     texts: &T,
@@ -176,6 +178,8 @@ pub fn perform_over<T: Texts, N: Net + AllocGlobal, E: Exports, R: Read, W: Writ
         (F.contents faults.old) (F.contents faults.new) result }
     ensures checked { result.status ≡ 4 → IsCheck task.now }
     ensures unread { IsCheck task.now → reader.new ≡ reader.old }
+    ensures unput { IsFailure result.status → E.puts exports.new ≡ E.puts exports.old }
+    ensures unasked { AsksForNoFile (as_job task.now) → exports.new ≡ exports.old }
 {
     match outcome(rt, texts, exports, task, reader, writer, faults) {
         Ok(status) => done(status),

@@ -1,7 +1,7 @@
 //! Work on a design: its lines are answered or its connections served, and then the text with its committed places is
 //! written if one is asked for.
 
-ghost use Rattle.std.specs.Prelude.{Some, ◌≡◌, ◌⊎◌, ◌++◌, ◌∷◌, [], ℕ, List, Option, Ok, IfErr, IfOk, IsSome, OnErr, OnOk, codes, map, option_map};
+ghost use Rattle.std.specs.Prelude.{None, Some, ◌≡◌, ◌⊎◌, ◌++◌, ◌∷◌, [], ℕ, List, Option, Ok, IfErr, IfOk, IsSome, OnErr, OnOk, codes, map, option_map};
 ghost use Rattle.std.specs.Io.KnownBytes.{Appends};
 ghost use Rattle.lf_lef.specs.Contents.{Contents};
 ghost use Rattle.lf_def.specs.Contents.{contents};
@@ -167,6 +167,8 @@ fn export_to<E: Exports, F: Write>(
     ensures kept { OnOk result (faults.new ≡ faults.old) }
     ensures err { IfErr result (Ends IsExportFault (F.contents faults.old) (F.contents faults.new)) }
     ensures asked { OnErr result (IsSome (option_map (λ path. path.now) path.entry)) }
+    ensures unput { OnErr result (E.puts exports.new ≡ E.puts exports.old) }
+    ensures unasked { option_map (λ path. path.now) path.entry ≡ None → exports.new ≡ exports.old }
 {
     let Some(path) = path else {
         return Ok(());
@@ -203,6 +205,8 @@ fn work_on_floor<N: Net + AllocGlobal, E: Exports, R: Read, W: Write, F: Write>(
         IsStopped (option_map (λ path. path.now) path.entry) lines loaded fault
         (streams (R.remaining reader.old) (R.remaining reader.new) (W.contents writer.old) (W.contents writer.new) (E.puts exports.old) (E.puts exports.new))
         × (IsEarly fault → writer.new ≡ writer.old)) (F.contents faults.old) (F.contents faults.new)) }
+    ensures unput { OnErr result (E.puts exports.new ≡ E.puts exports.old) }
+    ensures unasked { option_map (λ path. path.now) path.entry ≡ None → exports.new ≡ exports.old }
 {
     if let Err(exit) = answer(rt, floor, lines, reader, writer, faults) {
         return Err(exit);
@@ -234,6 +238,8 @@ fn work_on_document<N: Net + AllocGlobal, E: Exports, R: Read, W: Write, F: Writ
         IsStopped (option_map (λ path. path.now) path.entry) lines loaded fault
         (streams (R.remaining reader.old) (R.remaining reader.new) (W.contents writer.old) (W.contents writer.new) (E.puts exports.old) (E.puts exports.new))
         × (IsEarly fault → writer.new ≡ writer.old)) (F.contents faults.old) (F.contents faults.new)) }
+    ensures unput { OnErr result (E.puts exports.new ≡ E.puts exports.old) }
+    ensures unasked { option_map (λ path. path.now) path.entry ≡ None → exports.new ≡ exports.old }
 {
     loaded_cells_can_be_given();
     places_follow_design();
@@ -279,6 +285,8 @@ fn work_on_read<N: Net + AllocGlobal, E: Exports, R: Read, W: Write, F: Write>(
         (IsStopped (option_map (λ path. path.now) path.entry) lines) fault
         (streams (R.remaining reader.old) (R.remaining reader.new) (W.contents writer.old) (W.contents writer.new) (E.puts exports.old) (E.puts exports.new))
         × (IsEarly fault → writer.new ≡ writer.old)) (F.contents faults.old) (F.contents faults.new)) }
+    ensures unput { OnErr result (E.puts exports.new ≡ E.puts exports.old) }
+    ensures unasked { option_map (λ path. path.now) path.entry ≡ None → exports.new ≡ exports.old }
 {
     match loaded_of(rt.alloc(), library, document, faults) {
         Ok(loaded) => work_on_document(
@@ -309,6 +317,8 @@ fn work_on_text<N: Net + AllocGlobal, E: Exports, R: Read, W: Write, F: Write>(
         (IsStopped (option_map (λ path. path.now) path.entry) lines) fault
         (streams (R.remaining reader.old) (R.remaining reader.new) (W.contents writer.old) (W.contents writer.new) (E.puts exports.old) (E.puts exports.new))
         × (IsEarly fault → writer.new ≡ writer.old)) (F.contents faults.old) (F.contents faults.new)) }
+    ensures unput { OnErr result (E.puts exports.new ≡ E.puts exports.old) }
+    ensures unasked { option_map (λ path. path.now) path.entry ≡ None → exports.new ≡ exports.old }
 {
     match read_document(rt.alloc(), text, faults) {
         Ok(document) => work_on_read(
@@ -341,6 +351,8 @@ fn work_on_def<T: Texts, N: Net + AllocGlobal, E: Exports, R: Read, W: Write, F:
         (IsStopped (option_map (λ path. path.now) path.entry) lines) fault
         (streams (R.remaining reader.old) (R.remaining reader.new) (W.contents writer.old) (W.contents writer.new) (E.puts exports.old) (E.puts exports.new))
         × (IsEarly fault → writer.new ≡ writer.old)) (F.contents faults.old) (F.contents faults.new)) }
+    ensures unput { OnErr result (E.puts exports.new ≡ E.puts exports.old) }
+    ensures unasked { option_map (λ path. path.now) path.entry ≡ None → exports.new ≡ exports.old }
 {
     match read_text(texts, def, faults) {
         Ok(text) => work_on_text(
@@ -398,6 +410,8 @@ pub(crate) fn work_on_files<
         (IsStopped (option_map (λ path. path.now) path.entry) lines) fault
         (streams (R.remaining reader.old) (R.remaining reader.new) (W.contents writer.old) (W.contents writer.new) (E.puts exports.old) (E.puts exports.new))
         × (IsEarly fault → writer.new ≡ writer.old)) (F.contents faults.old) (F.contents faults.new)) }
+    ensures unput { OnErr result (E.puts exports.new ≡ E.puts exports.old) }
+    ensures unasked { option_map (λ path. path.now) path.entry ≡ None → exports.new ≡ exports.old }
 {
     match library_of(rt.alloc(), texts, lefs, faults) {
         Ok(library) => work_on_def(

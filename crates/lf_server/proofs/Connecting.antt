@@ -1,17 +1,11 @@
 -- Connections, one after the other.
-use Rattle.std.proofs.Common.{◌≡◌, ℕ, suc, ◌+◌, List, [], Option, None, true, false, refl, subst, arith}
+use Rattle.std.proofs.Common.{◌≡◌, ℕ, suc, ◌+◌, List, Option, subst, arith}
 use Rattle.lf_rules.specs.Legalizer.{Legalizer}
 use Rattle.lf_teams.specs.States.{FloorState}
 use Rattle.lf_server.specs.Connections.{Connects, HasServed}
-use Rattle.lf_server.specs.Devices.{Writer, writer}
+use Rattle.lf_server.specs.Devices.{Writer}
 use Rattle.lf_server.specs.Endings.{Serves}
-use Rattle.lf_server.specs.declared.serving.Ending.TheVariants.{Done}
 use Rattle.lf_server.specs.declared.serving.Served.{Served}
-
--- a connection of which nothing was read
-pub served_none : (l : Legalizer) (floor : FloorState) → HasServed l floor floor
-served_none l floor =
-    record { ending = Done; before = writer None true false; after = writer None true false; done = []; comes = (refl, refl) }
 
 -- a connection that was served
 pub served_by : (l : Legalizer) (limit : ℕ) (old new : FloorState) (input left : Option (List ℕ)) (before after : Writer) (served : Served)

@@ -1,6 +1,6 @@
 //! Serving connections over TCP, one after the other.
 
-ghost use Rattle.std.specs.Prelude.{◌≡◌, ◌↔◌, ◌≤◌, false};
+ghost use Rattle.std.specs.Prelude.{◌≡◌, ◌↔◌, ◌≤◌, OnErr, OnOk, false};
 ghost use Rattle.lf_rules.specs.Legalizer.{Legalizer};
 ghost use Rattle.lf_server.specs.Connections.{Connects, HasServed, Stays};
 
@@ -9,6 +9,7 @@ use crate::serving::{ServeLimits, serve};
 use lf_floor::Floor;
 use lf_legalize::Seeker;
 use std::alloc::Global;
+use std::io;
 use std::io::{Read, Write};
 use std::net::{Net, OpenListener, OpenStream};
 use std::time::Duration;
@@ -25,29 +26,46 @@ pub struct TcpServed {
     pub accept_fault: bool,
 }
 
-/// Serves one connection to its end; one that cannot be written to is not served.
+/// Serves one connection to its end, whatever that is; `Err` if it cannot be both read from and written to, and then no
+/// line of it is read.
 fn serve_stream<S: Read + Write + OpenStream + Drop, K: Seeker + Drop>(
     alloc: Global,
     floor: &mut Floor<K>,
     stream: S,
     limits: ServeLimits,
-)
-    ensures served { (l : Legalizer) → HasServed l floor.old floor.new }
+) -> io::Result<()>
+    ensures served { OnOk result ((l : Legalizer) → HasServed l floor.old floor.new) }
+    ensures kept { OnErr result (floor.new ≡ floor.old) }
     ensures stays { Stays floor.old floor.new }
 {
-    let Ok(mut replies) = stream.try_clone() else {
-        return;
-    };
+    let mut replies = stream.try_clone()?;
     let _ = stream.set_nodelay(true);
     let _ = stream.set_write_timeout(Some(Duration::from_secs(PATIENCE)));
     let mut requests = stream;
     let mut source = FromRead::new(&mut requests);
     let mut sink = ToWrite::new(&mut replies);
     serve(alloc, floor, &mut source, &mut sink, limits);
+    Ok(())
+}
+
+/// Accepts one connection and serves it to its end; `Err` if that cannot be begun, and then no line is read.
+fn serve_next<T: Net + AllocGlobal, K: Seeker + Drop>(
+    rt: &T,
+    floor: &mut Floor<K>,
+    listener: &T::Listener,
+    limits: ServeLimits,
+) -> io::Result<()>
+    ensures served { OnOk result ((l : Legalizer) → HasServed l floor.old floor.new) }
+    ensures kept { OnErr result (floor.new ≡ floor.old) }
+    ensures stays { Stays floor.old floor.new }
+{
+    let (stream, _) = listener.accept()?;
+    serve_stream(rt.alloc(), floor, stream, limits)
 }
 
 /// Accepts this many connections and serves each to its end before the next: sessions, places and commits of one remain
-/// for the next. How a connection ends plays no part; the first fault of accept ends the service.
+/// for the next. How a connection ends plays no part; the first one that cannot be accepted, or not be both read from and
+/// written to, ends the service.
 pub fn serve_tcp<T: Net + AllocGlobal, K: Seeker + Drop>(
     rt: &T,
     floor: &mut Floor<K>,
@@ -61,13 +79,15 @@ pub fn serve_tcp<T: Net + AllocGlobal, K: Seeker + Drop>(
     ensures stays { Stays floor.old floor.new }
 {
     for served in 0..connections {
-        let Ok((stream, _)) = listener.accept() else {
-            return TcpServed {
-                connections: served,
-                accept_fault: true,
-            };
-        };
-        serve_stream(rt.alloc(), floor, stream, limits);
+        match serve_next(rt, floor, listener, limits) {
+            Ok(()) => {}
+            Err(_) => {
+                return TcpServed {
+                    connections: served,
+                    accept_fault: true,
+                };
+            }
+        }
     }
     TcpServed {
         connections,

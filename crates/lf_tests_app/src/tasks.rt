@@ -18,6 +18,8 @@ use std::test::Fail;
 struct Kept<'a> {
     path: Option<&'a str>,
     text: Option<Vec<u8>>,
+    /// How often a text was to be put, whatever the path and whether it was taken.
+    asked: u32,
     alloc: Global,
 }
 
@@ -27,6 +29,7 @@ impl<'a> Kept<'a> {
         Kept {
             path,
             text: None,
+            asked: 0,
             alloc,
         }
     }
@@ -42,6 +45,7 @@ impl<'a> Kept<'a> {
 
 impl<'a> Exports for Kept<'a> {
     fn put(&mut self, path: &str, text: &[u8]) -> Result<(), Unwritten> {
+        self.asked = self.asked.saturating_add(1);
         if self.path != Some(path) {
             return Err(Unwritten::File);
         }
@@ -55,41 +59,63 @@ impl<'a> Exports for Kept<'a> {
     }
 }
 
+/// How a task ends, and how often a text was to be put into a file.
+#[derive(Clone, Copy, Debug, PartialEq, Eq)]
+struct End {
+    exit: Exit,
+    asked: u32,
+}
+
 /// Does the demo over a reader and a writer.
 fn demo<R: Read, W: Write, F: Write>(
     rt: &HostRuntime,
     reader: &mut R,
     writer: &mut W,
     faults: &mut F,
-) -> Exit {
-    let texts = FileTexts::new(rt);
+) -> End {
     let mut exports = Kept::at(rt.alloc(), None);
-    let task = Task::Demo;
-    perform_over(rt, &texts, &mut exports, &task, reader, writer, faults)
+    with_devices(rt, &[], &mut exports, &Task::Demo, reader, writer, faults)
 }
 
-/// The end of a task with this status, of which all was told.
-fn told(status: u8) -> Exit {
-    Exit {
-        status,
-        is_told: true,
+/// The end of a task with this status, of which all was told, and that was to put no text.
+fn told(status: u8) -> End {
+    End {
+        exit: Exit {
+            status,
+            is_told: true,
+        },
+        asked: 0,
     }
 }
 
 /// What a task does: how it ends, what it writes and what it tells of faults.
 #[derive(Drop)]
 struct Run {
-    exit: Exit,
+    end: End,
     written: Vec<u8>,
     faults: Vec<u8>,
 }
 
 impl Run {
-    /// Whether it ends with this status, of which all was told, writes this and tells this of faults.
-    fn is(&self, status: u8, written: &str, faults: &str) -> bool {
-        self.exit == told(status)
+    /// Whether it ends so, writes this and tells this of faults.
+    fn ends(&self, end: End, written: &str, faults: &str) -> bool {
+        self.end == end
             && self.written.as_slice() == written.as_bytes()
             && self.faults.as_slice() == faults.as_bytes()
+    }
+
+    /// Whether it ends with this status, of which all was told, without a text to put, writes this and tells this of faults.
+    fn is(&self, status: u8, written: &str, faults: &str) -> bool {
+        self.ends(told(status), written, faults)
+    }
+
+    /// The same of a task that was to put one text.
+    fn is_put(&self, status: u8, written: &str, faults: &str) -> bool {
+        let end = End {
+            asked: 1,
+            ..told(status)
+        };
+        self.ends(end, written, faults)
     }
 }
 
@@ -97,9 +123,9 @@ impl Run {
 fn demo_of<R: Read>(rt: &HostRuntime, reader: &mut R) -> Run {
     let mut written = Vec::new(rt.alloc());
     let mut faults = Vec::new(rt.alloc());
-    let exit = demo(rt, reader, &mut written, &mut faults);
+    let end = demo(rt, reader, &mut written, &mut faults);
     Run {
-        exit,
+        end,
         written,
         faults,
     }
@@ -155,8 +181,8 @@ impl Write for Failing {
 /// Whether the demo over these ends with status 3 and this line of a fault.
 fn fails<R: Read, W: Write>(rt: &HostRuntime, reader: &mut R, writer: &mut W, fault: &str) -> bool {
     let mut faults = Vec::new(rt.alloc());
-    let exit = demo(rt, reader, writer, &mut faults);
-    exit == told(3) && faults.as_slice() == fault.as_bytes()
+    let end = demo(rt, reader, writer, &mut faults);
+    end == told(3) && faults.as_slice() == fault.as_bytes()
 }
 
 #[test]
@@ -170,12 +196,15 @@ fn a_device_that_fails_ends_the_demo(rt: HostRuntime) {
 #[test]
 fn a_fault_that_cannot_be_told_is_no_further_fault(rt: HostRuntime) {
     let mut written = Vec::new(rt.alloc());
-    let exit = demo(&rt, &mut Failing, &mut written, &mut Failing);
-    let untold = Exit {
-        status: 3,
-        is_told: false,
+    let end = demo(&rt, &mut Failing, &mut written, &mut Failing);
+    let untold = End {
+        exit: Exit {
+            status: 3,
+            is_told: false,
+        },
+        asked: 0,
     };
-    assert_eq!(rt; exit, untold);
+    assert_eq!(rt; end, untold);
 }
 
 /// Does the task over the files on the shelf, with these devices and exported texts kept in memory.
@@ -187,13 +216,17 @@ fn with_devices<R: Read, W: Write, F: Write>(
     reader: &mut R,
     writer: &mut W,
     faults: &mut F,
-) -> Exit {
+) -> End {
     let shelf = Shelf {
         alloc: rt.alloc(),
         files,
     };
     let texts = FileTexts::new(&shelf);
-    perform_over(rt, &texts, exports, task, reader, writer, faults)
+    let exit = perform_over(rt, &texts, exports, task, reader, writer, faults);
+    End {
+        exit,
+        asked: exports.asked,
+    }
 }
 
 /// Does the task over the files on the shelf, with exported texts kept in memory.
@@ -206,9 +239,9 @@ fn exporting<R: Read>(
 ) -> Run {
     let mut written = Vec::new(rt.alloc());
     let mut faults = Vec::new(rt.alloc());
-    let exit = with_devices(rt, files, exports, task, reader, &mut written, &mut faults);
+    let end = with_devices(rt, files, exports, task, reader, &mut written, &mut faults);
     Run {
-        exit,
+        end,
         written,
         faults,
     }
@@ -445,8 +478,8 @@ fn logs<R: Read>(rt: &HostRuntime, reader: &mut R, status: u8, taken: &str) -> b
     let mut log = Log {
         taken: Vec::new(rt.alloc()),
     };
-    let exit = demo(rt, reader, &mut log, &mut faults);
-    exit == told(status) && log.taken.as_slice() == taken.as_bytes()
+    let end = demo(rt, reader, &mut log, &mut faults);
+    end == told(status) && log.taken.as_slice() == taken.as_bytes()
 }
 
 #[test]
@@ -464,7 +497,7 @@ fn is_output_fault<W: Write>(rt: &HostRuntime, task: &Task<'_>, writer: &mut W) 
     let files = files_of(W_DEF);
     let mut exports = Kept::at(rt.alloc(), None);
     let mut faults = Vec::new(rt.alloc());
-    let exit = with_devices(
+    let end = with_devices(
         rt,
         files.as_slice(),
         &mut exports,
@@ -473,7 +506,7 @@ fn is_output_fault<W: Write>(rt: &HostRuntime, task: &Task<'_>, writer: &mut W) 
         writer,
         &mut faults,
     );
-    exit == told(3) && faults.as_slice() == b"lefence: Output\n".as_slice()
+    end == told(3) && faults.as_slice() == b"lefence: Output\n".as_slice()
 }
 
 #[test]
@@ -508,7 +541,7 @@ fn exports_text(
     let mut exports = Kept::at(rt.alloc(), Some("new.def"));
     let mut reader = lines.as_bytes();
     let run = exporting(rt, &files_of(W_DEF), &mut exports, &task, &mut reader);
-    Ok(run.is(0, replies, "") && exports.holds(text))
+    Ok(run.is_put(0, replies, "") && exports.holds(text))
 }
 
 #[test]
@@ -535,7 +568,7 @@ fn what_works_alone_is_not_exported(rt: HostRuntime) -> Result<(), Fail> {
 fn an_export_that_cannot_be_written_is_a_fault(rt: HostRuntime) -> Result<(), Fail> {
     let task = exporting_replay(rt.alloc())?;
     let run = done(&rt, &files_of(W_DEF), &task, "open A\n");
-    assert!(rt; run.is(3, "ok 0 0\n", "lefence: File\n"));
+    assert!(rt; run.is_put(3, "ok 0 0\n", "lefence: File\n"));
     Ok(())
 }
 
@@ -546,7 +579,7 @@ fn exports_nothing(rt: &HostRuntime, task: &Task<'_>) -> bool {
         bytes: COMMITTED.as_bytes(),
     };
     let run = exporting(rt, &files_of(W_DEF), &mut exports, task, &mut reader);
-    run.exit == told(3)
+    run.end == told(3)
         && run.faults.as_slice() == b"lefence: ReadFault\n".as_slice()
         && exports.text.is_none()
 }

@@ -2,7 +2,8 @@ use Rattle.std.proofs.Common.{◌≡◌, ◌∙◌, ℕ, List, ap, map, subst, s
 use Rattle.std.specs.Borrow.{Bor}
 use Rattle.std.specs.Prelude.{IfErr, IfOk, option_map}
 use Rattle.lf_command.specs.Command.{Job, as_job, check, replay, serve}
-use Rattle.lf_app.specs.Exits.{Ends, IsEarly, IsJobFault, IsOutcome, streams}
+use Rattle.lf_app.specs.Exits.{AsksForNoFile, Ends, IsEarly, IsJobFault, IsOutcome, streams}
+use Rattle.lf_app.proofs.TaskSteps.{replay_asks, serve_asks}
 use Rattle.lf_app.proofs.tasks.outcome.Goals as goal
 
 pub returns-in-Replay-clause-ok : goal.returns-in-Replay-clause-ok
@@ -61,3 +62,22 @@ returns-in-Check-clause-err g c =
     (g.E.Exports.puts c.args.exports.now) (g.E.Exports.puts c.args.exports.now))
     × (IsEarly fault → c.check.new.writer ≡ c.args.writer.now))
     (g.F.Write.contents c.args.faults.now) (g.F.Write.contents c.check.new.faults))) job c.check.ensures.err
+
+pub returns-in-Replay-clause-unasked : goal.returns-in-Replay-clause-unasked
+returns-in-Replay-clause-unasked g c = λ asks.
+    let def = c.in-Replay.def.now in
+    let lefs = map (λ lef. lef.now) c.as_slice.result.now in
+    let export = option_map (λ path. path.now) c.in-Replay.export in
+    let job : replay def lefs export ≡ as_job c.args.task.now =
+    ap (λ (lefs : List (Bor (List ℕ))). replay def (map (λ lef. lef.now) lefs) export) c.as_slice.ensures ∙ sym (ap as_job c.in-Replay.is) in
+    c.work_on_files.ensures.unasked (replay_asks def lefs export (subst AsksForNoFile (sym job) asks))
+
+pub returns-in-Serve-clause-unasked : goal.returns-in-Serve-clause-unasked
+returns-in-Serve-clause-unasked g c = λ asks.
+    let def = c.in-Serve.def.now in
+    let lefs = map (λ lef. lef.now) c.as_slice-in-Serve.result.now in
+    let export = option_map (λ path. path.now) c.in-Serve.export in
+    let job : serve def lefs c.in-Serve.port c.in-Serve.connections export ≡ as_job c.args.task.now =
+    ap (λ (lefs : List (Bor (List ℕ))). serve def (map (λ lef. lef.now) lefs) c.in-Serve.port c.in-Serve.connections export) c.as_slice-in-Serve.ensures
+    ∙ sym (ap as_job c.in-Serve.is) in
+    c.work_on_files-in-Serve.ensures.unasked (serve_asks def lefs c.in-Serve.port c.in-Serve.connections export (subst AsksForNoFile (sym job) asks))

@@ -23,6 +23,8 @@ returns-in-Ok g c =
       fault = λ failed. absurd (not_both status succeeded failed);
       checked = checked gives c.args.task.now io status is;
       unread = c.in-Ok.ensures.unread;
+      unput = λ failed. absurd (not_both status succeeded failed);
+      unasked = c.in-Ok.ensures.unasked;
     }
 
 pub returns-in-Err : goal.returns-in-Err
@@ -42,4 +44,6 @@ returns-in-Err g c =
       fault = λ _. c.in-Err.ensures.err;
       checked = λ four. absurd (not_both status (inr four) failed);
       unread = c.in-Err.ensures.unread;
+      unput = λ _. c.in-Err.ensures.unput;
+      unasked = c.in-Err.ensures.unasked;
     }

@@ -1,8 +1,5 @@
-use Rattle.lf_server.proofs.Connecting.{served_by, served_none}
+use Rattle.lf_server.proofs.Connecting.{served_by}
 use Rattle.lf_server.proofs.tcp.serve_stream.Goals as goal
-
-pub returns-in_default-clause-served : goal.returns-in_default-clause-served
-returns-in_default-clause-served g c = λ l. served_none l c.args.floor.now
 
 pub returns-clause-served : goal.returns-clause-served
 returns-clause-served g c = λ l.
