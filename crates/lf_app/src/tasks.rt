@@ -5,6 +5,7 @@ ghost use Rattle.lf_command.specs.Command.{IsCheck, as_job};
 ghost use Rattle.lf_floorplan.specs.declared.loaded.Loaded.{Loaded};
 ghost use Rattle.lf_teams.specs.States.{FloorState};
 ghost use Rattle.lf_app.specs.Designs.{IsDesignFault, IsDesignOf, IsTextDesign, IsTextFault};
+ghost use Rattle.lf_app.specs.declared.faults.Exit.{Exit};
 ghost use Rattle.lf_app.specs.Exits.{AsksForNoFile, Ends, IsAnswered, IsEarly, IsJobFault, IsJobStop, IsLinesFault, IsOutcome, IsReported, streams};
 ghost use Rattle.lf_app.specs.Faults.{IsDone, IsFailure, IsReportFault};
 
@@ -199,6 +200,10 @@ pub fn perform<T: Files + Net + AllocGlobal, R: Read, W: Write, F: Write>(
     ensures outcome { IsDone result → IsOutcome (λ path text. ⊤) (as_job task.now)
         (streams (R.remaining reader.old) (R.remaining reader.new) (W.contents writer.old) (W.contents writer.new) None None) result }
     ensures done { IsDone result → faults.new ≡ faults.old }
+    ensures fault { IsFailure result → (exit : Exit) × (exit.status ≡ result) × Ends (λ fault. IsJobFault (λ path text. ⊤) (as_job task.now) fault
+        (streams (R.remaining reader.old) (R.remaining reader.new) (W.contents writer.old) (W.contents writer.new) None None)
+        × (IsEarly fault → writer.new ≡ writer.old))
+        (F.contents faults.old) (F.contents faults.new) exit }
     ensures checked { result ≡ 4 → IsCheck task.now }
     ensures unread { IsCheck task.now → reader.new ≡ reader.old }
 {
