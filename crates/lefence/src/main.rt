@@ -1,22 +1,14 @@
 //! The program `lefence`: it passes its words and the standard streams to `lf_app`.
 #![tactic(auto)]
 
-use lf_app::UsageFault;
+mod help;
+
+use crate::help::{USAGE, texts_of};
+use lf_app::{Help, UsageFault};
 use std::alloc::{AllocError, Global};
 use std::io;
+use std::io::Write;
 use std::process::ExitCode;
-
-/// What the program can be asked, printed after the line of a usage fault.
-const USAGE: &str =
-    "  lefence [demo]                answers the lines of standard input over the built-in design
-  lefence check DEF LEF...      writes a report of the design
-  lefence replay DEF LEF... [--export FILE]
-                                answers the lines of standard input over the design; then its text, with the
-                                committed places in it, goes to FILE
-  lefence serve DEF LEF... --port P --connections N [--export FILE]
-                                answers the lines of N connections to port P of this machine, one after the other
-  (a path that begins with '-' stands behind '--'; docs/PROTOCOL.md says more)
-";
 
 /// The exit status if the words name no task, or an allocation for them failed.
 fn usage_status(fault: &UsageFault) -> u8 {
@@ -51,11 +43,42 @@ fn lent(alloc: Global, words: &[String]) -> Result<Vec<&str>, UsageFault> {
     Ok(texts)
 }
 
+/// Writes what was asked of the program to standard output.
+fn put_help(rt: &HostRuntime, help: Help) -> io::Result<()> {
+    let mut writer = io::writer(rt);
+    for text in texts_of(help) {
+        writer.write_all(text.as_bytes())?;
+    }
+    writer.flush()
+}
+
+/// Says what was asked of the program, and returns the exit status.
+fn show(rt: &HostRuntime, help: Help) -> u8 {
+    match put_help(rt, help) {
+        Ok(()) => 0,
+        Err(_) => {
+            let _ = eprintln!(rt; "lefence: Output");
+            3
+        }
+    }
+}
+
+/// What words do that name no task: they ask for help, or are at fault.
+fn answer(rt: &HostRuntime, words: &[&str], fault: UsageFault) -> Result<u8, UsageFault> {
+    match lf_app::help_of(words) {
+        Some(help) if matches!(fault, UsageFault::Usage) => Ok(show(rt, help)),
+        _ => Err(fault),
+    }
+}
+
 /// Does the task that the words name, and returns the exit status.
 fn run(rt: &HostRuntime) -> Result<u8, UsageFault> {
     let words = words(rt)?;
     let texts = lent(rt.alloc(), words.as_slice())?;
-    let task = lf_app::command_of(rt.alloc(), texts.as_slice())?;
+    let task = match lf_app::command_of(rt.alloc(), texts.as_slice()) {
+        Ok(task) => task,
+        Err(fault) => return answer(rt, texts.as_slice(), fault),
+    };
     let mut reader = rt.reader();
     let mut writer = io::writer(rt);
     let mut faults = rt.stderr();

@@ -10,7 +10,7 @@ mod texts;
 mod work;
 
 pub use faults::{Exit, Fault, status_of, write_fault};
-pub use lf_command::{Task, UsageFault, command_of};
+pub use lf_command::{Help, Task, UsageFault, command_of, help_of};
 pub use lines::answer_lines;
 pub use tasks::{perform, perform_over};
 pub use texts::{FileTexts, Texts, Unread};

@@ -7,11 +7,18 @@ use itoa::Buffer;
 use std::alloc::Global;
 use std::fs::{File, OpenFile, OpenOptions};
 use std::io::{ErrorKind, Write};
+use std::path::Path;
 use std::rt::Files;
 use std::{fs, io};
 
 /// How many names are tried for the new file.
 const TRIES: u32 = 1_000;
+
+/// How many links are followed.
+const LINKS: u32 = 40;
+
+/// What leads to the file that standard output goes to.
+const OUTPUT: &str = "/proc/self/fd/1";
 
 /// What was found; none if the file is not there or cannot be looked at; `Err` if an allocation failed.
 fn found<T: Drop>(outcome: io::Result<T>) -> io::Result<Option<T>> {
@@ -36,12 +43,54 @@ pub(crate) fn write_through<T: Files>(files: &T, path: &str, text: &[u8]) -> io:
     file.write_all(text)
 }
 
-/// The path itself, or the one that it leads to by links, if there is a file.
+/// The path that a link of that name leads to.
+fn led_to(alloc: Global, link: &str, named: &str) -> io::Result<String> {
+    match Path::new(link).parent() {
+        Some(folder) => Ok(String::from_str(alloc, folder.join(alloc, named)?.as_str())?),
+        None => Ok(String::from_str(alloc, named)?),
+    }
+}
+
+/// The path that one comes to by links, whether a file is there or not; `Err` where they go round.
+fn followed<T: Files + AllocGlobal>(rt: &T, path: &str) -> io::Result<String> {
+    let mut at = String::from_str(rt.alloc(), path)?;
+    for _ in 0..LINKS {
+        match found(fs::read_link(rt, at.as_str()))? {
+            Some(named) => at = led_to(rt.alloc(), &at, named.as_str())?,
+            None => return Ok(at),
+        }
+    }
+    Err(io::Error::from(ErrorKind::Other))
+}
+
+/// The path of the file itself, to which links may lead.
 fn target_of<T: Files + AllocGlobal>(rt: &T, path: &str) -> io::Result<String> {
     match found(fs::canonicalize(rt, path))? {
         Some(target) => Ok(String::from_str(rt.alloc(), target.as_str())?),
-        None => Ok(String::from_str(rt.alloc(), path)?),
+        None => followed(rt, path),
     }
+}
+
+/// Whether standard output goes to the file of that path, as far as the system tells.
+fn is_output<T: Files + AllocGlobal>(rt: &T, target: &str) -> io::Result<bool> {
+    match found(fs::canonicalize(rt, OUTPUT))? {
+        Some(output) => Ok(output.as_str() == target),
+        None => Ok(false),
+    }
+}
+
+/// Writes the text to the file, and makes sure that it is stored.
+fn store<T: Files>(file: &mut T::File, text: &[u8]) -> io::Result<()>
+    ensures { OnOk result (Appends (⟦<T::File as Write>⟧.contents file.old) (⟦<T::File as Write>⟧.contents file.new) text.now) }
+{
+    file.write_all(text)?;
+    file.sync_all()
+}
+
+/// Stores the text behind what the file holds.
+fn store_behind<T: Files>(files: &T, path: &str, text: &[u8]) -> io::Result<()> {
+    let mut file = OpenOptions::new().append(true).open(files, path)?;
+    store::<T>(&mut file, text)
 }
 
 /// The name of a new file beside the target.
@@ -52,15 +101,14 @@ fn name_beside(alloc: Global, target: &str, number: u32) -> io::Result<String> {
     Ok(name)
 }
 
-/// Writes the text to the new file, makes sure that it is stored, and gives the file the older one's permissions.
+/// Gives the new file the older one's permissions, and stores the text in it.
 fn fill<T: Files>(files: &T, target: &str, file: &mut T::File, text: &[u8]) -> io::Result<()>
     ensures { OnOk result (Appends (⟦<T::File as Write>⟧.contents file.old) (⟦<T::File as Write>⟧.contents file.new) text.now) }
 {
-    file.write_all(text)?;
     if let Some(older) = found(fs::metadata(files, target))? {
         file.set_permissions(older.permissions())?;
     }
-    file.sync_all()
+    store::<T>(file, text)
 }
 
 /// Fills the new file of that name and renames it; if that fails, the new file is removed.
@@ -85,9 +133,13 @@ fn fill_and_rename<T: Files>(
 }
 
 /// Writes the text to a new file beside the target, and gives it the target's name: what had that name before is replaced
-/// at once, and unchanged if anything fails.
+/// at once, and unchanged if anything fails. Where standard output goes to that file, the text goes behind what was written
+/// there.
 pub(crate) fn replace<T: Files + AllocGlobal>(rt: &T, path: &str, text: &[u8]) -> io::Result<()> {
     let target = target_of(rt, path)?;
+    if is_output(rt, &target)? {
+        return store_behind(rt, &target, text);
+    }
     for number in 0..TRIES {
         let name = name_beside(rt.alloc(), &target, number)?;
         match File::create_new(rt, &name) {

@@ -1,0 +1,70 @@
+//! What the program says of itself.
+
+use lf_app::Help;
+
+/// What the program can be asked.
+pub(crate) const USAGE: &str =
+    "  lefence [demo]                answers the lines of standard input over the built-in design
+  lefence check DEF LEF...      writes a report of the design
+  lefence replay DEF LEF... [--export FILE]
+                                answers the lines of standard input over the design; then its text, with the
+                                committed places in it, goes to FILE
+  lefence serve DEF LEF... --port P --connections N [--export FILE]
+                                answers the lines of N connections to port P of this machine, one after the other
+  (a path that begins with '-' stands behind '--'; docs/PROTOCOL.md says more)
+";
+
+/// What follows the usage where it was asked for.
+const MORE: &str = "
+  lefence demo --help           and so for each of the others: what it does, with an example
+  lefence --version             the version
+";
+
+const VERSION: &str = "lefence 0.1.0 for LEF and DEF 5.8\n";
+
+const DEMO: &str = "lefence [demo]
+
+Answers the lines of standard input over the built-in design, one reply to each line.
+
+example:
+  printf 'open A\\nplace A 0 a1 0 0 N\\nwhere A 0 a1\\n' | lefence demo
+";
+
+const CHECK: &str = "lefence check DEF LEF...
+
+Writes a report of the design as one line of JSON: how many cells there are, how many are unplaced, which break
+which rule, which overlap which. The exit status is 0 if the design is fully legal, and 4 if it is not.
+
+example:
+  lefence check chip.def tech.lef cells.lef
+";
+
+const REPLAY: &str = "lefence replay DEF LEF... [--export FILE]
+
+Answers the lines of standard input over the design, one reply to each line, to the end of the input or a line
+'bye'. With --export, the DEF text with the committed places in it then goes to FILE; all else in it stays.
+
+example:
+  lefence replay chip.def tech.lef cells.lef --export new.def < session.txt
+";
+
+const SERVE: &str = "lefence serve DEF LEF... --port P --connections N [--export FILE]
+
+Listens on port P (1 to 65535) of 127.0.0.1, writes a line 'listening', and answers the lines of N connections
+(1 to 1000000), one after the other. With --export, the DEF text with the committed places in it then goes to FILE.
+
+example:
+  lefence serve chip.def tech.lef cells.lef --port 5800 --connections 100 --export new.def
+";
+
+/// The texts of what was asked, one behind the other.
+pub(crate) fn texts_of(help: Help) -> [&'static str; 2] {
+    match help {
+        Help::Program => [USAGE, MORE],
+        Help::Version => [VERSION, ""],
+        Help::Demo => [DEMO, ""],
+        Help::Check => [CHECK, ""],
+        Help::Replay => [REPLAY, ""],
+        Help::Serve => [SERVE, ""],
+    }
+}

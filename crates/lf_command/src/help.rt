@@ -1,0 +1,59 @@
+//! Words that ask what the program can be asked.
+
+ghost use Rattle.std.specs.Prelude.{◌≡◌, ◌∷◌, [], map};
+ghost use Rattle.lf_command.specs.Help.{help_asked, topic_named};
+
+/// What the words ask to be told.
+#[derive(Clone, Copy, Debug, PartialEq, Eq)]
+pub enum Help {
+    /// What the program can be asked.
+    Program,
+    /// Its version.
+    Version,
+    /// What `demo` does.
+    Demo,
+    /// What `check` does.
+    Check,
+    /// What `replay` does.
+    Replay,
+    /// What `serve` does.
+    Serve,
+}
+
+/// What the subcommand of that word does.
+fn topic_named(word: &str) -> Option<Help>
+    ensures { result ≡ topic_named word.now }
+{
+    match word {
+        "demo" => Some(Help::Demo),
+        "check" => Some(Help::Check),
+        "replay" => Some(Help::Replay),
+        "serve" => Some(Help::Serve),
+        _ => None,
+    }
+}
+
+/// What the one word behind the program's name asks to be told.
+fn program_topic(word: &str) -> Option<Help>
+    ensures { result ≡ help_asked ([] ∷ word.now ∷ []) }
+{
+    match word {
+        "--help" => Some(Help::Program),
+        "--version" => Some(Help::Version),
+        _ => None,
+    }
+}
+
+/// What the words ask to be told, of which the first is the program's name: it is followed by `--help` or `--version` alone,
+/// or by a subcommand and `--help`. None for all other words.
+pub fn help_of(words: &[&str]) -> Option<Help>
+    ensures { result ≡ help_asked (map (λ word. word.now) words.now) }
+{
+    if words.len() == 2 {
+        return program_topic(words[1]);
+    }
+    if words.len() == 3 && words[2] == "--help" {
+        return topic_named(words[1]);
+    }
+    None
+}
