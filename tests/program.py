@@ -2,17 +2,76 @@
 
 from __future__ import annotations
 
+import os
+import socket
+import struct
 import subprocess
+import threading
 from pathlib import Path
+from typing import IO
 
 TESTS = Path(__file__).resolve().parent
 PROGRAM = TESTS.parent / "crates/lefence/out/lefence"
 DEF = TESTS / "data/w.def"
 LEF = TESTS / "data/w.lef"
+# The paths of the small design, as words of a command line.
+DESIGN = [str(DEF), str(LEF)]
+# Seconds after which a test gives up waiting.
+PATIENCE = 30
 
 
-class Session:
-    """A running program that is sent a line and gives its reply."""
+def run(words: list[str], lines: str | bytes = "", **options: object) -> tuple[int, str, str]:
+    """Runs the program with these words over these lines to its end: its status, and what it wrote on both streams."""
+    ends: dict[str, object] = {"stdout": subprocess.PIPE, "stderr": subprocess.PIPE, "timeout": PATIENCE, **options}
+    if "stdin" not in ends:
+        ends["input"] = lines if isinstance(lines, bytes) else lines.encode()
+    ran = subprocess.run([str(PROGRAM), *words], **ends)  # type: ignore[call-overload]
+    return ran.returncode, (ran.stdout or b"").decode(), (ran.stderr or b"").decode()
+
+
+def preloading(source: str, folder: Path) -> dict[str, str]:
+    """An environment in which a program loads the library of that C text of tests/, which is made in the folder."""
+    library = folder / source.replace(".c", ".so")
+    subprocess.run(["cc", "-O2", "-fPIC", "-shared", "-o", str(library), str(TESTS / source), "-ldl"], check=True)
+    return {**os.environ, "LD_PRELOAD": str(library)}
+
+
+class Talk:
+    """Lines that are sent to a running program, and its replies."""
+
+    def __init__(self, lines: IO[bytes], replies: IO[bytes]) -> None:
+        self.lines = lines
+        self.replies = replies
+
+    def send(self, text: bytes) -> None:
+        self.lines.write(text)
+        self.lines.flush()
+
+    def reply(self, line: str) -> str:
+        """The next reply, which is one to this line; of `def` with the text behind it."""
+        reply = self.replies.readline().decode()
+        verb = line.split()[0] if line.split() else ""
+        if verb == "def" and reply.startswith("ok "):
+            reply += self.replies.read(int(reply.split()[1])).decode()
+        return reply.removesuffix("\n")
+
+    def ask(self, line: str) -> str:
+        """The reply to a line."""
+        self.send(line.encode() + b"\n")
+        return self.reply(line)
+
+    def ask_all(self, lines: list[str]) -> list[str]:
+        """The replies to many lines, which are sent without waiting for replies."""
+        text = "".join(f"{line}\n" for line in lines).encode()
+        sender = threading.Thread(target=self.send, args=(text,))
+        sender.start()
+        replies = [self.reply(line) for line in lines]
+        sender.join()
+        return replies
+
+
+class Session(Talk):
+    """A running program that is sent a line over a pipe and gives its reply."""
 
     def __init__(self, words: list[str], environment: dict[str, str] | None = None) -> None:
         self.process = subprocess.Popen(
@@ -22,25 +81,86 @@ class Session:
             stdout=subprocess.PIPE,
             stderr=subprocess.PIPE,
         )
-
-    def ask(self, line: str) -> str:
-        """The reply to a line; of `def` with the text behind it."""
         assert self.process.stdin and self.process.stdout
-        self.process.stdin.write(line.encode() + b"\n")
-        self.process.stdin.flush()
-        reply = self.process.stdout.readline().decode()
-        verb = line.split()[0] if line.split() else ""
-        if verb == "def" and reply.startswith("ok "):
-            reply += self.process.stdout.read(int(reply.split()[1])).decode()
-        return reply.removesuffix("\n")
+        super().__init__(self.process.stdin, self.process.stdout)
 
     def end(self) -> tuple[int, str]:
         """Ends the input; the exit status and what was written on standard error."""
-        assert self.process.stdin and self.process.stdout and self.process.stderr
-        self.process.stdin.close()
-        self.process.stdout.read()
+        assert self.process.stderr
+        self.lines.close()
+        self.replies.read()
         said = self.process.stderr.read().decode()
         status = self.process.wait()
-        self.process.stdout.close()
+        self.replies.close()
         self.process.stderr.close()
         return status, said
+
+
+class Client(Talk):
+    """A connection to a service."""
+
+    def __init__(self, port: int) -> None:
+        self.socket = socket.create_connection(("127.0.0.1", port), timeout=PATIENCE)
+        self.socket.setsockopt(socket.IPPROTO_TCP, socket.TCP_NODELAY, 1)
+        super().__init__(self.socket.makefile("wb"), self.socket.makefile("rb"))
+
+    def __enter__(self) -> Client:
+        return self
+
+    def __exit__(self, *_: object) -> None:
+        self.close()
+
+    def rest(self) -> str:
+        """Ends what is sent, and returns all replies that are left."""
+        self.socket.shutdown(socket.SHUT_WR)
+        return self.replies.read().decode()
+
+    def close(self) -> None:
+        self.lines.close()
+        self.replies.close()
+        self.socket.close()
+
+    def reset(self) -> None:
+        """Breaks the connection off: what is on its way in either direction is lost."""
+        self.socket.setsockopt(socket.SOL_SOCKET, socket.SO_LINGER, struct.pack("ii", 1, 0))
+        self.close()
+
+
+def free_port() -> int:
+    """A port that nobody listens on."""
+    with socket.socket() as free:
+        free.bind(("127.0.0.1", 0))
+        port: int = free.getsockname()[1]
+        return port
+
+
+class Service:
+    """A running program that serves connections to a port; at the end of the block it is stopped if it still runs."""
+
+    def __init__(self, connections: int, words: list[str] | None = None, environment: dict[str, str] | None = None) -> None:
+        self.port = free_port()
+        bounds = ["--port", str(self.port), "--connections", str(connections)]
+        self.process = subprocess.Popen(
+            [str(PROGRAM), "serve", *(words or DESIGN), *bounds],
+            env=environment,
+            stdout=subprocess.PIPE,
+            stderr=subprocess.PIPE,
+        )
+        assert self.process.stdout
+        self.first = self.process.stdout.readline().decode()
+
+    def __enter__(self) -> Service:
+        return self
+
+    def __exit__(self, *_: object) -> None:
+        if self.process.poll() is None:
+            self.process.kill()
+        self.process.communicate()
+
+    def client(self) -> Client:
+        return Client(self.port)
+
+    def end(self) -> tuple[int, str, str]:
+        """Waits for the end: the exit status, and what was written on both streams."""
+        written, said = self.process.communicate(timeout=PATIENCE)
+        return self.process.returncode, self.first + written.decode(), said.decode()

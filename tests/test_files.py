@@ -1,0 +1,239 @@
+"""Where `--export` writes: the bytes, the mode, what else stands in the folder, the status and the message.
+
+No contract knows what files hold.
+"""
+
+from __future__ import annotations
+
+import os
+import resource
+import signal
+import stat
+import subprocess
+import tempfile
+import unittest
+from pathlib import Path
+
+from program import DEF, DESIGN, LEF, Service, Session, preloading, run
+
+# A session that places and commits the three cells of team A, and its replies.
+LINES = "open A\nplace A 0 a1 0 0 N\nplace A 0 a2 400 0 N\nplace A 0 a3 800 0 N\ncommit A 0\n"
+REPLIES = "ok 0 0\nok 1\nok 2\nok 3\nok 4\n"
+# The text that is exported then.
+EXPORTED = (
+    DEF.read_text()
+    .replace("- a1 INV + SOURCE DIST ;", "- a1 INV + SOURCE DIST + PLACED ( 0 0 ) N ;")
+    .replace("- a2 INV + UNPLACED ;", "- a2 INV + PLACED ( 400 0 ) N ;")
+    .replace("- a3 DBL + WEIGHT 3 ;", "- a3 DBL + WEIGHT 3 + PLACED ( 800 0 ) N ;")
+)
+DONE = (0, REPLIES, "")
+UNWRITTEN = (3, "lefence: File\n")
+
+
+def small_files() -> None:
+    """Before the program begins: no file may grow beyond 100 bytes, and a write beyond fails."""
+    signal.signal(signal.SIGXFSZ, signal.SIG_IGN)
+    resource.setrlimit(resource.RLIMIT_FSIZE, (100, 100))
+
+
+class InFolder(unittest.TestCase):
+    """Tests in a folder of their own."""
+
+    def setUp(self) -> None:
+        folder = tempfile.TemporaryDirectory(prefix="lefence-files-")
+        self.addCleanup(folder.cleanup)
+        self.folder = Path(folder.name).resolve()
+        self.target = self.folder / "new.def"
+
+    def export(self, target: Path | str, **options: object) -> tuple[int, str, str]:
+        return run(["replay", *DESIGN, "--export", str(target)], LINES, **options)
+
+    def names(self) -> list[str]:
+        """What stands in the folder."""
+        return sorted(path.name for path in self.folder.iterdir())
+
+    def mode(self, path: Path) -> int:
+        return stat.S_IMODE(path.stat().st_mode)
+
+
+class Exported(InFolder):
+    """Exports that are written."""
+
+    def test_to_a_new_file(self) -> None:
+        self.assertEqual(self.export(self.target, umask=0o027), DONE)
+        self.assertEqual(self.target.read_text(), EXPORTED)
+        self.assertEqual(self.mode(self.target), 0o640)
+        self.assertEqual(self.names(), ["new.def"])
+
+    def test_over_files_that_are_longer_shorter_or_empty(self) -> None:
+        for older in ("older\n" * 1_000, "o", ""):
+            with self.subTest(len(older)):
+                self.target.write_text(older)
+                self.assertEqual(self.export(self.target), DONE)
+                self.assertEqual(self.target.read_text(), EXPORTED)
+                self.assertEqual(self.names(), ["new.def"])
+
+    def test_over_a_file_that_keeps_its_mode(self) -> None:
+        for mode in (0o640, 0o600, 0o664):
+            with self.subTest(oct(mode)):
+                self.target.write_text("older")
+                self.target.chmod(mode)
+                self.assertEqual(self.export(self.target, umask=0o022), DONE)
+                self.assertEqual((self.target.read_text(), self.mode(self.target)), (EXPORTED, mode))
+
+    def test_over_the_def_text_itself(self) -> None:
+        self.target.write_bytes(DEF.read_bytes())
+        ran = run(["replay", str(self.target), str(LEF), "--export", str(self.target)], LINES)
+        self.assertEqual(ran, DONE)
+        self.assertEqual(self.target.read_text(), EXPORTED)
+        self.assertEqual(self.names(), ["new.def"])
+
+    def test_by_a_relative_path(self) -> None:
+        self.assertEqual(self.export("new.def", cwd=self.folder), DONE)
+        self.assertEqual(self.target.read_text(), EXPORTED)
+        self.assertEqual(self.names(), ["new.def"])
+
+    def test_through_a_link_replaces_the_file_that_it_names(self) -> None:
+        within = self.folder / "within"
+        within.mkdir()
+        (within / "real.def").write_text("older")
+        (within / "real.def").chmod(0o640)
+        self.target.symlink_to("within/real.def")
+        self.assertEqual(self.export(self.target), DONE)
+        self.assertTrue(self.target.is_symlink())
+        self.assertEqual(os.readlink(self.target), "within/real.def")
+        self.assertFalse((within / "real.def").is_symlink())
+        self.assertEqual(((within / "real.def").read_text(), self.mode(within / "real.def")), (EXPORTED, 0o640))
+        self.assertEqual((self.names(), os.listdir(within)), (["new.def", "within"], ["real.def"]))
+
+    def test_beside_temporary_files_that_were_left(self) -> None:
+        left = self.folder / "new.def.partial0"
+        left.write_text("left")
+        self.assertEqual(self.export(self.target), DONE)
+        self.assertEqual((self.target.read_text(), left.read_text()), (EXPORTED, "left"))
+        self.assertEqual(self.names(), ["new.def", "new.def.partial0"])
+
+    def test_what_holds_the_older_file_keeps_the_older_text(self) -> None:
+        self.target.write_text("older")
+        os.link(self.target, self.folder / "second.def")
+        with open(self.target) as held:
+            self.assertEqual(self.export(self.target), DONE)
+            self.assertEqual(held.read(), "older")
+        self.assertEqual((self.target.read_text(), (self.folder / "second.def").read_text()), (EXPORTED, "older"))
+
+    def test_is_stored_before_it_takes_the_older_files_name(self) -> None:
+        calls = self.folder / "calls"
+        calls.touch()
+        environment = {**preloading("record.c", self.folder), "RECORD": str(calls)}
+        self.assertEqual(self.export(self.target, env=environment), DONE)
+        self.assertEqual(calls.read_text(), "fsync\nrename\n")
+
+    def test_to_a_pipe(self) -> None:
+        os.mkfifo(self.target)
+        reader = os.open(self.target, os.O_RDONLY | os.O_NONBLOCK)
+        try:
+            self.assertEqual(self.export(self.target), DONE)
+            self.assertEqual(os.read(reader, 65_536).decode(), EXPORTED)
+        finally:
+            os.close(reader)
+        self.assertTrue(stat.S_ISFIFO(self.target.stat().st_mode))
+        self.assertEqual(self.names(), ["new.def"])
+
+    def test_to_the_device_that_drops_all(self) -> None:
+        self.assertEqual(self.export("/dev/null"), DONE)
+        self.assertTrue(stat.S_ISCHR(os.stat("/dev/null").st_mode))
+
+    def test_to_standard_output_that_is_a_pipe_behind_the_replies(self) -> None:
+        self.assertEqual(self.export("/dev/stdout"), (0, REPLIES + EXPORTED, ""))
+
+    def test_without_a_commit_is_the_text_itself(self) -> None:
+        ran = run(["replay", *DESIGN, "--export", str(self.target)], "open A\nplace A 0 a1 0 0 N\n")
+        self.assertEqual(ran, (0, "ok 0 0\nok 1\n", ""))
+        self.assertEqual(self.target.read_bytes(), DEF.read_bytes())
+
+
+class NotExported(InFolder):
+    """Exports that are not written: what was there stays as it was, and nothing is left beside it."""
+
+    def refused(self, target: Path | str, **options: object) -> None:
+        status, _, said = self.export(target, **options)
+        self.assertEqual((status, said), UNWRITTEN)
+
+    def test_into_a_folder_that_is_missing(self) -> None:
+        self.refused(self.folder / "missing" / "new.def")
+        self.assertEqual(self.names(), [])
+
+    def test_to_a_folder(self) -> None:
+        self.target.mkdir()
+        self.refused(self.target)
+        self.assertEqual((self.names(), os.listdir(self.target)), (["new.def"], []))
+
+    def test_into_a_folder_where_no_file_can_be_made(self) -> None:
+        self.refused("/proc/new.def")
+
+    @unittest.skipIf(os.geteuid() == 0, "root may write to any folder")
+    def test_into_a_folder_without_write_permission(self) -> None:
+        self.target.write_text("older")
+        self.folder.chmod(0o555)
+        try:
+            self.refused(self.target)
+            self.refused(self.folder / "other.def")
+        finally:
+            self.folder.chmod(0o755)
+        self.assertEqual((self.target.read_text(), self.names()), ("older", ["new.def"]))
+
+    def test_beyond_a_limit_on_file_size(self) -> None:
+        self.refused(self.target, preexec_fn=small_files)
+        self.assertEqual(self.names(), [])
+        for older in ("older", "older\n" * 1_000):
+            with self.subTest(len(older)):
+                self.target.write_text(older)
+                self.target.chmod(0o640)
+                self.refused(self.target, preexec_fn=small_files)
+                self.assertEqual((self.target.read_text(), self.mode(self.target)), (older, 0o640))
+                self.assertEqual(self.names(), ["new.def"])
+
+    def test_to_a_device_that_is_full(self) -> None:
+        self.refused("/dev/full")
+
+    def test_after_a_fault_of_the_replies(self) -> None:
+        self.target.write_text("older")
+        with open("/dev/full", "wb") as full:
+            ran = self.export(self.target, stdout=full)
+        self.assertEqual(ran, (3, "", "lefence: WriteFault\n"))
+        self.assertEqual((self.target.read_text(), self.names()), ("older", ["new.def"]))
+
+    def test_after_a_fault_of_the_input(self) -> None:
+        folder = os.open(self.folder, os.O_RDONLY)
+        try:
+            ran = self.export(self.target, stdin=folder)
+        finally:
+            os.close(folder)
+        self.assertEqual(ran, (3, "", "lefence: ReadFault\n"))
+        self.assertEqual(self.names(), [])
+
+    def test_after_one_line_too_many(self) -> None:
+        ran = run(["replay", *DESIGN, "--export", str(self.target)], b"\n" * 1_000_001, stdout=subprocess.DEVNULL)
+        self.assertEqual(ran, (3, "", "lefence: TooManyLines\n"))
+        self.assertEqual(self.names(), [])
+
+    def test_after_a_signal(self) -> None:
+        words = [*DESIGN, "--export", str(self.target)]
+        for number in (signal.SIGTERM, signal.SIGINT, signal.SIGHUP):
+            # Whoever runs the tests may have it ignored, which a program would inherit.
+            self.addCleanup(signal.signal, number, signal.signal(number, signal.SIG_DFL))
+            with self.subTest(number.name):
+                session = Session(["replay", *words])
+                self.assertEqual([session.ask(line) for line in LINES.split("\n")[:-1]], REPLIES.split("\n")[:-1])
+                session.process.send_signal(number)
+                self.assertEqual(session.end(), (-number, ""))
+                with Service(2, words) as service:
+                    with service.client() as client:
+                        self.assertEqual(client.ask_all(LINES.split("\n")[:-1]), REPLIES.split("\n")[:-1])
+                        service.process.send_signal(number)
+                        self.assertEqual(service.end(), (-number, "listening\n", ""))
+                self.assertEqual(self.names(), [])
+
+
+if __name__ == "__main__":
+    unittest.main()

@@ -1,0 +1,135 @@
+"""What a newcomer's mistakes end in: a line on standard error and a status; and what to do where `tidy` finds no place."""
+
+from __future__ import annotations
+
+import os
+import tempfile
+import unittest
+from pathlib import Path
+
+from program import DEF, DESIGN, LEF, free_port, run
+
+W_DEF, W_LEF = DESIGN
+USAGE = "lefence: usage"
+
+
+class Mistakes(unittest.TestCase):
+    """Each mistake: the status, the first line on standard error, and nothing on standard output."""
+
+    def said(self, words: list[str], status: int, first: str, lines: str = "", **options: object) -> None:
+        with self.subTest(" ".join(words)):
+            found, written, said = run(words, lines, **options)
+            self.assertEqual((found, written, said.split("\n")[0]), (status, "", first))
+
+    def test_an_unknown_subcommand(self) -> None:
+        for words in (["chek", *DESIGN], ["Check", *DESIGN], ["check.", *DESIGN], ["help"], ["-x"], DESIGN, [""]):
+            self.said(words, 2, USAGE)
+
+    def test_a_subcommand_without_its_files(self) -> None:
+        for verb in ("check", "replay", "serve"):
+            self.said([verb], 2, USAGE)
+            self.said([verb, W_DEF], 2, USAGE)
+
+    def test_words_in_the_wrong_order(self) -> None:
+        self.said([*DESIGN, "check"], 2, USAGE)
+        self.said([W_DEF, "check", W_LEF], 2, USAGE)
+        self.said(["--export", "new.def", "replay", *DESIGN], 2, USAGE)
+
+    def test_words_where_none_are_wanted(self) -> None:
+        self.said(["demo", W_DEF], 2, USAGE)
+        self.said(["demo", *DESIGN], 2, USAGE)
+
+    def test_an_option_that_the_subcommand_has_not(self) -> None:
+        with tempfile.TemporaryDirectory() as folder:
+            target = Path(folder) / "new.def"
+            self.said(["check", *DESIGN, "--export", str(target)], 2, USAGE)
+            self.said(["replay", *DESIGN, "--port", "5800"], 2, USAGE)
+            self.said(["replay", *DESIGN, "--exprt", str(target)], 2, USAGE)
+            self.assertEqual(os.listdir(folder), [])
+
+    def test_an_option_without_its_value_or_twice(self) -> None:
+        self.said(["replay", *DESIGN, "--export"], 2, USAGE)
+        self.said(["replay", *DESIGN, "--export", "a", "--export", "b"], 2, USAGE)
+        self.said(["serve", *DESIGN, "--port", "--connections", "1"], 2, USAGE)
+
+    def test_a_service_without_port_or_connections_or_out_of_their_range(self) -> None:
+        self.said(["serve", *DESIGN], 2, USAGE)
+        self.said(["serve", *DESIGN, "--port", "5800"], 2, USAGE)
+        self.said(["serve", *DESIGN, "--connections", "1"], 2, USAGE)
+        for port in ("0", "65536", "http", "-1", ""):
+            self.said(["serve", *DESIGN, "--port", port, "--connections", "1"], 2, USAGE)
+        for connections in ("0", "1000001", "all", "-1", ""):
+            self.said(["serve", *DESIGN, "--port", "5800", "--connections", connections], 2, USAGE)
+
+    def test_a_missing_file_or_a_folder_in_its_place(self) -> None:
+        with tempfile.TemporaryDirectory() as folder:
+            for path in (f"{folder}/missing", folder):
+                for verb in ("check", "replay"):
+                    self.said([verb, path, W_LEF], 3, "lefence: File")
+                    self.said([verb, W_DEF, path], 3, "lefence: File")
+                    self.said([verb, W_DEF, W_LEF, path], 3, "lefence: File")
+
+    def test_a_lef_text_in_place_of_the_def_text(self) -> None:
+        for verb in ("check", "replay"):
+            self.said([verb, W_LEF, W_LEF], 1, "lefence: 6 UnknownStatement line 2")
+
+    def test_the_lef_text_first(self) -> None:
+        for verb in ("check", "replay"):
+            self.said([verb, W_LEF, W_DEF], 1, f"lefence: 2 UnexpectedEnd line {len(DEF.read_text().splitlines()) + 1}")
+
+    def test_a_def_text_without_its_lef_texts(self) -> None:
+        with tempfile.TemporaryDirectory() as folder:
+            empty, site = Path(folder) / "empty.lef", Path(folder) / "site.lef"
+            empty.write_text("")
+            site.write_text(LEF.read_text().split("MACRO")[0] + "END LIBRARY\n")
+            self.said(["check", W_DEF, str(empty)], 1, "lefence: 8 NoSite core")
+            self.said(["check", W_DEF, str(site)], 1, "lefence: 14 NoMacro INV")
+
+    def test_a_def_text_that_is_cut_off(self) -> None:
+        with tempfile.TemporaryDirectory() as folder:
+            cut = Path(folder) / "cut.def"
+            cut.write_text(DEF.read_text().split("- b1")[0])
+            self.said(["check", str(cut), W_LEF], 1, "lefence: 2 UnexpectedEnd line 18")
+
+    def test_a_report_that_cannot_be_written(self) -> None:
+        with open("/dev/full", "wb") as full:
+            self.said(["check", *DESIGN], 3, "lefence: Output", stdout=full)
+            self.said(["serve", *DESIGN, "--port", str(free_port()), "--connections", "1"], 3, "lefence: Output", stdout=full)
+
+    def test_no_words_at_all_answer_the_lines_of_the_demo(self) -> None:
+        for words in ([], ["demo"]):
+            self.assertEqual(run(words, "open A\nplace A 0 a1 0 0 N\n"), (0, "ok 0 0\nok 1\n", ""))
+
+    def test_a_path_that_begins_with_a_dash_stands_behind_two(self) -> None:
+        with tempfile.TemporaryDirectory() as folder:
+            (Path(folder) / "-w.def").write_bytes(DEF.read_bytes())
+            self.said(["check", "-w.def", W_LEF], 2, USAGE, cwd=folder)
+            report = '{"cells":5,"unplaced":5,"violations":[]}\n'
+            self.assertEqual(run(["check", "--", "-w.def", W_LEF], cwd=folder), (4, report, ""))
+
+
+class Recipes(unittest.TestCase):
+    """What docs/PROTOCOL.md tells to do."""
+
+    def test_where_tidy_finds_no_place_the_widest_cells_go_first(self) -> None:
+        text = DEF.read_text().replace("- A ( 0 0 ) ( 4000 4000 )", "- A ( 0 0 ) ( 1400 4000 )")
+        text = text.replace("- a1 INV + SOURCE DIST ;", "- a1 INV + PLACED ( 100 0 ) N ;")
+        text = text.replace("- a2 INV + UNPLACED ;", "- a2 INV + PLACED ( 700 0 ) N ;")
+        script = [
+            ("open A", "ok 0 0"),
+            ("tidy A 0", "no 8 NoPlace a3"),
+            ("unplace A 0 a1", "ok 1"),
+            ("unplace A 0 a2", "ok 2"),
+            ("legalize A 0 a3 0 0", "ok 3 0 0 N"),
+            ("tidy A 0", "ok 4 2"),
+            ("commit A 0", "ok 5"),
+        ]
+        with tempfile.TemporaryDirectory() as folder:
+            path = Path(folder) / "narrow.def"
+            path.write_text(text)
+            lines, replies = ("".join(f"{part}\n" for part in parts) for parts in zip(*script))
+            self.assertEqual(run(["replay", str(path), W_LEF], lines), (0, replies, ""))
+
+
+if __name__ == "__main__":
+    unittest.main()

@@ -1,0 +1,206 @@
+"""What clients of `lefence serve` meet: the address, the order of connections, and connections that break.
+
+No contract knows the bytes of sockets.
+"""
+
+from __future__ import annotations
+
+import select
+import socket
+import sys
+import tempfile
+import threading
+import time
+import unittest
+from pathlib import Path
+
+from program import DEF, DESIGN, Service, preloading, run
+
+LISTENING = "listening\n"
+# Lines that change nothing, of which no team has a session, and a last one that ends the connection.
+LINES = b"where B 0 b1\nopen Z\r\n\nhello\nbye\n"
+
+
+def listened_on(port: int) -> list[str]:
+    """The addresses of this machine at which that port is listened on, as the kernel tells them."""
+    found = []
+    for table in ("tcp", "tcp6"):
+        path = Path("/proc/net") / table
+        for line in path.read_text().splitlines()[1:] if path.exists() else []:
+            words = line.split()
+            address, number = words[1].split(":")
+            if int(number, 16) == port and words[3] == "0A":
+                octets = bytes.fromhex(address)
+                is_old = len(octets) == 4
+                found.append(socket.inet_ntoa(octets[::-1] if sys.byteorder == "little" else octets) if is_old else address)
+    return found
+
+
+class Listening(unittest.TestCase):
+    """Where a service listens, and when it ends."""
+
+    def test_listens_on_127_0_0_1_alone(self) -> None:
+        with Service(1) as service:
+            self.assertEqual(service.first, LISTENING)
+            self.assertEqual(listened_on(service.port), ["127.0.0.1"])
+            with self.assertRaises(ConnectionRefusedError):
+                socket.create_connection(("127.0.0.2", service.port), timeout=5)
+            service.client().close()
+            self.assertEqual(service.end(), (0, LISTENING, ""))
+
+    def test_a_port_in_use_is_told_and_its_service_goes_on(self) -> None:
+        with Service(1) as service:
+            words = ["serve", *DESIGN, "--port", str(service.port), "--connections", "1"]
+            self.assertEqual(run(words), (3, "", "lefence: Bind\n"))
+            with service.client() as client:
+                self.assertEqual(client.ask("open A"), "ok 0 0")
+            self.assertEqual(service.end(), (0, LISTENING, ""))
+
+    def test_ends_after_so_many_connections_and_then_exports(self) -> None:
+        with tempfile.TemporaryDirectory() as folder:
+            target = Path(folder) / "new.def"
+            with Service(3, [*DESIGN, "--export", str(target)]) as service:
+                with service.client() as client:
+                    for line in ("open A", "tidy A 0", "commit A 0"):
+                        self.assertTrue(client.ask(line).startswith("ok"))
+                service.client().close()
+                with service.client() as client:
+                    self.assertEqual(client.ask("bye"), "ok")
+                    self.assertEqual(client.rest(), "")
+                self.assertEqual(service.end(), (0, LISTENING, ""))
+                with self.assertRaises(ConnectionRefusedError):
+                    service.client()
+            self.assertIn("- a1 INV + SOURCE DIST + PLACED ( 0 0 ) N ;\n", target.read_text())
+
+    def test_exports_nothing_before_the_last_connection_has_ended(self) -> None:
+        with tempfile.TemporaryDirectory() as folder:
+            target = Path(folder) / "new.def"
+            with Service(2, [*DESIGN, "--export", str(target)]) as service:
+                service.client().close()
+                with service.client() as client:
+                    self.assertEqual(client.ask("open A"), "ok 0 0")
+                    self.assertEqual(list(Path(folder).iterdir()), [])
+                self.assertEqual(service.end(), (0, LISTENING, ""))
+            self.assertEqual(target.read_bytes(), DEF.read_bytes())
+
+
+class InTurn(unittest.TestCase):
+    """Connections one after the other."""
+
+    def test_two_clients_get_the_replies_to_their_own_lines_in_turn(self) -> None:
+        with Service(2) as service, service.client() as first:
+            self.assertEqual(first.ask("open A"), "ok 0 0")
+            with service.client() as second:
+                second.send(b"open A\nwhere A 0 a1\n")
+                self.assertEqual(first.ask("place A 0 a1 0 0 N"), "ok 1")
+                self.assertEqual(select.select([second.socket], [], [], 0.2)[0], [])
+                self.assertEqual(first.rest(), "")
+                self.assertEqual(second.rest(), "ok 1 1\nok 0 0 N\n")
+            self.assertEqual(service.end(), (0, LISTENING, ""))
+
+    def test_sessions_places_and_commits_stay_between_connections(self) -> None:
+        with Service(3) as service:
+            with service.client() as client:
+                self.assertEqual(client.ask_all(["open B", "place B 0 b1 6000 0 N"]), ["ok 0 0", "ok 1"])
+            with service.client() as client:
+                self.assertEqual(client.ask_all(["where B 0 b1", "commit B 0", "bye"]), ["ok 6000 0 N", "ok 2", "ok"])
+            with service.client() as client:
+                lines = ["unplace B 0 b1", "revert B 0", "where B 0 b1"]
+                self.assertEqual(client.ask_all(lines), ["ok 3", "ok 4", "ok 6000 0 N"])
+            self.assertEqual(service.end(), (0, LISTENING, ""))
+
+    def test_no_line_behind_a_bye_is_acted_on(self) -> None:
+        with Service(2) as service:
+            with service.client() as client:
+                client.send(b"open A\nbye\nplace A 0 a1 0 0 N\n")
+                self.assertEqual(client.rest(), "ok 0 0\nok\n")
+            with service.client() as client:
+                self.assertEqual(client.ask("where A 0 a1"), "no 6 Unplaced a1")
+            self.assertEqual(service.end(), (0, LISTENING, ""))
+
+
+class Cut(unittest.TestCase):
+    """Connections that are cut, in pieces or broken off: each ends alone."""
+
+    def probe(self, service: Service) -> None:
+        """The next client is served."""
+        with service.client() as client:
+            self.assertEqual(client.ask("open Z"), "no 2 NoTeam")
+
+    def test_input_that_ends_anywhere_is_answered_as_over_a_pipe(self) -> None:
+        with Service(2 * len(LINES)) as service:
+            for cut in range(len(LINES)):
+                _, replies, _ = run(["replay", *DESIGN], LINES[:cut])
+                with service.client() as client:
+                    client.send(LINES[:cut])
+                    self.assertEqual(client.rest(), replies, LINES[:cut])
+                self.probe(service)
+            self.assertEqual(service.end(), (0, LISTENING, ""))
+
+    def test_input_byte_by_byte_is_answered_as_the_whole(self) -> None:
+        _, replies, _ = run(["replay", *DESIGN], LINES)
+        with Service(1) as service:
+            with service.client() as client:
+                for byte in LINES:
+                    client.send(bytes([byte]))
+                    time.sleep(0.002)
+                self.assertEqual(client.rest(), replies)
+            self.assertEqual(service.end(), (0, LISTENING, ""))
+
+    def test_a_reset_anywhere_ends_that_connection_alone(self) -> None:
+        with Service(2 * len(LINES)) as service:
+            for cut in range(len(LINES)):
+                client = service.client()
+                client.send(LINES[:cut])
+                client.reset()
+                self.probe(service)
+            self.assertEqual(service.end(), (0, LISTENING, ""))
+
+    def test_half_a_line_before_a_reset_is_not_acted_on(self) -> None:
+        with Service(3) as service:
+            with service.client() as client:
+                self.assertEqual(client.ask("open A"), "ok 0 0")
+            client = service.client()
+            self.assertEqual(client.ask("where A 0 a1"), "no 6 Unplaced a1")
+            client.send(b"place A 0 a1 0 0 N")
+            time.sleep(0.1)
+            client.reset()
+            with service.client() as client:
+                self.assertEqual(client.ask("where A 0 a1"), "no 6 Unplaced a1")
+            self.assertEqual(service.end(), (0, LISTENING, ""))
+
+    def test_line_1_000_001_ends_its_connection_alone(self) -> None:
+        with Service(2) as service:
+            with service.client() as client:
+                sender = threading.Thread(target=client.send, args=(b"\n" * 1_000_001,))
+                sender.start()
+                replies = client.replies.read()
+                sender.join()
+            self.assertTrue(replies == b"no 1 BadRequest\n" * 1_000_000, len(replies))
+            self.probe(service)
+            self.assertEqual(service.end(), (0, LISTENING, ""))
+
+    def test_a_reset_with_replies_unread_ends_that_connection_alone(self) -> None:
+        with Service(2) as service:
+            client = service.client()
+            client.send(b"where B 0 b1\n" * 5_000)
+            client.reset()
+            self.probe(service)
+            self.assertEqual(service.end(), (0, LISTENING, ""))
+
+    def test_a_client_that_leaves_its_replies_unread_is_given_up(self) -> None:
+        with tempfile.TemporaryDirectory() as folder:
+            hastened = preloading("hasten.c", Path(folder))
+            with Service(2, environment=hastened) as service, service.client() as silent, service.client() as next_one:
+                self.assertEqual(silent.ask("open A"), "ok 0 0")
+                silent.socket.setsockopt(socket.SOL_SOCKET, socket.SO_RCVBUF, 4_096)
+                silent.send(b"def A 0\n" * 8_000)
+                next_one.send(b"open A\n")
+                self.assertEqual(select.select([next_one.socket], [], [], 0.5)[0], [])
+                self.assertEqual(select.select([next_one.socket], [], [], 8)[0], [next_one.socket])
+                self.assertEqual(next_one.rest(), "ok 1 0\n")
+                self.assertEqual(service.end(), (0, LISTENING, ""))
+
+
+if __name__ == "__main__":
+    unittest.main()
