@@ -3,6 +3,7 @@
 from __future__ import annotations
 
 import os
+import resource
 import socket
 import struct
 import subprocess
@@ -137,7 +138,14 @@ def free_port() -> int:
 class Service:
     """A running program that serves connections to a port; at the end of the block it is stopped if it still runs."""
 
-    def __init__(self, connections: int, words: list[str] | None = None, environment: dict[str, str] | None = None) -> None:
+    def __init__(
+        self,
+        connections: int,
+        words: list[str] | None = None,
+        environment: dict[str, str] | None = None,
+        files: int | None = None,
+    ) -> None:
+        """A service with at most this many open files, if a number is given."""
         self.port = free_port()
         bounds = ["--port", str(self.port), "--connections", str(connections)]
         self.process = subprocess.Popen(
@@ -145,6 +153,7 @@ class Service:
             env=environment,
             stdout=subprocess.PIPE,
             stderr=subprocess.PIPE,
+            preexec_fn=files and (lambda: resource.setrlimit(resource.RLIMIT_NOFILE, (files, files))),
         )
         assert self.process.stdout
         self.first = self.process.stdout.readline().decode()

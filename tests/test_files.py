@@ -106,6 +106,16 @@ class Exported(InFolder):
         self.assertEqual(((within / "real.def").read_text(), self.mode(within / "real.def")), (EXPORTED, 0o640))
         self.assertEqual((self.names(), os.listdir(within)), (["new.def", "within"], ["real.def"]))
 
+    def test_through_links_to_no_file_makes_the_file_that_they_name(self) -> None:
+        within = self.folder / "within"
+        within.mkdir()
+        self.target.symlink_to("within/next.def")
+        (within / "next.def").symlink_to("made.def")
+        self.assertEqual(self.export(self.target), DONE)
+        self.assertEqual((os.readlink(self.target), os.readlink(within / "next.def")), ("within/next.def", "made.def"))
+        self.assertEqual((within / "made.def").read_text(), EXPORTED)
+        self.assertEqual((self.names(), sorted(os.listdir(within))), (["new.def", "within"], ["made.def", "next.def"]))
+
     def test_beside_temporary_files_that_were_left(self) -> None:
         left = self.folder / "new.def.partial0"
         left.write_text("left")
@@ -146,6 +156,16 @@ class Exported(InFolder):
     def test_to_standard_output_that_is_a_pipe_behind_the_replies(self) -> None:
         self.assertEqual(self.export("/dev/stdout"), (0, REPLIES + EXPORTED, ""))
 
+    def test_to_the_file_of_standard_output_behind_the_replies(self) -> None:
+        for path in ("/dev/stdout", str(self.target)):
+            for mode, before in (("ab", "older\n"), ("wb", "")):
+                with self.subTest(path=path, mode=mode):
+                    self.target.write_text("older\n")
+                    with open(self.target, mode) as output:
+                        self.assertEqual(self.export(path, stdout=output), (0, "", ""))
+                    self.assertEqual(self.target.read_text(), before + REPLIES + EXPORTED)
+                    self.assertEqual(self.names(), ["new.def"])
+
     def test_without_a_commit_is_the_text_itself(self) -> None:
         ran = run(["replay", *DESIGN, "--export", str(self.target)], "open A\nplace A 0 a1 0 0 N\n")
         self.assertEqual(ran, (0, "ok 0 0\nok 1\n", ""))
@@ -167,6 +187,12 @@ class NotExported(InFolder):
         self.target.mkdir()
         self.refused(self.target)
         self.assertEqual((self.names(), os.listdir(self.target)), (["new.def"], []))
+
+    def test_through_links_that_go_round(self) -> None:
+        self.target.symlink_to("second.def")
+        (self.folder / "second.def").symlink_to("new.def")
+        self.refused(self.target)
+        self.assertEqual((os.readlink(self.target), self.names()), ("second.def", ["new.def", "second.def"]))
 
     def test_into_a_folder_where_no_file_can_be_made(self) -> None:
         self.refused("/proc/new.def")

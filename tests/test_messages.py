@@ -108,6 +108,37 @@ class Mistakes(unittest.TestCase):
             self.assertEqual(run(["check", "--", "-w.def", W_LEF], cwd=folder), (4, report, ""))
 
 
+class Help(unittest.TestCase):
+    """What the program says of itself, on standard output."""
+
+    def test_what_the_program_can_be_asked(self) -> None:
+        _, _, said = run(["help"])
+        usage = said.removeprefix("lefence: usage\n")
+        status, written, said = run(["--help"])
+        self.assertEqual((status, said), (0, ""))
+        self.assertTrue(written.startswith(usage) and len(usage) > 500, written)
+
+    def test_each_subcommand_has_its_help_with_an_example(self) -> None:
+        for verb in ("demo", "check", "replay", "serve"):
+            with self.subTest(verb):
+                status, written, said = run([verb, "--help"])
+                self.assertEqual((status, said), (0, ""))
+                self.assertTrue(written.startswith(("lefence [demo]\n", f"lefence {verb} ")), written)
+                self.assertIn(f"lefence {verb}".removesuffix(" demo"), written.split("\nexample:\n  ")[1])
+
+    def test_the_version(self) -> None:
+        self.assertEqual(run(["--version"]), (0, "lefence 0.1.0 for LEF and DEF 5.8\n", ""))
+
+    def test_words_that_are_no_help(self) -> None:
+        for words in (["--help", "check"], ["check", "--help", W_LEF], ["--version", "1"], ["chek", "--help"]):
+            status, written, said = run(words)
+            self.assertEqual((status, written, said.split("\n")[0]), (2, "", USAGE))
+
+    def test_help_that_cannot_be_written(self) -> None:
+        with open("/dev/full", "wb") as full:
+            self.assertEqual(run(["--help"], stdout=full), (3, "", "lefence: Output\n"))
+
+
 class Recipes(unittest.TestCase):
     """What docs/PROTOCOL.md tells to do."""
 

@@ -72,6 +72,16 @@ class Listening(unittest.TestCase):
                     service.client()
             self.assertIn("- a1 INV + SOURCE DIST + PLACED ( 0 0 ) N ;\n", target.read_text())
 
+    def test_a_client_for_whom_no_file_is_left_ends_the_service(self) -> None:
+        # The standard streams and the port are four; a client takes one to read from, and one to write to.
+        for files in (4, 5):
+            with self.subTest(files), Service(2, files=files) as service, service.client():
+                self.assertEqual(service.end(), (3, LISTENING, "lefence: Accept\n"))
+        with Service(1, files=6) as service:
+            with service.client() as client:
+                self.assertEqual(client.ask("open A"), "ok 0 0")
+            self.assertEqual(service.end(), (0, LISTENING, ""))
+
     def test_exports_nothing_before_the_last_connection_has_ended(self) -> None:
         with tempfile.TemporaryDirectory() as folder:
             target = Path(folder) / "new.def"
