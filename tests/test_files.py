@@ -14,7 +14,7 @@ import tempfile
 import unittest
 from pathlib import Path
 
-from program import DEF, DESIGN, LEF, Service, Session, preloading, run
+from program import DEF, DESIGN, LEF, Service, Session, free_port, preloading, run
 
 # A session that places and commits the three cells of team A, and its replies.
 LINES = "open A\nplace A 0 a1 0 0 N\nplace A 0 a2 400 0 N\nplace A 0 a3 800 0 N\ncommit A 0\n"
@@ -27,7 +27,7 @@ EXPORTED = (
     .replace("- a3 DBL + WEIGHT 3 ;", "- a3 DBL + WEIGHT 3 + PLACED ( 800 0 ) N ;")
 )
 DONE = (0, REPLIES, "")
-UNWRITTEN = (3, "lefence: File\n")
+UNWRITTEN = "lefence: File\n"
 
 
 def small_files() -> None:
@@ -176,34 +176,41 @@ class NotExported(InFolder):
     """Exports that are not written: what was there stays as it was, and nothing is left beside it."""
 
     def refused(self, target: Path | str, **options: object) -> None:
-        status, _, said = self.export(target, **options)
-        self.assertEqual((status, said), UNWRITTEN)
+        """It shows only when the text is written."""
+        self.assertEqual(self.export(target, **options), (3, REPLIES, UNWRITTEN))
+
+    def refused_early(self, target: Path | str, **options: object) -> None:
+        """It shows before the first line is read."""
+        self.assertEqual(self.export(target, **options), (3, "", UNWRITTEN))
 
     def test_into_a_folder_that_is_missing(self) -> None:
-        self.refused(self.folder / "missing" / "new.def")
+        missing = self.folder / "missing" / "new.def"
+        self.refused_early(missing)
+        bounds = ["--port", str(free_port()), "--connections", "1"]
+        self.assertEqual(run(["serve", *DESIGN, *bounds, "--export", str(missing)]), (3, "", UNWRITTEN))
         self.assertEqual(self.names(), [])
 
     def test_to_a_folder(self) -> None:
         self.target.mkdir()
-        self.refused(self.target)
+        self.refused_early(self.target)
         self.assertEqual((self.names(), os.listdir(self.target)), (["new.def"], []))
 
     def test_through_links_that_go_round(self) -> None:
         self.target.symlink_to("second.def")
         (self.folder / "second.def").symlink_to("new.def")
-        self.refused(self.target)
+        self.refused_early(self.target)
         self.assertEqual((os.readlink(self.target), self.names()), ("second.def", ["new.def", "second.def"]))
 
     def test_into_a_folder_where_no_file_can_be_made(self) -> None:
-        self.refused("/proc/new.def")
+        self.refused_early("/proc/new.def")
 
     @unittest.skipIf(os.geteuid() == 0, "root may write to any folder")
     def test_into_a_folder_without_write_permission(self) -> None:
         self.target.write_text("older")
         self.folder.chmod(0o555)
         try:
-            self.refused(self.target)
-            self.refused(self.folder / "other.def")
+            self.refused_early(self.target)
+            self.refused_early(self.folder / "other.def")
         finally:
             self.folder.chmod(0o755)
         self.assertEqual((self.target.read_text(), self.names()), ("older", ["new.def"]))

@@ -11,7 +11,7 @@ use Rattle.lf_app.specs.declared.faults.Exit.{Exit}
 use Rattle.lf_app.specs.declared.faults.Fault.{Fault}
 use Rattle.lf_app.specs.declared.faults.Fault.TheVariants.{Refused, File, ReadFault, WriteFault, TooManyLines, OutOfMemory, Output, Bind, Accept, Unwritten, NoRoom}
 use Rattle.lf_app.specs.Designs.{Gives, IsDefRefusal, IsDesignFault, IsDesignIn, IsDesignOf, IsFileDesign, IsFileFault, IsLibraryOf, IsLoadRefusal, IsLoadedIn, IsRefused, no_library}
-use Rattle.lf_app.specs.Exits.{Ends, IsEarly, Streams}
+use Rattle.lf_app.specs.Exits.{Ends, IsEarly, IsUntouched, Streams}
 use Rattle.lf_app.specs.Faults.{IsExportFault}
 use Rattle.lf_app.specs.Work.{IsDone, IsFault, IsStopped}
 use Rattle.lf_app.specs.declared.work.Lines.{Lines}
@@ -97,7 +97,13 @@ lines_stopped (Some path) lines loaded io fault is = inl is
 pub export_stopped : (export : Option (List ℕ)) (lines : Lines) (loaded : Loaded) (floor : FloorState) (io : Streams) (fault : Fault) → IsSome export
     → IsExportFault fault → IsDone lines loaded floor io → IsStopped export lines loaded fault io
 export_stopped None lines loaded floor io fault asked is done = absurd (false≢true asked)
-export_stopped (Some path) lines loaded floor io fault asked is done = inr (is, (floor, done))
+export_stopped (Some path) lines loaded floor io fault asked is done = inr (is, inr (floor, done))
+
+-- and one that is told before anything is done
+untouched_stopped : (export : Option (List ℕ)) (lines : Lines) (loaded : Loaded) (io : Streams) (fault : Fault) → IsSome export
+    → IsExportFault fault → IsUntouched io → IsStopped export lines loaded fault io
+untouched_stopped None lines loaded io fault asked is untouched = absurd (false≢true asked)
+untouched_stopped (Some path) lines loaded io fault asked is untouched = inr (is, inl untouched)
 
 -- a fault of one kind is written as one of another
 pub ends_as : (why all early : Fault → Type 0) (kept : Type 0) (old new : Option (List ℕ)) (exit : Exit)
@@ -115,3 +121,10 @@ pub export_ends : (export : Option (List ℕ)) (lines : Lines) (loaded : Loaded)
     → Ends (λ fault. IsStopped export lines loaded fault io × (IsEarly fault → kept)) old new exit
 export_ends export lines loaded floor io kept old new exit asked done ends =
     (ends.0, (export_stopped export lines loaded floor io ends.0 asked ends.1 done, λ early. absurd (not_early ends.0 ends.1 early)), ends.2)
+
+-- and a fault of the export before anything is done
+pub untouched_ends : (export : Option (List ℕ)) (lines : Lines) (loaded : Loaded) (io : Streams) (kept : Type 0) (old new : Option (List ℕ))
+    (exit : Exit) → IsSome export → IsUntouched io → Ends IsExportFault old new exit
+    → Ends (λ fault. IsStopped export lines loaded fault io × (IsEarly fault → kept)) old new exit
+untouched_ends export lines loaded io kept old new exit asked untouched ends =
+    (ends.0, (untouched_stopped export lines loaded io ends.0 asked ends.1 untouched, λ early. absurd (not_early ends.0 ends.1 early)), ends.2)

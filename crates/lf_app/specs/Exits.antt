@@ -129,10 +129,17 @@ IsEarly (Refused refusal) = Unit {0}
 IsEarly File = Unit {0}
 IsEarly _ = ⊥
 
--- why the work on a design is not done: it fails itself, or it is finished and the text to export is not written
+-- nothing was read, written or put
+pub record IsUntouched (io : Streams) : Type 0 where
+  pub unread : io.left ≡ io.input
+  pub unwritten : io.after ≡ io.before
+  pub unput : io.new_puts ≡ io.old_puts
+
+-- why the work on a design is not done: it fails itself; or the text to export cannot be written, which is told before anything
+-- is done, or after the work is finished
 abbrev pub IsWorkFault : Option (List ℕ) → (Fault → Streams → Type 0) → (FloorState → Streams → Type 0) → Fault → Streams → Type 0
 IsWorkFault None why Work fault io = why fault io
-IsWorkFault (Some path) why Work fault io = why fault io ⊎ (IsExportFault fault × ((floor : FloorState) × Work floor io))
+IsWorkFault (Some path) why Work fault io = why fault io ⊎ (IsExportFault fault × (IsUntouched io ⊎ ((floor : FloorState) × Work floor io)))
 
 -- there is no design for this reason, or there is one, and this is why the work on it is not done
 abbrev pub IsJobStop : (Fault → Type 0) → (Loaded → Type 0) → (Loaded → Fault → Streams → Type 0) → Fault → Streams → Type 0

@@ -152,6 +152,31 @@ fn exported_text(
     export(alloc, document, &places)
 }
 
+/// The fault of a text that is not put into its file.
+fn export_fault<'f>(unwritten: Unwritten) -> Fault<'f>
+    ensures { IsExportFault result }
+{
+    match unwritten {
+        Unwritten::File => Fault::Unwritten,
+        Unwritten::OutOfMemory => Fault::NoRoom,
+    }
+}
+
+/// Makes sure, as far as that shows beforehand, that a text can be written to the file of that path, if one is given.
+fn try_export<E: Exports, F: Write>(path: Option<&str>, exports: &E, faults: &mut F) -> Result<(), Exit>
+    ensures kept { OnOk result (faults.new ≡ faults.old) }
+    ensures err { IfErr result (Ends IsExportFault (F.contents faults.old) (F.contents faults.new)) }
+    ensures asked { OnErr result (IsSome (option_map (λ path. path.now) path.entry)) }
+{
+    let Some(path) = path else {
+        return Ok(());
+    };
+    match exports.try_path(path) {
+        Ok(()) => Ok(()),
+        Err(unwritten) => Err(tell(faults, &export_fault(unwritten))),
+    }
+}
+
 /// Writes the exported text to the file of that path, if one is given.
 fn export_to<E: Exports, F: Write>(
     alloc: Global,
@@ -178,12 +203,12 @@ fn export_to<E: Exports, F: Write>(
     };
     match exports.put(path, &text) {
         Ok(()) => Ok(()),
-        Err(Unwritten::File) => Err(tell(faults, &Fault::Unwritten)),
-        Err(Unwritten::OutOfMemory) => Err(tell(faults, &Fault::NoRoom)),
+        Err(unwritten) => Err(tell(faults, &export_fault(unwritten))),
     }
 }
 
-/// Works on the floor of the document's design: its lines are answered, and then the exported text is written.
+/// Works on the floor of the document's design: its lines are answered, and then the exported text is written. Where that
+/// cannot be, as far as it shows beforehand, no line is read.
 fn work_on_floor<N: Net + AllocGlobal, E: Exports, R: Read, W: Write, F: Write>(
     rt: &N,
     document: &DefDoc<'_>,
@@ -208,6 +233,9 @@ fn work_on_floor<N: Net + AllocGlobal, E: Exports, R: Read, W: Write, F: Write>(
     ensures unput { OnErr result (E.puts exports.new ≡ E.puts exports.old) }
     ensures unasked { option_map (λ path. path.now) path.entry ≡ None → exports.new ≡ exports.old }
 {
+    if let Err(exit) = try_export(path, exports, faults) {
+        return Err(exit);
+    }
     if let Err(exit) = answer(rt, floor, lines, reader, writer, faults) {
         return Err(exit);
     }

@@ -3,7 +3,7 @@
 ghost use Rattle.std.specs.Prelude.{◌≡◌, ◌↔◌, ℕ, List, Option, None, IsOk, OnErr, OnOk};
 ghost use Rattle.lf_files.specs.Shelf.{Put, Puts};
 
-use crate::replacing::{is_special, replace, write_through};
+use crate::replacing::{is_special, replace, try_path, write_through};
 use std::io;
 use std::io::ErrorKind;
 use std::rt::Files;
@@ -25,7 +25,7 @@ fn unwritten_of(error: &io::Error) -> Unwritten {
     Unwritten::File
 }
 
-/// The result for a text that was written, or was not.
+/// The result for a text that was written, or was not, or for a path that was tried.
 fn put_result(written: io::Result<()>) -> Result<(), Unwritten>
     ensures { IsOk result ↔ IsOk written }
 {
@@ -48,6 +48,9 @@ pub trait Exports {
     // The texts that were put, the last one first, if they are known.
     ghost puts: { Self → Option (List Put) } = { λ _. None };
 
+    /// Tells before there is a text whether one can be put into the file of that path, as far as that shows: `Ok` is no promise.
+    fn try_path(&self, path: &str) -> Result<(), Unwritten>;
+
     /// Puts the text into the file of that path, in place of what was there.
     fn put(&mut self, path: &str, text: &[u8]) -> Result<(), Unwritten>
         ensures ok { OnOk result (Puts (puts self.old) (puts self.new) path.now text.now) }
@@ -68,6 +71,10 @@ impl<'a, T> FileExports<'a, T> {
 }
 
 impl<'a, T: Files + AllocGlobal> Exports for FileExports<'a, T> {
+    fn try_path(&self, path: &str) -> Result<(), Unwritten> {
+        put_result(try_path(self.files, path))
+    }
+
     fn put(&mut self, path: &str, text: &[u8]) -> Result<(), Unwritten> {
         put_result(write_to(self.files, path, text))
     }

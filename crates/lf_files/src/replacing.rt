@@ -132,6 +132,44 @@ fn fill_and_rename<T: Files>(
     renamed
 }
 
+/// A new file beside the target, with its name.
+fn new_beside<T: Files + AllocGlobal>(rt: &T, target: &str) -> io::Result<(String, T::File)> {
+    for number in 0..TRIES {
+        let name = name_beside(rt.alloc(), target, number)?;
+        match File::create_new(rt, &name) {
+            Ok(file) => return Ok((name, file)),
+            Err(error) if error.kind() == ErrorKind::AlreadyExists => {}
+            Err(error) => return Err(error),
+        }
+    }
+    Err(io::Error::from(ErrorKind::AlreadyExists))
+}
+
+/// Makes a new file beside the target, and removes it.
+fn try_beside<T: Files + AllocGlobal>(rt: &T, target: &str) -> io::Result<()> {
+    let (name, file) = new_beside(rt, target)?;
+    drop(file);
+    fs::remove_file(rt, &name)
+}
+
+/// Whether a text can be put where the path leads, as far as that shows beforehand: `Err` if a folder is there, or no file
+/// can be made there.
+pub(crate) fn try_path<T: Files + AllocGlobal>(rt: &T, path: &str) -> io::Result<()> {
+    if let Some(known) = found(fs::metadata(rt, path))? {
+        if known.is_dir() {
+            return Err(io::Error::from(ErrorKind::IsADirectory));
+        }
+        if !known.is_file() {
+            return Ok(());
+        }
+    }
+    let target = target_of(rt, path)?;
+    if is_output(rt, &target)? {
+        return Ok(());
+    }
+    try_beside(rt, &target)
+}
+
 /// Writes the text to a new file beside the target, and gives it the target's name: what had that name before is replaced
 /// at once, and unchanged if anything fails. Where standard output goes to that file, the text goes behind what was written
 /// there.
@@ -140,13 +178,6 @@ pub(crate) fn replace<T: Files + AllocGlobal>(rt: &T, path: &str, text: &[u8]) -
     if is_output(rt, &target)? {
         return store_behind(rt, &target, text);
     }
-    for number in 0..TRIES {
-        let name = name_beside(rt.alloc(), &target, number)?;
-        match File::create_new(rt, &name) {
-            Ok(file) => return fill_and_rename(rt, &name, &target, file, text),
-            Err(error) if error.kind() == ErrorKind::AlreadyExists => {}
-            Err(error) => return Err(error),
-        }
-    }
-    Err(io::Error::from(ErrorKind::AlreadyExists))
+    let (name, file) = new_beside(rt, &target)?;
+    fill_and_rename(rt, &name, &target, file, text)
 }

@@ -20,6 +20,8 @@ struct Kept<'a> {
     text: Option<Vec<u8>>,
     /// How often a text was to be put, whatever the path and whether it was taken.
     asked: u32,
+    /// Whether no text is taken, though the path is.
+    is_full: bool,
     alloc: Global,
 }
 
@@ -30,6 +32,7 @@ impl<'a> Kept<'a> {
             path,
             text: None,
             asked: 0,
+            is_full: false,
             alloc,
         }
     }
@@ -44,9 +47,16 @@ impl<'a> Kept<'a> {
 }
 
 impl<'a> Exports for Kept<'a> {
+    fn try_path(&self, path: &str) -> Result<(), Unwritten> {
+        if self.path != Some(path) {
+            return Err(Unwritten::File);
+        }
+        Ok(())
+    }
+
     fn put(&mut self, path: &str, text: &[u8]) -> Result<(), Unwritten> {
         self.asked = self.asked.saturating_add(1);
-        if self.path != Some(path) {
+        if self.is_full || self.path != Some(path) {
             return Err(Unwritten::File);
         }
         match Vec::from_slice(self.alloc, text) {
@@ -567,8 +577,21 @@ fn what_works_alone_is_not_exported(rt: HostRuntime) -> Result<(), Fail> {
 #[test]
 fn an_export_that_cannot_be_written_is_a_fault(rt: HostRuntime) -> Result<(), Fail> {
     let task = exporting_replay(rt.alloc())?;
-    let run = done(&rt, &files_of(W_DEF), &task, "open A\n");
+    let mut exports = Kept::at(rt.alloc(), Some("new.def"));
+    exports.is_full = true;
+    let mut reader = b"open A\n".as_slice();
+    let run = exporting(&rt, &files_of(W_DEF), &mut exports, &task, &mut reader);
     assert!(rt; run.is_put(3, "ok 0 0\n", "lefence: File\n"));
+    Ok(())
+}
+
+#[test]
+fn a_path_that_takes_no_export_is_a_fault_before_the_first_line(
+    rt: HostRuntime,
+) -> Result<(), Fail> {
+    let task = exporting_replay(rt.alloc())?;
+    let run = done(&rt, &files_of(W_DEF), &task, "open A\n");
+    assert!(rt; run.is(3, "", "lefence: File\n"));
     Ok(())
 }
 

@@ -1,6 +1,6 @@
 use Rattle.std.proofs.Common.{◌≡◌, map, refl}
 use Rattle.std.specs.Prelude.{option_map}
-use Rattle.lf_app.proofs.WorkSteps.{ends_as, export_ends, lines_stopped}
+use Rattle.lf_app.proofs.WorkSteps.{ends_as, export_ends, lines_stopped, untouched_ends}
 use Rattle.lf_app.proofs.work.work_on_floor.Goals as goal
 
 pub export_to-requires : goal.export_to-requires
