@@ -5,6 +5,7 @@ No contract knows the bytes of sockets.
 
 from __future__ import annotations
 
+import contextlib
 import select
 import socket
 import sys
@@ -14,7 +15,7 @@ import time
 import unittest
 from pathlib import Path
 
-from program import DEF, DESIGN, Service, preloading, run
+from program import DEF, DESIGN, Client, Service, preloading, run
 
 LISTENING = "listening\n"
 # Lines that change nothing, of which no team has a session, and a last one that ends the connection.
@@ -137,6 +138,10 @@ class Cut(unittest.TestCase):
         with service.client() as client:
             self.assertEqual(client.ask("open Z"), "no 2 NoTeam")
 
+    def send_until_broken_off(self, client: Client, text: bytes) -> None:
+        with contextlib.suppress(OSError):
+            client.send(text)
+
     def test_input_that_ends_anywhere_is_answered_as_over_a_pipe(self) -> None:
         with Service(2 * len(LINES)) as service:
             for cut in range(len(LINES)):
@@ -204,11 +209,14 @@ class Cut(unittest.TestCase):
             with Service(2, environment=hastened) as service, service.client() as silent, service.client() as next_one:
                 self.assertEqual(silent.ask("open A"), "ok 0 0")
                 silent.socket.setsockopt(socket.SOL_SOCKET, socket.SO_RCVBUF, 4_096)
-                silent.send(b"def A 0\n" * 8_000)
+                # More replies than the system's own buffers take, so that the server has to wait.
+                sender = threading.Thread(target=self.send_until_broken_off, args=(silent, b"def A 0\n" * 100_000))
+                sender.start()
                 next_one.send(b"open A\n")
                 self.assertEqual(select.select([next_one.socket], [], [], 0.5)[0], [])
                 self.assertEqual(select.select([next_one.socket], [], [], 8)[0], [next_one.socket])
                 self.assertEqual(next_one.rest(), "ok 1 0\n")
+                sender.join()
                 self.assertEqual(service.end(), (0, LISTENING, ""))
 
 
