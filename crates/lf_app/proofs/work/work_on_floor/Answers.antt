@@ -11,17 +11,23 @@ returns-in-Ok-clause-ok g c = λ loaded is. (
   refl,
   record {
     floor = c.answer.new.floor;
-    work = c.in_default.ensures.ok loaded is _ _;
+    work = c.in_default-answer.ensures.ok loaded is _ _;
     exports = c.in-Ok.ensures.ok;
   },
 )
 
 pub returns-in-Err-clause-err : goal.returns-in-Err-clause-err
 returns-in-Err-clause-err g c = λ loaded is.
-    ends_as _ _ _ _ _ _ _ (c.in-Err.ensures.err loaded is _ _)
+    untouched_ends (option_map (λ path. path.now) c.args.path) c.args.lines loaded _ _ _ _ c.in-Err.exit c.in-Err.ensures.asked
+    record { unread = refl; unwritten = refl; unput = refl } c.in-Err.ensures.err
+
+pub returns-in-Err-answer-clause-err : goal.returns-in-Err-answer-clause-err
+returns-in-Err-answer-clause-err g c = λ loaded is.
+    ends_as _ _ _ _ _ _ _ (rw c.in_default.ensures.kept at c.in-Err-answer.ensures.err loaded is _ _)
     (λ fault why. lines_stopped (option_map (λ path. path.now) c.args.path) c.args.lines loaded _ fault why)
 
 pub returns-in-Err-export_to-clause-err : goal.returns-in-Err-export_to-clause-err
 returns-in-Err-export_to-clause-err g c = λ loaded is.
     export_ends (option_map (λ path. path.now) c.args.path) c.args.lines loaded c.answer.new.floor _ _ _ _ c.in-Err-export_to.exit
-    c.in-Err-export_to.ensures.asked (c.in_default.ensures.ok loaded is _ _) (rw c.in_default.ensures.kept at c.in-Err-export_to.ensures.err)
+    c.in-Err-export_to.ensures.asked (c.in_default-answer.ensures.ok loaded is _ _)
+    (rw c.in_default.ensures.kept at (rw c.in_default-answer.ensures.kept at c.in-Err-export_to.ensures.err))
