@@ -2,14 +2,16 @@
 """Asks a floor to look for places and to move cells, and prints microseconds per command, and seconds of whole teams' commands: the
 best of three runs of each.
 
-usage: bench/place.py [COUNT ...]    (10000 100000 1000000; from the top; the program crates/lefence is proved and built first:
-                                      rt run there)
+usage: bench/place.py [--padding P] [COUNT ...]    (0; 10000 100000 1000000; from the top; the program crates/lefence is proved and
+                                                    built first: rt run there)
 
 The designs are `generate.py packed`: 10 or 500 fences, cells of one to four rows that take 60 or 95 percent of the sites. The
 commands go to cells of the first fence and of the ground team, half of each, over a pipe and a hundred at a time. `find` and
 `legalize` look for a place within twenty sites and two rows of the cell's own. `tidy`, `commit` and `check` are asked of every
-team of a design in which a tenth of the cells stand half a site beside their places.
+team of a design in which a tenth of the cells stand half a site beside their places. With a padding every team keeps its cells
+that many core sites apart.
 """
+import argparse
 import os
 import random
 import subprocess
@@ -63,12 +65,14 @@ def verbs(teams):
 
 
 class Program:
-    """The program over a pipe, with a session of each of these teams."""
+    """The program over a pipe, with a session of each of these teams, which have this padding."""
 
-    def __init__(self, lef, def_, teams):
+    def __init__(self, lef, def_, teams, padding):
         self.child = subprocess.Popen([LEFENCE, "replay", def_, lef], stdin=subprocess.PIPE, stdout=subprocess.PIPE, bufsize=0)
         self.replies = open(self.child.stdout.fileno(), "rb", closefd=False)
         self.ask([f"open {team}\n" for team in teams])
+        if padding:
+            self.ask([f"pad {team} 0 {padding}\n" for team in teams])
 
     def ask(self, lines):
         """Seconds of these commands."""
@@ -89,18 +93,22 @@ class Program:
         self.child.wait()
 
 
-def best(asked, lef, def_, teams):
+def best(asked, lef, def_, teams, padding):
     """Of each of these lists of commands the best time of all runs, in seconds times its factor; a run asks them one after another."""
     found = [float("inf")] * len(asked)
     for _ in range(RUNS):
-        program = Program(lef, def_, teams)
+        program = Program(lef, def_, teams, padding)
         found = [min(time_, program.ask(lines) * factor) for time_, (lines, factor) in zip(found, asked)]
         program.end()
     return found
 
 
 def main():
-    counts = [int(word) for word in sys.argv[1:]] or [10_000, 100_000, 1_000_000]
+    words = argparse.ArgumentParser()
+    words.add_argument("--padding", type=int, default=0)
+    words.add_argument("counts", type=int, nargs="*")
+    given = words.parse_args()
+    counts = given.counts or [10_000, 100_000, 1_000_000]
     need(LEFENCE)
     print(f"{'cells':>8} {'fences':>6} {'%':>3} {'where':>7} {'find':>7} {'place':>7} {'swap':>7} {'legalize':>8} {'unplace':>7} {'undo':>7}"
           f" us {'tidy':>7} {'commit':>7} {'check':>7} s")
@@ -113,11 +121,11 @@ def main():
                     write(def_, "packed", count, fences, percent)
                     teams = cells_of(def_)
                     told = verbs(teams)
-                    times = best([(lines, 1e6 / len(lines)) for lines in told.values()], lef, def_, teams)
+                    times = best([(lines, 1e6 / len(lines)) for lines in told.values()], lef, def_, teams, given.padding)
                     write(def_, "packed", count, fences, percent, 10)
                     all_teams = [f"f{fence}" for fence in range(fences)] + ["-"]
                     whole = [([f"{verb} {team} 0\n" for team in all_teams], 1) for verb in ("tidy", "commit", "check")]
-                    whole = best(whole, lef, def_, all_teams)
+                    whole = best(whole, lef, def_, all_teams, given.padding)
                     print(f"{count:>8} {fences:>6} {percent:>3}" + "".join(f" {t:{w}.1f}" for t, w in zip(times, (7, 7, 7, 7, 8, 7, 7)))
                           + "    " + "".join(f" {t:7.3f}" for t in whole), flush=True)
 
