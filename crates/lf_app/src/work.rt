@@ -163,17 +163,21 @@ fn export_fault<'f>(unwritten: Unwritten) -> Fault<'f>
 }
 
 /// Makes sure, as far as that shows beforehand, that a text can be written to the file of that path, if one is given.
-fn try_export<E: Exports, F: Write>(path: Option<&str>, exports: &E, faults: &mut F) -> Result<(), Exit>
+fn try_export<E: Exports, F: Write>(
+    path: Option<&str>,
+    exports: &E,
+    faults: &mut F,
+) -> Result<(), Exit>
     ensures kept { OnOk result (faults.new ≡ faults.old) }
     ensures err { IfErr result (Ends IsExportFault (F.contents faults.old) (F.contents faults.new)) }
     ensures asked { OnErr result (IsSome (option_map (λ path. path.now) path.entry)) }
 {
-    let Some(path) = path else {
-        return Ok(());
-    };
-    match exports.try_path(path) {
-        Ok(()) => Ok(()),
-        Err(unwritten) => Err(tell(faults, &export_fault(unwritten))),
+    match path {
+        None => Ok(()),
+        Some(path) => match exports.try_path(path) {
+            Ok(()) => Ok(()),
+            Err(unwritten) => Err(tell(faults, &export_fault(unwritten))),
+        },
     }
 }
 
