@@ -16,6 +16,7 @@ ghost use Rattle.lf_cells.specs.Cells.{working_at};
 ghost use Rattle.lf_teams.specs.Verbs.{takes_memory};
 ghost use Rattle.lf_teams.specs.Designs.{opening};
 ghost use Rattle.lf_teams.specs.Runs.{Run, IsIsolated};
+ghost use Rattle.lf_teams.specs.Journals.{IsBackup, MayBeLeftOut, lasting, lasting_replies};
 ghost use Rattle.lf_teams.specs.Committed.{IsCommittedLegal, StandAsLoaded, loaded_design};
 ghost use Rattle.lf_teams.specs.CommittedRuns.{CommitsMakeLegal, EachTidiedCommits, LegalRun};
 ghost use Rattle.lf_teams.specs.Steps.{Answers, CommitsLegally, Gives, KeepsIfRefused, LegalizesLegally, PlacesLegally, SwapsLegally, TidiesLegally};
@@ -182,8 +183,12 @@ impl<S: Seeker + Drop> Floor<S> {
         all_committed(self.alloc, self.tables.placement.cells())
     }
 
-    /// The invariant of the type: each team is one of the frame.
-    fn teams_are_of_the_frame(&self)
+    /// Each team of a floor is one of its frame, whatever commands came before: its cells' macros and names, and the
+    /// numbers of its cells, session slots, undo entries and revisions, are within the frame's bounds, and no session has
+    /// seen a later revision than the team's.
+    ///
+    /// The laws on runs ask this of the floor before them (as `run_stays_legal` does): call this first.
+    pub fn teams_are_of_the_frame(&self)
         ensures { All (λ s. IsTeamOf self.now.frame s) self.now.teams }
     {
         let _ = &self.tables;
@@ -244,6 +249,10 @@ impl<S: Seeker + Drop> Floor<S> {
     /// legal at the end if of each team that has a cell a commit was accepted. A commit that is a
     /// team's next accepted change after a tidy is never refused for a cell.
     ///
+    /// Any requests that were refused (`OutOfMemory` included) and any looks (bye, check, def, where, find) may be left
+    /// out: the others, run from the same floor, end in the same floor with the replies that they had. With all of these
+    /// left out, what is left is a whole backup: run again from the same floor, with memory for each request, it ends in this one.
+    ///
     /// Memory for all replies is allocated first: `Err` if that fails, and then no request was
     /// answered.
     pub fn run(&mut self, requests: &RequestList) -> Result<Vec<Reply>, AllocError>
@@ -252,6 +261,8 @@ impl<S: Seeker + Drop> Floor<S> {
         ensures legal { (l : Legalizer) → IfOk result (λ replies. IsCommittedLegal self.old → LegalRun l self.old requests.now replies.items self.new) }
         ensures commits { IfOk result (λ replies. CommitsMakeLegal self.old requests.now replies.items self.new) }
         ensures tidied { IfOk result (λ replies. EachTidiedCommits self.old requests.now replies.items) }
+        ensures left_out { (l : Legalizer) → IfOk result (λ replies. MayBeLeftOut l self.old requests.now replies.items self.new) }
+        ensures backed_up { (l : Legalizer) → IfOk result (λ replies. IsBackup l self.old (lasting requests.now replies.items) (lasting_replies requests.now replies.items) self.new) }
         ensures components { self.new.components ≡ self.old.components }
         ensures err { OnErr result (self.new ≡ self.old) }
     {

@@ -23,12 +23,12 @@ mod wholes;
 pub use floor::Floor;
 pub use lf_teams::{
     best_is_found, change_counts, commit_finds_legal, commit_lasts, commit_makes_committed,
-    committed_by_teams, legal_commits, legal_makes_teams, legalize_makes_legal,
+    committed_by_teams, journal_restores, legal_commits, legal_makes_teams, legalize_makes_legal,
     loaded_is_committed, loaded_places_are_committed, loaded_run_stays_legal, look_keeps,
-    never_out_of_memory, only_commit_commits, only_pad_pads, order_keeps_committed,
-    other_designs_do_not_matter, others_do_not_matter, pad_keeps, place_makes_legal,
-    places_begin_as_loaded, places_follow_design, refusal_keeps, revert_after_commit_keeps,
-    run_commits_make_legal, run_stays_legal, run_tidied_commits, step_keeps_committed,
-    stuck_tidy_keeps, swap_makes_legal, tidy_makes_legal, undo_brings_back, verb_keeps_team,
-    verb_rows,
+    looks_and_refusals_leave_out, never_out_of_memory, only_commit_commits, only_pad_pads,
+    order_keeps_committed, other_designs_do_not_matter, others_do_not_matter, pad_keeps,
+    place_makes_legal, places_begin_as_loaded, places_follow_design, refusal_keeps,
+    revert_after_commit_keeps, run_commits_make_legal, run_is_isolated, run_keeps_teams,
+    run_stays_legal, run_tidied_commits, step_keeps_committed, stuck_tidy_keeps, swap_makes_legal,
+    teams_in_any_order, tidy_makes_legal, undo_brings_back, verb_keeps_team, verb_rows,
 };

@@ -155,7 +155,8 @@ impl LineFramer {
     }
 }
 
-/// However a stream is cut into pieces, feeding them to a new framer and then finishing gives the stream's lines.
-pub(crate) fn gives_the_lines()
+/// However the bytes of a stream come in pieces, a new framer that is fed them, what a feed did not use with the next,
+/// and then finishes has given the lines of the whole stream.
+pub fn gives_the_lines()
     ensures { GivesTheLines }
 {}

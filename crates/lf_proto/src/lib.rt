@@ -11,8 +11,10 @@ mod request_list;
 mod text;
 mod verb;
 
-pub use framer::{Fed, Got, LineFramer};
-pub use line::{BadRequest, parse_line};
+pub use framer::{Fed, Got, LineFramer, gives_the_lines};
+pub use line::{
+    BadRequest, blanks_around_pass, blanks_between_pass, parse_line, printed_reads_back,
+};
 pub use reply::{Refusal, Reply, Text};
 pub use report::report_json;
 pub use request::{Command, Order, Request};

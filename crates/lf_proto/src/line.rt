@@ -253,21 +253,23 @@ pub fn parse_line<'a>(line: &'a [u8]) -> Result<Request<'a>, BadRequest>
     request_in(fields_of(line)).ok_or(BadRequest)
 }
 
-/// The line that prints a request, one space between each two fields, reads as that request: for every request with
-/// names of visible bytes and numbers of 32 bits.
-pub(crate) fn printed_reads_back()
+/// A line that prints a request, its fields in order with one space between each two, reads as that request: for every
+/// request whose names are of visible bytes and whose numbers have 32 bits. So what `parse_line` gives for a printed
+/// request is that request.
+pub fn printed_reads_back()
     ensures { ReadsBack }
 {
     names_read_back();
     parts_join();
 }
 
-/// Blanks before and after a line play no part.
-pub(crate) fn blanks_around_pass()
+/// Blanks before and after a line do not matter: with one more it is the same request, or none as before.
+pub fn blanks_around_pass()
     ensures { PassesBlanksAround }
 {}
 
-/// A run of blanks separates two fields as one blank does, be it a space or a tab.
-pub(crate) fn blanks_between_pass()
+/// How many blanks are between two fields does not matter, nor whether they are spaces or tabs: two in a row are as
+/// good as any one.
+pub fn blanks_between_pass()
     ensures { PassesBlanksBetween }
 {}

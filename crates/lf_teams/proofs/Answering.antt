@@ -100,7 +100,7 @@ get-set_same [] i x l = absurd (omega arith)
 get-set_same (y ∷ ys) zero x l = refl
 get-set_same (y ∷ ys) (suc i) x l = get-set_same ys i x (omega arith)
 
-get-set_other : {X : Type 0} (xs : List X) (i j : ℕ) (x : X) → i ≢ j → slice_get (set xs i x) j ≡ slice_get xs j
+pub get-set_other : {X : Type 0} (xs : List X) (i j : ℕ) (x : X) → i ≢ j → slice_get (set xs i x) j ≡ slice_get xs j
 get-set_other [] i j x ne = refl
 get-set_other (y ∷ ys) zero zero x ne = absurd (ne refl)
 get-set_other (y ∷ ys) zero (suc j) x ne = refl

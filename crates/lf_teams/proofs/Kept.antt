@@ -28,7 +28,7 @@ false_true e = cc
 
 -- ---- refusals
 
-granted_plain : (reply : Reply) → is_granted reply ≡ true → is_short reply ≡ false
+pub granted_plain : (reply : Reply) → is_granted reply ≡ true → is_short reply ≡ false
 granted_plain (Refused refusal) granted = absurd (false_true granted)
 granted_plain _ granted = refl
 

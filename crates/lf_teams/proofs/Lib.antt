@@ -18,4 +18,6 @@ pub mod VerbRows
 pub mod Promises
 pub mod Stepping
 pub mod Running
+pub mod Journals
+pub mod TeamOrder
 pub mod TidyCommits

@@ -10,7 +10,6 @@ use Rattle.lf_proto.specs.declared.request.Order.TheVariants.{Within}
 use Rattle.lf_proto.specs.declared.verb.Action.TheVariants.{Change as Changing}
 use Rattle.lf_proto.specs.declared.verb.Change.TheVariants.{Commit}
 use Rattle.lf_proto.specs.declared.reply.Reply.{Reply}
-use Rattle.lf_proto.specs.declared.reply.Reply.TheVariants.{Refused}
 use Rattle.lf_cells.specs.declared.cell.Cell.{Cell}
 use Rattle.lf_rules.specs.Team.{Member}
 use Rattle.lf_teams.specs.States.{TeamState, FloorState}
@@ -23,10 +22,18 @@ use Rattle.lf_teams.specs.Committed.{committed_member, committed_members, AreCom
 use Rattle.lf_teams.specs.CommittedRuns.{HasFrameTeams, CommitLasts, LegalRun, HasCommitted, NumberHasCommitted, CommitsMakeLegal}
 use Rattle.lf_teams.proofs.Committing.{Commits, commit_commits}
 use Rattle.lf_teams.proofs.Isolation.{step_frame}
-use Rattle.lf_teams.proofs.Kept.{false_true}
+use Rattle.lf_teams.proofs.Kept.{false_true, granted_plain}
 use Rattle.lf_teams.proofs.Promises.{Ends, ends_good}
 use Rattle.lf_teams.proofs.Standing.{some_one, none_some}
 use Rattle.lf_teams.proofs.Stepping.{CommittedAt, step_teams, step_committed, teams_committed, step_keeps}
+
+-- a run keeps that each team is one of the frame
+pub run_teams : (l : Legalizer) (commands : List (Command (List ℕ) Place)) (replies : List Reply) (old new : FloorState) → HasFrameTeams old
+    → Run l old commands replies new → HasFrameTeams new
+run_teams l [] [] old new known run = subst HasFrameTeams (sym run) known
+run_teams l [] (r ∷ rs) old new known run = absurd run
+run_teams l (c ∷ cs) [] old new known run = absurd run
+run_teams l (c ∷ cs) (r ∷ rs) old new known run = run_teams l cs rs run.0 new (step_teams l old run.0 c r known run.1) run.2
 
 -- a run from a fully legal committed design has one all along
 pub legal_run : (l : Legalizer) (commands : List (Command (List ℕ) Place)) (replies : List Reply) (old new : FloorState) → HasFrameTeams old
@@ -40,11 +47,7 @@ legal_run l (c ∷ cs) (r ∷ rs) old new known run legal =
 
 -- ---- an accepted commit
 
-granted_plain : (reply : Reply) → is_granted reply ≡ true → is_short reply ≡ false
-granted_plain (Refused refusal) granted = absurd (false_true granted)
-granted_plain _ granted = refl
-
-plain_answers : (l : Legalizer) (old new : FloorState) (command : Command (List ℕ) Place) (reply : Reply) (short : Bool) → short ≡ false
+pub plain_answers : (l : Legalizer) (old new : FloorState) (command : Command (List ℕ) Place) (reply : Reply) (short : Bool) → short ≡ false
     → MatchBool short (RunsShort l old command new) (Answers l old command reply new) → Answers l old command reply new
 plain_answers l old new command reply true is step = absurd (false_true (sym is))
 plain_answers l old new command reply false is step = step

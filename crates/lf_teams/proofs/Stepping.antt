@@ -65,7 +65,7 @@ unfolding answer_of
 answer_each l floor Bye k s there = stays l floor.frame floor.teams k s there
 answer_each l floor (To name order) k s there = at_each l floor order (team_number floor.frame name) k s there
 
-step_each : (l : Legalizer) (old new : FloorState) (command : Command (List ℕ) Place) (reply : Reply) (short : Bool)
+pub step_each : (l : Legalizer) (old new : FloorState) (command : Command (List ℕ) Place) (reply : Reply) (short : Bool)
     → MatchBool short (RunsShort l old command new) (Answers l old command reply new)
     → (k : ℕ) (s : TeamState) → slice_get new.teams k ≡ Some s → Was l old.frame old.teams k s
 step_each l old new command reply true step k s there =

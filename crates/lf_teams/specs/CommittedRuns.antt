@@ -35,6 +35,12 @@ StepKeepsCommitted =
 
 -- ---- runs
 
+-- a run keeps that each team of the floor is one of its frame
+abbrev pub RunKeepsTeams : Type 0
+RunKeepsTeams =
+    (l : Legalizer) (old new : FloorState) (commands : List (Command (List ℕ) Place)) (replies : List Reply) → HasFrameTeams old
+    → Run l old commands replies new → HasFrameTeams new
+
 -- a run after each of whose commands the committed design is fully legal
 abbrev pub LegalRun : Legalizer → FloorState → List (Command (List ℕ) Place) → List Reply → FloorState → Type 0
 LegalRun l old [] [] new = new ≡ old

@@ -8,7 +8,13 @@ use Rattle.lf_proto.specs.declared.reply.Reply.{Reply}
 use Rattle.lf_teams.specs.States.{TeamState, FloorState}
 use Rattle.lf_teams.specs.Teams.{state_of}
 use Rattle.lf_teams.specs.Designs.{AgreeFor, opening}
-use Rattle.lf_teams.specs.Runs.{Run, asked, told}
+use Rattle.lf_teams.specs.Runs.{Run, IsIsolated, asked, told}
+
+-- in each run, each team's replies and state are those of its own orders alone
+abbrev pub RunIsIsolated : Type 0
+RunIsIsolated =
+    (l : Legalizer) (old new : FloorState) (commands : List (Command (List ℕ) Place)) (replies : List Reply)
+    → Run l old commands replies new → IsIsolated l old commands replies new
 
 -- in two runs on floors of one frame, a team that begins in the same state and sends the same commands gets the same replies and
 -- ends in the same state, whatever the other teams have and send; commands answered OutOfMemory are left out

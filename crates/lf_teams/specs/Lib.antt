@@ -13,4 +13,5 @@ pub mod Committed
 pub mod Places
 pub mod CommittedRuns
 pub mod Laws
+pub mod Journals
 pub mod VerbRows

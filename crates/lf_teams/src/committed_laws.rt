@@ -2,7 +2,7 @@
 
 ghost use Rattle.lf_teams.specs.Committed.{CommitMakesCommitted, CommittedByTeams, LegalMakesTeams, LoadedIsCommitted, LoadedPlacesAreCommitted, OrderKeepsCommitted};
 ghost use Rattle.lf_teams.specs.Places.{PlacesBeginAsLoaded, PlacesFollowDesign};
-ghost use Rattle.lf_teams.specs.CommittedRuns.{CommitLasts, LegalCommits, LoadedRunStaysLegal, RunCommitsMakeLegal, RunStaysLegal, RunTidiedCommits, StepKeepsCommitted};
+ghost use Rattle.lf_teams.specs.CommittedRuns.{CommitLasts, LegalCommits, LoadedRunStaysLegal, RunCommitsMakeLegal, RunKeepsTeams, RunStaysLegal, RunTidiedCommits, StepKeepsCommitted};
 
 use lf_rules::legal_in_range;
 
@@ -52,6 +52,11 @@ pub fn commit_makes_committed()
 /// A command keeps a fully legal committed design.
 pub fn step_keeps_committed()
     ensures { StepKeepsCommitted }
+{}
+
+/// A run keeps that each team of the floor is one of its frame, which the laws on runs ask of the floor before.
+pub fn run_keeps_teams()
+    ensures { RunKeepsTeams }
 {}
 
 /// In a run from a fully legal committed design, it is fully legal after each command.

@@ -1,10 +1,21 @@
 //! Connections over readers and writers in memory.
 
+ghost use Rattle.std.specs.Prelude.{◌≡◌, ◌≤◌, ◌+◌, false};
+ghost use Rattle.lf_rules.specs.Legalizer.{Legalizer};
+ghost use Rattle.lf_teams.specs.Committed.{IsCommittedLegal};
+ghost use Rattle.lf_teams.specs.CommittedRuns.{LegalRun};
+ghost use Rattle.lf_teams.specs.Journals.{IsBackup, lasting, lasting_replies};
+ghost use Rattle.lf_server.specs.Devices.{writer};
+ghost use Rattle.lf_server.specs.Endings.{Serves};
+ghost use Rattle.lf_server.specs.Laws.{commands, replies};
+
 use crate::designs::floor;
 use crate::devices::{Log, Pieces};
-use lf_floor::Floor;
-use lf_legalize::PlainSeeker;
-use lf_server::{Ending, FromRead, ServeLimits, Served, ToWrite, serve};
+use lf_floor::{Floor, journal_restores, run_stays_legal};
+use lf_legalize::{PlainSeeker, Seeker};
+use lf_server::{
+    Ending, FromRead, ServeLimits, Served, Sink, Source, ToWrite, serve, serving_runs,
+};
 use std::alloc::{AllocError, Global};
 use std::test::Fail;
 
@@ -44,6 +55,28 @@ pub struct Told {
     pub log: Vec<u8>,
 }
 
+/// How a connection is served. A committed design that was fully legal is so after each command of the lines acted on,
+/// and the journal of these commands is a backup.
+fn serve_safely<K: Seeker + Drop, S: Source, W: Sink>(
+    alloc: Global,
+    floor: &mut Floor<K>,
+    source: &mut S,
+    sink: &mut W,
+    limits: ServeLimits,
+) -> Served
+    requires readable { S.has_failed source.old ≡ false }
+    requires writable { W.has_failed sink.old ≡ false }
+    requires countable { S.reads source.old + limits.reads ≤ 18446744073709551615 }
+    ensures legal { (l : Legalizer) → IsCommittedLegal floor.old → (served : Serves l limits.lines floor.old (S.remaining source.old) (S.remaining source.new) (writer (W.contents sink.old) (W.is_flushed sink.old) (W.has_failed sink.old)) (writer (W.contents sink.new) (W.is_flushed sink.new) (W.has_failed sink.new)) result floor.new) × LegalRun l floor.old (commands served.done) (replies served.done) floor.new }
+    ensures backed_up { (l : Legalizer) → (served : Serves l limits.lines floor.old (S.remaining source.old) (S.remaining source.new) (writer (W.contents sink.old) (W.is_flushed sink.old) (W.has_failed sink.old)) (writer (W.contents sink.new) (W.is_flushed sink.new) (W.has_failed sink.new)) result floor.new) × IsBackup l floor.old (lasting (commands served.done) (replies served.done)) (lasting_replies (commands served.done) (replies served.done)) floor.new }
+{
+    floor.teams_are_of_the_frame();
+    serving_runs();
+    run_stays_legal();
+    journal_restores();
+    serve(alloc, floor, source, sink, limits)
+}
+
 /// How a connection over the reader and the writer is served.
 fn served(
     alloc: Global,
@@ -54,7 +87,7 @@ fn served(
 ) -> Served {
     let mut source = FromRead::new(reader);
     let mut sink = ToWrite::new(writer);
-    serve(alloc, floor, &mut source, &mut sink, limits)
+    serve_safely(alloc, floor, &mut source, &mut sink, limits)
 }
 
 /// Serves these bytes.

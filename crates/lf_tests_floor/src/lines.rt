@@ -1,19 +1,32 @@
 //! Requests, replies and the lines of a stream.
 
+ghost use Rattle.std.specs.Prelude.{◌≡◌, ℕ, List, MatchResult};
+ghost use Rattle.lf_proto.specs.Commands.{command_of};
+ghost use Rattle.lf_proto.specs.Printed.{printed};
+ghost use Rattle.lf_proto.specs.Requests.{IsPlain};
+
 use lf_frame::Place;
 use lf_orient::Orient;
 use lf_proto::{
-    Action, Change, Command, Got, LineFramer, Order, Refusal, Reply, Request, RequestList,
-    parse_line, reply_text, report_json,
+    Action, BadRequest, Change, Command, Got, LineFramer, Order, Refusal, Reply, Request,
+    RequestList, parse_line, printed_reads_back, reply_text, report_json,
 };
 use lf_rules::{Report, Rule, Violation};
 use lf_units::{Name, Sequence};
 use std::alloc::{AllocError, Global};
 use std::test::Fail;
 
+/// The request of a line. A line that prints a request gives that request.
+fn read_back<'a>(line: &'a [u8]) -> Result<Request<'a>, BadRequest>
+    ensures { (command : Command (List ℕ) Place) → IsPlain command → line.now ≡ printed command → MatchResult result (λ request. command_of request ≡ command) (λ _. ⊥) }
+{
+    printed_reads_back();
+    parse_line(line)
+}
+
 /// The place that a line asks for.
 fn asked_place(line: &[u8]) -> Option<Place> {
-    let Ok(Command::To { order, .. }) = parse_line(line) else {
+    let Ok(Command::To { order, .. }) = read_back(line) else {
         return None;
     };
     let Order::Within { action, .. } = order else {
