@@ -6,9 +6,11 @@ use lf_app::Help;
 pub(crate) const USAGE: &str =
     "  lefence [demo]                answers the lines of standard input over the built-in design
   lefence check DEF LEF...      writes a report of the design
-  lefence replay DEF LEF... [--export FILE]
-                                answers the lines of standard input over the design; then its text, with the
-                                committed places in it, goes to FILE
+  lefence describe DEF LEF...   writes the design as JSON Lines: rows, fences, obstacles, cells with boxes and
+                                broken rules
+  lefence replay DEF LEF... [--export FILE] [--lines N]
+                                answers the lines of standard input over the design, N at most; then its text,
+                                with the committed places in it, goes to FILE
   lefence serve DEF LEF... --port P --connections N [--export FILE]
                                 answers the lines of N connections to port P of this machine, one after the other
   (a path that begins with '-' stands behind '--'; docs/PROTOCOL.md says more)
@@ -39,10 +41,19 @@ example:
   lefence check chip.def tech.lef cells.lef
 ";
 
-const REPLAY: &str = "lefence replay DEF LEF... [--export FILE]
+const DESCRIBE: &str = "lefence describe DEF LEF...
+
+Writes the design as JSON Lines: rows, fences, obstacles, cells with boxes and broken rules.
+
+example:
+  lefence describe chip.def tech.lef cells.lef > chip.jsonl
+";
+
+const REPLAY: &str = "lefence replay DEF LEF... [--export FILE] [--lines N]
 
 Answers the lines of standard input over the design, one reply to each line, to the end of the input or a line
-'bye'. With --export, the DEF text with the committed places in it then goes to FILE; all else in it stays.
+'bye'. N is the most lines that are answered (1 to 4294967295; 1000000 if not given). With --export, the DEF text
+with the committed places in it then goes to FILE; all else in it stays.
 
 example:
   lefence replay chip.def tech.lef cells.lef --export new.def < session.txt
@@ -64,6 +75,7 @@ pub(crate) fn texts_of(help: Help) -> [&'static str; 2] {
         Help::Version => [VERSION, ""],
         Help::Demo => [DEMO, ""],
         Help::Check => [CHECK, ""],
+        Help::Describe => [DESCRIBE, ""],
         Help::Replay => [REPLAY, ""],
         Help::Serve => [SERVE, ""],
     }

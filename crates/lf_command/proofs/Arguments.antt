@@ -20,9 +20,9 @@ use Rattle.lf_command.specs.Command.{Given, Job, given_by, has_setting, job_by, 
 use Rattle.lf_command.specs.CommandLine.{command_line, found_given, name_of, value_row}
 use Rattle.lf_command.specs.declared.words.Next.TheVariants.{Any}
 use Rattle.lf_command.specs.declared.words.Setting.{Setting}
-use Rattle.lf_command.specs.declared.words.Setting.TheVariants.{Export, Port, Connections}
+use Rattle.lf_command.specs.declared.words.Setting.TheVariants.{Export, Port, Connections, Lines}
 use Rattle.lf_command.specs.declared.words.Subcommand.{Subcommand}
-use Rattle.lf_command.specs.declared.words.Subcommand.TheVariants.{Replay, Serve, Check}
+use Rattle.lf_command.specs.declared.words.Subcommand.TheVariants.{Replay, Serve, Check, Describe}
 use Rattle.lf_command.proofs.Numbers.{from_number}
 use Rattle.lf_command.proofs.Rows.{seen}
 use Rattle.lf_command.proofs.Steps.{Pending, at, done, held, leaf, value_passes}
@@ -44,11 +44,12 @@ takes_demo name = refl
 
 -- ---- what a job needs
 
--- a service has a port and a number of connections
+-- a bound on lines is a number, and a service has a port and a number of connections
 abbrev Served : Subcommand → Given → Type 0
 Served Serve given =
     ((port : Text) × (given.port ≡ Some port) × (value_passes Port port ≡ true))
     × ((connections : Text) × (given.connections ≡ Some connections) × (value_passes Connections connections ≡ true))
+Served Replay given = (lines : Text) → given.lines ≡ Some lines → value_passes Lines lines ≡ true
 Served _ given = ⊤
 
 record Needs (chosen : Subcommand) (given : Given) : Type 0 where
@@ -58,7 +59,7 @@ record Needs (chosen : Subcommand) (given : Given) : Type 0 where
   paths : given.paths ≡ def ∷ lef ∷ lefs
   served : Served chosen given
 
-number_passes : (s : Setting) (most n : ℕ) (text : Text) → number_in 1 most text ≡ Some n → most ≤ 1000000
+number_passes : (s : Setting) (most n : ℕ) (text : Text) → number_in 1 most text ≡ Some n → most ≤ 4294967295
     → (is_number text && (nat_lt (number_of text) 18446744073709551616 && (nat_le 1 (number_of text) && nat_le (number_of text) most))) ≡ true
 number_passes s most n text e bound =
     let said = from_number 1 most n text e in
@@ -90,8 +91,13 @@ serves given s e is = by given.port refl given.connections refl
         inner port connections is_p is_c (number_in 1 65535 port) refl (number_in 1 1000000 connections) refl
 
 served_of : (chosen : Subcommand) (def : Text) (lefs : List Text) (given : Given) (job : Job) → job_on chosen def lefs given ≡ Some job → Served chosen given
-served_of Replay def lefs given job e = tt
 served_of Check def lefs given job e = tt
+served_of Describe def lefs given job e = tt
+served_of Replay def lefs given job e = λ text has. by text has (number_in 1 4294967295 text) refl
+  where
+    by : (text : Text) → given.lines ≡ Some text → (n : Option ℕ) → number_in 1 4294967295 text ≡ n → value_passes Lines text ≡ true
+    by text has (Some n) is = number_passes Lines 4294967295 n text is (omega arith)
+    by text has None is = let same : None ≡ Some job = sym (rw (has, is) refl) ∙ e in absurd (false≢true (ap is_some same))
 served_of Serve def lefs given job e = by (service_of given) refl
   where
     by : (s : Option (ℕ × ℕ)) → service_of given ≡ s → Served Serve given
@@ -119,8 +125,14 @@ fits chosen given served few = record { values = values chosen served; few = few
     values Serve served Connections value has e = passes_as Connections value served.1.0 e served.1.1 served.1.2
     values Replay served Port value has e = absurd (false≢true has)
     values Replay served Connections value has e = absurd (false≢true has)
+    values Replay served Lines value has e = served value e
+    values Serve served Lines value has e = absurd (false≢true has)
     values Check served Port value has e = absurd (false≢true has)
     values Check served Connections value has e = absurd (false≢true has)
+    values Check served Lines value has e = absurd (false≢true has)
+    values Describe served Port value has e = absurd (false≢true has)
+    values Describe served Connections value has e = absurd (false≢true has)
+    values Describe served Lines value has e = absurd (false≢true has)
 
 -- ---- the level of a subcommand
 
@@ -151,12 +163,14 @@ unfolding clap_on_literals
 plain Replay = refl
 plain Serve = refl
 plain Check = refl
+plain Describe = refl
 
 defaults_pass : (chosen : Subcommand) → list_all default_passes (leaf chosen).rules ≡ true
 unfolding clap_on_literals
 defaults_pass Replay = refl
 defaults_pass Serve = refl
 defaults_pass Check = refl
+defaults_pass Describe = refl
 
 finished_is : (chosen : Subcommand) (rows : List Row) (p : Pending) → finished (leaf chosen).rules (held rows p) ≡ done chosen p rows
 finished_is chosen rows p = no_defaults (leaf chosen).rules (done chosen p rows) (plain chosen)
@@ -166,6 +180,7 @@ valid : (chosen : Subcommand) (given : Given) (def lef : Text) (lefs : List Text
 unfolding clap_on_literals
 valid Replay given def lef lefs rows served h = rw (h.def, h.lefs) refl
 valid Check given def lef lefs rows served h = rw (h.def, h.lefs) refl
+valid Describe given def lef lefs rows served h = rw (h.def, h.lefs) refl
 valid Serve given def lef lefs rows served h =
     let port : seen (codes "port") rows ≡ Some (value_row Port served.0.0) = h.values Port ∙ ap (option_map (value_row Port)) served.0.1 in
     let connections : seen (codes "connections") rows ≡ Some (value_row Connections served.1.0) = h.values Connections
@@ -224,12 +239,14 @@ unfolding clap_on_literals
 top_walk Replay words = walk_behind (word_of Replay) words []
 top_walk Serve words = walk_behind (word_of Serve) words []
 top_walk Check words = walk_behind (word_of Check) words []
+top_walk Describe words = walk_behind (word_of Describe) words []
 
 top_passes : (chosen : Subcommand) (words : List Text) → walk_passes top names start (word_of chosen ∷ words) ≡ true
 unfolding clap_on_literals
 top_passes Replay words = passes_behind (word_of Replay) words []
 top_passes Serve words = passes_behind (word_of Serve) words []
 top_passes Check words = passes_behind (word_of Check) words []
+top_passes Describe words = passes_behind (word_of Describe) words []
 
 -- what is left to pass where the walk over the program's words has come to this
 abbrev top_closes : Text → List Text → Walk → Bool
@@ -249,6 +266,7 @@ unfolding clap_on_literals
 top_closes_at Replay words level = ap₂ (λ (a b : Bool). a && (b && true)) level (top_passes Replay words)
 top_closes_at Serve words level = ap₂ (λ (a b : Bool). a && (b && true)) level (top_passes Serve words)
 top_closes_at Check words level = ap₂ (λ (a b : Bool). a && (b && true)) level (top_passes Check words)
+top_closes_at Describe words level = ap₂ (λ (a b : Bool). a && (b && true)) level (top_passes Describe words)
 
 entered_is : (chosen : Subcommand) (words : List Text)
     → entered (built command_line) (Some (word_of chosen, words))
@@ -257,6 +275,7 @@ unfolding clap_on_literals
 entered_is Replay words = refl
 entered_is Serve words = refl
 entered_is Check words = refl
+entered_is Describe words = refl
 
 -- ---- rows as what they give
 
@@ -277,26 +296,32 @@ found_is found given def lef lefs rows paths h is =
     let port = first_value-rows found (codes "port") ∙ first (codes "port") ∙ value_is Port given.port rows (h.values Port) in
     let connections = first_value-rows found (codes "connections") ∙ first (codes "connections")
     ∙ value_is Connections given.connections rows (h.values Connections) in
-    rw (one, more, export, port, connections, ← paths) refl
+    let lines = first_value-rows found (codes "lines") ∙ first (codes "lines") ∙ value_is Lines given.lines rows (h.values Lines) in
+    rw (one, more, export, port, connections, lines, ← paths) refl
 
 -- ---- all command lines
 
 -- the word of a subcommand is its own
 word_named : (word : Text) (chosen : Subcommand) → subcommand_named word ≡ Some chosen → word ≡ word_of chosen
-word_named word chosen e = by (bytes_eq word (word_of Replay)) refl (bytes_eq word (word_of Serve)) refl (bytes_eq word (word_of Check)) refl
+word_named word chosen e =
+    by (bytes_eq word (word_of Replay)) refl (bytes_eq word (word_of Serve)) refl (bytes_eq word (word_of Check)) refl (bytes_eq word (word_of Describe)) refl
   where
     by : (r : Bool) → bytes_eq word (word_of Replay) ≡ r → (s : Bool) → bytes_eq word (word_of Serve) ≡ s → (k : Bool) → bytes_eq word (word_of Check) ≡ k
-        → word ≡ word_of chosen
-    by true is s also k last =
+        → (d : Bool) → bytes_eq word (word_of Describe) ≡ d → word ≡ word_of chosen
+    by true is s also k third d last =
         let same : Some Replay ≡ Some chosen = sym (rw is refl) ∙ e in
         (bytes_eq-Decides word (word_of Replay)).0 is ∙ ap (λ o. word_of (unwrap_or o Replay)) same
-    by false is true also k last =
+    by false is true also k third d last =
         let same : Some Serve ≡ Some chosen = sym (rw (is, also) refl) ∙ e in
         (bytes_eq-Decides word (word_of Serve)).0 also ∙ ap (λ o. word_of (unwrap_or o Serve)) same
-    by false is false also true last =
-        let same : Some Check ≡ Some chosen = sym (rw (is, also, last) refl) ∙ e in
-        (bytes_eq-Decides word (word_of Check)).0 last ∙ ap (λ o. word_of (unwrap_or o Check)) same
-    by false is false also false last = let same : None ≡ Some chosen = sym (rw (is, also, last) refl) ∙ e in absurd (false≢true (ap is_some same))
+    by false is false also true third d last =
+        let same : Some Check ≡ Some chosen = sym (rw (is, also, third) refl) ∙ e in
+        (bytes_eq-Decides word (word_of Check)).0 third ∙ ap (λ o. word_of (unwrap_or o Check)) same
+    by false is false also false third true last =
+        let same : Some Describe ≡ Some chosen = sym (rw (is, also, third, last) refl) ∙ e in
+        (bytes_eq-Decides word (word_of Describe)).0 last ∙ ap (λ o. word_of (unwrap_or o Describe)) same
+    by false is false also false third false last =
+        let same : None ≡ Some chosen = sym (rw (is, also, third, last) refl) ∙ e in absurd (false≢true (ap is_some same))
 
 -- the words of a subcommand that give a job
 pub record IsJob (chosen : Subcommand) (name : Text) (words : List Text) : Type 0 where
@@ -358,6 +383,7 @@ is_job_at chosen name words given e few need =
     nothing_seen Export = refl
     nothing_seen Port = refl
     nothing_seen Connections = refl
+    nothing_seen Lines = refl
 
 pub is_job : (chosen : Subcommand) (name : Text) (words : List Text) (job : Job) → job_by chosen words ≡ Some job → length words ≤ usize_max
     → IsJob chosen name words

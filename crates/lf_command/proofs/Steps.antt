@@ -15,9 +15,9 @@ use Rattle.clap.proofs.OnLiterals.{clap_on_literals}
 use Rattle.lf_command.specs.Command.{flag_of, has_setting}
 use Rattle.lf_command.specs.CommandLine.{line_of, name_of}
 use Rattle.lf_command.specs.declared.words.Setting.{Setting}
-use Rattle.lf_command.specs.declared.words.Setting.TheVariants.{Export, Port, Connections}
+use Rattle.lf_command.specs.declared.words.Setting.TheVariants.{Export, Port, Connections, Lines}
 use Rattle.lf_command.specs.declared.words.Subcommand.{Subcommand}
-use Rattle.lf_command.specs.declared.words.Subcommand.TheVariants.{Replay, Serve, Check}
+use Rattle.lf_command.specs.declared.words.Subcommand.TheVariants.{Replay, Serve, Check, Describe}
 use Rattle.lf_command.proofs.Rows.{put}
 
 -- a subcommand as it is built
@@ -68,6 +68,7 @@ unfolding clap_on_literals
 first_path Replay rows p word h e s = record { walks = rw (h.end, h.long, h.short, e) refl; passes = rw (h.end, h.long, h.short, e, s) refl }
 first_path Serve rows p word h e s = record { walks = rw (h.end, h.long, h.short, e) refl; passes = rw (h.end, h.long, h.short, e, s) refl }
 first_path Check rows p word h e s = record { walks = rw (h.end, h.long, h.short, e) refl; passes = rw (h.end, h.long, h.short, e, s) refl }
+first_path Describe rows p word h e s = record { walks = rw (h.end, h.long, h.short, e) refl; passes = rw (h.end, h.long, h.short, e, s) refl }
 
 pub first_behind : (chosen : Subcommand) (rows : List Row) (p : Pending) (w : Waiting) (word : Text) → pends (codes "def") p ≡ false
     → settles chosen p rows ≡ true
@@ -76,6 +77,7 @@ unfolding clap_on_literals
 first_behind Replay rows p w word e s = record { walks = rw e refl; passes = rw (e, s) refl }
 first_behind Serve rows p w word e s = record { walks = rw e refl; passes = rw (e, s) refl }
 first_behind Check rows p w word e s = record { walks = rw e refl; passes = rw (e, s) refl }
+first_behind Describe rows p w word e s = record { walks = rw e refl; passes = rw (e, s) refl }
 
 -- the waiting of the walk between words that are no values of options
 abbrev pub resting : Bool → Waiting
@@ -92,6 +94,8 @@ next_path Serve true rows p word h e s = record { walks = rw (h.end, h.long, h.s
 next_path Serve false rows p word h e s = record { walks = rw (h.end, h.long, h.short, e) refl; passes = rw (h.end, h.long, h.short, e, s) refl }
 next_path Check true rows p word h e s = record { walks = rw (h.end, h.long, h.short, e) refl; passes = rw (h.end, h.long, h.short, e, s) refl }
 next_path Check false rows p word h e s = record { walks = rw (h.end, h.long, h.short, e) refl; passes = rw (h.end, h.long, h.short, e, s) refl }
+next_path Describe true rows p word h e s = record { walks = rw (h.end, h.long, h.short, e) refl; passes = rw (h.end, h.long, h.short, e, s) refl }
+next_path Describe false rows p word h e s = record { walks = rw (h.end, h.long, h.short, e) refl; passes = rw (h.end, h.long, h.short, e, s) refl }
 
 pub next_behind : (chosen : Subcommand) (rows : List Row) (p : Pending) (w : Waiting) (word : Text) → pends (codes "lef") p ≡ false
     → settles chosen p rows ≡ true
@@ -100,6 +104,7 @@ unfolding clap_on_literals
 next_behind Replay rows p w word e s = record { walks = rw e refl; passes = rw (e, s) refl }
 next_behind Serve rows p w word e s = record { walks = rw e refl; passes = rw (e, s) refl }
 next_behind Check rows p w word e s = record { walks = rw e refl; passes = rw (e, s) refl }
+next_behind Describe rows p w word e s = record { walks = rw e refl; passes = rw (e, s) refl }
 
 pub more_path : (chosen : Subcommand) (b : Bool) (rows : List Row) (lefs : List Text) (word : Text) → IsPath word
     → Step chosen (at rows (Some (codes "lef", lefs)) (resting b) 2 false) word (at rows (Some (codes "lef", lefs ++ word ∷ [])) positional 2 false)
@@ -110,6 +115,8 @@ more_path Serve true rows lefs word h = record { walks = rw (h.end, h.long, h.sh
 more_path Serve false rows lefs word h = record { walks = rw (h.end, h.long, h.short) refl; passes = rw (h.end, h.long, h.short) refl }
 more_path Check true rows lefs word h = record { walks = rw (h.end, h.long, h.short) refl; passes = rw (h.end, h.long, h.short) refl }
 more_path Check false rows lefs word h = record { walks = rw (h.end, h.long, h.short) refl; passes = rw (h.end, h.long, h.short) refl }
+more_path Describe true rows lefs word h = record { walks = rw (h.end, h.long, h.short) refl; passes = rw (h.end, h.long, h.short) refl }
+more_path Describe false rows lefs word h = record { walks = rw (h.end, h.long, h.short) refl; passes = rw (h.end, h.long, h.short) refl }
 
 pub more_behind : (chosen : Subcommand) (rows : List Row) (lefs : List Text) (w : Waiting) (word : Text)
     → Step chosen (at rows (Some (codes "lef", lefs)) w 2 true) word (at rows (Some (codes "lef", lefs ++ word ∷ [])) positional 2 true)
@@ -117,6 +124,7 @@ unfolding clap_on_literals
 more_behind Replay rows lefs w word = record { walks = refl; passes = refl }
 more_behind Serve rows lefs w word = record { walks = refl; passes = refl }
 more_behind Check rows lefs w word = record { walks = refl; passes = refl }
+more_behind Describe rows lefs w word = record { walks = refl; passes = refl }
 
 -- ---- '--'
 
@@ -129,6 +137,8 @@ end_word Serve true rows p position = record { walks = refl; passes = refl }
 end_word Serve false rows p position = record { walks = refl; passes = refl }
 end_word Check true rows p position = record { walks = refl; passes = refl }
 end_word Check false rows p position = record { walks = refl; passes = refl }
+end_word Describe true rows p position = record { walks = refl; passes = refl }
+end_word Describe false rows p position = record { walks = refl; passes = refl }
 
 -- ---- options
 
@@ -137,6 +147,7 @@ abbrev pub value_passes : Setting → Text → Bool
 value_passes Export = accepts false parser.String
 value_passes Port = accepts false (parser.Unsigned 1 65535)
 value_passes Connections = accepts false (parser.Unsigned 1 1000000)
+value_passes Lines = accepts false (parser.Unsigned 1 4294967295)
 
 pub option_word : (chosen : Subcommand) (setting : Setting) (b : Bool) (rows : List Row) (p : Pending) (position : ℕ) → has_setting chosen setting ≡ true
     → settles chosen p rows ≡ true
@@ -145,6 +156,8 @@ pub option_word : (chosen : Subcommand) (setting : Setting) (b : Bool) (rows : L
 unfolding clap_on_literals
 option_word Replay Export true rows p position has settled = record { walks = refl; passes = rw settled refl }
 option_word Replay Export false rows p position has settled = record { walks = refl; passes = rw settled refl }
+option_word Replay Lines true rows p position has settled = record { walks = refl; passes = rw settled refl }
+option_word Replay Lines false rows p position has settled = record { walks = refl; passes = rw settled refl }
 option_word Serve Export true rows p position has settled = record { walks = refl; passes = rw settled refl }
 option_word Serve Export false rows p position has settled = record { walks = refl; passes = rw settled refl }
 option_word Serve Port true rows p position has settled = record { walks = refl; passes = rw settled refl }
@@ -153,9 +166,15 @@ option_word Serve Connections true rows p position has settled = record { walks 
 option_word Serve Connections false rows p position has settled = record { walks = refl; passes = rw settled refl }
 option_word Replay Port b rows p position has settled = absurd (false≢true has)
 option_word Replay Connections b rows p position has settled = absurd (false≢true has)
+option_word Serve Lines b rows p position has settled = absurd (false≢true has)
 option_word Check Export b rows p position has settled = absurd (false≢true has)
 option_word Check Port b rows p position has settled = absurd (false≢true has)
 option_word Check Connections b rows p position has settled = absurd (false≢true has)
+option_word Check Lines b rows p position has settled = absurd (false≢true has)
+option_word Describe Export b rows p position has settled = absurd (false≢true has)
+option_word Describe Port b rows p position has settled = absurd (false≢true has)
+option_word Describe Connections b rows p position has settled = absurd (false≢true has)
+option_word Describe Lines b rows p position has settled = absurd (false≢true has)
 
 pub option_with_value : (chosen : Subcommand) (setting : Setting) (b : Bool) (rows : List Row) (p : Pending) (position : ℕ) (value : Text)
     → has_setting chosen setting ≡ true
@@ -165,6 +184,8 @@ pub option_with_value : (chosen : Subcommand) (setting : Setting) (b : Bool) (ro
 unfolding clap_on_literals
 option_with_value Replay Export true rows p position value has settled new passes = record { walks = refl; passes = rw (settled, new, passes) refl }
 option_with_value Replay Export false rows p position value has settled new passes = record { walks = refl; passes = rw (settled, new, passes) refl }
+option_with_value Replay Lines true rows p position value has settled new passes = record { walks = refl; passes = rw (settled, new, passes) refl }
+option_with_value Replay Lines false rows p position value has settled new passes = record { walks = refl; passes = rw (settled, new, passes) refl }
 option_with_value Serve Export true rows p position value has settled new passes = record { walks = refl; passes = rw (settled, new, passes) refl }
 option_with_value Serve Export false rows p position value has settled new passes = record { walks = refl; passes = rw (settled, new, passes) refl }
 option_with_value Serve Port true rows p position value has settled new passes = record { walks = refl; passes = rw (settled, new, passes) refl }
@@ -173,23 +194,36 @@ option_with_value Serve Connections true rows p position value has settled new p
 option_with_value Serve Connections false rows p position value has settled new passes = record { walks = refl; passes = rw (settled, new, passes) refl }
 option_with_value Replay Port b rows p position value has settled new passes = absurd (false≢true has)
 option_with_value Replay Connections b rows p position value has settled new passes = absurd (false≢true has)
+option_with_value Serve Lines b rows p position value has settled new passes = absurd (false≢true has)
 option_with_value Check Export b rows p position value has settled new passes = absurd (false≢true has)
 option_with_value Check Port b rows p position value has settled new passes = absurd (false≢true has)
 option_with_value Check Connections b rows p position value has settled new passes = absurd (false≢true has)
+option_with_value Check Lines b rows p position value has settled new passes = absurd (false≢true has)
+option_with_value Describe Export b rows p position value has settled new passes = absurd (false≢true has)
+option_with_value Describe Port b rows p position value has settled new passes = absurd (false≢true has)
+option_with_value Describe Connections b rows p position value has settled new passes = absurd (false≢true has)
+option_with_value Describe Lines b rows p position value has settled new passes = absurd (false≢true has)
 
 pub value_word : (chosen : Subcommand) (setting : Setting) (rows : List Row) (position : ℕ) (word : Text) → has_setting chosen setting ≡ true → IsPath word
     → Step chosen (at rows (Some (name_of setting, [])) (option (name_of setting)) position false) word
     (at rows (Some (name_of setting, word ∷ [])) idle position false)
 unfolding clap_on_literals
 value_word Replay Export rows position word has h = record { walks = rw (h.end, h.long, h.short) refl; passes = rw (h.end, h.long, h.short) refl }
+value_word Replay Lines rows position word has h = record { walks = rw (h.end, h.long, h.short) refl; passes = rw (h.end, h.long, h.short) refl }
 value_word Serve Export rows position word has h = record { walks = rw (h.end, h.long, h.short) refl; passes = rw (h.end, h.long, h.short) refl }
 value_word Serve Port rows position word has h = record { walks = rw (h.end, h.long, h.short) refl; passes = rw (h.end, h.long, h.short) refl }
 value_word Serve Connections rows position word has h = record { walks = rw (h.end, h.long, h.short) refl; passes = rw (h.end, h.long, h.short) refl }
 value_word Replay Port rows position word has h = absurd (false≢true has)
 value_word Replay Connections rows position word has h = absurd (false≢true has)
+value_word Serve Lines rows position word has h = absurd (false≢true has)
 value_word Check Export rows position word has h = absurd (false≢true has)
 value_word Check Port rows position word has h = absurd (false≢true has)
 value_word Check Connections rows position word has h = absurd (false≢true has)
+value_word Check Lines rows position word has h = absurd (false≢true has)
+value_word Describe Export rows position word has h = absurd (false≢true has)
+value_word Describe Port rows position word has h = absurd (false≢true has)
+value_word Describe Connections rows position word has h = absurd (false≢true has)
+value_word Describe Lines rows position word has h = absurd (false≢true has)
 
 -- ---- what is pending is used
 
@@ -198,14 +232,21 @@ pub settles_value : (chosen : Subcommand) (setting : Setting) (rows : List Row) 
     → settles chosen (Some (name_of setting, value ∷ [])) rows ≡ true
 unfolding clap_on_literals
 settles_value Replay Export rows value has new passes = rw (new, passes) refl
+settles_value Replay Lines rows value has new passes = rw (new, passes) refl
 settles_value Serve Export rows value has new passes = rw (new, passes) refl
 settles_value Serve Port rows value has new passes = rw (new, passes) refl
 settles_value Serve Connections rows value has new passes = rw (new, passes) refl
 settles_value Replay Port rows value has new passes = absurd (false≢true has)
 settles_value Replay Connections rows value has new passes = absurd (false≢true has)
+settles_value Serve Lines rows value has new passes = absurd (false≢true has)
 settles_value Check Export rows value has new passes = absurd (false≢true has)
 settles_value Check Port rows value has new passes = absurd (false≢true has)
 settles_value Check Connections rows value has new passes = absurd (false≢true has)
+settles_value Check Lines rows value has new passes = absurd (false≢true has)
+settles_value Describe Export rows value has new passes = absurd (false≢true has)
+settles_value Describe Port rows value has new passes = absurd (false≢true has)
+settles_value Describe Connections rows value has new passes = absurd (false≢true has)
+settles_value Describe Lines rows value has new passes = absurd (false≢true has)
 
 pub settles_def : (chosen : Subcommand) (rows : List Row) (def : Text) → has_row (codes "def") rows ≡ false
     → settles chosen (Some (codes "def", def ∷ [])) rows ≡ true
@@ -213,6 +254,7 @@ unfolding clap_on_literals
 settles_def Replay rows def new = rw new refl
 settles_def Serve rows def new = rw new refl
 settles_def Check rows def new = rw new refl
+settles_def Describe rows def new = rw new refl
 
 pub settles_lefs : (chosen : Subcommand) (rows : List Row) (lef : Text) (lefs : List Text) → nat_le 1 (length (lef ∷ lefs)) ≡ true
     → nat_le (length (lef ∷ lefs)) usize_max ≡ true → list_all (λ value. true) lefs ≡ true
@@ -221,19 +263,27 @@ unfolding clap_on_literals
 settles_lefs Replay rows lef lefs least most all = rw (least, most, all) refl
 settles_lefs Serve rows lef lefs least most all = rw (least, most, all) refl
 settles_lefs Check rows lef lefs least most all = rw (least, most, all) refl
+settles_lefs Describe rows lef lefs least most all = rw (least, most, all) refl
 
 pub done_value : (chosen : Subcommand) (setting : Setting) (rows : List Row) (value : Text) → has_setting chosen setting ≡ true
     → done chosen (Some (name_of setting, value ∷ [])) rows ≡ put (name_of setting) AsWritten (value ∷ []) (without (name_of setting) rows)
 unfolding clap_on_literals
 done_value Replay Export rows value has = refl
+done_value Replay Lines rows value has = refl
 done_value Serve Export rows value has = refl
 done_value Serve Port rows value has = refl
 done_value Serve Connections rows value has = refl
 done_value Replay Port rows value has = absurd (false≢true has)
 done_value Replay Connections rows value has = absurd (false≢true has)
+done_value Serve Lines rows value has = absurd (false≢true has)
 done_value Check Export rows value has = absurd (false≢true has)
 done_value Check Port rows value has = absurd (false≢true has)
 done_value Check Connections rows value has = absurd (false≢true has)
+done_value Check Lines rows value has = absurd (false≢true has)
+done_value Describe Export rows value has = absurd (false≢true has)
+done_value Describe Port rows value has = absurd (false≢true has)
+done_value Describe Connections rows value has = absurd (false≢true has)
+done_value Describe Lines rows value has = absurd (false≢true has)
 
 pub done_def : (chosen : Subcommand) (rows : List Row) (def : Text)
     → done chosen (Some (codes "def", def ∷ [])) rows ≡ put (codes "def") AsWritten (def ∷ []) (without (codes "def") rows)
@@ -241,6 +291,7 @@ unfolding clap_on_literals
 done_def Replay rows def = refl
 done_def Serve rows def = refl
 done_def Check rows def = refl
+done_def Describe rows def = refl
 
 pub done_lefs : (chosen : Subcommand) (rows : List Row) (lef : Text) (lefs : List Text)
     → done chosen (Some (codes "lef", lef ∷ lefs)) rows ≡ put (codes "lef") AsWritten (lef ∷ lefs) rows
@@ -248,3 +299,4 @@ unfolding clap_on_literals
 done_lefs Replay rows lef lefs = refl
 done_lefs Serve rows lef lefs = refl
 done_lefs Check rows lef lefs = refl
+done_lefs Describe rows lef lefs = refl

@@ -16,7 +16,7 @@ use Rattle.lf_command.specs.CommandLine.{def_row, lef_row, name_of, value_row}
 use Rattle.lf_command.specs.declared.words.Next.{Next}
 use Rattle.lf_command.specs.declared.words.Next.TheVariants.{Any, Value, Path}
 use Rattle.lf_command.specs.declared.words.Setting.{Setting}
-use Rattle.lf_command.specs.declared.words.Setting.TheVariants.{Export, Port, Connections}
+use Rattle.lf_command.specs.declared.words.Setting.TheVariants.{Export, Port, Connections, Lines}
 use Rattle.lf_command.specs.declared.words.Subcommand.{Subcommand}
 use Rattle.lf_command.proofs.Fronts.{front_first}
 use Rattle.lf_command.proofs.Rows.{put, put_twice, row_missing, seen, seen_first, seen_more, seen_other, without_missing}
@@ -43,26 +43,31 @@ same_values : (path : Text) (given : Given) (s : Setting) → value_of s (with_p
 same_values path given Export = refl
 same_values path given Port = refl
 same_values path given Connections = refl
+same_values path given Lines = refl
 
 def_differs : (s : Setting) → bytes_eq (codes "def") (name_of s) ≡ false
 def_differs Export = refl
 def_differs Port = refl
 def_differs Connections = refl
+def_differs Lines = refl
 
 lef_differs : (s : Setting) → bytes_eq (codes "lef") (name_of s) ≡ false
 lef_differs Export = refl
 lef_differs Port = refl
 lef_differs Connections = refl
+lef_differs Lines = refl
 
 differs_def : (s : Setting) → bytes_eq (name_of s) (codes "def") ≡ false
 differs_def Export = refl
 differs_def Port = refl
 differs_def Connections = refl
+differs_def Lines = refl
 
 differs_lef : (s : Setting) → bytes_eq (name_of s) (codes "lef") ≡ false
 differs_lef Export = refl
 differs_lef Port = refl
 differs_lef Connections = refl
+differs_lef Lines = refl
 
 holds_def : (given : Given) (def : Text) (rows : List Row) → Holds [] given rows
     → Holds (def ∷ []) (with_path def given) (put (codes "def") AsWritten (def ∷ []) (without (codes "def") rows))
@@ -93,12 +98,19 @@ value_seen : (given : Given) (s t : Setting) (value : Text) (rows : List Row) �
 value_seen given Export Export value rows none e = seen_first (codes "export") AsWritten (value ∷ []) rows none
 value_seen given Export Port value rows none e = seen_other (codes "export") (codes "port") AsWritten (value ∷ []) rows refl ∙ e
 value_seen given Export Connections value rows none e = seen_other (codes "export") (codes "connections") AsWritten (value ∷ []) rows refl ∙ e
+value_seen given Export Lines value rows none e = seen_other (codes "export") (codes "lines") AsWritten (value ∷ []) rows refl ∙ e
 value_seen given Port Export value rows none e = seen_other (codes "port") (codes "export") AsWritten (value ∷ []) rows refl ∙ e
 value_seen given Port Port value rows none e = seen_first (codes "port") AsWritten (value ∷ []) rows none
 value_seen given Port Connections value rows none e = seen_other (codes "port") (codes "connections") AsWritten (value ∷ []) rows refl ∙ e
+value_seen given Port Lines value rows none e = seen_other (codes "port") (codes "lines") AsWritten (value ∷ []) rows refl ∙ e
 value_seen given Connections Export value rows none e = seen_other (codes "connections") (codes "export") AsWritten (value ∷ []) rows refl ∙ e
 value_seen given Connections Port value rows none e = seen_other (codes "connections") (codes "port") AsWritten (value ∷ []) rows refl ∙ e
 value_seen given Connections Connections value rows none e = seen_first (codes "connections") AsWritten (value ∷ []) rows none
+value_seen given Connections Lines value rows none e = seen_other (codes "connections") (codes "lines") AsWritten (value ∷ []) rows refl ∙ e
+value_seen given Lines Export value rows none e = seen_other (codes "lines") (codes "export") AsWritten (value ∷ []) rows refl ∙ e
+value_seen given Lines Port value rows none e = seen_other (codes "lines") (codes "port") AsWritten (value ∷ []) rows refl ∙ e
+value_seen given Lines Connections value rows none e = seen_other (codes "lines") (codes "connections") AsWritten (value ∷ []) rows refl ∙ e
+value_seen given Lines Lines value rows none e = seen_first (codes "lines") AsWritten (value ∷ []) rows none
 
 no_value : (paths : List Text) (given : Given) (s : Setting) (rows : List Row) → Holds paths given rows → value_of s given ≡ None → seen (name_of s) rows ≡ None
 no_value paths given s rows h none = h.values s ∙ ap (option_map (value_row s)) none
@@ -175,22 +187,31 @@ kept : (s t : Setting) (value other : Text) (given : Given) → value_of s given
 kept Export Export value other given none e = absurd (false≢true (ap is_some (sym none ∙ e)))
 kept Export Port value other given none e = e
 kept Export Connections value other given none e = e
+kept Export Lines value other given none e = e
 kept Port Export value other given none e = e
 kept Port Port value other given none e = absurd (false≢true (ap is_some (sym none ∙ e)))
 kept Port Connections value other given none e = e
+kept Port Lines value other given none e = e
 kept Connections Export value other given none e = e
 kept Connections Port value other given none e = e
 kept Connections Connections value other given none e = absurd (false≢true (ap is_some (sym none ∙ e)))
+kept Connections Lines value other given none e = e
+kept Lines Export value other given none e = e
+kept Lines Port value other given none e = e
+kept Lines Connections value other given none e = e
+kept Lines Lines value other given none e = absurd (false≢true (ap is_some (sym none ∙ e)))
 
 same_paths : (s : Setting) (value : Text) (given : Given) → (set s value given).paths ≡ given.paths
 same_paths Export value given = refl
 same_paths Port value given = refl
 same_paths Connections value given = refl
+same_paths Lines value given = refl
 
 is_set : (s : Setting) (value : Text) (given : Given) → value_of s (set s value given) ≡ Some value
 is_set Export value given = refl
 is_set Port value given = refl
 is_set Connections value given = refl
+is_set Lines value given = refl
 
 fits_value : (chosen : Subcommand) (s : Setting) (value : Text) (given : Given) → value_of s given ≡ None → Fits chosen (set s value given) → Fits chosen given
 fits_value chosen s value given none f = record {
@@ -355,9 +376,11 @@ pends_value : (paths : List Text) (position : ℕ) (s : Setting) (value : Text) 
 pends_value [] position Export value is = (refl, is, refl)
 pends_value [] position Port value is = (refl, is, refl)
 pends_value [] position Connections value is = (refl, is, refl)
+pends_value [] position Lines value is = (refl, is, refl)
 pends_value (def ∷ lefs) position Export value is = (is, inl refl)
 pends_value (def ∷ lefs) position Port value is = (is, inl refl)
 pends_value (def ∷ lefs) position Connections value is = (is, inl refl)
+pends_value (def ∷ lefs) position Lines value is = (is, inl refl)
 
 goes_option : (chosen : Subcommand) (given : Given) (s : Setting) → has_setting chosen s ≡ true → Goes chosen (flag_of s) given Any (given, Value s)
 goes_option chosen given s has fits = (
@@ -479,12 +502,14 @@ at_is word s r e = by (bytes_eq word (flag_of s)) refl (bytes_eq (take (length (
     by false is false front = let same : None ≡ Some r = sym (rw (is, front) refl) ∙ e in absurd (false≢true (ap is_some same))
 
 of_is : (word : Text) (r : Setting × Option Text) → option_of word ≡ Some r → IsWordOf r word
-of_is word r e = by (option_at word Export) refl (option_at word Port) refl
+of_is word r e = by (option_at word Export) refl (option_at word Port) refl (option_at word Connections) refl
   where
-    by : (x : Option (Setting × Option Text)) → option_at word Export ≡ x → (y : Option (Setting × Option Text)) → option_at word Port ≡ y → IsWordOf r word
-    by (Some x) is y also = at_is word Export r (is ∙ sym (rw is refl) ∙ e)
-    by None is (Some y) also = at_is word Port r (also ∙ sym (rw (is, also) refl) ∙ e)
-    by None is None also = at_is word Connections r (sym (rw (is, also) refl) ∙ e)
+    by : (x : Option (Setting × Option Text)) → option_at word Export ≡ x → (y : Option (Setting × Option Text)) → option_at word Port ≡ y
+        → (z : Option (Setting × Option Text)) → option_at word Connections ≡ z → IsWordOf r word
+    by (Some x) is y also z last = at_is word Export r (is ∙ sym (rw is refl) ∙ e)
+    by None is (Some y) also z last = at_is word Port r (also ∙ sym (rw (is, also) refl) ∙ e)
+    by None is None also (Some z) last = at_is word Connections r (last ∙ sym (rw (is, also, last) refl) ∙ e)
+    by None is None also None last = at_is word Lines r (sym (rw (is, also, last) refl) ∙ e)
 
 -- ---- one word
 

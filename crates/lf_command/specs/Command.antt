@@ -6,21 +6,22 @@ use Rattle.std.specs.List.{list_all}
 use Rattle.std.specs.Option.{option_or}
 use Rattle.std.specs.Str.Parse.{digits_value, without_leading_plus}
 use Rattle.lf_command.specs.declared.command.Task.{Task}
-use Rattle.lf_command.specs.declared.command.Task.TheVariants.{Demo, Replay, Serve, Check}
+use Rattle.lf_command.specs.declared.command.Task.TheVariants.{Demo, Replay, Serve, Check, Describe}
 use Rattle.lf_command.specs.declared.words.Next.{Next}
 use Rattle.lf_command.specs.declared.words.Next.TheVariants.{Any, Value, Path}
 use Rattle.lf_command.specs.declared.words.Setting.{Setting}
-use Rattle.lf_command.specs.declared.words.Setting.TheVariants.{Export, Port, Connections}
+use Rattle.lf_command.specs.declared.words.Setting.TheVariants.{Export, Port, Connections, Lines}
 use Rattle.lf_command.specs.declared.words.Subcommand.{Subcommand}
 use Rattle.lf_command.specs.declared.words.Subcommand.TheVariants as subcommand
 
 -- what a command line asks for, with the paths as they are written: of the DEF text, of the LEF texts in order, and of the
--- exported text; a service has a port and a number of connections
+-- exported text; a replay has a bound on the lines that are answered, and a service a port and a number of connections
 pub data Job : Type 0 where
   demo : Job
-  replay : List ℕ → List (List ℕ) → Option (List ℕ) → Job
+  replay : List ℕ → List (List ℕ) → ℕ → Option (List ℕ) → Job
   serve : List ℕ → List (List ℕ) → ℕ → ℕ → Option (List ℕ) → Job
   check : List ℕ → List (List ℕ) → Job
+  describe : List ℕ → List (List ℕ) → Job
 
 -- a word that begins with '-' and is longer is an option, or '--'
 abbrev pub is_option : List ℕ → Bool
@@ -32,11 +33,15 @@ abbrev pub flag_of : Setting → List ℕ
 flag_of Export = codes "--export"
 flag_of Port = codes "--port"
 flag_of Connections = codes "--connections"
+flag_of Lines = codes "--lines"
 
 -- the options of a subcommand
 abbrev pub has_setting : Subcommand → Setting → Bool
 has_setting subcommand.Replay Export = true
-has_setting subcommand.Serve setting = true
+has_setting subcommand.Replay Lines = true
+has_setting subcommand.Serve Export = true
+has_setting subcommand.Serve Port = true
+has_setting subcommand.Serve Connections = true
 has_setting _ _ = false
 
 -- the rest of a word after this front
@@ -54,7 +59,8 @@ option_at word setting = option_map (λ value. (setting, value)) (value_in word 
 
 -- the option that a word is
 abbrev pub option_of : List ℕ → Option (Setting × Option (List ℕ))
-option_of word = option_or (option_at word Export) (option_or (option_at word Port) (option_at word Connections))
+option_of word =
+    option_or (option_at word Export) (option_or (option_at word Port) (option_or (option_at word Connections) (option_at word Lines)))
 
 -- what words say: the paths in order, and the values of options
 pub record Given : Type 0 where
@@ -62,10 +68,11 @@ pub record Given : Type 0 where
   pub export : Option (List ℕ)
   pub port : Option (List ℕ)
   pub connections : Option (List ℕ)
+  pub lines : Option (List ℕ)
 
 -- before the first word is read
 abbrev pub nothing : Given
-nothing = record { paths = []; export = None; port = None; connections = None }
+nothing = record { paths = []; export = None; port = None; connections = None; lines = None }
 
 -- one more path
 abbrev pub with_path : List ℕ → Given → Given
@@ -76,12 +83,14 @@ abbrev pub value_of : Setting → Given → Option (List ℕ)
 value_of Export given = given.export
 value_of Port given = given.port
 value_of Connections given = given.connections
+value_of Lines given = given.lines
 
 -- an option has this value
 abbrev pub set : Setting → List ℕ → Given → Given
 set Export value given = record given { export = Some value }
 set Port value given = record given { port = Some value }
 set Connections value given = record given { connections = Some value }
+set Lines value given = record given { lines = Some value }
 
 -- one more value of an option: each has one at most
 abbrev pub with_value : Setting → List ℕ → Given → Option Given
@@ -129,6 +138,7 @@ abbrev pub word_of : Subcommand → List ℕ
 word_of subcommand.Replay = codes "replay"
 word_of subcommand.Serve = codes "serve"
 word_of subcommand.Check = codes "check"
+word_of subcommand.Describe = codes "describe"
 
 -- the subcommand of that word
 abbrev pub subcommand_named : List ℕ → Option Subcommand
@@ -136,6 +146,7 @@ subcommand_named word =
     if bytes_eq word (word_of subcommand.Replay) then Some subcommand.Replay
     else if bytes_eq word (word_of subcommand.Serve) then Some subcommand.Serve
     else if bytes_eq word (word_of subcommand.Check) then Some subcommand.Check
+    else if bytes_eq word (word_of subcommand.Describe) then Some subcommand.Describe
     else None
 
 -- the text is a number: digits, one at least, which may follow '+' and begin with zeros
@@ -157,11 +168,17 @@ service_of given =
     option_and_then (λ port. option_map (λ connections. (port, connections)) (option_and_then (number_in 1 1000000) given.connections))
     (option_and_then (number_in 1 65535) given.port)
 
+-- the most lines that are answered: a million if none is asked for
+abbrev pub most_lines : Option (List ℕ) → Option ℕ
+most_lines None = Some 1000000
+most_lines (Some text) = number_in 1 4294967295 text
+
 -- the job of a subcommand on these paths
 abbrev pub job_on : Subcommand → List ℕ → List (List ℕ) → Given → Option Job
-job_on subcommand.Replay def lefs given = Some (replay def lefs given.export)
+job_on subcommand.Replay def lefs given = option_map (λ lines. replay def lefs lines given.export) (most_lines given.lines)
 job_on subcommand.Serve def lefs given = option_map (λ service. serve def lefs service.0 service.1 given.export) (service_of given)
 job_on subcommand.Check def lefs given = Some (check def lefs)
+job_on subcommand.Describe def lefs given = Some (describe def lefs)
 
 -- a subcommand takes the path of a DEF text and then one path at least of a LEF text
 abbrev pub job_over : Subcommand → List (List ℕ) → Given → Option Job
@@ -186,11 +203,18 @@ job_of (name ∷ word ∷ rest) = job_named word rest
 -- the job that a task does
 abbrev pub as_job : Task → Job
 as_job Demo = demo
-as_job (Replay def lefs export) = replay def.now (map (λ lef. lef.now) lefs) (option_map (λ path. path.now) export)
+as_job (Replay def lefs lines export) = replay def.now (map (λ lef. lef.now) lefs) lines (option_map (λ path. path.now) export)
 as_job (Serve def lefs port connections export) = serve def.now (map (λ lef. lef.now) lefs) port connections (option_map (λ path. path.now) export)
 as_job (Check def lefs) = check def.now (map (λ lef. lef.now) lefs)
+as_job (Describe def lefs) = describe def.now (map (λ lef. lef.now) lefs)
 
 -- the task is a check
 abbrev pub IsCheck : Task → Type 0
 IsCheck (Check def lefs) = Unit {0}
 IsCheck _ = ⊥
+
+-- the task reads no line
+abbrev pub ReadsNone : Task → Type 0
+ReadsNone (Check def lefs) = Unit {0}
+ReadsNone (Describe def lefs) = Unit {0}
+ReadsNone _ = ⊥

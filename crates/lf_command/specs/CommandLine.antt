@@ -11,9 +11,9 @@ use Rattle.clap.specs.declared.parser.matches.ValueSource.TheVariants.{CommandLi
 use Rattle.clap.specs.declared.builder.action.ArgAction.TheVariants.{Append}
 use Rattle.lf_command.specs.declared.words.Reading.{Reading}
 use Rattle.lf_command.specs.declared.words.Setting.{Setting}
-use Rattle.lf_command.specs.declared.words.Setting.TheVariants.{Export, Port, Connections}
+use Rattle.lf_command.specs.declared.words.Setting.TheVariants.{Export, Port, Connections, Lines}
 use Rattle.lf_command.specs.declared.words.Subcommand.{Subcommand}
-use Rattle.lf_command.specs.declared.words.Subcommand.TheVariants.{Replay, Serve, Check}
+use Rattle.lf_command.specs.declared.words.Subcommand.TheVariants.{Replay, Serve, Check, Describe}
 use Rattle.lf_command.specs.Command.{Given, word_of}
 
 -- the path of the DEF text
@@ -34,7 +34,11 @@ export_rule = record (new_rule (codes "export")) { long = Some (codes "export") 
 
 -- an option whose value is a number up to this one, and 1 at least
 abbrev pub number_rule : List ℕ → ℕ → Rule
-number_rule name most = record (new_rule name) { long = Some name; required = true; parser = Some (parser.Unsigned 1 most) }
+number_rule name most = record (new_rule name) { long = Some name; parser = Some (parser.Unsigned 1 most) }
+
+-- the argument may not be left out
+abbrev pub needed : Rule → Rule
+needed rule = record rule { required = true }
 
 -- a subcommand of that name, whose words are the paths of a design
 abbrev pub design_line : List ℕ → App
@@ -42,10 +46,11 @@ design_line name = with_rule (with_rule (new_app name) def_rule) lef_rule
 
 -- a subcommand with its options
 abbrev pub line_of : Subcommand → App
-line_of Replay = with_rule (design_line (word_of Replay)) export_rule
-line_of Serve =
-    with_rule (with_rule (with_rule (design_line (word_of Serve)) (number_rule (codes "port") 65535)) (number_rule (codes "connections") 1000000)) export_rule
+line_of Replay = with_rule (with_rule (design_line (word_of Replay)) (number_rule (codes "lines") 4294967295)) export_rule
+line_of Serve = with_rule (with_rule (with_rule (design_line (word_of Serve)) (needed (number_rule (codes "port") 65535)))
+    (needed (number_rule (codes "connections") 1000000))) export_rule
 line_of Check = design_line (word_of Check)
+line_of Describe = design_line (word_of Describe)
 
 -- the program with the subcommands that answer the lines of standard input
 abbrev pub input_line : App
@@ -53,7 +58,7 @@ input_line = with_subcommand (with_subcommand (new_app (codes "lefence")) (new_a
 
 -- the program with its subcommands
 abbrev pub command_line : App
-command_line = with_subcommand (with_subcommand input_line (line_of Serve).top) (line_of Check).top
+command_line = with_subcommand (with_subcommand (with_subcommand input_line (line_of Serve).top) (line_of Check).top) (line_of Describe).top
 
 -- what was found of the DEF text's path
 abbrev pub def_row : List ℕ → Row
@@ -68,6 +73,7 @@ abbrev pub name_of : Setting → List ℕ
 name_of Export = codes "export"
 name_of Port = codes "port"
 name_of Connections = codes "connections"
+name_of Lines = codes "lines"
 
 -- what was found of an option
 abbrev pub value_row : Setting → List ℕ → Row
@@ -90,6 +96,7 @@ found_given found = record {
   export = first_value found (codes "export");
   port = first_value found (codes "port");
   connections = first_value found (codes "connections");
+  lines = first_value found (codes "lines");
 }
 
 -- what was read of words, or found
@@ -99,4 +106,5 @@ as_given reading = record {
   export = option_map (λ path. path.now) reading.export;
   port = option_map (λ text. text.now) reading.port;
   connections = option_map (λ text. text.now) reading.connections;
+  lines = option_map (λ text. text.now) reading.lines;
 }

@@ -1,13 +1,14 @@
 -- Words that ask what the program can be asked.
 use Rattle.std.specs.Prelude.{ℕ, List, [], ◌∷◌, Option, Some, None, bytes_eq, codes, if◌then◌else◌}
 use Rattle.lf_command.specs.declared.help.Help.{Help}
-use Rattle.lf_command.specs.declared.help.Help.TheVariants.{Program, Version, Demo, Check, Replay, Serve}
+use Rattle.lf_command.specs.declared.help.Help.TheVariants.{Program, Version, Demo, Check, Describe, Replay, Serve}
 
 -- what the subcommand of that word does
 abbrev pub topic_named : List ℕ → Option Help
 topic_named word =
     if bytes_eq word (codes "demo") then Some Demo
     else if bytes_eq word (codes "check") then Some Check
+    else if bytes_eq word (codes "describe") then Some Describe
     else if bytes_eq word (codes "replay") then Some Replay
     else if bytes_eq word (codes "serve") then Some Serve
     else None

@@ -7,8 +7,8 @@ ghost use Rattle.clap.specs.Walk.{rule_of};
 ghost use Rattle.clap.specs.declared.builder.command.Command.TheViews.{out-Command};
 ghost use Rattle.lf_command.specs.declared.command.UsageFault.TheVariants.{Usage, OutOfMemory};
 ghost use Rattle.lf_command.specs.declared.words.Subcommand.TheVariants as subcommand;
-ghost use Rattle.lf_command.specs.CommandLine.{as_given, command_line, def_rule, design_line, export_rule, found_given, input_line, lef_rule, line_of, number_rule};
-ghost use Rattle.lf_command.specs.Command.{Job, as_job, given_by, job_by, job_of, job_on, job_over, number_in, service_of};
+ghost use Rattle.lf_command.specs.CommandLine.{as_given, command_line, def_rule, design_line, export_rule, found_given, input_line, lef_rule, line_of, needed, number_rule};
+ghost use Rattle.lf_command.specs.Command.{Job, as_job, given_by, job_by, job_of, job_on, job_over, most_lines, number_in, service_of};
 
 use crate::words::{Reading, Subcommand, is_same_reading, read_words, subcommand_named};
 use clap::builder::ValueParser;
@@ -21,6 +21,9 @@ use thiserror::Error;
 /// The most connections that a service accepts.
 const MOST_CONNECTIONS: u32 = 1_000_000;
 
+/// The most lines that are answered if none is asked for.
+const USUAL_LINES: u32 = 1_000_000;
+
 /// What the program is to do.
 #[derive(Drop)]
 pub enum Task<'a> {
@@ -30,6 +33,8 @@ pub enum Task<'a> {
     Replay {
         def: &'a str,
         lefs: Sequence<&'a str>,
+        /// The most lines that are answered: from 1 to 4,294,967,295; 1,000,000 if none is asked for.
+        lines: u32,
         /// The path of the exported text, if one is asked for.
         export: Option<&'a str>,
     },
@@ -46,6 +51,11 @@ pub enum Task<'a> {
     },
     /// Reports on the design of a DEF text and of LEF texts, given by paths.
     Check {
+        def: &'a str,
+        lefs: Sequence<&'a str>,
+    },
+    /// Writes the design of a DEF text and of LEF texts, given by paths, as JSON Lines.
+    Describe {
         def: &'a str,
         lefs: Sequence<&'a str>,
     },
@@ -96,8 +106,15 @@ fn number<'a>(alloc: Global, name: &'a str, most: u64) -> Arg<'a>
 {
     Arg::new(alloc, name)
         .long(name)
-        .required(true)
         .value_parser(ValueParser::unsigned(1, most))
+}
+
+/// An option that may not be left out, whose value is a number from 1 up to this one.
+fn needed_number<'a>(alloc: Global, name: &'a str, most: u64) -> Arg<'a>
+    ensures rule { rule_of result ≡ needed (number_rule name.now most) }
+    ensures local { result.global ≡ false }
+{
+    number(alloc, name, most).required(true)
 }
 
 /// A subcommand of that name, whose words are the paths of a design.
@@ -115,7 +132,9 @@ fn replay<'a>(alloc: Global) -> Result<Command<'a>, AllocError>
     ensures line { IfOk result (λ made. app_of made ≡ line_of subcommand.Replay) }
     ensures local { IfOk result (λ made. (out-Command made).has_globals ≡ false) }
 {
-    over_design(alloc, "replay")?.arg(export_path(alloc))
+    over_design(alloc, "replay")?
+        .arg(number(alloc, "lines", u32::MAX as u64))?
+        .arg(export_path(alloc))
 }
 
 /// The subcommand that answers the lines of connections.
@@ -124,8 +143,8 @@ fn serve<'a>(alloc: Global) -> Result<Command<'a>, AllocError>
     ensures local { IfOk result (λ made. (out-Command made).has_globals ≡ false) }
 {
     over_design(alloc, "serve")?
-        .arg(number(alloc, "port", u16::MAX as u64))?
-        .arg(number(alloc, "connections", MOST_CONNECTIONS as u64))?
+        .arg(needed_number(alloc, "port", u16::MAX as u64))?
+        .arg(needed_number(alloc, "connections", MOST_CONNECTIONS as u64))?
         .arg(export_path(alloc))
 }
 
@@ -135,6 +154,14 @@ fn check<'a>(alloc: Global) -> Result<Command<'a>, AllocError>
     ensures local { IfOk result (λ made. (out-Command made).has_globals ≡ false) }
 {
     over_design(alloc, "check")
+}
+
+/// The subcommand that writes a design.
+fn describe<'a>(alloc: Global) -> Result<Command<'a>, AllocError>
+    ensures line { IfOk result (λ made. app_of made ≡ line_of subcommand.Describe) }
+    ensures local { IfOk result (λ made. (out-Command made).has_globals ≡ false) }
+{
+    over_design(alloc, "describe")
 }
 
 /// The program with the subcommands that answer the lines of standard input.
@@ -153,7 +180,8 @@ fn command<'a>(alloc: Global) -> Result<Command<'a>, AllocError>
 {
     over_input(alloc)?
         .subcommand(serve(alloc)?)?
-        .subcommand(check(alloc)?)
+        .subcommand(check(alloc)?)?
+        .subcommand(describe(alloc)?)
 }
 
 /// What `clap` found in the words of a subcommand.
@@ -172,6 +200,7 @@ fn found_in<'a>(alloc: Global, matches: &ArgMatches<'a>) -> Result<Reading<'a>, 
         export: matches.get_str("export"),
         port: matches.get_str("port"),
         connections: matches.get_str("connections"),
+        lines: matches.get_str("lines"),
     })
 }
 
@@ -206,6 +235,30 @@ fn connections_of(text: &str) -> Option<u32>
     Some(connections)
 }
 
+/// The bound on lines that the text writes.
+#[tactic(auto, using(crate::proofs::Numbers::number_none, crate::proofs::Numbers::number_some, crate::proofs::Numbers::number_out))]
+fn lines_of(text: &str) -> Option<u32>
+    ensures { result ≡ number_in 1 4294967295 text.now }
+{
+    let Ok(lines) = text.parse::<u32>() else {
+        return None;
+    };
+    if lines == 0 {
+        return None;
+    }
+    Some(lines)
+}
+
+/// The most lines that are answered.
+fn most_lines(found: &Reading<'_>) -> Option<u32>
+    ensures { result ≡ most_lines (as_given found.now).lines }
+{
+    match found.lines {
+        Some(text) => lines_of(text),
+        None => Some(USUAL_LINES),
+    }
+}
+
 /// The port and the number of connections of a service.
 fn service_of(found: &Reading<'_>) -> Option<(u16, u32)>
     ensures { result ≡ service_of (as_given found.now) }
@@ -226,8 +279,17 @@ fn task_on<'a>(
 {
     let export = found.export;
     match chosen {
-        Subcommand::Replay => Some(Task::Replay { def, lefs, export }),
         Subcommand::Check => Some(Task::Check { def, lefs }),
+        Subcommand::Describe => Some(Task::Describe { def, lefs }),
+        Subcommand::Replay => {
+            let lines = most_lines(found)?;
+            Some(Task::Replay {
+                def,
+                lefs,
+                lines,
+                export,
+            })
+        }
         Subcommand::Serve => {
             let (port, connections) = service_of(found)?;
             Some(Task::Serve {
@@ -334,11 +396,12 @@ fn task_of<'a>(
 /// The task that the words name; the first word is the program's name, and that name alone is the
 /// demo.
 ///
-/// `replay`, `serve` and `check` take the path of a DEF text, then of one LEF text or more; `serve`
-/// needs `--port P`, from 1 to 65535, and `--connections N`, from 1 to 1,000,000; `replay` and
-/// `serve` may have `--export FILE`. Options are before, between or after the paths, each once at
-/// most; `--export=FILE` is the same. After `--` a path may begin with '-'. Words for help and for
-/// the version are usage faults like any others.
+/// `replay`, `serve`, `check` and `describe` take the path of a DEF text, then of one LEF text or
+/// more; `serve` needs `--port P`, from 1 to 65535, and `--connections N`, from 1 to 1,000,000;
+/// `replay` may have `--lines N`, from 1 to 4,294,967,295, and it and `serve` `--export FILE`.
+/// Options are before, between or after the paths, each once at most; `--export=FILE` is the same.
+/// After `--` a path may begin with '-'. Words for help and for the version are usage faults like
+/// any others.
 pub fn command_of<'a>(alloc: Global, words: &'a [&'a str]) -> Result<Task<'a>, UsageFault>
     ensures ok { IfOk result (λ task. job_of (map (λ word. word.now) words.now) ≡ Some (as_job task)) }
     ensures err { IfErr result (λ fault. fault ≡ Usage → job_of (map (λ word. word.now) words.now) ≡ None) }

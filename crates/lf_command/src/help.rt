@@ -14,6 +14,8 @@ pub enum Help {
     Demo,
     /// What `check` does.
     Check,
+    /// What `describe` does.
+    Describe,
     /// What `replay` does.
     Replay,
     /// What `serve` does.
@@ -27,6 +29,7 @@ fn topic_named(word: &str) -> Option<Help>
     match word {
         "demo" => Some(Help::Demo),
         "check" => Some(Help::Check),
+        "describe" => Some(Help::Describe),
         "replay" => Some(Help::Replay),
         "serve" => Some(Help::Serve),
         _ => None,

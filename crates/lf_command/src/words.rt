@@ -15,6 +15,8 @@ pub(crate) enum Subcommand {
     Serve,
     /// Reports on the design.
     Check,
+    /// Writes the design.
+    Describe,
 }
 
 /// An option, which has a value.
@@ -26,6 +28,8 @@ pub(crate) enum Setting {
     Port,
     /// The number of connections to serve.
     Connections,
+    /// The most lines that are answered.
+    Lines,
 }
 
 /// What the next word may be.
@@ -47,6 +51,7 @@ pub(crate) struct Reading<'a> {
     pub export: Option<&'a str>,
     pub port: Option<&'a str>,
     pub connections: Option<&'a str>,
+    pub lines: Option<&'a str>,
 }
 
 /// The subcommand of that word.
@@ -57,6 +62,7 @@ pub(crate) fn subcommand_named(word: &str) -> Option<Subcommand>
         "replay" => Some(Subcommand::Replay),
         "serve" => Some(Subcommand::Serve),
         "check" => Some(Subcommand::Check),
+        "describe" => Some(Subcommand::Describe),
         _ => None,
     }
 }
@@ -79,6 +85,7 @@ fn flag_of(setting: Setting) -> &'static str
         Setting::Export => "--export",
         Setting::Port => "--port",
         Setting::Connections => "--connections",
+        Setting::Lines => "--lines",
     }
 }
 
@@ -90,6 +97,7 @@ fn front_of(setting: Setting) -> &'static str
         Setting::Export => "--export=",
         Setting::Port => "--port=",
         Setting::Connections => "--connections=",
+        Setting::Lines => "--lines=",
     }
 }
 
@@ -98,8 +106,8 @@ fn has_setting(chosen: Subcommand, setting: Setting) -> bool
     ensures { result ≡ has_setting chosen setting }
 {
     match (chosen, setting) {
-        (Subcommand::Serve, _) => true,
-        (Subcommand::Replay, Setting::Export) => true,
+        (Subcommand::Replay, Setting::Export | Setting::Lines) => true,
+        (Subcommand::Serve, Setting::Export | Setting::Port | Setting::Connections) => true,
         _ => false,
     }
 }
@@ -132,7 +140,10 @@ fn option_of<'a>(word: &'a str) -> Option<(Setting, Option<&'a str>)>
     if let Some(option) = option_at(word, Setting::Port) {
         return Some(option);
     }
-    option_at(word, Setting::Connections)
+    if let Some(option) = option_at(word, Setting::Connections) {
+        return Some(option);
+    }
+    option_at(word, Setting::Lines)
 }
 
 /// Sets a value that was none; returns whether it was.
@@ -155,6 +166,7 @@ fn put_value<'a>(reading: &mut Reading<'a>, setting: Setting, text: &'a str) -> 
         Setting::Export => put_once(&mut reading.export, text),
         Setting::Port => put_once(&mut reading.port, text),
         Setting::Connections => put_once(&mut reading.connections, text),
+        Setting::Lines => put_once(&mut reading.lines, text),
     };
     if is_put { Some(Next::Any) } else { None }
 }
@@ -221,6 +233,7 @@ pub(crate) fn read_words<'a>(
         export: None,
         port: None,
         connections: None,
+        lines: None,
     };
     let mut next = Next::Any;
     for word in words {
@@ -257,4 +270,5 @@ pub(crate) fn is_same_reading(left: &Reading<'_>, right: &Reading<'_>) -> bool
         && is_same(left.export, right.export)
         && is_same(left.port, right.port)
         && is_same(left.connections, right.connections)
+        && is_same(left.lines, right.lines)
 }
