@@ -14,7 +14,7 @@ use Rattle.lf_server.specs.declared.serving.Ending.TheVariants.{Done, Bye, ReadF
 use Rattle.lf_server.specs.declared.serving.Served.{Served}
 use Rattle.lf_proto.specs.Pieces.{lines_from, pieces}
 use Rattle.lf_server.specs.Progress.{Finishes, Goes, Stops, StopsAt, told_answered}
-use Rattle.lf_server.proofs.Known.{Consumes-none, Consumes-more, Consumes-kept}
+use Rattle.lf_devices.proofs.Known.{Consumes-none, Consumes-more, Consumes-kept}
 use Rattle.lf_proto.proofs.Cuttings.{some_pieces, with_front-nil}
 use Rattle.lf_server.proofs.Steps.{goes_join, goes_none, goes_stop}
 

@@ -1,4 +1,3 @@
-pub mod Known
 pub mod Fitting
 pub mod Reporting
 pub mod Steps

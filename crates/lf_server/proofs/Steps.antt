@@ -22,7 +22,7 @@ use Rattle.lf_server.specs.declared.serving.Ending.{Ending}
 use Rattle.lf_server.specs.declared.serving.Ending.TheVariants.{Done, Bye, ReadFault, WriteFault, TooManyLines, OutOfMemory}
 use Rattle.lf_proto.specs.Pieces.{lines_from, pieces}
 use Rattle.lf_server.specs.Progress.{ExchangeEnds, Given, Goes, IsAnswered, IsExchanged, Stops, StopsAt}
-use Rattle.lf_server.proofs.Known.{Appends-same}
+use Rattle.lf_devices.proofs.Known.{Appends-same}
 use Rattle.lf_proto.proofs.Cuttings.{IsBounded, feed_step, finish_gives}
 
 -- ---- results

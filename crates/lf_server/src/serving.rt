@@ -1,7 +1,6 @@
 //! The loop that serves lines.
 
-ghost use Rattle.std.specs.Prelude.{◌≡◌, ◌≢◌, ◌<◌, ◌≤◌, ◌+◌, ◌++◌, ◌∷◌, ◌⊎◌, [], OnErr, OnOk, IfSome, MatchOption, Some, None, List, ℕ, length, take, drop, option_map, true, false, vec_capacity};
-ghost use Rattle.std.specs.Io.KnownBytes.{Appends};
+ghost use Rattle.std.specs.Prelude.{◌≡◌, ◌≢◌, ◌<◌, ◌≤◌, ◌+◌, ◌++◌, ◌∷◌, ◌⊎◌, [], IfSome, MatchOption, Some, None, List, ℕ, length, drop, option_map, true, false, vec_capacity};
 ghost use Rattle.lf_rules.specs.Legalizer.{Legalizer};
 ghost use Rattle.lf_server.specs.Connections.{Stays};
 ghost use Rattle.lf_server.specs.Devices.{writer};
@@ -9,8 +8,8 @@ ghost use Rattle.lf_server.specs.Endings.{Serves};
 ghost use Rattle.lf_proto.specs.Pieces.{lines_from, pieces};
 ghost use Rattle.lf_server.specs.Progress.{Finishes, Given, Goes, IsExchanged, SinkAt, Stops, told_answered};
 
-use crate::device::{DeviceFault, Sink, Source};
 use crate::reply::{answer, is_end, request_in};
+use lf_devices::{Sink, Source, send};
 use lf_floor::Floor;
 use lf_legalize::Seeker;
 use lf_proto::{Got, LineFramer};
@@ -51,22 +50,6 @@ pub struct ServeLimits {
     pub reads: u64,
 }
 
-/// Writes all the bytes, in as many calls as it takes, and flushes them.
-fn write_all<W: Sink>(sink: &mut W, bytes: &[u8]) -> Result<(), DeviceFault>
-    ensures ok { OnOk result (Appends (W.contents sink.old) (W.contents sink.new) bytes.now) }
-    ensures flushed { OnOk result (W.is_flushed sink.new ≡ true) }
-    ensures healthy { OnOk result (W.has_failed sink.new ≡ W.has_failed sink.old) }
-    ensures front { OnErr result ((n : ℕ) × Appends (W.contents sink.old) (W.contents sink.new) (take n bytes.now)) }
-    ensures failed { OnErr result (W.has_failed sink.new ≡ true) }
-    ensures held { W.holds sink.new ≡ W.holds sink.old }
-{
-    let mut at = 0;
-    while at < bytes.len() {
-        at += sink.write(&bytes[at..])?;
-    }
-    sink.flush()
-}
-
 /// The line that the framer gave, or None if it needs more bytes; the inner None is a line over the limit.
 fn line_given(framer: &LineFramer, got: Got) -> Option<Option<&[u8]>>
     ensures { MatchOption result (got ≡ Got.More) (λ line. Given got framer.now.line (option_map (λ bytes. bytes.now) line)) }
@@ -95,7 +78,7 @@ fn exchange<K: Seeker + Drop, W: Sink>(
 {
     let request = request_in(line);
     answer(floor, &request, text);
-    if write_all(sink, text.as_slice()).is_err() {
+    if send(sink, text.as_slice()).is_err() {
         return Some(Ending::WriteFault);
     }
     if is_end(&request) {

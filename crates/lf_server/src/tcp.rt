@@ -2,10 +2,10 @@
 
 ghost use Rattle.std.specs.Prelude.{◌≡◌, ◌↔◌, ◌≤◌, OnErr, OnOk, false};
 ghost use Rattle.lf_rules.specs.Legalizer.{Legalizer};
-ghost use Rattle.lf_server.specs.Connections.{Connects, HasServed, Stays};
+ghost use Rattle.lf_server.specs.Connections.{Connects, HasServed, ServesInput, Stays};
 
-use crate::adapt::{FromRead, ToWrite};
 use crate::serving::{ServeLimits, serve};
+use lf_devices::{FromRead, ToWrite};
 use lf_floor::Floor;
 use lf_legalize::Seeker;
 use std::alloc::Global;
@@ -34,7 +34,7 @@ fn serve_stream<S: Read + Write + OpenStream + Drop, K: Seeker + Drop>(
     stream: S,
     limits: ServeLimits,
 ) -> io::Result<()>
-    ensures served { OnOk result ((l : Legalizer) → HasServed l floor.old floor.new) }
+    ensures served { (l : Legalizer) → OnOk result (ServesInput l limits.lines (S.remaining stream) floor.old floor.new) }
     ensures kept { OnErr result (floor.new ≡ floor.old) }
     ensures stays { Stays floor.old floor.new }
 {
@@ -55,7 +55,7 @@ fn serve_next<T: Net + AllocGlobal, K: Seeker + Drop>(
     listener: &T::Listener,
     limits: ServeLimits,
 ) -> io::Result<()>
-    ensures served { OnOk result ((l : Legalizer) → HasServed l floor.old floor.new) }
+    ensures served { (l : Legalizer) → OnOk result (HasServed l limits.lines floor.old floor.new) }
     ensures kept { OnErr result (floor.new ≡ floor.old) }
     ensures stays { Stays floor.old floor.new }
 {
@@ -75,7 +75,7 @@ pub fn serve_tcp<T: Net + AllocGlobal, K: Seeker + Drop>(
 ) -> TcpServed
     ensures most { result.connections ≤ connections }
     ensures all { (result.connections ≡ connections) ↔ (result.accept_fault ≡ false) }
-    ensures served { (l : Legalizer) → Connects l result.connections floor.old floor.new }
+    ensures served { (l : Legalizer) → Connects l limits.lines result.connections floor.old floor.new }
     ensures stays { Stays floor.old floor.new }
 {
     for served in 0..connections {

@@ -12,15 +12,15 @@ returns-then-is_err-clause-serves g c = λ l.
     exchanged l (Some WriteFault) _ _ c.args.floor.now c.answer.new.floor (option_map (λ bytes. bytes.now) c.args.line)
     (option_map command_of c.request_in-request.result) c.answer.new.text.items c.request_in-request.ensures
     (breaks_one _ _ _ _ _ _ c.answer.new.text.items c.as_slice.result.now c.as_slice.ensures.value
-    (on_err_yes c.write_all.result e c.write_all.ensures.front) (on_err_yes c.write_all.result e c.write_all.ensures.failed)) (c.answer.ensures.answered l)
+    (on_err_yes c.send.result e c.send.ensures.front) (on_err_yes c.send.result e c.send.ensures.failed)) (c.answer.ensures.answered l)
 
 pub returns-then-is_end-clause-serves : goal.returns-then-is_end-clause-serves
 returns-then-is_end-clause-serves g c = λ l.
     let e = sym c.is_err.ensures.value ∙ c.if-is_err.false in
     exchanged l (Some Bye) _ _ c.args.floor.now c.answer.new.floor (option_map (λ bytes. bytes.now) c.args.line)
     (option_map command_of c.request_in-request.result) c.answer.new.text.items c.request_in-request.ensures (
-      sends_one _ _ _ _ _ _ c.answer.new.text.items c.as_slice.result.now c.as_slice.ensures.value (on_ok_no c.write_all.result e c.write_all.ensures.ok)
-          (on_ok_no c.write_all.result e c.write_all.ensures.flushed) (on_ok_no c.write_all.result e c.write_all.ensures.healthy),
+      sends_one _ _ _ _ _ _ c.answer.new.text.items c.as_slice.result.now c.as_slice.ensures.value (on_ok_no c.send.result e c.send.ensures.ok)
+          (on_ok_no c.send.result e c.send.ensures.flushed) (on_ok_no c.send.result e c.send.ensures.healthy),
       ap asks_end (sym c.request_in-request.ensures) ∙ (sym c.is_end.ensures ∙ c.if-is_end.true),
     ) (c.answer.ensures.answered l)
 
@@ -29,7 +29,7 @@ returns-clause-serves g c = λ l.
     let e = sym c.is_err.ensures.value ∙ c.if-is_err.false in
     exchanged l None _ _ c.args.floor.now c.answer.new.floor (option_map (λ bytes. bytes.now) c.args.line)
     (option_map command_of c.request_in-request.result) c.answer.new.text.items c.request_in-request.ensures (
-      sends_one _ _ _ _ _ _ c.answer.new.text.items c.as_slice.result.now c.as_slice.ensures.value (on_ok_no c.write_all.result e c.write_all.ensures.ok)
-          (on_ok_no c.write_all.result e c.write_all.ensures.flushed) (on_ok_no c.write_all.result e c.write_all.ensures.healthy),
+      sends_one _ _ _ _ _ _ c.answer.new.text.items c.as_slice.result.now c.as_slice.ensures.value (on_ok_no c.send.result e c.send.ensures.ok)
+          (on_ok_no c.send.result e c.send.ensures.flushed) (on_ok_no c.send.result e c.send.ensures.healthy),
       ap asks_end (sym c.request_in-request.ensures) ∙ (sym c.is_end.ensures ∙ c.if-is_end.false),
     ) (c.answer.ensures.answered l)

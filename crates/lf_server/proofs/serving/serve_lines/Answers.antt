@@ -1,5 +1,5 @@
 use Rattle.std.proofs.Common.{◌∙◌, arith, refl, take, []}
-use Rattle.lf_server.proofs.Known.{Consumes-none}
+use Rattle.lf_devices.proofs.Known.{Consumes-none}
 use Rattle.lf_server.proofs.Steps.{stays_join, stays_none}
 use Rattle.lf_server.proofs.Finishing.{goes_start, keeps_itself, read_end, read_fault, read_on, read_stop}
 use Rattle.lf_server.proofs.serving.serve_lines.Goals as goal

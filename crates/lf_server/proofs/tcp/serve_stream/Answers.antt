@@ -1,6 +1,13 @@
-use Rattle.lf_server.proofs.Connecting.{served_by}
 use Rattle.lf_server.proofs.tcp.serve_stream.Goals as goal
 
 pub returns-clause-served : goal.returns-clause-served
 returns-clause-served g c = λ l.
-    served_by l c.args.limits.lines c.args.floor.now c.serve.new.floor _ _ _ _ c.serve.result (c.serve.ensures.serves l)
+    let serves = rw (c.new-source.ensures.remaining, c.new-sink.ensures.contents, c.new-sink.ensures.flushed, c.new-sink.ensures.fresh) at
+    (c.serve.ensures.serves l) in
+    record {
+      left = _;
+      before = _;
+      after = _;
+      served = c.serve.result;
+      serves = serves;
+    }

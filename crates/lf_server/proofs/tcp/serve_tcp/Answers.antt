@@ -11,7 +11,7 @@ loop-served-init g c = record {
 
 pub loop-served-preserved : goal.loop-served-preserved
 loop-served-preserved g c = record {
-  connects = λ l. connects_more l c.loop-served.served c.args.floor.now c.loop-served.floor c.serve_next.new.floor (c.loop-served.invariant.connects l)
+  connects = λ l. connects_more l c.args.limits.lines c.loop-served.served c.args.floor.now c.loop-served.floor c.serve_next.new.floor (c.loop-served.invariant.connects l)
       (c.in-Ok.ensures.served l);
   stays = stays_join c.args.floor.now c.loop-served.floor c.serve_next.new.floor c.loop-served.invariant.stays c.serve_next.ensures.stays;
 }

@@ -20,6 +20,7 @@ impl<'a, R: Read> FromRead<'a, R> {
         ensures reads { ⟦<FromRead<'a, R> as Source>⟧.reads result ≡ 0 }
         ensures fresh { ⟦<FromRead<'a, R> as Source>⟧.has_failed result ≡ false }
         ensures held { ⟦<FromRead<'a, R> as Source>⟧.holds result ≡ reader.entry.ghost_name }
+        ensures borrowed { result.reader.now ≡ reader.old }
     {
         FromRead {
             reader,
@@ -65,6 +66,7 @@ impl<'a, W: Write> ToWrite<'a, W> {
         ensures flushed { ⟦<ToWrite<'a, W> as Sink>⟧.is_flushed result ≡ true }
         ensures fresh { ⟦<ToWrite<'a, W> as Sink>⟧.has_failed result ≡ false }
         ensures held { ⟦<ToWrite<'a, W> as Sink>⟧.holds result ≡ writer.entry.ghost_name }
+        ensures borrowed { result.writer.now ≡ writer.old }
     {
         ToWrite {
             writer,
