@@ -1,0 +1,41 @@
+-- The cells of a loaded design, as the program lists them.
+use Rattle.std.proofs.Common.{◌≡◌, ◌∙◌, ℕ, List, Bool, ◌≤◌, ap, sym, subst, arith, length, map, Result}
+use Rattle.std.specs.Prelude.{All, IfOk, IsTrue, ◌↔◌}
+use Rattle.std.specs.Borrow.{Bor}
+use Rattle.std.proofs.Math.ListN.{length-map}
+use Rattle.std.proofs.lemmas.Result.{IfOk-weaker}
+use Rattle.lf_floorplan.specs.declared.loaded.Cell.{Cell}
+use Rattle.lf_floorplan.specs.declared.loaded.Loaded.{Loaded}
+use Rattle.lf_floorplan.specs.Design.{CellIsSized}
+use Rattle.lf_rules.specs.declared.report.Listed.{Listed}
+use Rattle.lf_rules.specs.FullyLegal.{Standing, IsFullyLegal, standing_at}
+use Rattle.lf_rules.specs.Legalizer.{Legalizer}
+use Rattle.lf_rules.specs.Reports.{IsClean}
+use Rattle.lf_reports.specs.Reports.{IsListed, listed_at, named, report_of, standing_of}
+use Rattle.lf_reports.proofs.CleanLemmas.{all_listed, clean_is_legal, each_named, length_listed, standing_listed}
+use Rattle.lf_describe.specs.Description.{cells_of, places_of}
+
+pub are_cells : (cells lent : List Cell) (slice items : List (Listed (Bor (List ℕ)))) → slice ≡ items → map named items ≡ listed_at lent (places_of lent) → lent ≡ cells →
+    map named slice ≡ listed_at cells (places_of cells)
+are_cells cells lent slice items is_items is_listed is_cells =
+    ap (λ (cs : List (Listed (Bor (List ℕ)))). map named cs) is_items ∙ is_listed ∙ ap (λ (cs : List Cell). listed_at cs (places_of cs)) is_cells
+
+all_are : CellIsSized → (loaded : Loaded) (slice : List (Listed (Bor (List ℕ)))) → map named slice ≡ cells_of loaded → All (IsListed loaded.frame) (map named slice)
+all_are sized loaded slice are = subst (All (IsListed loaded.frame)) (sym are) (all_listed loaded.frame sized loaded.cells (places_of loaded.cells) loaded.cells_known)
+
+pub each_is_listed : CellIsSized → (loaded : Loaded) (slice : List (Listed (Bor (List ℕ)))) → map named slice ≡ cells_of loaded → All (λ c. IsListed loaded.frame (named c)) slice
+each_is_listed sized loaded slice are = each_named loaded.frame slice (all_are sized loaded slice are)
+
+pub few_are : (loaded : Loaded) (slice : List (Listed (Bor (List ℕ)))) → map named slice ≡ cells_of loaded → length slice ≤ 4000000
+few_are loaded slice are =
+    let count : length slice ≡ length loaded.cells = sym (length-map slice named) ∙ ap (λ (cs : List (Listed (List ℕ))). length cs) are ∙ length_listed loaded.cells (places_of loaded.cells) in
+    let few = loaded.few_cells in
+    omega (arith, count, few)
+
+pub legal_is : {E : Type 0} → CellIsSized → (l : Legalizer) (loaded : Loaded) (slice : List (Listed (Bor (List ℕ)))) (r : Result Bool E) → map named slice ≡ cells_of loaded →
+    IfOk r (λ clean. IsTrue clean ↔ IsClean (report_of l loaded.frame 0 (map named slice))) → IfOk r (λ legal. IsTrue legal ↔ IsFullyLegal loaded.frame (standing_at loaded.cells (places_of loaded.cells)))
+legal_is sized l loaded slice r are said =
+    let both : IsClean (report_of l loaded.frame 0 (map named slice)) ↔ IsFullyLegal loaded.frame (standing_at loaded.cells (places_of loaded.cells)) =
+    subst (λ (cells : List Standing). IsClean (report_of l loaded.frame 0 (map named slice)) ↔ IsFullyLegal loaded.frame cells)
+    (ap (λ (cs : List (Listed (List ℕ))). map standing_of cs) are ∙ standing_listed loaded.cells (places_of loaded.cells)) (clean_is_legal l loaded.frame (map named slice) (all_are sized loaded slice are)) in
+    IfOk-weaker r _ _ (λ b is. (λ yes. both.0 (is.0 yes), λ legal. is.1 (both.1 legal))) said

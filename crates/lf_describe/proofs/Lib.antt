@@ -1,0 +1,6 @@
+mod Designs
+mod Names
+mod NoFloat
+mod Numbered
+mod Pieces
+mod Totals

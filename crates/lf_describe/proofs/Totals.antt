@@ -1,0 +1,132 @@
+-- What the program found of a design is what a report says of it.
+use Rattle.std.proofs.Common.{◌≡◌, ℕ, zero, suc, ◌+◌, ◌<◌, Bool, List, [], ◌∷◌, ◌++◌, length, map, Option, Some, None, Result, refl, sym, ◌∙◌, ap, subst, arith, slice_get}
+use Rattle.std.specs.Prelude.{flat_map, filter, filter_map, count_by, is_none, is_some, option_map, option_and_then, ◌↔◌, IfOk, IsTrue, OnErr, OnOk}
+use Rattle.std.specs.List.{enumerate_from, range_with_len, cons_option}
+use Rattle.std.proofs.lemmas.Option.{slice_get_within, get_or_from_slice_get}
+use Rattle.std.proofs.lemmas.Bool.{false≢true}
+use Rattle.std.proofs.lemmas.Grind.{flat_map-append}
+use Rattle.std.proofs.lemmas.List.Sums.{length-filter}
+use Rattle.serde_json.specs.Data.{Data}
+use Rattle.lf_floorplan.specs.declared.frame.Frame.{Frame}
+use Rattle.lf_rules.specs.declared.rule.Broken.{Broken}
+use Rattle.lf_rules.specs.declared.report.Listed.{Listed}
+use Rattle.lf_rules.specs.declared.report.Report.{Report}
+use Rattle.lf_rules.specs.Legalizer.{Legalizer}
+use Rattle.lf_rules.specs.Reports.{IsClean}
+use Rattle.lf_reports.specs.Reports.{AreVerdicts, broken_among, report_of, verdict_at, violation_at, violation_by, violation_of, violations_in}
+use Rattle.std.specs.Io.KnownBytes.{Appends}
+use Rattle.lf_describe.specs.Written.{AppendsFront}
+use Rattle.lf_describe.specs.declared.told.Told.{Told}
+use Rattle.lf_describe.specs.declared.parts.TheConstants.{PARTS}
+use Rattle.lf_describe.specs.Description.{cell_data, cell_lines, design_data, fence_data, line_text, lines_of, lines_text, obstacle_lines, row_data, soft_data, total_data}
+use Rattle.lf_describe.specs.Parts.{Counts, cells_in, names_in, part_lines, part_text, parts_text}
+
+-- ---- counts
+
+counted : {Y V : Type 0} (g : ℕ → Option Y) (n : ℕ) (vs : List (Option V)) →
+    ((k : ℕ) (v : Option V) → slice_get vs k ≡ Some v → is_some (g (n + k)) ≡ is_some v) →
+    length (filter_map g (range_with_len n (length vs))) ≡ length (filter is_some vs)
+counted g n [] same = refl
+counted {Y = Y} {V = V} g n (v ∷ vs) same =
+    step (g n) v (filter_map g (range_with_len (n + 1) (length vs))) (subst (λ (m : ℕ). is_some (g m) ≡ is_some v) (omega arith) (same 0 v refl))
+    (counted g (n + 1) vs (λ k u at. subst (λ (m : ℕ). is_some (g m) ≡ is_some u) (omega arith) (same (suc k) u at)))
+  where
+    step : (o : Option Y) (u : Option V) (rest : List Y) → is_some o ≡ is_some u → length rest ≡ length (filter is_some vs) →
+        length (cons_option o rest) ≡ length (filter is_some (u ∷ vs))
+    step None None rest e h = h
+    step (Some y) (Some u) rest e h = ap suc h
+    step None (Some u) rest e h = absurd (false≢true e)
+    step (Some y) None rest e h = absurd (false≢true (sym e))
+
+there_is : {X : Type 0} (xs : List X) (k : ℕ) → k < length xs → (x : X) × (slice_get xs k ≡ Some x)
+there_is [] k less = absurd (omega (arith, less))
+there_is (x ∷ xs) zero less = (x, refl)
+there_is (x ∷ xs) (suc k) less = there_is xs k (omega (arith, less))
+
+is_some_map : {X Y : Type 0} (h : X → Y) (o : Option X) → is_some (option_map h o) ≡ is_some o
+is_some_map h None = refl
+is_some_map h (Some x) = refl
+
+-- as many verdicts say that a rule is broken as there are violations
+pub illegal_are : (l : Legalizer) (f : Frame) (cells : List (Listed (List ℕ))) (verdicts : List (Option Broken)) → AreVerdicts l f 0 cells verdicts →
+    count_by is_some verdicts ≡ length (violations_in l f 0 cells)
+illegal_are l f cells verdicts are =
+    sym (length-filter is_some verdicts) ∙ sym (counted (violation_at l f 0 cells) 0 verdicts (λ k v at. by k v at))
+    ∙ ap (λ (n : ℕ). length (filter_map (violation_at l f 0 cells) (range_with_len 0 n))) are.count
+  where
+    here : (own : ℕ) (v : Option Broken) (c : Listed (List ℕ)) → verdict_at verdicts own ≡ v → slice_get cells own ≡ Some c → is_some (violation_at l f 0 cells own) ≡ is_some v
+    here own v c is there =
+        ap (λ (o : Option (Listed (List ℕ))). is_some (option_and_then (violation_by l f 0 cells own) o)) there
+        ∙ is_some_map (violation_of cells c) (broken_among l f 0 cells own c) ∙ ap is_some (sym (are.each own c there) ∙ is)
+
+    by : (k : ℕ) (v : Option Broken) → slice_get verdicts k ≡ Some v → is_some (violation_at l f 0 cells (0 + k)) ≡ is_some v
+    by k v at =
+        let there = there_is cells k (subst (λ (n : ℕ). k < n) are.count (slice_get_within verdicts k v at)) in
+        subst (λ (n : ℕ). is_some (violation_at l f 0 cells n) ≡ is_some v) (omega arith) (here k v there.0 (get_or_from_slice_get verdicts k v None at) there.1)
+
+-- ---- lines
+
+each_same : {X Y : Type 0} (g h : ℕ × X → Y) (n : ℕ) (xs : List X) → ((k : ℕ) (x : X) → slice_get xs k ≡ Some x → g (n + k, x) ≡ h (n + k, x)) →
+    map g (enumerate_from n xs) ≡ map h (enumerate_from n xs)
+each_same g h n [] same = refl
+each_same {X = X} {Y = Y} g h n (x ∷ xs) same =
+    let here : g (n, x) ≡ h (n, x) = subst (λ (m : ℕ). g (m, x) ≡ h (m, x)) (omega arith) (same 0 x refl) in
+    let rest = each_same g h (n + 1) xs (λ k y at. subst (λ (m : ℕ). g (m, y) ≡ h (m, y)) (omega arith) (same (suc k) y at)) in
+    ap (λ (y : Y). y ∷ map g (enumerate_from (n + 1) xs)) here ∙ ap (λ (ys : List Y). h (n, x) ∷ ys) rest
+
+-- the lines of the cells by their verdicts are those by the rules
+pub cells_are : (l : Legalizer) (f : Frame) (cells : List (Listed (List ℕ))) (verdicts : List (Option Broken)) → AreVerdicts l f 0 cells verdicts →
+    map (λ e. cell_data f cells e.1 (verdict_at verdicts e.0)) (enumerate_from 0 cells) ≡ cell_lines l f cells
+cells_are l f cells verdicts are =
+    each_same _ _ 0 cells (λ k c there. ap (λ (b : Option Broken). cell_data f cells c b) (are.each (0 + k) c (subst (λ (n : ℕ). slice_get cells n ≡ Some c) (omega arith) there)))
+
+fused : {X Y A : Type 0} (g : Y → List A) (h : X → List Y) (xs : List X) → flat_map (λ x. flat_map g (h x)) xs ≡ flat_map g (flat_map h xs)
+fused g h [] = refl
+fused {A = A} g h (x ∷ xs) = ap (λ (l : List A). flat_map g (h x) ++ l) (fused g h xs) ∙ sym (flat_map-append g (h x) (flat_map h xs))
+
+pub text_of_parts : (told : Told) → flat_map (part_text told) PARTS ≡ parts_text told
+unfolding parts_text
+text_of_parts told = refl
+
+-- the text of all parts is that of all lines
+pub parts_are : (l : Legalizer) (told : Told) → AreVerdicts l told.frame.now 0 (cells_in told) told.verdicts.now →
+    parts_text told ≡ lines_text l told.frame.now (names_in told) (cells_in told)
+unfolding parts_text lines_text
+parts_are l told are = fused line_text (part_lines told) PARTS ∙ ap (flat_map line_text) (lines (cells_are l f cells verdicts are) (illegal_are l f cells verdicts are))
+  where
+    f : Frame
+    f = told.frame.now
+
+    cells : List (Listed (List ℕ))
+    cells = cells_in told
+
+    verdicts : List (Option Broken)
+    verdicts = told.verdicts.now
+
+    all : List Data → ℕ → List Data
+    all told_cells illegal =
+        design_data f ∷ (map (row_data f) f.rows ++ (map fence_data f.teams ++ (obstacle_lines (names_in told) f.obstacles ++ (map soft_data f.soft
+        ++ (told_cells ++ total_data f (length cells) illegal (count_by (λ c. is_none c.place) cells) ∷ [])))))
+
+    lines : map (λ e. cell_data f cells e.1 (verdict_at verdicts e.0)) (enumerate_from 0 cells) ≡ cell_lines l f cells →
+        count_by is_some verdicts ≡ length (violations_in l f 0 cells) → flat_map (part_lines told) PARTS ≡ lines_of l f (names_in told) cells
+    lines same_cells same_count = ap (λ (cs : List Data). all cs (count_by is_some verdicts)) same_cells ∙ ap (all (cell_lines l f cells)) same_count
+
+-- and the counts are those of the report
+pub counts_are : (l : Legalizer) (told : Told) → AreVerdicts l told.frame.now 0 (cells_in told) told.verdicts.now → Counts told (report_of l told.frame.now 0 (cells_in told))
+counts_are l told are = record { illegal = illegal_are l told.frame.now (cells_in told) told.verdicts.now are; unplaced = refl }
+
+-- ---- what was written of it
+
+pub text_is : {T E : Type 0} (told : Told) (l : Legalizer) (r : Result T E) (a b : Option (List ℕ)) → OnOk r (Appends a b (parts_text told)) →
+    AreVerdicts l told.frame.now 0 (cells_in told) told.verdicts.now → OnOk r (Appends a b (lines_text l told.frame.now (names_in told) (cells_in told)))
+text_is told l r a b written are = subst (λ (t : List ℕ). OnOk r (Appends a b t)) (parts_are l told are) written
+
+pub cut_is : {T E : Type 0} (told : Told) (l : Legalizer) (r : Result T E) (a b : Option (List ℕ)) → OnErr r (AppendsFront a b (parts_text told)) →
+    AreVerdicts l told.frame.now 0 (cells_in told) told.verdicts.now → OnErr r (AppendsFront a b (lines_text l told.frame.now (names_in told) (cells_in told)))
+cut_is told l r a b written are = subst (λ (t : List ℕ). OnErr r (AppendsFront a b t)) (parts_are l told are) written
+
+pub clean_is : {E : Type 0} (told : Told) (l : Legalizer) (r : Result Bool E) →
+    ((report : Report) → Counts told report → IfOk r (λ clean. IsTrue clean ↔ IsClean report)) →
+    AreVerdicts l told.frame.now 0 (cells_in told) told.verdicts.now → IfOk r (λ clean. IsTrue clean ↔ IsClean (report_of l told.frame.now 0 (cells_in told)))
+clean_is told l r said are = said (report_of l told.frame.now 0 (cells_in told)) (counts_are l told are)

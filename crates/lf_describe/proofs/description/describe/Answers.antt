@@ -1,0 +1,33 @@
+use Rattle.std.proofs.Common.{◌∙◌, ℕ, List, ap, map, subst}
+use Rattle.std.specs.Borrow.{Bor}
+use Rattle.lf_rules.specs.declared.report.Listed.{Listed}
+use Rattle.lf_reports.specs.Reports.{named}
+use Rattle.lf_describe.specs.Description.{fixed_names, lines_text}
+use Rattle.lf_describe.specs.Written.{AppendsFront}
+use Rattle.lf_describe.proofs.Designs.{are_cells, each_is_listed, few_are, legal_is}
+use Rattle.lf_describe.proofs.Pieces.{first_bytes, on_err_weaker}
+use Rattle.lf_describe.proofs.description.describe.Goals as goal
+
+pub describe_cells-requires-clause-listed : goal.describe_cells-requires-clause-listed
+describe_cells-requires-clause-listed g c =
+    each_is_listed c.cell_is_sized.ensures c.args.loaded.now c.deref-2.result.now (are_cells c.args.loaded.now.cells _ _ _ c.deref-2.ensures.value c.in-Ok-listed.ensures c.as_slice-2.ensures)
+
+pub describe_cells-requires-clause-few : goal.describe_cells-requires-clause-few
+describe_cells-requires-clause-few g c =
+    few_are c.args.loaded.now c.deref-2.result.now (are_cells c.args.loaded.now.cells _ _ _ c.deref-2.ensures.value c.in-Ok-listed.ensures c.as_slice-2.ensures)
+
+pub returns-clause-legal : goal.returns-clause-legal
+returns-clause-legal g c =
+    let l = c.legalizer_is_there.ensures in
+    legal_is c.cell_is_sized.ensures l c.args.loaded.now c.deref-2.result.now c.describe_cells.result
+    (are_cells c.args.loaded.now.cells _ _ _ c.deref-2.ensures.value c.in-Ok-listed.ensures c.as_slice-2.ensures) (c.describe_cells.ensures.clean l)
+
+pub returns-clause-cut : goal.returns-clause-cut
+returns-clause-cut g c = λ l.
+    let f = c.args.loaded.now.frame in
+    let cells = are_cells c.args.loaded.now.cells _ _ _ c.deref-2.ensures.value c.in-Ok-listed.ensures c.as_slice-2.ensures in
+    let names = ap (λ (ns : List (Bor (List ℕ))). map (λ n. n.now) ns) c.deref.ensures.value ∙ c.in-Ok.ensures ∙ ap fixed_names c.as_slice.ensures in
+    on_err_weaker c.describe_cells.result
+    (λ p. first_bytes _ _ _ (subst (AppendsFront (g.W.Sink.contents c.args.writer.now) (g.W.Sink.contents c.describe_cells.new.writer))
+    (ap (λ (ns : List (List ℕ)). lines_text l f ns (map named c.deref-2.result.now)) names ∙ ap (λ (cs : List (Listed (List ℕ))). lines_text l f (fixed_names c.args.document.now.components) cs) cells) p))
+    (c.describe_cells.ensures.cut l)

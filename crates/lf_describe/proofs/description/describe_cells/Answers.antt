@@ -1,0 +1,23 @@
+use Rattle.std.proofs.Common.{sym, subst, map}
+use Rattle.lf_reports.specs.Reports.{AreVerdicts, named}
+use Rattle.lf_describe.proofs.Pieces.{unwritten}
+use Rattle.lf_describe.proofs.Totals.{clean_is, cut_is, text_is}
+use Rattle.lf_describe.proofs.description.describe_cells.Goals as goal
+
+pub returns-in_default-clause-cut : goal.returns-in_default-clause-cut
+returns-in_default-clause-cut g c = λ l. unwritten _ _
+
+pub returns-clause-text : goal.returns-clause-text
+returns-clause-text g c = λ l.
+    text_is _ l c.describe_told.result (g.W.Sink.contents c.args.writer.now) (g.W.Sink.contents c.describe_told.new.writer) c.describe_told.ensures.text
+    (subst (AreVerdicts l c.args.frame.now 0 (map named c.args.cells.now)) (sym c.as_slice.ensures.value) (c.in-Ok.ensures.each l))
+
+pub returns-clause-clean : goal.returns-clause-clean
+returns-clause-clean g c = λ l.
+    clean_is _ l c.describe_told.result c.describe_told.ensures.clean
+    (subst (AreVerdicts l c.args.frame.now 0 (map named c.args.cells.now)) (sym c.as_slice.ensures.value) (c.in-Ok.ensures.each l))
+
+pub returns-clause-cut : goal.returns-clause-cut
+returns-clause-cut g c = λ l.
+    cut_is _ l c.describe_told.result (g.W.Sink.contents c.args.writer.now) (g.W.Sink.contents c.describe_told.new.writer) c.describe_told.ensures.cut
+    (subst (AreVerdicts l c.args.frame.now 0 (map named c.args.cells.now)) (sym c.as_slice.ensures.value) (c.in-Ok.ensures.each l))

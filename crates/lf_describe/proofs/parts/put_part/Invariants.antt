@@ -1,0 +1,13 @@
+use Rattle.std.proofs.Common.{◌≡◌, ◌++◌, take}
+use Rattle.std.specs.Prelude.{flat_map}
+use Rattle.lf_describe.specs.Description.{line_text}
+use Rattle.lf_describe.specs.Parts.{part_lines}
+use Rattle.lf_describe.specs.Written.{Leaves}
+use Rattle.lf_describe.proofs.parts.put_part.Given as goal
+
+-- of what waited and the lines so far, this waits
+abbrev pub invariant-loop-number : goal.invariant-loop-number
+invariant-loop-number g l = record {
+  left : Leaves (g.W.Sink.contents l.fn.writer) (g.W.Sink.contents l.writer) (l.fn.waiting.items ++ flat_map line_text (take l.number (part_lines l.told l.part))) l.waiting.items;
+  held : g.W.Sink.holds l.writer ≡ g.W.Sink.holds l.fn.writer;
+}

@@ -1,0 +1,190 @@
+-- What is told of a design: its lines, each an object of JSON. Lengths are in database units, and a box is told as [left, bottom, right, top].
+use Rattle.std.specs.Prelude.{◌≡◌, ℕ, ℤ, if◌then◌else◌, List, [], ◌∷◌, ◌++◌, Option, length, map, filter, flat_map, slice_get, codes}
+use Rattle.std.specs.List.{enumerate_from}
+use Rattle.std.specs.Option.{option_map_or, option_and_then}
+use Rattle.std.specs.Str.{is_utf8}
+use Rattle.serde_json.specs.Data.{Data, null, number, unsigned, string, array, object, member, no_members}
+use Rattle.serde_json.specs.Find.{of_integer}
+use Rattle.serde_json.specs.View.{items_of}
+use Rattle.serde_json.specs.Written.{compact_text}
+use Rattle.lf_units.specs.declared.area.Rect.{Rect}
+use Rattle.lf_orient.specs.declared.Orient.{Orient}
+use Rattle.lf_orient.specs.Words.{orient_word}
+use Rattle.lf_floorplan.specs.declared.frame.Frame.{Frame}
+use Rattle.lf_floorplan.specs.declared.parts.Row.{Row}
+use Rattle.lf_floorplan.specs.declared.parts.Team.{Team}
+use Rattle.lf_floorplan.specs.declared.loaded.Cell.{Cell}
+use Rattle.lf_floorplan.specs.declared.loaded.Loaded.{Loaded}
+use Rattle.lf_floorplan.specs.declared.place.Place.{Place}
+use Rattle.lf_floorplan.specs.Bounds.{IsName}
+use Rattle.lf_floorplan.specs.Boxes.{macro_of, size_of}
+use Rattle.lf_floorplan.specs.Fences.{ground_name}
+use Rattle.lf_floorplan.specs.Rows.{row_area}
+use Rattle.lf_floorplan.specs.Sizes.{box_at, turned}
+use Rattle.lf_def.specs.declared.components.Component.{Component}
+use Rattle.lf_def.specs.Document.{Document}
+use Rattle.lf_claims.specs.Teams.{is_fixed}
+use Rattle.lf_rules.specs.declared.rule.Broken.{Broken}
+use Rattle.lf_rules.specs.declared.report.Listed.{Listed}
+use Rattle.lf_rules.specs.declared.report.Report.{Report}
+use Rattle.lf_rules.specs.Legality.{number_of}
+use Rattle.lf_rules.specs.Legalizer.{Legalizer}
+use Rattle.lf_reports.specs.Reports.{broken_among, listed_at, name_among, report_of}
+
+-- ---- values
+
+-- a name as a text; null if its bytes are no UTF-8 text
+abbrev pub text_data : List ℕ → Data
+text_data name = if is_utf8 name then string name else null
+
+-- a name of visible characters is told as it is
+abbrev pub NamesAreTold : Type 0
+NamesAreTold = (name : List ℕ) → IsName name → text_data name ≡ string name
+
+-- a name; null if there is none
+abbrev pub text_or_null : Option (List ℕ) → Data
+text_or_null name = option_map_or text_data name null
+
+-- a whole number
+abbrev pub whole_data : ℤ → Data
+whole_data z = number (of_integer z)
+
+-- how many there are
+abbrev pub count_data : ℕ → Data
+count_data n = number (unsigned n)
+
+-- a rectangle: left, bottom, right and top
+abbrev pub rect_data : Rect → Data
+rect_data r = array (items_of (whole_data r.x1 ∷ whole_data r.y1 ∷ whole_data r.x2 ∷ whole_data r.y2 ∷ []))
+
+abbrev pub orient_data : Orient → Data
+orient_data o = string (orient_word o)
+
+-- ---- lines
+
+-- the design: its name, the database units per micron, and its core site
+abbrev pub design_data : Frame → Data
+design_data f =
+    object (member (codes "kind") (string (codes "design"))
+    (member (codes "name") (text_data f.header.design)
+    (member (codes "site") (text_data f.site.name)
+    (member (codes "site_height") (whole_data f.pitch.y)
+    (member (codes "site_width") (whole_data f.pitch.x)
+    (member (codes "units") (count_data f.header.units) no_members))))))
+
+-- a row of the frame
+abbrev pub row_data : Frame → Row → Data
+row_data f r =
+    object (member (codes "box") (rect_data (row_area f.pitch r))
+    (member (codes "kind") (string (codes "row"))
+    (member (codes "name") (text_data r.name)
+    (member (codes "orient") (orient_data r.orient)
+    (member (codes "sites") (count_data r.sites) no_members)))))
+
+-- a fence, by the name of its team
+abbrev pub fence_data : Team → Data
+fence_data t =
+    object (member (codes "kind") (string (codes "fence"))
+    (member (codes "name") (text_data t.name)
+    (member (codes "rects") (array (items_of (map rect_data t.rects))) no_members)))
+
+-- an obstacle, with the name of the FIXED component whose box it is, if it is one
+abbrev pub obstacle_data : Option (List ℕ) → Rect → Data
+obstacle_data name r =
+    object (member (codes "box") (rect_data r)
+    (member (codes "kind") (string (codes "obstacle"))
+    (member (codes "name") (text_or_null name) no_members)))
+
+-- a rectangle of a soft blockage
+abbrev pub soft_data : Rect → Data
+soft_data r = object (member (codes "box") (rect_data r) (member (codes "kind") (string (codes "soft")) no_members))
+
+-- the name of the team of this number: that of its fence, or of the ground team
+abbrev pub team_name : Frame → ℕ → List ℕ
+team_name f team = option_map_or (λ t. t.name) (slice_get f.teams team) ground_name
+
+-- the box of the cell where it stands; null if it is unplaced
+abbrev pub box_data : Frame → Listed (List ℕ) → Data
+box_data f c = option_map_or (λ p. rect_data (box_at (turned (size_of f (macro_of f c.mac)) p.orient) p.x p.y)) c.place null
+
+-- how a cell faces where it stands; null if it is unplaced
+abbrev pub facing_data : Option Place → Data
+facing_data place = option_map_or (λ p. orient_data p.orient) place null
+
+-- the number of the rule that is broken; null if none is
+abbrev pub rule_data : Option Broken → Data
+rule_data broken = option_map_or (λ b. count_data (number_of b.rule)) broken null
+
+-- the name of the other cell that is met, if there is one
+abbrev pub other_of : List (Listed (List ℕ)) → Option Broken → Option (List ℕ)
+other_of cells broken = option_and_then (name_among cells) (option_and_then (λ b. b.other) broken)
+
+-- a cell among those that are listed, with its macro's size when it faces north, and with the first rule that it breaks, if it breaks one
+abbrev pub cell_data : Frame → List (Listed (List ℕ)) → Listed (List ℕ) → Option Broken → Data
+cell_data f cells c broken =
+    object (member (codes "box") (box_data f c)
+    (member (codes "height") (whole_data (size_of f (macro_of f c.mac)).y)
+    (member (codes "kind") (string (codes "cell"))
+    (member (codes "macro") (text_data (macro_of f c.mac).name)
+    (member (codes "name") (text_data c.name)
+    (member (codes "orient") (facing_data c.place)
+    (member (codes "other") (text_or_null (other_of cells broken))
+    (member (codes "rule") (rule_data broken)
+    (member (codes "team") (text_data (team_name f c.team))
+    (member (codes "width") (whole_data (size_of f (macro_of f c.mac)).x) no_members))))))))))
+
+-- how many there are of each kind; of the cells also how many break a rule, and how many are unplaced
+abbrev pub total_data : Frame → ℕ → ℕ → ℕ → Data
+total_data f cells illegal unplaced =
+    object (member (codes "cells") (count_data cells)
+    (member (codes "fences") (count_data (length f.teams))
+    (member (codes "illegal") (count_data illegal)
+    (member (codes "kind") (string (codes "total"))
+    (member (codes "obstacles") (count_data (length f.obstacles))
+    (member (codes "rows") (count_data (length f.rows))
+    (member (codes "soft") (count_data (length f.soft))
+    (member (codes "unplaced") (count_data unplaced) no_members))))))))
+
+-- the totals of a report
+abbrev pub report_total : Frame → Report → Data
+report_total f report = total_data f report.cells (length report.violations) report.unplaced
+
+-- ---- the description
+
+-- the places of the DEF text, in loading order
+abbrev pub places_of : List Cell → List (Option Place)
+places_of cells = map (λ c. c.place) cells
+
+-- the movable cells, each at its place in the DEF text
+abbrev pub cells_of : Loaded → List (Listed (List ℕ))
+cells_of loaded = listed_at loaded.cells (places_of loaded.cells)
+
+-- the names of the FIXED components, in the order of the DEF text
+abbrev pub fixed_names : List Component → List (List ℕ)
+fixed_names components = map (λ c. c.name) (filter is_fixed components)
+
+-- the obstacles: the first ones are the boxes of the FIXED components, in their order
+abbrev pub obstacle_lines : List (List ℕ) → List Rect → List Data
+obstacle_lines names obstacles = map (λ e. obstacle_data (slice_get names e.0) e.1) (enumerate_from 0 obstacles)
+
+-- the cells of a frame, each with the first rule that it breaks where it stands, as a check has it
+abbrev pub cell_lines : Legalizer → Frame → List (Listed (List ℕ)) → List Data
+cell_lines l f cells = map (λ e. cell_data f cells e.1 (broken_among l f 0 cells e.0 e.1)) (enumerate_from 0 cells)
+
+-- the design, its rows, fences, obstacles, soft blockages and movable cells, and the totals
+abbrev pub lines_of : Legalizer → Frame → List (List ℕ) → List (Listed (List ℕ)) → List Data
+lines_of l f names cells =
+    design_data f ∷ (map (row_data f) f.rows ++ (map fence_data f.teams ++ (obstacle_lines names f.obstacles ++ (map soft_data f.soft
+    ++ (cell_lines l f cells ++ report_total f (report_of l f 0 cells) ∷ [])))))
+
+-- a line: JSON without spaces, and a line feed
+abbrev pub line_text : Data → List ℕ
+line_text d = compact_text d ++ 10 ∷ []
+
+-- the text of all lines
+unfoldable pub lines_text : Legalizer → Frame → List (List ℕ) → List (Listed (List ℕ)) → List ℕ
+lines_text l f names cells = flat_map line_text (lines_of l f names cells)
+
+-- what is written of a loaded design and the document that it was loaded from
+abbrev pub description : Legalizer → Loaded → Document → List ℕ
+description l loaded document = lines_text l loaded.frame (fixed_names document.components) (cells_of loaded)

@@ -1,0 +1,3 @@
+pub mod Description
+pub mod Parts
+pub mod Written

@@ -1,0 +1,141 @@
+//! Writes the description of a loaded design.
+
+ghost use Rattle.std.specs.Prelude.{◌≡◌, ◌≤◌, ◌↔◌, ℕ, All, IfErr, IfOk, IsTrue, OnErr, OnOk, length, map, take, true};
+ghost use Rattle.std.specs.Io.KnownBytes.{Appends};
+ghost use Rattle.lf_def.specs.Contents.{contents};
+ghost use Rattle.lf_rules.specs.declared.report.Report.{Report};
+ghost use Rattle.lf_rules.specs.FullyLegal.{IsFullyLegal, standing_at};
+ghost use Rattle.lf_rules.specs.Legalizer.{Legalizer};
+ghost use Rattle.lf_rules.specs.Reports.{IsClean};
+ghost use Rattle.lf_reports.specs.Reports.{IsListed, named, report_of};
+ghost use Rattle.lf_describe.specs.Description.{description, fixed_names as names_of, lines_text, places_of};
+ghost use Rattle.lf_describe.specs.Parts.{Counts, parts_text};
+ghost use Rattle.lf_describe.specs.Written.{AppendsFront};
+
+use crate::cells::{is_clean, listed, verdicts_of};
+use crate::output::LineFault;
+use crate::parts::{counts_in, put_parts};
+use crate::told::Told;
+use lf_claims::is_fixed;
+use lf_def::{Component, DefDoc};
+use lf_devices::Sink;
+use lf_floorplan::{Frame, Loaded, cell_is_sized};
+use lf_rules::{Listed, legalizer_is_there};
+use std::alloc::{AllocError, Global};
+
+/// Why a design was not described.
+#[derive(Clone, Copy, Debug, PartialEq, Eq)]
+pub enum Undescribed {
+    /// An allocation failed before the first line.
+    OutOfMemory,
+    /// An allocation for a line failed; lines before it may have been written.
+    LineOutOfMemory,
+    /// The writer failed.
+    Output,
+}
+
+/// The names of the FIXED components, in the order of the DEF text.
+fn fixed_names<'a>(
+    alloc: Global,
+    components: &'a [Component<'_>],
+) -> Result<Vec<&'a [u8]>, AllocError>
+    ensures { IfOk result (λ names. map (λ n. n.now) names.items ≡ names_of components.now) }
+{
+    let mut names = Vec::new(alloc);
+    for component in components {
+        if is_fixed(component) {
+            names.push(component.name.as_bytes())?;
+        }
+    }
+    Ok(names)
+}
+
+/// What is told of a fault of the lines.
+fn late(fault: LineFault) -> Undescribed
+    ensures late { result ≡ Undescribed.OutOfMemory → ⊥ }
+    ensures output { result ≡ Undescribed.Output → fault ≡ LineFault.Output }
+{
+    match fault {
+        LineFault::OutOfMemory => Undescribed::LineOutOfMemory,
+        LineFault::Output => Undescribed::Output,
+    }
+}
+
+/// Writes what is told; returns whether no cell is unplaced and none breaks a rule.
+fn describe_told<W: Sink>(
+    alloc: Global,
+    told: &Told<'_>,
+    writer: &mut W,
+) -> Result<bool, Undescribed>
+    ensures text { OnOk result (Appends (W.contents writer.old) (W.contents writer.new) (parts_text told.now)) }
+    ensures clean { (report : Report) → Counts told.now report → IfOk result (λ clean. IsTrue clean ↔ IsClean report) }
+    ensures cut { OnErr result (AppendsFront (W.contents writer.old) (W.contents writer.new) (parts_text told.now)) }
+    ensures late { IfErr result (λ fault. fault ≡ Undescribed.OutOfMemory → ⊥) }
+    ensures output { IfErr result (λ fault. fault ≡ Undescribed.Output → W.has_failed writer.new ≡ true) }
+    ensures held { W.holds writer.new ≡ W.holds writer.old }
+{
+    match put_parts(alloc, told, writer) {
+        Ok(()) => Ok(is_clean(&counts_in(told))),
+        Err(fault) => Err(late(fault)),
+    }
+}
+
+/// Writes the lines of a frame and its cells, of which the FIXED components have these names; returns whether no cell is unplaced
+/// and none breaks a rule.
+fn describe_cells<W: Sink>(
+    alloc: Global,
+    frame: &Frame,
+    names: &[&[u8]],
+    cells: &[Listed<&[u8]>],
+    writer: &mut W,
+) -> Result<bool, Undescribed>
+    requires listed { All (λ c. IsListed frame.now (named c)) cells.now }
+    requires few { length cells.now ≤ 4000000 }
+    ensures text { (l : Legalizer) → OnOk result (Appends (W.contents writer.old) (W.contents writer.new) (lines_text l frame.now (map (λ n. n.now) names.now) (map named cells.now))) }
+    ensures clean { (l : Legalizer) → IfOk result (λ clean. IsTrue clean ↔ IsClean (report_of l frame.now 0 (map named cells.now))) }
+    ensures cut { (l : Legalizer) → OnErr result (AppendsFront (W.contents writer.old) (W.contents writer.new) (lines_text l frame.now (map (λ n. n.now) names.now) (map named cells.now))) }
+    ensures unwritten { IfErr result (λ fault. fault ≡ Undescribed.OutOfMemory → writer.new ≡ writer.old) }
+    ensures output { IfErr result (λ fault. fault ≡ Undescribed.Output → W.has_failed writer.new ≡ true) }
+    ensures held { W.holds writer.new ≡ W.holds writer.old }
+{
+    let Ok(verdicts) = verdicts_of(alloc, frame, cells) else {
+        return Err(Undescribed::OutOfMemory);
+    };
+    let told = Told {
+        frame,
+        names,
+        cells,
+        verdicts: verdicts.as_slice(),
+    };
+    describe_told(alloc, &told, writer)
+}
+
+/// Writes what there is to tell of a design, each cell at its place in the DEF text, as JSON Lines: an object a line, with the
+/// design first, then its rows, fences, obstacles, soft blockages and movable cells, and the totals last; and flushes. Returns
+/// whether the design is fully legal.
+///
+/// `document` is the document that the design was loaded from: it names the FIXED components, whose boxes are the first obstacles.
+/// If an allocation or the writer fails, a front of the description is written; none of it if that was before the first line.
+pub fn describe<W: Sink>(
+    alloc: Global,
+    loaded: &Loaded,
+    document: &DefDoc<'_>,
+    writer: &mut W,
+) -> Result<bool, Undescribed>
+    ensures text { (l : Legalizer) → OnOk result (Appends (W.contents writer.old) (W.contents writer.new) (description l loaded.now (contents document.now))) }
+    ensures legal { IfOk result (λ legal. IsTrue legal ↔ IsFullyLegal loaded.now.frame (standing_at loaded.now.cells (places_of loaded.now.cells))) }
+    ensures cut { (l : Legalizer) → OnErr result ((n : ℕ) × Appends (W.contents writer.old) (W.contents writer.new) (take n (description l loaded.now (contents document.now)))) }
+    ensures unwritten { IfErr result (λ fault. fault ≡ Undescribed.OutOfMemory → writer.new ≡ writer.old) }
+    ensures output { IfErr result (λ fault. fault ≡ Undescribed.Output → W.has_failed writer.new ≡ true) }
+    ensures held { W.holds writer.new ≡ W.holds writer.old }
+{
+    cell_is_sized();
+    legalizer_is_there();
+    let Ok(names) = fixed_names(alloc, document.components.as_slice()) else {
+        return Err(Undescribed::OutOfMemory);
+    };
+    let Ok(cells) = listed(alloc, loaded.cells.as_slice()) else {
+        return Err(Undescribed::OutOfMemory);
+    };
+    describe_cells(alloc, &loaded.frame, &names, &cells, writer)
+}

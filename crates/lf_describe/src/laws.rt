@@ -1,0 +1,8 @@
+//! A law on names.
+
+ghost use Rattle.lf_describe.specs.Description.{NamesAreTold};
+
+/// A name of visible characters is told as it is.
+pub fn names_are_told()
+    ensures { NamesAreTold }
+{}
