@@ -27,7 +27,11 @@ EXPORTED = (
     .replace("- a3 DBL + WEIGHT 3 ;", "- a3 DBL + WEIGHT 3 + PLACED ( 800 0 ) N ;")
 )
 DONE = (0, REPLIES, "")
-UNWRITTEN = "lefence: File\n"
+
+
+def unwritten(target: Path | str) -> str:
+    """What is told of a path that no text can be written to."""
+    return f"lefence: File\nlefence: export file {target} cannot be written\n"
 
 
 def small_files() -> None:
@@ -177,17 +181,17 @@ class NotExported(InFolder):
 
     def refused(self, target: Path | str, **options: object) -> None:
         """It shows only when the text is written."""
-        self.assertEqual(self.export(target, **options), (3, REPLIES, UNWRITTEN))
+        self.assertEqual(self.export(target, **options), (3, REPLIES, unwritten(target)))
 
     def refused_early(self, target: Path | str, **options: object) -> None:
         """It shows before the first line is read."""
-        self.assertEqual(self.export(target, **options), (3, "", UNWRITTEN))
+        self.assertEqual(self.export(target, **options), (3, "", unwritten(target)))
 
     def test_into_a_folder_that_is_missing(self) -> None:
         missing = self.folder / "missing" / "new.def"
         self.refused_early(missing)
         bounds = ["--port", str(free_port()), "--connections", "1"]
-        self.assertEqual(run(["serve", *DESIGN, *bounds, "--export", str(missing)]), (3, "", UNWRITTEN))
+        self.assertEqual(run(["serve", *DESIGN, *bounds, "--export", str(missing)]), (3, "", unwritten(missing)))
         self.assertEqual(self.names(), [])
 
     def test_to_a_folder(self) -> None:
@@ -246,9 +250,15 @@ class NotExported(InFolder):
         self.assertEqual(self.names(), [])
 
     def test_after_one_line_too_many(self) -> None:
-        ran = run(["replay", *DESIGN, "--export", str(self.target)], b"\n" * 1_000_001, stdout=subprocess.DEVNULL)
-        self.assertEqual(ran, (3, "", "lefence: TooManyLines\n"))
-        self.assertEqual(self.names(), [])
+        words = ["replay", *DESIGN, "--export", str(self.target)]
+        for bound, most in (([], 1_000_000), (["--lines", "3"], 3)):
+            ran = run([*words, *bound], b"\n" * (most + 1), stdout=subprocess.DEVNULL)
+            self.assertEqual(ran, (3, "", "lefence: TooManyLines\n"))
+            self.assertEqual(self.names(), [])
+
+    def test_after_as_many_lines_as_are_asked_for(self) -> None:
+        ran = run(["replay", *DESIGN, "--export", str(self.target), "--lines", "1000001"], b"\n" * 1_000_001, stdout=subprocess.DEVNULL)
+        self.assertEqual((ran, self.target.read_bytes()), ((0, "", ""), DEF.read_bytes()))
 
     def test_after_a_signal(self) -> None:
         words = [*DESIGN, "--export", str(self.target)]

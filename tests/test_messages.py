@@ -1,4 +1,4 @@
-"""What a newcomer's mistakes end in: a line on standard error and a status; and what to do where `tidy` finds no place."""
+"""What a newcomer's mistakes end in: lines on standard error and a status; and what to do where `tidy` finds no place."""
 
 from __future__ import annotations
 
@@ -14,19 +14,24 @@ USAGE = "lefence: usage"
 
 
 class Mistakes(unittest.TestCase):
-    """Each mistake: the status, the first line on standard error, and nothing on standard output."""
+    """Each mistake: the status, what standard error says, and nothing on standard output."""
 
-    def said(self, words: list[str], status: int, first: str, lines: str = "", **options: object) -> None:
+    def said(self, words: list[str], status: int, first: str, second: str = "", **options: object) -> None:
+        """A second line tells where the fault lies, if it is given. Behind a usage fault comes what can be asked."""
         with self.subTest(" ".join(words)):
-            found, written, said = run(words, lines, **options)
-            self.assertEqual((found, written, said.split("\n")[0]), (status, "", first))
+            found, written, said = run(words, "", **options)
+            if first == USAGE:
+                said = said.split("\n")[0]
+            else:
+                first = "".join(f"lefence: {line}\n" for line in (first.removeprefix("lefence: "), second) if line)
+            self.assertEqual((found, written, said), (status, "", first))
 
     def test_an_unknown_subcommand(self) -> None:
         for words in (["chek", *DESIGN], ["Check", *DESIGN], ["check.", *DESIGN], ["help"], ["-x"], DESIGN, [""]):
             self.said(words, 2, USAGE)
 
     def test_a_subcommand_without_its_files(self) -> None:
-        for verb in ("check", "replay", "serve"):
+        for verb in ("check", "describe", "replay", "serve"):
             self.said([verb], 2, USAGE)
             self.said([verb, W_DEF], 2, USAGE)
 
@@ -43,6 +48,10 @@ class Mistakes(unittest.TestCase):
         with tempfile.TemporaryDirectory() as folder:
             target = Path(folder) / "new.def"
             self.said(["check", *DESIGN, "--export", str(target)], 2, USAGE)
+            self.said(["describe", *DESIGN, "--export", str(target)], 2, USAGE)
+            self.said(["describe", *DESIGN, "--lines", "5"], 2, USAGE)
+            self.said(["check", *DESIGN, "--lines", "5"], 2, USAGE)
+            self.said(["serve", *DESIGN, "--port", "5800", "--connections", "1", "--lines", "5"], 2, USAGE)
             self.said(["replay", *DESIGN, "--port", "5800"], 2, USAGE)
             self.said(["replay", *DESIGN, "--exprt", str(target)], 2, USAGE)
             self.assertEqual(os.listdir(folder), [])
@@ -50,6 +59,8 @@ class Mistakes(unittest.TestCase):
     def test_an_option_without_its_value_or_twice(self) -> None:
         self.said(["replay", *DESIGN, "--export"], 2, USAGE)
         self.said(["replay", *DESIGN, "--export", "a", "--export", "b"], 2, USAGE)
+        self.said(["replay", *DESIGN, "--lines"], 2, USAGE)
+        self.said(["replay", *DESIGN, "--lines", "5", "--lines=5"], 2, USAGE)
         self.said(["serve", *DESIGN, "--port", "--connections", "1"], 2, USAGE)
 
     def test_a_service_without_port_or_connections_or_out_of_their_range(self) -> None:
@@ -61,39 +72,56 @@ class Mistakes(unittest.TestCase):
         for connections in ("0", "1000001", "all", "-1", ""):
             self.said(["serve", *DESIGN, "--port", "5800", "--connections", connections], 2, USAGE)
 
+    def test_a_bound_on_lines_out_of_its_range(self) -> None:
+        for lines in ("0", "4294967296", "all", "-1", ""):
+            self.said(["replay", *DESIGN, "--lines", lines], 2, USAGE)
+
     def test_a_missing_file_or_a_folder_in_its_place(self) -> None:
         with tempfile.TemporaryDirectory() as folder:
             for path in (f"{folder}/missing", folder):
-                for verb in ("check", "replay"):
-                    self.said([verb, path, W_LEF], 3, "lefence: File")
-                    self.said([verb, W_DEF, path], 3, "lefence: File")
-                    self.said([verb, W_DEF, W_LEF, path], 3, "lefence: File")
+                for verb in ("check", "describe", "replay"):
+                    self.said([verb, path, W_LEF], 3, "lefence: File", f"DEF file {path} cannot be read")
+                    self.said([verb, W_DEF, path], 3, "lefence: File", f"LEF file {path} cannot be read")
+                    self.said([verb, W_DEF, W_LEF, path], 3, "lefence: File", f"LEF file {path} cannot be read")
+
+    def test_a_path_is_shown_in_bytes_that_can_be_read(self) -> None:
+        self.said(["check", "no\n\u00e9.def", W_LEF], 3, "lefence: File", "DEF file no\\x0a\\xc3\\xa9.def cannot be read")
 
     def test_a_lef_text_in_place_of_the_def_text(self) -> None:
-        for verb in ("check", "replay"):
-            self.said([verb, W_LEF, W_LEF], 1, "lefence: 6 UnknownStatement line 2")
+        line = LEF.read_text().splitlines()[1]
+        for verb in ("check", "describe", "replay"):
+            self.said([verb, W_LEF, W_LEF], 1, "lefence: 6 UnknownStatement line 2", f"DEF file {W_LEF}, line 2: {line}")
 
     def test_the_lef_text_first(self) -> None:
-        for verb in ("check", "replay"):
-            self.said([verb, W_LEF, W_DEF], 1, f"lefence: 2 UnexpectedEnd line {len(DEF.read_text().splitlines()) + 1}")
+        last = len(DEF.read_text().splitlines()) + 1
+        for verb in ("check", "describe", "replay"):
+            self.said([verb, W_LEF, W_DEF], 1, f"lefence: 2 UnexpectedEnd line {last}", f"LEF file {W_DEF}, line {last}: ")
 
     def test_a_def_text_without_its_lef_texts(self) -> None:
         with tempfile.TemporaryDirectory() as folder:
             empty, site = Path(folder) / "empty.lef", Path(folder) / "site.lef"
             empty.write_text("")
             site.write_text(LEF.read_text().split("MACRO")[0] + "END LIBRARY\n")
-            self.said(["check", W_DEF, str(empty)], 1, "lefence: 8 NoSite core")
-            self.said(["check", W_DEF, str(site)], 1, "lefence: 14 NoMacro INV")
+            self.said(["check", W_DEF, str(empty)], 1, "lefence: 8 NoSite core", f"DEF file {W_DEF}")
+            self.said(["check", W_DEF, str(site)], 1, "lefence: 14 NoMacro INV", f"DEF file {W_DEF}")
 
     def test_a_def_text_that_is_cut_off(self) -> None:
         with tempfile.TemporaryDirectory() as folder:
             cut = Path(folder) / "cut.def"
             cut.write_text(DEF.read_text().split("- b1")[0])
-            self.said(["check", str(cut), W_LEF], 1, "lefence: 2 UnexpectedEnd line 18")
+            self.said(["check", str(cut), W_LEF], 1, "lefence: 2 UnexpectedEnd line 18", f"DEF file {cut}, line 18: ")
+
+    def test_a_line_is_shown_as_far_as_80_bytes(self) -> None:
+        with tempfile.TemporaryDirectory() as folder:
+            long = Path(folder) / "long.def"
+            long.write_bytes(b"VERSION 5.8 ;\nWHAT\t\xff" + b"." * 200 + b" ;\nEND DESIGN\n")
+            shown = "WHAT\\x09\\xff" + "." * 74
+            self.said(["check", str(long), W_LEF], 1, "lefence: 6 UnknownStatement line 2", f"DEF file {long}, line 2: {shown}")
 
     def test_a_report_that_cannot_be_written(self) -> None:
         with open("/dev/full", "wb") as full:
             self.said(["check", *DESIGN], 3, "lefence: Output", stdout=full)
+            self.said(["describe", *DESIGN], 3, "lefence: Output", stdout=full)
             self.said(["serve", *DESIGN, "--port", str(free_port()), "--connections", "1"], 3, "lefence: Output", stdout=full)
 
     def test_no_words_at_all_answer_the_lines_of_the_demo(self) -> None:
@@ -119,7 +147,7 @@ class Help(unittest.TestCase):
         self.assertTrue(written.startswith(usage) and len(usage) > 500, written)
 
     def test_each_subcommand_has_its_help_with_an_example(self) -> None:
-        for verb in ("demo", "check", "replay", "serve"):
+        for verb in ("demo", "check", "describe", "replay", "serve"):
             with self.subTest(verb):
                 status, written, said = run([verb, "--help"])
                 self.assertEqual((status, said), (0, ""))

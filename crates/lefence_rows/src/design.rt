@@ -11,8 +11,9 @@ ghost use Rattle.lf_teams.specs.States.{FloorState};
 ghost use Rattle.lf_write.specs.Export.{CanBeGiven};
 
 use crate::reading::{put_document, put_library};
-use lf_app::{Fault, answer_lines, write_fault};
+use lf_app::{Fault, TextFile, TextKind, answer_lines, write_fault};
 use lf_def::{DefDoc, W_DEF, read_def};
+use lf_devices::{FromRead, ToWrite};
 use lf_floor::Floor;
 use lf_frame::{Limits, Loaded, load};
 use lf_lef::{Library, W_LEF, read_lef};
@@ -27,6 +28,9 @@ use lf_write::export;
 use std::alloc::{AllocError, Global};
 use std::io;
 use std::io::Write;
+
+/// The most lines that a row may ask.
+const MOST_LINES: u32 = 1_000;
 
 /// What is asked of a design.
 #[derive(Clone, Copy)]
@@ -74,8 +78,19 @@ fn first_lines(alloc: Global, text: &[u8], count: usize) -> Result<Vec<u8>, Allo
 }
 
 /// Writes the line of a refusal.
-fn put_fault<W: Write>(writer: &mut W, fault: LoadFault<'_>) -> io::Result<()> {
-    write_fault(writer, &Fault::Refused(fault))
+fn put_fault<W: Write>(writer: &mut W, refusal: LoadFault<'_>) -> io::Result<()> {
+    let fault = Fault::Refused {
+        file: TextFile {
+            kind: TextKind::Def,
+            path: "row",
+        },
+        text: b"",
+        refusal,
+    };
+    match write_fault(&mut ToWrite::new(writer), &fault) {
+        Ok(()) => Ok(()),
+        Err(_) => Err(io::Error::from(io::ErrorKind::Other)),
+    }
 }
 
 impl Design {
@@ -266,7 +281,9 @@ fn put_replies<S: Seeker + Drop>(
         → CanBeGiven document.now.components places }
 {
     let mut reader = asked.lines;
-    let _ending = answer_lines(alloc, floor, &mut reader, replies);
+    let mut source = FromRead::new(&mut reader);
+    let mut sink = ToWrite::new(replies);
+    let _ending = answer_lines(alloc, floor, &mut source, &mut sink, MOST_LINES);
     if !asked.is_exported {
         return Ok(());
     }

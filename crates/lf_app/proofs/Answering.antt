@@ -1,42 +1,38 @@
--- Lines that are served over a reader and a writer.
-use Rattle.std.proofs.Common.{◌≡◌, ap, refl, ℕ, Bool, true, false, is_some, List, None, Option, Some, subst, sym}
+-- Lines that break off.
+use Rattle.std.proofs.Common.{◌≡◌, ap, is_some, Some, refl, subst}
 use Rattle.std.proofs.lemmas.Bool.{false≢true}
 use Rattle.std.specs.Prelude.{unwrap_or}
-use Rattle.lf_rules.specs.Legalizer.{Legalizer}
-use Rattle.lf_teams.specs.States.{FloorState}
-use Rattle.lf_server.specs.Devices.{writer}
-use Rattle.lf_server.specs.Endings.{Serves}
-use Rattle.lf_server.specs.declared.serving.Served.{Served}
 use Rattle.lf_server.specs.declared.serving.Ending.{Ending}
 use Rattle.lf_server.specs.declared.serving.Ending.TheVariants as ending
 use Rattle.lf_app.specs.declared.faults.Fault.{Fault}
 use Rattle.lf_app.specs.declared.faults.Fault.TheVariants.{ReadFault, WriteFault, TooManyLines, OutOfMemory}
-use Rattle.lf_app.specs.Exits.{IsEarly}
-use Rattle.lf_app.specs.Faults.{ending_fault}
-use Rattle.lf_app.specs.Lines.{IsServed}
+use Rattle.lf_app.specs.Faults.{Blames, IsOfWriter, ending_fault}
 
--- what is served over devices is served over the reader and the writer that they hold
-module _ (l : Legalizer) (old new : FloorState) (input left left' before after after' : Option (List ℕ)) (flushed failed : Bool) (served : Served) where
-  pub over_devices : Serves l 1000000 old input left (writer before true false) (writer after flushed failed) served new
-      → left ≡ left' → after ≡ after' → IsServed l old new input left' before after' served.ending
-  over_devices serves left_is after_is =
-      record {
-        served = served;
-        ends = refl;
-        flushed = flushed;
-        failed = failed;
-        serves = subst (λ (a : Option (List ℕ)). Serves l 1000000 old input left' (writer before true false) (writer a flushed failed) served new) after_is
-            (subst (λ (r : Option (List ℕ)). Serves l 1000000 old input r (writer before true false) (writer after flushed failed) served new) left_is serves);
-      }
+abbrev IsMany : Fault → Type 0
+IsMany TooManyLines = Unit {0}
+IsMany _ = ⊥
 
-late : (is fault : Fault) → Some is ≡ Some fault → (IsEarly is → ⊥) → IsEarly fault → ⊥
-late is fault same not early = not (subst IsEarly (sym (ap (λ o. unwrap_or o is) same)) early)
+abbrev IsFull : Fault → Type 0
+IsFull OutOfMemory = Unit {0}
+IsFull _ = ⊥
 
--- lines that break off have begun
-pub breaks_late : (end : Ending) (fault : Fault) → ending_fault end ≡ Some fault → IsEarly fault → ⊥
-breaks_late ending.Done fault same early = false≢true (ap is_some same)
-breaks_late ending.Bye fault same early = false≢true (ap is_some same)
-breaks_late ending.ReadFault fault same early = late ReadFault fault same (λ h. h) early
-breaks_late ending.WriteFault fault same early = late WriteFault fault same (λ h. h) early
-breaks_late ending.TooManyLines fault same early = late TooManyLines fault same (λ h. h) early
-breaks_late ending.OutOfMemory fault same early = late OutOfMemory fault same (λ h. h) early
+own : (is fault : Fault) → Some is ≡ Some fault → is ≡ fault
+own is fault same = ap (λ o. unwrap_or o is) same
+
+-- lines that break off blame the reader or the writer, as serving them tells of it
+pub breaks_blame : (end : Ending) (fault : Fault) (kept reader writer : Type 0) → ending_fault end ≡ Some fault
+    → (end ≡ ending.ReadFault → reader) → (end ≡ ending.WriteFault → writer) → Blames fault kept reader writer
+breaks_blame ending.Done fault kept reader writer same reading writing = absurd (false≢true (ap is_some same))
+breaks_blame ending.Bye fault kept reader writer same reading writing = absurd (false≢true (ap is_some same))
+breaks_blame ending.ReadFault fault kept reader writer same reading writing =
+    subst (λ (f : Fault). Blames f kept reader writer) (own ReadFault fault same)
+    record { early = λ early. absurd early; reading = λ _. reading refl; writing = λ of. absurd of }
+breaks_blame ending.WriteFault fault kept reader writer same reading writing =
+    subst (λ (f : Fault). Blames f kept reader writer) (own WriteFault fault same)
+    record { early = λ early. absurd early; reading = λ other. absurd (subst IsOfWriter other tt); writing = λ _. writing refl }
+breaks_blame ending.TooManyLines fault kept reader writer same reading writing =
+    subst (λ (f : Fault). Blames f kept reader writer) (own TooManyLines fault same)
+    record { early = λ early. absurd early; reading = λ other. absurd (subst IsMany other tt); writing = λ of. absurd of }
+breaks_blame ending.OutOfMemory fault kept reader writer same reading writing =
+    subst (λ (f : Fault). Blames f kept reader writer) (own OutOfMemory fault same)
+    record { early = λ early. absurd early; reading = λ other. absurd (subst IsFull other tt); writing = λ of. absurd of }

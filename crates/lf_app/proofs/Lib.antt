@@ -1,4 +1,6 @@
 mod Answering
 mod DesignSteps
+mod Performing
+mod Shown
 mod TaskSteps
 mod WorkSteps

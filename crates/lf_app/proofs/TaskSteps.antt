@@ -1,14 +1,14 @@
 -- Tasks over a design that is loaded.
-use Rattle.std.proofs.Common.{◌≡◌, ◌⊎◌, arith, inl, inr, refl, ℕ, List, Option, Some, None}
+use Rattle.std.proofs.Common.{◌≡◌, ◌⊎◌, arith, inl, inr, refl, ℕ, Bool, List, Option, Some, None}
 use Rattle.std.specs.Prelude.{IfErr, IfOk, Result}
 use Rattle.std.proofs.lemmas.Result.{IfErr-weaker, IfOk-weaker}
 use Rattle.lf_floorplan.specs.declared.loaded.Loaded.{Loaded}
 use Rattle.lf_command.specs.declared.command.Task.{Task}
-use Rattle.lf_command.specs.declared.command.Task.TheVariants.{Demo, Replay, Serve, Check}
-use Rattle.lf_command.specs.Command.{IsCheck, Job, as_job, check, demo, replay, serve}
+use Rattle.lf_command.specs.declared.command.Task.TheVariants.{Demo, Replay, Serve, Check, Describe}
+use Rattle.lf_command.specs.Command.{Job, ReadsNone, as_job, check, demo, describe, replay, serve}
 use Rattle.lf_app.specs.declared.faults.Exit.{Exit}
 use Rattle.lf_app.specs.declared.faults.Fault.{Fault}
-use Rattle.lf_app.specs.declared.faults.Fault.TheVariants.{Refused, File, ReadFault, WriteFault, TooManyLines, OutOfMemory, Output, Bind, Accept, Unwritten, NoRoom}
+use Rattle.lf_app.specs.declared.faults.Fault.TheVariants.{Refused, File, ReadFault, WriteFault, TooManyLines, OutOfMemory, Output, Bind, Accept, Unwritten, NoMemory, NoRoom}
 use Rattle.lf_app.specs.Designs.{Gives}
 use Rattle.lf_app.specs.Exits.{AsksForNoFile, Ends, IsOutcome, Streams}
 use Rattle.lf_app.specs.Faults.{IsDone, IsFailure}
@@ -19,26 +19,27 @@ module _ (IsDesign : Loaded → Type 0) (loaded : Loaded) (design : IsDesign loa
   comes_of Comes = IfOk-weaker r (Comes loaded) (λ status. (l : Loaded) × IsDesign l × Comes l status) (λ status is. (loaded, design, is))
 
   -- and a fault after loading is one of the whole task
-  pub fails : (no_design early : Fault → Type 0) (why : Loaded → Fault → Type 0) (kept : Type 0) (old new : Option (List ℕ))
-      → IfErr r (Ends (λ fault. why loaded fault × (early fault → kept)) old new)
-      → IfErr r (Ends (λ fault. (no_design fault ⊎ ((l : Loaded) × IsDesign l × why l fault)) × (early fault → kept)) old new)
-  fails no_design early why kept old new = IfErr-weaker r (Ends (λ fault. why loaded fault × (early fault → kept)) old new)
-      (Ends (λ fault. (no_design fault ⊎ ((l : Loaded) × IsDesign l × why l fault)) × (early fault → kept)) old new)
+  pub fails : (no_design also : Fault → Type 0) (why : Loaded → Fault → Type 0) (old new : Option (List ℕ)) (failed : Bool)
+      → IfErr r (Ends (λ fault. why loaded fault × also fault) old new failed)
+      → IfErr r (Ends (λ fault. (no_design fault ⊎ ((l : Loaded) × IsDesign l × why l fault)) × also fault) old new failed)
+  fails no_design also why old new failed = IfErr-weaker r (Ends (λ fault. why loaded fault × also fault) old new failed)
+      (Ends (λ fault. (no_design fault ⊎ ((l : Loaded) × IsDesign l × why l fault)) × also fault) old new failed)
       (λ exit ends. (ends.0, (inr (loaded, design, ends.1.0), ends.1.1), ends.2))
 
 -- the status of a fault is one of a task that was not done
-pub failing : (why : Fault → Type 0) (old new : Option (List ℕ)) (exit : Exit) → Ends why old new exit → IsFailure exit.status
-failing why old new exit (Refused refusal, is, ends) = inl ends.status
-failing why old new exit (File, is, ends) = inr ends.status
-failing why old new exit (ReadFault, is, ends) = inr ends.status
-failing why old new exit (WriteFault, is, ends) = inr ends.status
-failing why old new exit (TooManyLines, is, ends) = inr ends.status
-failing why old new exit (OutOfMemory, is, ends) = inr ends.status
-failing why old new exit (Output, is, ends) = inr ends.status
-failing why old new exit (Bind, is, ends) = inr ends.status
-failing why old new exit (Accept, is, ends) = inr ends.status
-failing why old new exit (Unwritten, is, ends) = inr ends.status
-failing why old new exit (NoRoom, is, ends) = inl ends.status
+pub failing : (why : Fault → Type 0) (old new : Option (List ℕ)) (failed : Bool) (exit : Exit) → Ends why old new failed exit → IsFailure exit.status
+failing why old new failed exit (Refused file its refusal, is, ends) = inl ends.status
+failing why old new failed exit (File file, is, ends) = inr ends.status
+failing why old new failed exit (ReadFault, is, ends) = inr ends.status
+failing why old new failed exit (WriteFault, is, ends) = inr ends.status
+failing why old new failed exit (TooManyLines, is, ends) = inr ends.status
+failing why old new failed exit (OutOfMemory, is, ends) = inr ends.status
+failing why old new failed exit (Output, is, ends) = inr ends.status
+failing why old new failed exit (Bind port, is, ends) = inr ends.status
+failing why old new failed exit (Accept, is, ends) = inr ends.status
+failing why old new failed exit (Unwritten path, is, ends) = inr ends.status
+failing why old new failed exit (NoMemory, is, ends) = inl ends.status
+failing why old new failed exit (NoRoom, is, ends) = inl ends.status
 
 -- no task is done and not done
 pub not_both : (status : ℕ) → IsDone status → IsFailure status → ⊥
@@ -50,23 +51,25 @@ not_both status (inr is) (inr fails) = omega (arith, is, fails)
 -- the status of the outcome of a job is one of a task that was done
 pub succeeds : (gives : Gives) (job : Job) (io : Streams) (status : ℕ) → IsOutcome gives job io status → IsDone status
 succeeds gives demo io status is = inl is.3
-succeeds gives (replay def lefs export) io status is = inl is.1
+succeeds gives (replay def lefs lines export) io status is = inl is.1
 succeeds gives (serve def lefs port connections export) io status is = inl is.1
 succeeds gives (check def lefs) io status is = is.2.done
+succeeds gives (describe def lefs) io status is = is.described.done
 
 -- a job on the lines of a design that asks for no file has no path for one
-pub replay_asks : (def : List ℕ) (lefs : List (List ℕ)) (export : Option (List ℕ)) → AsksForNoFile (replay def lefs export) → export ≡ None
-replay_asks def lefs None asks = refl
-replay_asks def lefs (Some path) asks = absurd asks
+pub replay_asks : (def : List ℕ) (lefs : List (List ℕ)) (lines : ℕ) (export : Option (List ℕ)) → AsksForNoFile (replay def lefs lines export) → export ≡ None
+replay_asks def lefs lines None asks = refl
+replay_asks def lefs lines (Some path) asks = absurd asks
 
 pub serve_asks : (def : List ℕ) (lefs : List (List ℕ)) (port connections : ℕ) (export : Option (List ℕ))
     → AsksForNoFile (serve def lefs port connections export) → export ≡ None
 serve_asks def lefs port connections None asks = refl
 serve_asks def lefs port connections (Some path) asks = absurd asks
 
--- 4 is the status of a check alone
-pub checked : (gives : Gives) (task : Task) (io : Streams) (status : ℕ) → IsOutcome gives (as_job task) io status → status ≡ 4 → IsCheck task
+-- 4 is the status of a check or a description alone
+pub checked : (gives : Gives) (task : Task) (io : Streams) (status : ℕ) → IsOutcome gives (as_job task) io status → status ≡ 4 → ReadsNone task
 checked gives Demo io status is four = let zero : status ≡ 0 = is.3 in absurd (omega (arith, zero, four))
-checked gives (Replay def lefs export) io status is four = let zero : status ≡ 0 = is.1 in absurd (omega (arith, zero, four))
+checked gives (Replay def lefs lines export) io status is four = let zero : status ≡ 0 = is.1 in absurd (omega (arith, zero, four))
 checked gives (Serve def lefs port connections export) io status is four = let zero : status ≡ 0 = is.1 in absurd (omega (arith, zero, four))
 checked gives (Check def lefs) io status is four = tt
+checked gives (Describe def lefs) io status is four = tt

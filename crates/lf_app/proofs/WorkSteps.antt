@@ -1,7 +1,6 @@
 -- Work on a design, step by step: what the steps after one give is what the whole gives.
-use Rattle.std.proofs.Common.{◌≡◌, ◌⊎◌, inl, inr, subst, ℕ, List, None, Ok, Option, Some}
-use Rattle.std.proofs.lemmas.Bool.{false≢true}
-use Rattle.std.specs.Prelude.{IfErr, IfOk, IsSome, Result}
+use Rattle.std.proofs.Common.{◌≡◌, ◌⊎◌, inl, inr, subst, sym, ℕ, Bool, List, [], ◌∷◌, None, Ok, Option, Some}
+use Rattle.std.specs.Prelude.{IfErr, IfOk, Result}
 use Rattle.std.proofs.lemmas.Result.{IfErr-weaker, IfOk-weaker}
 use Rattle.lf_lex.specs.declared.fault.LoadFault.{LoadFault}
 use Rattle.lf_lef.specs.Contents.{Contents}
@@ -9,10 +8,14 @@ use Rattle.lf_def.specs.Document.{Document, Refuses, document_of}
 use Rattle.lf_floorplan.specs.declared.loaded.Loaded.{Loaded}
 use Rattle.lf_app.specs.declared.faults.Exit.{Exit}
 use Rattle.lf_app.specs.declared.faults.Fault.{Fault}
-use Rattle.lf_app.specs.declared.faults.Fault.TheVariants.{Refused, File, ReadFault, WriteFault, TooManyLines, OutOfMemory, Output, Bind, Accept, Unwritten, NoRoom}
-use Rattle.lf_app.specs.Designs.{Gives, IsDefRefusal, IsDesignFault, IsDesignIn, IsDesignOf, IsFileDesign, IsFileFault, IsLibraryOf, IsLoadRefusal, IsLoadedIn, IsRefused, no_library}
-use Rattle.lf_app.specs.Exits.{Ends, IsEarly, IsUntouched, Streams}
-use Rattle.lf_app.specs.Faults.{IsExportFault}
+use Rattle.lf_app.specs.declared.faults.Fault.TheVariants.{Refused, File, ReadFault, WriteFault, TooManyLines, OutOfMemory, Output, Bind, Accept, Unwritten, NoMemory, NoRoom}
+use Rattle.lf_app.specs.declared.faults.TextKind.{TextKind}
+use Rattle.lf_app.specs.declared.faults.TextKind.TheVariants.{Lef, Def}
+use Rattle.lf_app.specs.declared.designs.TheConstants.{BUILT_IN}
+use Rattle.lf_app.specs.Designs.{Gives, IsDefRefusal, IsDesignFault, IsDesignIn, IsDesignOf, IsFileDesign, IsFileFault, IsLefRefusal, IsLibraryFault, IsLibraryOf}
+use Rattle.lf_app.specs.Designs.{IsLoadRefusal, IsLoadedIn, IsRefused, IsTextFault, IsUnread, no_library}
+use Rattle.lf_app.specs.Exits.{Ends, IsUntouched, Streams}
+use Rattle.lf_app.specs.Faults.{Blames, IsEarly, IsExportFault}
 use Rattle.lf_app.specs.Work.{IsDone, IsFault, IsStopped}
 use Rattle.lf_app.specs.declared.work.Lines.{Lines}
 use Rattle.lf_teams.specs.States.{FloorState}
@@ -22,31 +25,149 @@ pub weaker_ok : (r : Result ℕ Exit) (P Q : ℕ → Type 0) → IfOk r P → ((
 weaker_ok r P Q is gives = IfOk-weaker r P Q gives is
 
 -- a fault of a step is one of the whole
-pub step_fails : (r : Result ℕ Exit) (why all early : Fault → Type 0) (kept : Type 0) (old new : Option (List ℕ))
-    → IfErr r (Ends (λ fault. why fault × (early fault → kept)) old new) → ((fault : Fault) → why fault → all fault)
-    → IfErr r (Ends (λ fault. all fault × (early fault → kept)) old new)
-step_fails r why all early kept old new is gives =
-    IfErr-weaker r (Ends (λ fault. why fault × (early fault → kept)) old new) (Ends (λ fault. all fault × (early fault → kept)) old new)
+pub step_fails : (r : Result ℕ Exit) (why all also : Fault → Type 0) (old new : Option (List ℕ)) (failed : Bool)
+    → IfErr r (Ends (λ fault. why fault × also fault) old new failed) → ((fault : Fault) → why fault → all fault)
+    → IfErr r (Ends (λ fault. all fault × also fault) old new failed)
+step_fails r why all also old new failed is gives =
+    IfErr-weaker r (Ends (λ fault. why fault × also fault) old new failed) (Ends (λ fault. all fault × also fault) old new failed)
     (λ exit ends. (ends.0, (gives ends.0 ends.1.0, ends.1.1), ends.2)) is
 
--- the same of a fault before anything is written
-pub first_fails : (why all early : Fault → Type 0) (kept : Type 0) (old new : Option (List ℕ)) (exit : Exit) → kept
-    → Ends why old new exit → ((fault : Fault) → why fault → all fault) → Ends (λ fault. all fault × (early fault → kept)) old new exit
-first_fails why all early kept old new exit keeps ends gives = (ends.0, (gives ends.0 ends.1, λ _. keeps), ends.2)
+-- a fault of one kind is told as one of another
+pub ends_as : (why all also : Fault → Type 0) (old new : Option (List ℕ)) (failed : Bool) (exit : Exit)
+    → Ends (λ fault. why fault × also fault) old new failed exit → ((fault : Fault) → why fault → all fault)
+    → Ends (λ fault. all fault × also fault) old new failed exit
+ends_as why all also old new failed exit ends gives = (ends.0, (gives ends.0 ends.1.0, ends.1.1), ends.2)
+
+abbrev IsRoom : Fault → Type 0
+IsRoom NoRoom = Unit {0}
+IsRoom _ = ⊥
+
+abbrev IsPath : Fault → Type 0
+IsPath (Unwritten path) = Unit {0}
+IsPath _ = ⊥
+
+-- what more is said of the same fault
+pub also_fails : (r : Result ℕ Exit) (why also more : Fault → Type 0) (old new : Option (List ℕ)) (failed : Bool)
+    → IfErr r (Ends (λ fault. why fault × also fault) old new failed) → ((fault : Fault) → also fault → more fault)
+    → IfErr r (Ends (λ fault. why fault × more fault) old new failed)
+also_fails r why also more old new failed is gives =
+    IfErr-weaker r (Ends (λ fault. why fault × also fault) old new failed) (Ends (λ fault. why fault × more fault) old new failed)
+    (λ exit ends. (ends.0, (ends.1.0, gives ends.0 ends.1.1), ends.2)) is
+
+-- where the reader cannot be blamed, a fault of it would say anything
+pub blames_more : (kept reader writer : Type 0) (fault : Fault) → Blames fault kept ⊥ writer → Blames fault kept reader writer
+blames_more kept reader writer fault blames =
+    record { early = blames.early; reading = λ same. absurd (blames.reading same); writing = blames.writing }
+
+-- an early fault blames neither the reader nor the writer
+pub early_blames : (kept reader writer : Type 0) (fault : Fault) → kept → IsEarly fault → Blames fault kept reader writer
+early_blames kept reader writer (Refused file its refusal) keeps early = record { early = λ _. keeps; reading = λ same. absurd (subst IsEarly same tt); writing = λ is. absurd is }
+early_blames kept reader writer (File file) keeps early = record { early = λ _. keeps; reading = λ same. absurd (subst IsEarly same tt); writing = λ is. absurd is }
+early_blames kept reader writer ReadFault keeps early = absurd early
+early_blames kept reader writer WriteFault keeps early = absurd early
+early_blames kept reader writer TooManyLines keeps early = absurd early
+early_blames kept reader writer OutOfMemory keeps early = absurd early
+early_blames kept reader writer Output keeps early = absurd early
+early_blames kept reader writer (Bind port) keeps early = absurd early
+early_blames kept reader writer Accept keeps early = absurd early
+early_blames kept reader writer (Unwritten path) keeps early = absurd early
+early_blames kept reader writer NoMemory keeps early = record { early = λ _. keeps; reading = λ same. absurd (subst IsEarly same tt); writing = λ is. absurd is }
+early_blames kept reader writer NoRoom keeps early = absurd early
+
+-- nor does one of the export
+pub export_blames : (export : Option (List ℕ)) (kept reader writer : Type 0) (fault : Fault) → IsExportFault export fault → Blames fault kept reader writer
+export_blames None kept reader writer fault is = absurd is
+export_blames (Some path) kept reader writer fault (inl is) =
+    subst (λ (f : Fault). Blames f kept reader writer) (sym is)
+    record { early = λ early. absurd early; reading = λ same. absurd (subst IsRoom same tt); writing = λ of. absurd of }
+export_blames (Some path) kept reader writer (Refused file its refusal) (inr is) = absurd is
+export_blames (Some path) kept reader writer (File file) (inr is) = absurd is
+export_blames (Some path) kept reader writer ReadFault (inr is) = absurd is
+export_blames (Some path) kept reader writer WriteFault (inr is) = absurd is
+export_blames (Some path) kept reader writer TooManyLines (inr is) = absurd is
+export_blames (Some path) kept reader writer OutOfMemory (inr is) = absurd is
+export_blames (Some path) kept reader writer Output (inr is) = absurd is
+export_blames (Some path) kept reader writer (Bind port) (inr is) = absurd is
+export_blames (Some path) kept reader writer Accept (inr is) = absurd is
+export_blames (Some path) kept reader writer (Unwritten its) (inr is) =
+    record { early = λ early. absurd early; reading = λ same. absurd (subst IsPath same tt); writing = λ of. absurd of }
+export_blames (Some path) kept reader writer NoMemory (inr is) = absurd is
+export_blames (Some path) kept reader writer NoRoom (inr is) = absurd is
+
+-- a refusal of a text is early
+pub refused_early : (kind : TextKind) (path text : List ℕ) (why : LoadFault → Type 0) (fault : Fault) → IsRefused kind path text why fault → IsEarly fault
+refused_early kind path text why (Refused file its refusal) is = tt
+refused_early kind path text why (File file) is = absurd is
+refused_early kind path text why ReadFault is = absurd is
+refused_early kind path text why WriteFault is = absurd is
+refused_early kind path text why TooManyLines is = absurd is
+refused_early kind path text why OutOfMemory is = absurd is
+refused_early kind path text why Output is = absurd is
+refused_early kind path text why (Bind port) is = absurd is
+refused_early kind path text why Accept is = absurd is
+refused_early kind path text why (Unwritten its_path) is = absurd is
+refused_early kind path text why NoMemory is = absurd is
+refused_early kind path text why NoRoom is = absurd is
+
+-- so is a text that was not read
+pub unread_early : (gives : Gives) (kind : TextKind) (path : List ℕ) (fault : Fault) → IsUnread gives kind path fault → IsEarly fault
+unread_early gives kind path (Refused file its refusal) is = absurd is
+unread_early gives kind path (File file) is = tt
+unread_early gives kind path ReadFault is = absurd is
+unread_early gives kind path WriteFault is = absurd is
+unread_early gives kind path TooManyLines is = absurd is
+unread_early gives kind path OutOfMemory is = absurd is
+unread_early gives kind path Output is = absurd is
+unread_early gives kind path (Bind port) is = absurd is
+unread_early gives kind path Accept is = absurd is
+unread_early gives kind path (Unwritten its_path) is = absurd is
+unread_early gives kind path NoMemory is = tt
+unread_early gives kind path NoRoom is = absurd is
+
+-- so is each fault of a file
+pub file_early : (gives : Gives) (kind : TextKind) (path : List ℕ) (why : List ℕ → LoadFault → Type 0) (fault : Fault) → IsFileFault gives kind path why fault
+    → IsEarly fault
+file_early gives kind path why fault (inl unread) = unread_early gives kind path fault unread
+file_early gives kind path why fault (inr refused) = refused_early kind path refused.0 (why refused.0) fault refused.2
+
+-- of LEF files
+pub library_early : (gives : Gives) (old : Contents) (lefs : List (List ℕ)) (fault : Fault) → IsLibraryFault gives old lefs fault → IsEarly fault
+library_early gives old [] fault is = absurd is
+library_early gives old (path ∷ paths) fault (inl file) = file_early gives Lef path (IsLefRefusal old) fault file
+library_early gives old (path ∷ paths) fault (inr later) = library_early gives later.0 paths fault later.2
+
+-- of a design
+pub design_early : (gives : Gives) (path : List ℕ) (lefs : List (List ℕ)) (fault : Fault) → IsDesignFault gives path lefs fault → IsEarly fault
+design_early gives path lefs fault (inl library) = library_early gives no_library lefs fault library
+design_early gives path lefs fault (inr file) = file_early gives Def path (IsDefRefusal file.0) fault file.2
+
+-- and of the built-in design
+pub text_early : (text lef_text : List ℕ) (fault : Fault) → IsTextFault text lef_text fault → IsEarly fault
+text_early text lef_text fault (inl refused) = refused_early Lef BUILT_IN.now lef_text (IsLefRefusal no_library lef_text) fault refused
+text_early text lef_text fault (inr refused) = refused_early Def BUILT_IN.now text (IsDefRefusal refused.0 text) fault refused.2
+
+-- a fault before anything is written is one of the whole
+pub first_fails : (why all : Fault → Type 0) (kept reader writer : Type 0) (old new : Option (List ℕ)) (failed : Bool) (exit : Exit) → kept
+    → Ends why old new failed exit → ((fault : Fault) → why fault → IsEarly fault) → ((fault : Fault) → why fault → all fault)
+    → Ends (λ fault. all fault × Blames fault kept reader writer) old new failed exit
+first_fails why all kept reader writer old new failed exit keeps ends early gives =
+    (ends.0, (gives ends.0 ends.1, early_blames kept reader writer ends.0 keeps (early ends.0 ends.1)), ends.2)
 
 -- a refusal of one kind is one of another that takes them all in
-pub refused_as : (P Q : LoadFault → Type 0) (fault : Fault) → IsRefused P fault → ((refusal : LoadFault) → P refusal → Q refusal) → IsRefused Q fault
-refused_as P Q (Refused refusal) is gives = gives refusal is
-refused_as P Q File is gives = absurd is
-refused_as P Q ReadFault is gives = absurd is
-refused_as P Q WriteFault is gives = absurd is
-refused_as P Q TooManyLines is gives = absurd is
-refused_as P Q OutOfMemory is gives = absurd is
-refused_as P Q Output is gives = absurd is
-refused_as P Q Bind is gives = absurd is
-refused_as P Q Accept is gives = absurd is
-refused_as P Q Unwritten is gives = absurd is
-refused_as P Q NoRoom is gives = absurd is
+pub refused_as : (kind : TextKind) (path text : List ℕ) (P Q : LoadFault → Type 0) (fault : Fault) → IsRefused kind path text P fault
+    → ((refusal : LoadFault) → P refusal → Q refusal) → IsRefused kind path text Q fault
+refused_as kind path text P Q (Refused file its refusal) is gives = (is.0, is.1, gives refusal is.2)
+refused_as kind path text P Q (File file) is gives = absurd is
+refused_as kind path text P Q ReadFault is gives = absurd is
+refused_as kind path text P Q WriteFault is gives = absurd is
+refused_as kind path text P Q TooManyLines is gives = absurd is
+refused_as kind path text P Q OutOfMemory is gives = absurd is
+refused_as kind path text P Q Output is gives = absurd is
+refused_as kind path text P Q (Bind port) is gives = absurd is
+refused_as kind path text P Q Accept is gives = absurd is
+refused_as kind path text P Q (Unwritten its_path) is gives = absurd is
+refused_as kind path text P Q NoMemory is gives = absurd is
+refused_as kind path text P Q NoRoom is gives = absurd is
 
 load_refused : (library : Contents) (text : List ℕ) (document : Document) (refusal : LoadFault) → document_of text ≡ Ok document
     → IsLoadRefusal library document refusal → IsDefRefusal library text refusal
@@ -54,35 +175,36 @@ load_refused library text document refusal is (inl memory) = inl (inl memory)
 load_refused library text document refusal is (inr found) = inr (document, is, found)
 
 -- a refusal of loading a document is one of its text
-pub text_refused : (library : Contents) (text : List ℕ) (document : Document) (fault : Fault) → document_of text ≡ Ok document
-    → IsRefused (IsLoadRefusal library document) fault → IsRefused (IsDefRefusal library text) fault
-text_refused library text document fault is refused =
-    refused_as (IsLoadRefusal library document) (IsDefRefusal library text) fault refused (λ refusal why. load_refused library text document refusal is why)
+pub text_refused : (library : Contents) (path text : List ℕ) (document : Document) (fault : Fault) → document_of text ≡ Ok document
+    → IsRefused Def path text (IsLoadRefusal library document) fault → IsRefused Def path text (IsDefRefusal library text) fault
+text_refused library path text document fault is refused =
+    refused_as Def path text (IsLoadRefusal library document) (IsDefRefusal library text) fault refused
+    (λ refusal why. load_refused library text document refusal is why)
 
 -- and one of reading the text is too
-pub text_unread : (library : Contents) (text : List ℕ) (fault : Fault) → IsRefused (λ refusal. Refuses refusal (document_of text)) fault
-    → IsRefused (IsDefRefusal library text) fault
-text_unread library text fault refused =
-    refused_as (λ refusal. Refuses refusal (document_of text)) (IsDefRefusal library text) fault refused (λ refusal why. inl why)
+pub text_unread : (library : Contents) (path text : List ℕ) (fault : Fault) → IsRefused Def path text (λ refusal. Refuses refusal (document_of text)) fault
+    → IsRefused Def path text (IsDefRefusal library text) fault
+text_unread library path text fault refused =
+    refused_as Def path text (λ refusal. Refuses refusal (document_of text)) (IsDefRefusal library text) fault refused (λ refusal why. inl why)
 
 -- why the design of a text is not worked on to its end is why that of its document is not
-pub text_fails : (library : Contents) (text : List ℕ) (document : Document) (why : Loaded → Type 0) (fault : Fault) → document_of text ≡ Ok document
-    → IsRefused (IsLoadRefusal library document) fault ⊎ ((loaded : Loaded) × IsLoadedIn library document loaded × why loaded)
-    → IsRefused (IsDefRefusal library text) fault ⊎ ((loaded : Loaded) × IsDesignIn library text loaded × why loaded)
-text_fails library text document why fault is (inl refused) = inl (text_refused library text document fault is refused)
-text_fails library text document why fault is (inr work) = inr (work.0, (document, is, work.1), work.2)
+pub text_fails : (library : Contents) (path text : List ℕ) (document : Document) (why : Loaded → Type 0) (fault : Fault) → document_of text ≡ Ok document
+    → IsRefused Def path text (IsLoadRefusal library document) fault ⊎ ((loaded : Loaded) × IsLoadedIn library document loaded × why loaded)
+    → IsRefused Def path text (IsDefRefusal library text) fault ⊎ ((loaded : Loaded) × IsDesignIn library text loaded × why loaded)
+text_fails library path text document why fault is (inl refused) = inl (text_refused library path text document fault is refused)
+text_fails library path text document why fault is (inr work) = inr (work.0, (document, is, work.1), work.2)
 
 -- the same of a file with this text
 pub file_fails : (gives : Gives) (path : List ℕ) (library : Contents) (text : List ℕ) (why : Loaded → Type 0) (fault : Fault) → gives path (Some text)
-    → IsRefused (IsDefRefusal library text) fault ⊎ ((loaded : Loaded) × IsDesignIn library text loaded × why loaded)
-    → IsFileFault gives path (IsDefRefusal library) fault ⊎ ((loaded : Loaded) × IsFileDesign gives path library loaded × why loaded)
+    → IsRefused Def path text (IsDefRefusal library text) fault ⊎ ((loaded : Loaded) × IsDesignIn library text loaded × why loaded)
+    → IsFileFault gives Def path (IsDefRefusal library) fault ⊎ ((loaded : Loaded) × IsFileDesign gives path library loaded × why loaded)
 file_fails gives path library text why fault given (inl refused) = inl (inr (text, given, refused))
 file_fails gives path library text why fault given (inr work) = inr (work.0, record { text = text; given = given; design = work.1 }, work.2)
 
 -- and of a file over LEF files that make this library
 pub files_fail : (gives : Gives) (path : List ℕ) (lefs : List (List ℕ)) (library : Contents) (why : Loaded → Type 0) (fault : Fault)
     → IsLibraryOf gives no_library lefs library
-    → IsFileFault gives path (IsDefRefusal library) fault ⊎ ((loaded : Loaded) × IsFileDesign gives path library loaded × why loaded)
+    → IsFileFault gives Def path (IsDefRefusal library) fault ⊎ ((loaded : Loaded) × IsFileDesign gives path library loaded × why loaded)
     → IsDesignFault gives path lefs fault ⊎ ((loaded : Loaded) × IsDesignOf gives path lefs loaded × why loaded)
 files_fail gives path lefs library why fault is (inl file) = inl (inr (library, is, file))
 files_fail gives path lefs library why fault is (inr work) = inr (work.0, (library, is, work.1), work.2)
@@ -94,37 +216,27 @@ lines_stopped None lines loaded io fault is = is
 lines_stopped (Some path) lines loaded io fault is = inl is
 
 -- and a fault of the export that was asked for, if the lines are done
-pub export_stopped : (export : Option (List ℕ)) (lines : Lines) (loaded : Loaded) (floor : FloorState) (io : Streams) (fault : Fault) → IsSome export
-    → IsExportFault fault → IsDone lines loaded floor io → IsStopped export lines loaded fault io
-export_stopped None lines loaded floor io fault asked is done = absurd (false≢true asked)
-export_stopped (Some path) lines loaded floor io fault asked is done = inr (is, inr (floor, done))
+pub export_stopped : (export : Option (List ℕ)) (lines : Lines) (loaded : Loaded) (floor : FloorState) (io : Streams) (fault : Fault)
+    → IsExportFault export fault → IsDone lines loaded floor io → IsStopped export lines loaded fault io
+export_stopped None lines loaded floor io fault is done = absurd is
+export_stopped (Some path) lines loaded floor io fault is done = inr (is, inr (floor, done))
 
 -- and one that is told before anything is done
-untouched_stopped : (export : Option (List ℕ)) (lines : Lines) (loaded : Loaded) (io : Streams) (fault : Fault) → IsSome export
-    → IsExportFault fault → IsUntouched io → IsStopped export lines loaded fault io
-untouched_stopped None lines loaded io fault asked is untouched = absurd (false≢true asked)
-untouched_stopped (Some path) lines loaded io fault asked is untouched = inr (is, inl untouched)
-
--- a fault of one kind is written as one of another
-pub ends_as : (why all early : Fault → Type 0) (kept : Type 0) (old new : Option (List ℕ)) (exit : Exit)
-    → Ends (λ fault. why fault × (early fault → kept)) old new exit → ((fault : Fault) → why fault → all fault)
-    → Ends (λ fault. all fault × (early fault → kept)) old new exit
-ends_as why all early kept old new exit ends gives = (ends.0, (gives ends.0 ends.1.0, ends.1.1), ends.2)
-
-not_early : (fault : Fault) → IsExportFault fault → IsEarly fault → ⊥
-not_early fault (inl is) early = subst IsEarly is early
-not_early fault (inr is) early = subst IsEarly is early
+untouched_stopped : (export : Option (List ℕ)) (lines : Lines) (loaded : Loaded) (io : Streams) (fault : Fault)
+    → IsExportFault export fault → IsUntouched io → IsStopped export lines loaded fault io
+untouched_stopped None lines loaded io fault is untouched = absurd is
+untouched_stopped (Some path) lines loaded io fault is untouched = inr (is, inl untouched)
 
 -- a fault of the export, if the lines are done, stops the work on a design
-pub export_ends : (export : Option (List ℕ)) (lines : Lines) (loaded : Loaded) (floor : FloorState) (io : Streams) (kept : Type 0) (old new : Option (List ℕ))
-    (exit : Exit) → IsSome export → IsDone lines loaded floor io → Ends IsExportFault old new exit
-    → Ends (λ fault. IsStopped export lines loaded fault io × (IsEarly fault → kept)) old new exit
-export_ends export lines loaded floor io kept old new exit asked done ends =
-    (ends.0, (export_stopped export lines loaded floor io ends.0 asked ends.1 done, λ early. absurd (not_early ends.0 ends.1 early)), ends.2)
+pub export_ends : (export : Option (List ℕ)) (lines : Lines) (loaded : Loaded) (floor : FloorState) (io : Streams) (kept reader writer : Type 0)
+    (old new : Option (List ℕ)) (failed : Bool) (exit : Exit) → IsDone lines loaded floor io → Ends (IsExportFault export) old new failed exit
+    → Ends (λ fault. IsStopped export lines loaded fault io × Blames fault kept reader writer) old new failed exit
+export_ends export lines loaded floor io kept reader writer old new failed exit done ends =
+    (ends.0, (export_stopped export lines loaded floor io ends.0 ends.1 done, export_blames export kept reader writer ends.0 ends.1), ends.2)
 
 -- and a fault of the export before anything is done
-pub untouched_ends : (export : Option (List ℕ)) (lines : Lines) (loaded : Loaded) (io : Streams) (kept : Type 0) (old new : Option (List ℕ))
-    (exit : Exit) → IsSome export → IsUntouched io → Ends IsExportFault old new exit
-    → Ends (λ fault. IsStopped export lines loaded fault io × (IsEarly fault → kept)) old new exit
-untouched_ends export lines loaded io kept old new exit asked untouched ends =
-    (ends.0, (untouched_stopped export lines loaded io ends.0 asked ends.1 untouched, λ early. absurd (not_early ends.0 ends.1 early)), ends.2)
+pub untouched_ends : (export : Option (List ℕ)) (lines : Lines) (loaded : Loaded) (io : Streams) (kept reader writer : Type 0)
+    (old new : Option (List ℕ)) (failed : Bool) (exit : Exit) → IsUntouched io → Ends (IsExportFault export) old new failed exit
+    → Ends (λ fault. IsStopped export lines loaded fault io × Blames fault kept reader writer) old new failed exit
+untouched_ends export lines loaded io kept reader writer old new failed exit untouched ends =
+    (ends.0, (untouched_stopped export lines loaded io ends.0 ends.1 untouched, export_blames export kept reader writer ends.0 ends.1), ends.2)

@@ -10,8 +10,12 @@ use Rattle.lf_floorplan.specs.declared.limits.Limits.{Limits}
 use Rattle.lf_floorplan.specs.declared.loaded.Loaded.{Loaded}
 use Rattle.lf_refusals.specs.Findings.{IsFault}
 use Rattle.lf_frame.specs.Loads.{IsLoadedFrom}
+use Rattle.lf_app.specs.declared.designs.TheConstants.{BUILT_IN}
 use Rattle.lf_app.specs.declared.faults.Fault.{Fault}
-use Rattle.lf_app.specs.declared.faults.Fault.TheVariants.{Refused, File}
+use Rattle.lf_app.specs.declared.faults.Fault.TheVariants.{Refused, File, NoMemory}
+use Rattle.lf_app.specs.declared.faults.TextKind.{TextKind}
+use Rattle.lf_app.specs.declared.faults.TextKind.TheVariants.{Lef, Def}
+use Rattle.lf_app.specs.Faults.{IsFile}
 
 -- what reading the file of a path may return: its text, or None if it cannot be read
 abbrev pub Gives : Type 1
@@ -82,35 +86,36 @@ abbrev pub IsDefRefusal : Contents → List ℕ → LoadFault → Type 0
 IsDefRefusal library text refusal =
     def.Refuses refusal (def.document_of text) ⊎ ((document : def.Document) × (def.document_of text ≡ Ok document) × IsFaultIn library document refusal)
 
--- the fault is a refusal of this kind
-abbrev pub IsRefused : (LoadFault → Type 0) → Fault → Type 0
-IsRefused why (Refused refusal) = why refusal
-IsRefused why _ = ⊥
+-- the fault is a refusal of this kind of the text, read as this from the file of the path
+abbrev pub IsRefused : TextKind → List ℕ → List ℕ → (LoadFault → Type 0) → Fault → Type 0
+IsRefused kind path text why (Refused file its refusal) = IsFile kind path file × (its.now ≡ text) × why refusal
+IsRefused kind path text why _ = ⊥
 
--- why the text of a file was not read: the file cannot be read, or an allocation fails
-abbrev pub IsUnread : Gives → List ℕ → Fault → Type 0
-IsUnread gives path (Refused refusal) = refusal ≡ load_fault_of Memory
-IsUnread gives path File = gives path None
-IsUnread gives path _ = ⊥
+-- why the text of a file was not read: an allocation fails, or the file cannot be read
+abbrev pub IsUnread : Gives → TextKind → List ℕ → Fault → Type 0
+IsUnread gives kind path NoMemory = Unit {0}
+IsUnread gives kind path (File file) = IsFile kind path file × gives path None
+IsUnread gives kind path _ = ⊥
 
 -- why a file cannot be used: its text was not read, or is refused for this reason
-abbrev pub IsFileFault : Gives → List ℕ → (List ℕ → LoadFault → Type 0) → Fault → Type 0
-IsFileFault gives path why fault = IsUnread gives path fault ⊎ ((text : List ℕ) × gives path (Some text) × IsRefused (why text) fault)
+abbrev pub IsFileFault : Gives → TextKind → List ℕ → (List ℕ → LoadFault → Type 0) → Fault → Type 0
+IsFileFault gives kind path why fault =
+    IsUnread gives kind path fault ⊎ ((text : List ℕ) × gives path (Some text) × IsRefused kind path text (why text) fault)
 
 -- why there is no library of these LEF files: the fault of the first of them that has one, over the library of those before it
 abbrev pub IsLibraryFault : Gives → Contents → List (List ℕ) → Fault → Type 0
 IsLibraryFault gives old [] fault = ⊥
 IsLibraryFault gives old (path ∷ paths) fault =
-    IsFileFault gives path (IsLefRefusal old) fault ⊎ ((next : Contents) × Adds gives path old next × IsLibraryFault gives next paths fault)
+    IsFileFault gives Lef path (IsLefRefusal old) fault ⊎ ((next : Contents) × Adds gives path old next × IsLibraryFault gives next paths fault)
 
 -- why there is no design of a DEF file over LEF files: the fault of the LEF files or, if they have none, that of the DEF file
 abbrev pub IsDesignFault : Gives → List ℕ → List (List ℕ) → Fault → Type 0
 IsDesignFault gives path lefs fault =
     IsLibraryFault gives no_library lefs fault
-    ⊎ ((library : Contents) × IsLibraryOf gives no_library lefs library × IsFileFault gives path (IsDefRefusal library) fault)
+    ⊎ ((library : Contents) × IsLibraryOf gives no_library lefs library × IsFileFault gives Def path (IsDefRefusal library) fault)
 
--- why there is no design of a DEF text over a LEF text: the refusal of the LEF text or, if it has none, that of the DEF text
+-- why there is no design of a DEF text over a LEF text, both built in: the refusal of the LEF text or, if it has none, of the DEF text
 abbrev pub IsTextFault : List ℕ → List ℕ → Fault → Type 0
 IsTextFault text lef_text fault =
-    IsRefused (IsLefRefusal no_library lef_text) fault
-    ⊎ ((library : Contents) × (lef.library_after no_library lef_text ≡ Ok library) × IsRefused (IsDefRefusal library text) fault)
+    IsRefused Lef BUILT_IN.now lef_text (IsLefRefusal no_library lef_text) fault
+    ⊎ ((library : Contents) × (lef.library_after no_library lef_text ≡ Ok library) × IsRefused Def BUILT_IN.now text (IsDefRefusal library text) fault)

@@ -1,14 +1,20 @@
 -- The message and the exit status of a task that was not done.
-use Rattle.std.specs.Prelude.{◌≡◌, ◌⊎◌, ℕ, List, [], ◌∷◌, ◌++◌, Option, Some, None, option_map, codes, decimal}
+use Rattle.std.specs.Prelude.{◌≡◌, ◌⊎◌, ◌&&◌, ◌-◌, ◌/◌, ◌%◌, ℕ, Bool, true, false, List, [], ◌∷◌, ◌++◌, Option, Some, None, flat_map, option_map, codes, decimal, if◌then◌else◌}
+use Rattle.std.specs.Prelude.{◌+◌, zero, suc, drop, nat_le, position, take}
+use Rattle.std.specs.Char.{digit_char}
 use Rattle.lf_lex.specs.declared.fault.FaultNumber.{FaultNumber}
 use Rattle.lf_lex.specs.declared.fault.FaultNumber.TheVariants as number
 use Rattle.lf_lex.specs.declared.fault.LoadFault.{LoadFault}
-use Rattle.lf_lex.specs.declared.fault.ReadError.TheVariants.{Memory}
-use Rattle.lf_lex.specs.Faults.{load_fault_of}
+use Rattle.lf_lex.specs.Tokens.{is_line_feed}
 use Rattle.lf_server.specs.declared.serving.Ending.{Ending}
 use Rattle.lf_server.specs.declared.serving.Ending.TheVariants as ending
 use Rattle.lf_app.specs.declared.faults.Fault.{Fault}
-use Rattle.lf_app.specs.declared.faults.Fault.TheVariants.{Refused, File, ReadFault, WriteFault, TooManyLines, OutOfMemory, Output, Bind, Accept, Unwritten, NoRoom}
+use Rattle.lf_app.specs.declared.faults.Fault.TheVariants.{Refused, File, ReadFault, WriteFault, TooManyLines, OutOfMemory, Output, Bind, Accept, Unwritten, NoMemory, NoRoom}
+use Rattle.lf_app.specs.declared.faults.TextFile.{TextFile}
+use Rattle.lf_app.specs.declared.faults.TextKind.{TextKind}
+use Rattle.lf_app.specs.declared.faults.TextKind.TheVariants.{Lef, Def}
+use Rattle.lf_app.specs.declared.services.Unserved.{Unserved}
+use Rattle.lf_app.specs.declared.services.Unserved.TheVariants as unserved
 use Rattle.lf_app.specs.declared.texts.Unread.{Unread}
 use Rattle.lf_app.specs.declared.texts.Unread.TheVariants as unread
 
@@ -55,25 +61,130 @@ refusal_text fault = numbered fault.number ++ line_words fault.line ++ name_word
 
 -- the text of a fault: a refusal's own, or one word
 abbrev pub fault_text : Fault → List ℕ
-fault_text (Refused fault) = refusal_text fault
-fault_text File = codes "File"
+fault_text (Refused file text refusal) = refusal_text refusal
+fault_text (File file) = codes "File"
 fault_text ReadFault = codes "ReadFault"
 fault_text WriteFault = codes "WriteFault"
 fault_text TooManyLines = codes "TooManyLines"
 fault_text OutOfMemory = codes "OutOfMemory"
 fault_text Output = codes "Output"
-fault_text Bind = codes "Bind"
+fault_text (Bind port) = codes "Bind"
 fault_text Accept = codes "Accept"
-fault_text Unwritten = codes "File"
+fault_text (Unwritten path) = codes "File"
+fault_text NoMemory = codes "24 OutOfMemory"
 fault_text NoRoom = codes "24 OutOfMemory"
 
 -- the line of a fault on standard error
 abbrev pub fault_line : Fault → List ℕ
 fault_line fault = codes "lefence: " ++ fault_text fault ++ 10 ∷ []
 
+-- ---- where the fault lies: the second line
+
+-- a byte as it is shown: as it is if it is printable, else as '\x' and its two hex digits
+abbrev pub shown_byte : ℕ → List ℕ
+shown_byte byte =
+    if nat_le 32 byte && nat_le byte 126 then byte ∷ [] else 92 ∷ 120 ∷ digit_char (byte / 16) ∷ digit_char (byte % 16) ∷ []
+
+abbrev pub shown : List ℕ → List ℕ
+shown bytes = flat_map shown_byte bytes
+
+-- what follows a line feed there; no byte if there is none
+abbrev pub behind_feed : List ℕ → Option ℕ → List ℕ
+behind_feed bytes None = []
+behind_feed bytes (Some at) = drop (at + 1) bytes
+
+-- what follows the first line
+abbrev pub behind_line : List ℕ → List ℕ
+behind_line bytes = behind_feed bytes (position is_line_feed bytes)
+
+-- what follows that many lines
+abbrev pub behind_lines : ℕ → List ℕ → List ℕ
+behind_lines zero bytes = bytes
+behind_lines (suc lines) bytes = behind_lines lines (behind_line bytes)
+
+-- what comes before a line feed there
+abbrev pub before_feed : List ℕ → Option ℕ → List ℕ
+before_feed bytes None = bytes
+before_feed bytes (Some at) = take at bytes
+
+-- the first line, without its line feed
+abbrev pub first_line : List ℕ → List ℕ
+first_line bytes = before_feed bytes (position is_line_feed bytes)
+
+-- the line of that number of a text, the first of which is 1; no byte if there is no such line
+abbrev pub line_at : List ℕ → ℕ → List ℕ
+line_at text number = first_line (behind_lines (number - 1) text)
+
+abbrev pub kind_words : TextKind → List ℕ
+kind_words Lef = codes "LEF file "
+kind_words Def = codes "DEF file "
+
+-- what a file is read as, and its path
+abbrev pub file_words : TextFile → List ℕ
+file_words file = kind_words file.kind ++ shown file.path.now
+
+-- the number of a line
+abbrev pub number_words : ℕ → List ℕ
+number_words number = codes ", line " ++ decimal number ++ codes ": "
+
+-- the number of the line, and its first 80 bytes
+abbrev pub shown_line : List ℕ → Option ℕ → List ℕ
+shown_line text None = []
+shown_line text (Some number) = number_words number ++ shown (take 80 (line_at text number))
+
+-- the path of the exported text
+abbrev pub export_words : List ℕ → List ℕ
+export_words path = codes "export file " ++ shown path
+
+-- a port of this machine
+abbrev pub port_words : ℕ → List ℕ
+port_words port = codes "port " ++ decimal port ++ codes " of 127.0.0.1"
+
+-- the refusal is a failed allocation
+abbrev pub is_memory : FaultNumber → Bool
+is_memory number.OutOfMemory = true
+is_memory _ = false
+
+-- where a text is refused: nowhere if only memory ran out
+abbrev pub refusal_words : TextFile → List ℕ → LoadFault → List ℕ
+refusal_words file text refusal = if is_memory refusal.number then [] else codes "lefence: " ++ file_words file ++ shown_line text refusal.line ++ 10 ∷ []
+
+-- the file, the path or the port that is at fault
+abbrev pub subject_words : Fault → List ℕ
+subject_words (File file) = file_words file
+subject_words (Unwritten path) = export_words path.now
+subject_words (Bind port) = port_words port
+subject_words _ = []
+
+-- what is wrong with it
+abbrev pub complaint_words : Fault → List ℕ
+complaint_words (File file) = codes " cannot be read"
+complaint_words (Unwritten path) = codes " cannot be written"
+complaint_words (Bind port) = codes " cannot be listened on"
+complaint_words _ = []
+
+-- the line that says so
+abbrev pub complaint_line : Fault → List ℕ
+complaint_line fault = codes "lefence: " ++ subject_words fault ++ complaint_words fault ++ 10 ∷ []
+
+-- the second line on standard error: the line of a text, or the file, the path or the port that is at fault; none for other faults
+abbrev pub second_line : Fault → List ℕ
+second_line (Refused file text refusal) = refusal_words file text.now refusal
+second_line (File file) = complaint_line (File file)
+second_line (Unwritten path) = complaint_line (Unwritten path)
+second_line (Bind port) = complaint_line (Bind port)
+second_line _ = []
+
+-- all that is told of a fault
+abbrev pub told_text : Fault → List ℕ
+told_text fault = fault_line fault ++ second_line fault
+
+-- ---- the exit status
+
 -- the exit status of a fault
 abbrev pub status_of : Fault → ℕ
-status_of (Refused fault) = 1
+status_of (Refused file text refusal) = 1
+status_of NoMemory = 1
 status_of NoRoom = 1
 status_of _ = 3
 
@@ -94,23 +205,62 @@ IsFailure status = (status ≡ 1) ⊎ (status ≡ 3)
 abbrev pub IsDone : ℕ → Type 0
 IsDone status = (status ≡ 0) ⊎ (status ≡ 4)
 
--- an allocation failed before the first line, or for a report
-abbrev pub no_memory : Fault
-no_memory = Refused (load_fault_of Memory)
-
 -- the fault of a file whose text was not read
-abbrev pub unread_fault : Unread → Fault
-unread_fault unread.File = File
-unread_fault unread.OutOfMemory = no_memory
+abbrev pub unread_fault : TextFile → Unread → Fault
+unread_fault file unread.File = File file
+unread_fault file unread.OutOfMemory = NoMemory
+
+-- the file is read as this, and has this path
+pub record IsFile (kind : TextKind) (path : List ℕ) (file : TextFile) : Type 0 where
+  pub kind_is : file.kind ≡ kind
+  pub path_is : file.path.now ≡ path
 
 -- a report was not written: an allocation for its text failed, or the writer did
 abbrev pub IsReportFault : Fault → Type 0
-IsReportFault fault = (fault ≡ no_memory) ⊎ (fault ≡ Output)
+IsReportFault fault = (fault ≡ NoMemory) ⊎ (fault ≡ Output)
 
--- why an exported text is not put into its file: an allocation for it failed, or the file cannot be written
-abbrev pub IsExportFault : Fault → Type 0
-IsExportFault fault = (fault ≡ NoRoom) ⊎ (fault ≡ Unwritten)
+-- a description was not written: an allocation failed, before its first line or for a line of it, or the writer did
+abbrev pub IsDescriptionFault : Fault → Type 0
+IsDescriptionFault fault = IsReportFault fault ⊎ (fault ≡ NoRoom)
+
+-- the exported text of that path is not written
+abbrev pub IsUnwritten : List ℕ → Fault → Type 0
+IsUnwritten path (Unwritten its) = its.now ≡ path
+IsUnwritten path _ = ⊥
+
+-- why the exported text that was asked for is not put into its file: an allocation for it failed, or the file cannot be written
+abbrev pub IsExportFault : Option (List ℕ) → Fault → Type 0
+IsExportFault None fault = ⊥
+IsExportFault (Some path) fault = (fault ≡ NoRoom) ⊎ IsUnwritten path fault
+
+-- the fault of a service that ended early
+abbrev pub unserved_fault : ℕ → Unserved → Fault
+unserved_fault port unserved.Bind = Bind port
+unserved_fault port unserved.Output = Output
+unserved_fault port unserved.Accept = Accept
 
 -- why a service ends early: the port cannot be listened on, the line of that cannot be written, or no connection is accepted
-abbrev pub IsServiceFault : Fault → Type 0
-IsServiceFault fault = (fault ≡ Bind) ⊎ ((fault ≡ Output) ⊎ (fault ≡ Accept))
+abbrev pub IsServiceFault : ℕ → Fault → Type 0
+IsServiceFault port fault = (fault ≡ Bind port) ⊎ ((fault ≡ Output) ⊎ (fault ≡ Accept))
+
+-- ---- who is to blame
+
+-- the faults before anything is written
+abbrev pub IsEarly : Fault → Type 0
+IsEarly (Refused file text refusal) = Unit {0}
+IsEarly (File file) = Unit {0}
+IsEarly NoMemory = Unit {0}
+IsEarly _ = ⊥
+
+-- the faults of what is written to
+abbrev pub IsOfWriter : Fault → Type 0
+IsOfWriter WriteFault = Unit {0}
+IsOfWriter Output = Unit {0}
+IsOfWriter _ = ⊥
+
+-- what a fault says of reader and writer: the writer is kept if it is early, and has failed if it is the writer's own; the reader
+-- has failed, or was read as often as is allowed, if it is the reader's
+pub record Blames (fault : Fault) (kept reader writer : Type 0) : Type 0 where
+  pub early : IsEarly fault → kept
+  pub reading : fault ≡ ReadFault → reader
+  pub writing : IsOfWriter fault → writer

@@ -3,4 +3,5 @@ pub mod Designs
 pub mod Exits
 pub mod Faults
 pub mod Lines
+pub mod Services
 pub mod Work

@@ -1,5 +1,5 @@
 -- Lines that are answered on a floor.
-use Rattle.std.specs.Prelude.{◌≡◌, ℕ, Bool, true, false, List, Option}
+use Rattle.std.specs.Prelude.{◌≡◌, ◌⊎◌, ◌+◌, ◌*◌, ℕ, Bool, true, false, List, Option}
 use Rattle.lf_rules.specs.Legalizer.{Legalizer}
 use Rattle.lf_teams.specs.States.{FloorState}
 use Rattle.lf_server.specs.Devices.{writer}
@@ -7,10 +7,19 @@ use Rattle.lf_server.specs.Endings.{Serves}
 use Rattle.lf_server.specs.declared.serving.Ending.{Ending}
 use Rattle.lf_server.specs.declared.serving.Served.{Served}
 
--- the lines of the input were served on the floor, up to that end; a million lines at most
-pub record IsServed (l : Legalizer) (old new : FloorState) (input left before after : Option (List ℕ)) (ending : Ending) : Type 0 where
+-- the lines of the input were served on the floor, up to that end; at most this many
+pub record IsServed (l : Legalizer) (limit : ℕ) (old new : FloorState) (input left before after : Option (List ℕ)) (ending : Ending) : Type 0 where
   pub served : Served
   pub ends : served.ending ≡ ending
+  pub begun : Bool
   pub flushed : Bool
   pub failed : Bool
-  pub serves : Serves l 1000000 old input left (writer before true false) (writer after flushed failed) served new
+  pub serves : Serves l limit old input left (writer before begun false) (writer after flushed failed) served new
+
+-- the lines of a session if no other bound is given, and those of a connection
+abbrev pub most_lines : ℕ
+most_lines = 1000000
+
+-- the reader has failed, or was read as often as is allowed for this many lines
+abbrev pub ReadsFail : ℕ → Bool → ℕ → ℕ → Type 0
+ReadsFail limit failed old new = (failed ≡ true) ⊎ (new ≡ old + limit * 4200)

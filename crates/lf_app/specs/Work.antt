@@ -1,23 +1,37 @@
 -- Work on a design: lines that are answered, or connections that are served.
-use Rattle.std.specs.Prelude.{◌≡◌, ◌⊎◌, ℕ, List, Option}
+use Rattle.std.specs.Prelude.{◌≡◌, ◌⊎◌, ℕ, Bool, List, Option}
 use Rattle.lf_floorplan.specs.declared.loaded.Loaded.{Loaded}
 use Rattle.lf_teams.specs.States.{FloorState}
 use Rattle.lf_app.specs.declared.faults.Fault.{Fault}
+use Rattle.lf_app.specs.declared.faults.Fault.TheVariants.{NoMemory}
+use Rattle.lf_app.specs.declared.services.Offer.{Offer}
 use Rattle.lf_app.specs.declared.work.Lines.{Lines}
 use Rattle.lf_app.specs.declared.work.Lines.TheVariants.{Stream, Port}
 use Rattle.lf_app.specs.Exits.{IsAnswered, IsLinesFault, IsOffered, IsWorkFault, Streams}
-use Rattle.lf_app.specs.Faults.{IsServiceFault, no_memory}
+use Rattle.lf_app.specs.Faults.{IsServiceFault}
+use Rattle.lf_app.specs.Lines.{ReadsFail}
+use Rattle.lf_app.specs.Services.{OffersLocal}
 
 -- the lines were answered to their end, on the floor of the design
 abbrev pub IsDone : Lines → Loaded → FloorState → Streams → Type 0
-IsDone Stream loaded floor io = IsAnswered loaded floor io.input io.left io.before io.after
+IsDone (Stream limit) loaded floor io = IsAnswered limit loaded floor io.input io.left io.before io.after
 IsDone (Port port connections) loaded floor io = IsOffered loaded floor connections io.before io.after
 
 -- why they were not
 abbrev pub IsFault : Lines → Loaded → Fault → Streams → Type 0
-IsFault Stream loaded fault io = IsLinesFault loaded fault io.input io.left io.before io.after
-IsFault (Port port connections) loaded fault io = (fault ≡ no_memory) ⊎ IsServiceFault fault
+IsFault (Stream limit) loaded fault io = IsLinesFault limit loaded fault io.input io.left io.before io.after
+IsFault (Port port connections) loaded fault io = (fault ≡ NoMemory) ⊎ IsServiceFault port fault
 
 -- why the work on the design, its lines and the export that was asked for, is not done
 abbrev pub IsStopped : Option (List ℕ) → Lines → Loaded → Fault → Streams → Type 0
 IsStopped export lines loaded = IsWorkFault export (IsFault lines loaded) (IsDone lines loaded)
+
+-- the reader has failed, or was read as often as is allowed; no other lines read from it
+abbrev pub IsReaderSpent : Lines → Bool → ℕ → ℕ → Type 0
+IsReaderSpent (Stream limit) failed old new = ReadsFail limit failed old new
+IsReaderSpent (Port port connections) failed old new = ⊥
+
+-- what was offered for the lines: a service, and nothing for those of the reader
+abbrev pub IsOfferFor : Lines → Option (List Offer) → Option (List Offer) → Type 0
+IsOfferFor (Stream limit) old new = new ≡ old
+IsOfferFor (Port port connections) old new = OffersLocal port connections old new

@@ -1,53 +1,94 @@
 //! The design of files: their texts are read, and the design is loaded.
 
 ghost use Rattle.std.specs.Prelude.{◌≡◌, ◌⊎◌, Ok, Some, map, IfErr, IfOk, OnOk};
-ghost use Rattle.lf_lex.specs.declared.fault.ReadError.TheVariants.{Memory};
-ghost use Rattle.lf_lex.specs.Faults.{load_fault_of};
+ghost use Rattle.lf_app.specs.declared.faults.TextKind.TheVariants.{Lef, Def};
 ghost use Rattle.lf_lef.specs.Library.{library_after};
 ghost use Rattle.lf_def.specs.Contents.{contents};
 ghost use Rattle.lf_def.specs.Document.{Refuses, document_of};
-ghost use Rattle.lf_app.specs.Designs.{Adds, IsDefRefusal, IsDesignFault, IsDesignIn, IsDesignOf, IsFaultIn, IsFileDesign, IsFileFault};
-ghost use Rattle.lf_app.specs.Designs.{IsLefRefusal, IsLibraryFault, IsLibraryOf, IsLoadRefusal, IsLoadedIn, IsRefused, IsTextDesign, IsTextFault, IsUnread};
+ghost use Rattle.lf_app.specs.Designs.{Adds, IsDefRefusal, IsDesignFault, IsDesignIn, IsDesignOf, IsFileDesign, IsFileFault};
+ghost use Rattle.lf_app.specs.Designs.{IsLefRefusal, IsLibraryFault, IsLibraryOf, IsLoadRefusal, IsLoadedIn, IsRefused, IsTextDesign, IsTextFault, IsUnread, no_library};
 ghost use Rattle.lf_app.specs.Exits.{Ends};
 
-use crate::faults::{Exit, Fault, tell, unread_fault};
+use crate::faults::{Exit, Fault, TextFile, TextKind, tell, unread_fault};
 use crate::texts::Texts;
 use lf_def::{DefDoc, read_def};
+use lf_devices::Sink;
 use lf_frame::{Limits, Loaded, load};
 use lf_lef::{Library, read_lef};
 use std::alloc::Global;
-use std::io::Write;
+
+/// What the built-in texts are called in place of a path.
+pub(crate) const BUILT_IN: &str = "(built in)";
 
 /// The text of a file.
-pub(crate) fn read_text<T: Texts, F: Write>(
+pub(crate) fn read_text<T: Texts, F: Sink>(
     texts: &T,
-    path: &str,
+    file: TextFile<'_>,
     faults: &mut F,
 ) -> Result<Vec<u8>, Exit>
-    ensures ok { IfOk result (λ text. T.gives texts.now path.now (Some text.items)) }
+    ensures ok { IfOk result (λ text. T.gives texts.now file.entry.path.now (Some text.items)) }
     ensures kept { OnOk result (faults.new ≡ faults.old) }
-    ensures err { IfErr result (Ends (IsUnread (T.gives texts.now) path.now) (F.contents faults.old) (F.contents faults.new)) }
+    ensures err { IfErr result (Ends (IsUnread (T.gives texts.now) file.entry.kind file.entry.path.now) (F.contents faults.old) (F.contents faults.new) (F.has_failed faults.new)) }
+    ensures faults_held { F.holds faults.new ≡ F.holds faults.old }
 {
-    match texts.text(path) {
+    match texts.text(file.path) {
         Ok(text) => Ok(text),
-        Err(unread) => Err(tell(faults, &unread_fault(unread))),
+        Err(unread) => Err(tell(faults, &unread_fault(file, unread))),
     }
 }
 
-/// Reads one more LEF text into the library.
-fn add_text<F: Write>(library: &mut Library, text: &[u8], faults: &mut F) -> Result<(), Exit>
+/// The file of a LEF text.
+fn lef_file(path: &str) -> TextFile<'_>
+    ensures kind { result.kind ≡ Lef }
+    ensures path { result.path.now ≡ path.now }
+{
+    TextFile {
+        kind: TextKind::Lef,
+        path,
+    }
+}
+
+/// The file of the DEF text.
+pub(crate) fn def_file(path: &str) -> TextFile<'_>
+    ensures kind { result.kind ≡ Def }
+    ensures path { result.path.now ≡ path.now }
+{
+    TextFile {
+        kind: TextKind::Def,
+        path,
+    }
+}
+
+/// Reads one more LEF text, that of the path, into the library.
+fn add_text<F: Sink>(
+    library: &mut Library,
+    path: &str,
+    text: &[u8],
+    faults: &mut F,
+) -> Result<(), Exit>
     ensures ok { OnOk result (library_after library.old text.now ≡ Ok library.new) }
     ensures kept { OnOk result (faults.new ≡ faults.old) }
-    ensures err { IfErr result (Ends (IsRefused (IsLefRefusal library.old text.now)) (F.contents faults.old) (F.contents faults.new)) }
+    ensures err { IfErr result (Ends (IsRefused Lef path.now text.now (IsLefRefusal library.old text.now)) (F.contents faults.old) (F.contents faults.new) (F.has_failed faults.new)) }
+    ensures faults_held { F.holds faults.new ≡ F.holds faults.old }
 {
     match read_lef(library, text) {
         Ok(()) => Ok(()),
-        Err(fault) => Err(tell(faults, &Fault::Refused(fault))),
+        Err(refusal) => {
+            let file = lef_file(path);
+            Err(tell(
+                faults,
+                &Fault::Refused {
+                    file,
+                    text,
+                    refusal,
+                },
+            ))
+        }
     }
 }
 
 /// Reads the LEF text of a file into the library.
-fn add_file<T: Texts, F: Write>(
+fn add_file<T: Texts, F: Sink>(
     texts: &T,
     library: &mut Library,
     path: &str,
@@ -55,14 +96,15 @@ fn add_file<T: Texts, F: Write>(
 ) -> Result<(), Exit>
     ensures ok { OnOk result (Adds (T.gives texts.now) path.now library.old library.new) }
     ensures kept { OnOk result (faults.new ≡ faults.old) }
-    ensures err { IfErr result (Ends (IsFileFault (T.gives texts.now) path.now (IsLefRefusal library.old)) (F.contents faults.old) (F.contents faults.new)) }
+    ensures err { IfErr result (Ends (IsFileFault (T.gives texts.now) Lef path.now (IsLefRefusal library.old)) (F.contents faults.old) (F.contents faults.new) (F.has_failed faults.new)) }
+    ensures faults_held { F.holds faults.new ≡ F.holds faults.old }
 {
-    let text = read_text(texts, path, faults)?;
-    add_text(library, &text, faults)
+    let text = read_text(texts, lef_file(path), faults)?;
+    add_text(library, path, &text, faults)
 }
 
 /// Reads the LEF texts of the files in order, each whole before the next file is opened.
-pub(crate) fn add_files<T: Texts, F: Write>(
+fn add_files<T: Texts, F: Sink>(
     texts: &T,
     library: &mut Library,
     paths: &[&str],
@@ -71,7 +113,8 @@ pub(crate) fn add_files<T: Texts, F: Write>(
     ensures ok { OnOk result (IsLibraryOf (T.gives texts.now) library.old (map (λ path. path.now) paths.now) library.new) }
     ensures kept { OnOk result (faults.new ≡ faults.old) }
     ensures err { IfErr result (Ends (IsLibraryFault (T.gives texts.now) library.old (map (λ path. path.now) paths.now))
-        (F.contents faults.old) (F.contents faults.new)) }
+        (F.contents faults.old) (F.contents faults.new) (F.has_failed faults.new)) }
+    ensures faults_held { F.holds faults.new ≡ F.holds faults.old }
 {
     for path in paths {
         add_file(texts, library, path, faults)?;
@@ -79,60 +122,107 @@ pub(crate) fn add_files<T: Texts, F: Write>(
     Ok(())
 }
 
-/// The design of a document over the library.
-pub(crate) fn load_document<F: Write>(
+/// The library of LEF files, given by their paths.
+pub(crate) fn library_of<T: Texts, F: Sink>(
+    alloc: Global,
+    texts: &T,
+    lefs: &[&str],
+    faults: &mut F,
+) -> Result<Library, Exit>
+    ensures ok { IfOk result (λ library. IsLibraryOf (T.gives texts.now) no_library (map (λ lef. lef.now) lefs.now) library) }
+    ensures kept { OnOk result (faults.new ≡ faults.old) }
+    ensures err { IfErr result (Ends (IsLibraryFault (T.gives texts.now) no_library (map (λ lef. lef.now) lefs.now))
+        (F.contents faults.old) (F.contents faults.new) (F.has_failed faults.new)) }
+    ensures faults_held { F.holds faults.new ≡ F.holds faults.old }
+{
+    let mut library = Library::new(alloc);
+    match add_files(texts, &mut library, lefs, faults) {
+        Ok(()) => Ok(library),
+        Err(exit) => Err(exit),
+    }
+}
+
+/// The design of a document, that of the text of the path, over the library.
+pub(crate) fn load_document<F: Sink>(
     alloc: Global,
     library: &Library,
+    path: &str,
+    text: &[u8],
     document: &DefDoc,
     faults: &mut F,
 ) -> Result<Loaded, Exit>
     ensures ok { IfOk result (IsLoadedIn library.now (contents document.now)) }
     ensures kept { OnOk result (faults.new ≡ faults.old) }
-    ensures err { IfErr result (Ends (IsRefused (IsLoadRefusal library.now (contents document.now)))
-        (F.contents faults.old) (F.contents faults.new)) }
+    ensures err { IfErr result (Ends (IsRefused Def path.now text.now (IsLoadRefusal library.now (contents document.now)))
+        (F.contents faults.old) (F.contents faults.new) (F.has_failed faults.new)) }
+    ensures faults_held { F.holds faults.new ≡ F.holds faults.old }
 {
     match load(alloc, library, document, Limits::standard()) {
         Ok(loaded) => Ok(loaded),
-        Err(fault) => Err(tell(faults, &Fault::Refused(fault))),
+        Err(refusal) => {
+            let file = def_file(path);
+            Err(tell(
+                faults,
+                &Fault::Refused {
+                    file,
+                    text,
+                    refusal,
+                },
+            ))
+        }
     }
 }
 
-/// What a DEF text says.
-pub(crate) fn read_document<'t, F: Write>(
+/// What a DEF text, that of the path, says.
+pub(crate) fn read_document<'t, F: Sink>(
     alloc: Global,
+    path: &str,
     text: &'t [u8],
     faults: &mut F,
 ) -> Result<DefDoc<'t>, Exit>
     ensures text { IfOk result (λ document. document.text.now ≡ text.now) }
     ensures ok { IfOk result (λ document. document_of text.now ≡ Ok (contents document)) }
     ensures kept { OnOk result (faults.new ≡ faults.old) }
-    ensures err { IfErr result (Ends (IsRefused (λ refusal. Refuses refusal (document_of text.now))) (F.contents faults.old) (F.contents faults.new)) }
+    ensures err { IfErr result (Ends (IsRefused Def path.now text.now (λ refusal. Refuses refusal (document_of text.now))) (F.contents faults.old) (F.contents faults.new) (F.has_failed faults.new)) }
+    ensures faults_held { F.holds faults.new ≡ F.holds faults.old }
 {
     match read_def(alloc, text) {
         Ok(document) => Ok(document),
-        Err(fault) => Err(tell(faults, &Fault::Refused(fault))),
+        Err(refusal) => {
+            let file = def_file(path);
+            Err(tell(
+                faults,
+                &Fault::Refused {
+                    file,
+                    text,
+                    refusal,
+                },
+            ))
+        }
     }
 }
 
-/// The design of a DEF text over the library.
-fn load_text<F: Write>(
+/// The design of a DEF text, that of the path, over the library.
+fn load_text<F: Sink>(
     alloc: Global,
     library: &Library,
+    path: &str,
     text: &[u8],
     faults: &mut F,
 ) -> Result<Loaded, Exit>
     ensures ok { IfOk result (IsDesignIn library.now text.now) }
     ensures kept { OnOk result (faults.new ≡ faults.old) }
-    ensures err { IfErr result (Ends (IsRefused (IsDefRefusal library.now text.now)) (F.contents faults.old) (F.contents faults.new)) }
+    ensures err { IfErr result (Ends (IsRefused Def path.now text.now (IsDefRefusal library.now text.now)) (F.contents faults.old) (F.contents faults.new) (F.has_failed faults.new)) }
+    ensures faults_held { F.holds faults.new ≡ F.holds faults.old }
 {
-    match read_def(alloc, text) {
-        Ok(document) => load_document(alloc, library, &document, faults),
-        Err(fault) => Err(tell(faults, &Fault::Refused(fault))),
+    match read_document(alloc, path, text, faults) {
+        Ok(document) => load_document(alloc, library, path, text, &document, faults),
+        Err(exit) => Err(exit),
     }
 }
 
 /// The design of the DEF text of a file over the library.
-fn load_file<T: Texts, F: Write>(
+fn load_file<T: Texts, F: Sink>(
     alloc: Global,
     texts: &T,
     library: &Library,
@@ -141,14 +231,15 @@ fn load_file<T: Texts, F: Write>(
 ) -> Result<Loaded, Exit>
     ensures ok { IfOk result (IsFileDesign (T.gives texts.now) path.now library.now) }
     ensures kept { OnOk result (faults.new ≡ faults.old) }
-    ensures err { IfErr result (Ends (IsFileFault (T.gives texts.now) path.now (IsDefRefusal library.now)) (F.contents faults.old) (F.contents faults.new)) }
+    ensures err { IfErr result (Ends (IsFileFault (T.gives texts.now) Def path.now (IsDefRefusal library.now)) (F.contents faults.old) (F.contents faults.new) (F.has_failed faults.new)) }
+    ensures faults_held { F.holds faults.new ≡ F.holds faults.old }
 {
-    let text = read_text(texts, path, faults)?;
-    load_text(alloc, library, &text, faults)
+    let text = read_text(texts, def_file(path), faults)?;
+    load_text(alloc, library, path, &text, faults)
 }
 
 /// The design of a DEF file over LEF files, given by their paths.
-pub(crate) fn design_of_files<T: Texts, F: Write>(
+pub(crate) fn design_of_files<T: Texts, F: Sink>(
     alloc: Global,
     texts: &T,
     def: &str,
@@ -158,15 +249,16 @@ pub(crate) fn design_of_files<T: Texts, F: Write>(
     ensures ok { IfOk result (IsDesignOf (T.gives texts.now) def.now (map (λ lef. lef.now) lefs.now)) }
     ensures kept { OnOk result (faults.new ≡ faults.old) }
     ensures err { IfErr result (Ends (IsDesignFault (T.gives texts.now) def.now (map (λ lef. lef.now) lefs.now))
-        (F.contents faults.old) (F.contents faults.new)) }
+        (F.contents faults.old) (F.contents faults.new) (F.has_failed faults.new)) }
+    ensures faults_held { F.holds faults.new ≡ F.holds faults.old }
 {
     let mut library = Library::new(alloc);
     add_files(texts, &mut library, lefs, faults)?;
     load_file(alloc, texts, &library, def, faults)
 }
 
-/// The design of a DEF text over a LEF text.
-pub(crate) fn design_of_texts<F: Write>(
+/// The design of a DEF text over a LEF text, both built in.
+pub(crate) fn design_of_texts<F: Sink>(
     alloc: Global,
     def: &[u8],
     lef: &[u8],
@@ -174,9 +266,10 @@ pub(crate) fn design_of_texts<F: Write>(
 ) -> Result<Loaded, Exit>
     ensures ok { IfOk result (IsTextDesign def.now lef.now) }
     ensures kept { OnOk result (faults.new ≡ faults.old) }
-    ensures err { IfErr result (Ends (IsTextFault def.now lef.now) (F.contents faults.old) (F.contents faults.new)) }
+    ensures err { IfErr result (Ends (IsTextFault def.now lef.now) (F.contents faults.old) (F.contents faults.new) (F.has_failed faults.new)) }
+    ensures faults_held { F.holds faults.new ≡ F.holds faults.old }
 {
     let mut library = Library::new(alloc);
-    add_text(&mut library, lef, faults)?;
-    load_text(alloc, &library, def, faults)
+    add_text(&mut library, BUILT_IN, lef, faults)?;
+    load_text(alloc, &library, BUILT_IN, def, faults)
 }

@@ -1,24 +1,45 @@
 //! The message and the exit status of a task that was not done.
 
-ghost use Rattle.std.specs.Prelude.{◌≡◌, IsTrue, OnOk, option_map};
+ghost use Rattle.std.specs.Prelude.{◌≡◌, true, IsTrue, OnErr, OnOk, option_map};
 ghost use Rattle.std.specs.Io.KnownBytes.{Appends};
 ghost use Rattle.lf_app.specs.Exits.{EndsWith};
-ghost use Rattle.lf_app.specs.Faults.{ending_fault, fault_line, fault_text, line_words, name_words, no_memory, numbered, refusal_text, status_of, unread_fault};
+ghost use Rattle.lf_app.specs.Faults.{ending_fault, fault_line, fault_text, line_words, name_words, numbered, refusal_text, status_of, told_text, unread_fault};
 
+use crate::origins::put_second;
 use crate::texts::Unread;
 use itoa::Buffer;
+use lf_devices::{DeviceFault, Sink, send};
 use lf_lex::{FaultNumber, LoadFault};
 use lf_server::Ending;
-use std::io;
-use std::io::Write;
+
+/// What a file is read as.
+#[derive(Clone, Copy, Debug, PartialEq, Eq)]
+pub enum TextKind {
+    /// A LEF text.
+    Lef,
+    /// The DEF text.
+    Def,
+}
+
+/// A file of the command line whose text is read.
+#[derive(Clone, Copy, Debug, PartialEq, Eq)]
+pub struct TextFile<'a> {
+    pub kind: TextKind,
+    /// The path, as it was given.
+    pub path: &'a str,
+}
 
 /// Why a task was not done.
 #[derive(Clone, Copy, Debug, PartialEq, Eq)]
 pub enum Fault<'a> {
-    /// A text or the design was refused, or an allocation failed before the first line.
-    Refused(LoadFault<'a>),
+    /// The text of this file, or the design that it makes with the LEF texts, was refused, or an allocation for it failed.
+    Refused {
+        file: TextFile<'a>,
+        text: &'a [u8],
+        refusal: LoadFault<'a>,
+    },
     /// A file could not be read.
-    File,
+    File(TextFile<'a>),
     /// Standard input could not be read.
     ReadFault,
     /// A reply could not be written.
@@ -29,13 +50,15 @@ pub enum Fault<'a> {
     OutOfMemory,
     /// A report, or the line that the port is listened on, could not be written.
     Output,
-    /// The port could not be listened on.
-    Bind,
+    /// This port could not be listened on.
+    Bind(u16),
     /// A connection could not be accepted.
     Accept,
-    /// The file of the exported text could not be written.
-    Unwritten,
-    /// An allocation for the exported text failed.
+    /// The file of that path could not be written; it was to get the exported text.
+    Unwritten(&'a str),
+    /// An allocation failed before the first line, or for a report.
+    NoMemory,
+    /// An allocation for the exported text, or for a line of a description, failed.
     NoRoom,
 }
 
@@ -44,7 +67,7 @@ pub enum Fault<'a> {
 pub struct Exit {
     /// The exit status.
     pub status: u8,
-    /// Whether the line of the fault was written whole; true if there was no fault.
+    /// Whether all that is told of the fault was written; true if there was no fault.
     pub is_told: bool,
 }
 
@@ -81,71 +104,82 @@ fn numbered(number: FaultNumber) -> &'static [u8]
 }
 
 /// Writes the number of the line that a refusal is about.
-fn put_line<W: Write>(writer: &mut W, line: Option<usize>) -> io::Result<()>
-    ensures { OnOk result (Appends (W.contents writer.old) (W.contents writer.new) (line_words line)) }
+fn put_line<W: Sink>(sink: &mut W, line: Option<usize>) -> Result<(), DeviceFault>
+    ensures ok { OnOk result (Appends (W.contents sink.old) (W.contents sink.new) (line_words line)) }
+    ensures failed { OnErr result (W.has_failed sink.new ≡ true) }
+    ensures held { W.holds sink.new ≡ W.holds sink.old }
 {
     let Some(line) = line else {
         return Ok(());
     };
-    writer.write_all(b" line ")?;
-    writer.write_all(Buffer::new().format(line).as_bytes())
+    send(sink, b" line ")?;
+    send(sink, Buffer::new().format(line).as_bytes())
 }
 
 /// Writes the name that a refusal is about.
-fn put_name<W: Write>(writer: &mut W, name: Option<&[u8]>) -> io::Result<()>
-    ensures { OnOk result (Appends (W.contents writer.old) (W.contents writer.new)
-        (name_words (option_map (λ bytes. bytes.now) name.entry))) }
+fn put_name<W: Sink>(sink: &mut W, name: Option<&[u8]>) -> Result<(), DeviceFault>
+    ensures ok { OnOk result (Appends (W.contents sink.old) (W.contents sink.new) (name_words (option_map (λ bytes. bytes.now) name.entry))) }
+    ensures failed { OnErr result (W.has_failed sink.new ≡ true) }
+    ensures held { W.holds sink.new ≡ W.holds sink.old }
 {
     let Some(name) = name else {
         return Ok(());
     };
-    writer.write_all(b" ")?;
-    writer.write_all(name)
+    send(sink, b" ")?;
+    send(sink, name)
 }
 
 /// Writes the text of a refusal.
-fn put_refusal<W: Write>(writer: &mut W, fault: &LoadFault<'_>) -> io::Result<()>
-    ensures { OnOk result (Appends (W.contents writer.old) (W.contents writer.new) (refusal_text fault.now)) }
+fn put_refusal<W: Sink>(sink: &mut W, fault: &LoadFault<'_>) -> Result<(), DeviceFault>
+    ensures ok { OnOk result (Appends (W.contents sink.old) (W.contents sink.new) (refusal_text fault.now)) }
+    ensures failed { OnErr result (W.has_failed sink.new ≡ true) }
+    ensures held { W.holds sink.new ≡ W.holds sink.old }
 {
-    writer.write_all(numbered(fault.number))?;
-    put_line(writer, fault.line)?;
-    put_name(writer, fault.name)
+    send(sink, numbered(fault.number))?;
+    put_line(sink, fault.line)?;
+    put_name(sink, fault.name)
 }
 
 /// Writes the text of a fault.
-fn put_fault<W: Write>(writer: &mut W, fault: &Fault<'_>) -> io::Result<()>
-    ensures { OnOk result (Appends (W.contents writer.old) (W.contents writer.new) (fault_text fault.now)) }
+fn put_fault<W: Sink>(sink: &mut W, fault: &Fault<'_>) -> Result<(), DeviceFault>
+    ensures ok { OnOk result (Appends (W.contents sink.old) (W.contents sink.new) (fault_text fault.now)) }
+    ensures failed { OnErr result (W.has_failed sink.new ≡ true) }
+    ensures held { W.holds sink.new ≡ W.holds sink.old }
 {
     match fault {
-        Fault::Refused(refusal) => put_refusal(writer, refusal),
-        Fault::File => writer.write_all(b"File"),
-        Fault::ReadFault => writer.write_all(b"ReadFault"),
-        Fault::WriteFault => writer.write_all(b"WriteFault"),
-        Fault::TooManyLines => writer.write_all(b"TooManyLines"),
-        Fault::OutOfMemory => writer.write_all(b"OutOfMemory"),
-        Fault::Output => writer.write_all(b"Output"),
-        Fault::Bind => writer.write_all(b"Bind"),
-        Fault::Accept => writer.write_all(b"Accept"),
-        Fault::Unwritten => writer.write_all(b"File"),
-        Fault::NoRoom => writer.write_all(b"24 OutOfMemory"),
+        Fault::Refused { refusal, .. } => put_refusal(sink, refusal),
+        Fault::File(_) => send(sink, b"File"),
+        Fault::ReadFault => send(sink, b"ReadFault"),
+        Fault::WriteFault => send(sink, b"WriteFault"),
+        Fault::TooManyLines => send(sink, b"TooManyLines"),
+        Fault::OutOfMemory => send(sink, b"OutOfMemory"),
+        Fault::Output => send(sink, b"Output"),
+        Fault::Bind(_) => send(sink, b"Bind"),
+        Fault::Accept => send(sink, b"Accept"),
+        Fault::Unwritten(_) => send(sink, b"File"),
+        Fault::NoMemory => send(sink, b"24 OutOfMemory"),
+        Fault::NoRoom => send(sink, b"24 OutOfMemory"),
     }
 }
 
 /// Writes the line of a fault, without allocating.
-pub fn write_fault<W: Write>(writer: &mut W, fault: &Fault<'_>) -> io::Result<()>
-    ensures { OnOk result (Appends (W.contents writer.old) (W.contents writer.new) (fault_line fault.now)) }
+pub fn write_fault<W: Sink>(sink: &mut W, fault: &Fault<'_>) -> Result<(), DeviceFault>
+    ensures ok { OnOk result (Appends (W.contents sink.old) (W.contents sink.new) (fault_line fault.now)) }
+    ensures failed { OnErr result (W.has_failed sink.new ≡ true) }
+    ensures held { W.holds sink.new ≡ W.holds sink.old }
 {
-    writer.write_all(b"lefence: ")?;
-    put_fault(writer, fault)?;
-    writer.write_all(b"\n")
+    send(sink, b"lefence: ")?;
+    put_fault(sink, fault)?;
+    send(sink, b"\n")
 }
 
-/// The exit status of a fault: 1 for `Refused` and `NoRoom`, else 3.
+/// The exit status of a fault: 1 for `Refused`, `NoMemory` and `NoRoom`, else 3.
 pub fn status_of(fault: &Fault<'_>) -> u8
     ensures { result ≡ status_of fault.now }
 {
     match fault {
-        Fault::Refused(_) => 1,
+        Fault::Refused { .. } => 1,
+        Fault::NoMemory => 1,
         Fault::NoRoom => 1,
         _ => 3,
     }
@@ -162,35 +196,35 @@ pub(crate) fn done(status: u8) -> Exit
     }
 }
 
-/// Writes the line of a fault, and returns how the task ends; a failure to write it is no further fault.
-pub(crate) fn tell<F: Write>(faults: &mut F, fault: &Fault<'_>) -> Exit
-    ensures { EndsWith fault.now (F.contents faults.old) (F.contents faults.new) result }
+/// Writes all that is told of a fault: its line, and a second one where a file, a line of it or a port is at fault.
+fn put_told<W: Sink>(sink: &mut W, fault: &Fault<'_>) -> Result<(), DeviceFault>
+    ensures ok { OnOk result (Appends (W.contents sink.old) (W.contents sink.new) (told_text fault.now)) }
+    ensures failed { OnErr result (W.has_failed sink.new ≡ true) }
+    ensures held { W.holds sink.new ≡ W.holds sink.old }
 {
-    let written = write_fault(faults, fault);
+    write_fault(sink, fault)?;
+    put_second(sink, fault)
+}
+
+/// Tells a fault, and returns how the task ends; a failure to tell it is no further fault.
+pub(crate) fn tell<F: Sink>(faults: &mut F, fault: &Fault<'_>) -> Exit
+    ensures ends { EndsWith fault.now (F.contents faults.old) (F.contents faults.new) (F.has_failed faults.new) result }
+    ensures faults_held { F.holds faults.new ≡ F.holds faults.old }
+{
+    let told = put_told(faults, fault);
     Exit {
         status: status_of(fault),
-        is_told: written.is_ok(),
+        is_told: told.is_ok(),
     }
 }
 
-/// The fault of an allocation that fails before the first line, or for a report.
-pub(crate) fn memory_fault<'a>() -> Fault<'a>
-    ensures { result ≡ no_memory }
-{
-    Fault::Refused(LoadFault {
-        number: FaultNumber::OutOfMemory,
-        line: None,
-        name: None,
-    })
-}
-
 /// The fault of a file whose text was not read.
-pub(crate) fn unread_fault<'a>(unread: Unread) -> Fault<'a>
-    ensures { result ≡ unread_fault unread }
+pub(crate) fn unread_fault<'a>(file: TextFile<'a>, unread: Unread) -> Fault<'a>
+    ensures { result ≡ unread_fault file.entry unread }
 {
     match unread {
-        Unread::File => Fault::File,
-        Unread::OutOfMemory => memory_fault(),
+        Unread::File => Fault::File(file),
+        Unread::OutOfMemory => Fault::NoMemory,
     }
 }
 

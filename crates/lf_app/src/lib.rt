@@ -1,16 +1,20 @@
 //! The program: its commands, its messages of faults, and the loop that answers lines.
 #![tactic(auto)]
 
+mod descriptions;
 mod designs;
 mod faults;
 mod lines;
+mod origins;
 mod reports;
+mod services;
 mod tasks;
 mod texts;
 mod work;
 
-pub use faults::{Exit, Fault, status_of, write_fault};
+pub use faults::{Exit, Fault, TextFile, TextKind, status_of, write_fault};
 pub use lf_command::{Help, Task, UsageFault, command_of, help_of};
 pub use lines::answer_lines;
+pub use services::{NetServices, Offer, Services, Unserved};
 pub use tasks::{perform, perform_over};
 pub use texts::{FileTexts, Texts, Unread};

@@ -1,20 +1,19 @@
 //! The report of a loaded design.
 
-ghost use Rattle.std.specs.Prelude.{◌≡◌, ◌++◌, [], ◌∷◌, ◌↔◌, All, IfErr, IfOk, IsTrue, OnOk};
+ghost use Rattle.std.specs.Prelude.{◌≡◌, ◌++◌, [], ◌∷◌, ◌↔◌, All, IfErr, IfOk, IsTrue, OnErr, OnOk, true};
 ghost use Rattle.std.specs.Io.KnownBytes.{Appends};
 ghost use Rattle.lf_rules.specs.Legalizer.{Legalizer};
 ghost use Rattle.lf_rules.specs.Reports.{IsClean, IsTold};
 ghost use Rattle.lf_app.specs.Checks.{IsLegalDesign, def_places, design_report, report_line};
-ghost use Rattle.lf_app.specs.Exits.{IsEarly};
-ghost use Rattle.lf_app.specs.Faults.{IsReportFault};
+ghost use Rattle.lf_app.specs.Faults.{Blames, IsReportFault};
 
-use crate::faults::{Fault, memory_fault};
+use crate::faults::Fault;
+use lf_devices::{DeviceFault, Sink, send};
 use lf_frame::{Cell, Loaded, Place};
 use lf_proto::report_json;
 use lf_reports::check_all;
 use lf_rules::Report;
 use std::alloc::{AllocError, Global};
-use std::io::Write;
 
 /// The cells' places in the DEF text, in loading order.
 fn def_places(alloc: Global, cells: &[Cell]) -> Result<Vec<Option<Place>>, AllocError>
@@ -40,28 +39,21 @@ fn is_clean(report: &Report) -> bool
     report.unplaced == 0 && report.violations.is_empty()
 }
 
-/// Writes the text and a line feed, and flushes.
-fn put_line<'f, W: Write>(writer: &mut W, text: &[u8]) -> Result<(), Fault<'f>>
+/// Writes the text and a line feed.
+fn put_line<W: Sink>(writer: &mut W, text: &[u8]) -> Result<(), DeviceFault>
     ensures ok { OnOk result (Appends (W.contents writer.old) (W.contents writer.new) (text.now ++ 10 ∷ [])) }
-    ensures err { IfErr result (λ fault. fault ≡ Fault.Output) }
+    ensures failed { OnErr result (W.has_failed writer.new ≡ true) }
+    ensures writer_held { W.holds writer.new ≡ W.holds writer.old }
 {
-    if writer.write_all(text).is_err() {
-        return Err(Fault::Output);
-    }
-    if writer.write_all(b"\n").is_err() {
-        return Err(Fault::Output);
-    }
-    if writer.flush().is_err() {
-        return Err(Fault::Output);
-    }
-    Ok(())
+    send(writer, text)?;
+    send(writer, b"\n")
 }
 
 /// Writes the report of the design, each cell at its place in the DEF text, and a line feed; returns whether the design
 /// is fully legal.
 ///
 /// `Err` if an allocation or the writer fails; a front of the text may then be written.
-pub(crate) fn report_design<'f, W: Write>(
+pub(crate) fn report_design<'f, W: Sink>(
     alloc: Global,
     loaded: &Loaded,
     writer: &mut W,
@@ -69,14 +61,17 @@ pub(crate) fn report_design<'f, W: Write>(
     ensures text { (l : Legalizer) → OnOk result (Appends (W.contents writer.old) (W.contents writer.new) (report_line l loaded.now)) }
     ensures legal { IfOk result (λ legal. IsTrue legal ↔ IsLegalDesign loaded.now) }
     ensures err { IfErr result IsReportFault }
-    ensures unwritten { IfErr result (λ fault. IsEarly fault → writer.new ≡ writer.old) }
+    ensures blames { IfErr result (λ fault. Blames fault (writer.new ≡ writer.old) ⊥ (W.has_failed writer.new ≡ true)) }
+    ensures writer_held { W.holds writer.new ≡ W.holds writer.old }
 {
     let Ok(report) = design_report(alloc, loaded) else {
-        return Err(memory_fault());
+        return Err(Fault::NoMemory);
     };
     let Ok(text) = report_json(alloc, &report) else {
-        return Err(memory_fault());
+        return Err(Fault::NoMemory);
     };
-    put_line(writer, text.as_bytes())?;
-    Ok(is_clean(&report))
+    match put_line(writer, text.as_bytes()) {
+        Ok(()) => Ok(is_clean(&report)),
+        Err(_) => Err(Fault::Output),
+    }
 }

@@ -1,10 +1,16 @@
 //! Tasks over files in memory.
 
 use crate::shelf::Shelf;
-use lf_app::{Exit, FileTexts, Task, perform, perform_over};
+use lf_app::{
+    Exit, FileTexts, NetServices, Offer, Services, Task, Unserved, perform, perform_over,
+};
 use lf_def::W_DEF;
+use lf_devices::{FromRead, Sink, ToWrite};
 use lf_files::{Exports, Unwritten};
+use lf_floor::Floor;
 use lf_lef::W_LEF;
+use lf_legalize::IndexSeeker;
+use lf_server::ServeLimits;
 use lf_tests_texts::with_line;
 use lf_units::Sequence;
 use std::alloc::{AllocError, Global};
@@ -69,6 +75,25 @@ impl<'a> Exports for Kept<'a> {
     }
 }
 
+/// Services that are noted, and none of which can be offered.
+#[derive(Clone, Copy, Debug, PartialEq, Eq)]
+struct Noted {
+    /// The last one.
+    offer: Option<Offer>,
+}
+
+impl Services for Noted {
+    fn offer<W: Sink>(
+        &mut self,
+        offer: &Offer,
+        _floor: &mut Floor<IndexSeeker>,
+        _writer: &mut W,
+    ) -> Result<(), Unserved> {
+        self.offer = Some(*offer);
+        Err(Unserved::Bind)
+    }
+}
+
 /// How a task ends, and how often a text was to be put into a file.
 #[derive(Clone, Copy, Debug, PartialEq, Eq)]
 struct End {
@@ -84,7 +109,17 @@ fn demo<R: Read, W: Write, F: Write>(
     faults: &mut F,
 ) -> End {
     let mut exports = Kept::at(rt.alloc(), None);
-    with_devices(rt, &[], &mut exports, &Task::Demo, reader, writer, faults)
+    let mut services = Noted { offer: None };
+    with_devices(
+        rt,
+        &[],
+        &mut exports,
+        &mut services,
+        &Task::Demo,
+        reader,
+        writer,
+        faults,
+    )
 }
 
 /// The end of a task with this status, of which all was told, and that was to put no text.
@@ -217,11 +252,12 @@ fn a_fault_that_cannot_be_told_is_no_further_fault(rt: HostRuntime) {
     assert_eq!(rt; end, untold);
 }
 
-/// Does the task over the files on the shelf, with these devices and exported texts kept in memory.
-fn with_devices<R: Read, W: Write, F: Write>(
+/// Does the task over the files on the shelf, with these services and devices, and exported texts kept in memory.
+fn with_devices<V: Services, R: Read, W: Write, F: Write>(
     rt: &HostRuntime,
     files: &[(&str, Option<&[u8]>)],
     exports: &mut Kept<'_>,
+    services: &mut V,
     task: &Task<'_>,
     reader: &mut R,
     writer: &mut W,
@@ -232,14 +268,54 @@ fn with_devices<R: Read, W: Write, F: Write>(
         files,
     };
     let texts = FileTexts::new(&shelf);
-    let exit = perform_over(rt, &texts, exports, task, reader, writer, faults);
+    let mut source = FromRead::new(reader);
+    let mut sink = ToWrite::new(writer);
+    let mut told = ToWrite::new(faults);
+    let exit = perform_over(
+        rt.alloc(),
+        &texts,
+        exports,
+        services,
+        task,
+        &mut source,
+        &mut sink,
+        &mut told,
+    );
     End {
         exit,
         asked: exports.asked,
     }
 }
 
-/// Does the task over the files on the shelf, with exported texts kept in memory.
+/// Does the task over the files on the shelf, with these services, and exported texts kept in memory.
+fn offering<V: Services, R: Read>(
+    rt: &HostRuntime,
+    files: &[(&str, Option<&[u8]>)],
+    exports: &mut Kept<'_>,
+    services: &mut V,
+    task: &Task<'_>,
+    reader: &mut R,
+) -> Run {
+    let mut written = Vec::new(rt.alloc());
+    let mut faults = Vec::new(rt.alloc());
+    let end = with_devices(
+        rt,
+        files,
+        exports,
+        services,
+        task,
+        reader,
+        &mut written,
+        &mut faults,
+    );
+    Run {
+        end,
+        written,
+        faults,
+    }
+}
+
+/// Does the task over the files on the shelf, with exported texts kept in memory, where no service can be offered.
 fn exporting<R: Read>(
     rt: &HostRuntime,
     files: &[(&str, Option<&[u8]>)],
@@ -247,14 +323,8 @@ fn exporting<R: Read>(
     task: &Task<'_>,
     reader: &mut R,
 ) -> Run {
-    let mut written = Vec::new(rt.alloc());
-    let mut faults = Vec::new(rt.alloc());
-    let end = with_devices(rt, files, exports, task, reader, &mut written, &mut faults);
-    Run {
-        end,
-        written,
-        faults,
-    }
+    let mut services = Noted { offer: None };
+    offering(rt, files, exports, &mut services, task, reader)
 }
 
 /// Does the task over the files on the shelf, where no text can be exported.
@@ -276,6 +346,7 @@ fn replayed(
     let task = Task::Replay {
         def: "w.def",
         lefs: Sequence::from_vec(Vec::from_slice(rt.alloc(), lefs)?),
+        lines: 1_000_000,
         export: None,
     };
     Ok(done(rt, files, &task, input))
@@ -335,12 +406,39 @@ fn a_design_of_files_is_replayed(rt: HostRuntime) -> Result<(), Fail> {
     Ok(())
 }
 
+/// Whether a replay that answers this many of three lines at most ends with this status, these replies and this fault.
+fn answers_at_most(
+    rt: &HostRuntime,
+    lines: u32,
+    status: u8,
+    replies: &str,
+    fault: &str,
+) -> Result<bool, AllocError> {
+    let task = Task::Replay {
+        def: "w.def",
+        lefs: only_lef(rt.alloc())?,
+        lines,
+        export: None,
+    };
+    let run = done(rt, &files_of(W_DEF), &task, "open A\nopen A\nopen A\n");
+    Ok(run.is(status, replies, fault))
+}
+
+#[test]
+fn a_replay_answers_as_many_lines_as_it_says(rt: HostRuntime) -> Result<(), Fail> {
+    let replies = "ok 0 0\nok 1 0\nok 2 0\n";
+    assert!(rt; answers_at_most(&rt, 3, 0, replies, "")?);
+    let fault = "lefence: TooManyLines\n";
+    assert!(rt; answers_at_most(&rt, 2, 3, "ok 0 0\nok 1 0\n", fault)?);
+    Ok(())
+}
+
 /// The fence of B is a unit too wide, for a replay as for a check.
 #[test]
 fn fences_that_overlap_are_refused(rt: HostRuntime) -> Result<(), Fail> {
     let fence = b"- B ( 3999 0 ) ( 10000 8000 ) + TYPE FENCE ;";
     let def = with_line(rt.alloc(), W_DEF, 12, fence)?;
-    let fault = "lefence: 21 FencesOverlap B\n";
+    let fault = "lefence: 21 FencesOverlap B\nlefence: DEF file w.def\n";
     assert!(rt; ends(&rt, &files_of(&def), LEFS, 1, fault)?);
     assert!(rt; checks(&rt, &files_of(&def), 1, "", fault)?);
     Ok(())
@@ -349,7 +447,7 @@ fn fences_that_overlap_are_refused(rt: HostRuntime) -> Result<(), Fail> {
 #[test]
 fn a_text_that_is_none_is_refused_with_its_line(rt: HostRuntime) -> Result<(), Fail> {
     let def = with_line(rt.alloc(), W_DEF, 20, b"END REGIONS")?;
-    let fault = "lefence: 5 WrongEnd line 20\n";
+    let fault = "lefence: 5 WrongEnd line 20\nlefence: DEF file w.def, line 20: END REGIONS\n";
     assert!(rt; ends(&rt, &files_of(&def), LEFS, 1, fault)?);
     Ok(())
 }
@@ -358,14 +456,15 @@ fn a_text_that_is_none_is_refused_with_its_line(rt: HostRuntime) -> Result<(), F
 fn lef_files_are_read_in_order_up_to_the_first_fault(rt: HostRuntime) -> Result<(), Fail> {
     let files = [
         ("w.lef", Some(W_LEF)),
-        ("bad.lef", Some(b"SITE ;\n".as_slice())),
+        ("bad.lef", Some(b"SITE\t;\xff\n".as_slice())),
         ("cut.lef", Some(b"SITE core\n".as_slice())),
     ];
     let both = ["w.lef", "bad.lef", "cut.lef"];
-    let fault = "lefence: 3 Unexpected line 1\n";
+    let fault =
+        "lefence: 3 Unexpected line 1\nlefence: LEF file bad.lef, line 1: SITE\\x09;\\xff\n";
     assert!(rt; ends(&rt, files.as_slice(), both.as_slice(), 1, fault)?);
     let both = ["w.lef", "cut.lef", "bad.lef"];
-    let fault = "lefence: 2 UnexpectedEnd line 2\n";
+    let fault = "lefence: 2 UnexpectedEnd line 2\nlefence: LEF file cut.lef, line 2: \n";
     assert!(rt; ends(&rt, files.as_slice(), both.as_slice(), 1, fault)?);
     Ok(())
 }
@@ -374,7 +473,7 @@ fn lef_files_are_read_in_order_up_to_the_first_fault(rt: HostRuntime) -> Result<
 #[test]
 fn a_replay_reads_its_own_lef_files_alone(rt: HostRuntime) -> Result<(), Fail> {
     let files = [("x.lef", Some(b"".as_slice())), ("w.def", Some(W_DEF))];
-    let fault = "lefence: 8 NoSite core\n";
+    let fault = "lefence: 8 NoSite core\nlefence: DEF file w.def\n";
     assert!(rt; ends(&rt, files.as_slice(), ["x.lef"].as_slice(), 1, fault)?);
     Ok(())
 }
@@ -382,9 +481,11 @@ fn a_replay_reads_its_own_lef_files_alone(rt: HostRuntime) -> Result<(), Fail> {
 #[test]
 fn a_file_that_cannot_be_read_is_a_fault(rt: HostRuntime) -> Result<(), Fail> {
     let files = [("w.lef", Some(W_LEF)), ("folder", None)];
-    let fault = "lefence: File\n";
+    let fault = "lefence: File\nlefence: DEF file w.def cannot be read\n";
     assert!(rt; ends(&rt, files.as_slice(), LEFS, 3, fault)?);
+    let fault = "lefence: File\nlefence: LEF file x.lef cannot be read\n";
     assert!(rt; ends(&rt, files.as_slice(), ["x.lef"].as_slice(), 3, fault)?);
+    let fault = "lefence: File\nlefence: LEF file folder cannot be read\n";
     assert!(rt; ends(&rt, files.as_slice(), ["folder"].as_slice(), 3, fault)?);
     Ok(())
 }
@@ -428,10 +529,38 @@ fn a_design_is_checked(rt: HostRuntime) -> Result<(), Fail> {
     Ok(())
 }
 
+/// What describes the sample, in which no cell is placed.
+const DESCRIPTION: &str = "\
+    {\"kind\":\"design\",\"name\":\"w\",\"site\":\"core\",\"site_height\":2000,\"site_width\":200,\"units\":1000}\n\
+    {\"box\":[0,0,10000,2000],\"kind\":\"row\",\"name\":\"r0\",\"orient\":\"N\",\"sites\":50}\n\
+    {\"box\":[0,2000,10000,4000],\"kind\":\"row\",\"name\":\"r1\",\"orient\":\"FS\",\"sites\":50}\n\
+    {\"box\":[0,4000,10000,6000],\"kind\":\"row\",\"name\":\"r2\",\"orient\":\"N\",\"sites\":50}\n\
+    {\"box\":[0,6000,10000,8000],\"kind\":\"row\",\"name\":\"r3\",\"orient\":\"FS\",\"sites\":50}\n\
+    {\"kind\":\"fence\",\"name\":\"A\",\"rects\":[[0,0,4000,4000]]}\n\
+    {\"kind\":\"fence\",\"name\":\"B\",\"rects\":[[6000,0,10000,8000]]}\n\
+    {\"box\":[4000,0,4400,2000],\"kind\":\"obstacle\",\"name\":null}\n\
+    {\"box\":null,\"height\":2000,\"kind\":\"cell\",\"macro\":\"INV\",\"name\":\"a1\",\"orient\":null,\"other\":null,\"rule\":null,\"team\":\"A\",\"width\":400}\n\
+    {\"box\":null,\"height\":2000,\"kind\":\"cell\",\"macro\":\"INV\",\"name\":\"a2\",\"orient\":null,\"other\":null,\"rule\":null,\"team\":\"A\",\"width\":400}\n\
+    {\"box\":null,\"height\":4000,\"kind\":\"cell\",\"macro\":\"DBL\",\"name\":\"a3\",\"orient\":null,\"other\":null,\"rule\":null,\"team\":\"A\",\"width\":600}\n\
+    {\"box\":null,\"height\":2000,\"kind\":\"cell\",\"macro\":\"INV\",\"name\":\"b1\",\"orient\":null,\"other\":null,\"rule\":null,\"team\":\"B\",\"width\":400}\n\
+    {\"box\":null,\"height\":2000,\"kind\":\"cell\",\"macro\":\"INV\",\"name\":\"g1\",\"orient\":null,\"other\":null,\"rule\":null,\"team\":\"-\",\"width\":400}\n\
+    {\"cells\":5,\"fences\":2,\"illegal\":0,\"kind\":\"total\",\"obstacles\":1,\"rows\":4,\"soft\":0,\"unplaced\":5}\n";
+
+#[test]
+fn a_design_is_described(rt: HostRuntime) -> Result<(), Fail> {
+    let task = Task::Describe {
+        def: "w.def",
+        lefs: only_lef(rt.alloc())?,
+    };
+    assert!(rt; done(&rt, &files_of(W_DEF), &task, "open A\n").is(4, DESCRIPTION, ""));
+    Ok(())
+}
+
 #[test]
 fn a_check_without_its_file_is_a_fault(rt: HostRuntime) -> Result<(), Fail> {
     let files = [("w.lef", Some(W_LEF))];
-    assert!(rt; checks(&rt, files.as_slice(), 3, "", "lefence: File\n")?);
+    let fault = "lefence: File\nlefence: DEF file w.def cannot be read\n";
+    assert!(rt; checks(&rt, files.as_slice(), 3, "", fault)?);
     Ok(())
 }
 
@@ -506,11 +635,13 @@ fn each_reply_is_flushed(rt: HostRuntime) {
 fn is_output_fault<W: Write>(rt: &HostRuntime, task: &Task<'_>, writer: &mut W) -> bool {
     let files = files_of(W_DEF);
     let mut exports = Kept::at(rt.alloc(), None);
+    let mut services = Noted { offer: None };
     let mut faults = Vec::new(rt.alloc());
     let end = with_devices(
         rt,
         files.as_slice(),
         &mut exports,
+        &mut services,
         task,
         &mut Failing,
         writer,
@@ -532,6 +663,7 @@ fn exporting_replay<'a>(alloc: Global) -> Result<Task<'a>, AllocError> {
     Ok(Task::Replay {
         def: "w.def",
         lefs: only_lef(alloc)?,
+        lines: 1_000_000,
         export: Some("new.def"),
     })
 }
@@ -581,7 +713,8 @@ fn an_export_that_cannot_be_written_is_a_fault(rt: HostRuntime) -> Result<(), Fa
     exports.is_full = true;
     let mut reader = b"open A\n".as_slice();
     let run = exporting(&rt, &files_of(W_DEF), &mut exports, &task, &mut reader);
-    assert!(rt; run.is_put(3, "ok 0 0\n", "lefence: File\n"));
+    let fault = "lefence: File\nlefence: export file new.def cannot be written\n";
+    assert!(rt; run.is_put(3, "ok 0 0\n", fault));
     Ok(())
 }
 
@@ -591,7 +724,8 @@ fn a_path_that_takes_no_export_is_a_fault_before_the_first_line(
 ) -> Result<(), Fail> {
     let task = exporting_replay(rt.alloc())?;
     let run = done(&rt, &files_of(W_DEF), &task, "open A\n");
-    assert!(rt; run.is(3, "", "lefence: File\n"));
+    let fault = "lefence: File\nlefence: export file new.def cannot be written\n";
+    assert!(rt; run.is(3, "", fault));
     Ok(())
 }
 
@@ -625,10 +759,60 @@ fn service<'a>(alloc: Global, port: u16) -> Result<Task<'a>, AllocError> {
     })
 }
 
+/// What is told of a port that cannot be listened on, up to its number.
+const BIND: &[u8] = b"lefence: Bind\nlefence: port ";
+
 /// Whether the service of the sample to this port ends with the fault that it cannot be listened on.
 fn is_taken(rt: &HostRuntime, port: u16) -> Result<bool, AllocError> {
     let task = service(rt.alloc(), port)?;
-    Ok(done(rt, &files_of(W_DEF), &task, "").is(3, "", "lefence: Bind\n"))
+    let mut exports = Kept::at(rt.alloc(), None);
+    let mut services = NetServices::new(rt);
+    let mut reader = b"".as_slice();
+    let run = offering(
+        rt,
+        &files_of(W_DEF),
+        &mut exports,
+        &mut services,
+        &task,
+        &mut reader,
+    );
+    Ok(run.end == told(3) && run.written.is_empty() && run.faults.as_slice().starts_with(BIND))
+}
+
+/// What is offered for the service of the sample to port 5800, where none can be.
+fn offered(rt: &HostRuntime) -> Result<Option<Offer>, AllocError> {
+    let task = service(rt.alloc(), 5800)?;
+    let mut exports = Kept::at(rt.alloc(), None);
+    let mut services = Noted { offer: None };
+    let mut reader = b"".as_slice();
+    let run = offering(
+        rt,
+        &files_of(W_DEF),
+        &mut exports,
+        &mut services,
+        &task,
+        &mut reader,
+    );
+    let faults = "lefence: Bind\nlefence: port 5800 of 127.0.0.1 cannot be listened on\n";
+    if !run.is(3, "", faults) {
+        return Ok(None);
+    }
+    Ok(services.offer)
+}
+
+#[test]
+fn a_service_is_offered_at_a_port_of_this_machine(rt: HostRuntime) -> Result<(), Fail> {
+    let wanted = Offer {
+        ip: Ipv4Addr::LOCALHOST,
+        port: 5800,
+        connections: 1,
+        limits: ServeLimits {
+            lines: 1_000_000,
+            reads: 4_200_000_000,
+        },
+    };
+    assert!(rt; offered(&rt)? == Some(wanted));
+    Ok(())
 }
 
 #[test]

@@ -11,6 +11,7 @@ enum Named<'a> {
     Replay {
         def: &'a str,
         lefs: &'a [&'a str],
+        lines: u32,
         export: Option<&'a str>,
     },
     Serve {
@@ -24,6 +25,10 @@ enum Named<'a> {
         def: &'a str,
         lefs: &'a [&'a str],
     },
+    Describe {
+        def: &'a str,
+        lefs: &'a [&'a str],
+    },
     Nothing(UsageFault),
 }
 
@@ -31,9 +36,15 @@ enum Named<'a> {
 fn as_named<'a>(task: &'a Task<'a>) -> Named<'a> {
     match task {
         Task::Demo => Named::Demo,
-        Task::Replay { def, lefs, export } => Named::Replay {
+        Task::Replay {
+            def,
+            lefs,
+            lines,
+            export,
+        } => Named::Replay {
             def: *def,
             lefs: lefs.as_slice(),
+            lines: *lines,
             export: *export,
         },
         Task::Serve {
@@ -50,6 +61,10 @@ fn as_named<'a>(task: &'a Task<'a>) -> Named<'a> {
             export: *export,
         },
         Task::Check { def, lefs } => Named::Check {
+            def: *def,
+            lefs: lefs.as_slice(),
+        },
+        Task::Describe { def, lefs } => Named::Describe {
             def: *def,
             lefs: lefs.as_slice(),
         },
@@ -86,7 +101,7 @@ fn all_name(alloc: Global, lines: &[&str], named: &Named<'_>) -> Result<bool, Al
 }
 
 #[test]
-fn words_name_the_demo_and_a_check(rt: HostRuntime) -> Result<(), Fail> {
+fn words_name_the_demo_a_check_and_a_description(rt: HostRuntime) -> Result<(), Fail> {
     let lines = ["lefence", "lefence demo"];
     assert!(rt; all_name(rt.alloc(), lines.as_slice(), &Named::Demo)?);
     let check = Named::Check {
@@ -94,6 +109,11 @@ fn words_name_the_demo_and_a_check(rt: HostRuntime) -> Result<(), Fail> {
         lefs: &["x.lef"],
     };
     assert!(rt; names(rt.alloc(), "lefence check x.def x.lef", &check)?);
+    let describe = Named::Describe {
+        def: "x.def",
+        lefs: &["x.lef"],
+    };
+    assert!(rt; names(rt.alloc(), "lefence describe x.def x.lef", &describe)?);
     Ok(())
 }
 
@@ -108,12 +128,14 @@ fn words_name_a_replay(rt: HostRuntime) -> Result<(), Fail> {
     let replay = Named::Replay {
         def: "w.def",
         lefs: &["w.lef", "x.lef"],
+        lines: 1_000_000,
         export: None,
     };
     assert!(rt; all_name(rt.alloc(), lines.as_slice(), &replay)?);
     let replay = Named::Replay {
         def: "-w.def",
         lefs: &["--"],
+        lines: 1_000_000,
         export: None,
     };
     assert!(rt; names(rt.alloc(), "lefence replay -- -w.def --", &replay)?);
@@ -130,7 +152,25 @@ fn words_name_the_file_of_an_export(rt: HostRuntime) -> Result<(), Fail> {
         let replay = Named::Replay {
             def: "a",
             lefs: &["b"],
+            lines: 1_000_000,
             export: Some(path),
+        };
+        assert!(rt; names(rt.alloc(), line, &replay)?);
+    }
+    Ok(())
+}
+
+#[test]
+fn words_name_the_most_lines(rt: HostRuntime) -> Result<(), Fail> {
+    for (line, lines) in [
+        ("lefence replay a b --lines 1", 1),
+        ("lefence replay --lines=4294967295 a b", 4_294_967_295),
+    ] {
+        let replay = Named::Replay {
+            def: "a",
+            lefs: &["b"],
+            lines,
+            export: None,
         };
         assert!(rt; names(rt.alloc(), line, &replay)?);
     }
@@ -178,6 +218,11 @@ fn other_words_are_refused(rt: HostRuntime) -> Result<(), Fail> {
         "lefence replay w.def w.lef --export=x --export=y",
         "lefence replay w.def w.lef --exp x",
         "lefence replay w.def w.lef --port 80",
+        "lefence replay w.def w.lef --lines 0",
+        "lefence replay w.def w.lef --lines 4294967296",
+        "lefence replay w.def w.lef --lines 5 --lines 5",
+        "lefence describe x.def",
+        "lefence describe x.def x.lef --lines 5",
     ];
     let nothing = Named::Nothing(UsageFault::Usage);
     assert!(rt; all_name(rt.alloc(), lines.as_slice(), &nothing)?);
@@ -197,6 +242,7 @@ fn other_services_are_refused(rt: HostRuntime) -> Result<(), Fail> {
         "lefence serve a b --port 80",
         "lefence serve a b --connections 3",
         "lefence serve a --port 80 --connections 3",
+        "lefence serve a b --port 80 --connections 3 --lines 5",
     ];
     let nothing = Named::Nothing(UsageFault::Usage);
     assert!(rt; all_name(rt.alloc(), lines.as_slice(), &nothing)?);

@@ -1,3 +1,4 @@
+use Rattle.std.proofs.Common.{refl}
 use Rattle.lf_def.specs.Contents.{contents}
 use Rattle.lf_app.specs.declared.faults.Fault.TheVariants.{Refused}
 use Rattle.lf_app.specs.Designs.{AreStandard}
@@ -15,7 +16,11 @@ returns-in-Err-clause-err g c =
       undo = limits.undo;
       revisions = limits.revisions;
     } in (
-      Refused c.in-Err.fault,
-      loading c.args.library.now (contents c.args.document.now) c.standard.result c.in-Err.fault standard c.in-Err.ensures.err,
-      c.tell.ensures,
+      Refused c.def_file-file.result c.args.text c.in-Err.refusal,
+      (
+        record { kind_is = c.def_file-file.ensures.kind; path_is = c.def_file-file.ensures.path },
+        refl,
+        loading c.args.library.now (contents c.args.document.now) c.standard.result c.in-Err.refusal standard c.in-Err.ensures.err,
+      ),
+      c.tell.ensures.ends,
     )

@@ -1,8 +1,8 @@
-use Rattle.std.proofs.Common.{◌≡◌}
 use Rattle.lf_def.specs.declared.sample.TheConstants.{W_DEF}
 use Rattle.lf_lef.specs.declared.sample.TheConstants.{W_LEF}
 use Rattle.lf_app.specs.Designs.{IsTextDesign, IsTextFault}
-use Rattle.lf_app.specs.Exits.{IsEarly, IsLinesFault}
+use Rattle.lf_app.specs.Exits.{IsLinesFault}
+use Rattle.lf_app.specs.Lines.{most_lines}
 use Rattle.lf_app.proofs.TaskSteps.{fails}
 use Rattle.lf_app.proofs.WorkSteps.{weaker_ok}
 use Rattle.lf_app.proofs.tasks.demo.Goals as goal
@@ -15,7 +15,7 @@ returns-clause-ok g c =
 pub returns-clause-err : goal.returns-clause-err
 returns-clause-err g c =
     fails (IsTextDesign W_DEF.now W_LEF.now) c.in_ok-loaded.loaded c.in_ok-loaded.ensures.ok c.answer_over.result
-    (IsTextFault W_DEF.now W_LEF.now) IsEarly
-    (λ loaded fault. IsLinesFault loaded fault (g.R.Read.remaining c.args.reader.now) (g.R.Read.remaining c.answer_over.new.reader)
-    (g.W.Write.contents c.args.writer.now) (g.W.Write.contents c.answer_over.new.writer)) (c.answer_over.new.writer ≡ c.args.writer.now) _ _
+    (IsTextFault W_DEF.now W_LEF.now) _
+    (λ loaded fault. IsLinesFault most_lines loaded fault (g.R.Source.remaining c.args.reader.now) (g.R.Source.remaining c.answer_over.new.reader)
+    (g.W.Sink.contents c.args.writer.now) (g.W.Sink.contents c.answer_over.new.writer)) _ _ _
     (rw c.in_ok-loaded.ensures.kept at c.answer_over.ensures.err)

@@ -1,6 +1,6 @@
-use Rattle.std.proofs.Common.{◌≡◌, ℕ, inl, inr, subst, sym}
+use Rattle.std.proofs.Common.{ℕ, inl, inr, subst, sym}
 use Rattle.lf_command.specs.Command.{as_job}
-use Rattle.lf_app.specs.Exits.{IsEarly, IsJobFault, IsOutcome, streams}
+use Rattle.lf_app.specs.Exits.{IsOutcome, streams}
 use Rattle.lf_app.specs.Faults.{IsDone, IsFailure}
 use Rattle.lf_app.proofs.TaskSteps.{checked, failing, not_both, succeeds}
 use Rattle.lf_app.proofs.tasks.perform_over.Goals as goal
@@ -8,8 +8,8 @@ use Rattle.lf_app.proofs.tasks.perform_over.Goals as goal
 pub returns-in-Ok : goal.returns-in-Ok
 returns-in-Ok g c =
     let gives = g.T.Texts.gives c.args.texts.now in
-    let io = streams (g.R.Read.remaining c.args.reader.now) (g.R.Read.remaining c.outcome.new.reader)
-    (g.W.Write.contents c.args.writer.now) (g.W.Write.contents c.outcome.new.writer)
+    let io = streams (g.R.Source.remaining c.args.reader.now) (g.R.Source.remaining c.outcome.new.reader)
+    (g.W.Sink.contents c.args.writer.now) (g.W.Sink.contents c.outcome.new.writer)
     (g.E.Exports.puts c.args.exports.now) (g.E.Exports.puts c.outcome.new.exports) in
     let status = c.done.result.status in
     let is : IsOutcome gives (as_job c.args.task.now) io status =
@@ -25,17 +25,17 @@ returns-in-Ok g c =
       unread = c.in-Ok.ensures.unread;
       unput = λ failed. absurd (not_both status succeeded failed);
       unasked = c.in-Ok.ensures.unasked;
+      offered = λ _. c.in-Ok.ensures.offered;
+      unoffered = c.in-Ok.ensures.unoffered;
+      reader_held = c.in-Ok.ensures.reader_held;
+      writer_held = c.in-Ok.ensures.writer_held;
+      faults_held = c.in-Ok.ensures.faults_held;
     }
 
 pub returns-in-Err : goal.returns-in-Err
 returns-in-Err g c =
     let status = c.in-Err.exit.status in
-    let io = streams (g.R.Read.remaining c.args.reader.now) (g.R.Read.remaining c.outcome.new.reader)
-    (g.W.Write.contents c.args.writer.now) (g.W.Write.contents c.outcome.new.writer)
-    (g.E.Exports.puts c.args.exports.now) (g.E.Exports.puts c.outcome.new.exports) in
-    let failed : IsFailure status =
-    failing (λ fault. IsJobFault (g.T.Texts.gives c.args.texts.now) (as_job c.args.task.now) fault io × (IsEarly fault → c.outcome.new.writer ≡ c.args.writer.now))
-    (g.F.Write.contents c.args.faults.now) (g.F.Write.contents c.outcome.new.faults) c.in-Err.exit c.in-Err.ensures.err in
+    let failed : IsFailure status = failing _ _ _ _ c.in-Err.exit c.in-Err.ensures.err in
     record {
       status = inr failed;
       outcome = λ succeeded. absurd (not_both status succeeded failed);
@@ -46,4 +46,9 @@ returns-in-Err g c =
       unread = c.in-Err.ensures.unread;
       unput = λ _. c.in-Err.ensures.unput;
       unasked = c.in-Err.ensures.unasked;
+      offered = λ succeeded. absurd (not_both status succeeded failed);
+      unoffered = c.in-Err.ensures.unoffered;
+      reader_held = c.in-Err.ensures.reader_held;
+      writer_held = c.in-Err.ensures.writer_held;
+      faults_held = c.in-Err.ensures.faults_held;
     }

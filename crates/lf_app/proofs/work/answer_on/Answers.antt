@@ -1,10 +1,9 @@
 use Rattle.std.proofs.Common.{◌≡◌, inr, rules, subst}
 use Rattle.std.proofs.Common.{Some}
-use Rattle.lf_teams.specs.Designs.{opening}
 use Rattle.lf_teams.specs.States.{FloorState}
 use Rattle.lf_app.specs.Faults.{ending_fault}
 use Rattle.lf_app.specs.Lines.{IsServed}
-use Rattle.lf_app.proofs.Answering.{breaks_late}
+use Rattle.lf_app.proofs.Answering.{breaks_blame}
 use Rattle.lf_app.proofs.work.answer_on.Goals as goal
 
 pub returns-in-Some-clause-err : goal.returns-in-Some-clause-err
@@ -16,11 +15,11 @@ returns-in-Some-clause-err g c = λ loaded opens.
           floor = c.answer_lines.new.floor;
           ending = c.answer_lines.result;
           is = is;
-          served = λ l. subst (λ (floor : FloorState). IsServed l floor c.answer_lines.new.floor (g.R.Read.remaining c.args.reader.now)
-              (g.R.Read.remaining c.answer_lines.new.reader) (g.W.Write.contents c.args.writer.now) (g.W.Write.contents c.answer_lines.new.writer)
+          served = λ l. subst (λ (floor : FloorState). IsServed l c.args.lines floor c.answer_lines.new.floor (g.R.Source.remaining c.args.reader.now)
+              (g.R.Source.remaining c.answer_lines.new.source) (g.W.Sink.contents c.args.writer.now) (g.W.Sink.contents c.answer_lines.new.sink)
               c.answer_lines.result) opens (c.answer_lines.ensures.served l);
         },
-        λ early. absurd (breaks_late c.answer_lines.result c.in-Some.fault is early),
+        breaks_blame c.answer_lines.result c.in-Some.fault _ _ _ is c.answer_lines.ensures.reading c.answer_lines.ensures.writing,
       ),
       search rules,
     )

@@ -1,12 +1,26 @@
+use Rattle.std.proofs.Common.{◌≡◌, inl, refl}
 use Rattle.std.specs.Prelude.{option_map}
+use Rattle.lf_app.specs.declared.faults.TextKind.TheVariants.{Def}
 use Rattle.lf_app.specs.Exits.{streams}
 use Rattle.lf_app.specs.Work.{IsStopped}
-use Rattle.lf_app.proofs.WorkSteps.{file_fails, step_fails}
+use Rattle.lf_app.proofs.WorkSteps.{file_fails, first_fails, step_fails, unread_early, weaker_ok}
 use Rattle.lf_app.proofs.work.work_on_def.Goals as goal
+
+pub returns-in-Ok-clause-ok : goal.returns-in-Ok-clause-ok
+returns-in-Ok-clause-ok g c =
+    weaker_ok c.work_on_text.result _ _ (rw c.deref.ensures.value at c.work_on_text.ensures.ok)
+    (λ status is. (is.0, (c.in-Ok.text.items, (rw c.def_file.ensures.path at c.in-Ok.ensures.ok), is.1)))
 
 pub returns-in-Ok-clause-err : goal.returns-in-Ok-clause-err
 returns-in-Ok-clause-err g c =
     step_fails c.work_on_text.result _ _ _ _ _ _ (rw (c.in-Ok.ensures.kept, c.deref.ensures.value) at c.work_on_text.ensures.err)
     (λ fault why. file_fails (g.T.Texts.gives c.args.texts.now) c.args.def.now c.args.library c.in-Ok.text.items (λ loaded. IsStopped (option_map (λ path. path.now) c.args.path) c.args.lines loaded fault
-    (streams (g.R.Read.remaining c.args.reader.now) (g.R.Read.remaining c.work_on_text.new.reader) (g.W.Write.contents c.args.writer.now)
-    (g.W.Write.contents c.work_on_text.new.writer) (g.E.Exports.puts c.args.exports.now) (g.E.Exports.puts c.work_on_text.new.exports))) fault c.in-Ok.ensures.ok why)
+    (streams (g.R.Source.remaining c.args.reader.now) (g.R.Source.remaining c.work_on_text.new.reader) (g.W.Sink.contents c.args.writer.now)
+    (g.W.Sink.contents c.work_on_text.new.writer) (g.E.Exports.puts c.args.exports.now) (g.E.Exports.puts c.work_on_text.new.exports))) fault
+    (rw c.def_file.ensures.path at c.in-Ok.ensures.ok) why)
+
+pub returns-in-Err-clause-err : goal.returns-in-Err-clause-err
+returns-in-Err-clause-err g c =
+    first_fails _ _ (c.args.writer.now ≡ c.args.writer.now) _ _ _ _ _ c.in-Err.exit refl
+    (rw (c.def_file.ensures.kind, c.def_file.ensures.path) at c.in-Err.ensures.err)
+    (unread_early (g.T.Texts.gives c.args.texts.now) Def c.args.def.now) (λ fault why. inl (inl why))

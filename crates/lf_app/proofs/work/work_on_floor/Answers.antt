@@ -1,4 +1,4 @@
-use Rattle.std.proofs.Common.{◌≡◌, map, refl}
+use Rattle.std.proofs.Common.{refl}
 use Rattle.std.specs.Prelude.{option_map}
 use Rattle.lf_app.proofs.WorkSteps.{ends_as, export_ends, lines_stopped, untouched_ends}
 use Rattle.lf_app.proofs.work.work_on_floor.Goals as goal
@@ -18,7 +18,7 @@ returns-in-Ok-clause-ok g c = λ loaded is. (
 
 pub returns-in-Err-clause-err : goal.returns-in-Err-clause-err
 returns-in-Err-clause-err g c = λ loaded is.
-    untouched_ends (option_map (λ path. path.now) c.args.path) c.args.lines loaded _ _ _ _ c.in-Err.exit c.in-Err.ensures.asked
+    untouched_ends (option_map (λ path. path.now) c.args.path) c.args.lines loaded _ _ _ _ _ _ _ c.in-Err.exit
     record { unread = refl; unwritten = refl; unput = refl } c.in-Err.ensures.err
 
 pub returns-in-Err-answer-clause-err : goal.returns-in-Err-answer-clause-err
@@ -28,6 +28,6 @@ returns-in-Err-answer-clause-err g c = λ loaded is.
 
 pub returns-in-Err-export_to-clause-err : goal.returns-in-Err-export_to-clause-err
 returns-in-Err-export_to-clause-err g c = λ loaded is.
-    export_ends (option_map (λ path. path.now) c.args.path) c.args.lines loaded c.answer.new.floor _ _ _ _ c.in-Err-export_to.exit
-    c.in-Err-export_to.ensures.asked (c.in_default-answer.ensures.ok loaded is _ _)
+    export_ends (option_map (λ path. path.now) c.args.path) c.args.lines loaded c.answer.new.floor _ _ _ _ _ _ _ c.in-Err-export_to.exit
+    (c.in_default-answer.ensures.ok loaded is _ _)
     (rw c.in_default.ensures.kept at (rw c.in_default-answer.ensures.kept at c.in-Err-export_to.ensures.err))

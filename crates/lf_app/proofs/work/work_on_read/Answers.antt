@@ -1,5 +1,6 @@
-use Rattle.std.proofs.Common.{inr}
-use Rattle.lf_app.proofs.WorkSteps.{step_fails, weaker_ok}
+use Rattle.std.proofs.Common.{◌≡◌, inl, inr, refl}
+use Rattle.lf_app.specs.declared.faults.TextKind.TheVariants.{Def}
+use Rattle.lf_app.proofs.WorkSteps.{first_fails, refused_early, step_fails, weaker_ok}
 use Rattle.lf_app.proofs.work.work_on_read.Goals as goal
 
 pub returns-in-Ok-clause-ok : goal.returns-in-Ok-clause-ok
@@ -11,3 +12,8 @@ pub returns-in-Ok-clause-err : goal.returns-in-Ok-clause-err
 returns-in-Ok-clause-err g c =
     step_fails c.work_on_document.result _ _ _ _ _ _ (rw c.in-Ok.ensures.kept at c.work_on_document.ensures.err)
     (λ fault why. inr (c.in-Ok.loaded, c.in-Ok.ensures.ok, why))
+
+pub returns-in-Err-clause-err : goal.returns-in-Err-clause-err
+returns-in-Err-clause-err g c =
+    first_fails _ _ (c.args.writer.now ≡ c.args.writer.now) _ _ _ _ _ c.in-Err.exit refl c.in-Err.ensures.err
+    (refused_early Def c.args.def.now c.args.text.now _) (λ fault why. inl why)
