@@ -1,0 +1,70 @@
+"""Clients and tools around the lefence program; docs/FRONT.md of the repository tells what they promise.
+
+`connect` opens a connection; `lefence.aio.connect` is its like for asyncio. The exceptions are the refusals of
+docs/PROTOCOL.md, `ConnectionLost` and `ProtocolError`.
+"""
+
+from __future__ import annotations
+
+import importlib
+from types import ModuleType
+from typing import TYPE_CHECKING
+
+from .client import Connection, ConnectionLost, Pending, Pipeline, Session, connect
+from .refusals import (
+    BadRequest,
+    Illegal,
+    NoCell,
+    NoPlace,
+    NoSession,
+    NoTeam,
+    NotExported,
+    NothingToUndo,
+    OutOfMemory,
+    Refusal,
+    RevisionsSpent,
+    SessionsFull,
+    Stale,
+    Unplaced,
+)
+from .verbs import Legalized, Place, ProtocolError, Report, Tidied, Violation
+
+if TYPE_CHECKING:
+    from . import aio
+
+__all__ = [
+    "BadRequest",
+    "Connection",
+    "ConnectionLost",
+    "Illegal",
+    "Legalized",
+    "NoCell",
+    "NoPlace",
+    "NoSession",
+    "NoTeam",
+    "NotExported",
+    "NothingToUndo",
+    "OutOfMemory",
+    "Pending",
+    "Pipeline",
+    "Place",
+    "ProtocolError",
+    "Refusal",
+    "Report",
+    "RevisionsSpent",
+    "Session",
+    "SessionsFull",
+    "Stale",
+    "Tidied",
+    "Unplaced",
+    "Violation",
+    "aio",
+    "connect",
+]
+
+
+def __getattr__(name: str) -> ModuleType:
+    """`lefence.aio` is imported when it is first named: it brings asyncio, which most tools do without."""
+    if name == "aio":
+        return importlib.import_module(".aio", __name__)
+    raise AttributeError(f"module {__name__!r} has no attribute {name!r}")

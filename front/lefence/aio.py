@@ -1,0 +1,183 @@
+"""The client library for asyncio: the same sessions and verbs, each a coroutine.
+
+    async with await lefence.aio.connect("/run/lefence/A.sock") as connection, connection.session("A") as session:
+        await asyncio.gather(*(session.place(cell, x, y, "N") for cell, x, y in moves))
+
+A coroutine sends its line when it begins to run, so those that run at once are in flight together, in the order in which they
+began.
+"""
+
+from __future__ import annotations
+
+import asyncio
+import functools
+import os
+from collections import deque
+from collections.abc import Awaitable, Callable
+from types import TracebackType
+from typing import Concatenate, ParamSpec, TypeVar
+
+from . import verbs
+from .client import ConnectionLost, answer_of
+from .protocol import text_length
+from .refusals import Refusal, Stale
+from .verbs import Request, Scope
+
+P = ParamSpec("P")
+T = TypeVar("T")
+
+# A reply may be as long as a report of a million cells.
+_MOST_REPLY = 1 << 40
+
+
+async def connect(where: str | os.PathLike[str], port: int | None = None) -> Connection:
+    """A connection to a Unix socket at a path or, with a port, to a host by TCP; OSError where nobody listens."""
+    if port is not None:
+        return Connection(*await asyncio.open_connection(os.fspath(where), port, limit=_MOST_REPLY))
+    return Connection(*await asyncio.open_unix_connection(os.fspath(where), limit=_MOST_REPLY))
+
+
+class Connection:
+    """Lines that go out and replies that come in, in order; any number of coroutines may share it."""
+
+    def __init__(self, reader: asyncio.StreamReader, writer: asyncio.StreamWriter) -> None:
+        self._reader = reader
+        self._writer = writer
+        self._waiting: deque[tuple[bytes, asyncio.Future[bytes]]] = deque()
+        self._lost: ConnectionLost | None = None
+        self._reading = asyncio.create_task(self._read())
+
+    async def __aenter__(self) -> Connection:
+        return self
+
+    async def __aexit__(self, *_: object) -> None:
+        await self.close()
+
+    def session(self, team: str, *, retries: int = 0, microns: bool = False, per_micron: int | None = None) -> Session:
+        """A session of the team, opened by `async with`; the arguments are those of `lefence.client.Connection.session`."""
+        return Session(self, team, retries, microns or per_micron is not None, per_micron)
+
+    async def ask_line(self, line: bytes) -> bytes:
+        """The whole reply to a line, given without its line feed; one of `def` with its text."""
+        if b"\n" in line:
+            raise ValueError("a line has no line feed in it")
+        if self._lost:
+            raise self._lost
+        reply: asyncio.Future[bytes] = asyncio.get_running_loop().create_future()
+        self._waiting.append((line, reply))
+        self._writer.write(line + b"\n")
+        try:
+            await self._writer.drain()
+        except OSError as error:
+            self._lose(f"the connection is lost: {error}")
+        return await reply
+
+    async def ask(self, request: Request[T]) -> T:
+        """What the reply to a request says; raises its refusal."""
+        return answer_of(request, await self.ask_line(request.line))
+
+    async def export(self, path: str) -> None:
+        """Has a hub write the committed places of all teams to a file of its machine; the operator's socket alone."""
+        await self.ask(Request(f"export {verbs.name(path)}".encode(), lambda words, text: None))
+
+    async def close(self) -> None:
+        """Ends the connection; a hub then frees its sessions."""
+        self._reading.cancel()
+        self._writer.close()
+        try:
+            await self._writer.wait_closed()
+        except OSError:
+            pass
+        self._lose("the connection is closed")
+
+    async def _read(self) -> None:
+        """Gives each reply to the line that it is of."""
+        try:
+            while reply := await self._reader.readline():
+                if not reply.endswith(b"\n") or not self._waiting:
+                    break
+                line, waits = self._waiting[0]
+                reply += await self._reader.readexactly(text_length(line, reply))
+                self._waiting.popleft()
+                if not waits.done():
+                    waits.set_result(reply)
+            self._lose("the connection was ended by the other end")
+        except (OSError, asyncio.IncompleteReadError) as error:
+            self._lose(f"the connection is lost: {error}")
+
+    def _lose(self, text: str) -> None:
+        self._lost = self._lost or ConnectionLost(text)
+        while self._waiting:
+            _, waits = self._waiting.popleft()
+            if not waits.done():
+                waits.set_exception(self._lost)
+
+
+def _asked(build: Callable[Concatenate[Scope, P], Request[T]]) -> Callable[Concatenate[Session, P], Awaitable[T]]:
+    @functools.wraps(build)
+    def method(self: Session, /, *args: P.args, **kwargs: P.kwargs) -> Awaitable[T]:
+        return self.ask(build(self.scope, *args, **kwargs))
+
+    return method
+
+
+class Session:
+    """A session of a team: each method is a coroutine that sends a verb and returns what its reply says, or raises its refusal."""
+
+    def __init__(self, connection: Connection, team: str, retries: int, in_microns: bool, per_micron: int | None) -> None:
+        self.connection = connection
+        self.team = team
+        self.retries = retries
+        # The team's revision when the session was opened.
+        self.first_revision = 0
+        self._scope: Scope | None = None
+        self._in_microns = in_microns
+        self._per_micron = per_micron
+
+    @property
+    def scope(self) -> Scope:
+        """The open session; ValueError outside `async with`."""
+        if self._scope is None:
+            raise ValueError("the session is not open: it is opened by `async with`")
+        return self._scope
+
+    async def __aenter__(self) -> Session:
+        number, self.first_revision = await self.connection.ask(verbs.open_session(self.team))
+        self._scope = Scope(self.team, number)
+        if self._in_microns:
+            self._per_micron = self._per_micron or verbs.units_in(await self.def_text())
+            self._scope = Scope(self.team, number, self._per_micron)
+        return self
+
+    async def __aexit__(self, kind: type[BaseException] | None, error: BaseException | None, trace: TracebackType | None) -> None:
+        scope, self._scope = self.scope, None
+        try:
+            await self.connection.ask(verbs.close_session(scope))
+        except (Refusal, OSError):
+            # What went wrong in the block counts more than that the session is gone already.
+            if kind is None:
+                raise
+
+    async def ask(self, request: Request[T]) -> T:
+        """What the reply to a request says; a stale one is synced and asked again, where the caller said so."""
+        for _ in range(self.retries):
+            try:
+                return await self.connection.ask(request)
+            except Stale:
+                await self.connection.ask(verbs.sync(self.scope))
+        return await self.connection.ask(request)
+
+    sync = _asked(verbs.sync)
+    check = _asked(verbs.check)
+    def_text = _asked(verbs.def_text)
+    where = _asked(verbs.where)
+    find = _asked(verbs.find)
+    place = _asked(verbs.place)
+    legalize = _asked(verbs.legalize)
+    tidy = _asked(verbs.tidy)
+    unplace = _asked(verbs.unplace)
+    swap = _asked(verbs.swap)
+    undo = _asked(verbs.undo)
+    commit = _asked(verbs.commit)
+    revert = _asked(verbs.revert)
+    pad = _asked(verbs.pad)

@@ -1,0 +1,186 @@
+"""DEF texts, as far as slices and sockets need them: statements, entries of sections, and who owns which component.
+
+Tokens and patterns are read as docs/PROTOCOL.md has them ("LEF and DEF texts"). Texts are taken to be such as the program
+loads; of others no more is promised than that reading ends.
+"""
+
+from __future__ import annotations
+
+import re
+from collections.abc import Iterator
+from dataclasses import dataclass
+from functools import cached_property, lru_cache
+
+from .protocol import GROUND
+
+# White space and comments; then a token, a quoted text or a word. All repetitions keep what they took, so matching is linear.
+_SKIP = rb"(?:[ \t\r\n]++|#[^\n]*+)*+"
+_TOKEN = rb'(?:"(?:\\.|[^"\\])*+"|[^ \t\r\n]++)'
+_FIRST = re.compile(_SKIP + rb"(" + _TOKEN + rb")", re.S)
+# Behind a word that stands alone.
+_ALONE = rb"(?![^ \t\r\n])"
+_SEMICOLON = rb";" + _ALONE
+# An entry of a section: from `-` to its semicolon, with its first word, the name, on its own.
+_MORE = rb"(?:" + _SKIP + rb"(?!" + _SEMICOLON + rb")" + _TOKEN + rb")*+"
+_NAME = rb"(?:" + _SKIP + rb"(?!" + _SEMICOLON + rb")(" + _TOKEN + rb"))?+"
+_ENTRY = re.compile(_SKIP + rb"-" + _ALONE + _NAME + _MORE + _SKIP + _SEMICOLON, re.S)
+
+# A star in a pattern of names, which is any run of bytes, unless it stands directly behind a backslash.
+_STAR = re.compile(rb"(?<!\\)\*")
+
+# Sections, which end with END and their keyword; all other statements end with a semicolon, but for BEGINEXT and END DESIGN.
+SECTIONS = frozenset(
+    b"PROPERTYDEFINITIONS VIAS STYLES NONDEFAULTRULES PINS PINPROPERTIES SLOTS FILLS SPECIALNETS NETS SCANCHAINS REGIONS GROUPS "
+    b"COMPONENTS BLOCKAGES".split()
+)
+
+
+@lru_cache
+def _end_of(keyword: bytes) -> re.Pattern[bytes]:
+    """What follows a keyword up to the end of its statement."""
+    if keyword == b"END":
+        return _FIRST
+    if keyword in SECTIONS:
+        last = rb"END" + _ALONE + _SKIP + re.escape(keyword) + _ALONE
+    else:
+        last = rb"ENDEXT" + _ALONE if keyword == b"BEGINEXT" else _SEMICOLON
+    return re.compile(rb"(?:" + _SKIP + rb"(?!" + last + rb")" + _TOKEN + rb")*+" + _SKIP + last, re.S)
+
+
+@dataclass(frozen=True)
+class Statement:
+    """A statement or a section: its keyword, and its bytes with the white space and comments before it."""
+
+    keyword: bytes
+    start: int
+    stop: int
+
+
+@dataclass
+class Entry:
+    """An entry of a section: its name, and its bytes with the white space and comments before it."""
+
+    name: bytes
+    text: bytes
+
+    @cached_property
+    def words(self) -> list[bytes]:
+        """Its words, from the one behind `-` up to the semicolon."""
+        return _FIRST.findall(self.text)[1:-1]
+
+    def behind(self, clause: bytes) -> bytes | None:
+        """The word behind the first `+` and this word; None where there is none."""
+        for at in range(len(self.words) - 2):
+            if self.words[at] == b"+" and self.words[at + 1] == clause:
+                return self.words[at + 2]
+        return None
+
+    def has(self, clause: bytes) -> bool:
+        """Whether this word stands behind a `+`."""
+        return clause in self.text and any(pair == (b"+", clause) for pair in zip(self.words, self.words[1:]))
+
+
+def statements(text: bytes) -> list[Statement]:
+    """The statements up to END DESIGN, which is the last."""
+    found: list[Statement] = []
+    start = 0
+    while first := _FIRST.match(text, start):
+        keyword = first[1]
+        end = _end_of(keyword).match(text, first.end())
+        stop = end.end() if end else len(text)
+        found.append(Statement(keyword, start, stop))
+        if keyword == b"END":
+            break
+        start = stop
+    return found
+
+
+def section_parts(text: bytes, section: Statement) -> tuple[bytes, bytes, Iterator[Entry]]:
+    """The bytes of a section up to its count, those behind the count up to the first entry, and the entries."""
+    keyword = _FIRST.match(text, section.start, section.stop)
+    count = _FIRST.match(text, keyword.end() if keyword else section.stop, section.stop)
+    if count is None:
+        return text[section.start : section.stop], b"", iter(())
+    head = re.compile(_SKIP + _SEMICOLON).match(text, count.end(), section.stop)
+    start = head.end() if head else count.end()
+    return text[section.start : count.start(1)], text[count.end() : start], _entries(text, start, section.stop)
+
+
+def _entries(text: bytes, start: int, stop: int) -> Iterator[Entry]:
+    while found := _ENTRY.match(text, start, stop):
+        yield Entry(found[1] or b"", found[0])
+        start = found.end()
+
+
+def entries(text: bytes, found: list[Statement], keyword: bytes) -> Iterator[Entry]:
+    """The entries of all sections of that keyword, of the statements that were found in a text."""
+    for statement in found:
+        if statement.keyword == keyword:
+            yield from section_parts(text, statement)[2]
+
+
+def fences_in(text: bytes) -> list[str]:
+    """The teams of the FENCE regions of a text."""
+    return [fence.decode("ascii", "backslashreplace") for fence in fences_of(text, statements(text))]
+
+
+def fences_of(text: bytes, found: list[Statement]) -> list[bytes]:
+    """The names of the FENCE regions, in the order of the text."""
+    return list(dict.fromkeys(entry.name for entry in entries(text, found, b"REGIONS") if entry.behind(b"TYPE") == b"FENCE"))
+
+
+class Design:
+    """A DEF text, its statements, and which team owns which component."""
+
+    def __init__(self, text: bytes) -> None:
+        self.text = text
+        self.statements = statements(text)
+        self.fences = fences_of(text, self.statements)
+        self._fences = set(self.fences)
+        self._literal: dict[bytes, bytes] = {}
+        # Patterns with a star by the bytes before it, and how many such bytes there are.
+        self._starred: dict[bytes, list[tuple[re.Pattern[bytes], bytes]]] = {}
+        self._prefixes: set[int] = set()
+        for group in self.entries(b"GROUPS"):
+            self._claim(group)
+
+    def entries(self, keyword: bytes) -> Iterator[Entry]:
+        """The entries of all sections of that keyword."""
+        return entries(self.text, self.statements, keyword)
+
+    def _claim(self, group: Entry) -> None:
+        fence = self.fence_of(group)
+        if fence is None:
+            return
+        for word in group.words[1:]:
+            if word == b"+":
+                break
+            parts = _STAR.split(word)
+            if len(parts) == 1:
+                self._literal.setdefault(word, fence)
+            else:
+                pattern = re.compile(rb".*".join(map(re.escape, parts)), re.S)
+                self._starred.setdefault(parts[0], []).append((pattern, fence))
+                self._prefixes.add(len(parts[0]))
+
+    def fence_of(self, group: Entry) -> bytes | None:
+        """The FENCE region that a group is bound to, if it is."""
+        region = group.behind(b"REGION")
+        return region if region in self._fences else None
+
+    def team_of(self, component: Entry) -> bytes | None:
+        """The team of a component; None where it is FIXED or COVER, and so no team's."""
+        if component.has(b"FIXED") or component.has(b"COVER"):
+            return None
+        name = component.name
+        if (fence := self._literal.get(name)) is not None:
+            return fence
+        for length in self._prefixes:
+            for pattern, fence in self._starred.get(name[:length], ()):
+                if pattern.fullmatch(name):
+                    return fence
+        return GROUND.encode()
+
+    def cells_of(self, team: bytes) -> list[bytes]:
+        """The names of a team's cells, in loading order."""
+        return [component.name for component in self.entries(b"COMPONENTS") if self.team_of(component) == team]

@@ -1,0 +1,58 @@
+"""What ends a tool: an exit status, as those of the program, and a text for standard error."""
+
+from __future__ import annotations
+
+import argparse
+import os
+import sys
+from collections.abc import Callable
+
+# Exit statuses, as the program's: done; refused input; no command; a file, a socket, the disk or the program failed.
+DONE, REFUSED, USAGE, FAILED = 0, 1, 2, 3
+
+
+class Fault(Exception):
+    """Ends a tool with a status and a text."""
+
+    def __init__(self, status: int, text: str) -> None:
+        super().__init__(text)
+        self.status = status
+
+
+class Parser(argparse.ArgumentParser):
+    """The words of a tool, with an example at the end of its help."""
+
+    def __init__(self, tool: str, what: str, example: str) -> None:
+        epilog = "example:\n" + "\n".join(f"  {line}" for line in example.splitlines())
+        super().__init__(prog=tool, description=what, epilog=epilog, formatter_class=argparse.RawDescriptionHelpFormatter)
+
+
+def log(tool: str, text: str) -> None:
+    """A line on standard error, whatever bytes a name in it has; one that cannot be written is no fault."""
+    try:
+        print(f"{tool}: {text}".encode("utf-8", "backslashreplace").decode(), file=sys.stderr, flush=True)
+    except OSError:
+        pass
+
+
+def run_tool(tool: str, work: Callable[[], int]) -> int:
+    """The exit status of a tool's work; a fault is told on standard error."""
+    try:
+        status = work()
+        sys.stdout.flush()
+        return status
+    except Fault as fault:
+        log(tool, str(fault))
+        return fault.status
+    except BrokenPipeError:
+        # Whoever read the output is gone; what is left in the buffer must not fail once more at the end.
+        os.dup2(os.open(os.devnull, os.O_WRONLY), 1)
+        return FAILED
+    except OSError as error:
+        log(tool, str(error))
+        return FAILED
+    except KeyboardInterrupt:
+        return 130
+    except MemoryError:
+        log(tool, "out of memory")
+        return FAILED

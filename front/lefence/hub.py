@@ -1,0 +1,294 @@
+"""The hub: it makes one list of the lines of all clients, has it answered, and keeps what was accepted in a journal.
+
+The replies of the program are a function of that list alone, and those to a team of that team's own lines alone. So the order
+in which clients are merged plays no part, and the journal is a whole backup. docs/FRONT.md tells what is promised.
+"""
+
+from __future__ import annotations
+
+import asyncio
+import os
+import time
+from collections import OrderedDict
+from collections.abc import Callable
+
+from .design import fences_in
+from .faults import FAILED, REFUSED, Fault
+from .hub_client import Client, Entry
+from .journal import Journal
+from .protocol import CHANGES, GROUND, UNBOUNDED, is_change
+from .server import Server, ServerLost
+
+# What a batch may weigh; a line of one cell weighs 1, one of a whole team as much as WHOLE.
+_BATCH = 1024
+_WHOLE = 64
+_WHOLE_TEAM = frozenset((b"tidy", b"commit", b"revert", b"undo"))
+# A batch that takes the program longer, in seconds, makes the next ones lighter.
+_LONG, _SHORT = 0.02, 0.005
+# What part of a sync the hub waits for more lines, and the most, in seconds.
+_LINGER, _MOST_LINGER = 0.25, 0.002
+# Clients of one socket.
+MOST_CLIENTS = 256
+# How often a program that dies is started again for the same lines.
+_STARTS = 5
+# Seconds after which closes that a full disk refused are tried again.
+_LATER = 1
+
+
+class Hub:
+    """A batch of lines is asked, journaled and told before the next is put together.
+
+    So between batches each session's owner is known, and the journal is the program's state.
+    """
+
+    def __init__(self, server: Server, journal: Journal, patience: float, say: Callable[[str], None]) -> None:
+        """A hub that is not started; a client that reads nothing for `patience` seconds is dropped."""
+        self.server = server
+        self.journal = journal
+        self.patience = patience
+        self.say = say
+        self.nobody = b""
+        self.most_clients = MOST_CLIENTS
+        self.clients: set[Client] = set()
+        # Clients with lines that may be asked, in turn.
+        self._queue: OrderedDict[Client, None] = OrderedDict()
+        # Of each open session, a team and the number of its slot, the client that opened it; None is one before this start.
+        self._owners: dict[tuple[bytes, int], Client | None] = {}
+        # A session may be open whose client is gone.
+        self._has_orphans = True
+        self._exports: set[asyncio.Task[None]] = set()
+        self._export_turn = asyncio.Lock()
+        self._work = asyncio.Event()
+        self._is_stopping = False
+        self._is_full = False
+        self._budget = _BATCH
+
+    async def start(self, wanted: list[str]) -> list[str]:
+        """Starts the program in the state of the journal; the teams to be served, which are all or those wanted."""
+        text = await asyncio.to_thread(self.server.paths[0].read_bytes)
+        teams = [GROUND, *await asyncio.to_thread(fences_in, text)]
+        self.nobody = name_of_nobody(teams)
+        try:
+            await self.server.start()
+            await self.server.restore(self.journal.records(self.journal.end), self._note_line)
+        except ServerLost as lost:
+            await self._revive(lost, self._note_line)
+        replies = await self.server.ask([b"sync %b 4294967295" % team.encode() for team in teams])
+        # No slot has that number: a team is told `no 3`, what is none `no 2`.
+        if strange := [team for team, reply in zip(teams, replies) if not reply.startswith(b"no 3 ")]:
+            raise Fault(FAILED, f"the program knows no team {strange[0]}")
+        if missing := [team for team in wanted if team not in teams]:
+            raise Fault(REFUSED, f"no team: {', '.join(missing)}")
+        return list(dict.fromkeys(wanted)) or teams
+
+    # What clients call.
+
+    def admit(self, client: Client) -> bool:
+        """Takes a new client in; False where its socket has as many as may be."""
+        crowd = sum(other.team == client.team for other in self.clients)
+        self.clients.add(client)
+        return crowd < self.most_clients
+
+    def wake(self, client: Client) -> None:
+        """Puts a client in the queue for its turn, where it has a line and may have it answered."""
+        if client.waiting and not (client.is_clogged or client.is_busy or client.is_done):
+            self._queue.setdefault(client)
+            self._work.set()
+
+    def leave(self, client: Client) -> None:
+        """A client is gone; its sessions are closed at the head of the next batch."""
+        self.clients.discard(client)
+        self._close_orphans()
+
+    def _close_orphans(self) -> None:
+        self._has_orphans = True
+        self._work.set()
+
+    # Batches.
+
+    def take(self) -> list[Entry]:
+        """The next batch: the sessions to be closed, then one line of each client in turn."""
+        batch: list[Entry] = []
+        if self._has_orphans:
+            self._has_orphans = False
+            gone = [session for session, owner in self._owners.items() if owner is None or owner.is_done]
+            batch += [Entry(None, [b"close", team, b"%d" % number]) for team, number in gone]
+        weight = 0
+        while self._queue and weight < self._budget:
+            client, _ = self._queue.popitem(last=False)
+            if client.is_clogged or client.is_done:
+                continue
+            entry = client.next_entry(not self._is_stopping)
+            batch.append(entry)
+            if is_export(entry):
+                client.is_busy, entry.reply = True, b""
+            self.wake(client)
+            weight += _WHOLE if entry.verb in _WHOLE_TEAM else 1
+            # A reply without bound is the last of its batch, which bounds what is held of replies.
+            if entry.verb in UNBOUNDED or is_export(entry):
+                break
+        return batch
+
+    async def pump(self) -> None:
+        """Answers batch after batch, and returns when the hub is stopping, no line waits and no export runs."""
+        while True:
+            while batch := self.take():
+                await self.answer(batch)
+                await asyncio.sleep(self._linger(batch))
+            if self._is_stopping and not self._exports:
+                return
+            await self._work.wait()
+            self._work.clear()
+
+    def _linger(self, batch: list[Entry]) -> float:
+        """Seconds to wait for the next lines of the clients that were just told, so that they share the next sync.
+
+        A small part of what a sync takes; without it each of them would wait for two.
+        """
+        return min(_MOST_LINGER, self.journal.seconds * _LINGER) if len(batch) > 1 else 0
+
+    def stop(self) -> None:
+        """No more is read; `pump` answers what was read."""
+        self._is_stopping = True
+        for client in self.clients:
+            client.transport.pause_reading()
+        self._work.set()
+
+    async def answer(self, batch: list[Entry]) -> None:
+        """Has a batch answered and journaled, then tells the replies."""
+        self._refuse_without_room(batch)
+        asked = [entry for entry in batch if entry.reply is None]
+        for entry, reply in zip(asked, await self._ask([entry.line for entry in asked])):
+            entry.reply = reply
+        changes = [(entry.line, entry.reply) for entry in asked if entry.reply and is_change(entry.fields, entry.reply)]
+        if changes:
+            # Whatever ends this process up to here, nobody was told of these changes.
+            self.journal.append(changes)
+        for entry in batch:
+            self._tell(entry)
+        for client in {entry.client for entry in batch if entry.client}:
+            client.flush()
+
+    async def _ask(self, lines: list[bytes]) -> list[bytes]:
+        """The program's replies; one that dies is restored, and asked again. Nothing of these lines is in the journal yet."""
+        for _ in range(_STARTS):
+            begin = time.monotonic()
+            try:
+                replies = await self.server.ask(lines)
+            except ServerLost as lost:
+                await self._revive(lost)
+                continue
+            self._weigh(time.monotonic() - begin)
+            return replies
+        raise Fault(FAILED, f"the program died {_STARTS} times over the same lines")
+
+    def _weigh(self, seconds: float) -> None:
+        """Makes the next batches lighter or heavier, so that no flood of dear lines holds the others for long."""
+        if seconds > _LONG:
+            self._budget = max(1, self._budget // 2)
+        elif seconds < _SHORT:
+            self._budget = min(_BATCH, self._budget * 2)
+
+    async def _revive(self, lost: ServerLost, note: Callable[[list[bytes], bytes], None] | None = None) -> None:
+        """Starts the program again in the state of the journal, a handful of times where it dies again."""
+        for _ in range(_STARTS):
+            self.say(f"{lost}; {self.journal.changes} changes are restored")
+            if note:
+                self._owners.clear()
+            try:
+                await self.server.start()
+                return await self.server.restore(self.journal.records(self.journal.end), note)
+            except ServerLost as again:
+                lost = again
+        raise Fault(FAILED, f"{lost}; given up after {_STARTS} starts, nothing acknowledged is lost")
+
+    def _refuse_without_room(self, batch: list[Entry]) -> None:
+        """Where the journal cannot grow, changes are not even asked, and answered as for want of memory."""
+        changes = [entry for entry in batch if entry.reply is None and entry.verb in CHANGES]
+        if not changes:
+            return
+        is_full = not self.journal.has_room(sum(len(entry.line) + 64 for entry in changes))
+        if is_full != self._is_full:
+            self._is_full = is_full
+            self.say("the journal has no room: changes are refused" if is_full else "the journal has room again")
+        if is_full:
+            for entry in changes:
+                entry.reply = b"no 12 OutOfMemory\n"
+            asyncio.get_running_loop().call_later(_LATER, self._close_orphans)
+
+    def _tell(self, entry: Entry) -> None:
+        """What an answered entry comes to; its reply is put to those of its client."""
+        client, reply = entry.client, entry.reply or b""
+        self._note(entry.fields, reply, client)
+        if client is None:
+            return
+        client.replies.append(reply)
+        if entry.is_last:
+            client.flush()
+            client.part()
+            self._close_orphans()
+        elif is_export(entry):
+            path = os.fsdecode(entry.fields[1])
+            task = asyncio.create_task(self._answer_export(client, path, self.journal.end))
+            self._exports.add(task)
+            task.add_done_callback(self._export_done)
+
+    def _note_line(self, fields: list[bytes], reply: bytes) -> None:
+        self._note(fields, reply, None)
+
+    def _note(self, fields: list[bytes], reply: bytes, client: Client | None) -> None:
+        """Keeps who owns which session."""
+        if not is_change(fields, reply):
+            return
+        if fields[0] == b"open":
+            self._owners[fields[1], int(reply.split()[1])] = client
+        elif fields[0] == b"close":
+            del self._owners[fields[1], int(fields[2])]
+
+    # Exports.
+
+    async def _answer_export(self, client: Client, path: str, end: int) -> None:
+        """Answers an export of the committed places as they were in its turn, while others are served."""
+        client.replies.append(b"ok\n" if await self.export(path, end) else b"no 13 NotExported\n")
+        client.flush()
+        client.is_busy = False
+        self.wake(client)
+
+    def _export_done(self, task: asyncio.Task[None]) -> None:
+        self._exports.discard(task)
+        self._work.set()
+
+    def refuse_export(self, path: str) -> None:
+        """A fault where an export to the path would overwrite the journal or the design, or has no folder to go to."""
+        if os.path.exists(path) and any(os.path.samefile(path, own) for own in (self.journal.path, *self.server.paths)):
+            raise Fault(FAILED, f"{path} is the journal or a text of the design")
+        if os.path.isdir(path) or not os.access(os.path.dirname(os.path.abspath(path)), os.W_OK):
+            raise Fault(FAILED, f"{path} cannot be written")
+
+    async def export(self, path: str, end: int) -> bool:
+        """Whether the file is there, whole: a second program writes it, over the journal up to that byte."""
+        live = self.server
+        second = Server(live.program, live.paths, live.sums, export=path)
+        async with self._export_turn:
+            try:
+                self.refuse_export(path)
+                await second.start()
+                await second.restore(self.journal.records(end))
+                return await second.end() == 0
+            except (Fault, OSError, ServerLost) as fault:
+                self.say(f"export: {fault}")
+                return False
+            finally:
+                await second.kill()
+
+
+def name_of_nobody(teams: list[str]) -> bytes:
+    """The shortest name that no team has."""
+    signs = [chr(byte) for byte in range(33, 127)]
+    names = (first + second for second in ("", *signs) for first in signs)
+    return next(name for name in names if name not in teams).encode()
+
+
+def is_export(entry: Entry) -> bool:
+    """Whether the line is the operator's `export PATH`."""
+    return entry.verb == b"export" and len(entry.fields) == 2 and entry.client is not None and entry.client.team is None

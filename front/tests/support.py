@@ -1,0 +1,245 @@
+"""What the tests of the front share: a design, random lines of its teams, and hubs that run on the proved program.
+
+LEFENCE names another program to be tried, SEED another seed, and TURNS how many crashes of each kind there are.
+"""
+
+from __future__ import annotations
+
+import contextlib
+import itertools
+import os
+import random
+import socket
+import subprocess
+import sys
+import tempfile
+import threading
+import time
+import unittest
+from pathlib import Path
+
+FRONT = Path(__file__).resolve().parents[1]
+sys.path.insert(0, str(FRONT))
+
+PROGRAM = os.environ.get("LEFENCE", str(FRONT.parent / "crates/lefence/out/lefence"))
+SEED = int(os.environ.get("SEED", "1"))
+TURNS = int(os.environ.get("TURNS", "3"))
+# Seconds after which a test gives up waiting.
+PATIENCE = 60
+# Fences, sites of a fence's row, cells of a team.
+TEAMS, SITES, CELLS = 8, 40, 10
+WIDTH = SITES * 200
+
+LEF = """VERSION 5.8 ;
+SITE core CLASS CORE ; SYMMETRY Y ; SIZE 0.2 BY 2.0 ; END core
+MACRO INV CLASS CORE ; ORIGIN 0 0 ; SIZE 0.4 BY 2.0 ; SYMMETRY X Y ; SITE core ; END INV
+MACRO BUF CLASS CORE ; ORIGIN 0 0 ; SIZE 0.6 BY 2.0 ; SYMMETRY X Y ; SITE core ; END BUF
+END LIBRARY
+"""
+
+
+def design_text(sections: str = "") -> str:
+    """Fences f0.. side by side over four rows, with cells f0c0.. each, and as many outside; more sections before the last line."""
+    names = [f"f{team}" for team in range(TEAMS)] + ["g"]
+    rows = "".join(
+        f"ROW r{row} core 0 {row * 2000} {('N', 'FS')[row % 2]} DO {SITES * (TEAMS + 1)} BY 1 STEP 200 0 ;\n" for row in range(4)
+    )
+    fences = "".join(f"- f{team} ( {team * WIDTH} 0 ) ( {(team + 1) * WIDTH} 8000 ) + TYPE FENCE ;\n" for team in range(TEAMS))
+    parts = "".join(f"- {name}c{number} {'BUF' if number % 3 == 0 else 'INV'} ;\n" for name in names for number in range(CELLS))
+    groups = "".join(f"- g{team} f{team}c* + REGION f{team} ;\n" for team in range(TEAMS))
+    return (
+        f"VERSION 5.8 ;\nDESIGN t ;\nUNITS DISTANCE MICRONS 1000 ;\n{rows}REGIONS {TEAMS} ;\n{fences}END REGIONS\n"
+        f"COMPONENTS {len(names) * CELLS} ;\n{parts}END COMPONENTS\nGROUPS {TEAMS} ;\n{groups}END GROUPS\n{sections}END DESIGN\n"
+    )
+
+
+class Script:
+    """Random lines of one team: mostly sound ones, of one or two sessions."""
+
+    def __init__(self, rng: random.Random, team: int, hostile: bool = False) -> None:
+        self.rng = rng
+        self.hostile = hostile
+        self.left = team * WIDTH
+        self.team, self.letter = (f"f{team}", f"f{team}") if team < TEAMS else ("-", "g")
+
+    def line(self) -> bytes:
+        rng, cell = self.rng, f"{self.letter}c{self.rng.randrange(CELLS + 1)}"
+        session = f"{self.team} {rng.choices([0, 1, 7], [8, 2, 0.2])[0]}"
+        spot = f"{self.left + 200 * rng.randrange(-1, SITES) + (rng.random() < 0.05)} {2000 * rng.randrange(4)}"
+        verbs = {
+            f"open {self.team}": 3,
+            f"close {session}": 0.5,
+            f"sync {session}": 4,
+            f"legalize {session} {cell} {spot}": 6,
+            f"place {session} {cell} {spot} {rng.choice(['N', 'FN', 'FS', 'S', 'E'])}": 8,
+            f"find {session} {cell} {spot}": 3,
+            f"where {session} {cell}": 8,
+            f"unplace {session} {cell}": 2,
+            f"undo {session}": 2,
+            f"commit {session}": 1,
+            f"swap {session} {cell} {self.letter}c{rng.randrange(CELLS)}": 2,
+            f"tidy {session}": 0.7,
+            f"revert {session}": 0.5,
+            f"pad {session} {rng.choice([0, 0, 1, 2, 17])}": 0.7,
+            f"check {session}": 0.7,
+            f"def {session}": 0.7,
+        }
+        text = rng.choices(list(verbs), list(verbs.values()))[0].encode()
+        return self.spoilt(text) if self.hostile and rng.random() < 0.25 else text
+
+    def lines(self, count: int) -> bytes:
+        return b"".join(self.line() + b"\n" for _ in range(count))
+
+    def spoilt(self, line: bytes) -> bytes:
+        rng, at = self.rng, self.rng.randrange(len(line))
+        odd = bytes([rng.choice([byte for byte in range(256) if byte != 10])])
+        return rng.choice(
+            [
+                *(b"", b" ", b"\t", b"\r", b"\r\r", b"bye bye", b"bye\x0b", b"bye\r\r", b"\x00bye"),
+                *(b"open", b"open Z", b"export", b"export a b"),
+                *(line + b"\r", line + b"\r\r", line[:at] + b"\r" + line[at:], line.replace(b" ", b"\x0c"), line + b" ;", line[:at]),
+                b" \t" + line.replace(b" ", b"\t  ") + b" ",
+                line.ljust(4096),
+                line.ljust(4097),
+                line.ljust(4095) + b"\r",
+                line.ljust(4096) + b"\r",
+                b"x" * 9000,
+                line[:at] + odd + line[at:],
+            ]
+        )
+
+
+def spot(team: int, change: int) -> str:
+    """Where that change of a team puts its cell, when all its cells go round in turn."""
+    cell, turn = change % CELLS, change // CELLS
+    return f"{team * WIDTH + cell % 4 * 2000 + turn % 3 * 600} {cell // 4 * 2000} {('N', 'FS')[cell // 4 % 2]}"
+
+
+class Talker:
+    """A client of a socket; its replies are read line by line."""
+
+    def __init__(self, path: Path) -> None:
+        self.socket = socket.socket(socket.AF_UNIX)
+        self.socket.settimeout(PATIENCE)
+        try:
+            self.socket.connect(str(path))
+        except OSError:
+            self.socket.close()
+            raise
+        self.replies = self.socket.makefile("rb")
+
+    def ask(self, *lines: str) -> list[str]:
+        self.socket.sendall("".join(f"{line}\n" for line in lines).encode())
+        return [self.replies.readline().decode().rstrip("\n") for _ in lines]
+
+    def all_replies(self) -> bytes:
+        """Those that come before the hub ends the connection, or is gone."""
+        found = b""
+        with contextlib.suppress(ConnectionResetError):
+            while piece := self.socket.recv(1 << 16):
+                found += piece
+        return found[: found.rfind(b"\n") + 1]
+
+    def converse(self, text: bytes, *sizes: int) -> bytes:
+        """All replies to the text, sent in pieces of these sizes in turn."""
+
+        def send() -> None:
+            at, turns = 0, itertools.cycle(sizes)
+            while at < len(text):
+                at += self.socket.send(text[at : at + next(turns)])
+            self.socket.shutdown(socket.SHUT_WR)
+
+        sender = threading.Thread(target=send)
+        sender.start()
+        found = self.all_replies()
+        sender.join()
+        return found
+
+    def close(self) -> None:
+        self.replies.close()
+        self.socket.close()
+
+
+class FrontCase(unittest.TestCase):
+    """A folder with a design, and tools that run in it."""
+
+    def setUp(self) -> None:
+        self.rng = random.Random(f"{SEED} {self.id()}")
+        self.folder = Path(self.enterContext(tempfile.TemporaryDirectory(prefix="hub")))
+        self.design, self.lef, self.journal = (self.folder / name for name in ("t.def", "t.lef", "journal"))
+        self.lef.write_text(LEF)
+        self.design.write_text(design_text())
+        self.program = PROGRAM
+
+    def direct(self, text: bytes, *words: str, design: Path | None = None) -> bytes:
+        """The replies of the program itself."""
+        command = (PROGRAM, "replay", str(design or self.design), str(self.lef), *words)
+        return subprocess.run(command, input=text, stdout=subprocess.PIPE, check=True, timeout=PATIENCE).stdout
+
+    def tool(self, name: str, *words: str | Path | bytes, lines: bytes = b"") -> subprocess.CompletedProcess[bytes]:
+        """A tool that runs to its end."""
+        command = [str(FRONT / "bin" / name), *words]
+        return subprocess.run(command, input=lines, capture_output=True, timeout=PATIENCE, cwd=self.folder)
+
+
+class Hub:
+    """A running hub, whose standard error goes to a file."""
+
+    def __init__(self, folder: Path, words: list[str], log: str = "log") -> None:
+        self.log = folder / log
+        with open(self.log, "wb") as told:
+            self.process = subprocess.Popen([str(FRONT / "bin/lefence-hub"), *words], stderr=told)
+
+    def told(self) -> str:
+        return self.log.read_text()
+
+    def wait_ready(self) -> str:
+        """Its line when it is ready, or all that it said where it ended."""
+        last = time.monotonic() + PATIENCE
+        while self.process.poll() is None and time.monotonic() < last:
+            for line in self.told().splitlines():
+                if "ready" in line:
+                    return line
+            time.sleep(0.01)
+        return self.told()
+
+    def wait_for(self, text: str) -> None:
+        """Waits until the hub has said this."""
+        last = time.monotonic() + PATIENCE
+        while text not in self.told():
+            if time.monotonic() > last:
+                raise AssertionError(f"not said: {text}; but: {self.told()}")
+            time.sleep(0.01)
+
+    def kill(self) -> None:
+        self.process.kill()
+        self.process.wait()
+
+    def end(self) -> int:
+        self.process.terminate()
+        return self.process.wait(PATIENCE)
+
+    def server_pid(self) -> int:
+        """The program behind it."""
+        return int(Path(f"/proc/{self.process.pid}/task/{self.process.pid}/children").read_text().split()[0])
+
+
+class HubCase(FrontCase):
+    """A hub over the design in the folder."""
+
+    hub: Hub
+
+    def words(self, *extra: str, sockets: str = "s", journal: str = "journal", design: Path | None = None) -> list[str]:
+        places = ["--sockets", str(self.folder / sockets), "--journal", str(self.folder / journal)]
+        return [str(design or self.design), str(self.lef), "--program", self.program, *places, *extra]
+
+    def start(self, *extra: str) -> str:
+        """The hub's line when it is ready, or all that it said where it ended."""
+        self.hub = Hub(self.folder, self.words(*extra))
+        self.addCleanup(self.hub.kill)
+        return self.hub.wait_ready()
+
+    def talk(self, name: str, sockets: str = "s") -> Talker:
+        talker = Talker(self.folder / sockets / f"{name}.sock")
+        self.addCleanup(talker.close)
+        return talker

@@ -1,0 +1,268 @@
+"""The client library over a hub's sockets and over `lefence serve`: what it returns, raises and has in flight."""
+
+from __future__ import annotations
+
+import asyncio
+import contextlib
+import inspect
+import io
+import os
+import signal
+import socket
+import subprocess
+import unittest
+from collections.abc import Iterator
+from decimal import Decimal
+
+from support import CELLS, FRONT, PATIENCE, PROGRAM, HubCase
+
+import lefence
+from lefence import Legalized, Place, Report, Tidied, Violation, verbs
+from lefence.protocol import REFUSALS, VERBS
+from lefence.refusals import refusal_of
+
+
+class Verbs(HubCase):
+    """Each verb, with the field's names."""
+
+    def session(self, **options: object) -> lefence.Session:
+        connection = self.enterContext(lefence.connect(self.folder / "s/f0.sock", timeout=PATIENCE))
+        return self.enterContext(connection.session("f0", **options))
+
+    def test_each_verb_returns_what_its_reply_says(self) -> None:
+        self.start()
+        session = self.session()
+        self.assertEqual((session.number, session.first_revision, session.sync()), (0, 0, 0))
+        self.assertEqual(session.place("f0c1", 400, 0, orient="N"), 1)
+        self.assertEqual(session.where("f0c1"), Place(400, 0, "N"))
+        self.assertEqual(session.find("f0c2", x=400, y=0), Place(0, 0, "N"))
+        self.assertEqual(session.legalize("f0c2", 400, 0), Legalized(2, Place(0, 0, "N")))
+        self.assertEqual(session.swap("f0c1", "f0c2"), 3)
+        self.assertEqual(session.unplace("f0c1"), 4)
+        self.assertEqual(session.undo(), 5)
+        self.assertEqual(session.tidy(), Tidied(6, CELLS - 2))
+        self.assertEqual(session.commit(), 7)
+        self.assertEqual(session.pad(2), 8)
+        report = session.check()
+        self.assertEqual((report.cells, report.unplaced, report.is_clean), (CELLS, 0, False))
+        self.assertIn(Violation("f0c1", 8, "f0c2"), report.violations)
+        self.assertEqual(session.revert(), 9)
+        self.assertEqual(session.def_text().splitlines()[-1], b"END DESIGN")
+        self.assertEqual(session.where("f0c1"), Place(0, 0, "N"))
+
+    def test_each_refusal_is_an_exception_with_what_it_names(self) -> None:
+        self.start()
+        session = self.session()
+        session.place("f0c1", 0, 0, "N")
+        for cell, rule, other in (("f0c2", 8, "f0c1"), ("f0c3", 8, "f0c1")):
+            with self.assertRaises(lefence.Illegal) as caught:
+                session.place(cell, 200, 0, "N")
+            illegal = caught.exception
+            self.assertEqual((illegal.number, illegal.name, illegal.rule, illegal.rule_name), (7, "Illegal", rule, "Overlap"))
+            self.assertEqual((illegal.cell, illegal.other, illegal.words()), (cell, other, f"{cell} would overlap {other}"))
+        with self.assertRaises(lefence.Illegal) as caught:
+            session.place("f0c2", 100, 0, "N")
+        self.assertEqual((caught.exception.rule, caught.exception.other), (2, None))
+        with self.assertRaises(lefence.Unplaced) as unplaced:
+            session.where("f0c2")
+        self.assertEqual(unplaced.exception.cell, "f0c2")
+        for error, ask in (
+            (lefence.NoCell, lambda: session.where("f1c1")),
+            (lefence.BadRequest, lambda: session.pad(17)),
+            (lefence.BadRequest, lambda: session.find("f0c1", 1 << 40, 0)),
+            (lefence.NoTeam, lambda: session.connection.session("f1").open()),
+            (lefence.BadRequest, lambda: session.connection.export("/tmp/x")),
+        ):
+            with self.assertRaises(error):
+                ask()
+        self.assertEqual(session.undo(), 2)
+        with self.assertRaises(lefence.NothingToUndo):
+            session.undo()
+        rest = [session.connection.session("f0").open() for _ in range(7)]
+        with self.assertRaises(lefence.SessionsFull):
+            session.connection.session("f0").open()
+        rest[0].close()
+
+    def test_every_refusal_of_the_protocol_has_a_class(self) -> None:
+        for number, name in REFUSALS.items():
+            refusal = refusal_of(f"no {number} {name} 8 a b".encode())
+            self.assertIsInstance(refusal, lefence.Refusal)
+            self.assertEqual((refusal.number, refusal.name, type(refusal).__name__), (number, name, name))
+            self.assertTrue(refusal.words() and type(refusal).__doc__)
+        self.assertEqual([refusal_of(reply) for reply in (b"ok", b"", b"no", b"no x y")], [None] * 4)
+
+    def test_every_verb_of_the_protocol_is_a_method_of_all_three(self) -> None:
+        names = {"def": "def_text"}
+        for kind in (lefence.Session, lefence.Pipeline, lefence.aio.Session):
+            for verb in VERBS.keys() - {"open", "close"}:
+                method = getattr(kind, names.get(verb, verb))
+                self.assertTrue(method.__doc__)
+                taken = list(inspect.signature(method).parameters)[1:]
+                self.assertEqual(len(taken), len(VERBS[verb].fields))
+
+    def test_microns_where_asked_and_only_whole_database_units(self) -> None:
+        self.start()
+        session = self.session(microns=True)
+        session.place("f0c1", 0.4, Decimal("2"), "FS")
+        self.assertEqual(session.where("f0c1"), Place(0.4, 2.0, "FS"))
+        self.assertEqual(session.connection.ask_line(b"where f0 0 f0c1"), b"ok 400 2000 FS\n")
+        for length in (0.0001, float("nan"), float("inf"), "x"):
+            with self.assertRaises(ValueError):
+                session.place("f0c1", length, 0, "N")
+        given = self.enterContext(session.connection.session("f0", per_micron=1000))
+        self.assertEqual(given.where("f0c1"), Place(0.4, 2.0, "FS"))
+        with self.assertRaises(ValueError):
+            self.enterContext(session.connection.session("f0")).place("f0c1", 0.5, 0, "N")
+
+    def test_the_example_of_the_page_runs(self) -> None:
+        self.start()
+        page = (FRONT.parent / "docs/FRONT.md").read_text()
+        code = page.partition("```python\n")[2].partition("```")[0].replace("/run/lefence/A.sock", str(self.folder / "s/f0.sock"))
+        names: dict[str, object] = {"moves": [("f0c2", 200, 0), ("f0c2", 1200, 0)]}
+        with contextlib.redirect_stdout(io.StringIO()) as told:
+            exec(code.replace('"A"', '"f0"').replace('"u', '"f0c'), names)
+        self.assertEqual(told.getvalue(), "Overlap f0c1\nPlace(x=1400, y=0, orient='N')\n()\n")
+        self.assertEqual([str(each) for each in names["refused"]], ["7 Illegal: f0c2 would overlap f0c1"])
+
+    def test_no_name_smuggles_another_line_in(self) -> None:
+        self.start()
+        session = self.session()
+        for name in ("", "a b", "a\nbye", "\x00", "é", "a\r"):
+            with self.assertRaises(ValueError):
+                session.where(name)
+        with self.assertRaises(ValueError):
+            session.connection.ask_line(b"a\nb")
+        self.assertEqual(session.sync(), 0)
+
+    def test_stale_is_retried_where_the_caller_says_so(self) -> None:
+        self.start()
+        first, again = self.session(), self.session(retries=2)
+        first.place("f0c1", 0, 0, "N")
+        self.assertEqual(again.place("f0c2", 2000, 0, "N"), 2)
+        with self.assertRaises(lefence.Stale) as caught:
+            first.place("f0c1", 400, 0, "N")
+        self.assertEqual((caught.exception.revision, first.sync(), first.place("f0c1", 400, 0, "N")), (2, 2, 3))
+
+
+class Flights(HubCase):
+    """Many lines in flight."""
+
+    def test_a_pipeline_gives_each_reply_to_its_own_request(self) -> None:
+        self.start()
+        with lefence.connect(self.folder / "s/f0.sock") as connection, connection.session("f0") as session:
+            with session.pipeline(raises=False) as pipeline:
+                flying = [pipeline.place("f0c1", 200 * at, 0, "N") for at in range(60)]
+                # A plain request in between has its own reply.
+                self.assertEqual(session.where("f0c2") if flying[0].result() > 1 else flying[1].result(), 2)
+                texts = [pipeline.def_text() for _ in range(40)]
+            last = [at for at, each in enumerate(flying) if each.refusal is None][-1]
+            self.assertEqual((flying[last].result(), session.where("f0c1").x), (last + 1, 200 * last))
+            self.assertIsInstance(flying[-1].refusal, lefence.Illegal)
+            self.assertTrue(all(text.result().endswith(b"END DESIGN\n") for text in texts))
+
+    def test_a_pipeline_raises_the_first_refusal_that_nobody_was_told(self) -> None:
+        self.start()
+        with lefence.connect(self.folder / "s/f0.sock") as connection, connection.session("f0") as session:
+            with self.assertRaises(lefence.NoCell), session.pipeline() as pipeline:
+                self.assertIsInstance(pipeline.where("f0c1").refusal, lefence.Unplaced)
+                pipeline.where("nobody")
+                pipeline.undo()
+            with self.assertRaises(ZeroDivisionError), session.pipeline() as pipeline:
+                pipeline.where("nobody")
+                raise ZeroDivisionError
+            self.assertEqual(session.sync(), 0)
+
+    def test_neither_end_waits_for_the_other(self) -> None:
+        self.start()
+        with lefence.connect(self.folder / "s/f0.sock") as connection, connection.session("f0") as session:
+            with session.pipeline() as pipeline:
+                flying = [pipeline.check() for _ in range(3000)]
+            self.assertEqual(flying[-1].result(), Report(CELLS, CELLS, ()))
+
+    def test_asyncio_has_what_runs_at_once_in_flight(self) -> None:
+        self.start()
+
+        async def work() -> None:
+            async with await lefence.aio.connect(self.folder / "s/f0.sock") as connection:
+                async with connection.session("f0", microns=True) as session:
+                    places = [session.place("f0c1", at / 5, 0, "N") for at in range(30)]
+                    self.assertEqual(await asyncio.gather(*places), list(range(1, 31)))
+                    texts = await asyncio.gather(*(session.def_text() for _ in range(30)))
+                    self.assertTrue(all(text == texts[0] and text.endswith(b"END DESIGN\n") for text in texts))
+                    with self.assertRaises(lefence.Unplaced):
+                        await session.where("f0c2")
+                    async with connection.session("f0", retries=1) as other:
+                        self.assertEqual((await session.unplace("f0c1"), await other.tidy()), (31, Tidied(32, CELLS)))
+                self.assertEqual(await connection.ask_line(b"sync f0 0"), b"no 3 NoSession\n")
+
+        asyncio.run(work())
+
+    def test_a_connection_that_is_lost_is_told(self) -> None:
+        self.start()
+
+        async def wait() -> None:
+            connection = await lefence.aio.connect(self.folder / "s/f0.sock")
+            session = await connection.session("f0").__aenter__()
+            self.hub.kill()
+            with self.assertRaises(lefence.ConnectionLost):
+                await session.sync()
+            with self.assertRaises(lefence.ConnectionLost):
+                await session.sync()
+
+        with lefence.connect(self.folder / "s/f1.sock") as connection:
+            with self.assertRaises(lefence.ConnectionLost), connection.session("f1") as session:
+                asyncio.run(wait())
+                session.sync()
+        with self.assertRaises(OSError):
+            lefence.connect(self.folder / "s/f1.sock")
+
+    def test_a_reply_that_takes_too_long_is_told(self) -> None:
+        self.start()
+        connection = self.enterContext(lefence.connect(self.folder / "s/f1.sock", timeout=0.2))
+        os.kill(self.hub.process.pid, signal.SIGSTOP)
+        with self.assertRaises(TimeoutError):
+            connection.ask_line(b"open f1")
+        os.kill(self.hub.process.pid, signal.SIGCONT)
+
+
+class Others(HubCase):
+    """Over `lefence serve`, and against ends that are no lefence."""
+
+    @contextlib.contextmanager
+    def service(self) -> Iterator[int]:
+        with socket.socket() as free:
+            free.bind(("127.0.0.1", 0))
+            port = free.getsockname()[1]
+        words = [PROGRAM, "serve", str(self.design), str(self.lef), "--port", str(port), "--connections", "2"]
+        with subprocess.Popen(words, stdout=subprocess.PIPE) as process:
+            process.stdout.readline()
+            yield port
+            process.kill()
+
+    def test_the_program_itself_is_served_over_tcp(self) -> None:
+        with self.service() as port:
+            with lefence.connect("127.0.0.1", port) as connection, connection.session("f0") as session:
+                self.assertEqual(session.place("f0c1", 0, 0, "N"), 1)
+                connection.ask(verbs.close_session(session.scope))
+                with self.assertRaises(lefence.NoSession):
+                    session.sync()
+                session.open()
+
+            async def work() -> Place:
+                async with await lefence.aio.connect("127.0.0.1", port) as connection:
+                    async with connection.session("f0") as session:
+                        return await session.where("f0c1")
+
+            self.assertEqual(asyncio.run(work()), Place(0, 0, "N"))
+
+    def test_an_end_that_talks_otherwise_is_told(self) -> None:
+        for reply in (b"hello\n", b"ok\n", b"ok x y\n", b"\xff\xfe\n", b"no\n"):
+            near, far = socket.socketpair()
+            with far, lefence.Connection(near, timeout=5) as connection:
+                far.sendall(reply)
+                with self.assertRaises(lefence.ProtocolError):
+                    connection.session("A").open()
+
+
+if __name__ == "__main__":
+    unittest.main()

@@ -1,0 +1,173 @@
+"""Nothing acknowledged is lost, whatever is killed at whatever moment. TURNS says how many crashes of each kind there are."""
+
+from __future__ import annotations
+
+import contextlib
+import os
+import signal
+import socket
+import sys
+import time
+import unittest
+from collections.abc import Callable
+from pathlib import Path
+
+from support import CELLS, PATIENCE, PROGRAM, TURNS, Hub, HubCase, Talker, spot
+
+# Changes that each of four teams has in flight at a crash.
+MANY = 2000
+
+
+class Crashes(HubCase):
+    def changes(self, team: int, revision: int) -> Talker:
+        """A client that has asked for many changes, and been told of none."""
+        talker = self.talk(f"f{team}")
+        head = f"place f{team} {talker.ask(f'open f{team}')[0].split()[1]} f{team}c"
+        lines = [f"{head}{at % CELLS} {spot(team, at)}\n" for at in range(revision, revision + MANY)]
+        talker.socket.sendall("".join(lines).encode())
+        return talker
+
+    def check_team(self, team: int, revision: int) -> None:
+        """What a team is told of its places is what so many changes come to."""
+        watch = self.talk(f"f{team}")
+        _, session, found = watch.ask(f"open f{team}")[0].split()
+        self.assertEqual(int(found), revision)
+        for cell in range(CELLS):
+            newest = revision - 1 - (revision - 1 - cell) % CELLS
+            reply = f"ok {spot(team, newest)}" if newest >= 0 else f"no 6 Unplaced f{team}c{cell}"
+            self.assertEqual(watch.ask(f"where f{team} {session} f{team}c{cell}"), [reply])
+        watch.ask("bye")
+
+    def revision(self, team: int) -> int:
+        watch = self.talk(f"f{team}")
+        revision = int(watch.ask(f"open f{team}")[0].split()[2])
+        watch.ask("bye")
+        return revision
+
+    def under_load(self, strike: Callable[[], None], keeps_clients: bool = False) -> None:
+        """Strikes while four teams change; after each, what each was told stands, and at most what it asked for."""
+        self.start()
+        revisions, told, kept, cut = [0] * 4, 0, 0, set()
+        for turn in range(TURNS):
+            talkers = [self.changes(team, revision) for team, revision in enumerate(revisions)]
+            time.sleep(self.rng.uniform(0, 0.04))
+            strike()
+            for team, talker in enumerate(talkers):
+                if keeps_clients:
+                    talker.socket.shutdown(socket.SHUT_WR)
+                replies, begun = talker.all_replies(), revisions[team]
+                acknowledged = begun + replies.count(b"\n")
+                self.assertEqual(replies, b"".join(b"ok %d\n" % (number + 1) for number in range(begun, acknowledged)))
+                revisions[team] = self.revision(team)
+                self.assertTrue((begun + MANY if keeps_clients else acknowledged) <= revisions[team] <= begun + MANY)
+                self.check_team(team, revisions[team])
+                told, kept = told + acknowledged - begun, kept + revisions[team] - acknowledged
+                cut |= {turn} if acknowledged < begun + MANY else set()
+        print(f"\n  {TURNS} crashes, {len(cut)} amid changes: {told} acknowledged, 0 lost, {kept} more kept", file=sys.stderr)
+
+    def start_anew(self) -> None:
+        while self.rng.random() < 0.3:
+            # And once more, on the way up.
+            again = Hub(self.folder, self.words())
+            time.sleep(self.rng.uniform(0, 0.4))
+            again.kill()
+        self.assertIn("ready", self.start())
+
+    def kill_9_of_hub(self) -> None:
+        server = self.hub.server_pid()
+        self.hub.kill()
+        last = time.monotonic() + PATIENCE
+        while Path(f"/proc/{server}/cmdline").exists() and Path(f"/proc/{server}/cmdline").read_bytes():
+            self.assertLess(time.monotonic(), last, "the program outlives the hub")
+            time.sleep(0.01)
+        self.start_anew()
+
+    def kill_9_of_server(self) -> None:
+        os.kill(self.hub.server_pid(), signal.SIGKILL)
+
+    def kill_9_of_both(self) -> None:
+        for pid in self.rng.sample([self.hub.server_pid(), self.hub.process.pid], 2):
+            with contextlib.suppress(ProcessLookupError):
+                # The program goes with the hub.
+                os.kill(pid, signal.SIGKILL)
+            time.sleep(self.rng.choice([0, 0.001, 0.03]))
+        self.hub.process.wait()
+        self.start_anew()
+
+    def test_kill_9_of_the_hub(self) -> None:
+        self.under_load(self.kill_9_of_hub)
+
+    def test_kill_9_of_both(self) -> None:
+        self.under_load(self.kill_9_of_both)
+
+    def test_kill_9_of_the_program_is_not_noticed(self) -> None:
+        self.under_load(self.kill_9_of_server, keeps_clients=True)
+        idle = self.talk("f7")
+        self.assertEqual(idle.ask("open f7"), ["ok 0 0"])
+        self.kill_9_of_server()
+        self.assertEqual((idle.ask("sync f7 0"), self.hub.end()), (["ok 0"], 0))
+
+    def test_undo_and_padding_are_there_after_a_crash(self) -> None:
+        self.start()
+        self.talk("f0").ask("open f0", "place f0 0 f0c1 0 0 N", "pad f0 0 2", "place f0 0 f0c2 800 0 N")
+        self.hub.kill()
+        self.start()
+        talker = self.talk("f0")
+        lines = ["open f0", "place f0 0 f0c4 1400 0 N", "place f0 0 f0c4 1600 0 N"]
+        self.assertEqual(talker.ask(*lines), ["ok 0 3", "no 7 Illegal 8 f0c4 f0c2", "ok 4"])
+        lines = ["undo f0 0", "undo f0 0", "where f0 0 f0c2", "undo f0 0", "undo f0 0"]
+        self.assertEqual(talker.ask(*lines), ["ok 5", "ok 6", "no 6 Unplaced f0c2", "ok 7", "no 9 NothingToUndo"])
+
+
+class Programs(HubCase):
+    """A program that dies by itself."""
+
+    def wrap(self, script: str) -> None:
+        """Puts a script before the program, which counts its starts in a file."""
+        wrapper = self.folder / "wrapper"
+        count = f"echo x >> '{self.folder}/starts'\nstarts=$(wc -l < '{self.folder}/starts')"
+        wrapper.write_text(f"#!/bin/sh\n{count}\n{script}\nexec '{PROGRAM}' \"$@\"\n")
+        wrapper.chmod(0o755)
+        self.program = str(wrapper)
+
+    def test_one_that_dies_again_while_it_is_restored_is_started_again(self) -> None:
+        self.wrap('[ "$starts" -eq 1 ] || [ "$starts" -gt 4 ] || kill -9 $$')
+        self.start()
+        talker = self.talk("f0")
+        self.assertEqual(talker.ask("open f0", "place f0 0 f0c1 0 0 N"), ["ok 0 0", "ok 1"])
+        os.kill(self.hub.server_pid(), signal.SIGKILL)
+        self.assertEqual(talker.ask("where f0 0 f0c1", "place f0 0 f0c1 200 0 N"), ["ok 0 0 N", "ok 2"])
+        self.assertEqual((self.hub.end(), (self.folder / "starts").read_text().count("x")), (0, 5))
+
+    def test_one_that_always_dies_ends_the_hub_and_nothing_is_lost(self) -> None:
+        self.wrap('[ "$starts" -eq 1 ] || kill -9 $$')
+        self.start()
+        talker = self.talk("f0")
+        self.assertEqual(talker.ask("open f0", "place f0 0 f0c1 0 0 N"), ["ok 0 0", "ok 1"])
+        os.kill(self.hub.server_pid(), signal.SIGKILL)
+        self.assertEqual((talker.ask("where f0 0 f0c1"), self.hub.process.wait(PATIENCE)), ([""], 3))
+        self.assertIn("given up", self.hub.told())
+        self.program = PROGRAM
+        self.start()
+        self.assertEqual(self.talk("f0").ask("open f0", "where f0 0 f0c1"), ["ok 0 1", "ok 0 0 N"])
+
+    def test_one_that_has_answered_its_last_line_is_restored(self) -> None:
+        self.wrap('for word; do shift; [ "$word" != 4294967295 ] || word=1500; set -- "$@" "$word"; done')
+        self.start()
+        talker = self.talk("f0")
+        self.assertEqual(talker.ask("open f0", "place f0 0 f0c1 0 0 N"), ["ok 0 0", "ok 1"])
+        text = b"where f0 0 f0c1\n" * 5000
+        self.assertEqual(talker.converse(text, 20000), b"ok 0 0 N\n" * 5000)
+        self.assertIn("2 changes are restored", self.hub.told())
+
+    def test_a_signal_while_it_is_restored_ends_the_hub(self) -> None:
+        self.wrap("sleep 20")
+        hub = Hub(self.folder, self.words())
+        self.addCleanup(hub.kill)
+        while not (self.folder / "starts").exists():
+            time.sleep(0.01)
+        self.assertEqual(hub.end(), 0)
+
+
+if __name__ == "__main__":
+    unittest.main()

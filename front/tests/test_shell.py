@@ -1,0 +1,151 @@
+"""The shell: words for replies, tables for reports, completion, and all three kinds of ends."""
+
+from __future__ import annotations
+
+import os
+import pty
+import select
+import socket
+import subprocess
+import time
+import unittest
+
+from support import FRONT, PATIENCE, PROGRAM, TEAMS, HubCase
+
+from lefence.endpoint import start_program
+from lefence.protocol import RULES
+from lefence.refusals import broken_in_words
+from lefence.shell import OWN, Shell
+
+
+class Words(HubCase):
+    """A session whose lines come over a pipe."""
+
+    def say(self, *lines: str | bytes, words: tuple[str, ...] = ()) -> list[str]:
+        text = b"".join((line if isinstance(line, bytes) else line.encode()) + b"\n" for line in lines)
+        where = words or (str(self.design), str(self.lef), "--program", PROGRAM)
+        done = self.tool("lefence-shell", *where, lines=text)
+        self.assertEqual((done.returncode, done.stderr), (0, b""))
+        return done.stdout.decode("utf-8", "backslashreplace").splitlines()
+
+    def test_replies_are_told_in_words(self) -> None:
+        lines = {
+            "place f0c1 0 0 N": "no: name a team first: `team NAME`",
+            "teams": " ".join([f"f{team}" for team in range(TEAMS)] + ["-"]),
+            "team f0": "session 0 of team f0, revision 0",
+            "place f0c1 0 0 N ": "done; revision 1",
+            "place f0c2 200 0 N": "no: f0c2 would overlap f0c1",
+            "place f1c1 0 0 N": "no: the team has no such cell",
+            "place f0c2 100 0 N": "no: f0c2 would stand on no core row, off its x grid or beyond its ends",
+            "where f0c1": "f0c1 stands at (0, 0), N",
+            "where f0c2": "no: f0c2 has no place",
+            "find f0c2 0 0": "f0c2 would best stand at (400, 0), N",
+            "legalize f0c2 400 0": "f0c2 now stands at (400, 0), N; revision 2",
+            "tidy": "8 cells moved; revision 3",
+            "sync": "synced; revision 3",
+            "undo": "done; revision 4",
+            "team Z": "no: there is no such team here",
+            "place f0c1 1.5 0 N": "no: 1.5 is no whole number of database units",
+            "place f0c1": "no: place takes CELL X Y O",
+            "raw open f0": "ok 1 4",
+            "raw nonsense": "no 1 BadRequest",
+            "export /tmp/x": "no: that is no request",
+            "frobnicate": "no such command: frobnicate; `help` lists them",
+            "close": "done",
+            "team f0 ": "session 0 of team f0, revision 4",
+        }
+        self.assertEqual(self.say(*lines), list(lines.values()))
+
+    def test_a_report_is_a_table(self) -> None:
+        said = self.say("team f0", "place f0c1 0 0 N", "place f0c2 400 0 N", "pad 1", "check")
+        head = ["10 cells, 8 without a place, 2 break a rule", "cell  rule  what"]
+        self.assertEqual(said[-4:], [*head, "f0c1     8  f0c1 overlaps f0c2", "f0c2     8  f0c2 overlaps f0c1"])
+        for rule in RULES:
+            self.assertTrue(broken_in_words(rule, "a", "b").startswith("a "))
+
+    def test_help_tells_each_verb(self) -> None:
+        said = self.say("help", "help place", "help nonsense")
+        place = ["place CELL X Y O", "  sets the cell's place, if the place breaks no rule"]
+        self.assertEqual(said[-3:], [*place, "no such command: nonsense"])
+        self.assertTrue(all(any(line.startswith(word) for line in said) for word in OWN))
+
+    def test_any_bytes_are_answered(self) -> None:
+        lines = [b"\xff\xfe", b"team f0", b"place \xff 0 0 N", b"\x00", b"raw \xff\x01", b"x" * 9000, b"help \xff", b"def", b"\r"]
+        said = self.say(*lines, b"quit", b"never")
+        self.assertEqual(len([line for line in said if line.startswith("no")]), 6)
+        self.assertIn("END DESIGN", said)
+
+    def test_a_hub_and_a_service_are_ends_too(self) -> None:
+        self.start()
+        sockets = self.folder / "s"
+        said = self.say("place f0c1 0 0 N", words=(str(sockets / "f0.sock"),))
+        self.assertEqual(said, ["session 0 of team f0, revision 0", "done; revision 1"])
+        target = self.folder / "new.def"
+        said = self.say("teams", "tidy", f"export {target}", words=(str(sockets / "operator.sock"), "--team", "f1"))
+        self.assertEqual(said[0], "session 0 of team f1, revision 0")
+        self.assertEqual(said[2:], ["10 cells moved; revision 1", "written"])
+        self.assertEqual(sorted(said[1].split()), sorted([f"f{team}" for team in range(TEAMS)] + ["-"]))
+        with socket.socket() as free:
+            free.bind(("127.0.0.1", 0))
+            port = free.getsockname()[1]
+        words = [PROGRAM, "serve", str(self.design), str(self.lef), "--port", str(port), "--connections", "1"]
+        with subprocess.Popen(words, stdout=subprocess.PIPE) as service:
+            service.stdout.readline()
+            self.assertEqual(self.say("team f0", "tidy", words=(f"127.0.0.1:{port}",))[1:], ["10 cells moved; revision 1"])
+
+    def test_an_end_that_is_not_there_is_told(self) -> None:
+        for where in ("nowhere.sock", "127.0.0.1:1", "a" * 300, "x:99999"):
+            done = self.tool("lefence-shell", where)
+            self.assertEqual((done.returncode, done.stdout), (3, b""), done.stderr)
+            self.assertNotIn(b"Traceback", done.stderr)
+        done = self.tool("lefence-shell", self.design, self.lef, "--program", PROGRAM, "--team", "Z")
+        self.assertEqual((done.returncode, done.stdout), (1, b"no: there is no such team here\n"))
+        self.lef.write_text("")
+        done = self.tool("lefence-shell", self.design, self.lef, "--program", PROGRAM)
+        self.assertEqual((done.returncode, b"8 NoSite" in done.stderr), (1, True), done.stderr)
+
+
+class Completion(HubCase):
+    def test_verbs_teams_cells_and_orientations_are_completed(self) -> None:
+        endpoint = start_program(PROGRAM, [self.design, self.lef])
+        self.addCleanup(endpoint.close)
+        shell = Shell(endpoint)
+        shell.stdout = open(os.devnull, "w")
+        self.addCleanup(shell.stdout.close)
+
+        def completed(line: str) -> list[str]:
+            text = line[line.rfind(" ") + 1 :]
+            begin = len(line) - len(text)
+            return shell.completedefault(text, line, begin, len(line)) if begin else shell.completenames(text)
+
+        self.assertEqual(completed("un"), ["unplace", "undo"])
+        self.assertEqual(completed("team f"), [f"f{team}" for team in range(TEAMS)])
+        self.assertEqual(completed("place f0c"), [])
+        shell.onecmd("team f0")
+        self.assertEqual(completed("place f0c"), [f"f0c{number}" for number in range(10)])
+        self.assertEqual(completed("swap f0c1 f0c3"), ["f0c3"])
+        self.assertEqual(completed("place f0c1 0 0 F"), ["FN", "FW", "FS", "FE"])
+        self.assertEqual([completed("place f0c1 "), completed("tidy x"), completed("place f1")], [[]] * 3)
+
+    def test_a_terminal_has_completion_and_history(self) -> None:
+        pid, terminal = pty.fork()
+        if pid == 0:
+            os.environ["XDG_STATE_HOME"] = str(self.folder)
+            os.environ["TERM"] = "dumb"
+            os.execv(str(FRONT / "bin/lefence-shell"), ["lefence-shell", str(self.design), str(self.lef), "--program", PROGRAM])
+        seen = b""
+        for text, due in ((b"", b"lefence> "), (b"team f0\n", b"f0> "), (b"pla\tf0c1 0 0 N\n", b"revision 1"), (b"quit\n", b"")):
+            os.write(terminal, text)
+            last = time.monotonic() + PATIENCE
+            while due not in seen and time.monotonic() < last:
+                if select.select([terminal], [], [], 0.5)[0]:
+                    seen += os.read(terminal, 4096)
+            self.assertIn(due, seen)
+            seen = b""
+        self.assertEqual(os.waitpid(pid, 0)[1], 0)
+        os.close(terminal)
+        self.assertEqual((self.folder / "lefence-shell-history").read_text().splitlines()[:2], ["team f0", "place f0c1 0 0 N"])
+
+
+if __name__ == "__main__":
+    unittest.main()

@@ -1,0 +1,205 @@
+"""Slices and pushes: work on one team's part of a design is answered as on the whole, and is sent there later."""
+
+from __future__ import annotations
+
+import unittest
+from collections.abc import Iterable
+from concurrent.futures import ThreadPoolExecutor
+from pathlib import Path
+from unittest import mock
+
+from support import TEAMS, Hub, HubCase, Script, design_text
+
+import lefence
+from lefence.design import Design
+from lefence.journal import Journal
+from lefence.slice import slice_of
+
+# What a design of a flow holds beside the small one: sections that a slice drops, comments, quotes, FIXED and COVER components.
+SECTIONS = """PINS 1 ;
+- p + NET n + DIRECTION INPUT ;
+END PINS
+BLOCKAGES 2 ;
+- PLACEMENT RECT ( 1000 0 ) ( 1400 2000 ) ;
+- PLACEMENT + SOFT RECT ( 9000 0 ) ( 9400 2000 ) ;
+END BLOCKAGES
+# END DESIGN; COMPONENTS 9 ;
+COMPONENTS 4 ;
+- f2fixed BUF + FIXED ( 17000 0 ) N ;
+- gcover INV + COVER ( 0 0 ) N ; - f1"x INV + PROPERTY p "; - f3 INV ; END COMPONENTS" ;
+- late\\* INV # a comment ; with a semicolon
+;
+END COMPONENTS
+GROUPS 2 ;
+- more late\\* f1"x + REGION f1 ;
+- none gc1 ;
+END GROUPS
+NETS 1 ;
+- n ( f1c1 A ) ( f2c2 B ) + PROPERTY p "END NETS" ;
+END NETS
+BEGINEXT "tool"
+- anything ; END DESIGN
+ENDEXT
+"""
+
+
+def rich_text() -> str:
+    return design_text(SECTIONS).replace("COMPONENTS 90 ;", "COMPONENTS 90 ; # the movable ones\n")
+
+
+def made_journal(path: Path, like: Path, records: Iterable[tuple[bytes, bytes]]) -> Path:
+    """A journal with these records, of the design of another one."""
+    sums = [word.decode() for word in like.read_bytes().split()[4:7:2]]
+    journal = Journal(path, sums, mock.Mock())
+    journal.append(list(records))
+    journal.close()
+    return path
+
+
+class Slices(HubCase):
+    """On its slice a team is answered byte for byte as on the whole design."""
+
+    def setUp(self) -> None:
+        super().setUp()
+        self.design.write_text(rich_text())
+
+    def slice(self, team: str) -> Path:
+        target = self.folder / f"{team}.def"
+        done = self.tool("lefence-slice", self.design, "--team", team, "--output", target)
+        self.assertEqual((done.returncode, done.stdout), (0, b""), done.stderr)
+        return target
+
+    def test_a_slice_has_the_frame_and_the_teams_cells_alone(self) -> None:
+        text = slice_of(self.design.read_bytes(), "f1")
+        design = Design(text)
+        self.assertEqual(design.fences, [f"f{team}".encode() for team in range(TEAMS)])
+        self.assertEqual(design.cells_of(b"f1"), [*(b"f1c%d" % number for number in range(10)), b'f1"x', b"late\\*"])
+        self.assertEqual([design.cells_of(team) for team in (b"f0", b"f2", b"-")], [[]] * 3)
+        fixed = [each.name for each in design.entries(b"COMPONENTS") if design.team_of(each) is None]
+        self.assertEqual(fixed, [b"f2fixed", b"gcover"])
+        self.assertEqual([each.name for each in design.entries(b"GROUPS")], [b"g1", b"more"])
+        for kept in (b"ROW r3 ", b"- f7 (", b"- PLACEMENT + SOFT RECT ( 9000 0 ) ( 9400 2000 ) ;"):
+            self.assertIn(kept, text)
+        for dropped in (b"NETS", b"PINS", b"BEGINEXT", b"gc1"):
+            self.assertNotIn(dropped, text)
+        self.assertEqual(slice_of(text, "f1"), text)
+
+    def test_commands_are_answered_as_on_the_whole_design(self) -> None:
+        for team in (0, 1, 2, TEAMS):
+            name = f"f{team}" if team < TEAMS else "-"
+            text = f"open {name}\n".encode() + Script(self.rng, team).lines(800) + f"open {name}\ndef {name} 0\n".encode()
+            self.assertEqual(self.direct(text, design=self.slice(name)), self.direct(text))
+
+    def test_a_busy_whole_answers_a_team_as_its_slice_does(self) -> None:
+        sliced = self.slice("f2")
+        self.start()
+        texts = {team: b"open f%d\n" % team + Script(self.rng, team).lines(1000) for team in (0, 1, 2)}
+        talkers = [self.talk(f"f{team}") for team in texts]
+        with ThreadPoolExecutor() as pool:
+            found = list(pool.map(lambda talker, text: talker.converse(text, 1000), talkers, texts.values()))
+        self.assertEqual(found[2], self.direct(texts[2], design=sliced))
+
+    def test_what_is_no_team_is_refused(self) -> None:
+        for team in ("Z", "\udcff", ""):
+            done = self.tool("lefence-slice", self.design, "--team", team)
+            self.assertEqual((done.returncode, done.stdout), (1, b""))
+            self.assertIn(b"no team", done.stderr)
+        done = self.tool("lefence-slice", self.design, "--team", "f1")
+        self.assertEqual((done.returncode, done.stdout), (0, slice_of(self.design.read_bytes(), "f1")))
+
+    def test_the_design_itself_is_not_overwritten(self) -> None:
+        before = self.design.read_bytes()
+        self.assertEqual(self.tool("lefence-slice", self.design, "--team", "f1", "--output", self.design).returncode, 2)
+        self.assertEqual(self.design.read_bytes(), before)
+
+    def test_any_bytes_are_cut_without_a_traceback(self) -> None:
+        whole = self.design.read_bytes()
+        texts = [b"", b'"', b"#", b"COMPONENTS", b"REGIONS 1 ; - - ; END REGIONS", b"GROUPS x - + REGION ; END GROUPS"]
+        texts.append(bytes(range(256)) * 9)
+        texts += [whole[: self.rng.randrange(len(whole))] for _ in range(100)]
+        for text in texts:
+            self.assertTrue(slice_of(text, "-").endswith(b"\n"))
+
+
+class Pushes(HubCase):
+    """A journal of a slice is sent to the whole."""
+
+    def setUp(self) -> None:
+        super().setUp()
+        self.design.write_text(rich_text())
+        self.start()
+
+    def work_away(self, team: int, count: int = 80) -> Path:
+        """Random work on a hub of a team's slice; its journal, to which a second call adds."""
+        name = f"f{team}"
+        sliced = self.folder / f"{name}.def"
+        sliced.write_bytes(slice_of(self.design.read_bytes(), name))
+        words = self.words(sockets=f"s{name}", journal=f"j{name}", design=sliced)
+        hub = Hub(self.folder, words, log=f"log{name}")
+        self.addCleanup(hub.kill)
+        self.assertIn("ready", hub.wait_ready())
+        text = f"open {name}\n".encode() + Script(self.rng, team).lines(count)
+        text += f"open {name}\nsync {name} 0\ntidy {name} 0\npad {name} 0 0\ntidy {name} 0\ncommit {name} 0\n".encode()
+        self.talk(name, f"s{name}").converse(text, 5000)
+        self.assertEqual(hub.end(), 0)
+        return self.folder / f"j{name}"
+
+    def push(self, journal: Path, socket: str, *options: str) -> tuple[int, str]:
+        done = self.tool("lefence-push", journal, self.folder / "s" / f"{socket}.sock", *options)
+        return done.returncode, done.stderr.decode()
+
+    def texts(self, team: str, sockets: str) -> bytes:
+        with lefence.connect(self.folder / sockets / f"{team}.sock") as connection, connection.session(team) as session:
+            return session.def_text()
+
+    def test_what_was_done_on_slices_is_done_on_the_whole(self) -> None:
+        journals = [self.work_away(team) for team in (0, 1, 2)]
+        for team, journal in enumerate(journals):
+            status, said = self.push(journal, f"f{team}" if team else "operator")
+            self.assertEqual(status, 0, said)
+            again = self.push(journal, f"f{team}", "--continue")
+            self.assertEqual(again[0], 0, again)
+        target = self.folder / "new.def"
+        self.assertEqual(self.talk("operator").ask(f"export {target}"), ["ok"])
+        exported = Design(target.read_bytes())
+        moved = [each.name for each in exported.entries(b"COMPONENTS") if each.has(b"PLACED")]
+        self.assertEqual(set(moved), {cell for team in (b"f0", b"f1", b"f2") for cell in exported.cells_of(team)})
+
+    def test_a_push_goes_on_where_the_last_one_ended(self) -> None:
+        for options in ((), ("--continue",), ("--continue", "--ahead", "50")):
+            status, said = self.push(self.work_away(1, 60), "f1", *options)
+            self.assertEqual(status, 0, said)
+        with lefence.connect(self.folder / "s/f1.sock") as connection, connection.session("f1") as session:
+            session.undo()
+        status, said = self.push(self.folder / "jf1", "f1", "--continue")
+        self.assertEqual(status, 1)
+        self.assertIn("none of this journal", said)
+
+    def test_where_somebody_else_wrote_the_first_difference_is_told_and_nothing_more_is_sent(self) -> None:
+        journal = self.work_away(0)
+        with lefence.connect(self.folder / "s/f0.sock") as connection, connection.session("f0") as session:
+            session.place("f0c1", 0, 2000, "FS")
+            before = session.def_text()
+        status, said = self.push(journal, "f0")
+        self.assertEqual(status, 1)
+        self.assertIn("team f0 at revision 0, line 1 of the journal: 'open f0' was answered 'ok 0 0', and there 'ok 0 1'", said)
+        self.assertEqual(self.texts("f0", "s"), before)
+
+    def test_a_difference_in_the_middle_leaves_the_team_where_it_is_told(self) -> None:
+        journal = self.work_away(0, 100)
+        lines = [b"open f1", b"place f1 0 f1c1 8200 0 N", b"place f1 0 f1c2 8200 0 N", b"place f1 0 f1c3 12000 0 N"]
+        made = made_journal(self.folder / "made", journal, zip(lines, [b"ok 0 0\n", b"ok 1\n", b"ok 2\n", b"ok 3\n"]))
+        status, said = self.push(made, "f1")
+        self.assertEqual(status, 1)
+        self.assertIn("at revision 1, line 3 of the journal: 'place f1 0 f1c2 8200 0 N' was answered 'ok 2', and there 'no 7", said)
+        self.assertEqual(self.talk("f1").ask("open f1"), ["ok 0 1"])
+
+    def test_what_cannot_be_pushed_is_told(self) -> None:
+        self.assertEqual(self.push(self.folder / "none", "f0")[0], 3)
+        self.assertEqual(self.push(self.design, "f0")[0], 1)
+        self.assertEqual(self.push(self.work_away(0, 10), "nobody")[0], 3)
+        self.assertEqual(self.push(self.folder / "jf0", "f1")[0], 1)
+
+
+if __name__ == "__main__":
+    unittest.main()

@@ -1,0 +1,74 @@
+"""What all tools share: help with an example, statuses, and no traceback whatever the words are."""
+
+from __future__ import annotations
+
+import subprocess
+import sys
+import tomllib
+import unittest
+
+from support import FRONT, PROGRAM, FrontCase
+
+from backend import build_wheel
+
+TOOLS = ("lefence-hub", "lefence-slice", "lefence-push", "lefence-shell")
+
+
+class Tools(FrontCase):
+    def test_each_has_help_with_an_example(self) -> None:
+        for name in TOOLS:
+            done = self.tool(name, "--help")
+            self.assertEqual((done.returncode, done.stderr), (0, b""))
+            self.assertIn(f"example:\n  {name} ", done.stdout.decode())
+
+    def test_words_that_are_no_command_end_with_2(self) -> None:
+        for name in TOOLS:
+            for words in ((), (b"\xff", "--x\ufffd")):
+                done = self.tool(name, *words)
+                self.assertEqual((done.returncode, done.stdout), (2, b""))
+                self.assertNotIn(b"Traceback", done.stderr)
+
+    def test_files_that_are_not_there_end_with_3(self) -> None:
+        sockets = ("--sockets", "s", "--journal", "j", "--program", PROGRAM)
+        for name, words in (
+            ("lefence-hub", (b"\xff.def", "t.lef", *sockets)),
+            ("lefence-hub", ("t.def", "t.lef", *sockets, "--journal", "nowhere/j")),
+            ("lefence-hub", ("t.def", "t.lef", *sockets, "--sockets", "nowhere/s")),
+            ("lefence-slice", (b"\xff.def", "--team", "f0")),
+            ("lefence-slice", ("t.def", "--team", "f0", "--output", "nowhere/x")),
+            ("lefence-push", (b"\xff", "s")),
+            ("lefence-shell", (b"\xff.def", "t.lef", "--program", PROGRAM)),
+        ):
+            done = self.tool(name, *words)
+            self.assertEqual((done.returncode, done.stdout), (3, b""), (name, words, done.stderr))
+            self.assertTrue(done.stderr.startswith(name.encode()), done.stderr)
+            self.assertNotIn(b"Traceback", done.stderr)
+
+    def test_a_program_that_is_not_there_ends_with_2(self) -> None:
+        sockets = ("--sockets", "s", "--journal", "j")
+        for name, words in (("lefence-hub", ("t.def", "t.lef", *sockets)), ("lefence-shell", ("t.def", "t.lef"))):
+            done = self.tool(name, *words, "--program", "./nothing")
+            self.assertEqual((done.returncode, done.stderr.count(b"no such program")), (2, 1), done.stderr)
+
+    def test_output_that_nobody_reads_ends_with_3(self) -> None:
+        text = "".join(f"- x{at} INV ;\n" for at in range(20000))
+        self.design.write_text(self.design.read_text().replace("END COMPONENTS", text + "END COMPONENTS"))
+        words = [str(FRONT / "bin/lefence-slice"), str(self.design), "--team", "-"]
+        with subprocess.Popen(words, stdout=subprocess.PIPE, stderr=subprocess.PIPE) as process:
+            process.stdout.close()
+            self.assertNotIn(b"Traceback", process.stderr.read())
+            self.assertEqual(process.wait(), 3)
+
+    def test_the_package_names_each_tool(self) -> None:
+        scripts = tomllib.loads((FRONT / "pyproject.toml").read_text())["project"]["scripts"]
+        self.assertEqual(sorted(scripts), sorted(TOOLS))
+        wheel = self.folder / build_wheel(str(self.folder))
+        for name, entry in scripts.items():
+            module, function = entry.split(":")
+            code = f"import sys; sys.argv = [{name!r}, '--help']; from {module} import {function}; {function}()"
+            done = subprocess.run([sys.executable, "-c", code], env={"PYTHONPATH": str(wheel)}, capture_output=True, cwd=self.folder)
+            self.assertIn(f"usage: {name}".encode(), done.stdout)
+
+
+if __name__ == "__main__":
+    unittest.main()
