@@ -456,12 +456,12 @@ fn a_text_that_is_none_is_refused_with_its_line(rt: HostRuntime) -> Result<(), F
 fn lef_files_are_read_in_order_up_to_the_first_fault(rt: HostRuntime) -> Result<(), Fail> {
     let files = [
         ("w.lef", Some(W_LEF)),
-        ("bad.lef", Some(b"SITE\t;\xff\n".as_slice())),
+        ("bad.lef", Some(b"SITE\t; \xff\n".as_slice())),
         ("cut.lef", Some(b"SITE core\n".as_slice())),
     ];
     let both = ["w.lef", "bad.lef", "cut.lef"];
     let fault =
-        "lefence: 3 Unexpected line 1\nlefence: LEF file bad.lef, line 1: SITE\\x09;\\xff\n";
+        "lefence: 3 Unexpected line 1\nlefence: LEF file bad.lef, line 1: SITE\\x09; \\xff\n";
     assert!(rt; ends(&rt, files.as_slice(), both.as_slice(), 1, fault)?);
     let both = ["w.lef", "cut.lef", "bad.lef"];
     let fault = "lefence: 2 UnexpectedEnd line 2\nlefence: LEF file cut.lef, line 2: \n";
