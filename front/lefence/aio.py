@@ -21,6 +21,7 @@ from . import verbs
 from .client import ConnectionLost, answer_of
 from .protocol import text_length
 from .refusals import Refusal, Stale
+from .session import BaseSession
 from .verbs import Request, Scope
 
 P = ParamSpec("P")
@@ -121,25 +122,8 @@ def _asked(build: Callable[Concatenate[Scope, P], Request[T]]) -> Callable[Conca
     return method
 
 
-class Session:
+class Session(BaseSession[Connection]):
     """A session of a team: each method is a coroutine that sends a verb and returns what its reply says, or raises its refusal."""
-
-    def __init__(self, connection: Connection, team: str, retries: int, in_microns: bool, per_micron: int | None) -> None:
-        self.connection = connection
-        self.team = team
-        self.retries = retries
-        # The team's revision when the session was opened.
-        self.first_revision = 0
-        self._scope: Scope | None = None
-        self._in_microns = in_microns
-        self._per_micron = per_micron
-
-    @property
-    def scope(self) -> Scope:
-        """The open session; ValueError outside `async with`."""
-        if self._scope is None:
-            raise ValueError("the session is not open: it is opened by `async with`")
-        return self._scope
 
     async def __aenter__(self) -> Session:
         number, self.first_revision = await self.connection.ask(verbs.open_session(self.team))

@@ -24,6 +24,7 @@ from typing import Any, Concatenate, Generic, ParamSpec, TypeVar
 from . import verbs
 from .protocol import text_length
 from .refusals import Refusal, Stale, refusal_of
+from .session import BaseSession
 from .verbs import ProtocolError, Request, Scope, read_reply
 
 P = ParamSpec("P")
@@ -231,25 +232,8 @@ def _begun(build: Callable[Concatenate[Scope, P], Request[T]]) -> Callable[Conca
     return method
 
 
-class Session:
+class Session(BaseSession[Connection]):
     """A session of a team: each method sends a verb, waits for its reply and returns what it says, or raises its refusal."""
-
-    def __init__(self, connection: Connection, team: str, retries: int, in_microns: bool, per_micron: int | None) -> None:
-        self.connection = connection
-        self.team = team
-        self.retries = retries
-        # The team's revision when the session was opened.
-        self.first_revision = 0
-        self._scope: Scope | None = None
-        self._in_microns = in_microns
-        self._per_micron = per_micron
-
-    @property
-    def scope(self) -> Scope:
-        """The open session; ValueError outside `with`."""
-        if self._scope is None:
-            raise ValueError("the session is not open: it is opened by `with`")
-        return self._scope
 
     @property
     def number(self) -> int:

@@ -16,6 +16,7 @@ import tempfile
 import threading
 import time
 import unittest
+from collections.abc import Iterator
 from pathlib import Path
 
 FRONT = Path(__file__).resolve().parents[1]
@@ -180,6 +181,21 @@ class FrontCase(unittest.TestCase):
         """A tool that runs to its end."""
         command = [str(FRONT / "bin" / name), *words]
         return subprocess.run(command, input=lines, capture_output=True, timeout=PATIENCE, cwd=self.folder)
+
+    @contextlib.contextmanager
+    def service(self, connections: int) -> Iterator[int]:
+        """The port of a `lefence serve` of the design, for so many connections."""
+        with socket.socket() as free:
+            free.bind(("127.0.0.1", 0))
+            port = free.getsockname()[1]
+        words = [PROGRAM, "serve", str(self.design), str(self.lef), "--port", str(port), "--connections", str(connections)]
+        with subprocess.Popen(words, stdout=subprocess.PIPE) as process:
+            assert process.stdout
+            process.stdout.readline()
+            try:
+                yield port
+            finally:
+                process.kill()
 
 
 class Hub:

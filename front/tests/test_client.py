@@ -9,12 +9,10 @@ import io
 import os
 import signal
 import socket
-import subprocess
 import unittest
-from collections.abc import Iterator
 from decimal import Decimal
 
-from support import CELLS, FRONT, PATIENCE, PROGRAM, HubCase
+from support import CELLS, FRONT, PATIENCE, HubCase
 
 import lefence
 from lefence import Legalized, Place, Report, Tidied, Violation, verbs
@@ -228,19 +226,8 @@ class Flights(HubCase):
 class Others(HubCase):
     """Over `lefence serve`, and against ends that are no lefence."""
 
-    @contextlib.contextmanager
-    def service(self) -> Iterator[int]:
-        with socket.socket() as free:
-            free.bind(("127.0.0.1", 0))
-            port = free.getsockname()[1]
-        words = [PROGRAM, "serve", str(self.design), str(self.lef), "--port", str(port), "--connections", "2"]
-        with subprocess.Popen(words, stdout=subprocess.PIPE) as process:
-            process.stdout.readline()
-            yield port
-            process.kill()
-
     def test_the_program_itself_is_served_over_tcp(self) -> None:
-        with self.service() as port:
+        with self.service(2) as port:
             with lefence.connect("127.0.0.1", port) as connection, connection.session("f0") as session:
                 self.assertEqual(session.place("f0c1", 0, 0, "N"), 1)
                 connection.ask(verbs.close_session(session.scope))

@@ -5,8 +5,6 @@ from __future__ import annotations
 import os
 import pty
 import select
-import socket
-import subprocess
 import time
 import unittest
 
@@ -85,12 +83,7 @@ class Words(HubCase):
         self.assertEqual(said[0], "session 0 of team f1, revision 0")
         self.assertEqual(said[2:], ["10 cells moved; revision 1", "written"])
         self.assertEqual(sorted(said[1].split()), sorted([f"f{team}" for team in range(TEAMS)] + ["-"]))
-        with socket.socket() as free:
-            free.bind(("127.0.0.1", 0))
-            port = free.getsockname()[1]
-        words = [PROGRAM, "serve", str(self.design), str(self.lef), "--port", str(port), "--connections", "1"]
-        with subprocess.Popen(words, stdout=subprocess.PIPE) as service:
-            service.stdout.readline()
+        with self.service(1) as port:
             self.assertEqual(self.say("team f0", "tidy", words=(f"127.0.0.1:{port}",))[1:], ["10 cells moved; revision 1"])
 
     def test_an_end_that_is_not_there_is_told(self) -> None:

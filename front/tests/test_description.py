@@ -1,0 +1,69 @@
+"""The description as the tools read it."""
+
+from __future__ import annotations
+
+import unittest
+
+from support import TEAMS, FrontCase
+
+from lefence.description import Box, Cell, Description, Facts, Fence, Obstacle, Row, Total
+from lefence.faults import Fault
+
+# A FIXED component, a soft blockage, and two cells that overlap.
+MORE = """BLOCKAGES 1 ;
+- PLACEMENT + SOFT RECT ( 9000 0 ) ( 9400 2000 ) ;
+END BLOCKAGES
+COMPONENTS 3 ;
+- wall BUF + FIXED ( 0 6000 ) N ;
+- one INV + PLACED ( 64000 0 ) N ;
+- two INV + PLACED ( 64200 0 ) N ;
+END COMPONENTS
+"""
+
+
+class Descriptions(FrontCase):
+    def read(self) -> Description:
+        description = Description(self.program, self.design, [self.lef])
+        self.addCleanup(description.close)
+        return description
+
+    def test_a_design_is_read(self) -> None:
+        self.design.write_text(self.design.read_text().replace("END DESIGN", f"{MORE}END DESIGN"))
+        description = self.read()
+        frame = description.frame
+        self.assertEqual(frame.facts, Facts("t", 1000, "core", 200, 2000))
+        self.assertEqual(frame.rows[1], Row("r1", Box(0, 2000, 72000, 4000), "FS", 360))
+        self.assertEqual(frame.fences[1], Fence("f1", (Box(8000, 0, 16000, 8000),)))
+        self.assertEqual(frame.obstacles, [Obstacle("wall", Box(0, 6000, 600, 8000))])
+        self.assertEqual(frame.soft, [Box(9000, 0, 9400, 2000)])
+        self.assertEqual(frame.teams, [*(f"f{team}" for team in range(TEAMS)), "-"])
+        self.assertEqual(frame.box, Box(0, 0, 72000, 8000))
+        cells = list(description.cells())
+        self.assertEqual(cells[0], Cell("f0c0", "f0", "BUF", 600, 2000, None, None, None, None))
+        self.assertEqual(cells[-1], Cell("two", "-", "INV", 400, 2000, Box(64200, 0, 64600, 2000), "N", 8, "one"))
+        self.assertEqual(description.total, Total(4, TEAMS, 1, 1, 92, 90, 2))
+
+    def test_what_is_refused_is_told_with_its_status(self) -> None:
+        for text, status, told in ((b"VERSION 5.8 ;", 1, "2 UnexpectedEnd line 1; DEF file "), (None, 3, "File; DEF file ")):
+            self.design.unlink(missing_ok=True)
+            if text is not None:
+                self.design.write_bytes(text)
+            with self.assertRaises(Fault) as caught:
+                self.read()
+            self.assertEqual(caught.exception.status, status)
+            self.assertTrue(str(caught.exception).startswith(told), caught.exception)
+
+    def test_a_program_that_ends_early_is_told(self) -> None:
+        facts = '{"kind":"design","name":"t","site":"core","site_height":2000,"site_width":200,"units":1000}'
+        for lines, status in ((facts, 9), (f"{facts}\n{{\"kind\":\"cell\"", 0), ("", 0)):
+            early = self.folder / "early"
+            early.write_text(f"#!/bin/sh\nprintf '%s' '{lines}'\nexit {status}\n")
+            early.chmod(0o755)
+            with self.assertRaises(Fault) as caught:
+                Description(str(early), self.design, [self.lef])
+            self.assertEqual(caught.exception.status, 3)
+            self.assertEqual(str(caught.exception), "the program ended without its last line")
+
+
+if __name__ == "__main__":
+    unittest.main()
