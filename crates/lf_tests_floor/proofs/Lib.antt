@@ -1,3 +1,2 @@
 mod Moves
 mod Sized
-mod Printed

@@ -1,15 +1,16 @@
-//! Requests, replies and the lines of a stream.
+//! Requests, replies and reports.
 
-ghost use Rattle.std.specs.Prelude.{◌≡◌, ℕ, List, MatchResult};
+ghost use Rattle.std.specs.Prelude.{◌≡◌, ℕ, ◌∷◌, ◌++◌, List, None, Some, MatchResult};
 ghost use Rattle.lf_proto.specs.Commands.{command_of};
 ghost use Rattle.lf_proto.specs.Printed.{printed};
-ghost use Rattle.lf_proto.specs.Requests.{IsPlain};
+ghost use Rattle.lf_proto.specs.Requests.{IsPlain, command_on};
 
-use lf_frame::Place;
+use lf_floorplan::Place;
 use lf_orient::Orient;
 use lf_proto::{
-    Action, BadRequest, Change, Command, Got, LineFramer, Order, Refusal, Reply, Request,
-    RequestList, parse_line, printed_reads_back, reply_text, report_json,
+    Action, BadRequest, Change, Command, Order, Refusal, Reply, Request, RequestList,
+    blanks_around_pass, blanks_between_pass, parse_line, printed_reads_back, reply_text,
+    report_json,
 };
 use lf_rules::{Report, Rule, Violation};
 use lf_units::{Name, Sequence};
@@ -21,6 +22,23 @@ fn read_back<'a>(line: &'a [u8]) -> Result<Request<'a>, BadRequest>
     ensures { (command : Command (List ℕ) Place) → IsPlain command → line.now ≡ printed command → MatchResult result (λ request. command_of request ≡ command) (λ _. ⊥) }
 {
     printed_reads_back();
+    parse_line(line)
+}
+
+/// The request of a line that has one space more before it.
+fn read_indented<'a>(line: &'a [u8]) -> Result<Request<'a>, BadRequest>
+    ensures { MatchResult result (λ request. command_on (32 ∷ line.now) ≡ Some (command_of request)) (λ _. command_on (32 ∷ line.now) ≡ None) }
+{
+    blanks_around_pass();
+    parse_line(line)
+}
+
+/// The request of a line of two parts with two spaces between them, given with a tab there.
+fn read_tabbed<'a>(line: &'a [u8], front: &[u8], rest: &[u8]) -> Result<Request<'a>, BadRequest>
+    requires { line.now ≡ front.now ++ 9 ∷ rest.now }
+    ensures { MatchResult result (λ request. command_on (front.now ++ 32 ∷ 32 ∷ rest.now) ≡ Some (command_of request)) (λ _. command_on (front.now ++ 32 ∷ 32 ∷ rest.now) ≡ None) }
+{
+    blanks_between_pass();
     parse_line(line)
 }
 
@@ -53,6 +71,12 @@ fn reads_orientations(rt: HostRuntime) {
     for (line, orient) in names {
         assert_eq!(rt; asked_place(line), Some(Place::new(1, 2, orient)));
     }
+}
+
+#[test]
+fn reads_with_other_blanks(rt: HostRuntime) {
+    assert!(rt; read_indented(b"open A").is_ok());
+    assert!(rt; read_tabbed(b"open\tA", b"open", b"A").is_ok());
 }
 
 #[test]
@@ -188,63 +212,6 @@ fn lists_requests(rt: HostRuntime) -> Result<(), Fail> {
     push_line(&mut list, b"open A")?;
     push_line(&mut list, b"place B 3 b1 5 6 E")?;
     assert!(rt; is_to_both(&list));
-    Ok(())
-}
-
-/// Whether the framer takes so many bytes of the piece and has a line then, which is this one.
-fn takes_line(framer: &mut LineFramer, piece: &[u8], used: usize, line: &[u8]) -> bool {
-    let fed = framer.feed(piece);
-    fed.used == used && fed.got == Got::Line && framer.line() == line
-}
-
-/// Whether the framer takes the piece whole and waits for more.
-fn takes_all(framer: &mut LineFramer, piece: &[u8]) -> bool {
-    let fed = framer.feed(piece);
-    fed.used == piece.len() && fed.got == Got::More
-}
-
-/// Whether lines end at line feeds, one carriage return before these is dropped, and a last line needs none.
-fn parts_lines(framer: &mut LineFramer) -> bool {
-    takes_line(framer, b"open A\r\n\nopen B\r", 8, b"open A")
-        && takes_line(framer, b"\nopen B\r", 1, b"")
-        && takes_all(framer, b"open B\r")
-        && framer.finish() == Got::Line
-        && framer.line() == b"open B\r".as_slice()
-        && framer.finish() == Got::More
-}
-
-#[test]
-fn frames_lines(rt: HostRuntime) -> Result<(), Fail> {
-    let mut framer = LineFramer::new(rt.alloc())?;
-    assert!(rt; parts_lines(&mut framer));
-    Ok(())
-}
-
-/// Whether the framer takes so many bytes of the piece and has a line that was too long then.
-fn refuses_line(framer: &mut LineFramer, piece: &[u8], used: usize) -> bool {
-    let fed = framer.feed(piece);
-    fed.used == used && fed.got == Got::TooLong
-}
-
-/// Whether the framer takes a line of 4,096 bytes, and none of one byte more, its carriage return counted.
-fn bounds_length(framer: &mut LineFramer, longest: &[u8]) -> bool {
-    takes_all(framer, longest)
-        && takes_line(framer, b"\n", 1, longest)
-        && takes_all(framer, longest)
-        && refuses_line(framer, b"\r\nopen B\n", 2)
-        && takes_line(framer, b"open B\n", 7, b"open B")
-        && takes_all(framer, longest)
-        && takes_all(framer, b" ")
-        && framer.finish() == Got::TooLong
-}
-
-#[test]
-fn bounds_lines(rt: HostRuntime) -> Result<(), Fail> {
-    let mut line = Vec::from_slice(rt.alloc(), b"open A")?;
-    line.resize(4096, b' ')?;
-    let mut framer = LineFramer::new(rt.alloc())?;
-    assert!(rt; bounds_length(&mut framer, &line));
-    assert!(rt; parse_line(&line).is_ok());
     Ok(())
 }
 

@@ -1,8 +1,8 @@
 use Rattle.std.proofs.Common.{◌∙◌, ap}
 use Rattle.lf_proto.specs.Commands.{command_of}
 use Rattle.lf_proto.specs.Requests.{command_on}
-use Rattle.lf_tests_floor.proofs.Printed.{reads_printed}
-use Rattle.lf_tests_floor.proofs.lines.read_back.Goals as goal
+use Rattle.lf_tests_lines.proofs.Printed.{reads_printed}
+use Rattle.lf_tests_lines.proofs.requests.read_back.Goals as goal
 
 pub returns : goal.returns
 returns c = λ command plain is.

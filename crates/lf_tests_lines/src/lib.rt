@@ -1,0 +1,7 @@
+//! Tests of requests, replies and the lines of a stream, as callers use them: what no clause says of them.
+#![tactic(auto)]
+
+#[cfg(test)]
+mod requests;
+#[cfg(test)]
+mod streams;
