@@ -6,19 +6,26 @@ The keys are those of docs/PROTOCOL.md ("The description").
 
 from __future__ import annotations
 
+import itertools
 import json
 import os
 import subprocess
+import sys
 import tempfile
-from collections.abc import Iterator
+import time
+from collections.abc import Callable, Iterator
 from dataclasses import dataclass
 from pathlib import Path
 from typing import IO, Any, NamedTuple
 
-from .faults import FAILED, Fault
+from .faults import Fault
+from .program import NAP, PIECE, fault_of, path_words, widened
 
 # The exit statuses of a description that was written: the design is fully legal, or it is not.
 _WRITTEN = (0, 4)
+# What the line of a cell has that breaks no rule, and that of one without a place; no name can have these bytes, since its quotes
+# have backslashes before them.
+_LEGAL, _UNPLACED = b'"rule":null', b'"box":null'
 
 
 class Box(NamedTuple):
@@ -145,10 +152,12 @@ class Description:
 
     def __init__(self, program: str, design: Path, libraries: list[Path]) -> None:
         """Starts the program over a DEF text and LEF texts, and reads as far as the frame goes."""
+        words = [program, "describe", *path_words((design, *libraries))]
         self._said: IO[bytes] = tempfile.TemporaryFile()
-        words = [program, "describe", *(os.path.abspath(path) for path in (design, *libraries))]
         self._process = subprocess.Popen(words, stdin=subprocess.DEVNULL, stdout=subprocess.PIPE, stderr=self._said)
-        self._first: dict[str, Any] = {}
+        self._batches = self._read_batches()
+        # Lines behind the frame that were read with it.
+        self._ahead: list[bytes] = []
         try:
             self.frame = self._read_frame()
         except BaseException:
@@ -169,36 +178,43 @@ class Description:
 
     def cells(self) -> Iterator[Cell]:
         """The movable cells in loading order, once; when they are read, `total` is there."""
-        line = self._first
-        while line["kind"] != "total":
-            if line["kind"] == "cell":
-                yield _cell(line)
-            line = self._line()
-        fields = (line[key] for key in Total._fields)
-        self.total = Total(*fields)
-        if self._process.wait() not in _WRITTEN:
-            raise self._fault()
+        return self._cells(lambda lines: lines)
 
-    def _line(self) -> dict[str, Any]:
+    def faulty_cells(self) -> Iterator[Cell]:
+        """As `cells`, but those alone that are unplaced or break a rule; the lines of the others are not parsed."""
+        return self._cells(lambda lines: [line for line in lines if _LEGAL not in line or _UNPLACED in line])
+
+    def _cells(self, wanted: Callable[[list[bytes]], list[bytes]]) -> Iterator[Cell]:
+        for lines in itertools.chain([self._ahead], self._batches):
+            # One call for many lines: half the time of a call for each.
+            for line in json.loads(b"[" + b",".join(wanted(lines)) + b"]"):
+                if line["kind"] == "cell":
+                    yield _cell(line)
+                elif line["kind"] == "total":
+                    self.total = Total(*(line[key] for key in Total._fields))
+                    if self._process.wait() not in _WRITTEN:
+                        raise self._fault()
+                    return
+
+    def _read_batches(self) -> Iterator[list[bytes]]:
+        """The lines that come, many at a time; behind the last one a fault."""
         assert self._process.stdout is not None
-        text = self._process.stdout.readline()
-        if not text.endswith(b"\n"):
-            self._process.wait()
-            raise self._fault()
-        read: dict[str, Any] = json.loads(text)
-        return read
+        pipe, rest = widened(self._process.stdout.fileno()), b""
+        while piece := os.read(pipe, PIECE):
+            *lines, rest = (rest + piece).split(b"\n")
+            yield lines
+            time.sleep(NAP)
+        self._process.wait()
+        raise self._fault()
 
     def _fault(self) -> Fault:
-        self._said.seek(0)
-        said = self._said.read().decode(errors="backslashreplace").strip() or "the program ended without its last line"
-        status = self._process.returncode
-        return Fault(status if status in (1, 2, 3) else FAILED, said.removeprefix("lefence: ").replace("\nlefence: ", "; "))
+        return fault_of(self._process.returncode, self._said, "the program ended without its last line")
 
     def _read_frame(self) -> Frame:
-        line = self._line()
-        facts = Facts(*(line[key] for key in Facts._fields))
-        frame = Frame(facts, [], [], [], [])
-        while (line := self._line())["kind"] not in ("cell", "total"):
+        lines = ((batch, at, json.loads(text)) for batch in self._batches for at, text in enumerate(batch))
+        _, _, line = next(lines)
+        frame = Frame(Facts(*(line[key] for key in Facts._fields)), [], [], [], [])
+        for batch, at, line in lines:
             match line["kind"]:
                 case "row":
                     frame.rows.append(Row(line["name"], Box(*line["box"]), line["orient"], line["sites"]))
@@ -208,20 +224,23 @@ class Description:
                     frame.obstacles.append(Obstacle(line["name"], Box(*line["box"])))
                 case "soft":
                     frame.soft.append(Box(*line["box"]))
-        self._first = line
+                case "cell" | "total":
+                    self._ahead = batch[at:]
+                    break
         return frame
 
 
 def _cell(line: dict[str, Any]) -> Cell:
+    """A cell; what many share is one text in memory."""
     box = line["box"]
     return Cell(
         line["name"],
-        line["team"],
-        line["macro"],
+        sys.intern(line["team"]),
+        sys.intern(line["macro"]),
         line["width"],
         line["height"],
         None if box is None else Box(*box),
-        line["orient"],
+        None if line["orient"] is None else sys.intern(line["orient"]),
         line["rule"],
         line["other"],
     )

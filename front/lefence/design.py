@@ -16,7 +16,7 @@ from .protocol import GROUND
 # White space and comments; then a token, a quoted text or a word. All repetitions keep what they took, so matching is linear.
 _SKIP = rb"(?:[ \t\r\n]++|#[^\n]*+)*+"
 _TOKEN = rb'(?:"(?:\\.|[^"\\])*+"|[^ \t\r\n]++)'
-_FIRST = re.compile(_SKIP + rb"(" + _TOKEN + rb")", re.S)
+TOKENS = re.compile(_SKIP + rb"(" + _TOKEN + rb")", re.S)
 # Behind a word that stands alone.
 _ALONE = rb"(?![^ \t\r\n])"
 _SEMICOLON = rb";" + _ALONE
@@ -39,7 +39,7 @@ SECTIONS = frozenset(
 def _end_of(keyword: bytes) -> re.Pattern[bytes]:
     """What follows a keyword up to the end of its statement."""
     if keyword == b"END":
-        return _FIRST
+        return TOKENS
     if keyword in SECTIONS:
         last = rb"END" + _ALONE + _SKIP + re.escape(keyword) + _ALONE
     else:
@@ -58,15 +58,16 @@ class Statement:
 
 @dataclass
 class Entry:
-    """An entry of a section: its name, and its bytes with the white space and comments before it."""
+    """An entry of a section: its name, its bytes with the white space and comments before it, and where these begin."""
 
     name: bytes
     text: bytes
+    start: int
 
     @cached_property
     def words(self) -> list[bytes]:
         """Its words, from the one behind `-` up to the semicolon."""
-        return _FIRST.findall(self.text)[1:-1]
+        return TOKENS.findall(self.text)[1:-1]
 
     def behind(self, clause: bytes) -> bytes | None:
         """The word behind the first `+` and this word; None where there is none."""
@@ -80,11 +81,21 @@ class Entry:
         return clause in self.text and any(pair == (b"+", clause) for pair in zip(self.words, self.words[1:]))
 
 
+def pattern_of(word: bytes) -> re.Pattern[bytes]:
+    """What a name or a pattern with stars names, if it is matched as a whole."""
+    return re.compile(rb".*".join(map(re.escape, _STAR.split(word))), re.S)
+
+
+def words_in(text: bytes) -> Iterator[bytes]:
+    """The words and quoted texts of a DEF or LEF text, without comments."""
+    return (found[1] for found in TOKENS.finditer(text))
+
+
 def statements(text: bytes) -> list[Statement]:
     """The statements up to END DESIGN, which is the last."""
     found: list[Statement] = []
     start = 0
-    while first := _FIRST.match(text, start):
+    while first := TOKENS.match(text, start):
         keyword = first[1]
         end = _end_of(keyword).match(text, first.end())
         stop = end.end() if end else len(text)
@@ -97,8 +108,8 @@ def statements(text: bytes) -> list[Statement]:
 
 def section_parts(text: bytes, section: Statement) -> tuple[bytes, bytes, Iterator[Entry]]:
     """The bytes of a section up to its count, those behind the count up to the first entry, and the entries."""
-    keyword = _FIRST.match(text, section.start, section.stop)
-    count = _FIRST.match(text, keyword.end() if keyword else section.stop, section.stop)
+    keyword = TOKENS.match(text, section.start, section.stop)
+    count = TOKENS.match(text, keyword.end() if keyword else section.stop, section.stop)
     if count is None:
         return text[section.start : section.stop], b"", iter(())
     head = re.compile(_SKIP + _SEMICOLON).match(text, count.end(), section.stop)
@@ -108,7 +119,7 @@ def section_parts(text: bytes, section: Statement) -> tuple[bytes, bytes, Iterat
 
 def _entries(text: bytes, start: int, stop: int) -> Iterator[Entry]:
     while found := _ENTRY.match(text, start, stop):
-        yield Entry(found[1] or b"", found[0])
+        yield Entry(found[1] or b"", found[0], start)
         start = found.end()
 
 
@@ -159,8 +170,7 @@ class Design:
             if len(parts) == 1:
                 self._literal.setdefault(word, fence)
             else:
-                pattern = re.compile(rb".*".join(map(re.escape, parts)), re.S)
-                self._starred.setdefault(parts[0], []).append((pattern, fence))
+                self._starred.setdefault(parts[0], []).append((pattern_of(word), fence))
                 self._prefixes.add(len(parts[0]))
 
     def fence_of(self, group: Entry) -> bytes | None:

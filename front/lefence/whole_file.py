@@ -1,0 +1,53 @@
+"""Files that are there whole or stay as they were."""
+
+from __future__ import annotations
+
+import contextlib
+import os
+from collections.abc import Iterable, Iterator
+from itertools import count
+from pathlib import Path
+from typing import BinaryIO
+
+from .faults import USAGE, Fault
+
+
+@contextlib.contextmanager
+def whole_file(path: Path) -> Iterator[BinaryIO]:
+    """A new file beside (`FILE.partial0`, or the next free number), which takes the name and the mode at the end of the block.
+
+    After any exception of the block it is gone, and the file stays as it was. Links are followed. What is no regular file, as a
+    pipe, is written to as it is.
+    """
+    if path.exists() and not path.is_file():
+        with open(path, "wb") as file:
+            yield file
+        return
+    target = Path(os.path.realpath(path))
+    descriptor, partial = _beside(target)
+    try:
+        with open(descriptor, "wb") as file:
+            yield file
+        if target.exists():
+            os.chmod(partial, target.stat().st_mode)
+        os.replace(partial, target)
+    except BaseException:
+        with contextlib.suppress(OSError):
+            os.unlink(partial)
+        raise
+
+
+def _beside(target: Path) -> tuple[int, str]:
+    """A new file in the same folder: its descriptor and its path."""
+    for number in count():
+        partial = f"{target}.partial{number}"
+        with contextlib.suppress(FileExistsError):
+            return os.open(partial, os.O_CREAT | os.O_EXCL | os.O_WRONLY, 0o666), partial
+    raise AssertionError
+
+
+def refuse_inputs(output: Path, inputs: Iterable[Path]) -> None:
+    """A fault where the output is one of the files that are read."""
+    for path in inputs:
+        if output.exists() and path.exists() and output.samefile(path):
+            raise Fault(USAGE, f"{output} is read, and would be written over")

@@ -1,0 +1,49 @@
+"""Files that are there whole or stay as they were."""
+
+from __future__ import annotations
+
+import os
+import unittest
+from pathlib import Path
+
+from support import FrontCase
+
+from lefence.whole_file import whole_file
+
+
+class WholeFiles(FrontCase):
+    def test_it_takes_the_name_at_the_end(self) -> None:
+        target, link = self.folder / "x", self.folder / "link"
+        link.symlink_to(target)
+        with whole_file(link) as file:
+            file.write(b"one")
+            self.assertFalse(target.exists())
+        target.chmod(0o640)
+        (self.folder / "x.partial0").write_bytes(b"another's")
+        with whole_file(link) as file:
+            file.write(b"two")
+            self.assertEqual(target.read_bytes(), b"one")
+        self.assertEqual((target.read_bytes(), target.stat().st_mode & 0o777, link.is_symlink()), (b"two", 0o640, True))
+        self.assertEqual(sorted(os.listdir(self.folder)), ["link", "t.def", "t.lef", "x", "x.partial0"])
+
+    def test_a_fault_leaves_what_was_there(self) -> None:
+        target = self.folder / "x"
+        for before in ([], ["x"]):
+            with self.assertRaises(KeyError), whole_file(target) as file:
+                file.write(b"half")
+                raise KeyError
+            self.assertEqual(sorted(os.listdir(self.folder)), ["t.def", "t.lef", *before])
+            target.write_bytes(b"old")
+        self.assertEqual(target.read_bytes(), b"old")
+
+    def test_a_device_is_written_to_as_it_is(self) -> None:
+        reader, writer = os.pipe()
+        with whole_file(Path(f"/dev/fd/{writer}")) as file:
+            file.write(b"x")
+        os.close(writer)
+        self.assertEqual(os.read(reader, 9), b"x")
+        os.close(reader)
+
+
+if __name__ == "__main__":
+    unittest.main()
