@@ -1,0 +1,56 @@
+"""lefence-summary: what became of each team's cells from one placement of a design to another."""
+
+from __future__ import annotations
+
+import json
+import sys
+from pathlib import Path
+
+from .description import Description
+from .faults import DONE, REFUSED, Fault, Parser, run_tool
+from .program import find_program
+from .progress import Progress
+from .summary import Summary, notes_of, summary_of
+from .summary_text import object_of, text_of
+
+TOOL = "lefence-summary"
+
+
+def summary_of_files(program: str, before: Path, after: Path, libraries: list[Path]) -> Summary:
+    """The summary of two DEF texts over the same LEF texts; both are read at once."""
+    with Description(program, before, libraries) as early, Description(program, after, libraries) as late:
+        units = early.frame.facts.units, late.frame.facts.units
+        if units[0] != units[1]:
+            raise Fault(REFUSED, f"{before} has {units[0]} database units in a micron, and {after} has {units[1]}")
+        cells = Progress(TOOL, "cells").over(late.cells())
+        summary = summary_of(early.cells(), cells, late.frame)
+        summary.notes[:0] = notes_of(early.frame, late.frame)
+        return summary
+
+
+def parser() -> Parser:
+    made = Parser(
+        TOOL,
+        "Tells for each team, and for all together, how many cells moved from one placement to another and how far, what\n"
+        "they break, and how much of the ground they take.",
+        f"{TOOL} before.def after.def tech.lef cells.lef",
+    )
+    add = made.add_argument
+    add("before", metavar="BEFORE", type=Path, help="the DEF text before")
+    add("after", metavar="AFTER", type=Path, help="the DEF text after")
+    add("libraries", metavar="LEF", type=Path, nargs="+", help="the LEF texts of both, in the order of the program")
+    add("--json", action="store_true", help="one JSON object in place of the tables")
+    add("--program", metavar="PATH", help="the lefence program (that of the search path, or of this repository)")
+    return made
+
+
+def main() -> int:
+    options = parser().parse_args()
+
+    def work() -> int:
+        summary = summary_of_files(find_program(options.program), options.before, options.after, options.libraries)
+        text = f"{json.dumps(object_of(summary))}\n" if options.json else text_of(summary)
+        sys.stdout.write(text)
+        return DONE
+
+    return run_tool(TOOL, work)
