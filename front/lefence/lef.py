@@ -1,0 +1,63 @@
+"""LEF texts, as far as rows need them: the sites and their sizes."""
+
+from __future__ import annotations
+
+import re
+from collections.abc import Iterator
+from decimal import Decimal
+from typing import NamedTuple
+
+from .design import words_in
+
+# Sections that end with END and their name, and are passed over: a SITE in them is another statement.
+_NAMED = frozenset(b"MACRO LAYER VIA VIARULE NONDEFAULTRULE ARRAY".split())
+_LENGTH = re.compile(rb"[+-]?(\d{1,7}(\.\d{0,6})?|\.\d{1,6})")
+
+
+class Site(NamedTuple):
+    """A site: whether its CLASS is CORE, and its size in microns, which is 0 where the text has none."""
+
+    name: bytes
+    is_core: bool
+    width: Decimal
+    height: Decimal
+
+
+def sites_of(text: bytes) -> Iterator[Site]:
+    """The sites of a LEF text, in its order."""
+    words = words_in(text)
+    for word in words:
+        if word == b"SITE":
+            name = next(words, b"")
+            yield _site(name, _section(words, name))
+        elif word in _NAMED:
+            _section(words, next(words, b""))
+        elif word == b"PROPERTYDEFINITIONS":
+            _section(words, word)
+        elif word == b"BEGINEXT":
+            next((each for each in words if each == b"ENDEXT"), None)
+
+
+def _section(words: Iterator[bytes], name: bytes) -> list[bytes]:
+    """The words up to END and that name."""
+    found: list[bytes] = []
+    for word in words:
+        if word == name and found[-1:] == [b"END"]:
+            return found[:-1]
+        found.append(word)
+    return found
+
+
+def _site(name: bytes, words: list[bytes]) -> Site:
+    is_core, width, height = False, Decimal(0), Decimal(0)
+    for at, word in enumerate(words):
+        if word == b"CLASS":
+            is_core = words[at + 1 : at + 2] == [b"CORE"]
+        elif word == b"SIZE" and words[at + 2 : at + 3] == [b"BY"] and len(words) > at + 3:
+            width, height = length(words[at + 1]), length(words[at + 3])
+    return Site(name, is_core, width, height)
+
+
+def length(word: bytes) -> Decimal:
+    """A length in microns; 0 where the word is none."""
+    return Decimal(word.decode()) if _LENGTH.fullmatch(word) else Decimal(0)
