@@ -1,0 +1,178 @@
+"""Repairs: cells that have room get legal places near where they stood, and legal ones stay."""
+
+from __future__ import annotations
+
+import json
+import re
+import subprocess
+from pathlib import Path
+from unittest import main
+
+from support import LEF, PROGRAM, WIDTH, FrontCase
+
+from lefence.description import Cell, Description
+from lefence.repair import spot_of
+from lefence.splice import with_spots
+
+# A macro that is higher than all rows.
+HIGH = "MACRO HIGH CLASS CORE ; ORIGIN 0 0 ; SIZE 0.4 BY 10.0 ; SYMMETRY X Y ; SITE core ; END HIGH\nEND LIBRARY"
+# A fence of five sites of one row, in which a cell of two sites and one of three have room side by side alone.
+TIGHT = """VERSION 5.8 ; DESIGN tight ; UNITS DISTANCE MICRONS 1000 ;
+ROW r core 0 0 N DO 5 BY 1 STEP 200 0 ;
+REGIONS 1 ; - A ( 0 0 ) ( 1000 2000 ) + TYPE FENCE ; END REGIONS
+COMPONENTS 2 ;
+- two INV + PLACED ( 0 0 ) FN ;
+- three BUF + PLACED ( 200 0 ) N ;
+END COMPONENTS
+GROUPS 1 ; - g two three + REGION A ; END GROUPS
+END DESIGN
+"""
+# Ways to write where a cell is, and none.
+CLAUSES = (
+    "+ PLACED ( {x} {y} ) N",
+    "+ SOURCE DIST + PLACED ( {x}\t{y} ) S + WEIGHT 2",
+    '+ PROPERTY p "+ PLACED ( 0 0 ) N ;" + PLACED # a comment ;\n ( {x} {y} )\n FN',
+    "+ + PLACED ( {x} {y} ) FS",
+    "+ UNPLACED",
+    "+ UNPLACED ( {x} {y} ) N + SOURCE USER",
+    "",
+)
+
+
+class Repairs(FrontCase):
+    def setUp(self) -> None:
+        super().setUp()
+        self.target = self.folder / "new.def"
+        self.jumble()
+
+    def jumble(self) -> None:
+        """Puts each cell anywhere in its own fence or outside all, in one row in two, on and off sites."""
+
+        def place(found: re.Match[str]) -> str:
+            left = WIDTH * int(found[2] or 8)
+            x, y = left + self.rng.randrange(WIDTH - 600), self.rng.choice((0, 4000))
+            return f"{found[1]} {self.rng.choice(CLAUSES).format(x=x - x % self.rng.choice((1, 200)), y=y)}\n;"
+
+        text = re.sub(r"^(- (?:f(\d)|g)c\d+ \w+) ;", place, self.design.read_text(), flags=re.M)
+        self.design.write_text(text)
+
+    def repair(self, *words: str | Path, program: str = PROGRAM) -> subprocess.CompletedProcess[bytes]:
+        done = self.tool("lefence-repair", self.design, self.lef, *words, "--program", program)
+        self.assertNotIn(b"Traceback", done.stderr)
+        return done
+
+    def cells(self, design: Path) -> dict[str, Cell]:
+        with Description(PROGRAM, design, [self.lef]) as description:
+            return {cell.name: cell for cell in description.cells()}
+
+    def add(self, component: str, group: str = "") -> None:
+        text = self.design.read_text().replace("END COMPONENTS", f"{component} ;\nEND COMPONENTS")
+        self.design.write_text(text.replace("END GROUPS", f"{group} ;\nEND GROUPS") if group else text)
+
+    def test_every_cell_is_legal_behind_it_and_legal_cells_stay(self) -> None:
+        before = self.cells(self.design)
+        done = self.repair("--out", self.target)
+        self.assertEqual((done.returncode, done.stdout), (0, b""), done.stderr)
+        self.assertIn(b"every cell is legal", done.stderr)
+        check = subprocess.run([PROGRAM, "check", self.target, self.lef], capture_output=True)
+        self.assertEqual(check.returncode, 0, check.stdout)
+        after = self.cells(self.target)
+        for name, cell in before.items():
+            if cell.box and cell.rule is None:
+                self.assertEqual(after[name], cell)
+            elif cell.box:
+                box = after[name].box
+                self.assertLess(abs(box.left - cell.box.left) + abs(box.bottom - cell.box.bottom), 6000, name)
+        self.assertEqual([path.name for path in sorted(self.folder.iterdir())], ["new.def", "t.def", "t.lef"])
+
+    def test_what_is_spliced_is_what_the_program_exports(self) -> None:
+        self.assertEqual(self.repair("--out", self.target).returncode, 0)
+        before, after = self.cells(self.design), self.cells(self.target)
+        spots = {name: spot_of(cell) for name, cell in after.items() if spot_of(cell) != spot_of(before[name])}
+        self.assertGreater(len(spots), 40)
+        self.assertEqual(with_spots(self.design.read_bytes(), spots), self.target.read_bytes())
+
+    def test_a_cell_without_room_is_named_and_left_and_all_others_are_repaired(self) -> None:
+        self.lef.write_text(LEF.replace("END LIBRARY", HIGH))
+        self.add(f"- high HIGH + PLACED ( {2 * WIDTH + 1000} 0 ) N", "- more high + REGION f2")
+        self.add("- new HIGH", "- other new + REGION f2")
+        done = self.repair("--out", self.target)
+        self.assertEqual(done.returncode, 4)
+        self.assertIn(f"team f2: no place for high, HIGH, which is left at {2 * WIDTH + 1000} 0 N".encode(), done.stderr)
+        self.assertIn(b"team f2: no place for new, HIGH, which is left unplaced", done.stderr)
+        check = subprocess.run([PROGRAM, "check", self.target, self.lef], capture_output=True)
+        self.assertEqual(json.loads(check.stdout), {"cells": 92, "unplaced": 1, "violations": [{"cell": "high", "rule": 3}]})
+
+    def test_cells_that_found_no_room_go_first_in_the_next_order(self) -> None:
+        self.design.write_text(TIGHT)
+        self.assertEqual(self.repair("--out", self.target).returncode, 0)
+        wanted = TIGHT.replace("( 200 0 ) N", "( 400 0 ) N")
+        self.assertEqual(self.target.read_text(), wanted)
+
+    def test_a_cell_on_others_ground_does_not_move_them(self) -> None:
+        self.design.write_text(TIGHT.replace("three BUF + PLACED ( 200", "three BUF + PLACED ( 400").replace("DO 5", "DO 9"))
+        self.add("- g INV + PLACED ( 0 0 ) N")
+        done = self.repair("--dry-run")
+        self.assertEqual((done.returncode, done.stdout), (0, b"- g 0 0 N -> 1000 0 N by 1000\n"), done.stderr)
+        self.assertEqual(self.repair("--dry-run", "--team", "A").returncode, 4)
+
+    def test_a_dry_run_tells_what_would_move_and_writes_nothing(self) -> None:
+        before = self.cells(self.design)
+        done = self.repair("--dry-run")
+        self.assertEqual(done.returncode, 0)
+        self.assertEqual([path.name for path in sorted(self.folder.iterdir())], ["t.def", "t.lef"])
+        self.repair("--out", self.target)
+        after = self.cells(self.target)
+        moved = [name for name, cell in before.items() if spot_of(cell) != spot_of(after[name])]
+        told = dict(line.split(" ", 2)[1:] for line in done.stdout.decode().splitlines())
+        self.assertEqual(sorted(told), sorted(moved))
+        for name, text in told.items():
+            spot = spot_of(after[name])
+            self.assertIn(f" -> {spot.x} {spot.y} {spot.orient}", text)
+
+    def test_the_design_itself_may_be_written_and_then_nothing_moves(self) -> None:
+        self.design.chmod(0o640)
+        link = self.folder / "link"
+        link.symlink_to(self.design)
+        self.assertEqual(self.repair("--out", link).returncode, 0)
+        self.assertTrue(link.is_symlink())
+        self.assertEqual(self.design.stat().st_mode & 0o777, 0o640)
+        done = self.repair("--out", self.target)
+        self.assertEqual((done.returncode, self.target.read_bytes()), (0, self.design.read_bytes()))
+        self.assertIn(b"nothing moves, and the output is the text itself", done.stderr)
+
+    def test_the_named_teams_alone_are_repaired(self) -> None:
+        before = self.cells(self.design)
+        done = self.repair("--out", self.target, "--team", "f1", "--team", "-")
+        self.assertEqual(done.returncode, 4)
+        after = self.cells(self.target)
+        for name, cell in before.items():
+            if cell.team in ("f1", "-"):
+                self.assertEqual((after[name].box is None, after[name].rule), (False, None))
+            else:
+                self.assertEqual(spot_of(after[name]), spot_of(cell))
+        done = self.repair("--out", self.target, "--team", "Z")
+        self.assertEqual((done.returncode, done.stderr), (1, b"lefence-repair: no team: Z\n"))
+
+    def test_what_is_refused_is_told_and_no_file_is_left(self) -> None:
+        text = self.design.read_text()
+        for broken, told in ((text[:400], b"2 UnexpectedEnd line"), (text.replace("UNITS", "#"), b"7 NoUnits t; DEF file")):
+            self.design.write_text(broken)
+            done = self.repair("--out", self.target)
+            self.assertEqual((done.returncode, told in done.stderr), (1, True), done.stderr)
+            self.assertEqual([path.name for path in sorted(self.folder.iterdir())], ["t.def", "t.lef"])
+        for target in ("nowhere/new.def", "."):
+            self.assertEqual(self.repair("--out", target).returncode, 3)
+
+    def test_a_program_that_dies_is_told_and_no_file_is_left(self) -> None:
+        dying = self.folder / "dying"
+        for end in ("kill -9 $$", "exit 0"):
+            dying.write_text(f'#!/bin/sh\n[ "$1" = describe ] && exec {PROGRAM} "$@"\nread line\necho ok 0 0\n{end}\n')
+            dying.chmod(0o755)
+            done = self.repair("--out", self.target, program=str(dying))
+            self.assertEqual((done.returncode, b"the program was lost" in done.stderr), (3, True), done.stderr)
+            self.assertEqual([path.name for path in sorted(self.folder.iterdir())], ["dying", "t.def", "t.lef"])
+
+
+if __name__ == "__main__":
+    main()
