@@ -1,0 +1,137 @@
+"""A real browser that tests drive: Chromium's DevTools protocol over two pipes."""
+
+from __future__ import annotations
+
+import fcntl
+import itertools
+import json
+import os
+import select
+import shutil
+import subprocess
+import time
+from pathlib import Path
+from typing import Any
+
+from support import PATIENCE
+
+CHROMIUM = shutil.which("chromium")
+_FLAGS = "--headless --no-sandbox --disable-gpu --no-first-run --remote-debugging-pipe --window-size=1400,1000".split()
+
+
+class Browser:
+    """A tab of Chromium; `events` are what it told beside replies. A block closes it."""
+
+    def __init__(self, folder: Path) -> None:
+        assert CHROMIUM
+        self.events: list[dict[str, Any]] = []
+        self._numbers = itertools.count(1)
+        self._text = b""
+        # The browser reads on descriptor 3 and writes on 4; these are moved out of the way of both.
+        asks, self._asking = os.pipe()
+        self._told, tells = os.pipe()
+        mine = [fcntl.fcntl(end, fcntl.F_DUPFD_CLOEXEC, 10) for end in (asks, tells)]
+        words = [CHROMIUM, *_FLAGS, f"--user-data-dir={folder}", "about:blank"]
+        ends: dict[str, Any] = {name: subprocess.DEVNULL for name in ("stdin", "stdout", "stderr")}
+
+        def place() -> None:
+            os.dup2(mine[0], 3)
+            os.dup2(mine[1], 4)
+
+        self._process = subprocess.Popen(words, close_fds=False, preexec_fn=place, **ends)
+        for end in (asks, tells, *mine):
+            os.close(end)
+        self._session: str | None = None
+        target = self.ask("Target.createTarget", url="about:blank")["targetId"]
+        self._session = self.ask("Target.attachToTarget", targetId=target, flatten=True)["sessionId"]
+        for domain in ("Page", "Runtime", "Log", "Network"):
+            self.ask(f"{domain}.enable")
+
+    def __enter__(self) -> Browser:
+        return self
+
+    def __exit__(self, *_: object) -> None:
+        self._process.kill()
+        self._process.wait()
+        os.close(self._asking)
+        os.close(self._told)
+
+    def ask(self, method: str, **fields: Any) -> dict[str, Any]:
+        """The result of a command."""
+        number = next(self._numbers)
+        request = {"id": number, "method": method, "params": fields, **({"sessionId": self._session} if self._session else {})}
+        text = json.dumps(request).encode() + b"\0"
+        while text:
+            text = text[os.write(self._asking, text) :]
+        while (told := self._next()).get("id") != number:
+            self.events.append(told)
+        if "error" in told:
+            raise AssertionError(f"{method}: {told['error']}")
+        result: dict[str, Any] = told["result"]
+        return result
+
+    def _next(self) -> dict[str, Any]:
+        last = time.monotonic() + 3 * PATIENCE
+        while b"\0" not in self._text:
+            if not select.select([self._told], [], [], max(0, last - time.monotonic()))[0]:
+                raise AssertionError("the browser says nothing")
+            piece = os.read(self._told, 1 << 20)
+            if not piece:
+                raise AssertionError("the browser has ended")
+            self._text += piece
+        text, self._text = self._text.split(b"\0", 1)
+        told: dict[str, Any] = json.loads(text)
+        return told
+
+    def open(self, address: str) -> None:
+        """Loads a page."""
+        self.events.clear()
+        self.ask("Page.navigate", url=address)
+        while not any(event.get("method") == "Page.loadEventFired" for event in self.events):
+            self.events.append(self._next())
+        self.drawn()
+
+    def value(self, code: str) -> Any:
+        """What JavaScript gives in the page."""
+        result = self.ask("Runtime.evaluate", expression=code, returnByValue=True, awaitPromise=True)
+        if "exceptionDetails" in result:
+            raise AssertionError(f"{code}: {result['exceptionDetails']}")
+        return result["result"].get("value")
+
+    def drawn(self) -> None:
+        """Waits until what has changed is on the screen."""
+        self.value("new Promise((done) => requestAnimationFrame(() => requestAnimationFrame(() => done(0))))")
+
+    def mouse(self, kind: str, x: float, y: float, **fields: Any) -> None:
+        self.ask("Input.dispatchMouseEvent", type=kind, x=x, y=y, **fields)
+
+    def click(self, selector: str) -> None:
+        """Presses the mouse in the middle of an element."""
+        code = f"(() => {{ const e = document.querySelector({json.dumps(selector)}); e.scrollIntoView({{block: 'center'}});"
+        x, y = self.value(code + "const b = e.getBoundingClientRect(); return [b.x + b.width / 2, b.y + b.height / 2]; })()")
+        for kind in ("mousePressed", "mouseReleased"):
+            self.mouse(kind, x, y, button="left", clickCount=1)
+        self.drawn()
+
+    def key(self, key: str) -> None:
+        for kind in ("keyDown", "keyUp"):
+            self.ask("Input.dispatchKeyEvent", type=kind, key=key)
+        self.drawn()
+
+    def screen(self, width: int, dark: bool = False) -> None:
+        """Another width of the screen, and its colours."""
+        self.ask("Emulation.setDeviceMetricsOverride", width=width, height=1000, deviceScaleFactor=1, mobile=False)
+        feature = {"name": "prefers-color-scheme", "value": "dark" if dark else "light"}
+        self.ask("Emulation.setEmulatedMedia", features=[feature])
+        self.drawn()
+
+    def faults(self) -> list[dict[str, Any]]:
+        """What went wrong in the page, and what it asked of a network."""
+        found = []
+        for event in self.events:
+            method, fields = event.get("method"), event.get("params", {})
+            if method in ("Runtime.exceptionThrown", "Log.entryAdded") or (method == "Runtime.consoleAPICalled"):
+                found.append(event)
+            elif method == "Network.requestWillBeSent" and not fields["request"]["url"].startswith(("file:", "data:")):
+                found.append(event)
+        return found

@@ -1,0 +1,165 @@
+"""Pictures: what is drawn, and where."""
+
+from __future__ import annotations
+
+import re
+import shutil
+import subprocess
+import unittest
+from xml.etree import ElementTree
+
+from support import FRONT, PATIENCE, TEAMS, FrontCase
+
+from lefence.description import Box, Description
+from lefence.drawing import Drawing, shortened, text_of
+from lefence.scene import Scene, colour_of
+
+SVG = "{http://www.w3.org/2000/svg}"
+# A FIXED component, a blockage, a soft one, two cells that overlap, one far outside, and one with a name that XML must escape.
+MORE = """BLOCKAGES 2 ;
+- PLACEMENT RECT ( 70000 4000 ) ( 71000 8000 ) ;
+- PLACEMENT + SOFT RECT ( 9000 0 ) ( 9400 2000 ) ;
+END BLOCKAGES
+COMPONENTS 6 ;
+- wall BUF + FIXED ( 0 6000 ) N ;
+- one INV + PLACED ( 64000 0 ) N ;
+- two INV + PLACED ( 64200 0 ) N ;
+- far INV + PLACED ( 2000000 0 ) N ;
+- f0c<&"'\\]]> INV + PLACED ( 400 2000 ) FS ;
+- f1cx INV + PLACED ( 8400 0 ) N ;
+END COMPONENTS
+"""
+
+
+def boxes(group: ElementTree.Element) -> list[Box]:
+    """The rectangles of a group."""
+    found = ([int(rect.attrib[key]) for key in ("x", "y", "width", "height")] for rect in group.iter(f"{SVG}rect"))
+    return [Box(x, y, x + width, y + height) for x, y, width, height in found]
+
+
+def titled(group: ElementTree.Element, name: str) -> list[ElementTree.Element]:
+    """What stands in a group under that name."""
+    return [found for found in group.iter() if found.findtext(f"{SVG}title") == name]
+
+
+class Pictures(FrontCase):
+    def setUp(self) -> None:
+        super().setUp()
+        self.design.write_text(self.design.read_text().replace("END DESIGN", f"{MORE}END DESIGN"))
+
+    def picture(self, *words: str, design: str = "t.def") -> dict[str, ElementTree.Element]:
+        """The groups of the picture by their names, and the whole under ``."""
+        done = self.tool("lefence-picture", design, "t.lef", "--program", self.program, "-o", "x.svg", *words)
+        self.assertEqual(done.returncode, 0, done.stderr)
+        root = ElementTree.parse(self.folder / "x.svg").getroot()
+        return {"": root, **{found.attrib["id"]: found for found in root.iter() if "id" in found.attrib}}
+
+    def test_each_thing_stands_where_the_description_has_it(self) -> None:
+        groups = self.picture()
+        with Description(self.program, self.design, [self.lef]) as description:
+            frame, cells = description.frame, list(description.cells())
+        self.assertEqual(boxes(groups["rows"]), [row.box for row in frame.rows])
+        self.assertEqual(boxes(groups["fences"]), [rect for fence in frame.fences for rect in fence.rects])
+        self.assertEqual(boxes(groups["fixed"]) + boxes(groups["blockages"]), [obstacle.box for obstacle in frame.obstacles])
+        self.assertEqual(boxes(groups["soft"]), frame.soft)
+        legal = {cell.name: cell.box for cell in cells if cell.box and cell.rule is None}
+        drawn = {rect.findtext(f"{SVG}title"): boxes(around)[0] for around, rect in self.alone(groups["cells"])}
+        self.assertEqual(drawn, legal)
+        self.assertEqual(boxes(groups["broken"]), [cell.box for cell in cells if cell.name in ("one", "two")])
+        self.assertEqual(len(titled(groups["broken"], "two overlaps one")), 1)
+        legend = "".join(groups["legend"].itertext())
+        for text in ("f0 11 cells", "breaks a rule 3 cells", "FIXED component 1", "soft blockage 1", "90 without", "1 outside"):
+            self.assertIn(text, legend)
+
+    def alone(self, group: ElementTree.Element) -> list[tuple[ElementTree.Element, ElementTree.Element]]:
+        """The rectangles of a group, each in a group of its own too."""
+        found = []
+        for rect in group.iter(f"{SVG}rect"):
+            around = ElementTree.Element("g")
+            around.append(rect)
+            found.append((around, rect))
+        return found
+
+    def test_up_is_up(self) -> None:
+        groups = self.picture()
+        a, b, c, d, e, f = map(float, groups["chip"].attrib["transform"][7:-1].split())
+        with Description(self.program, self.design, [self.lef]) as description:
+            view = Scene(description.frame).view
+        ground = next(rect for rect in groups[""].findall(f"{SVG}rect") if "x" in rect.attrib).attrib
+        left, top, width, height = (float(ground[key]) for key in ("x", "y", "width", "height"))
+        self.assertEqual((a, b, c), (-d, 0, 0))
+        for x, y, wanted in ((view.left, view.top, (left, top)), (view.right, view.bottom, (left + width, top + height))):
+            self.assertAlmostEqual(a * x + e, wanted[0], 1)
+            self.assertAlmostEqual(d * y + f, wanted[1], 1)
+
+    def test_above_the_limit_there_is_a_map(self) -> None:
+        groups = self.picture("--limit", "3")
+        self.assertNotIn("cells", groups)
+        side, _, _, other, left, bottom = map(int, groups["map"].attrib["transform"][7:-1].split())
+        self.assertEqual((side, other, left, bottom), (312, 312, -1440, -1440))
+
+        def bins(paths: list[ElementTree.Element]) -> set[tuple[int, int]]:
+            runs = [map(int, run) for path in paths for run in re.findall(r"M(\d+) (\d+)h(\d+)v1h-\d+z", path.attrib["d"])]
+            return {(along, y) for x, y, length in runs for along in range(x, x + length)}
+
+        def under(box: Box) -> set[tuple[int, int]]:
+            xs = range((box.left - left) // side, (box.right - 1 - left) // side + 1)
+            return {(x, y) for x in xs for y in range((box.bottom - bottom) // side, (box.top - 1 - bottom) // side + 1)}
+
+        mine = [path for path in groups["map"] if path.attrib["fill"] == colour_of(0, "f0")]
+        self.assertEqual(bins(mine), under(Box(400, 2000, 800, 4000)))
+        self.assertEqual(bins(list(groups["broken"])), under(Box(64000, 0, 64600, 2000)))
+        self.assertIn("Bins of 0.312 µm", "".join(groups["legend"].itertext()))
+
+    def test_arrows_lead_from_the_old_places(self) -> None:
+        text = self.design.read_text()
+        old = text.replace("( 8400 0 ) N", "( 12400 4000 ) N").replace("two INV + PLACED ( 64200 0 ) N", "two INV")
+        # The order of the components is another one.
+        first = "- far INV + PLACED ( 2000000 0 ) N ;\n"
+        (self.folder / "old.def").write_text(old.replace(first, "").replace("- one", f"{first}- one"))
+        groups = self.picture("--before", "old.def")
+        (arrow,) = list(groups["moves"])
+        self.assertEqual(arrow.findtext(f"{SVG}title"), "f1cx")
+        self.assertTrue(arrow.attrib["d"].startswith("M12600 5000L8600 1000M"), arrow.attrib)
+        self.assertIn("→ 1 moved", "".join(groups["legend"].itertext()))
+
+    def test_designs_without_cells_or_places(self) -> None:
+        bare = self.design.read_text().split("COMPONENTS")[0] + "END DESIGN\n"
+        for text in (bare, bare.replace("END DESIGN", "COMPONENTS 1 ;\n- f0c0 INV ;\nEND COMPONENTS\nEND DESIGN")):
+            self.design.write_text(text)
+            for words in ((), ("--limit", "0"), ("--before", "t.def")):
+                groups = self.picture(*words)
+                self.assertEqual(len(boxes(groups["fences"])), TEAMS)
+                self.assertEqual(len(boxes(groups.get("cells", groups["broken"]))), 0)
+
+    def test_any_name_is_text(self) -> None:
+        self.assertEqual(text_of("a\x00<\ud800&\"\uffff"), "a\\x00&lt;\\xd800&amp;&quot;\\xffff")
+        self.assertEqual(shortened("abcdefghij", 6), "abc…ij")
+        odd = self.folder / "\u00e9<&\n.def"
+        odd.write_bytes(self.design.read_bytes().replace(b"DESIGN t ", b"DESIGN <t&\"> "))
+        groups = self.picture(design=odd.name)
+        self.assertEqual(groups[""].findtext(f"{SVG}title"), "<t&\">")
+
+    def test_a_png(self) -> None:
+        words = [str(FRONT / "bin/lefence-picture"), "t.def", "t.lef", "--program", self.program, "-o", "x.png"]
+        # KLayout takes seconds to start.
+        done = subprocess.run(words, cwd=self.folder, capture_output=True, timeout=5 * PATIENCE)
+        if shutil.which("klayout"):
+            self.assertEqual(done.returncode, 0, done.stderr)
+            made = (self.folder / "x.png").read_bytes()
+            self.assertEqual(made[:8], b"\x89PNG\r\n\x1a\n")
+            with Description(self.program, self.design, [self.lef]) as description:
+                drawing = Drawing(Scene(description.frame))
+            # The picture is there, and twice as wide as the chip at least.
+            self.assertGreater(int.from_bytes(made[16:20]), 2 * drawing.wide)
+        else:
+            self.assertEqual(done.returncode, 2)
+            self.assertIn(b"install the Debian package klayout", done.stderr)
+
+    def test_what_is_read_is_not_overwritten(self) -> None:
+        done = self.tool("lefence-picture", "t.def", "t.lef", "--program", self.program, "-o", "t.lef")
+        self.assertEqual((done.returncode, done.stderr), (2, b"lefence-picture: t.lef is read, and not written\n"))
+
+
+if __name__ == "__main__":
+    unittest.main()

@@ -1,0 +1,208 @@
+"""The page about a design: what it tells, and that it works in a real browser."""
+
+from __future__ import annotations
+
+import json
+import re
+import unittest
+from html.parser import HTMLParser
+from typing import Any
+from urllib.parse import quote
+
+from browser import CHROMIUM, Browser
+from support import FrontCase
+
+from lefence.description import Box, Cell
+from lefence.report import Near
+
+# Cells that break rules, two of them with odd names; a soft blockage, a FIXED component with such a name, and a blockage.
+ODD = "f0c</script><b>&\"'%41"
+MORE = f"""BLOCKAGES 2 ;
+- PLACEMENT RECT ( 70000 4000 ) ( 71000 8000 ) ;
+- PLACEMENT + SOFT RECT ( 9000 0 ) ( 9400 2000 ) ;
+END BLOCKAGES
+COMPONENTS 6 ;
+- </script>wall BUF + FIXED ( 0 6000 ) N ;
+- one INV + PLACED ( 64000 0 ) N ;
+- two INV + PLACED ( 64200 0 ) N ;
+- far INV + PLACED ( 2000000 0 ) N ;
+- {ODD} INV + PLACED ( 500 2000 ) FS ;
+- f1cx INV + PLACED ( 8400 0 ) N ;
+END COMPONENTS
+"""
+
+
+class Text(HTMLParser):
+    """The text of the cells of tables, line by line, and the embedded data."""
+
+    def __init__(self, page: str) -> None:
+        super().__init__()
+        self.lines: list[list[str]] = []
+        self.links: list[str] = []
+        self.data = ""
+        self._in: str | None = None
+        self.feed(page)
+
+    def handle_starttag(self, tag: str, attrs: list[tuple[str, str | None]]) -> None:
+        if tag == "tr":
+            self.lines.append([])
+        elif tag in ("td", "th"):
+            self.lines[-1].append("")
+        elif tag == "a":
+            self.links.append(dict(attrs)["href"] or "")
+        self._in = "data" if dict(attrs).get("id") == "data" else "cell" if tag in ("td", "th") else self._in
+
+    def handle_endtag(self, tag: str) -> None:
+        self._in = None if tag in ("td", "th", "script") else self._in
+
+    def handle_data(self, data: str) -> None:
+        if self._in == "data":
+            self.data += data
+        elif self._in == "cell":
+            self.lines[-1][-1] += data
+
+
+class ReportCase(FrontCase):
+    def setUp(self) -> None:
+        super().setUp()
+        self.design.write_text(self.design.read_text().replace("END DESIGN", f"{MORE}END DESIGN"))
+
+    def page(self, *words: str) -> str:
+        done = self.tool("lefence-report", "t.def", "t.lef", "--program", self.program, "-o", "x.html", *words)
+        self.assertEqual(done.returncode, 0, done.stderr)
+        return (self.folder / "x.html").read_text()
+
+
+class Reports(ReportCase):
+    def data(self, text: Text) -> dict[str, Any]:
+        read: dict[str, Any] = json.loads(text.data)
+        return read
+
+    def test_what_the_tables_tell(self) -> None:
+        text = Text(self.page())
+        self.assertIn(["twooverlaps one", "8 Overlap", "-", "64.2, 0"], text.lines)
+        self.assertIn("#v=" + quote(ODD, safe=""), text.links)
+        # Of f0: eleven cells of 10 * 400 and 4 * 200 by 2000 more, ten unplaced, one off its site; the wall stands in its ground.
+        self.assertIn(["f0", "11", "1", "10", "1Row 1", "10.4", "62.8", "16.6%"], text.lines)
+        self.assertIn(["f1", "11", "1", "10", "0", "10.4", "64.0", "16.2%"], text.lines)
+        ground = ["-the ground outside all fences", "13", "3", "10", "3Row 1, Overlap 2", "12.0", "60.0", "20.0%"]
+        self.assertIn(ground, text.lines)
+        data = self.data(text)
+        self.assertEqual([cell[6] for cell in data["broken"]], ["one", "two", "far", ODD])
+        self.assertEqual([cell[:4] + cell[6:] for cell in data["cells"]], [[8400, 0, 400, 2000, "f1cx"]])
+        self.assertEqual(data["obstacles"], [[0, 6000, 600, 2000, "</script>wall"], [70000, 4000, 1000, 4000, None]])
+        self.assertEqual((data["soft"], data["map"]), ([[9000, 0, 400, 2000]], None))
+
+    def test_above_the_limit_there_is_a_map_and_what_is_near_violations(self) -> None:
+        page = self.page("--limit", "2", "--most", "1")
+        self.assertIn("The first 1 of 4 are listed", page)
+        data = self.data(Text(page))
+        self.assertEqual([cell[6] for cell in data["broken"]], ["one"])
+        self.assertEqual([cell[6] for cell in data["cells"]], ["two"])
+        self.assertTrue(data["map"]["paths"] and data["map"]["broken"])
+
+    def test_a_fully_legal_design_and_one_without_cells(self) -> None:
+        bare = self.design.read_text().split("COMPONENTS")[0] + "END DESIGN\n"
+        self.design.write_text(bare)
+        for words in ((), ("--limit", "0")):
+            page = self.page(*words)
+            self.assertIn("fully legal", page)
+            self.assertIn("No cell breaks a rule.", page)
+            self.assertIn(["f0", "0", "0", "0", "0", "0.0", "64.0", "0.0%"], Text(page).lines)
+
+    def test_cells_near_a_huge_one_are_bounded(self) -> None:
+        huge = Cell("huge", "-", "M", 10**9, 10**9, Box(0, 0, 10**9, 10**9), "N", 1, None)
+        near = Near([huge], 2000)
+        beside = Cell("a", "-", "M", 400, 2000, Box(0, 0, 400, 2000), "N", None, None)
+        far = beside._replace(name="b", box=Box(9**9, 0, 9**9 + 400, 2000))
+        self.assertEqual([near.has(cell) for cell in (huge, beside, far)], [False, True, False])
+        self.assertTrue(near.has(beside._replace(name="x" * 3_000_000)))
+        self.assertFalse(near.has(beside))
+
+    def test_nothing_comes_from_elsewhere(self) -> None:
+        self.assertIsNone(re.search(r"""(?:src|href)=["'](?!#|data:)|https?:|@import|url[(]""", self.page()))
+
+
+@unittest.skipUnless(CHROMIUM, "chromium is not there: no browser to load the page with")
+class InABrowser(ReportCase):
+    def setUp(self) -> None:
+        super().setUp()
+        self.page()
+        self.browser = self.enterContext(Browser(self.folder / "browser"))
+
+    def where(self) -> list[float]:
+        found: list[float] = self.browser.value("[at.x, at.y, at.scale, chosen]")
+        return found
+
+    def test_the_page_in_a_browser(self) -> None:
+        browser = self.browser
+        browser.open((self.folder / "x.html").as_uri())
+        browser.screen(1400)
+        # All is shown at first; a click on a violation's line shows its place.
+        x, y, all_scale, chosen = self.where()
+        self.assertEqual((x, y, chosen), (36000, 4000, -1))
+        browser.click("tr[data-go='v=two']")
+        x, y, scale, chosen = self.where()
+        self.assertEqual((x, y, chosen), (64400, 1000, 1))
+        self.assertGreater(scale, 1.5 * all_scale)
+        self.assertEqual(browser.value("location.hash"), "#v=two")
+        self.assertEqual(browser.value("document.querySelector('tr.here a').textContent"), "two")
+        # The cell is there in red, its frame beside it.
+        pixels = "pen.getImageData(across(64200), down(2000), 400 * at.scale, 2000 * at.scale).data"
+        count = "(p => [p.filter((v, n) => n % 4 == 0 && v == 217 && p[n + 1] == 43).length, p.length / 4])"
+        red, all_ = browser.value(f"{count}([...{pixels}])")
+        self.assertGreater(red, all_ / 3)
+        self.look_around(scale)
+        # Lines of teams, odd names, and widths and colours of the screen.
+        browser.click("tr[data-go='t=f1']")
+        self.assertEqual(self.where()[:2], [12000, 4000])
+        browser.click(f"a[href='#v={quote(ODD, safe='')}']")
+        self.assertEqual(self.where()[:2], [700, 3000])
+        light = browser.value("colours.row")
+        for width in (1400, 800, 360):
+            browser.screen(width, dark=True)
+            self.assertLessEqual(browser.value("document.documentElement.scrollWidth"), width)
+        self.assertNotEqual(browser.value("colours.row"), light)
+        self.assertEqual(browser.faults(), [])
+
+    def look_around(self, scale: float) -> None:
+        """Wheel, drag, buttons and keys."""
+        browser = self.browser
+        x, y = browser.value("[canvas.getBoundingClientRect()].map((b) => [b.x + size.wide / 2, b.y + size.high / 2])[0]")
+        browser.mouse("mouseWheel", x, y, deltaX=0, deltaY=-200)
+        browser.drawn()
+        self.assertGreater(self.where()[2], scale)
+        before = self.where()
+        for kind, way, buttons in (("mousePressed", 0, 1), ("mouseMoved", 50, 1), ("mouseReleased", 50, 0)):
+            browser.mouse(kind, x + way, y, button="left", buttons=buttons, clickCount=1)
+        browser.drawn()
+        self.assertAlmostEqual(self.where()[0], before[0] - 50 / before[2], 3)
+        for key, changed in (("ArrowUp", 1), ("ArrowRight", 0), ("+", 2), ("-", 2)):
+            before = self.where()
+            browser.key(key)
+            self.assertNotEqual(self.where()[changed], before[changed], key)
+        browser.key("n")
+        self.assertEqual(self.where()[3], 2)
+        browser.click("#out")
+        browser.click("#all")
+        self.assertEqual(self.where()[:2], [36000, 4000])
+
+    def test_an_address_leads_to_a_place(self) -> None:
+        for hash_, chosen in (("#v=one", 0), ("#v=nobody", -1), ("#%", -1), ("#v=%", -1)):
+            self.browser.open("about:blank")
+            self.browser.open((self.folder / "x.html").as_uri() + hash_)
+            self.assertEqual(self.where()[3], chosen)
+            self.assertEqual(self.browser.faults(), [])
+
+    def test_a_map_in_a_browser(self) -> None:
+        self.page("--limit", "2")
+        self.browser.open((self.folder / "x.html").as_uri())
+        red = "[...pen.getImageData(Math.round(across(64400)), Math.round(down(1000)), 1, 1).data]"
+        self.assertGreater(self.browser.value(red)[0], 180)
+        self.browser.click("tr[data-go='v=two']")
+        self.assertEqual(self.where()[:2], [64400, 1000])
+        self.assertEqual(self.browser.faults(), [])
+
+
+if __name__ == "__main__":
+    unittest.main()
