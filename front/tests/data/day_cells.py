@@ -1,0 +1,13 @@
+"""Prints where the cells of a DEF text are: `klayout -zz -r day_cells.py`."""
+
+import pya
+
+options = pya.LoadLayoutOptions()
+options.lefdef_config.lef_files = ["day.lef"]
+options.lefdef_config.read_lef_with_def = False
+options.lefdef_config.instance_property_name = "name"
+layout = pya.Layout()
+layout.read("done.def", options)
+# A transformation that only moves is told as where to.
+places = (f"{cell.property('name')} {cell.dtrans}".replace(" r0", "") for cell in layout.top_cell().each_inst())
+print(*places, sep="; ")
