@@ -11,7 +11,10 @@ from support import FRONT, PROGRAM, FrontCase
 
 from backend import build_wheel
 
-TOOLS = ("lefence-hub", "lefence-slice", "lefence-push", "lefence-shell")
+TOOLS = (
+    *("lefence-hub", "lefence-slice", "lefence-push", "lefence-shell", "lefence-picture", "lefence-report"),
+    *("lefence-summary", "lefence-markers", "lefence-prepare", "lefence-repair"),
+)
 
 
 class Tools(FrontCase):
@@ -38,6 +41,17 @@ class Tools(FrontCase):
             ("lefence-slice", ("t.def", "--team", "f0", "--output", "nowhere/x")),
             ("lefence-push", (b"\xff", "s")),
             ("lefence-shell", (b"\xff.def", "t.lef", "--program", PROGRAM)),
+            ("lefence-summary", ("t.def", b"\xff.def", "t.lef", "--program", PROGRAM)),
+            ("lefence-summary", ("t.def", "nowhere.def", "t.lef", "--program", PROGRAM)),
+            ("lefence-prepare", ("t.def", "nowhere.lef", "--output", "x", "--program", PROGRAM)),
+            ("lefence-prepare", ("t.def", "t.lef", "--output", "nowhere/x", "--program", PROGRAM)),
+            ("lefence-markers", ("nowhere.def", "t.lef", "--output", "x", "--program", PROGRAM)),
+            ("lefence-markers", ("t.def", "t.lef", "--output", "nowhere/x", "--program", PROGRAM)),
+            ("lefence-repair", ("nowhere.def", "t.lef", "--out", "x", "--program", PROGRAM)),
+            ("lefence-picture", ("nowhere.def", "t.lef", "--program", PROGRAM)),
+            ("lefence-picture", ("t.def", "t.lef", "--program", PROGRAM, "-o", "nowhere/x.svg")),
+            ("lefence-report", ("nowhere.def", "t.lef", "--program", PROGRAM)),
+            ("lefence-report", ("t.def", "t.lef", "--program", PROGRAM, "-o", "nowhere/x.html")),
         ):
             done = self.tool(name, *words)
             self.assertEqual((done.returncode, done.stdout), (3, b""), (name, words, done.stderr))
@@ -46,7 +60,17 @@ class Tools(FrontCase):
 
     def test_a_program_that_is_not_there_ends_with_2(self) -> None:
         sockets = ("--sockets", "s", "--journal", "j")
-        for name, words in (("lefence-hub", ("t.def", "t.lef", *sockets)), ("lefence-shell", ("t.def", "t.lef"))):
+        design = ("t.def", "t.lef")
+        for name, words in (
+            ("lefence-hub", (*design, *sockets)),
+            ("lefence-shell", design),
+            ("lefence-picture", design),
+            ("lefence-report", design),
+            ("lefence-summary", ("t.def", *design)),
+            ("lefence-markers", (*design, "--output", "x")),
+            ("lefence-prepare", (*design, "--output", "x")),
+            ("lefence-repair", (*design, "--out", "x")),
+        ):
             done = self.tool(name, *words, "--program", "./nothing")
             self.assertEqual((done.returncode, done.stderr.count(b"no such program")), (2, 1), done.stderr)
 
