@@ -38,7 +38,10 @@ class Browser:
             os.dup2(mine[0], 3)
             os.dup2(mine[1], 4)
 
-        self._process = subprocess.Popen(words, close_fds=False, preexec_fn=place, **ends)
+        # What the browser leaves behind goes with the folder.
+        folder.mkdir(exist_ok=True)
+        surroundings = {**os.environ, "TMPDIR": str(folder)}
+        self._process = subprocess.Popen(words, close_fds=False, preexec_fn=place, env=surroundings, **ends)
         for end in (asks, tells, *mine):
             os.close(end)
         self._session: str | None = None
