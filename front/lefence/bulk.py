@@ -45,7 +45,7 @@ class Bulk:
 
     def ask(self, line: bytes) -> bytes:
         """The reply to a line of a verb other than `def`, as those of `replies`."""
-        return next(self.replies([line]))[0]
+        return next(reply for some in self.replies([line]) for reply in some)
 
     def replies(self, lines: Iterable[bytes]) -> Iterator[list[bytes]]:
         """The reply to each line, without its line feed, many at a time; lines go out while replies come in."""

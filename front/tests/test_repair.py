@@ -10,6 +10,7 @@ from unittest import main
 
 from support import LEF, PROGRAM, WIDTH, FrontCase
 
+from lefence.bulk import Bulk
 from lefence.description import Cell, Description
 from lefence.repair import spot_of
 from lefence.splice import with_spots
@@ -172,6 +173,13 @@ class Repairs(FrontCase):
             done = self.repair("--out", self.target, program=str(dying))
             self.assertEqual((done.returncode, b"the program was lost" in done.stderr), (3, True), done.stderr)
             self.assertEqual([path.name for path in sorted(self.folder.iterdir())], ["dying", "t.def", "t.lef"])
+
+    def test_a_long_reply_comes_in_pieces(self) -> None:
+        slow = self.folder / "slow"
+        slow.write_text("#!/bin/sh\nread line\nprintf 'ok '\nsleep 0.2\necho behind\n")
+        slow.chmod(0o755)
+        with Bulk(str(slow), [self.design, self.lef], None) as bulk:
+            self.assertEqual(bulk.ask(b"check A 0"), b"ok behind")
 
 
 if __name__ == "__main__":
