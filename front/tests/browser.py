@@ -16,7 +16,9 @@ from typing import Any
 from support import PATIENCE
 
 CHROMIUM = shutil.which("chromium")
-_FLAGS = "--headless --no-sandbox --disable-gpu --no-first-run --remote-debugging-pipe --window-size=1400,1000".split()
+_FLAGS = (
+    "--headless --no-sandbox --disable-gpu --disable-dev-shm-usage --no-first-run --remote-debugging-pipe --window-size=1400,1000"
+).split()
 
 
 class Browser:
