@@ -2,12 +2,14 @@
 
 from __future__ import annotations
 
+import contextlib
 import fcntl
 import itertools
 import json
 import os
 import select
 import shutil
+import signal
 import subprocess
 import time
 from pathlib import Path
@@ -41,9 +43,10 @@ class Browser:
             os.dup2(mine[1], 4)
 
         # What the browser leaves behind goes with the folder.
+        self._folder = folder
         folder.mkdir(exist_ok=True)
         surroundings = {**os.environ, "TMPDIR": str(folder)}
-        self._process = subprocess.Popen(words, close_fds=False, preexec_fn=place, env=surroundings, **ends)
+        self._process = subprocess.Popen(words, close_fds=False, preexec_fn=place, start_new_session=True, env=surroundings, **ends)
         for end in (asks, tells, *mine):
             os.close(end)
         self._session: str | None = None
@@ -56,10 +59,16 @@ class Browser:
         return self
 
     def __exit__(self, *_: object) -> None:
-        self._process.kill()
+        with contextlib.suppress(ProcessLookupError):
+            os.killpg(self._process.pid, signal.SIGKILL)
         self._process.wait()
         os.close(self._asking)
         os.close(self._told)
+        # Those of its processes that are not waited for may write into the folder for a moment more.
+        last = time.monotonic() + PATIENCE
+        while self._folder.exists() and time.monotonic() < last:
+            shutil.rmtree(self._folder, ignore_errors=True)
+            time.sleep(0.05)
 
     def ask(self, method: str, **fields: Any) -> dict[str, Any]:
         """The result of a command."""
