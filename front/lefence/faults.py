@@ -6,6 +6,7 @@ import argparse
 import os
 import sys
 from collections.abc import Callable
+from pathlib import Path
 
 # Exit statuses, as the program's: done; refused input; no command; a file, a socket, the disk or the program failed.
 DONE, REFUSED, USAGE, FAILED = 0, 1, 2, 3
@@ -25,6 +26,16 @@ class Parser(argparse.ArgumentParser):
     def __init__(self, tool: str, what: str, example: str) -> None:
         epilog = "example:\n" + "\n".join(f"  {line}" for line in example.splitlines())
         super().__init__(prog=tool, description=what, epilog=epilog, formatter_class=argparse.RawDescriptionHelpFormatter)
+
+    def add_design(self) -> None:
+        """The words of a design: its DEF text, and its LEF texts behind it."""
+        self.add_argument("design", metavar="DEF", type=Path, help="the design")
+        self.add_argument("libraries", metavar="LEF", type=Path, nargs="+", help="its LEF texts, in the order of the program")
+
+    def add_program(self) -> None:
+        """The option for another program."""
+        told = "the lefence program (that of the search path, or of this repository)"
+        self.add_argument("--program", metavar="PATH", help=told)
 
 
 def log(tool: str, text: str) -> None:

@@ -142,7 +142,7 @@ def parser() -> Parser:
     add("--team", metavar="NAME", action="append", default=[], help="a team to serve, and no others than those so named")
     add("--patience", metavar="S", type=float, default=60.0, help="seconds for which a client may read nothing (60)")
     add("--no-sync", action="store_true", help="do not wait for the disk: a crash of the machine may lose changes")
-    add("--program", metavar="PATH", help="the lefence program (that of the search path, or of this repository)")
+    made.add_program()
     return made
 
 

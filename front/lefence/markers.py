@@ -146,12 +146,11 @@ def parser() -> Parser:
         f"{TOOL} chip.def tech.lef cells.lef --output chip.lyrdb --technology chip.lyt\n"
         "klayout -nn chip.lyt chip.def -m chip.lyrdb",
     )
+    made.add_design()
     add = made.add_argument
-    add("design", metavar="DEF", type=Path, help="the design")
-    add("libraries", metavar="LEF", type=Path, nargs="+", help="its LEF texts, in the order of the program")
     add("-o", "--output", metavar="FILE", type=Path, required=True, help="where the report database is written (.lyrdb)")
     add("--technology", metavar="FILE", type=Path, help="also writes a technology, by which KLayout finds the LEF texts (.lyt)")
-    add("--program", metavar="PATH", help="the lefence program (that of the search path, or of this repository)")
+    made.add_program()
     return made
 
 

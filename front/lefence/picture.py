@@ -116,14 +116,13 @@ def parser() -> Parser:
         "Many cells are drawn as a map: bins that are the darker the more of them is taken.",
         f"{TOOL} chip.def tech.lef cells.lef -o chip.svg\n{TOOL} new.def tech.lef cells.lef --before chip.def -o moves.png",
     )
+    made.add_design()
     add = made.add_argument
-    add("design", metavar="DEF", type=Path, help="the design")
-    add("libraries", metavar="LEF", type=Path, nargs="+", help="its LEF texts")
     told = "an SVG, or a PNG if its name ends so; may be given twice (an SVG on standard output)"
     add("-o", "--output", metavar="FILE", type=Path, action="append", help=told)
     add("--before", metavar="DEF", type=Path, help="arrows show which cells stand elsewhere in this DEF text, and where")
     add("--limit", metavar="N", type=int, default=LIMIT, help=f"above so many cells a map is drawn ({LIMIT})")
-    add("--program", metavar="PATH", help="the lefence program (lefence of the search path, or that of this repository)")
+    made.add_program()
     return made
 
 

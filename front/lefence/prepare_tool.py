@@ -98,9 +98,8 @@ def parser() -> Parser:
         f"{TOOL} chip.def tech.lef cells.lef --output ready.def --fillers 'FILL*' \\\n"
         "    --fence A 0 0 100 50 --group A 'u1/*' 'u2/*'",
     )
+    made.add_design()
     add = made.add_argument
-    add("design", metavar="DEF", type=Path, help="the DEF text")
-    add("libraries", metavar="LEF", type=Path, nargs="+", help="its LEF texts, in the order of the program")
     add("-o", "--output", metavar="FILE", type=Path, required=True, help="where the prepared text is written")
     add("--rows", action="store_true", help="makes rows also where the text has some, in their place")
     add("--site", metavar="NAME", help="the site of the rows (the first of the LEF texts with CLASS CORE)")
@@ -111,7 +110,7 @@ def parser() -> Parser:
     add("--fence", metavar=("NAME", *_BOX_WORDS), nargs=5, help="adds a fence; again with its name for more rectangles", **many)
     add("--group", metavar=("NAME", "PATTERN"), nargs="+", help="binds components to the fence of that name", **many)
     add("--force", action="store_true", help="writes the text even if it does not load")
-    add("--program", metavar="PATH", help="the lefence program (that of the search path, or of this repository)")
+    made.add_program()
     return made
 
 

@@ -348,14 +348,13 @@ def parser() -> Parser:
         "with these places. Legal cells stay. The status is 4 if a cell found no place: it is named and left.",
         f"{TOOL} chip.def tech.lef cells.lef --out new.def\n{TOOL} chip.def tech.lef cells.lef --dry-run --team A",
     )
+    made.add_design()
     add = made.add_argument
-    add("design", metavar="DEF", type=Path, help="the design")
-    add("libraries", metavar="LEF", type=Path, nargs="+", help="its LEF texts, in the order of the program")
     to = made.add_mutually_exclusive_group(required=True)
     to.add_argument("--out", "--output", metavar="FILE", type=Path, help="what is written; it may be the DEF text that is read")
     to.add_argument("--dry-run", action="store_true", help="tell what would move, and write no file")
     add("--team", metavar="NAME", action="append", help="repair this team alone; may be given again (all teams)")
-    add("--program", metavar="PATH", help="the lefence program (of the search path, else of this repository)")
+    made.add_program()
     return made
 
 

@@ -295,13 +295,12 @@ def parser() -> Parser:
         "a link to its place, and each team's cells and utilization. The page is one file that needs no network.",
         f"{TOOL} chip.def tech.lef cells.lef -o report.html",
     )
+    made.add_design()
     add = made.add_argument
-    add("design", metavar="DEF", type=Path, help="the design")
-    add("libraries", metavar="LEF", type=Path, nargs="+", help="its LEF texts")
     add("-o", "--output", metavar="FILE", type=Path, help="where the page is written (standard output)")
     add("--most", metavar="N", type=int, default=MOST_LISTED, help=f"list so many violations at most ({MOST_LISTED})")
     add("--limit", metavar="N", type=int, default=LIMIT, help=f"above so many cells a map is drawn ({LIMIT})")
-    add("--program", metavar="PATH", help="the lefence program (lefence of the search path, or that of this repository)")
+    made.add_program()
     return made
 
 

@@ -257,7 +257,7 @@ def parser() -> Parser:
     )
     made.add_argument("where", metavar="WHERE", nargs="+", help="a socket, HOST:PORT, or DEF LEF...")
     made.add_argument("--team", metavar="NAME", help="the team to begin with")
-    made.add_argument("--program", metavar="PATH", help="the lefence program (that of the search path, or of this repository)")
+    made.add_program()
     return made
 
 

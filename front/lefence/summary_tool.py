@@ -40,7 +40,7 @@ def parser() -> Parser:
     add("after", metavar="AFTER", type=Path, help="the DEF text after")
     add("libraries", metavar="LEF", type=Path, nargs="+", help="the LEF texts of both, in the order of the program")
     add("--json", action="store_true", help="one JSON object in place of the tables")
-    add("--program", metavar="PATH", help="the lefence program (that of the search path, or of this repository)")
+    made.add_program()
     return made
 
 
