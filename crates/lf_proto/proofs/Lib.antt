@@ -5,4 +5,4 @@ pub mod Fronts
 pub mod Cuttings
 pub mod Blanks
 pub mod Printing
-pub mod NoFloat
+pub mod Reports

@@ -1,6 +1,6 @@
 -- A report as JSON.
-use Rattle.std.specs.Prelude.{ℕ, List, map, Option, Some, None, codes}
-use Rattle.serde_json.specs.Data.{Data, number, unsigned, string, array, object, member, no_members}
+use Rattle.std.specs.Prelude.{ℕ, List, ◌++◌, map, Option, Some, None, codes, decimal}
+use Rattle.serde_json.specs.Data.{Data, Items, number, unsigned, string, array, object, member, no_members}
 use Rattle.serde_json.specs.View.{items_of}
 use Rattle.serde_json.specs.Written.{compact_text}
 use Rattle.lf_rules.specs.declared.rule.Rule.{Rule}
@@ -19,10 +19,16 @@ abbrev pub violation_data : Violation → Data
 violation_data v = violation_by v.cell v.other v.rule
 
 -- a report: how many cells there are, how many are unplaced, and the violations
+abbrev pub report_by : ℕ → ℕ → Items → Data
+report_by cells unplaced violations =
+    object (member (codes "cells") (number (unsigned cells)) (member (codes "unplaced") (number (unsigned unplaced)) (member (codes "violations") (array violations) no_members)))
+
 abbrev pub report_data : Report → Data
-report_data r =
-    object (member (codes "cells") (number (unsigned r.cells)) (member (codes "unplaced") (number (unsigned r.unplaced))
-    (member (codes "violations") (array (items_of (map violation_data r.violations))) no_members)))
+report_data r = report_by r.cells r.unplaced (items_of (map violation_data r.violations))
+
+-- the text up to the first violation
+abbrev pub report_front : ℕ → ℕ → List ℕ
+report_front cells unplaced = codes "{\"cells\":" ++ (decimal cells ++ (codes ",\"unplaced\":" ++ (decimal unplaced ++ codes ",\"violations\":[")))
 
 -- the text of a report: JSON without spaces
 unfoldable pub report_text : Report → List ℕ

@@ -1,11 +1,12 @@
 //! The text of a report.
 
-ghost use Rattle.std.specs.Prelude.{◌≡◌, All, IfOk, map, string_bytes};
-ghost use Rattle.serde_json.specs.View.{view};
-ghost use Rattle.serde_json.specs.Written.{compact_text};
+ghost use Rattle.std.specs.Prelude.{◌≡◌, ◌++◌, All, IfOk, OnOk, false, map, string_bytes};
+ghost use Rattle.serde_json.specs.Data.{no_items};
+ghost use Rattle.serde_json.specs.View.{items_of, view};
+ghost use Rattle.serde_json.specs.Written.{compact_text, items_text};
 ghost use Rattle.lf_floorplan.specs.Bounds.{IsName};
 ghost use Rattle.lf_rules.specs.Reports.{IsTold};
-ghost use Rattle.lf_proto.specs.ReportText.{report_data, report_text, violation_data};
+ghost use Rattle.lf_proto.specs.ReportText.{report_by, report_front, report_text, violation_data};
 
 use crate::reply::Text;
 use lf_rules::{Report, Violation};
@@ -41,39 +42,57 @@ fn violation_value(alloc: Global, violation: &Violation) -> Result<Value, AllocE
     }
 }
 
-/// The violations as JSON, in their order.
-fn violation_values(alloc: Global, violations: &[Violation]) -> Result<Vec<Value>, AllocError>
+/// A violation's text.
+fn violation_string(alloc: Global, violation: &Violation) -> Result<String, AllocError>
+    requires { IsTold violation.now }
+    ensures { IfOk result (λ text. string_bytes text ≡ compact_text (violation_data violation.now)) }
+{
+    violation_value(alloc, violation)?.to_string(alloc)
+}
+
+/// Puts the violations behind what is written, in their order, with commas between them and the bracket that closes their list.
+fn put_violations(
+    alloc: Global,
+    text: &mut Vec<u8>,
+    violations: &[Violation],
+) -> Result<(), AllocError>
     requires { All IsTold violations.now }
-    ensures { IfOk result (λ values. map view values.items ≡ map violation_data violations.now) }
+    ensures { OnOk result (text.new.items ≡ text.old.items ++ items_text false (items_of (map violation_data violations.now))) }
 {
-    let mut values = Vec::new(alloc);
+    let mut later = false;
     for violation in violations {
-        values.push(violation_value(alloc, violation)?)?;
+        if later {
+            text.push(b',')?;
+        }
+        later = true;
+        let piece = violation_string(alloc, violation)?;
+        text.extend_from_slice(piece.as_bytes())?;
     }
-    Ok(values)
+    text.push(b']')?;
+    Ok(())
 }
 
-/// The report as JSON.
-fn report_value(alloc: Global, report: &Report) -> Result<Value, AllocError>
-    requires { All IsTold report.now.violations }
-    ensures { IfOk result (λ v. view v ≡ report_data report.now) }
+/// A report without violations, as JSON.
+fn empty_value(alloc: Global, cells: u64, unplaced: u64) -> Result<Value, AllocError>
+    ensures { IfOk result (λ v. view v ≡ report_by cells unplaced no_items) }
 {
-    let cells = report.cells as u64;
-    let unplaced = report.unplaced as u64;
-    let violations = Value::Array(violation_values(alloc, report.violations.as_slice())?);
-    json!(in alloc; {"cells": cells, "unplaced": unplaced, "violations": violations})
+    let none = Value::Array(Vec::new(alloc));
+    json!(in alloc; {"cells": cells, "unplaced": unplaced, "violations": none})
 }
 
-/// The text of a report, as a string.
-fn report_string(alloc: Global, report: &Report) -> Result<String, AllocError>
-    requires { All IsTold report.now.violations }
-    ensures { IfOk result (λ text. string_bytes text ≡ compact_text (report_data report.now)) }
+/// The text of a report up to its first violation: that of a report without any, less the brackets that close it.
+fn front_of(alloc: Global, cells: u64, unplaced: u64) -> Result<Vec<u8>, AllocError>
+    ensures { IfOk result (λ text. text.items ≡ report_front cells unplaced) }
 {
-    report_value(alloc, report)?.to_string(alloc)
+    let mut text = empty_value(alloc, cells, unplaced)?
+        .to_string(alloc)?
+        .into_bytes();
+    text.truncate(text.len() - 2);
+    Ok(text)
 }
 
 /// The text of a report: compact JSON with the keys `cells`, `unplaced` and `violations`, and in each violation
-/// `cell`, for Overlap `other`, and `rule`.
+/// `cell`, for Overlap `other`, and `rule`. One violation at a time is made a value of JSON.
 ///
 /// `Err` if an allocation fails.
 #[tactic(auto, unfolding(crate::specs::ReportText::report_text))]
@@ -81,6 +100,8 @@ pub fn report_json(alloc: Global, report: &Report) -> Result<Text, AllocError>
     requires { All IsTold report.now.violations }
     ensures { IfOk result (λ text. text ≡ report_text report.now) }
 {
-    let text = report_string(alloc, report)?;
-    Ok(Text::from_string(text))
+    let mut text = front_of(alloc, report.cells as u64, report.unplaced as u64)?;
+    put_violations(alloc, &mut text, report.violations.as_slice())?;
+    text.push(b'}')?;
+    Ok(Text::from_bytes(text))
 }
