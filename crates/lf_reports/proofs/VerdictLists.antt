@@ -1,11 +1,11 @@
 -- Verdicts that are found one by one, in the order of the cells' boxes.
-use Rattle.std.proofs.Common.{◌≡◌, ◌≢◌, ◌⊎◌, inl, inr, ℕ, zero, suc, ◌+◌, ◌<◌, List, [], ◌∷◌, ◌++◌, length, map, drop, get_or, set, slice_get, Option, None, Some, refl, sym, ◌∙◌, ap, subst, arith}
+use Rattle.std.proofs.Common.{◌≡◌, ◌≢◌, ◌⊎◌, inl, inr, ℕ, zero, suc, ◌+◌, ◌<◌, List, [], ◌∷◌, ◌++◌, length, map, take, drop, get_or, set, slice_get, Option, None, Some, refl, sym, ◌∙◌, ap, subst, arith}
 use Rattle.std.specs.Prelude.{All, Contains, IsPermutation, option_and_then, option_map}
 use Rattle.std.proofs.lemmas.Grind.{get_or-set_at}
 use Rattle.std.proofs.Math.Seq.{drop-cons}
-use Rattle.std.proofs.lemmas.List.{append_assoc, map-append, get_or_default, get_or-set_other, length-set}
+use Rattle.std.proofs.lemmas.List.{append_assoc, append-nil, map-append, get_or-set_other, length-set, take_more, take-append-drop}
 use Rattle.std.proofs.lemmas.Option.{slice_get-map}
-use Rattle.std.proofs.lemmas.List.Elements.{All-nil, All-cons, All-head, All-tail}
+use Rattle.std.proofs.lemmas.List.Elements.{All-nil, All-cons, All-append, All-weaker, All-head, All-tail}
 use Rattle.std.proofs.lemmas.List.Sorted.{All-permutation, Contains-permutation}
 use Rattle.std.specs.Borrow.{Bor}
 use Rattle.lf_rtree.specs.declared.placed.Placed.{Placed}
@@ -16,7 +16,7 @@ use Rattle.lf_rules.specs.declared.report.Listed.{Listed}
 use Rattle.lf_rules.specs.Choice.{Spot, spot_of}
 use Rattle.lf_rules.specs.Legalizer.{Legalizer}
 use Rattle.lf_rules.specs.Team.{Member, box_in, with_box, boxes_from}
-use Rattle.lf_reports.specs.Reports.{IsListed, member_of, named, trial_among, broken_among, verdict_at, AreVerdicts, AreSomeVerdicts, IsPut, PutsVerdict}
+use Rattle.lf_reports.specs.Reports.{IsListed, member_of, named, trial_among, broken_among, verdict_at, AreVerdicts, AreSomeVerdicts, HaveVerdicts, IsPut, PutsVerdict}
 
 first_there : (x : Placed) (xs : List Placed) → Contains (x ∷ xs) x
 first_there x xs = (0, omega arith, refl)
@@ -162,29 +162,29 @@ fetched_more cells fetched boxes k d c within there so_far =
 
 -- ---- the verdicts of all boxes so far
 
--- the cells of the first k boxes have their verdict, and the others have it or none yet
-pub record HaveVerdicts (l : Legalizer) (f : Frame) (padding : ℕ) (cells : List (Listed (List ℕ))) (boxes : List Placed) (k : ℕ) (verdicts : List (Option Broken)) : Type 0 where
-  pub some : AreSomeVerdicts l f padding cells verdicts
-  pub done : (j : ℕ) (d : Placed) (c : Listed (List ℕ)) → j < k → slice_get cells (get_or boxes j d).own ≡ Some c →
-      verdict_at verdicts (get_or boxes j d).own ≡ broken_among l f padding cells (get_or boxes j d).own c
+-- a box more
+pub one_more : (l : Legalizer) (f : Frame) (padding : ℕ) (cells : List (Listed (List ℕ))) (boxes : List Placed) (p : Placed) (old new : List (Option Broken)) →
+    HaveVerdicts l f padding cells boxes old → PutsVerdict l f padding cells p.own old new → HaveVerdicts l f padding cells (boxes ++ p ∷ []) new
+one_more l f padding cells boxes p old new have puts =
+    let Has : List (Option Broken) → Placed → Type 0 = λ verdicts q. (c : Listed (List ℕ)) → slice_get cells q.own ≡ Some c → verdict_at verdicts q.own ≡ broken_among l f padding cells q.own c in
+    record {
+      some = puts.some;
+      done = All-append (Has new) boxes (p ∷ []) (All-weaker (Has old) (Has new) (λ q had c at. puts.kept q.own c at (had c at)) boxes have.done)
+          (All-cons (Has new) p [] puts.put (All-nil (Has new)));
+    }
 
-pub one_more : (l : Legalizer) (f : Frame) (padding : ℕ) (cells : List (Listed (List ℕ))) (boxes : List Placed) (k : ℕ) (e : Placed) (old new : List (Option Broken)) →
-    k < length boxes → HaveVerdicts l f padding cells boxes k old → PutsVerdict l f padding cells (get_or boxes k e).own old new → HaveVerdicts l f padding cells boxes (k + 1) new
-one_more l f padding cells boxes k e old new within have puts = record {
-  some = puts.some;
-  done = λ j d c below at.
-      let cases : (j < k) ⊎ (j ≡ k) = grind arith in
-      elim cases [
-        | inl less ↦ puts.kept (get_or boxes j d).own c at (have.done j d c less at)
-        | inr same ↦
-            let one : get_or boxes j d ≡ get_or boxes k e = subst (λ (m : ℕ). get_or boxes m d ≡ get_or boxes k e) (sym same) (get_or_default boxes k d e within) in
-            subst (λ (p : Placed). slice_get cells p.own ≡ Some c → verdict_at new p.own ≡ broken_among l f padding cells p.own c) (sym one) (puts.put c) at
-      ];
-}
+-- behind boxes that are done, one more of those at hand
+pub next_done : (l : Legalizer) (f : Frame) (padding : ℕ) (cells : List (Listed (List ℕ))) (done boxes : List Placed) (k : ℕ) (d : Placed) (old new : List (Option Broken)) →
+    k < length boxes → HaveVerdicts l f padding cells (done ++ take k boxes) old → PutsVerdict l f padding cells (get_or boxes k d).own old new →
+    HaveVerdicts l f padding cells (done ++ take (k + 1) boxes) new
+next_done l f padding cells done boxes k d old new within have puts =
+    let parts : (done ++ take k boxes) ++ get_or boxes k d ∷ [] ≡ done ++ take (k + 1) boxes =
+    append_assoc done (take k boxes) (get_or boxes k d ∷ []) ∙ ap (λ (xs : List Placed). done ++ xs) (sym (take_more boxes k d within)) in
+    subst (λ (xs : List Placed). HaveVerdicts l f padding cells xs new) parts (one_more l f padding cells (done ++ take k boxes) (get_or boxes k d) old new have puts)
 
 -- where all boxes are done, each cell has its verdict: an unplaced one breaks no rule
 pub all_done : (l : Legalizer) (f : Frame) (padding : ℕ) (cells : List (Listed (List ℕ))) (boxes : List Placed) (verdicts : List (Option Broken)) →
-    IsPermutation (boxes_from f 0 (map member_of cells)) boxes → HaveVerdicts l f padding cells boxes (length boxes) verdicts → AreVerdicts l f padding cells verdicts
+    IsPermutation (boxes_from f 0 (map member_of cells)) boxes → HaveVerdicts l f padding cells boxes verdicts → AreVerdicts l f padding cells verdicts
 all_done l f padding cells boxes verdicts same have = record { count = have.some.count; each = λ own c at. by own c at c.place refl }
   where
     by : (own : ℕ) (c : Listed (List ℕ)) → slice_get cells own ≡ Some c → (place : Option Place) → c.place ≡ place →
@@ -204,15 +204,42 @@ all_done l f padding cells boxes verdicts same have = record { count = have.some
         let listed : Contains (boxes_from f 0 (map member_of cells)) box =
         subst (λ (i : ℕ). Contains (boxes_from f 0 (map member_of cells)) (record { own = i; rect = box_in f m.mac (spot_of p) })) number (box_there f 0 (map member_of cells) own m (spot_of p) there stands) in
         let among : Contains boxes box = Contains-permutation (boxes_from f 0 (map member_of cells)) boxes box same listed in
-        subst (λ (q : Placed). slice_get cells q.own ≡ Some c → verdict_at verdicts q.own ≡ broken_among l f padding cells q.own c) among.2 (have.done among.0 box c among.1) at
+        subst (λ (q : Placed). slice_get cells q.own ≡ Some c → verdict_at verdicts q.own ≡ broken_among l f padding cells q.own c) among.2 (have.done among.0 box among.1 c) at
 
 -- none has a verdict before the first box
-pub none_yet : (l : Legalizer) (f : Frame) (padding : ℕ) (cells : List (Listed (List ℕ))) (boxes : List Placed) (verdicts : List (Option Broken)) →
-    length verdicts ≡ length cells → ((own : ℕ) → verdict_at verdicts own ≡ None) → HaveVerdicts l f padding cells boxes 0 verdicts
-none_yet l f padding cells boxes verdicts count none = record {
+pub none_yet : (l : Legalizer) (f : Frame) (padding : ℕ) (cells : List (Listed (List ℕ))) (verdicts : List (Option Broken)) →
+    length verdicts ≡ length cells → ((own : ℕ) → verdict_at verdicts own ≡ None) → HaveVerdicts l f padding cells [] verdicts
+none_yet l f padding cells verdicts count none = record {
   some = record { count = count; each = λ own c at. inl (none own) };
-  done = λ j d c below at. absurd (omega (arith, below));
+  done = All-nil (λ p. (c : Listed (List ℕ)) → slice_get cells p.own ≡ Some c → verdict_at verdicts p.own ≡ broken_among l f padding cells p.own c);
 }
+
+-- the cells of the tree's boxes before those that are left have their verdict
+pub record HaveBefore (l : Legalizer) (f : Frame) (padding : ℕ) (cells : List (Listed (List ℕ))) (tree rest : List Placed) (verdicts : List (Option Broken)) : Type 0 where
+  pub passed : List Placed
+  pub parts : passed ++ rest ≡ tree
+  pub have : HaveVerdicts l f padding cells passed verdicts
+
+-- some of those that are left are passed
+pub pass_some : (l : Legalizer) (f : Frame) (padding : ℕ) (cells : List (Listed (List ℕ))) (tree rest front back : List Placed) (n : ℕ) (old new : List (Option Broken)) →
+    front ≡ take n rest → back ≡ drop n rest →
+    ((done : List Placed) → HaveVerdicts l f padding cells done old → HaveVerdicts l f padding cells (done ++ front) new) →
+    HaveBefore l f padding cells tree rest old → HaveBefore l f padding cells tree back new
+pass_some l f padding cells tree rest front back n old new is_front is_back put before = record {
+  passed = before.passed ++ front;
+  parts =
+      let whole : front ++ back ≡ rest = ap (λ (xs : List Placed). xs ++ back) is_front ∙ ap (λ (xs : List Placed). take n rest ++ xs) is_back ∙ take-append-drop n rest in
+      append_assoc before.passed front back ∙ ap (λ (xs : List Placed). before.passed ++ xs) whole ∙ before.parts;
+  have = put before.passed before.have;
+}
+
+-- where none is left, each cell has its verdict
+pub all_passed : (l : Legalizer) (f : Frame) (padding : ℕ) (cells : List (Listed (List ℕ))) (tree rest : List Placed) (verdicts : List (Option Broken)) →
+    IsPermutation (boxes_from f 0 (map member_of cells)) tree → length rest ≡ 0 → HaveBefore l f padding cells tree rest verdicts → AreVerdicts l f padding cells verdicts
+all_passed l f padding cells tree [] verdicts same none before =
+    all_done l f padding cells tree verdicts same
+    (subst (λ (xs : List Placed). HaveVerdicts l f padding cells xs verdicts) (sym (append-nil before.passed) ∙ before.parts) before.have)
+all_passed l f padding cells tree (p ∷ rest) verdicts same none before = absurd (omega (arith, none))
 
 -- one more place without a verdict
 pub none_more : (verdicts : List (Option Broken)) → ((own : ℕ) → verdict_at verdicts own ≡ None) → (own : ℕ) → verdict_at (verdicts ++ None ∷ []) own ≡ None

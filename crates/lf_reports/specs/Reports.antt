@@ -7,6 +7,7 @@ use Rattle.lf_floorplan.specs.declared.loaded.Cell.{Cell}
 use Rattle.lf_floorplan.specs.declared.place.Place.{Place}
 use Rattle.lf_floorplan.specs.Bounds.{IsName}
 use Rattle.lf_floorplan.specs.Boxes.{IsSized, macro_of}
+use Rattle.lf_rtree.specs.declared.placed.Placed.{Placed}
 use Rattle.lf_rules.specs.declared.rule.Broken.{Broken}
 use Rattle.lf_rules.specs.declared.report.Listed.{Listed}
 use Rattle.lf_rules.specs.declared.report.Violation.{Violation}
@@ -63,6 +64,11 @@ pub record PutsVerdict (l : Legalizer) (f : Frame) (padding : ℕ) (cells : List
   pub put : (c : Listed (List ℕ)) → slice_get cells own ≡ Some c → verdict_at new own ≡ broken_among l f padding cells own c
   pub kept : (other : ℕ) (c : Listed (List ℕ)) → slice_get cells other ≡ Some c → verdict_at old other ≡ broken_among l f padding cells other c →
       verdict_at new other ≡ broken_among l f padding cells other c
+
+-- the cells of these boxes have their verdict, and the others have it or none yet
+pub record HaveVerdicts (l : Legalizer) (f : Frame) (padding : ℕ) (cells : List (Listed (List ℕ))) (boxes : List Placed) (verdicts : List (Option Broken)) : Type 0 where
+  pub some : AreSomeVerdicts l f padding cells verdicts
+  pub done : All (λ p. (c : Listed (List ℕ)) → slice_get cells p.own ≡ Some c → verdict_at verdicts p.own ≡ broken_among l f padding cells p.own c) boxes
 
 -- the name of the cell of that number
 abbrev pub name_among : List (Listed (List ℕ)) → ℕ → Option (List ℕ)

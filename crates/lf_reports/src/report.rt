@@ -7,7 +7,7 @@ ghost use Rattle.lf_rules.specs.Legality.{trial_of};
 ghost use Rattle.lf_rules.specs.Legalizer.{IsVerdict, Legalizer};
 ghost use Rattle.lf_rules.specs.FullyLegal.{IsFullyLegal, standing_at};
 ghost use Rattle.lf_rules.specs.Reports.{IsClean, IsTold};
-ghost use Rattle.lf_reports.specs.Reports.{IsListed, broken_among, listed_at, member_of, name_among, named, report_of, standing_of, trial_among, AreSomeVerdicts, IsPut, AreVerdicts, PutsVerdict, verdict_at, violation_at, violation_of, violations_in};
+ghost use Rattle.lf_reports.specs.Reports.{IsListed, broken_among, listed_at, member_of, name_among, named, report_of, standing_of, trial_among, AreSomeVerdicts, HaveVerdicts, IsPut, AreVerdicts, PutsVerdict, verdict_at, violation_at, violation_of, violations_in};
 ghost use Rattle.lf_rules.specs.Team.{Member, boxes_beside, boxes_from, with_box};
 
 use lf_floorplan::{Cell, Frame, Loaded, Macro, Near, Place, cell_is_sized};
@@ -193,29 +193,58 @@ fn fetch<'a>(
     Ok(fetched)
 }
 
-/// The verdict of each cell, found in the order of these boxes of the placed cells: cells that lie side by side
-/// are looked at one after another.
-fn verdicts_in(
+/// Sets the verdicts of the cells of these boxes.
+fn put_verdicts(
     alloc: Global,
     plan: &Plan<'_>,
     tree: &RTree,
     cells: &[Listed<&[u8]>],
     boxes: &[Placed],
     padding: Padding,
+    verdicts: &mut Vec<Option<Broken>>,
+) -> Result<(), AllocError>
+    requires listed { All (λ c. IsListed plan.now (named c)) cells.now }
+    requires few { length cells.now ≤ 4000000 }
+    requires tree { IsPermutation (boxes_from plan.now 0 (map member_of (map named cells.now))) tree.now }
+    requires known { All (λ p. p.own < length cells.now) boxes.now }
+    requires count { length verdicts.old.items ≡ length cells.now }
+    ensures count { length verdicts.new.items ≡ length cells.now }
+    ensures put { (l : Legalizer) (done : List Placed) → HaveVerdicts l plan.now padding.sites (map named cells.now) done verdicts.old.items →
+        OnOk result (HaveVerdicts l plan.now padding.sites (map named cells.now) (done ++ boxes.now) verdicts.new.items) }
+{
+    let fetched = fetch(alloc, cells, boxes)?;
+    for (number, placed) in boxes.iter().enumerate() {
+        let own = placed.own as usize;
+        let cell = &fetched[number];
+        put_verdict(plan, tree, cells, own, cell, padding, verdicts);
+    }
+    Ok(())
+}
+
+/// How many cells are fetched at a time.
+const FETCHED: usize = 4096;
+
+/// The verdict of each cell, found in the order of the tree's boxes, those of the placed cells: cells that lie side
+/// by side are looked at one after another.
+fn verdicts_in(
+    alloc: Global,
+    plan: &Plan<'_>,
+    tree: &RTree,
+    cells: &[Listed<&[u8]>],
+    padding: Padding,
 ) -> Result<Vec<Option<Broken>>, AllocError>
     requires listed { All (λ c. IsListed plan.now (named c)) cells.now }
     requires few { length cells.now ≤ 4000000 }
     requires tree { IsPermutation (boxes_from plan.now 0 (map member_of (map named cells.now))) tree.now }
-    requires boxes { IsPermutation (boxes_from plan.now 0 (map member_of (map named cells.now))) boxes.now }
     ensures count { IfOk result (λ verdicts. length verdicts.items ≡ length cells.now) }
     ensures each { (l : Legalizer) → IfOk result (λ verdicts. AreVerdicts l plan.now padding.sites (map named cells.now) verdicts.items) }
 {
-    let fetched = fetch(alloc, cells, boxes)?;
     let mut verdicts = no_verdicts(alloc, cells.len())?;
-    for (number, placed) in boxes.iter().enumerate() {
-        let own = placed.own as usize;
-        let cell = &fetched[number];
-        put_verdict(plan, tree, cells, own, cell, padding, &mut verdicts);
+    let mut rest = tree.boxes();
+    while !rest.is_empty() {
+        let (boxes, behind) = rest.split_at(rest.len().min(FETCHED));
+        put_verdicts(alloc, plan, tree, cells, boxes, padding, &mut verdicts)?;
+        rest = behind;
     }
     Ok(verdicts)
 }
@@ -319,9 +348,9 @@ pub fn verdicts_on(
     ensures count { IfOk result (λ verdicts. length verdicts.items ≡ length cells.now) }
     ensures each { (l : Legalizer) → IfOk result (λ verdicts. AreVerdicts l plan.now padding.sites (map named cells.now) verdicts.items) }
 {
-    let mut boxes = boxes_in(alloc, plan.frame(), cells)?;
-    let tree = RTree::build(alloc, boxes.as_mut_slice())?;
-    verdicts_in(alloc, plan, &tree, cells, &boxes, padding)
+    let boxes = boxes_in(alloc, plan.frame(), cells)?;
+    let tree = RTree::build(alloc, boxes)?;
+    verdicts_in(alloc, plan, &tree, cells, padding)
 }
 
 /// The report of these cells with no padding, in which overlap is between any two of them.

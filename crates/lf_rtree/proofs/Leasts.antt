@@ -1,17 +1,15 @@
 -- The least number of a list of boxes from those of its parts.
-use Rattle.std.proofs.Common.{◌≡◌, ◌≢◌, inl, inr, ℕ, List, [], ◌∷◌, ◌++◌, Option, Some, None, refl, sym, ap, subst, ◌∙◌, ◌+◌, ◌-◌, ◌<◌, length, get_or, take, drop, arith}
+use Rattle.std.proofs.Common.{◌≢◌, inl, inr, ℕ, List, [], ◌∷◌, ◌++◌, Option, Some, None, refl, sym, subst, ◌∙◌, ◌+◌, ◌<◌, length, get_or, take, drop, arith}
 use Rattle.std.specs.Prelude.{All, IfSome, IsSomeAnd, IsPermutation}
 use Rattle.std.proofs.lemmas.List.Elements.{All-append, All-weaker, Contains-append_left, Contains-append_right}
-use Rattle.std.proofs.lemmas.List.{map-append, take_more}
-use Rattle.std.proofs.lemmas.List.Sorted.{All-permutation, Contains-permutation, IsPermutation-append_comm, IsPermutation-sym, IsPermutation-middle}
+use Rattle.std.proofs.lemmas.List.{take_more, take-append-drop}
+use Rattle.std.proofs.lemmas.List.Sorted.{All-permutation, Contains-permutation, IsPermutation-append_comm}
 use Rattle.lf_units.specs.Area.{SharesPoint}
 use Rattle.lf_units.specs.declared.area.Rect.{Rect}
 use Rattle.lf_rtree.specs.Near.{IsMet}
-use Rattle.lf_rtree.specs.Packed.{IsBound, IsUpTo, IsLeastOf, HoldsNoLess, boxes_of}
+use Rattle.lf_rtree.specs.Packed.{IsBound, IsUpTo, IsLeastOf, HoldsNoLess}
 use Rattle.lf_rtree.specs.declared.placed.Placed.{Placed}
 use Rattle.lf_rtree.specs.declared.bound.Bound.{Bound}
-use Rattle.lf_rtree.specs.declared.bound.Node.{Node}
-use Rattle.lf_rtree.proofs.Lists.{parted, rest_from}
 
 -- what is up to a number is up to a lesser one too
 up_to_less : (a b : Option ℕ) (n : ℕ) → IsUpTo a n → IfSome a (IsUpTo b) → IsUpTo b n
@@ -81,16 +79,12 @@ least_along xs ys rect but a b c first second = record {
       second.least_met;
 }
 
--- one node more
-pub least_one_more : (nodes : List Node) (n : ℕ) (d : Node) (rect : Rect) (but : ℕ) (a b c : Option ℕ) → n < length nodes →
-    IsLeastOf (boxes_of (take n nodes)) rect but a b → IsLeastOf ((get_or nodes n d).placed ∷ []) rect but b c →
-    IsLeastOf (boxes_of (take (n + 1) nodes)) rect but a c
-least_one_more nodes n d rect but a b c within first second =
-    let P : List Placed → Type 0 = λ xs. IsLeastOf xs rect but a c in
-    let node : Node = get_or nodes n d in
-    let parts : boxes_of (take (n + 1) nodes) ≡ boxes_of (take n nodes) ++ (node.placed ∷ []) =
-    ap (λ (xs : List Node). boxes_of xs) (take_more nodes n d within) ∙ map-append (λ (m : Node). m.placed) (take n nodes) (node ∷ []) in
-    subst P (sym parts) (least_along (boxes_of (take n nodes)) (node.placed ∷ []) rect but a b c first second)
+-- one box more
+pub least_one_more : (boxes : List Placed) (n : ℕ) (d : Placed) (rect : Rect) (but : ℕ) (a b c : Option ℕ) → n < length boxes →
+    IsLeastOf (take n boxes) rect but a b → IsLeastOf (get_or boxes n d ∷ []) rect but b c → IsLeastOf (take (n + 1) boxes) rect but a c
+least_one_more boxes n d rect but a b c within first second =
+    subst (λ (xs : List Placed). IsLeastOf xs rect but a c) (sym (take_more boxes n d within))
+    (least_along (take n boxes) (get_or boxes n d ∷ []) rect but a b c first second)
 
 -- the order of the boxes does not matter
 pub least_permuted : (xs ys : List Placed) (rect : Rect) (but : ℕ) (a b : Option ℕ) → IsPermutation xs ys → IsLeastOf xs rect but a b → IsLeastOf ys rect but a b
@@ -100,31 +94,21 @@ least_permuted xs ys rect but a b moved of = record {
   least_met = All-permutation (λ p. p.own ≢ but → SharesPoint rect p.rect → IsUpTo b p.own) xs ys moved of.least_met;
 }
 
--- the second list first
-pub least_turned : (xs ys : List Placed) (rect : Rect) (but : ℕ) (a b c : Option ℕ) → IsLeastOf ys rect but a b → IsLeastOf xs rect but b c →
-    IsLeastOf (xs ++ ys) rect but a c
-least_turned xs ys rect but a b c first second =
-    least_permuted (ys ++ xs) (xs ++ ys) rect but a c (IsPermutation-append_comm ys xs) (least_along ys xs rect but a b c first second)
+-- the front of a list and then what follows it, and the other way round
+pub least_of_halves : (boxes : List Placed) (n : ℕ) (rect : Rect) (but : ℕ) (a b c : Option ℕ) → IsLeastOf (take n boxes) rect but a b →
+    IsLeastOf (drop n boxes) rect but b c → IsLeastOf boxes rect but a c
+least_of_halves boxes n rect but a b c first second =
+    subst (λ (xs : List Placed). IsLeastOf xs rect but a c) (take-append-drop n boxes)
+    (least_along (take n boxes) (drop n boxes) rect but a b c first second)
 
--- the node at a place, and then those before it and those after it
-pub least_of_halves : (nodes : List Node) (n : ℕ) (d : Node) (rect : Rect) (but : ℕ) (a b c : Option ℕ) → n < length nodes →
-    IsLeastOf ((get_or nodes n d).placed ∷ []) rect but a b →
-    IsLeastOf (boxes_of (take n nodes) ++ boxes_of (take (length nodes - (n + 1)) (drop (n + 1) nodes))) rect but b c →
-    IsLeastOf (boxes_of nodes) rect but a c
-least_of_halves nodes n d rect but a b c within first second =
-    let Whole : List Placed → Type 0 = λ xs. IsLeastOf xs rect but a c in
-    let Rest : List Node → Type 0 = λ xs. IsLeastOf (boxes_of (take n nodes) ++ boxes_of xs) rect but b c in
-    let node : Node = get_or nodes n d in
-    let before : List Placed = boxes_of (take n nodes) in
-    let behind : List Placed = boxes_of (drop (n + 1) nodes) in
-    let parts : before ++ (node.placed ∷ behind) ≡ boxes_of nodes =
-    sym (map-append (λ (m : Node). m.placed) (take n nodes) (node ∷ drop (n + 1) nodes))
-    ∙ ap (λ (xs : List Node). boxes_of xs) (parted nodes n d within) in
-    let rest : IsLeastOf (before ++ behind) rect but b c = subst Rest (rest_from nodes (n + 1)) second in
-    subst Whole parts
-    (least_permuted (node.placed ∷ (before ++ behind)) (before ++ (node.placed ∷ behind)) rect but a c
-    (IsPermutation-sym (before ++ (node.placed ∷ behind)) (node.placed ∷ (before ++ behind)) (IsPermutation-middle before node.placed behind))
-    (least_along (node.placed ∷ []) (before ++ behind) rect but a b c first rest))
+pub least_turned : (boxes : List Placed) (n : ℕ) (rect : Rect) (but : ℕ) (a b c : Option ℕ) → IsLeastOf (drop n boxes) rect but a b →
+    IsLeastOf (take n boxes) rect but b c → IsLeastOf boxes rect but a c
+least_turned boxes n rect but a b c first second =
+    let front : List Placed = take n boxes in
+    let back : List Placed = drop n boxes in
+    subst (λ (xs : List Placed). IsLeastOf xs rect but a c) (take-append-drop n boxes)
+    (least_permuted (back ++ front) (front ++ back) rect but a c (IsPermutation-append_comm back front)
+    (least_along back front rect but a b c first second))
 
 -- boxes within a bound within which no number is less change nothing
 pub least_kept : (bound : Bound) (boxes : List Placed) (rect : Rect) (but : ℕ) (a : Option ℕ) → All (IsBound bound) boxes →

@@ -1,18 +1,16 @@
 -- The boxes near a rectangle from those of a list's parts.
-use Rattle.std.proofs.Common.{◌≡◌, ℕ, ◌+◌, ◌-◌, ◌<◌, List, [], ◌∷◌, ◌++◌, length, get_or, take, drop, sym, ap, subst, ◌∙◌, append_assoc, append-nil}
+use Rattle.std.proofs.Common.{◌≡◌, ℕ, ◌+◌, ◌<◌, List, [], ◌∷◌, ◌++◌, length, get_or, take, drop, sym, ap, subst, ◌∙◌, append_assoc, append-nil}
 use Rattle.std.specs.Prelude.{All, Contains, IsPermutation}
-use Rattle.std.proofs.lemmas.List.{map-append, take_more}
+use Rattle.std.proofs.lemmas.List.{take_more, take-append-drop}
 use Rattle.std.proofs.lemmas.List.Elements.{All-append, All-weaker, All-nil, All-cons, All-contains_itself, Contains-append_left, Contains-get_or}
 use Rattle.std.proofs.lemmas.List.Sorted.{IsPermutation-refl, IsPermutation-sym, IsPermutation-trans, All-permutation, Contains-permutation}
 use Rattle.std.proofs.lemmas.List.Sorted.{IsPermutation-append, IsPermutation-append_left, IsPermutation-append_right, IsPermutation-append_comm}
 use Rattle.lf_units.specs.Area.{SharesPoint}
 use Rattle.lf_units.specs.declared.area.Rect.{Rect}
 use Rattle.lf_rtree.specs.Near.{AreNear}
-use Rattle.lf_rtree.specs.Packed.{IsBound, AddsNear, boxes_of}
+use Rattle.lf_rtree.specs.Packed.{IsBound, AddsNear}
 use Rattle.lf_rtree.specs.declared.placed.Placed.{Placed}
 use Rattle.lf_rtree.specs.declared.bound.Bound.{Bound}
-use Rattle.lf_rtree.specs.declared.bound.Node.{Node}
-use Rattle.lf_rtree.proofs.Lists.{parted, rest_from}
 use Rattle.lf_rtree.proofs.Bounds.{shares_with_bound}
 
 -- lists that are parted, one after the other, are parted so
@@ -102,30 +100,16 @@ adds_nothing bound boxes rect old within apart =
     adds_none boxes rect old
     (All-weaker (IsBound bound) (λ p. SharesPoint rect p.rect → ⊥) (λ p held shares. apart (shares_with_bound rect bound p held shares)) boxes within)
 
--- one node more
-pub adds_one_more : (nodes : List Node) (n : ℕ) (d : Node) (rect : Rect) (old middle new : List Placed) → n < length nodes →
-    AddsNear (boxes_of (take n nodes)) rect old middle → AddsNear ((get_or nodes n d).placed ∷ []) rect middle new →
-    AddsNear (boxes_of (take (n + 1) nodes)) rect old new
-adds_one_more nodes n d rect old middle new within first second =
-    let P : List Placed → Type 0 = λ xs. AddsNear xs rect old new in
-    let node : Node = get_or nodes n d in
-    let parts : boxes_of (take (n + 1) nodes) ≡ boxes_of (take n nodes) ++ (node.placed ∷ []) =
-    ap (λ (xs : List Node). boxes_of xs) (take_more nodes n d within) ∙ map-append (λ (m : Node). m.placed) (take n nodes) (node ∷ []) in
-    subst P (sym parts) (adds_along (boxes_of (take n nodes)) (node.placed ∷ []) rect old middle new first second)
+-- one box more
+pub adds_one_more : (boxes : List Placed) (n : ℕ) (d : Placed) (rect : Rect) (old middle new : List Placed) → n < length boxes →
+    AddsNear (take n boxes) rect old middle → AddsNear (get_or boxes n d ∷ []) rect middle new → AddsNear (take (n + 1) boxes) rect old new
+adds_one_more boxes n d rect old middle new within first second =
+    subst (λ (xs : List Placed). AddsNear xs rect old new) (sym (take_more boxes n d within))
+    (adds_along (take n boxes) (get_or boxes n d ∷ []) rect old middle new first second)
 
--- the nodes before a place, the one there and those after it
-pub adds_of_halves : (nodes : List Node) (n : ℕ) (d : Node) (rect : Rect) (old first_found with_middle new : List Placed) → n < length nodes →
-    AddsNear (boxes_of (take n nodes)) rect old first_found → AddsNear ((get_or nodes n d).placed ∷ []) rect first_found with_middle →
-    AddsNear (boxes_of (take (length nodes - (n + 1)) (drop (n + 1) nodes))) rect with_middle new → AddsNear (boxes_of nodes) rect old new
-adds_of_halves nodes n d rect old first_found with_middle new within first second third =
-    let Whole : List Placed → Type 0 = λ xs. AddsNear xs rect old new in
-    let Rest : List Node → Type 0 = λ xs. AddsNear (boxes_of xs) rect with_middle new in
-    let node : Node = get_or nodes n d in
-    let behind : List Placed = boxes_of (drop (n + 1) nodes) in
-    let parts : boxes_of (take n nodes) ++ (node.placed ∷ behind) ≡ boxes_of nodes =
-    sym (map-append (λ (m : Node). m.placed) (take n nodes) (node ∷ drop (n + 1) nodes))
-    ∙ ap (λ (xs : List Node). boxes_of xs) (parted nodes n d within) in
-    let rest : AddsNear behind rect with_middle new = subst Rest (rest_from nodes (n + 1)) third in
-    subst Whole parts
-    (adds_along (boxes_of (take n nodes)) (node.placed ∷ behind) rect old first_found new first
-    (adds_along (node.placed ∷ []) behind rect first_found with_middle new second rest))
+-- the front of a list and then what follows it
+pub adds_of_halves : (boxes : List Placed) (n : ℕ) (rect : Rect) (old middle new : List Placed) → AddsNear (take n boxes) rect old middle →
+    AddsNear (drop n boxes) rect middle new → AddsNear boxes rect old new
+adds_of_halves boxes n rect old middle new first second =
+    subst (λ (xs : List Placed). AddsNear xs rect old new) (take-append-drop n boxes)
+    (adds_along (take n boxes) (drop n boxes) rect old middle new first second)

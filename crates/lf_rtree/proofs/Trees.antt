@@ -1,49 +1,29 @@
--- A run and its two halves.
-use Rattle.std.proofs.Common.{◌≡◌, ℕ, ◌+◌, ◌-◌, ◌/◌, ◌<◌, suc, zero, List, [], ◌∷◌, ◌++◌, length, get_or, take, drop, sym, ap, subst, ◌∙◌, add-one, length-append, refl, arith}
+-- A run and its halves.
+use Rattle.std.proofs.Common.{◌≡◌, ℕ, ◌/◌, List, [], ◌∷◌, ◌++◌, length, take, drop, subst, arith}
 use Rattle.std.specs.Prelude.{All}
-use Rattle.lf_rtree.specs.Packed.{IsBound, IsTree, boxes_of}
-use Rattle.lf_rtree.specs.declared.bound.Node.{Node}
-use Rattle.lf_rtree.proofs.Lists.{rest_from}
-use Rattle.std.proofs.lemmas.List.Elements.{All-nil}
-use Rattle.std.proofs.Math.Seq.{take-append_seam, drop-append-add, get_or-append_seam}
+use Rattle.std.proofs.Math.Seq.{take-append_seam, drop-append_seam}
+use Rattle.lf_rtree.specs.Packed.{IsBound, IsTree, divided, undivided}
+use Rattle.lf_rtree.specs.declared.placed.Placed.{Placed}
+use Rattle.lf_rtree.specs.declared.bound.Bound.{Bound}
 
--- the middle node of a run of a depth above 0 bounds the run
-pub bounded_by_middle : (depth : ℕ) (nodes : List Node) (d : Node) → 0 < depth → IsTree depth nodes →
-    All (IsBound (get_or nodes (length nodes / 2) d).bound) (boxes_of nodes)
-bounded_by_middle zero nodes d deep tree = absurd (omega arith)
-bounded_by_middle (suc depth) nodes d deep tree = tree.0 d
+-- the first bound of a divided run bounds the run
+bounds_run : (boxes : List Placed) (bound : Bound) (below : List Bound) → IsTree boxes (bound ∷ below) → All (IsBound bound) boxes
+bounds_run boxes bound below (divided _ _ _ all first last) = all
 
--- what stands after the middle node is a run of one depth less
-pub behind_middle : (depth : ℕ) (nodes : List Node) → 0 < depth → IsTree depth nodes →
-    IsTree (depth - 1) (take (length nodes - (length nodes / 2 + 1)) (drop (length nodes / 2 + 1) nodes))
-behind_middle zero nodes deep tree = absurd (omega arith)
-behind_middle (suc depth) nodes deep tree =
-    let less : depth ≡ suc depth - 1 = omega arith in
-    let Behind : List Node → Type 0 = λ xs. IsTree depth xs in
-    let Deep : ℕ → Type 0 = λ n. IsTree n (take (length nodes - (length nodes / 2 + 1)) (drop (length nodes / 2 + 1) nodes)) in
-    subst Deep less (subst Behind (sym (rest_from nodes (length nodes / 2 + 1))) tree.2)
+pub bounded_by_first : (boxes : List Placed) (bounds : List Bound) (bound : Bound) (below : List Bound) → bounds ≡ bound ∷ below → IsTree boxes bounds →
+    All (IsBound bound) boxes
+bounded_by_first boxes bounds bound below are tree = bounds_run boxes bound below (subst (IsTree boxes) are tree)
 
--- a node between two runs of one depth, half of the boxes before it, makes a run of the next depth if it bounds them and itself
-pub joined_tree : (depth : ℕ) (before : List Node) (middle : Node) (behind : List Node) → 0 < depth →
-    length before ≡ (length before + (length behind + 1)) / 2 → All (IsBound middle.bound) (boxes_of (before ++ (middle ∷ behind))) →
-    IsTree (depth - 1) before → IsTree (depth - 1) behind → IsTree depth (before ++ (middle ∷ behind))
-joined_tree depth before middle behind deep half within first second =
-    let run : List Node = before ++ (middle ∷ behind) in
-    let size : length run ≡ length before + (length behind + 1) = length-append before (middle ∷ behind) ∙ ap (λ n. length before + n) (sym (add-one (length behind))) in
-    let halfway : length before ≡ length run / 2 = half ∙ ap (λ n. n / 2) (sym size) in
-    let At : ℕ → Type 0 = λ k. (d : Node) → All (IsBound (get_or run k d).bound) (boxes_of run) in
-    let Before : ℕ → Type 0 = λ k. IsTree (depth - 1) (take k run) in
-    let Behind : ℕ → Type 0 = λ k. IsTree (depth - 1) (drop (k + 1) run) in
-    let Deep : ℕ → Type 0 = λ n. IsTree n run in
-    let deeper : suc (depth - 1) ≡ depth = omega arith in
-    subst Deep deeper (
-      subst At halfway (λ d. rw get_or-append_seam within),
-      subst Before halfway (rw take-append_seam first),
-      subst Behind halfway (rw (drop-append-add before (middle ∷ behind) 1) second),
-    )
+-- a run without bounds is not divided
+pub without_bounds : (boxes : List Placed) (bounds : List Bound) → length bounds ≡ 0 → IsTree boxes bounds
+without_bounds boxes [] none = undivided boxes
+without_bounds boxes (bound ∷ below) none = absurd (omega (arith, none))
 
--- no nodes are a run of any depth
-pub empty_tree : (depth : ℕ) (nodes : List Node) → length nodes ≡ 0 → IsTree depth nodes
-empty_tree zero nodes none = tt
-empty_tree (suc depth) [] none = (λ d. All-nil (IsBound d.bound), empty_tree depth [] refl, empty_tree depth [] refl)
-empty_tree (suc depth) (x ∷ xs) none = absurd (omega arith)
+-- a bound of a run, and the bounds of its halves
+pub joined_tree : (boxes : List Placed) (bound : Bound) (first last : List Bound) → All (IsBound bound) boxes →
+    length first ≡ length (first ++ last) / 2 → IsTree (take (length boxes / 2) boxes) first → IsTree (drop (length boxes / 2) boxes) last →
+    IsTree boxes (bound ∷ (first ++ last))
+joined_tree boxes bound first last all half before behind =
+    let First : ℕ → Type 0 = λ n. IsTree (take (length boxes / 2) boxes) (take n (first ++ last)) in
+    let Last : ℕ → Type 0 = λ n. IsTree (drop (length boxes / 2) boxes) (drop n (first ++ last)) in
+    divided boxes bound (first ++ last) all (subst First half (rw take-append_seam before)) (subst Last half (rw drop-append_seam behind))

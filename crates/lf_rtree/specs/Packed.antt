@@ -1,12 +1,10 @@
--- How a list of nodes is a tree: what its middle nodes bound, and what the steps of a search through it return.
-use Rattle.std.specs.Prelude.{◌≡◌, ◌≢◌, ◌⊎◌, ℕ, ◌+◌, ◌/◌, ◌≤◌, ◌≤ℤ◌, suc, zero, Option, IfSome, IsSomeAnd, List, ◌++◌, map, length, take, drop, All}
-use Rattle.std.specs.List.{HoldsAt}
+-- How boxes and bounds make a tree, and what the steps of a search through it return.
+use Rattle.std.specs.Prelude.{◌≡◌, ◌≢◌, ◌⊎◌, ℕ, ◌/◌, ◌≤◌, ◌≤ℤ◌, Option, IfSome, IsSomeAnd, List, [], ◌∷◌, ◌++◌, length, take, drop, All}
 use Rattle.lf_units.specs.Area.{SharesPoint}
 use Rattle.lf_units.specs.declared.area.Rect.{Rect}
 use Rattle.lf_rtree.specs.Near.{AreNear, IsMet}
 use Rattle.lf_rtree.specs.declared.placed.Placed.{Placed}
 use Rattle.lf_rtree.specs.declared.bound.Bound.{Bound}
-use Rattle.lf_rtree.specs.declared.bound.Node.{Node}
 
 -- the bound's rectangle contains the box, by its edges, and its number is at most the box's
 pub record IsBound (bound : Bound) (p : Placed) : Type 0 where
@@ -16,21 +14,13 @@ pub record IsBound (bound : Bound) (p : Placed) : Type 0 where
   pub top : p.rect.y2 ≤ℤ bound.rect.y2
   pub least : bound.least ≤ p.own
 
--- there is a bound, and it bounds the box
-abbrev pub IsWithin : Option Bound → Placed → Type 0
-IsWithin bound p = IsSomeAnd bound (λ b. IsBound b p)
-
--- the boxes of nodes, in their order
-abbrev pub boxes_of : List Node → List Placed
-boxes_of nodes = map (λ n. n.placed) nodes
-
--- a run of a depth: at depth 0 any nodes; else its middle node bounds the run, and either side of it is a run of one depth less
-abbrev pub IsTree : ℕ → List Node → Type 0
-IsTree zero nodes = Unit {0}
-IsTree (suc depth) nodes =
-    HoldsAt (λ middle. All (IsBound middle.bound) (boxes_of nodes)) nodes (length nodes / 2)
-    × IsTree depth (take (length nodes / 2) nodes)
-    × IsTree depth (drop (length nodes / 2 + 1) nodes)
+-- the bounds of a run of boxes, each before those below it. A run without bounds is not divided; else the first bounds the run, and
+-- the halves of the other bounds are those of the halves of the run
+pub data IsTree : List Placed → List Bound → Type 0 where
+  undivided : (boxes : List Placed) → IsTree boxes []
+  divided : (boxes : List Placed) (bound : Bound) (below : List Bound) → All (IsBound bound) boxes →
+      IsTree (take (length boxes / 2) boxes) (take (length below / 2) below) →
+      IsTree (drop (length boxes / 2) boxes) (drop (length below / 2) below) → IsTree boxes (bound ∷ below)
 
 -- the number so far exists and is at most this one
 abbrev pub IsUpTo : Option ℕ → ℕ → Type 0

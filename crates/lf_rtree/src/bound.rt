@@ -1,6 +1,6 @@
-//! Bounds of the boxes of a run, and the nodes of a tree.
+//! Bounds of the boxes of a run.
 
-ghost use Rattle.lf_rtree.specs.Packed.{IsBound, IsWithin};
+ghost use Rattle.lf_rtree.specs.Packed.{IsBound};
 
 use crate::placed::Placed;
 use lf_units::Rect;
@@ -13,12 +13,16 @@ pub struct Bound {
     pub least: u32,
 }
 
-/// A box of a tree. If it is the middle one of a run, `bound` bounds the whole run.
-#[derive(Clone, Copy, Debug)]
-pub struct Node {
-    pub placed: Placed,
-    pub bound: Bound,
-}
+/// The bound of no box.
+pub(crate) const NOTHING: Bound = Bound {
+    rect: Rect {
+        x1: i64::MAX,
+        y1: i64::MAX,
+        x2: i64::MIN,
+        y2: i64::MIN,
+    },
+    least: u32::MAX,
+};
 
 impl Bound {
     /// The bound of one box.
@@ -46,17 +50,6 @@ impl Bound {
                 y2: rect.y2.max(more.y2),
             },
             least: self.least.min(other.least),
-        }
-    }
-
-    /// The same with an optional second bound.
-    pub(crate) fn with(&self, other: &Option<Bound>) -> Self
-        ensures the_same { (p : Placed) → IsBound self.now p → IsBound result p }
-        ensures the_others { (p : Placed) → IsWithin other.now p → IsBound result p }
-    {
-        match other {
-            Some(other) => self.joined(other),
-            None => *self,
         }
     }
 }

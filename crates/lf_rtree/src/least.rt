@@ -2,9 +2,9 @@
 
 ghost use Rattle.std.specs.Prelude.{[], ◌∷◌};
 ghost use Rattle.std.specs.Bool.{OnFalse};
-ghost use Rattle.lf_rtree.specs.Packed.{IsTree, IsLeastOf, HoldsNoLess, boxes_of};
+ghost use Rattle.lf_rtree.specs.Packed.{IsTree, IsLeastOf, HoldsNoLess};
 
-use crate::bound::{Bound, Node};
+use crate::bound::Bound;
 use crate::placed::Placed;
 use lf_units::Rect;
 
@@ -28,13 +28,13 @@ fn lesser(placed: &Placed, rect: &Rect, but: u32, so_far: Option<u32>) -> Option
     }
 }
 
-/// The least over several nodes, one after another.
-fn least_in(nodes: &[Node], rect: &Rect, but: u32, so_far: Option<u32>) -> Option<u32>
-    ensures { IsLeastOf (boxes_of nodes.now) rect.now but so_far result }
+/// The least over several boxes, one after another.
+fn least_in(boxes: &[Placed], rect: &Rect, but: u32, so_far: Option<u32>) -> Option<u32>
+    ensures { IsLeastOf boxes.now rect.now but so_far result }
 {
     let mut least = so_far;
-    for node in nodes {
-        least = lesser(&node.placed, rect, but, least);
+    for placed in boxes {
+        least = lesser(placed, rect, but, least);
     }
     least
 }
@@ -52,44 +52,36 @@ fn may_be_less(bound: &Bound, rect: &Rect, so_far: Option<u32>) -> bool
     rect.overlaps(&bound.rect)
 }
 
-/// An estimate of a run's least number, from its middle bound. It only chooses which half is
-/// searched first.
-fn likely_least(nodes: &[Node]) -> u32 {
-    nodes
-        .get(nodes.len() / 2)
-        .map_or(u32::MAX, |middle| middle.bound.least)
+/// The least number of a run, by its own bound, or an estimate if the run is not divided. It only
+/// chooses which half is searched first.
+fn likely_least(bounds: &[Bound]) -> u32 {
+    bounds.first().map_or(u32::MAX, |bound| bound.least)
 }
 
 /// The least over a run of a tree. Parts that cannot hold a lesser number are skipped, and the half
 /// that is likely to hold the least comes first.
 pub(crate) fn least_among(
-    nodes: &[Node],
-    depth: u32,
+    boxes: &[Placed],
+    bounds: &[Bound],
     rect: &Rect,
     but: u32,
     so_far: Option<u32>,
 ) -> Option<u32>
-    requires { IsTree depth nodes.now }
-    ensures { IsLeastOf (boxes_of nodes.now) rect.now but so_far result }
+    requires { IsTree boxes.now bounds.now }
+    ensures { IsLeastOf boxes.now rect.now but so_far result }
 {
-    if depth == 0 {
-        return least_in(nodes, rect, but, so_far);
-    }
-    if nodes.is_empty() {
+    let Some((bound, below)) = bounds.split_first() else {
+        return least_in(boxes, rect, but, so_far);
+    };
+    if !may_be_less(bound, rect, so_far) {
         return so_far;
     }
-    let half = nodes.len() / 2;
-    let middle = &nodes[half];
-    if !may_be_less(&middle.bound, rect, so_far) {
-        return so_far;
+    let (before, behind) = boxes.split_at(boxes.len() / 2);
+    let (first, last) = below.split_at(below.len() / 2);
+    if likely_least(last) < likely_least(first) {
+        let with_behind = least_among(behind, last, rect, but, so_far);
+        return least_among(before, first, rect, but, with_behind);
     }
-    let with_middle = lesser(&middle.placed, rect, but, so_far);
-    let before = &nodes[..half];
-    let behind = &nodes[half + 1..];
-    if likely_least(behind) < likely_least(before) {
-        let with_behind = least_among(behind, depth - 1, rect, but, with_middle);
-        return least_among(before, depth - 1, rect, but, with_behind);
-    }
-    let with_before = least_among(before, depth - 1, rect, but, with_middle);
-    least_among(behind, depth - 1, rect, but, with_before)
+    let with_before = least_among(before, first, rect, but, so_far);
+    least_among(behind, last, rect, but, with_before)
 }

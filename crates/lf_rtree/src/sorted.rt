@@ -22,10 +22,8 @@ fn sort_bands(boxes: &mut [Placed], depth: u32)
         boxes.sort_unstable_by_key(|placed| placed.rect.x1);
         return;
     }
-    if boxes.is_empty() {
-        return;
-    }
     let half = boxes.len() / 2;
-    sort_bands(&mut boxes[..half], depth - 1);
-    sort_bands(&mut boxes[half + 1..], depth - 1);
+    let (before, behind) = boxes.split_at_mut(half);
+    sort_bands(before, depth - 1);
+    sort_bands(behind, depth - 1);
 }

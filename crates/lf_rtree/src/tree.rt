@@ -3,7 +3,7 @@
 ghost use Rattle.std.specs.Prelude.{◌≡◌, IfOk, OnOk, MatchOption, IsPermutation};
 ghost use Rattle.lf_rtree.specs.Near.{AreNear, IsLeastMet, IsNoneMet};
 
-use crate::bound::Node;
+use crate::bound::Bound;
 use crate::grown::grow;
 use crate::least::least_among;
 use crate::near::push_near_of_run;
@@ -19,33 +19,40 @@ const BUCKET: usize = 8;
 /// Boxes in a packed tree. A contract sees the list of the boxes, in the tree's order.
 #[derive(Drop)]
 pub struct RTree {
-    nodes: Vec<Node>,
-    depth: u32,
+    boxes: Vec<Placed>,
+    bounds: Vec<Bound>,
 }
 
 impl Model for RTree {
     ghost use Rattle.std.specs.Prelude.{List};
     ghost use Rattle.lf_rtree.specs.declared.placed.Placed.{Placed};
-    ghost use Rattle.lf_rtree.specs.Packed.{IsTree, boxes_of};
+    ghost use Rattle.lf_rtree.specs.Packed.{IsTree};
 
     ghost Value = { List Placed };
 
-    ghost view = { λ t. boxes_of t.nodes.items };
+    ghost view = { λ t. t.boxes.items };
 
-    ghost invariant = { λ t. IsTree t.depth t.nodes.items };
+    ghost invariant = { λ t. IsTree t.boxes.items t.bounds.items };
 }
 
 impl RTree {
-    /// A tree of these boxes, which are put into the tree's order. Numbers may repeat, and
-    /// rectangles without points are never found.
-    pub fn build(alloc: Global, boxes: &mut [Placed]) -> Result<Self, AllocError>
-        ensures same { IsPermutation boxes.old boxes.new }
-        ensures tree { IfOk result (λ tree. tree ≡ boxes.new) }
+    /// A tree of these boxes. Numbers may repeat, and rectangles without points are never found.
+    pub fn build(alloc: Global, boxes: Vec<Placed>) -> Result<Self, AllocError>
+        ensures { IfOk result (λ tree. IsPermutation boxes.items tree) }
     {
-        let depth = usize::BITS - (boxes.len() / BUCKET).leading_zeros();
-        sort_for_depth(boxes, depth);
-        let nodes = grow(alloc, boxes, depth)?;
-        Ok(RTree { nodes, depth })
+        let mut boxes = boxes;
+        let count = boxes.len() / BUCKET;
+        let depth = usize::BITS - count.leading_zeros();
+        sort_for_depth(boxes.as_mut_slice(), depth);
+        let bounds = grow(alloc, boxes.as_slice(), count)?;
+        Ok(RTree { boxes, bounds })
+    }
+
+    /// The boxes, in the tree's order: boxes that lie near one another mostly follow one another.
+    pub fn boxes(&self) -> &[Placed]
+        ensures { result.now ≡ self.now }
+    {
+        self.boxes.as_slice()
     }
 
     /// Replaces the contents of `found` by the boxes that share a point with this rectangle, each
@@ -54,7 +61,7 @@ impl RTree {
         ensures { OnOk result (AreNear self.now rect.now found.new.items) }
     {
         found.clear();
-        push_near_of_run(self.nodes.as_slice(), self.depth, rect, found)
+        push_near_of_run(self.boxes.as_slice(), self.bounds.as_slice(), rect, found)
     }
 
     /// The least number, other than `but`, of a box that shares a point with this rectangle; none
@@ -62,6 +69,12 @@ impl RTree {
     pub fn least_met(&self, rect: &Rect, but: u32) -> Option<u32>
         ensures { MatchOption result (IsNoneMet self.now rect.now but) (IsLeastMet self.now rect.now but) }
     {
-        least_among(self.nodes.as_slice(), self.depth, rect, but, None)
+        least_among(
+            self.boxes.as_slice(),
+            self.bounds.as_slice(),
+            rect,
+            but,
+            None,
+        )
     }
 }

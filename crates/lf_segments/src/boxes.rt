@@ -49,8 +49,7 @@ fn boxes_of_frame(alloc: Global, frame: &Frame) -> Result<Vec<Placed>, AllocErro
 pub(crate) fn tree_of_frame(alloc: Global, frame: &Frame) -> Result<RTree, AllocError>
     ensures { IfOk result (λ tree. IsPermutation (frame_boxes frame.now) tree) }
 {
-    let mut boxes = boxes_of_frame(alloc, frame)?;
-    RTree::build(alloc, boxes.as_mut_slice())
+    RTree::build(alloc, boxes_of_frame(alloc, frame)?)
 }
 
 /// Sorts the boxes by number.

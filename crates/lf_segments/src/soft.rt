@@ -55,7 +55,7 @@ fn soft_tree(alloc: Global, frame: &Frame) -> Result<RTree, AllocError>
 {
     let mut boxes = Vec::new(alloc);
     push_rects(&mut boxes, 0, frame.soft.as_slice())?;
-    RTree::build(alloc, boxes.as_mut_slice())
+    RTree::build(alloc, boxes)
 }
 
 /// The maximal spans of an area's x range that the x ranges of the boxes cover.

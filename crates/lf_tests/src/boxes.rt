@@ -24,7 +24,7 @@ fn row(alloc: Global) -> Result<RTree, AllocError> {
     for own in 0..100 {
         boxes.push(box_of(own))?;
     }
-    RTree::build(alloc, boxes.as_mut_slice())
+    RTree::build(alloc, boxes)
 }
 
 #[test]
@@ -57,7 +57,7 @@ fn neighbours_are_near(rt: HostRuntime) -> Result<(), Fail> {
 
 #[test]
 fn no_boxes(rt: HostRuntime) -> Result<(), Fail> {
-    let tree = RTree::build(rt.alloc(), &mut [])?;
+    let tree = RTree::build(rt.alloc(), Vec::new(rt.alloc()))?;
     assert_eq!(rt; tree.least_met(&box_of(0).rect, 0), None);
     Ok(())
 }

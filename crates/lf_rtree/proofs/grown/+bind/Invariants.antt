@@ -1,4 +1,5 @@
+use Rattle.std.proofs.Common.{length}
 use Rattle.lf_rtree.proofs.grown.+bind.Given as goal
 
 abbrev pub decreases-bind : goal.decreases-bind
-decreases-bind l = l.depth
+decreases-bind l = length l.bounds.now

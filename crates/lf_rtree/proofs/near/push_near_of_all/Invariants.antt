@@ -1,7 +1,7 @@
 use Rattle.std.proofs.Common.{take}
-use Rattle.lf_rtree.specs.Packed.{AddsNear, boxes_of}
+use Rattle.lf_rtree.specs.Packed.{AddsNear}
 use Rattle.lf_rtree.proofs.near.push_near_of_all.Given as goal
 
--- the boxes found of the nodes passed
-abbrev pub invariant-loop-node : goal.invariant-loop-node
-invariant-loop-node l = AddsNear (boxes_of (take l.node-index l.nodes)) l.rect l.initial.found.items l.found.items
+-- the boxes found of those passed
+abbrev pub invariant-loop-placed : goal.invariant-loop-placed
+invariant-loop-placed l = AddsNear (take l.placed-index l.boxes) l.rect l.initial.found.items l.found.items
