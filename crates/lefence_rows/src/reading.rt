@@ -176,11 +176,11 @@ fn put_component<W: Write>(
     component: &Component<'_>,
 ) -> io::Result<()> {
     writer.write_all(b"component")?;
-    put_word(writer, component.name.as_bytes())?;
-    put_word(writer, component.mac.as_bytes())?;
-    match &component.placement {
-        Some(placement) => put_placement(writer, text, placement)?,
-        None => put_word(writer, Buffer::new().format(component.semicolon).as_bytes())?,
+    put_word(writer, component.name())?;
+    put_word(writer, component.macro_name())?;
+    match component.placement() {
+        Some(placement) => put_placement(writer, text, &placement)?,
+        None => put_word(writer, Buffer::new().format(component.semicolon()).as_bytes())?,
     }
     writer.write_all(b"\n")
 }

@@ -22,7 +22,7 @@ pub(crate) fn parts_of_components(
         let Ok(label) = u32::try_from(number) else {
             return Err(AllocError);
         };
-        parts.push(label, component.name.as_bytes())?;
+        parts.push(label, component.name())?;
     }
     Ok(parts)
 }
@@ -49,7 +49,7 @@ pub(crate) fn first_second_name(
 {
     let mut names = NameTable::new(alloc);
     for (number, component) in components.iter().enumerate() {
-        if !is_added(&mut names, component.name.as_bytes())? {
+        if !is_added(&mut names, component.name())? {
             return Ok(Some(number));
         }
     }

@@ -9,7 +9,7 @@ use lf_def::{Component, PlacementKind, Region, RegionKind};
 pub fn is_fixed(component: &Component) -> bool
     ensures { result ≡ is_fixed_component component.now }
 {
-    match &component.placement {
+    match component.placement() {
         Some(placement) => match placement.kind {
             PlacementKind::Fixed => true,
             PlacementKind::Cover => false,
@@ -24,7 +24,7 @@ pub fn is_fixed(component: &Component) -> bool
 pub fn is_cover(component: &Component) -> bool
     ensures { result ≡ is_cover_component component.now }
 {
-    match &component.placement {
+    match component.placement() {
         Some(placement) => match placement.kind {
             PlacementKind::Fixed => false,
             PlacementKind::Cover => true,

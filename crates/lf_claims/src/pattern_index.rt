@@ -121,7 +121,7 @@ impl PatternIndex {
     {
         let mut all = Vec::with_capacity(alloc, components.len())?;
         for (number, component) in components.iter().enumerate() {
-            let tried = self.starred.claim_on(component.name.as_bytes());
+            let tried = self.starred.claim_on(component.name());
             all.push(merged(claim_of(claims, number), tried))?;
         }
         Ok(all)

@@ -2,6 +2,7 @@ pub mod Clauses
 pub mod Following
 pub mod Kept
 pub mod Local
+pub mod NamePieces
 pub mod Places
 pub mod PrintedBehind
 pub mod PrintedBlockages

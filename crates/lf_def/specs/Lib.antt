@@ -13,3 +13,4 @@ pub mod PrintedTexts
 pub mod Ranges
 pub mod Regions
 pub mod Rows
+pub mod Stored

@@ -9,13 +9,16 @@ ghost use Rattle.lf_def.specs.Ranges.{IsCoordinate, IsLocation, IsPlacement, IsC
 
 use crate::coordinates::{orient_of, point_rest};
 use crate::entries::Due;
-use crate::text_name::TextName;
+use crate::names::Names;
+use crate::packed_placement::{PackedPlacement, short_offset};
 use lf_lex::{
     Block, FaultNumber, Lexer, ReadError, Token, end_name, fault_at, is, keyword, name, read_block,
     to_semicolon, token,
 };
 use lf_orient::Orient;
 use lf_units::Sequence;
+use std::alloc::AllocError;
+use std::marker::Model;
 
 /// What a placement clause says (LEF/DEF 5.8, DEF COMPONENTS).
 #[derive(Clone, Copy, Debug, PartialEq, Eq)]
@@ -49,13 +52,69 @@ pub struct Placement {
 /// A component (LEF/DEF 5.8, DEF COMPONENTS), whose names are borrowed from its text.
 #[derive(Drop)]
 pub struct Component<'a> {
-    pub name: TextName<'a>,
+    names: Names<'a>,
+    placement: PackedPlacement,
+    semicolon: u32,
+}
+
+impl<'a> Model for Component<'a> {
+    ghost use Rattle.lf_def.specs.Stored.{ComponentFacts};
+
+    ghost Value = { ComponentFacts };
+
+    ghost view = { λ c. record {
+      name = c.names.name;
+      mac = c.names.mac;
+      placement = c.placement;
+      semicolon = c.semicolon;
+    } };
+}
+
+impl<'a> Component<'a> {
+    /// The component of these names, with this placement clause and a `;` at this offset.
+    fn new(
+        names: Names<'a>,
+        placement: Option<Placement>,
+        semicolon: usize,
+    ) -> Result<Self, AllocError>
+        ensures { IfOk result (λ c. c ≡ record { name = names.entry.name; mac = names.entry.mac; placement = placement; semicolon = semicolon }) }
+    {
+        let placement = PackedPlacement::new(placement)?;
+        let semicolon = short_offset(semicolon)?;
+        Ok(Component {
+            names,
+            placement,
+            semicolon,
+        })
+    }
+
+    /// Its name.
+    pub fn name(&self) -> &[u8]
+        ensures { result.now ≡ self.now.name }
+    {
+        self.names.name()
+    }
+
     /// The name of its macro.
-    pub mac: TextName<'a>,
+    pub fn macro_name(&self) -> &[u8]
+        ensures { result.now ≡ self.now.mac }
+    {
+        self.names.macro_name()
+    }
+
     /// Its placement clause; a component without one is unplaced.
-    pub placement: Option<Placement>,
+    pub fn placement(&self) -> Option<Placement>
+        ensures { result ≡ self.now.placement }
+    {
+        self.placement.get()
+    }
+
     /// The offset of its `;` in the text.
-    pub semicolon: usize,
+    pub fn semicolon(&self) -> usize
+        ensures { result ≡ self.now.semicolon }
+    {
+        self.semicolon as usize
+    }
 }
 
 /// What was read of a component so far.
@@ -286,16 +345,13 @@ fn read_component<'a>(lexer: &mut Lexer<'a>) -> Result<Component<'a>, ReadError>
     ensures read { Reads (λ c. c) result grammar.component lexer.old lexer.new }
     ensures range { IfOk result (λ c. IsComponent c) }
 {
+    let text = lexer.text();
     let component = name(lexer)?;
     let mac = name(lexer)?;
     let mut parts = no_component();
     read_block(lexer, &ComponentTokens, &mut parts)?;
-    Ok(Component {
-        name: TextName::new(component.text),
-        mac: TextName::new(mac.text),
-        placement: parts.placement,
-        semicolon: parts.semicolon,
-    })
+    let names = Names::new(text, &component, &mac);
+    Ok(Component::new(names, parts.placement, parts.semicolon)?)
 }
 
 /// An entry, or END COMPONENTS; returns whether more follow.

@@ -10,12 +10,13 @@ mod entries;
 mod groups;
 mod header;
 mod laws;
+mod names;
+mod packed_placement;
 mod parts;
 mod regions;
 mod rows;
 mod sample;
 mod statements;
-mod text_name;
 mod texts;
 
 pub use blockages::Blockage;
@@ -32,5 +33,4 @@ pub use laws::{
 pub use regions::{Region, RegionKind};
 pub use rows::Row;
 pub use sample::W_DEF;
-pub use text_name::TextName;
 pub use texts::read_def;

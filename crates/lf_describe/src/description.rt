@@ -44,7 +44,7 @@ fn fixed_names<'a>(
     let mut names = Vec::new(alloc);
     for component in components {
         if is_fixed(component) {
-            names.push(component.name.as_bytes())?;
+            names.push(component.name())?;
         }
     }
     Ok(names)

@@ -47,9 +47,9 @@ fn cell_of(
     ensures { IfOk result (λ cell. IsCellOf (inputs library.now document.now limits.now) (number, component.now) cell) }
 {
     Ok(Cell {
-        name: Name::from_slice(alloc, component.name.as_bytes())?,
+        name: Name::from_slice(alloc, component.name())?,
         team,
-        mac: library.find_macro(component.mac.as_bytes()).unwrap(),
+        mac: library.find_macro(component.macro_name()).unwrap(),
         place: place_of(component),
         component: number,
     })

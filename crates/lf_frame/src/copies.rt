@@ -147,7 +147,7 @@ pub(crate) fn fence_teams(alloc: Global, regions: &[Region]) -> Result<Sequence<
 pub(crate) fn location(component: &Component) -> Option<Location>
     ensures is { result ≡ location_of component.now }
 {
-    match component.placement {
+    match component.placement() {
         Some(placement) => placement.place,
         None => None,
     }
@@ -182,7 +182,7 @@ fn fixed_box(library: &Library, component: &Component, units: u32) -> Option<Rec
     let Some(at) = location(component) else {
         return None;
     };
-    let Some(mac) = macro_named(library, component.mac.as_bytes()) else {
+    let Some(mac) = macro_named(library, component.macro_name()) else {
         return None;
     };
     Some(box_of(mac, &at, units))

@@ -100,6 +100,11 @@ abbrev pub AreSlices : List ℕ → ℕ → List Lexeme → Type 0
 AreSlices text from [] = Unit {0}
 AreSlices text from (t ∷ ts) = (from ≤ t.start) × (t.start < t.stop) × (t.text ≡ take (t.stop - t.start) (drop t.start text)) × AreSlices text t.stop ts
 
+-- tokens that end within a text
+abbrev pub AreWithin : List ℕ → List Lexeme → Type 0
+AreWithin text [] = Unit {0}
+AreWithin text (t ∷ ts) = (t.stop ≤ length text) × AreWithin text ts
+
 -- tokens, and then those of a rest
 abbrev pub with_tokens : List Lexeme → Lexed → Lexed
 with_tokens front rest = record { tokens = front ++ rest.tokens; fault = rest.fault; end_line = rest.end_line }

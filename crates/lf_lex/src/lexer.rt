@@ -2,7 +2,7 @@
 
 ghost use Rattle.std.specs.Prelude.{◌≡◌, ◌+◌, ◌≤◌, List, ℕ, length, drop, All, IfOk, IfSome};
 ghost use Rattle.lf_lex.specs.Splices.{SplicesTokens};
-ghost use Rattle.lf_lex.specs.Tokens.{tokens_of, lexeme, Answers, AreSlices, CutsAtTokens, IsSpelled};
+ghost use Rattle.lf_lex.specs.Tokens.{tokens_of, lexeme, Answers, AreSlices, AreWithin, CutsAtTokens, IsSpelled};
 
 use crate::scan::{line_feeds, quoted_token, skip_blank, word_token};
 use crate::tokens::{LexFault, Token};
@@ -36,6 +36,14 @@ impl<'a> Lexer<'a> {
             at: 0,
             line: 1,
         }
+    }
+
+    /// The whole text. The tokens left are slices of it.
+    pub fn text(&self) -> &'a [u8]
+        ensures slices { AreSlices result.now 0 self.now.tokens }
+        ensures within { AreWithin result.now self.now.tokens }
+    {
+        self.text
     }
 
     /// The line on which the text ends.

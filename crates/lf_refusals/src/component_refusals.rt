@@ -84,7 +84,7 @@ fn macro_fault(component: &Component, library: &Library, units: u32) -> MacroFau
     if is_cover(component) {
         return fault;
     }
-    match macro_named(library, component.mac.as_bytes()) {
+    match macro_named(library, component.macro_name()) {
         Some(mac) => {
             fault.sizeless = !has_size(&mac.size);
             fault.part_units = !is_whole_size(&mac.size, units);

@@ -184,7 +184,7 @@ fn component_mac<'d>(components: &'d [Component], place: Option<usize>) -> Optio
 {
     match place {
         Some(place) => match components.get(place) {
-            Some(component) => Some(component.mac.as_bytes()),
+            Some(component) => Some(component.macro_name()),
             None => None,
         },
         None => None,
@@ -197,7 +197,7 @@ fn component_name<'d>(components: &'d [Component], place: Option<usize>) -> Opti
 {
     match place {
         Some(place) => match components.get(place) {
-            Some(component) => Some(component.name.as_bytes()),
+            Some(component) => Some(component.name()),
             None => None,
         },
         None => None,

@@ -33,7 +33,7 @@ fn is_at(location: &Option<Location>, place: &Option<Place>) -> bool
 fn stands_at(component: &Component, place: &Option<Place>) -> bool
     ensures { result ≡ spec.stands_at component.now place.now }
 {
-    match &component.placement {
+    match component.placement() {
         Some(placement) => is_at(&placement.place, place),
         None => place.is_none(),
     }
@@ -71,17 +71,17 @@ fn put_change(
         ++ (take ((splice_of component.now place.now).start - at) (drop at text.now) ++ (splice_of component.now place.now).new)) }
     ensures behind { IfOk result (λ stop. stop ≡ (splice_of component.now place.now).stop) }
 {
-    match &component.placement {
+    match component.placement() {
         Some(old) => {
             put_part(out, text, at, old.start)?;
             put_clause(out, place)?;
             Ok(old.stop)
         }
         None => {
-            put_part(out, text, at, component.semicolon)?;
+            put_part(out, text, at, component.semicolon())?;
             put_clause(out, place)?;
             out.extend_from_slice(b" ")?;
-            Ok(component.semicolon)
+            Ok(component.semicolon())
         }
     }
 }

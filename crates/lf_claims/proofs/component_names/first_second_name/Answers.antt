@@ -15,9 +15,9 @@ loop-number-preserved c =
     let fresh = answer.new c.if-not-branch.false in
     let more = names_more components number item c.loop-number-test.true c.index-components-number.is in
     record {
-      known = rw (known, c.as_bytes.ensures, more) at (answer.added c.if-not-branch.false);
+      known = rw (known, c.name.ensures, more) at (answer.added c.if-not-branch.false);
       none = none_more BearsEarlierName components number item c.loop-number-test.true c.index-components-number.is
-          (λ h. fresh (rw (known, c.as_bytes.ensures) (bears_known (take number components) item.name h))) c.loop-number.invariant.none;
+          (λ h. fresh (rw (known, c.name.ensures) (bears_known (take number components) item.name h))) c.loop-number.invariant.none;
     }
 
 pub returns-then-not-branch : goal.returns-then-not-branch
@@ -27,7 +27,7 @@ returns-then-not-branch c =
     let number = c.loop-number.number in
     let known : c.loop-number.names ≡ component_names (take number components) = c.loop-number.invariant.known in
     let answer = c.in_ok-is_added.ensures {u = tt} in
-    let there = rw (known, c.as_bytes.ensures) at (answer.present c.if-not-branch.true) in
+    let there = rw (known, c.name.ensures) at (answer.present c.if-not-branch.true) in
     first_found BearsEarlierName components number item c.loop-number-test.true c.index-components-number.is (known_borne (take number components) item item.name there) c.loop-number.invariant.none
 
 pub returns : goal.returns

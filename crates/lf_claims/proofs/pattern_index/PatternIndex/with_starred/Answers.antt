@@ -16,7 +16,7 @@ loop-number-preserved c =
     record {
       long = rw items (omega (arith, c.loop-number.invariant.long, length_push all claim));
       told = λ literals starred has told.
-          let tried = rw c.as_bytes.ensures at (c.claim_on-tried.ensures starred has) in
+          let tried = rw c.name.ensures at (c.claim_on-tried.ensures starred has) in
           let own : Tells (Labels literals item.name) (claim_at c.args.claims.now n) = subst (λ e. Tells (Labels literals e.name) (claim_at c.args.claims.now n)) (sym c.index-components-number.is) (told n item c.loop-number-test.true) in
           rw items (
           told_more (λ name fence. Labels literals name fence ⊎ ClaimsBy starred name fence) c.args.components.now all n item claim c.loop-number.invariant.long c.loop-number-test.true c.index-components-number.is
