@@ -1,8 +1,8 @@
 -- A report as JSON.
-use Rattle.std.specs.Prelude.{ℕ, List, ◌++◌, map, Option, Some, None, codes, decimal}
+use Rattle.std.specs.Prelude.{ℕ, Bool, List, ◌++◌, map, Option, Some, None, codes, decimal}
 use Rattle.serde_json.specs.Data.{Data, Items, number, unsigned, string, array, object, member, no_members}
 use Rattle.serde_json.specs.View.{items_of}
-use Rattle.serde_json.specs.Written.{compact_text}
+use Rattle.serde_json.specs.Written.{compact_text, items_text}
 use Rattle.lf_rules.specs.declared.rule.Rule.{Rule}
 use Rattle.lf_rules.specs.declared.report.Violation.{Violation}
 use Rattle.lf_rules.specs.declared.report.Report.{Report}
@@ -29,6 +29,10 @@ report_data r = report_by r.cells r.unplaced (items_of (map violation_data r.vio
 -- the text up to the first violation
 abbrev pub report_front : ℕ → ℕ → List ℕ
 report_front cells unplaced = codes "{\"cells\":" ++ (decimal cells ++ (codes ",\"unplaced\":" ++ (decimal unplaced ++ codes ",\"violations\":[")))
+
+-- the text of these violations, behind others or not, and the bracket that closes their list
+abbrev pub violations_text : Bool → List Violation → List ℕ
+violations_text later violations = items_text later (items_of (map violation_data violations))
 
 -- the text of a report: JSON without spaces
 unfoldable pub report_text : Report → List ℕ

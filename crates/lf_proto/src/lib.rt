@@ -16,7 +16,7 @@ pub use line::{
     BadRequest, blanks_around_pass, blanks_between_pass, parse_line, printed_reads_back,
 };
 pub use reply::{Refusal, Reply, Text};
-pub use report::report_json;
+pub use report::{put_violation, report_begun, report_closed, report_json};
 pub use request::{Command, Order, Request};
 pub use request_list::RequestList;
 pub use text::reply_text;

@@ -1,12 +1,13 @@
 //! The text of a report.
 
-ghost use Rattle.std.specs.Prelude.{◌≡◌, ◌++◌, All, IfOk, OnOk, false, map, string_bytes};
+ghost use Rattle.std.specs.Prelude.{◌≡◌, ◌++◌, [], ◌∷◌, All, IfOk, List, OnOk, codes, false, string_bytes, true};
 ghost use Rattle.serde_json.specs.Data.{no_items};
-ghost use Rattle.serde_json.specs.View.{items_of, view};
-ghost use Rattle.serde_json.specs.Written.{compact_text, items_text};
+ghost use Rattle.serde_json.specs.View.{view};
+ghost use Rattle.serde_json.specs.Written.{compact_text};
 ghost use Rattle.lf_floorplan.specs.Bounds.{IsName};
+ghost use Rattle.lf_rules.specs.declared.report.Violation.{Violation};
 ghost use Rattle.lf_rules.specs.Reports.{IsTold};
-ghost use Rattle.lf_proto.specs.ReportText.{report_by, report_front, report_text, violation_data};
+ghost use Rattle.lf_proto.specs.ReportText.{report_by, report_front, report_text, violation_data, violations_text};
 
 use crate::reply::Text;
 use lf_rules::{Report, Violation};
@@ -50,25 +51,40 @@ fn violation_string(alloc: Global, violation: &Violation) -> Result<String, Allo
     violation_value(alloc, violation)?.to_string(alloc)
 }
 
-/// Puts the violations behind what is written, in their order, with commas between them and the bracket that closes their list.
+/// Puts a violation behind what is written of a report, and a comma before it if it comes later than another.
+///
+/// `Err` if an allocation fails; a part of it may then stand there.
+pub fn put_violation(
+    alloc: Global,
+    text: &mut Vec<u8>,
+    later: bool,
+    violation: &Violation,
+) -> Result<(), AllocError>
+    requires { IsTold violation.now }
+    ensures { (rest : List Violation) → OnOk result (text.new.items ++ violations_text true rest ≡ text.old.items ++ violations_text later (violation.now ∷ rest)) }
+{
+    if later {
+        text.push(b',')?;
+    }
+    let piece = violation_string(alloc, violation)?;
+    text.extend_from_slice(piece.as_bytes())?;
+    Ok(())
+}
+
+/// Puts the violations behind what is written, in their order, with commas between them.
 fn put_violations(
     alloc: Global,
     text: &mut Vec<u8>,
     violations: &[Violation],
 ) -> Result<(), AllocError>
     requires { All IsTold violations.now }
-    ensures { OnOk result (text.new.items ≡ text.old.items ++ items_text false (items_of (map violation_data violations.now))) }
+    ensures { OnOk result (text.new.items ++ violations_text true [] ≡ text.old.items ++ violations_text false violations.now) }
 {
     let mut later = false;
     for violation in violations {
-        if later {
-            text.push(b',')?;
-        }
+        put_violation(alloc, text, later, violation)?;
         later = true;
-        let piece = violation_string(alloc, violation)?;
-        text.extend_from_slice(piece.as_bytes())?;
     }
-    text.push(b']')?;
     Ok(())
 }
 
@@ -81,14 +97,26 @@ fn empty_value(alloc: Global, cells: u64, unplaced: u64) -> Result<Value, AllocE
 }
 
 /// The text of a report up to its first violation: that of a report without any, less the brackets that close it.
-fn front_of(alloc: Global, cells: u64, unplaced: u64) -> Result<Vec<u8>, AllocError>
+///
+/// `Err` if an allocation fails.
+pub fn report_begun(alloc: Global, cells: usize, unplaced: usize) -> Result<Vec<u8>, AllocError>
     ensures { IfOk result (λ text. text.items ≡ report_front cells unplaced) }
 {
-    let mut text = empty_value(alloc, cells, unplaced)?
+    let mut text = empty_value(alloc, cells as u64, unplaced as u64)?
         .to_string(alloc)?
         .into_bytes();
     text.truncate(text.len() - 2);
     Ok(text)
+}
+
+/// The text of a report of which all is written but the brackets that close it.
+///
+/// `Err` if an allocation fails.
+pub fn report_closed(mut text: Vec<u8>) -> Result<Text, AllocError>
+    ensures { IfOk result (λ closed. closed ≡ text.items ++ codes "]}") }
+{
+    text.extend_from_slice(b"]}")?;
+    Ok(Text::from_bytes(text))
 }
 
 /// The text of a report: compact JSON with the keys `cells`, `unplaced` and `violations`, and in each violation
@@ -100,8 +128,7 @@ pub fn report_json(alloc: Global, report: &Report) -> Result<Text, AllocError>
     requires { All IsTold report.now.violations }
     ensures { IfOk result (λ text. text ≡ report_text report.now) }
 {
-    let mut text = front_of(alloc, report.cells as u64, report.unplaced as u64)?;
+    let mut text = report_begun(alloc, report.cells, report.unplaced)?;
     put_violations(alloc, &mut text, report.violations.as_slice())?;
-    text.push(b'}')?;
-    Ok(Text::from_bytes(text))
+    report_closed(text)
 }

@@ -1,7 +1,7 @@
 use Rattle.std.proofs.Common.{◌∙◌, ap, arith}
 use Rattle.serde_json.specs.Written.{has_float, compact_text}
 use Rattle.lf_proto.proofs.Reports.{without_brackets}
-use Rattle.lf_proto.proofs.report.front_of.Goals as goal
+use Rattle.lf_proto.proofs.report.report_begun.Goals as goal
 
 pub returns : goal.returns
 returns c =
