@@ -1,59 +1,60 @@
--- The cells of a team that break a rule where they stand, as those of the list that its report has.
-use Rattle.std.proofs.Common.{◌≡◌, ◌∙◌, ℕ, List, [], ◌∷◌, length, map, Option, Some, None, refl, ap}
-use Rattle.std.specs.Prelude.{slice_get, filter_map, option_map, option_and_then}
+-- The first of a team's cells that breaks a rule where it stands.
+use Rattle.std.proofs.Common.{◌≡◌, ◌≢◌, ⊎_elim, ◌∙◌, ◌<◌, ℕ, zero, suc, ◌+◌, List, [], ◌∷◌, length, Option, Some, None, refl, sym, ap, zero-add, arith}
+use Rattle.std.specs.Prelude.{slice_get, filter_map, option_map}
 use Rattle.std.specs.List.{range_with_len, cons_option}
-use Rattle.std.proofs.Math.ListN.{length-map}
-use Rattle.std.proofs.lemmas.Option.{slice_get-map}
-use Rattle.lf_floorplan.specs.declared.place.Place.{Place}
-use Rattle.lf_floorplan.specs.Boxes.{macro_of}
+use Rattle.std.proofs.lemmas.Bool.{cases_eq}
 use Rattle.lf_rules.specs.declared.rule.Broken.{Broken}
-use Rattle.lf_rules.specs.declared.report.Listed.{Listed}
-use Rattle.lf_rules.specs.Legality.{trial_of}
-use Rattle.lf_rules.specs.Team.{Member, boxes_beside}
 use Rattle.lf_reports.specs.declared.illegal.BrokenCell.{BrokenCell}
-use Rattle.lf_reports.specs.Reports.{broken_among, member_of as listed_member}
-use Rattle.lf_reports.specs.Illegal.{broken_cell_at, illegal_in}
 use Rattle.lf_cells.specs.declared.cell.Cell.{Cell}
-use Rattle.lf_legalize.specs.Members.{member_of}
-use Rattle.lf_teams.specs.Teams.{Setting, broken_by, listed_of}
+use Rattle.lf_teams.specs.Teams.{Setting}
 use Rattle.lf_teams.specs.Changes.{broken_cells, broken_where}
 
-found_alike : {X Y : Type 0} (g h : X → Option Y) → ((x : X) → h x ≡ g x) → (xs : List X) → filter_map h xs ≡ filter_map g xs
-found_alike g h alike [] = refl
-found_alike {Y = Y} g h alike (x ∷ xs) =
-    ap (λ (o : Option Y). cons_option o (filter_map h xs)) (alike x) ∙ ap (cons_option (g x)) (found_alike g h alike xs)
+-- ---- what is found at the numbers of a range
+
+first_of : {Y : Type 0} (g : ℕ → Option Y) (a n k : ℕ) (y : Y) → ((i : ℕ) → i < k → g (a + i) ≡ None) → k < n → g (a + k) ≡ Some y
+    → Some y ≡ slice_get (filter_map g (range_with_len a n)) 0
+first_of g a zero k y before within here = absurd (omega (arith, within))
+first_of {Y = Y} g a (suc n) zero y before within here =
+    let at : a ≡ a + 0 = omega arith in
+    sym (ap (λ (o : Option Y). slice_get (cons_option o (filter_map g (range_with_len (a + 1) n))) 0) (ap g at ∙ here))
+first_of {Y = Y} g a (suc n) (suc k) y before within here =
+    let at : a ≡ a + 0 = omega arith in
+    let next : a + 1 + k ≡ a + suc k = omega arith in
+    first_of g (a + 1) n k y (λ i less. let to : a + 1 + i ≡ a + suc i = omega arith in ap g to ∙ before (suc i) (omega (arith, less)))
+    (omega (arith, within)) (ap g next ∙ here)
+    ∙ sym (ap (λ (o : Option Y). slice_get (cons_option o (filter_map g (range_with_len (a + 1) n))) 0) (ap g at ∙ before 0 (omega arith)))
+
+none_of : {Y : Type 0} (g : ℕ → Option Y) (a n : ℕ) → ((i : ℕ) → i < n → g (a + i) ≡ None) → filter_map g (range_with_len a n) ≡ []
+none_of g a zero none = refl
+none_of {Y = Y} g a (suc n) none =
+    let at : a ≡ a + 0 = omega arith in
+    ap (λ (o : Option Y). cons_option o (filter_map g (range_with_len (a + 1) n))) (ap g at ∙ none 0 (omega arith))
+    ∙ none_of g (a + 1) n (λ i less. let to : a + 1 + i ≡ a + suc i = omega arith in ap g to ∙ none (suc i) (omega (arith, less)))
 
 -- ---- the cells of a team
 
--- the cells that the report lists are the members of the team
-members_listed : (number : ℕ) (cells : List Cell) → map listed_member (map (listed_of number) cells) ≡ map member_of cells
-members_listed number [] = refl
-members_listed number (c ∷ cells) = ap (λ (members : List Member). member_of c ∷ members) (members_listed number cells)
+abbrev numbered : ℕ → Option Broken → Option BrokenCell
+numbered own verdict = option_map (λ broken. record { own = own; broken = broken }) verdict
 
--- the same rule is broken by the cell of a number, if there is one
-pub broken_listed : (t : Setting) (cells : List Cell) (own : ℕ) (o : Option Cell) →
-    option_and_then (broken_among t.legalizer t.frame t.padding (map (listed_of t.number) cells) own) (option_map (listed_of t.number) o)
-    ≡ option_and_then (λ place. broken_by o t cells own place) (option_and_then (λ c. c.working) o)
-broken_listed t cells own None = refl
-broken_listed t cells own (Some c) =
-    let beside : List Member → Option Broken = λ members.
-    option_and_then (λ (p : Place). t.legalizer.first_broken (trial_of t.frame t.number t.padding (macro_of t.frame c.mac) p (boxes_beside t.frame members own)))
-    c.working in
-    ap beside (members_listed t.number cells)
+-- the cells before it break no rule, and it does
+pub first_found : (t : Setting) (cells : List Cell) (own : ℕ) (broken : Broken) → ((i : ℕ) → i < own → None ≡ broken_where t cells i) → own < length cells
+    → Some broken ≡ broken_where t cells own → Some (record { own = own; broken = broken }) ≡ slice_get (broken_cells t cells) 0
+first_found t cells own broken before within here =
+    first_of (λ (k : ℕ). numbered k (broken_where t cells k)) 0 (length cells) own (record { own = own; broken = broken })
+    (λ i less. ap (λ (k : ℕ). numbered k (broken_where t cells k)) (zero-add i) ∙ ap (numbered i) (sym (before i less))) within
+    (ap (λ (k : ℕ). numbered k (broken_where t cells k)) (zero-add own) ∙ ap (numbered own) (sym here))
 
-found_at : (t : Setting) (cells : List Cell) (own : ℕ) →
-    broken_cell_at t.legalizer t.frame t.padding (map (listed_of t.number) cells) own
-    ≡ option_map (λ broken. record { own = own; broken = broken }) (broken_where t cells own)
-found_at t cells own =
-    let by : Listed (List ℕ) → Option Broken = broken_among t.legalizer t.frame t.padding (map (listed_of t.number) cells) own in
-    let numbered : Option Broken → Option BrokenCell = option_map (λ broken. record { own = own; broken = broken }) in
-    ap (λ (o : Option (Listed (List ℕ))). numbered (option_and_then by o)) (slice_get-map (listed_of t.number) cells own)
-    ∙ ap numbered (broken_listed t cells own (slice_get cells own))
+-- no cell breaks a rule
+pub none_found : (t : Setting) (cells : List Cell) → ((i : ℕ) → i < length cells → None ≡ broken_where t cells i) → None ≡ slice_get (broken_cells t cells) 0
+none_found t cells none =
+    sym (ap (λ (found : List BrokenCell). slice_get found 0)
+    (none_of (λ (k : ℕ). numbered k (broken_where t cells k)) 0 (length cells)
+    (λ i less. ap (λ (k : ℕ). numbered k (broken_where t cells k)) (zero-add i) ∙ ap (numbered i) (sym (none i less)))))
 
--- the cells of the list that break a rule are the team's
-pub illegal_cells : (t : Setting) (cells : List Cell) → illegal_in t.legalizer t.frame t.padding (map (listed_of t.number) cells) ≡ broken_cells t cells
-illegal_cells t cells =
-    let listed = map (listed_of t.number) cells in
-    ap (λ (n : ℕ). filter_map (broken_cell_at t.legalizer t.frame t.padding listed) (range_with_len 0 n)) (length-map cells (listed_of t.number))
-    ∙ found_alike (λ (own : ℕ). option_map (λ broken. record { own = own; broken = broken }) (broken_where t cells own)) (broken_cell_at t.legalizer t.frame t.padding listed)
-    (found_at t cells) (range_with_len 0 (length cells))
+-- one cell more breaks none
+pub one_more_unbroken : (t : Setting) (cells : List Cell) (k : ℕ) → ((i : ℕ) → i < k → None ≡ broken_where t cells i) → None ≡ broken_where t cells k
+    → (i : ℕ) → i < k + 1 → None ≡ broken_where t cells i
+one_more_unbroken t cells k before here i less = ⊎_elim
+    (λ (same : i ≡ k). here ∙ ap (λ (n : ℕ). broken_where t cells n) (sym same))
+    (λ (differ : i ≢ k). before i (omega (arith, less, differ)))
+    (cases_eq i k)

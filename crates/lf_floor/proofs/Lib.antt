@@ -1,4 +1,4 @@
-pub mod Listing
+pub mod Reporting
 pub mod FirstIllegal
 pub mod Seeking
 pub mod Moves

@@ -1,90 +1,77 @@
 -- Cells that stand legally, and what tidying may take from it.
-use Rattle.std.proofs.Common.{◌≡◌, ◌∙◌, ◌⊎◌, ℕ, zero, suc, ◌+◌, List, [], ◌∷◌, ◌++◌, length, map, Bool, true, Option, Some, None, inl, inr, refl, sym, ap, subst, arith}
-use Rattle.std.specs.Prelude.{All, IsSome, MatchOption, slice_get, option_map, option_and_then}
+use Rattle.std.proofs.Common.{◌≡◌, ◌≢◌, ◌∙◌, ⊎_elim, ℕ, zero, suc, List, map, set, replicate, Bool, true, false, Option, Some, None, refl, sym, ap, subst}
+use Rattle.std.specs.Prelude.{All, MatchOption, is_none, slice_get, option_map, option_and_then}
+use Rattle.std.proofs.lemmas.Bool.{cases_eq}
 use Rattle.std.proofs.lemmas.List.Elements.{All-map}
-use Rattle.std.proofs.lemmas.Option.{get_or_from_slice_get, slice_get-map}
+use Rattle.std.proofs.lemmas.Option.{slice_get-map}
+use Rattle.lf_undo.proofs.Places.{slice_get-set_other}
 use Rattle.lf_floorplan.specs.declared.frame.Frame.{Frame}
 use Rattle.lf_floorplan.specs.declared.place.Place.{Place}
 use Rattle.lf_floorplan.specs.Boxes.{IsSized, macro_of}
 use Rattle.lf_rules.specs.declared.rule.Broken.{Broken}
 use Rattle.lf_rules.specs.Choice.{IsLegalAt, spot_of}
 use Rattle.lf_rules.specs.Legality.{IsTeamLegal}
-use Rattle.lf_rules.specs.Legalizer.{IsVerdict, VerdictIsOne}
-use Rattle.lf_rules.specs.Team.{Member, StandsLegal, lifted_from}
+use Rattle.lf_rules.specs.Legalizer.{VerdictIsOne}
+use Rattle.lf_rules.specs.Team.{StandsLegal}
 use Rattle.lf_rules.specs.Tidy.{Going, TidyKeepsLegal, point_of, target_of, tidy_cell}
 use Rattle.lf_cells.specs.declared.cell.Cell.{Cell}
+use Rattle.lf_cells.specs.declared.cell.CellId.{CellId}
+use Rattle.lf_cells.specs.Cells.{id_in, id_of, working_at}
 use Rattle.lf_legalize.specs.Members.{IsSizedCell, member_of}
-use Rattle.lf_reports.specs.Reports.{AreVerdicts}
-use Rattle.lf_teams.specs.Teams.{Setting, broken_by, listed_of, trial_of_cell}
+use Rattle.lf_teams.specs.Teams.{Setting, broken_by, trial_of_cell}
 use Rattle.lf_teams.specs.Looks.{lifted_cell}
-use Rattle.lf_teams.proofs.Standing.{some_one}
-use Rattle.lf_floor.specs.Marking.{AreMarked, IsJudged}
+use Rattle.lf_teams.specs.Changes.{broken_where}
+use Rattle.lf_teams.proofs.Standing.{some_one, stands_where}
+use Rattle.lf_floor.specs.Marking.{AreMarked}
 use Rattle.lf_floor.specs.Tidying.{target_at}
-use Rattle.lf_floor.proofs.FirstIllegal.{broken_listed}
 use Rattle.lf_floor.proofs.Judging.{sized_there}
 
--- ---- a cell whose verdict says that it breaks no rule
+-- ---- marks
 
--- such a cell is legal where it stands
-legal_trial : (t : Setting) (cells : List Cell) (own : ℕ) (c : Cell) (o : Option Place) → IsSizedCell t.frame c → IsSome o →
-    None ≡ option_and_then (λ place. broken_by (Some c) t cells own place) o → MatchOption (option_map spot_of o) ⊥ (λ p. IsLegalAt (lifted_cell t cells own c) p)
-legal_trial t cells own c None sized placed none = absurd cc
-legal_trial t cells own c (Some place) sized placed none =
-    subst (λ (v : Option Broken). IsVerdict (trial_of_cell t cells own c place) v) (sym none)
-    (t.legalizer.finds_first_broken (trial_of_cell t cells own c place) sized.sized)
+no_true : (count own : ℕ) → slice_get (replicate count false) own ≡ Some true → ⊥
+no_true zero own e = cc
+no_true (suc n) zero e = cc
+no_true (suc n) (suc own) e = no_true n own e
 
-told_none : (t : Setting) (cells : List Cell) (verdicts : List (Option Broken)) (own : ℕ) (c : Cell) → slice_get cells own ≡ Some c →
-    AreVerdicts t.legalizer t.frame t.padding (map (listed_of t.number) cells) verdicts → slice_get verdicts own ≡ Some None →
-    None ≡ option_and_then (λ place. broken_by (Some c) t cells own place) c.working
-told_none t cells verdicts own c there are kept =
-    sym (get_or_from_slice_get verdicts own None None kept)
-    ∙ are.each own (listed_of t.number c) (slice_get-map (listed_of t.number) cells own ∙ ap (option_map (listed_of t.number)) there)
-    ∙ broken_listed t cells own (Some c)
+-- where nothing is marked each mark is right
+pub none_marked : (f : Frame) (number padding count : ℕ) (cells : List Cell) (marks : List Bool) → marks ≡ replicate count false →
+    AreMarked f number padding cells marks
+none_marked f number padding count cells marks are own marked =
+    absurd (no_true count own (subst (λ (ms : List Bool). slice_get ms own ≡ Some true) are marked))
 
-pub judged_stands : (t : Setting) (cells : List Cell) (verdicts : List (Option Broken)) (own : ℕ) → All (IsSizedCell t.frame) cells →
-    AreVerdicts t.legalizer t.frame t.padding (map (listed_of t.number) cells) verdicts → IsJudged cells verdicts own →
-    StandsLegal t.frame t.number t.padding (map member_of cells) own
-judged_stands t cells verdicts own all are judged = go (slice_get cells own) refl judged.placed where
-  go : (o : Option Cell) → slice_get cells own ≡ o → IsSome (option_and_then (λ c. c.working) o) → StandsLegal t.frame t.number t.padding (map member_of cells) own
-  go None there placed = absurd cc
-  go (Some c) there placed = λ m here.
-      let same : member_of c ≡ m = some_one (sym (slice_get-map member_of cells own ∙ ap (option_map member_of) there) ∙ here) in
-      subst (λ (x : Member). MatchOption x.place ⊥ (λ p. IsLegalAt (lifted_from t.frame t.number t.padding (map member_of cells) own x.mac) p)) same
-      (legal_trial t cells own c c.working (sized_there t.frame cells own c all there) placed (told_none t cells verdicts own c there are judged.kept))
+-- one cell more is marked, which stands legally
+pub one_more_mark : (f : Frame) (number padding own : ℕ) (cells : List Cell) (old new : List Bool) → new ≡ set old own true →
+    StandsLegal f number padding (map member_of cells) own → AreMarked f number padding cells old → AreMarked f number padding cells new
+one_more_mark f number padding own cells old new is stands are other marked = ⊎_elim
+    (λ (same : other ≡ own). subst (λ (k : ℕ). StandsLegal f number padding (map member_of cells) k) (sym same) stands)
+    (λ (differ : other ≢ own).
+    are other (sym (slice_get-set_other old own other true differ) ∙ subst (λ (ms : List Bool). slice_get ms other ≡ Some true) is marked))
+    (cases_eq other own)
 
--- ---- marks, one after the other
-
-get_end : {X : Type 0} (xs : List X) (x y : X) (k : ℕ) → slice_get (xs ++ x ∷ []) k ≡ Some y → (slice_get xs k ≡ Some y) ⊎ ((k ≡ length xs) × (x ≡ y))
-get_end [] x y zero e = inr (refl, some_one e)
-get_end [] x y (suc k) e = absurd cc
-get_end (z ∷ xs) x y zero e = inl e
-get_end (z ∷ xs) x y (suc k) e = elim (get_end xs x y k e) [
-  | inl before ↦ inl before
-  | inr last ↦ inr (ap suc last.0, last.1)
-]
-
-pub one_more_mark : (f : Frame) (number padding own : ℕ) (cells : List Cell) (old new : List Bool) (mark : Bool) → new ≡ old ++ mark ∷ [] → length old ≡ own →
-    (mark ≡ true → StandsLegal f number padding (map member_of cells) own) → AreMarked f number padding cells old → AreMarked f number padding cells new
-one_more_mark f number padding own cells old new mark is long stands are other marked =
-    elim (get_end old mark true other (subst (λ (ms : List Bool). slice_get ms other ≡ Some true) is marked)) [
-      | inl before ↦ are other before
-      | inr last ↦ subst (λ (k : ℕ). StandsLegal f number padding (map member_of cells) k) (sym (last.0 ∙ long)) (stands last.1)
-    ]
-
-length_end : (xs : List Bool) (x : Bool) → length (xs ++ x ∷ []) ≡ length xs + 1
-length_end [] x = refl
-length_end (y ∷ xs) x = let rest = length_end xs x in omega (arith, rest)
-
-pub one_longer : (own : ℕ) (old new : List Bool) (mark : Bool) → new ≡ old ++ mark ∷ [] → length old ≡ own → length new ≡ own + 1
-one_longer own old new mark is long = ap (λ (ms : List Bool). length ms) is ∙ length_end old mark ∙ ap (λ (n : ℕ). n + 1) long
-
--- ---- a cell that stands legally is not tidied
+-- ---- a cell that stands legally breaks no rule there
 
 no_rule : (t : Setting) (cells : List Cell) (own : ℕ) (c : Cell) (place : Place) → VerdictIsOne → IsSizedCell t.frame c →
     IsTeamLegal (trial_of_cell t cells own c place) → t.legalizer.first_broken (trial_of_cell t cells own c place) ≡ None
 no_rule t cells own c place one sized legal =
     one (trial_of_cell t cells own c place) (t.legalizer.first_broken (trial_of_cell t cells own c place)) None
     (t.legalizer.finds_first_broken (trial_of_cell t cells own c place) sized.sized) legal
+
+pub legal_breaks_none : (t : Setting) (cells : List Cell) (own : ℕ) → VerdictIsOne → All (IsSizedCell t.frame) cells →
+    StandsLegal t.frame t.number t.padding (map member_of cells) own → None ≡ broken_where t cells own
+legal_breaks_none t cells own one all stands = go (slice_get cells own) refl where
+  by : (c : Cell) (o : Option Place) → IsSizedCell t.frame c → MatchOption (option_map spot_of o) ⊥ (λ p. IsLegalAt (lifted_cell t cells own c) p) →
+      None ≡ option_and_then (λ place. broken_by (Some c) t cells own place) o
+  by c None sized none = absurd none
+  by c (Some place) sized legal = sym (no_rule t cells own c place one sized legal)
+
+  go : (o : Option Cell) → slice_get cells own ≡ o →
+      None ≡ option_and_then (λ place. broken_by o t cells own place) (option_and_then (λ c. c.working) o)
+  go None there = refl
+  go (Some c) there =
+      by c c.working (sized_there t.frame cells own c all there)
+      (stands (member_of c) (slice_get-map member_of cells own ∙ ap (option_map member_of) there))
+
+-- ---- a cell that stands legally is not tidied
 
 pub legal_stays : (t : Setting) (cells : List Cell) (own : ℕ) → VerdictIsOne → All (IsSizedCell t.frame) cells →
     StandsLegal t.frame t.number t.padding (map member_of cells) own → None ≡ target_at t cells own
@@ -110,3 +97,23 @@ marked_through t own moved count old new marks keeps all is are other marked =
   where
     sized : All (λ m. IsSized t.frame (macro_of t.frame m.mac)) (map member_of old)
     sized = All-map (λ m. IsSized t.frame (macro_of t.frame m.mac)) member_of old (λ i d within. (all i d within).sized)
+
+-- ---- a placed cell that breaks no rule stands legally
+
+pub stands_by : (t : Setting) (cells : List Cell) (own : ℕ) (broken : Option Broken) → All (IsSizedCell t.frame) cells → false ≡ is_none (working_at cells own)
+    → broken ≡ broken_where t cells own → is_none broken ≡ true → StandsLegal t.frame t.number t.padding (map member_of cells) own
+stands_by t cells own broken sized placed is none = go (working_at cells own) refl placed where
+  no_broken : (o : Option Broken) → is_none o ≡ true → o ≡ None
+  no_broken None e = refl
+  no_broken (Some b) e = absurd cc
+
+  go : (o : Option Place) → working_at cells own ≡ o → false ≡ is_none o → StandsLegal t.frame t.number t.padding (map member_of cells) own
+  go None at e = absurd cc
+  go (Some p) at e = stands_where t cells own p sized at (sym is ∙ no_broken broken none)
+
+-- the id of the team's cell of that position
+pub id_is : (cells : List Cell) (number own : ℕ) (id : CellId) → Some id ≡ id_in cells number own → id ≡ id_of number own
+id_is cells number own id is = go (slice_get cells own) is where
+  go : (o : Option Cell) → Some id ≡ option_map (λ (c : Cell). id_of number own) o → id ≡ id_of number own
+  go None e = absurd cc
+  go (Some c) e = some_one e

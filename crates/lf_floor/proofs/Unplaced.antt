@@ -1,8 +1,8 @@
--- The first unplaced cell of a team.
-use Rattle.std.proofs.Common.{◌≡◌, ◌≢◌, ⊎_elim, ◌<◌, ℕ, zero, suc, ◌+◌, List, [], ◌∷◌, length, get_or, Bool, true, false, cond, ltb, Some, None, refl, ap, ◌∙◌, arith}
-use Rattle.std.specs.Prelude.{is_none}
+-- The unplaced cells of a team: the first, and how many there are.
+use Rattle.std.proofs.Common.{◌≡◌, ◌≢◌, ⊎_elim, ◌<◌, ℕ, zero, suc, ◌+◌, List, [], ◌∷◌, length, get_or, Bool, true, false, cond, ltb, Some, None, refl, ap, sym, take, ◌∙◌, arith}
+use Rattle.std.specs.Prelude.{count_by, is_none}
 use Rattle.std.proofs.lemmas.Bool.{cases_eq, lt-ltb, ltb-true}
-use Rattle.std.proofs.lemmas.List.Sums.{position_or_len_is}
+use Rattle.std.proofs.lemmas.List.Sums.{count_by_more_no, count_by_more_yes, position_or_len_is}
 use Rattle.lf_cells.specs.declared.cell.Cell.{Cell}
 use Rattle.lf_cells.specs.Cells.{working_at}
 use Rattle.lf_teams.specs.Changes.{first_unplaced}
@@ -44,3 +44,18 @@ one_more_placed cells k before here i less = ⊎_elim
     (λ (same : i ≡ k). ap (λ (n : ℕ). is_none (working_at cells n)) same ∙ here)
     (λ (differ : i ≢ k). before i (omega (arith, less, differ)))
     (cases_eq i k)
+
+-- ---- how many are unplaced
+
+-- one more is unplaced
+pub counted_yes : (cells : List Cell) (k count : ℕ) → k < length cells → is_none (working_at cells k) ≡ true → count ≡ count_by (λ c. is_none c.working) (take k cells)
+    → count + 1 ≡ count_by (λ c. is_none c.working) (take (k + 1) cells)
+counted_yes cells k count within here is =
+    ap (λ (n : ℕ). n + 1) is
+    ∙ sym (count_by_more_yes (λ (c : Cell). is_none c.working) cells k no_cell within (ap is_none (stands_at cells k no_cell within) ∙ here))
+
+-- one more is placed
+pub counted_no : (cells : List Cell) (k count : ℕ) → k < length cells → is_none (working_at cells k) ≡ false → count ≡ count_by (λ c. is_none c.working) (take k cells)
+    → count ≡ count_by (λ c. is_none c.working) (take (k + 1) cells)
+counted_no cells k count within here is =
+    is ∙ sym (count_by_more_no (λ (c : Cell). is_none c.working) cells k no_cell within (ap is_none (stands_at cells k no_cell within) ∙ here))

@@ -4,3 +4,4 @@ pub mod Reverting
 pub mod Swapping
 pub mod Tidying
 pub mod Marking
+pub mod Reporting

@@ -1,13 +1,13 @@
 //! A team's own cells where they stand.
 
-ghost use Rattle.std.specs.Prelude.{◌≡◌, IfOk, is_none, option_map};
+ghost use Rattle.std.specs.Prelude.{◌≡◌, IfOk, count_by, is_none, option_map};
 ghost use Rattle.lf_rules.specs.Choice.{spot_of};
 ghost use Rattle.lf_rules.specs.Legalizer.{Legalizer};
 ghost use Rattle.lf_cells.specs.Cells.{cells_of, working_at};
 ghost use Rattle.lf_legalize.specs.Members.{best_of};
 ghost use Rattle.lf_teams.specs.Teams.{broken_at, setting};
 ghost use Rattle.lf_teams.specs.Looks.{best_at};
-ghost use Rattle.lf_teams.specs.Changes.{first_unplaced};
+ghost use Rattle.lf_teams.specs.Changes.{broken_where, first_unplaced};
 ghost use Rattle.lf_floor.specs.Tables.{setting_at};
 
 use crate::surroundings::Surroundings;
@@ -33,6 +33,16 @@ pub(crate) fn broken_at(
     verdict_is_one();
     placement.cells_are_sized();
     placement.first_broken(id, place, padding)
+}
+
+/// The first rule that the team's cell of that id breaks where it stands, beside the others of its team,
+/// which has this padding; none where it is unplaced, or there is no such cell. It allocates nothing.
+pub(crate) fn broken_where(placement: &Placement, id: CellId, padding: Padding) -> Option<Broken>
+    ensures { (l : Legalizer) → result
+        ≡ broken_where (setting l placement.now.frame id.team padding.sites) (cells_of placement.now.cells id.team) id.own }
+{
+    let place = placement.cells().working(id)?;
+    broken_at(placement, id, &place, padding)
 }
 
 /// The best place of the team's cell of that id for a target; none if it has none.
@@ -66,8 +76,21 @@ pub(crate) fn first_unplaced(cells: &CellTable, number: usize) -> Option<u32>
     None
 }
 
+/// How many of the team's cells are unplaced.
+pub(crate) fn unplaced_in(cells: &CellTable, number: usize) -> usize
+    ensures { result ≡ count_by (λ c. is_none c.working) (cells_of cells.now number) }
+{
+    let mut unplaced = 0;
+    for id in cells.cells_of(number) {
+        if is_unplaced(cells, *id) {
+            unplaced += 1;
+        }
+    }
+    unplaced
+}
+
 /// Whether the cell is unplaced.
-fn is_unplaced(cells: &CellTable, id: CellId) -> bool
+pub(crate) fn is_unplaced(cells: &CellTable, id: CellId) -> bool
     ensures { result ≡ is_none (working_at (cells_of cells.now id.team) id.own) }
 {
     cells.working(id).is_none()

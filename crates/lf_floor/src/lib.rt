@@ -12,6 +12,8 @@ mod floor;
 mod keeping;
 mod legal;
 mod looks;
+mod order;
+mod report;
 mod sessions;
 mod surroundings;
 mod swap;

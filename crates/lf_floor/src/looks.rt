@@ -8,7 +8,7 @@ ghost use Rattle.lf_teams.specs.Outcomes.{Reaches, RunsOut};
 ghost use Rattle.lf_teams.specs.Looks.{checked, found, located, written};
 
 use crate::cell::best_place;
-use crate::legal::report_text;
+use crate::report::report_text;
 use crate::surroundings::Surroundings;
 use crate::tables::Tables;
 use lf_legalize::Seeker;
