@@ -3,6 +3,7 @@
 ghost use Rattle.std.specs.Prelude.{◌≡◌, ◌↔◌, ℕ, List, Option, None, IsOk, OnErr, OnOk};
 ghost use Rattle.lf_files.specs.Shelf.{Put, Puts};
 
+use crate::pieces::Pieces;
 use crate::replacing::{is_special, replace, try_path, write_through};
 use std::io;
 use std::io::ErrorKind;
@@ -36,7 +37,7 @@ fn put_result(written: io::Result<()>) -> Result<(), Unwritten>
 }
 
 /// Writes the text to the file of that path, or to the device.
-fn write_to<T: Files + AllocGlobal>(files: &T, path: &str, text: &[u8]) -> io::Result<()> {
+fn write_to<T: Files + AllocGlobal, P: Pieces>(files: &T, path: &str, text: &P) -> io::Result<()> {
     if is_special(files, path)? {
         return write_through(files, path, text);
     }
@@ -52,8 +53,8 @@ pub trait Exports {
     fn try_path(&self, path: &str) -> Result<(), Unwritten>;
 
     /// Puts the text into the file of that path, in place of what was there.
-    fn put(&mut self, path: &str, text: &[u8]) -> Result<(), Unwritten>
-        ensures ok { OnOk result (Puts (puts self.old) (puts self.new) path.now text.now) }
+    fn put<P: Pieces>(&mut self, path: &str, text: &P) -> Result<(), Unwritten>
+        ensures ok { OnOk result (Puts (puts self.old) (puts self.new) path.now (P.text text.now)) }
         ensures err { OnErr result (puts self.new ≡ puts self.old) };
 }
 
@@ -75,7 +76,7 @@ impl<'a, T: Files + AllocGlobal> Exports for FileExports<'a, T> {
         put_result(try_path(self.files, path))
     }
 
-    fn put(&mut self, path: &str, text: &[u8]) -> Result<(), Unwritten> {
+    fn put<P: Pieces>(&mut self, path: &str, text: &P) -> Result<(), Unwritten> {
         put_result(write_to(self.files, path, text))
     }
 }

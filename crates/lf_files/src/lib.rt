@@ -2,6 +2,8 @@
 #![tactic(auto)]
 
 mod exports;
+mod pieces;
 mod replacing;
 
 pub use exports::{Exports, FileExports, Unwritten};
+pub use pieces::Pieces;

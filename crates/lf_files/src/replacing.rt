@@ -1,8 +1,9 @@
 //! How a file is replaced: the text is written to a new file beside it, which then takes its name.
 
-ghost use Rattle.std.specs.Prelude.{OnOk};
+ghost use Rattle.std.specs.Prelude.{IfOk};
 ghost use Rattle.std.specs.Io.KnownBytes.{Appends};
 
+use crate::pieces::{Pieces, with_pieces};
 use itoa::Buffer;
 use std::alloc::Global;
 use std::fs::{File, OpenFile, OpenOptions};
@@ -38,9 +39,14 @@ pub(crate) fn is_special<T: Files>(files: &T, path: &str) -> io::Result<bool> {
 }
 
 /// Writes the text to what has the path.
-pub(crate) fn write_through<T: Files>(files: &T, path: &str, text: &[u8]) -> io::Result<()> {
-    let mut file = OpenOptions::new().write(true).open(files, path)?;
-    file.write_all(text)
+pub(crate) fn write_through<T: Files + AllocGlobal, P: Pieces>(
+    rt: &T,
+    path: &str,
+    text: &P,
+) -> io::Result<()> {
+    let file = OpenOptions::new().write(true).open(rt, path)?;
+    with_pieces(rt.alloc(), file, text)?;
+    Ok(())
 }
 
 /// The path that a link of that name leads to.
@@ -80,17 +86,19 @@ fn is_output<T: Files + AllocGlobal>(rt: &T, target: &str) -> io::Result<bool> {
 }
 
 /// Writes the text to the file, and makes sure that it is stored.
-fn store<T: Files>(file: &mut T::File, text: &[u8]) -> io::Result<()>
-    ensures { OnOk result (Appends (⟦<T::File as Write>⟧.contents file.old) (⟦<T::File as Write>⟧.contents file.new) text.now) }
+fn store<T: Files + AllocGlobal, P: Pieces>(rt: &T, file: T::File, text: &P) -> io::Result<T::File>
+    ensures { IfOk result (λ new. Appends (⟦<T::File as Write>⟧.contents file) (⟦<T::File as Write>⟧.contents new) (P.text text.now)) }
 {
-    file.write_all(text)?;
-    file.sync_all()
+    let mut file = with_pieces(rt.alloc(), file, text)?;
+    file.sync_all()?;
+    Ok(file)
 }
 
 /// Stores the text behind what the file holds.
-fn store_behind<T: Files>(files: &T, path: &str, text: &[u8]) -> io::Result<()> {
-    let mut file = OpenOptions::new().append(true).open(files, path)?;
-    store::<T>(&mut file, text)
+fn store_behind<T: Files + AllocGlobal, P: Pieces>(rt: &T, path: &str, text: &P) -> io::Result<()> {
+    let file = OpenOptions::new().append(true).open(rt, path)?;
+    store(rt, file, text)?;
+    Ok(())
 }
 
 /// The name of a new file beside the target.
@@ -102,32 +110,42 @@ fn name_beside(alloc: Global, target: &str, number: u32) -> io::Result<String> {
 }
 
 /// Gives the new file the older one's permissions, and stores the text in it.
-fn fill<T: Files>(files: &T, target: &str, file: &mut T::File, text: &[u8]) -> io::Result<()>
-    ensures { OnOk result (Appends (⟦<T::File as Write>⟧.contents file.old) (⟦<T::File as Write>⟧.contents file.new) text.now) }
+fn fill<T: Files + AllocGlobal, P: Pieces>(
+    rt: &T,
+    target: &str,
+    file: T::File,
+    text: &P,
+) -> io::Result<T::File>
+    ensures { IfOk result (λ new. Appends (⟦<T::File as Write>⟧.contents file) (⟦<T::File as Write>⟧.contents new) (P.text text.now)) }
 {
-    if let Some(older) = found(fs::metadata(files, target))? {
+    let mut file = file;
+    if let Some(older) = found(fs::metadata(rt, target))? {
         file.set_permissions(older.permissions())?;
     }
-    store::<T>(file, text)
+    store(rt, file, text)
 }
 
-/// Fills the new file of that name and renames it; if that fails, the new file is removed.
-fn fill_and_rename<T: Files>(
-    files: &T,
+/// Fills the new file of that name and renames it once it is closed; if that fails, the new file is removed.
+fn fill_and_rename<T: Files + AllocGlobal, P: Pieces>(
+    rt: &T,
     name: &str,
     target: &str,
     file: T::File,
-    text: &[u8],
+    text: &P,
 ) -> io::Result<()> {
-    let mut file = file;
-    let filled = fill(files, target, &mut file, text);
-    drop(file);
+    let filled = match fill(rt, target, file, text) {
+        Ok(file) => {
+            drop(file);
+            Ok(())
+        }
+        Err(error) => Err(error),
+    };
     let renamed = match filled {
-        Ok(()) => fs::rename(files, name, target),
+        Ok(()) => fs::rename(rt, name, target),
         Err(error) => Err(error),
     };
     if renamed.is_err() {
-        let _ = fs::remove_file(files, name);
+        let _ = fs::remove_file(rt, name);
     }
     renamed
 }
@@ -173,7 +191,11 @@ pub(crate) fn try_path<T: Files + AllocGlobal>(rt: &T, path: &str) -> io::Result
 /// Writes the text to a new file beside the target, and gives it the target's name: what had that name before is replaced
 /// at once, and unchanged if anything fails. Where standard output goes to that file, the text goes behind what was written
 /// there.
-pub(crate) fn replace<T: Files + AllocGlobal>(rt: &T, path: &str, text: &[u8]) -> io::Result<()> {
+pub(crate) fn replace<T: Files + AllocGlobal, P: Pieces>(
+    rt: &T,
+    path: &str,
+    text: &P,
+) -> io::Result<()> {
     let target = target_of(rt, path)?;
     if is_output(rt, &target)? {
         return store_behind(rt, &target, text);
