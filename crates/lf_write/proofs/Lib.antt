@@ -2,6 +2,7 @@ pub mod Before
 pub mod Behind
 pub mod Edits
 pub mod Entries
+pub mod Kept
 pub mod Positions
 pub mod Reading
 pub mod Renewed

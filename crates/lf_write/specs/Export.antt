@@ -6,7 +6,7 @@ use Rattle.std.specs.Option.{option_and_then}
 use Rattle.std.specs.Ordering.{int_eq}
 use Rattle.std.specs.List.{enumerate_from}
 use Rattle.lf_orient.specs.Words.{orient_word}
-use Rattle.lf_lex.specs.Splices.{Splice, spliced, joined}
+use Rattle.lf_lex.specs.Splices.{Splice, Rising, spliced, joined}
 use Rattle.lf_floorplan.specs.declared.place.Place.{Place}
 use Rattle.lf_def.specs.declared.components.Component.{Component}
 use Rattle.lf_def.specs.declared.components.Location.{Location}
@@ -72,6 +72,55 @@ changes components places = filter_map (change_at components) places
 -- The text with these components given these places.
 abbrev pub exported : List ℕ → List Component → List (ℕ × Option Place) → List ℕ
 exported text components places = spliced 0 (changes components places) text
+
+-- What is kept of a component for its export, once the document is gone.
+
+-- its place, the offsets between which its clause is, or twice that of its semicolon, and whether it lacks a clause
+pub record ClauseFacts : Type 0 where
+  pub place : Option Location
+  pub start : ℕ
+  pub stop : ℕ
+  pub lacks : Bool
+
+abbrev pub clause_at : ℕ → ℕ → Option Location → ClauseFacts
+clause_at start stop place = record { place = place; start = start; stop = stop; lacks = false }
+
+abbrev pub no_clause : ℕ → ClauseFacts
+no_clause semicolon = record { place = None; start = semicolon; stop = semicolon; lacks = true }
+
+abbrev pub clause_from : Option Placement → ℕ → ClauseFacts
+clause_from None semicolon = no_clause semicolon
+clause_from (Some p) semicolon = clause_at p.start p.stop p.place
+
+abbrev pub clause_of : Component → ClauseFacts
+clause_of c = clause_from c.placement c.semicolon
+
+-- the new clause, with a space behind it if there was none
+abbrev pub new_clause : Bool → Option Place → List ℕ
+new_clause true given = joined (clause_words given) ++ codes " "
+new_clause false given = joined (clause_words given)
+
+abbrev pub splice_at : ClauseFacts → Option Place → Splice
+splice_at k given = record { start = k.start; stop = k.stop; new = new_clause k.lacks given }
+
+-- what is replaced if the component of this clause is given this place: nothing, if it is there
+abbrev pub renewal : ClauseFacts → Option Place → Option Splice
+renewal k given = if is_at k.place given then None else Some (splice_at k given)
+
+abbrev pub renewal_at : List ClauseFacts → ℕ × Option Place → Option Splice
+renewal_at clauses g = option_and_then (λ k. renewal k g.1) (slice_get clauses g.0)
+
+abbrev pub renewals : List ClauseFacts → List (ℕ × Option Place) → List Splice
+renewals clauses places = filter_map (renewal_at clauses) places
+
+-- the text with these places given to the components of these clauses
+abbrev pub renewed : List ℕ → List ClauseFacts → List (ℕ × Option Place) → List ℕ
+renewed text clauses places = spliced 0 (renewals clauses places) text
+
+-- each place is that of a clause, and what is replaced stands one behind the other within the text
+pub record CanBeRenewed (text : List ℕ) (clauses : List ClauseFacts) (places : List (ℕ × Option Place)) : Type 0 where
+  pub listed : All (λ g. g.0 < length clauses) places
+  pub rising : Rising 0 (length text) (renewals clauses places)
 
 -- What the exported text says.
 

@@ -1,11 +1,11 @@
 -- Laws on exported texts.
-use Rattle.std.specs.Prelude.{◌≡◌, ◌↔◌, ℕ, true, List, length, All, IfSome, IsTrue, Option, option_map, Ok, slice_get}
+use Rattle.std.specs.Prelude.{◌≡◌, ◌↔◌, ℕ, true, List, length, map, All, IfSome, IsTrue, Option, option_map, Ok, slice_get}
 use Rattle.lf_floorplan.specs.declared.place.Place.{Place}
 use Rattle.lf_def.specs.declared.components.Component.{Component}
 use Rattle.lf_def.specs.Ranges.{IsLocation}
 use Rattle.lf_def.specs.Document.{Document, document_of}
 use Rattle.lf_def.specs.Laws.{document_without_places}
-use Rattle.lf_write.specs.Export.{Rise, location, as_location, stands_at, with_place, exported, given_places}
+use Rattle.lf_write.specs.Export.{CanBeGiven, CanBeRenewed, Rise, clause_of, location, as_location, stands_at, with_place, exported, given_places, renewed}
 
 -- the coordinates of a place that is given are such as a DEF text can hold
 abbrev pub FitsText : Option Place → Type 0
@@ -25,6 +25,13 @@ ExportReadsBack = (text : List ℕ) (d : Document) (places : List (ℕ × Option
 abbrev pub NothingChanges : Type 0
 NothingChanges = (text : List ℕ) (components : List Component) (places : List (ℕ × Option Place))
     → All (λ g. IfSome (slice_get components g.0) (λ c. stands_at c g.1 ≡ true)) places → exported text components places ≡ text
+
+-- What is kept of the components of a text is enough for its export.
+pub record ClausesServe : Type 0 where
+  pub same : (text : List ℕ) (components : List Component) (places : List (ℕ × Option Place))
+      → renewed text (map clause_of components) places ≡ exported text components places
+  pub ready : (text : List ℕ) (d : Document) (places : List (ℕ × Option Place)) → document_of text ≡ Ok d → CanBeGiven d.components places
+      → CanBeRenewed text (map clause_of d.components) places
 
 -- A component is at a place if and only if its location is that place; without a location it is at none.
 abbrev pub StandsThere : Type 0

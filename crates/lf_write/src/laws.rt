@@ -1,6 +1,8 @@
 //! Laws on exported texts.
 
-ghost use Rattle.lf_write.specs.Laws.{ExportReadsBack, GivenStands, NothingChanges, StandsThere};
+ghost use Rattle.lf_write.specs.Laws.{ClausesServe, ExportReadsBack, GivenStands, NothingChanges, StandsThere};
+
+use lf_def::components_rise;
 
 /// Reading an exported text gives the document that was read with the given places in it, except for the positions of
 /// components in the text; the placement of a component that is given another place than the document's is
@@ -20,3 +22,11 @@ pub fn components_stand_where_they_are()
     ensures stands { StandsThere }
     ensures given { GivenStands }
 {}
+
+/// What is kept of the components of a text is enough for its export: the text that is made from it is the exported
+/// one, and places that the components can be given can be written with it.
+pub fn clauses_serve()
+    ensures { ClausesServe }
+{
+    components_rise();
+}

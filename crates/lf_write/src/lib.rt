@@ -2,8 +2,12 @@
 #![tactic(auto)]
 
 mod clause;
+mod clauses;
 mod laws;
 mod text;
 
-pub use laws::{components_stand_where_they_are, exports_read_back, nothing_changes};
-pub use text::export;
+pub use clauses::{Clause, clauses_of};
+pub use laws::{
+    clauses_serve, components_stand_where_they_are, exports_read_back, nothing_changes,
+};
+pub use text::{Given, export, write_export};

@@ -1,18 +1,54 @@
 //! The exported text.
 
-ghost use Rattle.std.specs.Prelude.{◌≡◌, ◌++◌, ◌≤◌, ◌<◌, ◌-◌, All, OnOk, IfOk, take, drop, length};
-ghost use Rattle.lf_lex.specs.Splices.{Rising};
-ghost use Rattle.lf_write.specs.Export.{CanBeGiven, exported, changes, splice_of};
+ghost use Rattle.std.specs.Prelude.{◌≡◌, ◌++◌, ◌≤◌, ◌-◌, ℕ, List, Option, All, IfOk, OnOk, drop, length, slice_get, take};
+ghost use Rattle.std.specs.Io.KnownBytes.{Appends};
+ghost use Rattle.lf_def.specs.Contents.{contents};
+ghost use Rattle.lf_floorplan.specs.declared.place.Place.{Place};
+ghost use Rattle.lf_write.specs.Export.{CanBeGiven, CanBeRenewed, exported, renewed, splice_at};
 ghost use Rattle.lf_write.specs.Export as spec;
 ghost use Rattle.lf_write.specs.Laws.{FitsText, ReadsBack};
-ghost use Rattle.lf_def.specs.Contents.{contents};
 
-use crate::clause::put_clause;
-use crate::laws::exports_read_back;
-use lf_def::{Component, DefDoc, Location, components_rise};
+use crate::clause::put_new_clause;
+use crate::clauses::{Clause, clauses_of};
+use crate::laws::{clauses_serve, exports_read_back};
+use lf_def::{DefDoc, Location};
 use lf_floorplan::Place;
 use lf_orient::orient_word;
 use std::alloc::{AllocError, Global};
+use std::io;
+use std::io::Write;
+
+/// Places that components are given.
+pub trait Given {
+    /// The places, each with the position of its component among all components of the text.
+    ghost places: { Self → List (ℕ × Option Place) };
+
+    /// How many there are.
+    fn count(&self) -> usize
+        ensures { result ≡ length (places self.now) };
+
+    /// The one at this position in the list; none behind the last.
+    fn place(&self, at: usize) -> Option<(usize, Option<Place>)>
+        ensures { result ≡ slice_get (places self.now) at };
+}
+
+/// Places in a list.
+#[derive(Drop)]
+struct Listed<'a> {
+    places: &'a [(usize, Option<Place>)],
+}
+
+impl<'a> Given for Listed<'a> {
+    ghost places = { λ l. l.places.now };
+
+    fn count(&self) -> usize {
+        self.places.len()
+    }
+
+    fn place(&self, at: usize) -> Option<(usize, Option<Place>)> {
+        self.places.get(at).copied()
+    }
+}
 
 /// Whether a component at this location is at the place.
 fn is_at(location: &Option<Location>, place: &Option<Place>) -> bool
@@ -29,61 +65,47 @@ fn is_at(location: &Option<Location>, place: &Option<Place>) -> bool
     }
 }
 
-/// Whether the component is at the place; one without a clause, or UNPLACED, has none.
-fn stands_at(component: &Component, place: &Option<Place>) -> bool
-    ensures { result ≡ spec.stands_at component.now place.now }
+/// Whether the component of the clause is at the place.
+fn stands_at(clause: &Clause, place: &Option<Place>) -> bool
+    ensures { result ≡ spec.is_at clause.now.place place.now }
 {
-    match component.placement() {
-        Some(placement) => is_at(&placement.place, place),
-        None => place.is_none(),
-    }
+    is_at(&clause.place(), place)
 }
 
-/// Appends the bytes from one offset up to another.
-fn put_part(out: &mut Vec<u8>, text: &[u8], from: usize, to: usize) -> Result<(), AllocError>
+/// Writes the bytes from one offset up to another.
+fn put_part<W: Write>(out: &mut W, text: &[u8], from: usize, to: usize) -> io::Result<()>
     requires order { from ≤ to }
     requires within { to ≤ length text.now }
-    ensures { OnOk result (out.new.items ≡ out.old.items ++ take (to - from) (drop from text.now)) }
+    ensures { OnOk result (Appends (W.contents out.old) (W.contents out.new) (take (to - from) (drop from text.now))) }
 {
-    out.extend_from_slice(&text[from..to])
+    out.write_all(&text[from..to])
 }
 
-/// Appends the bytes from an offset on.
-fn put_rest(out: &mut Vec<u8>, text: &[u8], from: usize) -> Result<(), AllocError>
+/// Writes the bytes from an offset on.
+fn put_rest<W: Write>(out: &mut W, text: &[u8], from: usize) -> io::Result<()>
     requires { from ≤ length text.now }
-    ensures { OnOk result (out.new.items ≡ out.old.items ++ drop from text.now) }
+    ensures { OnOk result (Appends (W.contents out.old) (W.contents out.new) (drop from text.now)) }
 {
-    out.extend_from_slice(&text[from..])
+    out.write_all(&text[from..])
 }
 
-/// Appends the text from an offset up to the change of a component, and the change; returns the offset after what it
-/// replaces.
-fn put_change(
-    out: &mut Vec<u8>,
+/// Writes the text from an offset up to the clause, and the new clause; returns the offset after what it replaces.
+fn put_change<W: Write>(
+    out: &mut W,
     text: &[u8],
     at: usize,
-    component: &Component,
+    clause: &Clause,
     place: &Option<Place>,
-) -> Result<usize, AllocError>
-    requires order { at ≤ (splice_of component.now place.now).start }
-    requires within { (splice_of component.now place.now).start ≤ length text.now }
-    ensures bytes { OnOk result (out.new.items ≡ out.old.items
-        ++ (take ((splice_of component.now place.now).start - at) (drop at text.now) ++ (splice_of component.now place.now).new)) }
-    ensures behind { IfOk result (λ stop. stop ≡ (splice_of component.now place.now).stop) }
+) -> io::Result<usize>
+    requires order { at ≤ clause.now.start }
+    requires within { clause.now.start ≤ length text.now }
+    ensures bytes { OnOk result (Appends (W.contents out.old) (W.contents out.new)
+        (take (clause.now.start - at) (drop at text.now) ++ (splice_at clause.now place.now).new)) }
+    ensures behind { IfOk result (λ stop. stop ≡ clause.now.stop) }
 {
-    match component.placement() {
-        Some(old) => {
-            put_part(out, text, at, old.start)?;
-            put_clause(out, place)?;
-            Ok(old.stop)
-        }
-        None => {
-            put_part(out, text, at, component.semicolon())?;
-            put_clause(out, place)?;
-            out.extend_from_slice(b" ")?;
-            Ok(component.semicolon())
-        }
-    }
+    put_part(out, text, at, clause.start())?;
+    put_new_clause(out, clause.lacks(), place)?;
+    Ok(clause.stop())
 }
 
 /// The coordinates of a place are such as a DEF text can hold.
@@ -96,29 +118,31 @@ fn fits_text(place: &Option<Place>)
     }
 }
 
-/// The text with these components given these places.
-fn text_with(
-    alloc: Global,
+/// Writes the text with these places given to the components of these clauses: piece by piece, so that nothing is
+/// allocated. Every byte outside the clauses that change is copied.
+pub fn write_export<G: Given, W: Write>(
+    out: &mut W,
     text: &[u8],
-    components: &[Component],
-    places: &[(usize, Option<Place>)],
-) -> Result<Vec<u8>, AllocError>
-    requires listed { All (λ g. g.0 < length components.now) places.now }
-    requires rising { Rising 0 (length text.now) (changes components.now places.now) }
-    ensures bytes { IfOk result (λ out. out.items ≡ exported text.now components.now places.now) }
-    ensures fit { OnOk result (All (λ g. FitsText g.1) places.now) }
+    clauses: &[Clause],
+    given: &G,
+) -> io::Result<()>
+    requires { CanBeRenewed text.now clauses.now (G.places given.now) }
+    ensures bytes { OnOk result (Appends (W.contents out.old) (W.contents out.new) (renewed text.now clauses.now (G.places given.now))) }
+    ensures fit { OnOk result (All (λ g. FitsText g.1) (G.places given.now)) }
 {
-    let mut out = Vec::with_capacity(alloc, text.len())?;
     let mut at = 0;
-    for (position, place) in places {
-        fits_text(place);
-        let component = &components[*position];
-        if !stands_at(component, place) {
-            at = put_change(&mut out, text, at, component, place)?;
+    for number in 0..given.count() {
+        let Some((position, place)) = given.place(number) else {
+            unreachable!();
+        };
+        fits_text(&place);
+        let clause = &clauses[position];
+        if !stands_at(clause, &place) {
+            at = put_change(out, text, at, clause, &place)?;
         }
     }
-    put_rest(&mut out, text, at)?;
-    Ok(out)
+    put_rest(out, text, at)?;
+    Ok(())
 }
 
 /// The document's text with the placement clause of each listed component that is given another place than
@@ -138,7 +162,12 @@ pub fn export(
     ensures bytes { IfOk result (λ text. text.items ≡ exported document.now.text.now document.now.components places.now) }
     ensures again { IfOk result (λ text. ReadsBack text.items places.now (contents document.now)) }
 {
-    components_rise();
+    clauses_serve();
     exports_read_back();
-    text_with(alloc, document.text, document.components.as_slice(), places)
+    let clauses = clauses_of(alloc, document)?;
+    let mut out = Vec::with_capacity(alloc, document.text.len())?;
+    match write_export(&mut out, document.text, &clauses, &Listed { places }) {
+        Ok(()) => Ok(out),
+        Err(_) => Err(AllocError),
+    }
 }

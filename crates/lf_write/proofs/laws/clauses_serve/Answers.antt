@@ -1,0 +1,8 @@
+use Rattle.lf_write.proofs.Kept.{ready_for, same_text}
+use Rattle.lf_write.proofs.laws.clauses_serve.Goals as goal
+
+pub returns : goal.returns
+returns c = record {
+  same = λ text components places. same_text text components places;
+  ready = λ text d places e can. ready_for text d.components places (c.components_rise.ensures text d e) can;
+}
