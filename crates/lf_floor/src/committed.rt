@@ -1,6 +1,6 @@
 //! The committed places of all cells.
 
-ghost use Rattle.std.specs.Prelude.{◌≡◌, IfOk, IsSome, List, map};
+ghost use Rattle.std.specs.Prelude.{◌≡◌, IfOk, IsSome, List, length, map, slice_get};
 ghost use Rattle.lf_cells.specs.declared.cell.CellId.{CellId};
 ghost use Rattle.lf_cells.specs.Cells.{AreAll, component_at};
 ghost use Rattle.lf_floor.specs.Entries.{committed_entry};
@@ -8,6 +8,7 @@ ghost use Rattle.lf_floor.specs.Entries.{committed_entry};
 use lf_cells::{CellId, CellTable};
 use lf_floorplan::Place;
 use std::alloc::{AllocError, Global};
+use std::marker::Model;
 
 /// The position of the cell's entry among all COMPONENTS, and its committed place.
 fn committed_entry(cells: &CellTable, id: CellId) -> (usize, Option<Place>)
@@ -33,4 +34,63 @@ pub(crate) fn all_committed(
         places.push(committed_entry(cells, *id))?;
     }
     Ok(places)
+}
+
+/// The committed places of all cells, in loading order, which are looked up one by one.
+///
+/// Contracts see the list: the position of each cell's entry among all COMPONENTS of the DEF text, and its committed place.
+#[derive(Drop)]
+pub struct CommittedPlaces<'a> {
+    cells: &'a CellTable,
+    ids: &'a [CellId],
+}
+
+impl<'a> Model for CommittedPlaces<'a> {
+    ghost use Rattle.std.specs.Prelude.{ℕ, List, Option, map};
+    ghost use Rattle.lf_floorplan.specs.declared.place.Place.{Place};
+    ghost use Rattle.lf_cells.specs.Cells.{AreAll};
+    ghost use Rattle.lf_floor.specs.Entries.{committed_entry};
+
+    ghost Value = { List (ℕ × Option Place) };
+
+    ghost view = { λ p. map (committed_entry p.cells.now) p.ids.now };
+
+    ghost invariant = { λ p. AreAll p.cells.now p.ids.now };
+}
+
+/// Those of the cells.
+pub(crate) fn committed_of(cells: &CellTable) -> CommittedPlaces<'_>
+    ensures { (ids : List CellId) × AreAll cells.now ids × (result ≡ map (committed_entry cells.now) ids) }
+{
+    CommittedPlaces {
+        cells,
+        ids: cells.all(),
+    }
+}
+
+/// The entry of the cell at that position of the list.
+fn entry_at(cells: &CellTable, ids: &[CellId], at: usize) -> Option<(usize, Option<Place>)>
+    requires { AreAll cells.now ids.now }
+    ensures { result ≡ slice_get (map (committed_entry cells.now) ids.now) at }
+{
+    if at >= ids.len() {
+        return None;
+    }
+    Some(committed_entry(cells, ids[at]))
+}
+
+impl<'a> CommittedPlaces<'a> {
+    /// How many cells there are.
+    pub fn len(&self) -> usize
+        ensures { result ≡ length self.now }
+    {
+        self.ids.len()
+    }
+
+    /// The one at this position in the list; none behind the last.
+    pub fn at(&self, at: usize) -> Option<(usize, Option<Place>)>
+        ensures { result ≡ slice_get self.now at }
+    {
+        entry_at(self.cells, self.ids, at)
+    }
 }

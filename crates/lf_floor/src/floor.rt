@@ -22,7 +22,7 @@ ghost use Rattle.lf_teams.specs.CommittedRuns.{CommitsMakeLegal, EachTidiedCommi
 ghost use Rattle.lf_teams.specs.Steps.{Answers, CommitsLegally, Gives, KeepsIfRefused, LegalizesLegally, PlacesLegally, SwapsLegally, TidiesLegally};
 ghost use Rattle.lf_teams.specs.Steps.{StaysShort, RunsShort, Step, IsTo, answer_at};
 
-use crate::committed::all_committed;
+use crate::committed::{CommittedPlaces, all_committed, committed_of};
 use crate::surroundings::Surroundings;
 use crate::tables::Tables;
 use lf_floorplan::{Frame, Loaded, Place};
@@ -181,6 +181,13 @@ impl<S: Seeker + Drop> Floor<S> {
         ensures { IfOk result (λ places. AreCommittedPlaces self.now places.items) }
     {
         all_committed(self.alloc, self.tables.placement.cells())
+    }
+
+    /// The same list, of which nothing is made: its places are looked up one by one.
+    pub fn committed(&self) -> CommittedPlaces<'_>
+        ensures { AreCommittedPlaces self.now result }
+    {
+        committed_of(self.tables.placement.cells())
     }
 
     /// Each team of a floor is one of its frame, whatever commands came before: its cells' macros and names, and the

@@ -22,6 +22,7 @@ mod tidy;
 mod verbs;
 mod wholes;
 
+pub use committed::CommittedPlaces;
 pub use floor::Floor;
 pub use lf_teams::{
     best_is_found, change_counts, commit_finds_legal, commit_lasts, commit_makes_committed,
