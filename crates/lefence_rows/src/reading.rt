@@ -180,7 +180,10 @@ fn put_component<W: Write>(
     put_word(writer, component.macro_name())?;
     match component.placement() {
         Some(placement) => put_placement(writer, text, &placement)?,
-        None => put_word(writer, Buffer::new().format(component.semicolon()).as_bytes())?,
+        None => put_word(
+            writer,
+            Buffer::new().format(component.semicolon()).as_bytes(),
+        )?,
     }
     writer.write_all(b"\n")
 }

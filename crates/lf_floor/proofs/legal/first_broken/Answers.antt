@@ -1,4 +1,4 @@
-use Rattle.std.proofs.Common.{◌≡◌, ◌∙◌, ◌<◌, length, List, None, Option, Some, ap, subst, sym, arith, get_or}
+use Rattle.std.proofs.Common.{◌≡◌, ◌∙◌, ◌<◌, length, None, Option, Some, ap, subst, sym, arith, get_or}
 use Rattle.std.proofs.lemmas.List.{get_or_default}
 use Rattle.lf_reports.specs.declared.illegal.BrokenCell.{BrokenCell}
 use Rattle.lf_cells.specs.declared.cell.CellId.{CellId}

@@ -1,4 +1,4 @@
-use Rattle.std.proofs.Common.{◌≡◌, ◌∙◌, ℕ, List, [], ◌∷◌, ◌++◌, ap, sym, map, take}
+use Rattle.std.proofs.Common.{◌∙◌, ℕ, List, [], ◌∷◌, ◌++◌, ap, sym, map, take}
 use Rattle.std.proofs.lemmas.List.{map-append, map_more}
 use Rattle.lf_cells.specs.declared.cell.CellId.{CellId}
 use Rattle.lf_floor.specs.declared.order.ByPlace.{ByPlace}

@@ -1,4 +1,4 @@
-use Rattle.std.proofs.Common.{◌≡◌, ◌∙◌, ◌++◌, List, None, Option, Some, ap, sym}
+use Rattle.std.proofs.Common.{◌∙◌, ◌++◌, Option, ap, sym}
 use Rattle.std.specs.List.{cons_option}
 use Rattle.lf_rules.specs.declared.report.Violation.{Violation}
 use Rattle.lf_cells.specs.Cells.{cells_of}
