@@ -1,5 +1,5 @@
 -- The design of files: what is loaded from their texts, and why nothing is.
-use Rattle.std.specs.Prelude.{◌≡◌, ◌⊎◌, ℕ, List, [], ◌∷◌, Option, Some, None, Ok}
+use Rattle.std.specs.Prelude.{◌≡◌, ◌⊎◌, ℕ, List, [], ◌∷◌, Option, Some, None, Ok, map}
 use Rattle.lf_lex.specs.declared.fault.LoadFault.{LoadFault}
 use Rattle.lf_lex.specs.declared.fault.ReadError.TheVariants.{Memory}
 use Rattle.lf_lex.specs.Faults.{load_fault_of}
@@ -10,6 +10,7 @@ use Rattle.lf_floorplan.specs.declared.limits.Limits.{Limits}
 use Rattle.lf_floorplan.specs.declared.loaded.Loaded.{Loaded}
 use Rattle.lf_refusals.specs.Findings.{IsFault}
 use Rattle.lf_frame.specs.Loads.{IsLoadedFrom}
+use Rattle.lf_write.specs.Export.{ClauseFacts, clause_of}
 use Rattle.lf_app.specs.declared.designs.TheConstants.{BUILT_IN}
 use Rattle.lf_app.specs.declared.faults.Fault.{Fault}
 use Rattle.lf_app.specs.declared.faults.Fault.TheVariants.{Refused, File, NoMemory}
@@ -62,6 +63,12 @@ IsLoadRefusal library document refusal = (refusal ≡ load_fault_of Memory) ⊎ 
 -- the design of a DEF text over the library
 abbrev pub IsDesignIn : Contents → List ℕ → Loaded → Type 0
 IsDesignIn library text loaded = (document : def.Document) × (def.document_of text ≡ Ok document) × IsLoadedIn library document loaded
+
+-- what is kept of a DEF text besides its bytes: the design of its document over the library, and the clauses of its components
+pub record IsKept (text : List ℕ) (library : Contents) (document : def.Document) (clauses : List ClauseFacts) (loaded : Loaded) : Type 0 where
+  pub read : def.document_of text ≡ Ok document
+  pub clauses_are : clauses ≡ map clause_of document.components
+  pub loads : IsLoadedIn library document loaded
 
 -- the file of the path is read, and the design is that of its DEF text over the library
 pub record IsFileDesign (gives : Gives) (path : List ℕ) (library : Contents) (loaded : Loaded) : Type 0 where

@@ -2,10 +2,12 @@
 
 ghost use Rattle.std.specs.Prelude.{◌≡◌, ◌⊎◌, Ok, Some, map, IfErr, IfOk, OnOk};
 ghost use Rattle.lf_app.specs.declared.faults.TextKind.TheVariants.{Lef, Def};
+ghost use Rattle.lf_lef.specs.Contents.{Contents};
 ghost use Rattle.lf_lef.specs.Library.{library_after};
 ghost use Rattle.lf_def.specs.Contents.{contents};
-ghost use Rattle.lf_def.specs.Document.{Refuses, document_of};
-ghost use Rattle.lf_app.specs.Designs.{Adds, IsDefRefusal, IsDesignFault, IsDesignIn, IsDesignOf, IsFileDesign, IsFileFault};
+ghost use Rattle.lf_def.specs.Document.{Document, Refuses, document_of};
+ghost use Rattle.lf_write.specs.Export.{clause_of};
+ghost use Rattle.lf_app.specs.Designs.{Adds, IsDefRefusal, IsDesignFault, IsDesignIn, IsDesignOf, IsFileDesign, IsFileFault, IsKept};
 ghost use Rattle.lf_app.specs.Designs.{IsLefRefusal, IsLibraryFault, IsLibraryOf, IsLoadRefusal, IsLoadedIn, IsRefused, IsTextDesign, IsTextFault, IsUnread, no_library};
 ghost use Rattle.lf_app.specs.Exits.{Ends};
 
@@ -15,6 +17,8 @@ use lf_def::{DefDoc, read_def};
 use lf_devices::Sink;
 use lf_frame::{Limits, Loaded, load};
 use lf_lef::{Library, read_lef};
+use lf_lex::ReadError;
+use lf_write::{Clause, clauses_of};
 use std::alloc::Global;
 
 /// What the built-in texts are called in place of a path.
@@ -217,6 +221,88 @@ fn load_text<F: Sink>(
 {
     match read_document(alloc, path, text, faults) {
         Ok(document) => load_document(alloc, library, path, text, &document, faults),
+        Err(exit) => Err(exit),
+    }
+}
+
+/// What is kept of a DEF text besides its bytes, once its document is gone.
+#[derive(Drop)]
+pub(crate) struct Opened {
+    pub(crate) loaded: Loaded,
+    /// Where the placement clauses of its components are.
+    pub(crate) clauses: Vec<Clause>,
+}
+
+/// What is kept of the document, that of the text of the path, beside the design.
+fn with_clauses<F: Sink>(
+    alloc: Global,
+    path: &str,
+    text: &[u8],
+    document: &DefDoc,
+    loaded: Loaded,
+    faults: &mut F,
+) -> Result<Opened, Exit>
+    ensures design { IfOk result (λ opened. opened.loaded ≡ loaded) }
+    ensures clauses { IfOk result (λ opened. opened.clauses.items ≡ map clause_of document.now.components) }
+    ensures kept { OnOk result (faults.new ≡ faults.old) }
+    ensures err { (library : Contents) → IfErr result (Ends (IsRefused Def path.now text.now (IsLoadRefusal library (contents document.now)))
+        (F.contents faults.old) (F.contents faults.new) (F.has_failed faults.new)) }
+    ensures faults_held { F.holds faults.new ≡ F.holds faults.old }
+{
+    match clauses_of(alloc, document) {
+        Ok(clauses) => Ok(Opened { loaded, clauses }),
+        Err(_) => {
+            let file = def_file(path);
+            let refusal = ReadError::Memory.into_load_fault();
+            Err(tell(
+                faults,
+                &Fault::Refused {
+                    file,
+                    text,
+                    refusal,
+                },
+            ))
+        }
+    }
+}
+
+/// The design of a document, that of the text of the path, over the library, and what is kept of the document.
+fn open_document<F: Sink>(
+    alloc: Global,
+    library: &Library,
+    path: &str,
+    text: &[u8],
+    document: &DefDoc,
+    faults: &mut F,
+) -> Result<Opened, Exit>
+    ensures design { IfOk result (λ opened. IsLoadedIn library.now (contents document.now) opened.loaded) }
+    ensures clauses { IfOk result (λ opened. opened.clauses.items ≡ map clause_of document.now.components) }
+    ensures kept { OnOk result (faults.new ≡ faults.old) }
+    ensures err { IfErr result (Ends (IsRefused Def path.now text.now (IsLoadRefusal library.now (contents document.now)))
+        (F.contents faults.old) (F.contents faults.new) (F.has_failed faults.new)) }
+    ensures faults_held { F.holds faults.new ≡ F.holds faults.old }
+{
+    match load_document(alloc, library, path, text, document, faults) {
+        Ok(loaded) => with_clauses(alloc, path, text, document, loaded, faults),
+        Err(exit) => Err(exit),
+    }
+}
+
+/// The design of a DEF text, that of the path, over the library, and what is kept of its document, which is then dropped.
+pub(crate) fn open_text<F: Sink>(
+    alloc: Global,
+    library: &Library,
+    path: &str,
+    text: &[u8],
+    faults: &mut F,
+) -> Result<Opened, Exit>
+    ensures ok { IfOk result (λ opened. (document : Document) × IsKept text.now library.now document opened.clauses.items opened.loaded) }
+    ensures kept { OnOk result (faults.new ≡ faults.old) }
+    ensures err { IfErr result (Ends (IsRefused Def path.now text.now (IsDefRefusal library.now text.now)) (F.contents faults.old) (F.contents faults.new) (F.has_failed faults.new)) }
+    ensures faults_held { F.holds faults.new ≡ F.holds faults.old }
+{
+    match read_document(alloc, path, text, faults) {
+        Ok(document) => open_document(alloc, library, path, text, &document, faults),
         Err(exit) => Err(exit),
     }
 }

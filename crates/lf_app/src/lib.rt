@@ -3,6 +3,7 @@
 
 mod descriptions;
 mod designs;
+mod exported;
 mod faults;
 mod lines;
 mod origins;

@@ -4,29 +4,28 @@
 ghost use Rattle.std.specs.Prelude.{None, Some, ◌≡◌, ◌⊎◌, ℕ, List, Option, Ok, IfErr, IfOk, OnErr, OnOk, false, map, option_map, true};
 ghost use Rattle.lf_app.specs.declared.faults.TextKind.TheVariants.{Def};
 ghost use Rattle.lf_lef.specs.Contents.{Contents};
-ghost use Rattle.lf_def.specs.Contents.{contents};
 ghost use Rattle.lf_def.specs.Document.{Document, document_of};
 ghost use Rattle.lf_floorplan.specs.declared.loaded.Loaded.{Loaded};
 ghost use Rattle.lf_floorplan.specs.declared.place.Place.{Place};
-ghost use Rattle.lf_write.specs.Export.{CanBeGiven, exported};
+ghost use Rattle.lf_write.specs.Export.{CanBeRenewed, clause_of};
 ghost use Rattle.lf_teams.specs.Designs.{opening};
 ghost use Rattle.lf_teams.specs.Places.{AreCommittedPlaces};
 ghost use Rattle.lf_teams.specs.States.{FloorState};
 ghost use Rattle.lf_files.specs.Shelf.{Put};
 ghost use Rattle.lf_app.specs.Designs.{IsDefRefusal, IsDesignFault, IsDesignIn, IsDesignOf, IsFileDesign, IsFileFault};
-ghost use Rattle.lf_app.specs.Designs.{IsLoadRefusal, IsLoadedIn, IsRefused};
+ghost use Rattle.lf_app.specs.Designs.{IsKept, IsLoadedIn, IsRefused};
 ghost use Rattle.lf_app.specs.Exits.{Ends, IsAnswered, IsExported, IsFinished, IsJobStop, IsLinesFault, IsOffered, IsWorked, streams};
 ghost use Rattle.lf_app.specs.Faults.{Blames, IsExportFault, IsServiceFault, unserved_fault};
 ghost use Rattle.lf_app.specs.Lines.{ReadsFail, most_lines};
 ghost use Rattle.lf_app.specs.Services.{OffersLocal};
 ghost use Rattle.lf_app.specs.Work.{IsDone, IsFault, IsOfferFor, IsReaderSpent, IsStopped};
 
-use crate::designs::{def_file, library_of, load_document, read_document, read_text};
+use crate::designs::{Opened, def_file, library_of, open_text, read_text};
+use crate::exported::exported_text;
 use crate::faults::{Exit, Fault, ending_fault, tell};
 use crate::lines::{MOST_LINES, answer_lines};
 use crate::services::{Services, Unserved, local_offer};
 use crate::texts::Texts;
-use lf_def::DefDoc;
 use lf_devices::{Sink, Source};
 use lf_files::{Exports, Unwritten};
 use lf_floor::Floor;
@@ -35,7 +34,7 @@ use lf_lef::Library;
 use lf_legalize::IndexSeeker;
 use lf_reread::loaded_cells_can_be_given;
 use lf_teams::places_follow_design;
-use lf_write::export;
+use lf_write::{Clause, clauses_serve};
 use std::alloc::{AllocError, Global};
 
 /// Where the lines of a design come from.
@@ -157,20 +156,6 @@ fn answer<V: Services, R: Source, W: Sink, F: Sink>(
     }
 }
 
-/// The text of the document, with the committed places of the floor in it.
-fn exported_text(
-    alloc: Global,
-    floor: &Floor<IndexSeeker>,
-    document: &DefDoc<'_>,
-) -> Result<Vec<u8>, AllocError>
-    requires fits { (places : List (ℕ × Option Place)) → AreCommittedPlaces floor.now places → CanBeGiven document.now.components places }
-    ensures { IfOk result (λ text. (places : List (ℕ × Option Place)) × AreCommittedPlaces floor.now places
-        × (text.items ≡ exported document.now.text.now document.now.components places)) }
-{
-    let places = floor.committed_places()?;
-    export(alloc, document, &places)
-}
-
 /// The fault of a text that is not put into its file.
 fn export_fault<'f>(path: &'f str, unwritten: Unwritten) -> Fault<'f>
     ensures { IsExportFault (Some path.now) result }
@@ -202,39 +187,39 @@ fn try_export<E: Exports, F: Sink>(
 
 /// Writes the exported text to the file of that path, if one is given.
 fn export_to<E: Exports, F: Sink>(
-    alloc: Global,
     floor: &Floor<IndexSeeker>,
-    document: &DefDoc<'_>,
+    text: &[u8],
+    clauses: &[Clause],
     path: Option<&str>,
     exports: &mut E,
     faults: &mut F,
 ) -> Result<(), Exit>
-    requires fits { (places : List (ℕ × Option Place)) → AreCommittedPlaces floor.now places → CanBeGiven document.now.components places }
-    ensures ok { OnOk result (IsExported (option_map (λ path. path.now) path.entry) document.now.text.now (contents document.now) floor.now
-        (E.puts exports.old) (E.puts exports.new)) }
+    requires fits { (places : List (ℕ × Option Place)) → AreCommittedPlaces floor.now places → CanBeRenewed text.now clauses.now places }
+    ensures ok { (document : Document) → clauses.now ≡ map clause_of document.components
+        → OnOk result (IsExported (option_map (λ path. path.now) path.entry) text.now document floor.now (E.puts exports.old) (E.puts exports.new)) }
     ensures kept { OnOk result (faults.new ≡ faults.old) }
     ensures err { IfErr result (Ends (IsExportFault (option_map (λ path. path.now) path.entry)) (F.contents faults.old) (F.contents faults.new) (F.has_failed faults.new)) }
     ensures unput { OnErr result (E.puts exports.new ≡ E.puts exports.old) }
     ensures unasked { option_map (λ path. path.now) path.entry ≡ None → exports.new ≡ exports.old }
     ensures faults_held { F.holds faults.new ≡ F.holds faults.old }
 {
+    clauses_serve();
     let Some(path) = path else {
         return Ok(());
     };
-    let Ok(text) = exported_text(alloc, floor, document) else {
-        return Err(tell(faults, &Fault::NoRoom));
-    };
-    match exports.put(path, &text) {
+    let exported = exported_text(floor, text, clauses);
+    match exports.put(path, &exported) {
         Ok(()) => Ok(()),
         Err(unwritten) => Err(tell(faults, &export_fault(path, unwritten))),
     }
 }
 
-/// Works on the floor of the document's design: its lines are answered, and then the exported text is written. Where that
+/// Works on the floor of the text's design: its lines are answered, and then the exported text is written. Where that
 /// cannot be, as far as it shows beforehand, no line is read.
 fn work_on_floor<E: Exports, V: Services, R: Source, W: Sink, F: Sink>(
     alloc: Global,
-    document: &DefDoc<'_>,
+    text: &[u8],
+    clauses: &[Clause],
     floor: &mut Floor<IndexSeeker>,
     lines: Lines,
     path: Option<&str>,
@@ -248,9 +233,9 @@ fn work_on_floor<E: Exports, V: Services, R: Source, W: Sink, F: Sink>(
     requires fresh { R.reads reader.old ≡ 0 }
     requires writable { W.has_failed writer.old ≡ false }
     requires fits { (s : FloorState) (places : List (ℕ × Option Place)) → s.components ≡ floor.old.components → AreCommittedPlaces s places
-        → CanBeGiven document.now.components places }
-    ensures ok { (loaded : Loaded) → floor.old ≡ opening loaded → IfOk result (λ status. (status ≡ 0) × IsFinished (IsDone lines loaded)
-        (option_map (λ path. path.now) path.entry) document.now.text.now (contents document.now)
+        → CanBeRenewed text.now clauses.now places }
+    ensures ok { (document : Document) (loaded : Loaded) → clauses.now ≡ map clause_of document.components → floor.old ≡ opening loaded → IfOk result (λ status. (status ≡ 0) × IsFinished (IsDone lines loaded)
+        (option_map (λ path. path.now) path.entry) text.now document
         (streams (R.remaining reader.old) (R.remaining reader.new) (W.contents writer.old) (W.contents writer.new) (E.puts exports.old) (E.puts exports.new))) }
     ensures kept { OnOk result (faults.new ≡ faults.old) }
     ensures err { (loaded : Loaded) → floor.old ≡ opening loaded → IfErr result (Ends (λ fault.
@@ -272,16 +257,17 @@ fn work_on_floor<E: Exports, V: Services, R: Source, W: Sink, F: Sink>(
     if let Err(exit) = answer(alloc, services, floor, lines, reader, writer, faults) {
         return Err(exit);
     }
-    match export_to(alloc, floor, document, path, exports, faults) {
+    match export_to(floor, text, clauses, path, exports, faults) {
         Ok(()) => Ok(0),
         Err(exit) => Err(exit),
     }
 }
 
-/// Works on the design of the document.
-fn work_on_document<E: Exports, V: Services, R: Source, W: Sink, F: Sink>(
+/// Works on the design of a text, of whose document these clauses are kept.
+fn work_on_loaded<E: Exports, V: Services, R: Source, W: Sink, F: Sink>(
     alloc: Global,
-    document: &DefDoc<'_>,
+    text: &[u8],
+    clauses: &[Clause],
     loaded: Loaded,
     lines: Lines,
     path: Option<&str>,
@@ -294,9 +280,9 @@ fn work_on_document<E: Exports, V: Services, R: Source, W: Sink, F: Sink>(
     requires readable { R.has_failed reader.old ≡ false }
     requires fresh { R.reads reader.old ≡ 0 }
     requires writable { W.has_failed writer.old ≡ false }
-    requires loads { (library : Contents) × IsLoadedIn library (contents document.now) loaded }
-    ensures ok { IfOk result (λ status. (status ≡ 0) × IsFinished (IsDone lines loaded)
-        (option_map (λ path. path.now) path.entry) document.now.text.now (contents document.now)
+    requires loads { (library : Contents) × (document : Document) × IsKept text.now library document clauses.now loaded }
+    ensures ok { (document : Document) → clauses.now ≡ map clause_of document.components → IfOk result (λ status. (status ≡ 0) × IsFinished (IsDone lines loaded)
+        (option_map (λ path. path.now) path.entry) text.now document
         (streams (R.remaining reader.old) (R.remaining reader.new) (W.contents writer.old) (W.contents writer.new) (E.puts exports.old) (E.puts exports.new))) }
     ensures kept { OnOk result (faults.new ≡ faults.old) }
     ensures err { IfErr result (Ends (λ fault.
@@ -312,40 +298,39 @@ fn work_on_document<E: Exports, V: Services, R: Source, W: Sink, F: Sink>(
     ensures writer_held { W.holds writer.new ≡ W.holds writer.old }
     ensures faults_held { F.holds faults.new ≡ F.holds faults.old }
 {
+    clauses_serve();
     loaded_cells_can_be_given();
     places_follow_design();
     match floor_of(alloc, loaded) {
         Ok(mut floor) => work_on_floor(
-            alloc, document, &mut floor, lines, path, exports, services, reader, writer, faults,
+            alloc, text, clauses, &mut floor, lines, path, exports, services, reader, writer,
+            faults,
         ),
         Err(_) => Err(tell(faults, &Fault::NoMemory)),
     }
 }
 
-/// The design of the document over the library, which is then dropped.
-fn loaded_of<F: Sink>(
+/// The design of the DEF text over the library, which is then dropped, and what is kept of the text's document.
+fn opened_of<F: Sink>(
     alloc: Global,
     library: Library,
     def: &str,
     text: &[u8],
-    document: &DefDoc<'_>,
     faults: &mut F,
-) -> Result<Loaded, Exit>
-    ensures ok { IfOk result (IsLoadedIn library (contents document.now)) }
+) -> Result<Opened, Exit>
+    ensures ok { IfOk result (λ opened. (document : Document) × IsKept text.now library document opened.clauses.items opened.loaded) }
     ensures kept { OnOk result (faults.new ≡ faults.old) }
-    ensures err { IfErr result (Ends (IsRefused Def def.now text.now (IsLoadRefusal library (contents document.now))) (F.contents faults.old) (F.contents faults.new) (F.has_failed faults.new)) }
+    ensures err { IfErr result (Ends (IsRefused Def def.now text.now (IsDefRefusal library text.now)) (F.contents faults.old) (F.contents faults.new) (F.has_failed faults.new)) }
     ensures faults_held { F.holds faults.new ≡ F.holds faults.old }
 {
-    load_document(alloc, &library, def, text, document, faults)
+    open_text(alloc, &library, def, text, faults)
 }
 
-/// Works on the design of the document over the library.
-fn work_on_read<E: Exports, V: Services, R: Source, W: Sink, F: Sink>(
+/// Works on the design of a text that was opened.
+fn work_on_opened<E: Exports, V: Services, R: Source, W: Sink, F: Sink>(
     alloc: Global,
-    library: Library,
-    def: &str,
     text: &[u8],
-    document: &DefDoc<'_>,
+    opened: Opened,
     lines: Lines,
     path: Option<&str>,
     exports: &mut E,
@@ -357,12 +342,13 @@ fn work_on_read<E: Exports, V: Services, R: Source, W: Sink, F: Sink>(
     requires readable { R.has_failed reader.old ≡ false }
     requires fresh { R.reads reader.old ≡ 0 }
     requires writable { W.has_failed writer.old ≡ false }
-    ensures ok { IfOk result (λ status. (status ≡ 0) × ((loaded : Loaded) × IsLoadedIn library (contents document.now) loaded
-        × IsFinished (IsDone lines loaded) (option_map (λ path. path.now) path.entry) document.now.text.now (contents document.now)
-        (streams (R.remaining reader.old) (R.remaining reader.new) (W.contents writer.old) (W.contents writer.new) (E.puts exports.old) (E.puts exports.new)))) }
+    requires loads { (library : Contents) × (document : Document) × IsKept text.now library document opened.clauses.items opened.loaded }
+    ensures ok { (document : Document) → opened.clauses.items ≡ map clause_of document.components → IfOk result (λ status. (status ≡ 0)
+        × IsFinished (IsDone lines opened.loaded) (option_map (λ path. path.now) path.entry) text.now document
+        (streams (R.remaining reader.old) (R.remaining reader.new) (W.contents writer.old) (W.contents writer.new) (E.puts exports.old) (E.puts exports.new))) }
     ensures kept { OnOk result (faults.new ≡ faults.old) }
-    ensures err { IfErr result (Ends (λ fault. IsJobStop (IsRefused Def def.now text.now (IsLoadRefusal library (contents document.now))) (IsLoadedIn library (contents document.now))
-        (IsStopped (option_map (λ path. path.now) path.entry) lines) fault
+    ensures err { IfErr result (Ends (λ fault.
+        IsStopped (option_map (λ path. path.now) path.entry) lines opened.loaded fault
         (streams (R.remaining reader.old) (R.remaining reader.new) (W.contents writer.old) (W.contents writer.new) (E.puts exports.old) (E.puts exports.new))
         × Blames fault (writer.new ≡ writer.old) (IsReaderSpent lines (R.has_failed reader.new) (R.reads reader.old) (R.reads reader.new))
         (W.has_failed writer.new ≡ true)) (F.contents faults.old) (F.contents faults.new) (F.has_failed faults.new)) }
@@ -374,12 +360,10 @@ fn work_on_read<E: Exports, V: Services, R: Source, W: Sink, F: Sink>(
     ensures writer_held { W.holds writer.new ≡ W.holds writer.old }
     ensures faults_held { F.holds faults.new ≡ F.holds faults.old }
 {
-    match loaded_of(alloc, library, def, text, document, faults) {
-        Ok(loaded) => work_on_document(
-            alloc, document, loaded, lines, path, exports, services, reader, writer, faults,
-        ),
-        Err(exit) => Err(exit),
-    }
+    let Opened { loaded, clauses } = opened;
+    work_on_loaded(
+        alloc, text, &clauses, loaded, lines, path, exports, services, reader, writer, faults,
+    )
 }
 
 /// Works on the design of the DEF text over the library.
@@ -417,10 +401,9 @@ fn work_on_text<E: Exports, V: Services, R: Source, W: Sink, F: Sink>(
     ensures writer_held { W.holds writer.new ≡ W.holds writer.old }
     ensures faults_held { F.holds faults.new ≡ F.holds faults.old }
 {
-    match read_document(alloc, def, text, faults) {
-        Ok(document) => work_on_read(
-            alloc, library, def, text, &document, lines, path, exports, services, reader, writer,
-            faults,
+    match opened_of(alloc, library, def, text, faults) {
+        Ok(opened) => work_on_opened(
+            alloc, text, opened, lines, path, exports, services, reader, writer, faults,
         ),
         Err(exit) => Err(exit),
     }

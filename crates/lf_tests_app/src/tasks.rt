@@ -6,7 +6,7 @@ use lf_app::{
 };
 use lf_def::W_DEF;
 use lf_devices::{FromRead, Sink, ToWrite};
-use lf_files::{Exports, Unwritten};
+use lf_files::{Exports, Pieces, Unwritten};
 use lf_floor::Floor;
 use lf_lef::W_LEF;
 use lf_legalize::IndexSeeker;
@@ -60,14 +60,15 @@ impl<'a> Exports for Kept<'a> {
         Ok(())
     }
 
-    fn put(&mut self, path: &str, text: &[u8]) -> Result<(), Unwritten> {
+    fn put<P: Pieces>(&mut self, path: &str, text: &P) -> Result<(), Unwritten> {
         self.asked = self.asked.saturating_add(1);
         if self.is_full || self.path != Some(path) {
             return Err(Unwritten::File);
         }
-        match Vec::from_slice(self.alloc, text) {
-            Ok(text) => {
-                self.text = Some(text);
+        let mut kept = Vec::new(self.alloc);
+        match text.write_to(&mut kept) {
+            Ok(()) => {
+                self.text = Some(kept);
                 Ok(())
             }
             Err(_) => Err(Unwritten::OutOfMemory),

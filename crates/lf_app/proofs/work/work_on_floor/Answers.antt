@@ -7,12 +7,12 @@ pub export_to-requires : goal.export_to-requires
 export_to-requires g c = record { fits = λ places are. c.requires.fits c.answer.new.floor places c.answer.ensures.components are }
 
 pub returns-in-Ok-clause-ok : goal.returns-in-Ok-clause-ok
-returns-in-Ok-clause-ok g c = λ loaded is. (
+returns-in-Ok-clause-ok g c = λ document loaded kept is. (
   refl,
   record {
     floor = c.answer.new.floor;
     work = c.in_default-answer.ensures.ok loaded is _ _;
-    exports = c.in-Ok.ensures.ok;
+    exports = c.in-Ok.ensures.ok document kept;
   },
 )
 
