@@ -1,5 +1,4 @@
-use Rattle.std.proofs.Common.{◌∙◌, ap, subst, sym, List, ℕ, Option}
-use Rattle.lf_floorplan.specs.declared.place.Place.{Place}
+use Rattle.std.proofs.Common.{◌∙◌, ap, subst, sym, List}
 use Rattle.lf_teams.specs.States.{FloorState}
 use Rattle.lf_write.specs.Export.{CanBeRenewed, ClauseFacts}
 use Rattle.lf_app.proofs.work.work_on_loaded.Goals as goal
