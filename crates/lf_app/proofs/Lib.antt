@@ -1,5 +1,6 @@
 mod Answering
 mod DesignSteps
+mod Opening
 mod Performing
 mod Shown
 mod TaskSteps

@@ -9,7 +9,7 @@ work_on_opened-requires g c =
       readable = c.requires.readable;
       fresh = c.requires.fresh;
       writable = c.requires.writable;
-      loads = (c.args.library, c.in-Ok.ensures.ok);
+      loads = (c.args.library, c.in-Ok.ensures.ok.0, c.in-Ok.ensures.ok.1);
     }
 
 pub returns-in-Ok-clause-ok : goal.returns-in-Ok-clause-ok
