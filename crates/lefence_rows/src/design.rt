@@ -223,8 +223,10 @@ fn put_head<W: Write>(
 /// Writes the report of the design as loaded.
 fn put_report<W: Write>(alloc: Global, loaded: &Loaded, writer: &mut W) -> io::Result<()> {
     let mut places = Vec::new(alloc);
-    for cell in loaded.cells.as_slice() {
-        places.push(cell.place)?;
+    for at in 0..loaded.cells.len() {
+        if let Some(cell) = loaded.cells.get(at) {
+            places.push(cell.place)?;
+        }
     }
     if places.len() != loaded.cells.len() {
         return Ok(());

@@ -9,17 +9,22 @@ ghost use Rattle.lf_app.specs.Faults.{Blames, IsReportFault};
 
 use crate::faults::Fault;
 use lf_devices::{DeviceFault, Sink, send};
-use lf_frame::{Cell, Loaded, Place};
+use lf_frame::{Loaded, LoadedCells, Place};
 use lf_proto::report_json;
 use lf_reports::check_all;
 use lf_rules::Report;
 use std::alloc::{AllocError, Global};
 
 /// The cells' places in the DEF text, in loading order.
-fn def_places(alloc: Global, cells: &[Cell]) -> Result<Vec<Option<Place>>, AllocError>
+fn def_places(alloc: Global, cells: &LoadedCells) -> Result<Vec<Option<Place>>, AllocError>
     ensures { IfOk result (λ places. places.items ≡ def_places cells.now) }
 {
-    cells.iter().map(|cell| cell.place).collect(alloc)
+    let mut places = Vec::with_capacity(alloc, cells.len())?;
+    for at in 0..cells.len() {
+        let cell = cells.get(at).unwrap();
+        places.push(cell.place)?;
+    }
+    Ok(places)
 }
 
 /// The report of the design, each cell at its place in the DEF text.
@@ -28,7 +33,7 @@ fn design_report(alloc: Global, loaded: &Loaded) -> Result<Report, AllocError>
     ensures legal { IfOk result (λ report. IsClean report ↔ IsLegalDesign loaded.now) }
     ensures told { IfOk result (λ report. All IsTold report.violations) }
 {
-    let places = def_places(alloc, loaded.cells.as_slice())?;
+    let places = def_places(alloc, &loaded.cells)?;
     check_all(alloc, loaded, &places)
 }
 

@@ -1,18 +1,15 @@
 -- A table that is filled cell by cell.
 use Rattle.std.proofs.Common.{◌≡◌, ◌≢◌, ℕ, zero, suc, ◌+◌, ◌<◌, ◌≤◌, Bool, true, false, cond, eqb, List, [], ◌∷◌, ◌++◌}
-use Rattle.std.proofs.Common.{length, map, take, get_or, set, replicate, Option, Some, None, refl, ap, ap₂, sym, ◌∙◌, add-zero, zero-add, arith}
+use Rattle.std.proofs.Common.{length, map, take, get_or, set, replicate, Some, None, refl, ap, ap₂, sym, ◌∙◌, add-zero, zero-add, arith}
 use Rattle.std.specs.List.{range_with_len}
 use Rattle.std.specs.Prelude.{slice_get}
 use Rattle.std.proofs.lemmas.Grind.{common_steps}
 use Rattle.std.proofs.lemmas.Bool.{false≢true, eqb-true, eq-eqb}
-use Rattle.std.proofs.lemmas.List.{length-append, length-set, length-map, length-replicate, get_or-take, append-nil}
+use Rattle.std.proofs.lemmas.List.{length-append, length-set, length-map, length-replicate, append-nil}
 use Rattle.std.proofs.lemmas.List.{get_or-set_same, get_or-set_other, map-set, map-append}
 use Rattle.std.proofs.lemmas.List.FromFn.{map-range_with_len_more}
-use Rattle.std.proofs.lemmas.Option.{slice_get_within, get_or_from_slice_get, none-some}
-use Rattle.lf_names.specs.Names.{position_of}
-use Rattle.lf_names.proofs.Positions.{stands_there}
-use Rattle.lf_floorplan.specs.declared.loaded.Cell.{Cell as LoadedCell}
-use Rattle.lf_floorplan.specs.Design.{CellsNamed}
+use Rattle.std.proofs.lemmas.Option.{none-some}
+use Rattle.lf_floorplan.specs.declared.cells.PlainCell.{PlainCell}
 use Rattle.lf_cells.specs.declared.cell.CellId.{CellId}
 use Rattle.lf_cells.specs.declared.slots.Slot.{Slot}
 use Rattle.lf_cells.specs.declared.parts.Parts.{Parts}
@@ -113,10 +110,10 @@ listed_more ids all team n within inside before = record { listed = λ number. e
 
 -- ---- a team's own cells
 
-own_last : ℕ → ℕ → LoadedCell → List Slot
+own_last : ℕ → ℕ → PlainCell → List Slot
 own_last number label c = cond (eqb c.team number) (opening_slot label c ∷ []) []
 
-own_append : (number label : ℕ) (cells : List LoadedCell) (c : LoadedCell)
+own_append : (number label : ℕ) (cells : List PlainCell) (c : PlainCell)
     → own_slots number label (cells ++ c ∷ []) ≡ own_slots number label cells ++ own_last number (label + length cells) c
 unfolding own_last
 own_append number label [] c = rw add-zero refl
@@ -130,7 +127,7 @@ own_append number label (x ∷ xs) c =
     go true e = ap (λ (r : List Slot). opening_slot label x ∷ r) e
     go false e = e
 
-pub own_few : (number label : ℕ) (cells : List LoadedCell) → length (own_slots number label cells) ≤ length cells
+pub own_few : (number label : ℕ) (cells : List PlainCell) → length (own_slots number label cells) ≤ length cells
 own_few number label [] = omega arith
 own_few number label (c ∷ cs) = go (eqb c.team number) (own_few number (label + 1) cs) where
   go : (b : Bool) → length (own_slots number (label + 1) cs) ≤ length cs
@@ -140,14 +137,14 @@ own_few number label (c ∷ cs) = go (eqb c.team number) (own_few number (label 
 
 -- ---- one more cell
 
-pub one_more : (cells : List LoadedCell) (k count : ℕ) (c : LoadedCell) (old new : Parts) → k < length cells → c ≡ get_or cells k c
-    → c.team < length old.teams.items → AreTakenIn (take k cells) count old → TakesIn c old new
-    → AreTakenIn (take (k + 1) cells) count new
+pub one_more : (names : List (List ℕ)) (cells : List PlainCell) (k count : ℕ) (c : PlainCell) (old new : Parts) → k < length cells → c ≡ get_or cells k c
+    → c.team < length old.teams.items → AreTakenIn names (take k cells) count old → TakesIn c old new
+    → AreTakenIn names (take (k + 1) cells) count new
 unfolding with_label own_last
-one_more cells k count c old new within is inside before one =
+one_more names cells k count c old new within is inside before one =
     let front : take (k + 1) cells ≡ take k cells ++ c ∷ [] = grind (arith, common_steps) in
     rw front (record {
-      names = one.names ∙ ap (λ (ns : List (List ℕ)). ns ++ c.name ∷ []) before.names ∙ sym (map-append (λ (x : LoadedCell). x.name) (take k cells) (c ∷ []));
+      names_are = one.names ∙ before.names_are;
       many = rw (one.owners, length-append, length-append) (ap (λ (n : ℕ). n + 1) before.many);
       index = indexed;
       ids = listed;
@@ -217,29 +214,11 @@ one_more cells k count c old new within is inside before one =
         ∙ before.each number ∙ sym (append-nil (own_slots number 0 (take k cells)))
         ∙ ap (λ (slots : List Slot). own_slots number 0 (take k cells) ++ slots) (sym (last_no number e)) ∙ sym (last_own number)
 
-pub all_taken : (cells : List LoadedCell) (k count : ℕ) (p : Parts) → length cells ≤ k → AreTakenIn (take k cells) count p → AreTakenIn cells count p
-all_taken cells k count p past taken =
+pub all_taken : (names : List (List ℕ)) (cells : List PlainCell) (k count : ℕ) (p : Parts) → length cells ≤ k → AreTakenIn names (take k cells) count p →
+    AreTakenIn names cells count p
+all_taken names cells k count p past taken =
     let whole : take k cells ≡ cells = grind (arith, common_steps) in
     rw whole at taken
-
--- a cell's name is not one of those before it
-pub new_name : (cells : List LoadedCell) (k : ℕ) (c : LoadedCell) → CellsNamed cells → k < length cells → c ≡ get_or cells k c
-    → position_of (map (λ x. x.name) (take k cells)) c.name ≡ None
-new_name cells k c named within is = by (position_of (map (λ (x : LoadedCell). x.name) (take k cells)) c.name) refl where
-  by : (o : Option ℕ) → position_of (map (λ (x : LoadedCell). x.name) (take k cells)) c.name ≡ o → o ≡ None
-  by None e = refl
-  by (Some at) e =
-      let there : slice_get (map (λ (x : LoadedCell). x.name) (take k cells)) at ≡ Some c.name =
-      stands_there (map (λ (x : LoadedCell). x.name) (take k cells)) c.name at e in
-      let many : length (map (λ (x : LoadedCell). x.name) (take k cells)) ≡ length (take k cells) = length-map (take k cells) (λ (x : LoadedCell). x.name) in
-      let inside : at < length (take k cells) = omega (arith, many, slice_get_within (map (λ (x : LoadedCell). x.name) (take k cells)) at c.name there) in
-      let below : at < k = grind (arith, common_steps) in
-      let name : (get_or (take k cells) at c).name ≡ c.name =
-      sym (map_at (λ (x : LoadedCell). x.name) (take k cells) at c)
-      ∙ get_or_from_slice_get (map (λ (x : LoadedCell). x.name) (take k cells)) at c.name c.name there in
-      let same : (get_or cells at c).name ≡ (get_or cells k c).name =
-      ap (λ (x : LoadedCell). x.name) (sym (get_or-take k cells at c below)) ∙ name ∙ ap (λ (x : LoadedCell). x.name) is in
-      absurd (named at k c below within same)
 
 -- ---- no cell
 
@@ -263,10 +242,10 @@ none_listed count =
     empty_at (suc count) zero = refl
     empty_at (suc count) (suc team) = empty_at count team
 
-pub none_yet : (count : ℕ) (p : Parts) → p.names ≡ [] → p.owners.items ≡ [] → p.teams.items ≡ replicate count [] → p.ids.items ≡ replicate count []
-    → AreTakenIn [] count p
-none_yet count p names owners teams ids = record {
-  names = names;
+pub none_yet : (count : ℕ) (p : Parts) → p.owners.items ≡ [] → p.teams.items ≡ replicate count [] → p.ids.items ≡ replicate count []
+    → AreTakenIn p.names [] count p
+none_yet count p owners teams ids = record {
+  names_are = refl;
   many = ap (λ (ids : List CellId). length ids) owners;
   index = rw (owners, teams) (record { owned = λ id label. (λ e. absurd (none-some id e), λ e. absurd (none-some label (sym (none_owned count id) ∙ e))) });
   ids = rw (ids, teams) (none_listed count);

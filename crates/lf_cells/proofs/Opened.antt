@@ -1,47 +1,58 @@
 -- The table of all cells of a loaded design.
 use Rattle.std.proofs.Common.{◌≡◌, ◌≢◌, ℕ, suc, ◌+◌, ◌<◌, Bool, true, false, cond, eqb, List, []}
-use Rattle.std.proofs.Common.{◌∷◌, length, map, filter, get_or, refl, ap, sym, ◌∙◌, add-zero, zero-add, arith}
-use Rattle.std.specs.Prelude.{AllPairs}
+use Rattle.std.proofs.Common.{◌∷◌, length, map, filter, get_or, refl, ap, sym, ◌∙◌, subst, zero, add-zero, zero-add, arith}
+use Rattle.std.specs.Prelude.{All, AllPairs}
 use Rattle.std.specs.List.{range_with_len}
 use Rattle.std.proofs.lemmas.List.{same_lists, length-map}
 use Rattle.std.proofs.lemmas.List.FromFn.{length-range_with_len, get_or-map-range_with_len}
 use Rattle.lf_floorplan.specs.declared.loaded.Cell.{Cell as LoadedCell}
+use Rattle.lf_floorplan.specs.declared.cells.PlainCell.{PlainCell}
 use Rattle.lf_floorplan.specs.Design.{CellsNamed, ComponentsRise}
+use Rattle.lf_floorplan.specs.LoadedCells.{with_name, with_names}
 use Rattle.lf_cells.specs.declared.cell.Cell.{Cell}
 use Rattle.lf_cells.specs.declared.slots.Slot.{Slot}
 use Rattle.lf_cells.specs.declared.parts.Parts.{Parts}
 use Rattle.lf_cells.specs.Openings.{opening_cell, own_cells, own_components}
 use Rattle.lf_cells.specs.Slots.{opening_slot, cell_in, cells_in, components_in, own_slots, AreIndexed, AreTakenIn}
 use Rattle.lf_cells.proofs.Lists.{map_within}
+use Rattle.lf_floorplan.proofs.NamedCells.{many_seen}
 use Rattle.lf_cells.proofs.Owners.{owners_rise}
 
-seen_own : (number n : ℕ) (names : List (List ℕ)) (cells : List LoadedCell)
-    → ((k : ℕ) (d : LoadedCell) → k < length cells → get_or names (n + k) [] ≡ (get_or cells k d).name)
-    → map (cell_in names) (own_slots number n cells) ≡ own_cells number cells
-seen_own number n names [] at = refl
-seen_own number n names (c ∷ cs) at =
-    go (eqb c.team number) (seen_own number (n + 1) names cs (λ k d within.
+seen_own : (number n : ℕ) (all names : List (List ℕ)) (cells : List PlainCell) → length names ≡ length cells
+    → ((k : ℕ) → k < length names → get_or all (n + k) [] ≡ get_or names k [])
+    → map (cell_in all) (own_slots number n cells) ≡ own_cells number (with_names names cells)
+seen_own number n all [] [] same at = refl
+seen_own number n all [] (c ∷ cs) same at = absurd (omega (arith, same))
+seen_own number n all (name ∷ names) [] same at = refl
+seen_own number n all (name ∷ names) (c ∷ cs) same at =
+    go (eqb c.team number) (seen_own number (n + 1) all names cs (omega (arith, same)) (λ k within.
     let shift : n + 1 + k ≡ n + suc k = omega arith in
-    rw shift (at (suc k) d (omega (arith, within)))))
+    rw shift (at (suc k) (omega (arith, within)))))
   where
-    first : cell_in names (opening_slot n c) ≡ opening_cell c
+    first : cell_in all (opening_slot n c) ≡ opening_cell (with_name name c)
     first =
-        let is : get_or names n [] ≡ c.name = ap (λ (k : ℕ). get_or names k []) (sym (add-zero n)) ∙ at 0 c (omega arith) in
+        let is : get_or all n [] ≡ name = ap (λ (k : ℕ). get_or all k []) (sym (add-zero n)) ∙ at 0 (omega arith) in
         rw is refl
 
-    go : (b : Bool) → map (cell_in names) (own_slots number (n + 1) cs) ≡ own_cells number cs
-        → map (cell_in names) (cond b (opening_slot n c ∷ own_slots number (n + 1) cs) (own_slots number (n + 1) cs))
-        ≡ map opening_cell (cond b (c ∷ filter (λ (x : LoadedCell). eqb x.team number) cs) (filter (λ (x : LoadedCell). eqb x.team number) cs))
-    go true e = ap (λ (x : Cell). x ∷ map (cell_in names) (own_slots number (n + 1) cs)) first ∙ ap (λ (r : List Cell). opening_cell c ∷ r) e
+    go : (b : Bool) → map (cell_in all) (own_slots number (n + 1) cs) ≡ own_cells number (with_names names cs)
+        → map (cell_in all) (cond b (opening_slot n c ∷ own_slots number (n + 1) cs) (own_slots number (n + 1) cs))
+        ≡ map opening_cell
+        (cond b (with_name name c ∷ filter (λ (x : LoadedCell). eqb x.team number) (with_names names cs))
+        (filter (λ (x : LoadedCell). eqb x.team number) (with_names names cs)))
+    go true e = ap (λ (x : Cell). x ∷ map (cell_in all) (own_slots number (n + 1) cs)) first ∙ ap (λ (r : List Cell). opening_cell (with_name name c) ∷ r) e
     go false e = e
 
-seen_components : (number n : ℕ) (cells : List LoadedCell) → map (λ s. s.component) (own_slots number n cells) ≡ own_components number cells
-seen_components number n [] = refl
-seen_components number n (c ∷ cs) = go (eqb c.team number) (seen_components number (n + 1) cs) where
-  go : (b : Bool) → map (λ (s : Slot). s.component) (own_slots number (n + 1) cs) ≡ own_components number cs
+seen_components : (number n : ℕ) (names : List (List ℕ)) (cells : List PlainCell) → length names ≡ length cells
+    → map (λ s. s.component) (own_slots number n cells) ≡ own_components number (with_names names cells)
+seen_components number n [] [] same = refl
+seen_components number n [] (c ∷ cs) same = absurd (omega (arith, same))
+seen_components number n (name ∷ names) [] same = refl
+seen_components number n (name ∷ names) (c ∷ cs) same = go (eqb c.team number) (seen_components number (n + 1) names cs (omega (arith, same))) where
+  go : (b : Bool) → map (λ (s : Slot). s.component) (own_slots number (n + 1) cs) ≡ own_components number (with_names names cs)
       → map (λ (s : Slot). s.component) (cond b (opening_slot n c ∷ own_slots number (n + 1) cs) (own_slots number (n + 1) cs))
       ≡ map (λ (x : LoadedCell). x.component)
-      (cond b (c ∷ filter (λ (x : LoadedCell). eqb x.team number) cs) (filter (λ (x : LoadedCell). eqb x.team number) cs))
+      (cond b (with_name name c ∷ filter (λ (x : LoadedCell). eqb x.team number) (with_names names cs))
+      (filter (λ (x : LoadedCell). eqb x.team number) (with_names names cs)))
   go true e = ap (λ (r : List ℕ). c.component ∷ r) e
   go false e = e
 
@@ -56,39 +67,70 @@ by_numbers {Y} f g teams count many each =
     let inside : k < length teams = omega (arith, within, left) in
     map_within f teams k d [] inside ∙ each k ∙ sym (get_or-map-range_with_len g 0 count k k d (omega (arith, inside, many)) (zero-add k)))
 
-pub opened_cells : (cells : List LoadedCell) (count : ℕ) (p : Parts) → AreTakenIn cells count p
-    → cells_in p.names p.teams.items ≡ map (λ number. own_cells number cells) (range_with_len 0 count)
-opened_cells cells count p taken =
-    by_numbers (λ (slots : List Slot). map (cell_in p.names) slots) (λ (number : ℕ). own_cells number cells) p.teams.items count taken.count_is (λ number.
+pub opened_cells : (names : List (List ℕ)) (cells : List PlainCell) (count : ℕ) (p : Parts) → length names ≡ length cells → AreTakenIn names cells count p
+    → cells_in p.names p.teams.items ≡ map (λ number. own_cells number (with_names names cells)) (range_with_len 0 count)
+opened_cells names cells count p same taken =
+    by_numbers (λ (slots : List Slot). map (cell_in p.names) slots) (λ (number : ℕ). own_cells number (with_names names cells)) p.teams.items count
+    taken.count_is (λ number.
     ap (λ (slots : List Slot). map (cell_in p.names) slots) (taken.each number)
-    ∙ seen_own number 0 p.names cells (λ k d within.
-    rw (zero-add k, taken.names) (map_within (λ (c : LoadedCell). c.name) cells k [] d within)))
+    ∙ seen_own number 0 p.names names cells same (λ k within. rw (zero-add k, taken.names_are) refl))
 
-pub opened_components : (cells : List LoadedCell) (count : ℕ) (p : Parts) → AreTakenIn cells count p
-    → components_in p.teams.items ≡ map (λ number. own_components number cells) (range_with_len 0 count)
-opened_components cells count p taken =
-    by_numbers (λ (slots : List Slot). map (λ (s : Slot). s.component) slots) (λ (number : ℕ). own_components number cells) p.teams.items count taken.count_is
+pub opened_components : (names : List (List ℕ)) (cells : List PlainCell) (count : ℕ) (p : Parts) → length names ≡ length cells → AreTakenIn names cells count p
+    → components_in p.teams.items ≡ map (λ number. own_components number (with_names names cells)) (range_with_len 0 count)
+opened_components names cells count p same taken =
+    by_numbers (λ (slots : List Slot). map (λ (s : Slot). s.component) slots) (λ (number : ℕ). own_components number (with_names names cells)) p.teams.items
+    count taken.count_is
     (λ number.
-    ap (λ (slots : List Slot). map (λ (s : Slot). s.component) slots) (taken.each number) ∙ seen_components number 0 cells)
+    ap (λ (slots : List Slot). map (λ (s : Slot). s.component) slots) (taken.each number) ∙ seen_components number 0 names cells same)
 
-get_or_first : (cells : List LoadedCell) → 0 < length cells → LoadedCell
-get_or_first [] within = absurd (omega (arith, within))
-get_or_first (c ∷ cs) within = c
+-- a cell of the list is that of its name
+pub named_at : (names : List (List ℕ)) (cells : List PlainCell) (k : ℕ) (d : LoadedCell) (name : List ℕ) (e : PlainCell) → length names ≡ length cells
+    → k < length cells → get_or (with_names names cells) k d ≡ with_name (get_or names k name) (get_or cells k e)
+named_at names [] k d name e same within = absurd (omega (arith, within))
+named_at [] (c ∷ cs) k d name e same within = absurd (omega (arith, same))
+named_at (n ∷ names) (c ∷ cs) zero d name e same within = refl
+named_at (n ∷ names) (c ∷ cs) (suc k) d name e same within = named_at names cs k d name e (omega (arith, same)) (omega (arith, within))
 
-pub opened_index : (cells : List LoadedCell) (count : ℕ) (p : Parts) → CellsNamed cells → ComponentsRise cells → AreTakenIn cells count p → AreIndexed p
-opened_index cells count p named rise taken =
-    record { differ = differ; many = many; index = taken.index; rise = owners_rise cells count p rise taken; ids = taken.ids }
-  where
-    many : length p.names ≡ length p.owners.items
-    many = ap (λ (ns : List (List ℕ)). length ns) taken.names ∙ length-map cells (λ (c : LoadedCell). c.name) ∙ sym taken.many
+a_cell : (cells : List PlainCell) (j : ℕ) → j < length cells → PlainCell
+a_cell [] j within = absurd (omega (arith, within))
+a_cell (c ∷ cs) j within = c
 
-    differ : AllPairs (λ name later. name ≢ later) p.names
-    differ = rw taken.names (λ i j d less within. apart i j d less (omega (arith, within, length-map cells (λ (c : LoadedCell). c.name))))
-      where
-        apart : (i j : ℕ) (d : List ℕ) → i < j → j < length cells
-            → get_or (map (λ (c : LoadedCell). c.name) cells) i d ≢ get_or (map (λ (c : LoadedCell). c.name) cells) j d
-        apart i j d less within same =
-            let first : LoadedCell = get_or_first cells (omega (arith, within)) in
-            named i j first less within
-            (sym (map_within (λ (c : LoadedCell). c.name) cells i d first (omega (arith, less, within))) ∙ same
-            ∙ map_within (λ (c : LoadedCell). c.name) cells j d first within)
+plain_rise : (names : List (List ℕ)) (cells : List PlainCell) → length names ≡ length cells → ComponentsRise (with_names names cells)
+    → AllPairs (λ a b. a.component < b.component) cells
+plain_rise names cells same rise i j d less within =
+    let whole : LoadedCell = with_name [] d in
+    let first = named_at names cells i whole [] d same (omega (arith, less, within)) in
+    let second = named_at names cells j whole [] d same within in
+    rw (ap (λ (c : LoadedCell). c.component) first, ap (λ (c : LoadedCell). c.component) second) at
+    (rise i j whole less (omega (arith, within, many_seen names cells same)))
+
+names_apart : (names : List (List ℕ)) (cells : List PlainCell) → length names ≡ length cells → CellsNamed (with_names names cells)
+    → AllPairs (λ name later. name ≢ later) names
+names_apart names cells same named i j d less within alike =
+    let inside : j < length cells = omega (arith, within, same) in
+    let c = a_cell cells j inside in
+    let whole : LoadedCell = with_name d c in
+    let first = named_at names cells i whole d c same (omega (arith, less, inside)) in
+    let second = named_at names cells j whole d c same inside in
+    named i j whole less (omega (arith, inside, many_seen names cells same))
+    (ap (λ (x : LoadedCell). x.name) first ∙ alike ∙ sym (ap (λ (x : LoadedCell). x.name) second))
+
+pub opened_index : (names : List (List ℕ)) (cells : List PlainCell) (count : ℕ) (p : Parts) → length names ≡ length cells
+    → CellsNamed (with_names names cells) → ComponentsRise (with_names names cells) → AreTakenIn names cells count p → AreIndexed p
+opened_index names cells count p same named rise taken =
+    record {
+      differ = rw taken.names_are (names_apart names cells same named);
+      many = ap (λ (ns : List (List ℕ)). length ns) taken.names_are ∙ same ∙ sym taken.many;
+      index = taken.index;
+      rise = owners_rise names cells count p (plain_rise names cells same rise) taken;
+      ids = taken.ids;
+    }
+
+-- what holds of all cells holds of them without their names
+pub all_plain : (P : ℕ → Type 0) (names : List (List ℕ)) (cells : List PlainCell) → length names ≡ length cells → All (λ c. P c.team) (with_names names cells)
+    → All (λ c. P c.team) cells
+all_plain P names cells same all k d within =
+    let whole : LoadedCell = with_name [] d in
+    let is : (get_or (with_names names cells) k whole).team ≡ (get_or cells k d).team =
+    ap (λ (c : LoadedCell). c.team) (named_at names cells k whole [] d same within) in
+    subst P is (all k whole (omega (arith, within, many_seen names cells same)))

@@ -1,11 +1,10 @@
 -- The owners of the names are the ids of all cells, in the order of the entries of the cells.
 use Rattle.std.proofs.Common.{◌≡◌, ℕ, zero, suc, ◌+◌, ◌<◌, Bool, true, false, cond, eqb, List, [], ◌∷◌, length, map, get_or}
-use Rattle.std.proofs.Common.{Option, Some, None, refl, ap, sym, ◌∙◌, add-zero, zero-add, arith}
+use Rattle.std.proofs.Common.{Option, Some, None, refl, ap, sym, ◌∙◌, add-zero, arith}
 use Rattle.std.specs.Prelude.{◌↔◌, AllPairs, Contains, IsSome, option_map, slice_get}
 use Rattle.std.specs.Option.{is_some}
 use Rattle.std.proofs.lemmas.Option.{slice_get-map, slice_get_within, slice_get-get_or, get_or_from_slice_get}
-use Rattle.lf_floorplan.specs.declared.loaded.Cell.{Cell as LoadedCell}
-use Rattle.lf_floorplan.specs.Design.{ComponentsRise}
+use Rattle.lf_floorplan.specs.declared.cells.PlainCell.{PlainCell}
 use Rattle.lf_cells.specs.declared.cell.CellId.{CellId}
 use Rattle.lf_cells.specs.declared.slots.Slot.{Slot}
 use Rattle.lf_cells.specs.declared.parts.Parts.{Parts}
@@ -46,12 +45,12 @@ slot_position p id s there =
 -- ---- the order of the entries
 
 -- the slot is that of one of the cells, the first of which has this label
-record IsFrom (n : ℕ) (cells : List LoadedCell) (s : Slot) : Type 0 where
+record IsFrom (n : ℕ) (cells : List PlainCell) (s : Slot) : Type 0 where
   place : ℕ
   label_is : s.label ≡ n + place
-  entry : (d : LoadedCell) → s.component ≡ (get_or cells place d).component
+  entry : (d : PlainCell) → s.component ≡ (get_or cells place d).component
 
-slot_from : (number n : ℕ) (cells : List LoadedCell) (own : ℕ) (s : Slot) → slice_get (own_slots number n cells) own ≡ Some s → IsFrom n cells s
+slot_from : (number n : ℕ) (cells : List PlainCell) (own : ℕ) (s : Slot) → slice_get (own_slots number n cells) own ≡ Some s → IsFrom n cells s
 slot_from number n [] own s e = absurd (cc)
 slot_from number n (c ∷ cs) own s e = go (eqb c.team number) own (λ k at. slot_from number (n + 1) cs k s at) e where
   later : IsFrom (n + 1) cs s → IsFrom n (c ∷ cs) s
@@ -68,9 +67,9 @@ slot_from number n (c ∷ cs) own s e = go (eqb c.team number) own (λ k at. slo
   go false k rest e = later (rest k e)
 
 -- the position of the entry of the owner of a name is that of the cell with that name
-owner_position : (cells : List LoadedCell) (count : ℕ) (p : Parts) → AreTakenIn cells count p → (i : ℕ) (id : CellId) (d : LoadedCell)
+owner_position : (names : List (List ℕ)) (cells : List PlainCell) (count : ℕ) (p : Parts) → AreTakenIn names cells count p → (i : ℕ) (id : CellId) (d : PlainCell)
     → slice_get p.owners.items i ≡ Some id → position_in (components_in p.teams.items) id ≡ (get_or cells i d).component
-owner_position cells count p taken i id d there =
+owner_position names cells count p taken i id d there =
     let has = owner_slot p id i ((taken.index.owned id i).0 there) in
     let own : slice_get (own_slots id.team 0 cells) id.own ≡ Some has.slot =
     ap (λ (ss : List Slot). slice_get ss id.own) (sym (taken.each id.team)) ∙ has.there in
@@ -78,19 +77,19 @@ owner_position cells count p taken i id d there =
     let at : is.place ≡ i = omega (arith, is.label_is, has.label_is) in
     slot_position p id has.slot has.there ∙ is.entry d ∙ ap (λ (k : ℕ). (get_or cells k d).component) at
 
-a_cell : (cells : List LoadedCell) (j : ℕ) → j < length cells → LoadedCell
+a_cell : (cells : List PlainCell) (j : ℕ) → j < length cells → PlainCell
 a_cell [] j within = absurd (omega (arith, within))
 a_cell (c ∷ cs) j within = c
 
 -- the owners of a table that is built stand in the order of the entries
-pub owners_rise : (cells : List LoadedCell) (count : ℕ) (p : Parts) → ComponentsRise cells → AreTakenIn cells count p
+pub owners_rise : (names : List (List ℕ)) (cells : List PlainCell) (count : ℕ) (p : Parts) → AllPairs (λ a b. a.component < b.component) cells → AreTakenIn names cells count p
     → AllPairs (λ id later. position_in (components_in p.teams.items) id < position_in (components_in p.teams.items) later) p.owners.items
-owners_rise cells count p rise taken i j e less within =
+owners_rise names cells count p rise taken i j e less within =
     let inside : j < length cells = omega (arith, within, taken.many) in
     let c = a_cell cells j inside in
     rw (
-      owner_position cells count p taken i (get_or p.owners.items i e) c (slice_get-get_or p.owners.items i e (omega (arith, less, within))),
-      owner_position cells count p taken j (get_or p.owners.items j e) c (slice_get-get_or p.owners.items j e within),
+      owner_position names cells count p taken i (get_or p.owners.items i e) c (slice_get-get_or p.owners.items i e (omega (arith, less, within))),
+      owner_position names cells count p taken j (get_or p.owners.items j e) c (slice_get-get_or p.owners.items j e within),
     )
     (rise i j c less inside)
 

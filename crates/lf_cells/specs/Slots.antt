@@ -3,7 +3,7 @@ use Rattle.std.specs.Prelude.{◌≡◌, ◌≢◌, ◌↔◌, ℕ, zero, suc, �
 use Rattle.std.specs.Prelude.{◌∷◌, ◌++◌, Option, Some, map, length, slice_get, slice_set, slice_index, slice_index_or, AllPairs}
 use Rattle.std.specs.List.{range_with_len}
 use Rattle.lf_floorplan.specs.declared.place.Place.{Place}
-use Rattle.lf_floorplan.specs.declared.loaded.Cell.{Cell as LoadedCell}
+use Rattle.lf_floorplan.specs.declared.cells.PlainCell.{PlainCell}
 use Rattle.lf_cells.specs.declared.cell.Cell.{Cell}
 use Rattle.lf_cells.specs.declared.cell.CellId.{CellId}
 use Rattle.lf_cells.specs.declared.slots.Slot.{Slot}
@@ -13,7 +13,7 @@ use Rattle.lf_cells.specs.Cells.{Cells, id_of}
 -- ---- one cell
 
 -- a cell as it is loaded, with the position of its name
-abbrev pub opening_slot : ℕ → LoadedCell → Slot
+abbrev pub opening_slot : ℕ → PlainCell → Slot
 opening_slot label c = record { label = label; mac = c.mac; component = c.component; working = c.place; committed = c.place }
 
 -- the cell, with its name from the table of names
@@ -37,7 +37,7 @@ abbrev pub labels : List Slot → List ℕ
 labels slots = map (λ s. s.label) slots
 
 -- the team's own cells among these; the first cell's name has that position
-abbrev pub own_slots : ℕ → ℕ → List LoadedCell → List Slot
+abbrev pub own_slots : ℕ → ℕ → List PlainCell → List Slot
 own_slots number label [] = []
 own_slots number label (c ∷ cs) = if c.team == number then opening_slot label c ∷ own_slots number (label + 1) cs else own_slots number (label + 1) cs
 
@@ -89,17 +89,17 @@ pub record AreIndexed (p : Parts) : Type 0 where
 
 -- ---- filling a table
 
--- the cell is the last one of its team, and its name the last one of all
-pub record TakesIn (c : LoadedCell) (old new : Parts) : Type 0 where
-  pub names : new.names ≡ old.names ++ c.name ∷ []
+-- the cell is the last one of its team; the names stay
+pub record TakesIn (c : PlainCell) (old new : Parts) : Type 0 where
+  pub names : new.names ≡ old.names
   pub owners : new.owners.items ≡ old.owners.items ++ id_of c.team (length (slice_index_or old.teams.items c.team [])) ∷ []
   pub teams : new.teams.items ≡ slice_set old.teams.items c.team (slice_index_or old.teams.items c.team [] ++ opening_slot (length old.owners.items) c ∷ [])
   pub ids : new.ids.items ≡ slice_set old.ids.items c.team
       (slice_index_or old.ids.items c.team [] ++ id_of c.team (length (slice_index_or old.teams.items c.team [])) ∷ [])
 
--- the parts of a table of these cells, for this many teams
-pub record AreTakenIn (cells : List LoadedCell) (count : ℕ) (p : Parts) : Type 0 where
-  pub names : p.names ≡ map (λ c. c.name) cells
+-- the parts of a table of these names and cells, for this many teams
+pub record AreTakenIn (names : List (List ℕ)) (cells : List PlainCell) (count : ℕ) (p : Parts) : Type 0 where
+  pub names_are : p.names ≡ names
   pub many : length p.owners.items ≡ length cells
   pub index : IsIndex p.owners.items (labels_in p.teams.items)
   pub ids : AreListed p.ids.items (labels_in p.teams.items)

@@ -1,16 +1,14 @@
 //! The parts of a table, and how they are filled from a loaded design.
 
-ghost use Rattle.std.specs.Prelude.{◌≡◌, ◌≤◌, ◌<◌, ◌+◌, ◌++◌, ◌∷◌, [], All, None, OnOk, IfOk, length, map, replicate, slice_get, slice_index_or, slice_set};
-ghost use Rattle.lf_names.specs.Names.{position_of};
-ghost use Rattle.lf_floorplan.specs.Design.{CellsNamed};
+ghost use Rattle.std.specs.Prelude.{◌≡◌, ◌≤◌, ◌<◌, ◌+◌, ◌++◌, ◌∷◌, [], All, OnOk, IfOk, length, map, replicate, slice_get, slice_index_or, slice_set};
 ghost use Rattle.lf_cells.specs.Slots.{moved_slots, committed_slot, slot_at, TakesIn, AreTakenIn};
 ghost use Rattle.lf_cells.specs.Cells.{id_of};
 
 use crate::cell::CellId;
 use crate::ids::Ids;
 use crate::slots::{Slot, Slots};
-use lf_floorplan::{Cell as LoadedCell, Place};
-use lf_names::{Added, NameTable};
+use lf_floorplan::{CellParts, Place, PlainCell};
+use lf_names::NameTable;
 use std::alloc::{AllocError, Global};
 
 /// The parts of a table.
@@ -35,17 +33,6 @@ fn id_of(team: usize, own: usize) -> CellId
     CellId {
         team: team as u32,
         own: own as u32,
-    }
-}
-
-/// Adds a name that is not there yet.
-fn add_new(names: &mut NameTable, name: &[u8]) -> Result<(), AllocError>
-    requires { position_of names.old name.now ≡ None }
-    ensures { OnOk result (names.new ≡ names.old ++ name.now ∷ []) }
-{
-    match names.add(name)? {
-        Added::New(_) => Ok(()),
-        Added::Present(_) => unreachable!(),
     }
 }
 
@@ -105,42 +92,41 @@ fn empty_ids(alloc: Global, count: usize) -> Result<Vec<Ids>, AllocError>
 
 impl Parts {
     /// Appends the cell to its team.
-    fn take_in(&mut self, cell: &LoadedCell) -> Result<(), AllocError>
+    fn take_in(&mut self, cell: &PlainCell) -> Result<(), AllocError>
         requires team { cell.now.team < length self.old.teams.items }
         requires ids { length self.old.ids.items ≡ length self.old.teams.items }
         requires few_teams { length self.old.teams.items ≤ 4000000 }
         requires few_cells { length self.old.owners.items ≤ 4000000 }
         requires few_own { length (slice_index_or self.old.teams.items cell.now.team []) ≤ 4000000 }
-        requires new { position_of self.old.names cell.now.name ≡ None }
         ensures { OnOk result (TakesIn cell.now self.old self.new) }
     {
         let label = self.owners.len() as u32;
-        let id = id_of(cell.team, self.teams[cell.team].len());
-        add_new(&mut self.names, cell.name.as_bytes())?;
+        let team = cell.team as usize;
+        let id = id_of(team, self.teams[team].len());
         self.owners.push(id)?;
-        push_id(&mut self.ids, cell.team, id)?;
-        push_cell(&mut self.teams, cell.team, Slot::opening(label, cell))
+        push_id(&mut self.ids, team, id)?;
+        push_cell(&mut self.teams, team, Slot::opening(label, cell))
     }
 
     /// The parts of a table of these cells, for this many teams.
     pub(crate) fn of_cells(
         alloc: Global,
         count: usize,
-        cells: &[LoadedCell],
+        loaded: CellParts,
     ) -> Result<Parts, AllocError>
-        requires known { All (λ c. c.team < count) cells.now }
+        requires known { All (λ c. c.team < count) loaded.cells.items }
         requires few_teams { count ≤ 4000000 }
-        requires few_cells { length cells.now ≤ 4000000 }
-        requires named { CellsNamed cells.now }
-        ensures { IfOk result (λ parts. AreTakenIn cells.now count parts) }
+        requires few_cells { length loaded.cells.items ≤ 4000000 }
+        ensures { IfOk result (λ parts. AreTakenIn loaded.names loaded.cells.items count parts) }
     {
+        let CellParts { names, cells } = loaded;
         let mut parts = Parts {
-            names: NameTable::new(alloc),
+            names,
             owners: Vec::new(alloc),
             teams: empty_teams(alloc, count)?,
             ids: empty_ids(alloc, count)?,
         };
-        for cell in cells {
+        for cell in &cells {
             parts.take_in(cell)?;
         }
         Ok(parts)

@@ -3,7 +3,7 @@
 ghost use Rattle.std.specs.Prelude.{◌≡◌, ◌++◌, ◌∷◌, [], OnOk, length, map, slice_get};
 ghost use Rattle.lf_cells.specs.Slots.{opening_slot, moved_slots, committed_slot};
 
-use lf_floorplan::{Cell as LoadedCell, Place};
+use lf_floorplan::{PackedPlace, Place, PlainCell};
 use std::alloc::{AllocError, Global};
 use std::marker::Model;
 
@@ -12,15 +12,15 @@ use std::marker::Model;
 pub(crate) struct Slot {
     /// The position of its name in the table of names.
     pub(crate) label: u32,
-    pub(crate) mac: usize,
-    pub(crate) component: usize,
-    pub(crate) working: Option<Place>,
-    pub(crate) committed: Option<Place>,
+    pub(crate) mac: u32,
+    pub(crate) component: u32,
+    pub(crate) working: PackedPlace,
+    pub(crate) committed: PackedPlace,
 }
 
 impl Slot {
     /// A cell at its loaded place; its name has this position.
-    pub(crate) fn opening(label: u32, cell: &LoadedCell) -> Self
+    pub(crate) fn opening(label: u32, cell: &PlainCell) -> Self
         ensures { result ≡ opening_slot label cell.now }
     {
         Slot {
@@ -116,7 +116,7 @@ fn put(slots: &mut Vec<Slot>, own: usize, place: Option<Place>)
     ensures { slots.new.items ≡ moved_slots slots.old.items own place }
 {
     if own < slots.len() {
-        slots[own].working = place;
+        slots[own].working = PackedPlace::of(place);
     }
 }
 

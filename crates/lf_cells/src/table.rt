@@ -7,7 +7,7 @@ ghost use Rattle.lf_cells.specs.Openings.{opening_cells, opening_components};
 
 use crate::cell::{CellFacts, CellId, Standing};
 use crate::parts::{Parts, commit_cells, move_cell};
-use lf_floorplan::{Loaded, Place};
+use lf_floorplan::{Frame, Loaded, Place};
 use std::alloc::{AllocError, Global};
 use std::marker::Model;
 
@@ -34,17 +34,20 @@ impl Model for CellTable {
 }
 
 impl CellTable {
-    /// The table of a design as it is loaded: each team has its own cells, in loading order, each
-    /// with its place in the DEF text as its working place and its committed place.
+    /// The table of a design as it is loaded, and the frame of the design: each team has its own cells, in loading order, each
+    /// with its place in the DEF text as its working place and its committed place. The table of names moves from the design
+    /// into this one.
     ///
-    /// `Err` if an allocation fails.
-    pub fn build(alloc: Global, loaded: &Loaded) -> Result<CellTable, AllocError>
-        ensures cells { IfOk result (λ table. table.cells ≡ opening_cells loaded.now) }
-        ensures components { IfOk result (λ table. table.components ≡ opening_components loaded.now) }
+    /// `Err` if an allocation fails; the design is then gone.
+    pub fn build(alloc: Global, loaded: Loaded) -> Result<(Frame, CellTable), AllocError>
+        ensures frame { IfOk result (λ built. built.0 ≡ loaded.frame) }
+        ensures cells { IfOk result (λ built. built.1.cells ≡ opening_cells loaded) }
+        ensures components { IfOk result (λ built. built.1.components ≡ opening_components loaded) }
     {
-        let count = loaded.frame.teams.len() + 1;
-        let parts = Parts::of_cells(alloc, count, loaded.cells.as_slice())?;
-        Ok(CellTable { parts })
+        let Loaded { frame, cells } = loaded;
+        let count = frame.teams.len() + 1;
+        let parts = Parts::of_cells(alloc, count, cells.into_parts())?;
+        Ok((frame, CellTable { parts }))
     }
 
     /// The team's cell of that name; none if only another team, or none, has such a cell.
@@ -84,8 +87,8 @@ impl CellTable {
         let slot = self.parts.slot(id.team as usize, id.own as usize)?;
         Some(CellFacts {
             name: self.parts.names.name_at(slot.label as usize)?,
-            mac: slot.mac,
-            component: slot.component,
+            mac: slot.mac as usize,
+            component: slot.component as usize,
         })
     }
 
@@ -95,8 +98,8 @@ impl CellTable {
     {
         let slot = self.parts.slot(id.team as usize, id.own as usize)?;
         Some(Standing {
-            mac: slot.mac,
-            working: slot.working,
+            mac: slot.mac as usize,
+            working: slot.working.place(),
         })
     }
 
@@ -104,7 +107,8 @@ impl CellTable {
     pub fn working(&self, id: CellId) -> Option<Place>
         ensures { result ≡ working_at (cells_of self.now id.team) id.own }
     {
-        self.parts.slot(id.team as usize, id.own as usize)?.working
+        let slot = self.parts.slot(id.team as usize, id.own as usize)?;
+        slot.working.place()
     }
 
     /// The committed place of a cell; none if it is unplaced, or there is no such cell.
@@ -114,6 +118,7 @@ impl CellTable {
         self.parts
             .slot(id.team as usize, id.own as usize)?
             .committed
+            .place()
     }
 
     /// Changes the working place of one cell and nothing else; if there is no such cell, nothing changes.

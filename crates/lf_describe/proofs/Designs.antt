@@ -15,10 +15,9 @@ use Rattle.lf_reports.specs.Reports.{IsListed, listed_at, named, report_of, stan
 use Rattle.lf_reports.proofs.CleanLemmas.{all_listed, clean_is_legal, each_named, length_listed, standing_listed}
 use Rattle.lf_describe.specs.Description.{cells_of, places_of}
 
-pub are_cells : (cells lent : List Cell) (slice items : List (Listed (Bor (List ℕ)))) → slice ≡ items → map named items ≡ listed_at lent (places_of lent) → lent ≡ cells →
+pub are_cells : (cells : List Cell) (slice items : List (Listed (Bor (List ℕ)))) → slice ≡ items → map named items ≡ listed_at cells (places_of cells) →
     map named slice ≡ listed_at cells (places_of cells)
-are_cells cells lent slice items is_items is_listed is_cells =
-    ap (λ (cs : List (Listed (Bor (List ℕ)))). map named cs) is_items ∙ is_listed ∙ ap (λ (cs : List Cell). listed_at cs (places_of cs)) is_cells
+are_cells cells slice items is_items is_listed = ap (λ (cs : List (Listed (Bor (List ℕ)))). map named cs) is_items ∙ is_listed
 
 all_are : CellIsSized → (loaded : Loaded) (slice : List (Listed (Bor (List ℕ)))) → map named slice ≡ cells_of loaded → All (IsListed loaded.frame) (map named slice)
 all_are sized loaded slice are = subst (All (IsListed loaded.frame)) (sym are) (all_listed loaded.frame sized loaded.cells (places_of loaded.cells) loaded.cells_known)

@@ -7,7 +7,7 @@ ghost use Rattle.lf_rules.specs.Reports.{IsClean};
 ghost use Rattle.lf_reports.specs.Reports.{AreVerdicts, IsListed, listed_at, named};
 ghost use Rattle.lf_describe.specs.Description.{places_of};
 
-use lf_floorplan::{Cell, Frame};
+use lf_floorplan::{Frame, LoadedCells};
 use lf_reports::verdicts_on;
 use lf_rules::{Broken, Listed, Padding};
 use lf_segments::{Ground, Plan};
@@ -27,14 +27,15 @@ pub(crate) struct Counts {
 /// The cells, each at its place in the DEF text.
 pub(crate) fn listed<'a>(
     alloc: Global,
-    cells: &'a [Cell],
+    cells: &'a LoadedCells,
 ) -> Result<Vec<Listed<&'a [u8]>>, AllocError>
     ensures { IfOk result (λ listed. map named listed.items ≡ listed_at cells.now (places_of cells.now)) }
 {
     let mut listed = Vec::with_capacity(alloc, cells.len())?;
-    for cell in cells {
+    for at in 0..cells.len() {
+        let cell = cells.get(at).unwrap();
         listed.push(Listed {
-            name: cell.name.as_bytes(),
+            name: cell.name,
             team: cell.team,
             mac: cell.mac,
             place: cell.place,

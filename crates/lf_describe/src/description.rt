@@ -134,7 +134,7 @@ pub fn describe<W: Sink>(
     let Ok(names) = fixed_names(alloc, document.components.as_slice()) else {
         return Err(Undescribed::OutOfMemory);
     };
-    let Ok(cells) = listed(alloc, loaded.cells.as_slice()) else {
+    let Ok(cells) = listed(alloc, &loaded.cells) else {
         return Err(Undescribed::OutOfMemory);
     };
     describe_cells(alloc, &loaded.frame, &names, &cells, writer)

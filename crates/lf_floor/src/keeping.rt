@@ -103,10 +103,7 @@ impl Tables {
     {
         let number = id.team as usize;
         let mut moves = Moves::new(alloc);
-        moves.push(Move {
-            own: id.own,
-            old: place,
-        })?;
+        moves.push(Move::new(id.own, place))?;
         self.make_room_for(alloc, number, moves.as_slice())?;
         Ok(self.change_places(number, session, moves))
     }

@@ -35,14 +35,8 @@ fn exchange_moves(alloc: Global, exchange: &Exchange) -> Result<Moves, AllocErro
     ensures { IfOk result (λ moves. moves ≡ exchange_moves exchange.now) }
 {
     let mut moves = Moves::new(alloc);
-    moves.push(Move {
-        own: exchange.first.own,
-        old: Some(exchange.to),
-    })?;
-    moves.push(Move {
-        own: exchange.second.own,
-        old: Some(exchange.from),
-    })?;
+    moves.push(Move::new(exchange.first.own, Some(exchange.to)))?;
+    moves.push(Move::new(exchange.second.own, Some(exchange.from)))?;
     Ok(moves)
 }
 

@@ -94,13 +94,9 @@ fn move_one(
     ensures only { OnlyMoves id.team placement.old placement.new }
 {
     let number = id.team as usize;
-    let next = Move {
-        own: id.own,
-        old: place,
-    };
-    placement.reserve(alloc, number, &[next])?;
+    placement.reserve(alloc, number, &[Move::new(id.own, place)])?;
     let from = moves.as_slice().len();
-    moves.push(next)?;
+    moves.push(Move::new(id.own, place))?;
     placement.make(number, moves, from);
     Ok(())
 }

@@ -46,10 +46,7 @@ fn note_back(cells: &CellTable, moves: &mut Moves, id: CellId) -> Result<(), All
     if are_alike(cells.working(id), committed) {
         return Ok(());
     }
-    moves.push(Move {
-        own: id.own,
-        old: committed,
-    })?;
+    moves.push(Move::new(id.own, committed))?;
     Ok(())
 }
 

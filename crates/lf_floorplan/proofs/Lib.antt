@@ -2,6 +2,8 @@ pub mod LengthLemmas
 pub mod StandingLemmas
 pub mod GroundLemmas
 pub mod CellLemmas
+pub mod PlaceLemmas
+pub mod NamedCells
 pub mod SizeBounds
 pub mod ObstacleLemmas
 pub mod RowAtLemmas

@@ -1,5 +1,5 @@
 -- At most one row lies at a y and extends over an x.
-use Rattle.std.proofs.Common.{◌≡◌, ℕ, ℤ, pos, ◌<◌, ◌<ℤ◌, ◌⊎◌, inl, inr, List, Some, slice_get, get_or, sym, ◌∙◌, arith}
+use Rattle.std.proofs.Common.{◌≡◌, ℕ, ℤ, pos, ◌<◌, ◌<ℤ◌, ◌⊎◌, inl, inr, Some, slice_get, get_or, sym, ◌∙◌, arith}
 use Rattle.std.proofs.lemmas.Int.{ints}
 use Rattle.std.proofs.lemmas.Option.{get_or_from_slice_get, slice_get_within}
 use Rattle.lf_units.specs.declared.area.Rect.{Rect}

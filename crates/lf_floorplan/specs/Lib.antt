@@ -1,4 +1,6 @@
 pub mod Bounds
+pub mod PackedPlaces
+pub mod LoadedCells
 pub mod Rows
 pub mod Fences
 pub mod Sizes

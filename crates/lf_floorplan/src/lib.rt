@@ -2,6 +2,7 @@
 //! and the measures that legality rests on.
 #![tactic(auto)]
 
+mod cells;
 mod design;
 mod frame;
 mod laws;
@@ -10,11 +11,13 @@ mod loaded;
 mod macros;
 mod measure;
 mod near;
+mod packed;
 mod parts;
 mod place;
 mod sites;
 mod sizes;
 
+pub use cells::{CellParts, LentCell, LoadedCells, PlainCell};
 pub use design::{is_sized, mac_at};
 pub use frame::Frame;
 pub use laws::{
@@ -25,6 +28,7 @@ pub use limits::Limits;
 pub use loaded::{Cell, Loaded};
 pub use macros::Macro;
 pub use near::Near;
+pub use packed::PackedPlace;
 pub use parts::{Header, Row, Team};
 pub use place::Place;
 pub use sites::Site;

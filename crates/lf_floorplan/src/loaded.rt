@@ -3,11 +3,12 @@
 ghost use Rattle.std.specs.Prelude.{◌≤◌, All, length};
 ghost use Rattle.lf_floorplan.specs.Design.{IsCell, CellsNamed, ComponentsRise};
 
+use crate::cells::LoadedCells;
 use crate::frame::Frame;
 use crate::place::Place;
-use lf_units::{Name, Sequence};
+use lf_units::Name;
 
-/// A movable cell: a component of the DEF text that is neither FIXED nor COVER.
+/// What contracts see of a movable cell: a component of the DEF text that is neither FIXED nor COVER.
 #[derive(Drop)]
 pub struct Cell {
     pub name: Name,
@@ -25,7 +26,7 @@ pub struct Cell {
 #[derive(Drop)]
 pub struct Loaded {
     pub frame: Frame,
-    pub cells: Sequence<Cell>,
+    pub cells: LoadedCells,
     pub ghost few_cells: { length cells ≤ 4000000 },
     pub ghost cells_known: { All (IsCell frame) cells },
     pub ghost names_differ: { CellsNamed cells },

@@ -1,9 +1,13 @@
 -- The cells of the movable components, one after the other.
-use Rattle.std.proofs.Common.{◌≡◌, ℕ, ◌+◌, ◌<◌, ◌≤◌, true, false, List, [], ◌∷◌, ◌++◌, length, get_or, drop, arith}
+use Rattle.std.proofs.Common.{◌≡◌, ◌≢◌, ◌⊎◌, inl, inr, ℕ, zero, suc, ◌+◌, ◌<◌, ◌≤◌, true, false, List, [], ◌∷◌, ◌++◌, length, get_or, take, drop, refl, sym, ap, ◌∙◌, subst, length-take-le, arith}
+use Rattle.std.specs.Prelude.{All}
 use Rattle.std.specs.List.{AllZip}
 use Rattle.std.proofs.lemmas.Grind.{common_steps}
+use Rattle.std.proofs.lemmas.List.{get_or_default, get_or-take, length-append}
 use Rattle.lf_def.specs.declared.components.Component.{Component}
 use Rattle.lf_floorplan.specs.declared.loaded.Cell.{Cell}
+use Rattle.lf_claims.specs.Entries.{NoneBreaks}
+use Rattle.lf_claims.specs.Refusals.{BearsEarlierName}
 use Rattle.lf_claims.specs.Teams.{is_movable}
 use Rattle.lf_refusals.specs.Findings.{Inputs}
 use Rattle.lf_frame.specs.Loads.{movables, movables_from, IsCellOf}
@@ -32,3 +36,64 @@ all_made i components k cells past before =
     let nothing : drop k components ≡ [] = grind (arith, common_steps) in
     let whole : cells ++ [] ≡ cells = grind (arith, common_steps) in
     rw whole at (before [] (rw nothing tt))
+
+-- a component before this one has the name
+pub record IsEarlier (components : List Component) (k : ℕ) (name : List ℕ) : Type 0 where
+  pub place : ℕ
+  pub before : place < k
+  pub named : (e : Component) → (get_or components place e).name ≡ name
+
+-- the names of these cells are those of components before this one
+abbrev pub AreEarlier : List Component → ℕ → List Cell → Type 0
+AreEarlier components k cells = (m : ℕ) (d : Cell) → m < length cells → IsEarlier components k (get_or cells m d).name
+
+pub none_earlier : (components : List Component) → AreEarlier components 0 []
+none_earlier components m d within = absurd (omega (arith, within))
+
+later : (components : List Component) (k : ℕ) (name : List ℕ) → IsEarlier components k name → IsEarlier components (k + 1) name
+later components k name is = record { place = is.place; before = omega (arith, is.before); named = is.named }
+
+pub stays_earlier : (components : List Component) (k : ℕ) (cells : List Cell) → AreEarlier components k cells → AreEarlier components (k + 1) cells
+stays_earlier components k cells early m d within = later components k (get_or cells m d).name (early m d within)
+
+at_kept : (cells : List Cell) (cell : Cell) (m : ℕ) (d : Cell) → m < length cells → get_or (cells ++ cell ∷ []) m d ≡ get_or cells m d
+at_kept [] cell m d within = absurd (omega (arith, within))
+at_kept (c ∷ cells) cell zero d within = refl
+at_kept (c ∷ cells) cell (suc m) d within = at_kept cells cell m d (omega (arith, within))
+
+at_last : (cells : List Cell) (cell d : Cell) → get_or (cells ++ cell ∷ []) (length cells) d ≡ cell
+at_last [] cell d = refl
+at_last (c ∷ cells) cell d = at_last cells cell d
+
+pub one_earlier : (components : List Component) (k : ℕ) (c : Component) (cells : List Cell) (cell : Cell) → k < length components → c ≡ get_or components k c →
+    cell.name ≡ c.name → AreEarlier components k cells → AreEarlier components (k + 1) (cells ++ cell ∷ [])
+one_earlier components k c cells cell within is name early m d inside =
+    let long : length (cells ++ cell ∷ []) ≡ length cells + 1 = length-append cells (cell ∷ []) in
+    let cases : (m < length cells) ⊎ (length cells ≤ m) = grind arith in
+    elim cases [
+      | inl low ↦
+          subst (λ (x : Cell). IsEarlier components (k + 1) x.name) (sym (at_kept cells cell m d low)) (stays_earlier components k cells early m d low)
+      | inr high ↦
+          let last : m ≡ length cells = omega (arith, long, inside, high) in
+          let same : get_or (cells ++ cell ∷ []) m d ≡ cell = ap (λ (n : ℕ). get_or (cells ++ cell ∷ []) n d) last ∙ at_last cells cell d in
+          subst (λ (x : Cell). IsEarlier components (k + 1) x.name) (sym same) (record {
+            place = k;
+            before = omega arith;
+            named = λ e. ap (λ (x : Component). x.name) (get_or_default components k e c within ∙ sym is) ∙ sym name;
+          })
+    ]
+
+-- so the name of this component is new
+pub is_new : (components : List Component) (k : ℕ) (c : Component) (cells : List Cell) → NoneBreaks BearsEarlierName components → k < length components →
+    c ≡ get_or components k c → AreEarlier components k cells → All (λ d. d.name ≢ c.name) cells
+is_new components k c cells none within is early m d inside same =
+    let e = early m d inside in
+    let x : Component = get_or components e.place c in
+    let many : length (take k components) ≡ k = length-take-le k components (omega (arith, within)) in
+    none k c within (
+      e.place,
+      x,
+      omega (arith, many, e.before),
+      get_or-take k components e.place x e.before ∙ get_or_default components e.place x c (omega (arith, e.before, within)),
+      e.named c ∙ same ∙ ap (λ (y : Component). y.name) is,
+    )

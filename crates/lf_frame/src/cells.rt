@@ -5,6 +5,7 @@ ghost use Rattle.std.specs.List.{AllZip};
 ghost use Rattle.lf_names.specs.Names.{position_of};
 ghost use Rattle.lf_lef.specs.Contents.{macro_names};
 ghost use Rattle.lf_def.specs.Ranges.{IsComponent};
+ghost use Rattle.lf_floorplan.specs.LoadedCells.{with_name};
 ghost use Rattle.lf_claims.specs.Teams.{is_movable as is_movable_component, IsTeamOf};
 ghost use Rattle.lf_claims.specs.Entries.{NoneBreaks};
 ghost use Rattle.lf_claims.specs.Refusals.{BearsEarlierName};
@@ -15,9 +16,8 @@ ghost use Rattle.lf_frame.specs.Loads.{location as location_of, as_location, mov
 use crate::copies::{location, place_at};
 use lf_claims::{ClaimTable, is_movable};
 use lf_def::{Component, DefDoc};
-use lf_floorplan::{Cell, Limits, Place};
+use lf_floorplan::{Limits, LoadedCells, PackedPlace, Place, PlainCell};
 use lf_lef::Library;
-use lf_units::{Name, Sequence};
 use std::alloc::{AllocError, Global};
 
 /// The component's place; none if it is unplaced.
@@ -31,27 +31,39 @@ fn place_of(component: &Component) -> Option<Place>
     }
 }
 
-/// The cell of a movable component.
+/// The number in 32 bits, which those of texts that fit into memory have.
+fn in_32_bits(number: usize) -> Result<u32, AllocError>
+    ensures { IfOk result (λ same. same ≡ number) }
+{
+    match u32::try_from(number) {
+        Ok(same) => Ok(same),
+        Err(_) => Err(AllocError),
+    }
+}
+
+/// The cell of a movable component, without its name.
 fn cell_of(
-    alloc: Global,
     library: &Library,
     document: &DefDoc,
     limits: &Limits,
     team: usize,
     number: usize,
     component: &Component,
-) -> Result<Cell, AllocError>
+) -> Result<PlainCell, AllocError>
     requires team { IsTeamOf document.now.regions document.now.groups component.now.name team }
     requires range { IsComponent component.now }
     requires able { CanBeCell (inputs library.now document.now limits.now) component.now }
-    ensures { IfOk result (λ cell. IsCellOf (inputs library.now document.now limits.now) (number, component.now) cell) }
+    ensures { IfOk result (λ cell. IsCellOf (inputs library.now document.now limits.now) (number, component.now) (with_name component.now.name cell)) }
 {
-    Ok(Cell {
-        name: Name::from_slice(alloc, component.name())?,
-        team,
-        mac: library.find_macro(component.macro_name()).unwrap(),
-        place: place_of(component),
-        component: number,
+    let mac = library.find_macro(component.macro_name()).unwrap();
+    let own_team = in_32_bits(team)?;
+    let own_macro = in_32_bits(mac)?;
+    let entry = in_32_bits(number)?;
+    Ok(PlainCell {
+        team: own_team,
+        mac: own_macro,
+        component: entry,
+        place: PackedPlace::of(place_of(component)),
     })
 }
 
@@ -62,17 +74,18 @@ pub(crate) fn movable_cells(
     library: &Library,
     document: &DefDoc,
     limits: &Limits,
-) -> Result<Sequence<Cell>, AllocError>
+) -> Result<LoadedCells, AllocError>
     requires claims { IsTableOf document.now.regions document.now.groups document.now.components claims.now }
     requires differ { NoneBreaks BearsEarlierName document.now.components }
     requires able { All (λ c. is_movable_component c ≡ true → CanBeCell (inputs library.now document.now limits.now) c) document.now.components }
     ensures { IfOk result (λ cells. AllZip (IsCellOf (inputs library.now document.now limits.now)) (movables document.now.components) cells) }
 {
-    let mut cells = Sequence::new(alloc);
+    let mut cells = LoadedCells::new(alloc);
     for (number, component) in document.components.as_slice().iter().enumerate() {
         if is_movable(component) {
             let team = claims.team_at(number);
-            cells.push(cell_of(alloc, library, document, limits, team, number, component)?)?;
+            let cell = cell_of(library, document, limits, team, number, component)?;
+            cells.push(component.name(), cell)?;
         }
     }
     Ok(cells)

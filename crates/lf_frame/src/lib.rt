@@ -9,8 +9,8 @@ mod loading;
 
 pub use laws::positions_play_no_part;
 pub use lf_floorplan::{
-    Cell, Frame, Header, Limits, Loaded, Macro, Place, Row, Site, Team, cell_is_sized, is_sized,
-    mac_at, obstacles_stay_near, point_has_one_team, size_turns_back, standing_is_one,
-    teams_stay_apart,
+    Cell, CellParts, Frame, Header, LentCell, Limits, Loaded, LoadedCells, Macro, PackedPlace,
+    Place, PlainCell, Row, Site, Team, cell_is_sized, is_sized, mac_at, obstacles_stay_near,
+    point_has_one_team, size_turns_back, standing_is_one, teams_stay_apart,
 };
 pub use loading::load;

@@ -15,7 +15,7 @@ use crate::copies::{
 };
 use lf_claims::{ClaimTable, claim_table};
 use lf_def::DefDoc;
-use lf_floorplan::{Cell, Frame, Limits, Loaded};
+use lf_floorplan::{Frame, Limits, Loaded, LoadedCells};
 use lf_lef::Library;
 use lf_lex::{LoadFault, ReadError};
 use lf_refusals::{core_pitch, first_refusal, sized_core_site, units_of};
@@ -74,7 +74,7 @@ fn frame_of(
 }
 
 /// The design of this frame and these cells.
-fn loaded_from(frame: Frame, cells: Sequence<Cell>) -> Loaded
+fn loaded_from(frame: Frame, cells: LoadedCells) -> Loaded
     requires { MakeDesign frame cells }
     ensures frame { result.frame ≡ frame }
     ensures cells { result.cells ≡ cells }

@@ -16,7 +16,7 @@ use crate::row_search::RowSearch;
 use crate::seeker::Seeker;
 use lf_cells::{CellId, CellTable};
 use lf_floorplan::{Frame, Macro, Place, mac_at, size_in_units};
-use lf_occupancy::Occupancy;
+use lf_occupancy::Filled;
 use lf_orient::Orient;
 use lf_rules::{Padding, height_in_sites, solid_box};
 use lf_units::Point;
@@ -58,7 +58,7 @@ fn best_for(
     alloc: Global,
     frame: &Frame,
     cells: &CellTable,
-    occupancy: &Occupancy,
+    occupancy: &Filled<'_>,
     id: CellId,
     mac: usize,
     target: &Point,
@@ -96,7 +96,7 @@ impl Seeker for IndexSeeker {
         alloc: Global,
         frame: &Frame,
         cells: &CellTable,
-        occupancy: &Occupancy,
+        occupancy: &Filled<'_>,
         cell: CellId,
         target: &Point,
         padding: Padding,

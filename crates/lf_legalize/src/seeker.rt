@@ -12,7 +12,7 @@ use crate::others::boxes_beside;
 use crate::plain::best_place;
 use lf_cells::{CellId, CellTable};
 use lf_floorplan::{Frame, Place};
-use lf_occupancy::Occupancy;
+use lf_occupancy::Filled;
 use lf_rules::Padding;
 use lf_units::Point;
 use std::alloc::{AllocError, Global};
@@ -35,7 +35,7 @@ pub trait Seeker {
         alloc: Global,
         frame: &Frame,
         cells: &CellTable,
-        occupancy: &Occupancy,
+        occupancy: &Filled<'_>,
         cell: CellId,
         target: &Point,
         padding: Padding,
@@ -57,7 +57,7 @@ impl Seeker for PlainSeeker {
         alloc: Global,
         frame: &Frame,
         cells: &CellTable,
-        _occupancy: &Occupancy,
+        _occupancy: &Filled<'_>,
         cell: CellId,
         target: &Point,
         padding: Padding,

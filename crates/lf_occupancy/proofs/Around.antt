@@ -67,7 +67,8 @@ near_zero by rows height g short placed =
     let b = short.least in
     let l = placed.x_low in
     let h = placed.x_high in
-    record { low = omega (arith, ints, a, b, l); high = omega (arith, ints, a, b, h) }
+    let w = placed.wide in
+    record { low = omega (arith, ints, a, b, l); high = omega (arith, ints, a, b, h); begins = omega (arith, ints, b, w, h) }
 
 -- strips that are placed are felt near 0
 pub strips_felt : (site : ℤ) (s : Lookups) → IsSite site → AreStrips s.rows s.height s.strips → All (IsFelt s.rows s.height) (felt_strips site s.strips)

@@ -1,64 +1,131 @@
 -- How an occupancy is made: the boxes of all cells.
-use Rattle.std.proofs.Common.{◌≡◌, ◌⊎◌, inl, inr, ℕ, zero, suc, ◌+◌, ◌<◌, ◌≤◌, List, [], ◌∷◌, Option, Some, None}
-use Rattle.std.proofs.Common.{length, get_or, set, take, map, replicate, slice_get, refl, sym, ap, subst, ◌∙◌, arith}
-use Rattle.std.specs.Prelude.{All, Contains, IsPermutation, IsSome, ◌↔◌}
-use Rattle.std.proofs.lemmas.List.Sorted.{Contains-permutation, IsPermutation-sym}
-use Rattle.std.proofs.lemmas.Bool.Decides.{eqb_tells}
+use Rattle.std.proofs.Common.{◌≡◌, ◌≢◌, ◌⊎◌, inl, inr, ℕ, zero, suc, ◌+◌, ◌<◌, ◌≤◌, List, [], ◌∷◌, ◌++◌, Option, Some, None}
+use Rattle.std.proofs.Common.{length, get_or, set, take, map, eqb, slice_get, refl, sym, ap, subst, ◌∙◌, arith}
+use Rattle.std.specs.Prelude.{AllPairs, Contains, option_and_then, IsPermutation, IsSome, ◌↔◌, option_map}
+use Rattle.std.proofs.lemmas.List.Sorted.{Contains-permutation, IsPermutation-map, IsPermutation-sym}
+use Rattle.std.proofs.lemmas.Map.Keys.{IsDistinct-IsPermutation}
+use Rattle.std.proofs.lemmas.Map.Made.{AllPairs-from_IsDistinct, IsDistinct-from_AllPairs}
+use Rattle.std.proofs.lemmas.Bool.Decides.{Decides-eqb, eqb_tells}
 use Rattle.std.proofs.lemmas.Int.{ints}
-use Rattle.std.proofs.lemmas.List.{get_or-map, get_or-set_same, get_or-set_other, length-map, length-set, length-replicate}
+use Rattle.std.proofs.lemmas.List.{get_or-map, get_or-set_same, get_or-set_other, get_or-take, length-map, length-set, length-take, map-append}
 use Rattle.std.proofs.lemmas.List.{same_lists, get_or_past, take_more}
-use Rattle.std.proofs.lemmas.List.Elements.{All-contains, Contains-push_cases}
+use Rattle.std.proofs.lemmas.List.Elements.{Contains-push_cases}
 use Rattle.std.proofs.lemmas.Option.{slice_get-get_or, slice_get_within}
 use Rattle.lf_units.specs.declared.area.Rect.{Rect}
 use Rattle.lf_floorplan.specs.declared.frame.Frame.{Frame}
 use Rattle.lf_cells.specs.declared.cell.Cell.{Cell}
 use Rattle.lf_cells.specs.declared.cell.CellId.{CellId}
-use Rattle.lf_cells.specs.Cells.{AreAll, Cells, cell_at, cells_of}
+use Rattle.lf_cells.specs.Cells.{AreAll, Cells, cell_at, cells_of, id_of, position_of}
+use Rattle.lf_occupancy.specs.declared.build.Waiting.{Waiting}
 use Rattle.lf_occupancy.specs.declared.lane.Lane.{Lane}
 use Rattle.lf_segments.specs.declared.strip.Strip.{Strip}
-use Rattle.lf_occupancy.specs.Building.{AreBare, AreFilled, AreNowhere, IsBare}
-use Rattle.lf_occupancy.specs.Floorplans.{box_of}
+use Rattle.lf_occupancy.specs.Building.{AreBare, AreFilled, AreFilledIn, IsBare, id_at}
+use Rattle.lf_occupancy.specs.Floorplans.{box_of, boxes_in}
 use Rattle.lf_occupancy.specs.Occupied.{cell_box}
-use Rattle.lf_occupancy.specs.Lanes.{IsLane}
-use Rattle.lf_occupancy.specs.Strips.{AreLanes}
+use Rattle.lf_occupancy.specs.Lanes.{IsMarked, entries_in}
+use Rattle.lf_occupancy.specs.Strips.{AreLanes, HasCell, IsNowhere}
 use Rattle.lf_occupancy.proofs.Laning.{box_other, box_same}
 
+-- what is made of each team's cells
+pub row_made : (g : Cell → Option Rect) (rows : List (List Cell)) (team : ℕ) → get_or (map (λ own. map g own) rows) team [] ≡ map g (get_or rows team [])
+row_made g [] team = refl
+row_made g (r ∷ rows) zero = refl
+row_made g (r ∷ rows) (suc team) = row_made g rows team
+
+-- the boxes of a team's cells
+pub boxes_there : (f : Frame) (cells : Cells) (team : ℕ) → get_or (boxes_in f cells) team [] ≡ map (box_of f) (cells_of cells team)
+boxes_there f cells team = row_made (box_of f) cells.cells team
+
+one_cell : (c d : Cell) → Some c ≡ Some d → c ≡ d
+one_cell c d e = cc
+
+-- the box of a cell
+box_there : (f : Frame) (cs : List Cell) (k : ℕ) (c : Cell) → slice_get cs k ≡ Some c → cell_box (map (box_of f) cs) k ≡ box_of f c
+box_there f [] k c is = absurd cc
+box_there f (x ∷ cs) zero c is = ap (box_of f) (one_cell x c is)
+box_there f (x ∷ cs) (suc k) c is = box_there f cs k c is
+
+box_at_number : (f : Frame) (cs : List Cell) (k : ℕ) → cell_box (map (box_of f) cs) k ≡ option_and_then (box_of f) (slice_get cs k)
+box_at_number f [] k = refl
+box_at_number f (c ∷ cs) zero = refl
+box_at_number f (c ∷ cs) (suc k) = box_at_number f cs k
+
+pub box_here : (f : Frame) (cells : Cells) (id : CellId) →
+    cell_box (get_or (boxes_in f cells) id.team []) id.own ≡ option_and_then (box_of f) (cell_at cells id)
+box_here f cells id =
+    ap (λ (bs : List (Option Rect)). cell_box bs id.own) (boxes_there f cells id.team) ∙ box_at_number f (cells_of cells id.team) id.own
+
+one_id : (a b : CellId) → Some a ≡ Some b → a ≡ b
+one_id a b e = cc
+
+pub id_there : (team own : ℕ) (o : Option Cell) (id : CellId) → Some id ≡ option_map (λ c. id_of team own) o → id ≡ id_of team own
+id_there team own None id e = absurd cc
+id_there team own (Some c) id e = one_id id (id_of team own) e
+
+pub none_in : (f : Frame) (team own : ℕ) (o : Option Cell) → ◌≡◌ {A = Option CellId} None (option_map (λ c. id_of team own) o) → option_and_then (box_of f) o ≡ None
+none_in f team own None e = refl
+none_in f team own (Some c) e = absurd cc
+
+pub box_said : (f : Frame) (cells : Cells) (id : CellId) (box : Option Rect) → box ≡ cell_box (get_or (boxes_in f cells) id.team []) id.own →
+    (c : Cell) → cell_at cells id ≡ Some c → box ≡ box_of f c
+box_said f cells id box is c there =
+    is ∙ ap (λ (bs : List (Option Rect)). cell_box bs id.own) (boxes_there f cells id.team) ∙ box_there f (cells_of cells id.team) id.own c there
+
+-- no box for any cell
+abbrev none_of : Cell → Option Rect
+none_of c = None
+
+abbrev no_boxes : Cells → List (List (Option Rect))
+no_boxes cells = map (λ own. map none_of own) cells.cells
+
+none_there : (cs : List Cell) (k : ℕ) → cell_box (map none_of cs) k ≡ None
+none_there [] k = refl
+none_there (c ∷ cs) zero = refl
+none_there (c ∷ cs) (suc k) = none_there cs k
+
+no_box : (cells : Cells) (team own : ℕ) → cell_box (get_or (no_boxes cells) team []) own ≡ None
+no_box cells team own = ap (λ (bs : List (Option Rect)). cell_box bs own) (row_made none_of cells.cells team) ∙ none_there (cells_of cells team) own
+
+none_is_some : (r : Rect) → ◌≡◌ {A = Option Rect} None (Some r) → ⊥
+none_is_some r e = cc
+
 -- if no cell has a box, the lanes are bare
-nowhere : (count own : ℕ) (box : Rect) → cell_box (replicate count None) own ≡ Some box → ⊥
-nowhere zero own box is = cc
-nowhere (suc count) zero box is = cc
-nowhere (suc count) (suc own) box is = nowhere count own box is
+bare_lane : (cells : List (Option Rect)) (area : Rect) (l : Lane) → ((own : ℕ) → cell_box cells own ≡ None) → IsBare l → IsMarked cells area l
+bare_lane cells area l none b =
+    let many : length (entries_in cells area l.marks.items) ≡ 0 = ap (λ ms. length (entries_in cells area ms)) b.marks in
+    let long : length l.marks.items ≡ 0 = ap (λ ms. length ms) b.marks in
+    record {
+      lane = record {
+        orderly = record {
+          order = λ i j d less within. absurd (omega (arith, many, within));
+          wide = λ k d within. absurd (omega (arith, many, within));
+          some = let w = b.widest in omega (arith, ints, w);
+          most = let w = b.widest in omega (arith, ints, w);
+        };
+        whole = λ k d within. absurd (omega (arith, many, within));
+        inside = λ k d within. absurd (omega (arith, many, within));
+        held = λ own x y lies. absurd (none_is_some lies.box (sym (none own) ∙ lies.is));
+        told = λ k d within. absurd (omega (arith, many, within));
+        once = λ i j d less within. absurd (omega (arith, many, within));
+      };
+      told = λ k d within. absurd (omega (arith, long, within));
+    }
 
-pub lanes_bare : (xs : List Strip) (cells : Cells) (boxes : List (List (Option Rect))) (lanes : List Lane) → AreNowhere cells boxes →
-    AreBare (length xs) lanes → AreLanes xs boxes lanes
-lanes_bare xs cells boxes lanes none bare = record {
-  many = bare.many;
-  each = λ n d e within.
-      bare_lane (get_or xs n d).team (get_or xs n d).area (get_or lanes n e)
-      (bare.each n e (let m = bare.many in omega (arith, m, within)));
+pub lanes_bare : (f : Frame) (cells : Cells) (xs : List Strip) (lanes : List Lane) → AreBare (length xs) lanes → AreFilledIn f cells xs [] lanes
+lanes_bare f cells xs lanes bare = record {
+  boxes = no_boxes cells;
+  filled = record {
+    many = λ team. ap (λ (bs : List (Option Rect)). length bs) (row_made none_of cells.cells team) ∙ length-map (cells_of cells team) none_of;
+    done = λ id c there at. let within = there.1 in absurd (omega (arith, within));
+    rest = λ id never. no_box cells id.team id.own;
+  };
+  marked = record {
+    many = bare.many;
+    each = λ n d e within.
+        bare_lane (get_or (no_boxes cells) (get_or xs n d).team []) (get_or xs n d).area (get_or lanes n e) (no_box cells (get_or xs n d).team)
+        (bare.each n e (let m = bare.many in omega (arith, m, within)));
+  };
 }
-  where
-    bare_lane : (team : ℕ) (area : Rect) (l : Lane) → IsBare l → IsLane (get_or boxes team []) area l
-    bare_lane team area l b =
-        let long : length l.entries.items ≡ 0 = ap (λ xs. length xs) b.entries in
-        record {
-          orderly = record {
-            order = λ i j d less within. absurd (omega (arith, long, within));
-            wide = λ k d within. absurd (omega (arith, long, within));
-            some = let w = b.widest in omega (arith, ints, w);
-            most = let w = b.widest in omega (arith, ints, w);
-          };
-          whole = λ k d within. absurd (omega (arith, long, within));
-          inside = λ k d within. absurd (omega (arith, long, within));
-          held = λ own x y lies.
-              absurd (nowhere (length (cells_of cells team)) own lies.box (sym (ap (λ cs. cell_box cs own) (none team)) ∙ lies.is));
-          told = λ k d within. absurd (omega (arith, long, within));
-          once = λ i j d less within. absurd (omega (arith, long, within));
-        }
-
-pub nowhere_many : (cells : Cells) (boxes : List (List (Option Rect))) → AreNowhere cells boxes → (team : ℕ) →
-    length (get_or boxes team []) ≡ length (cells_of cells team)
-nowhere_many cells boxes none team = ap (λ xs. length xs) (none team) ∙ length-replicate (length (cells_of cells team)) None
 
 -- the ids are those of all cells of the table
 abbrev pub AreIds : Cells → List CellId → Type 0
@@ -71,96 +138,196 @@ ids_moved cells all order are moved id = (
   λ some. Contains-permutation all order id moved ((are.cells id).1 some),
 )
 
+-- the cells of the first so many ids, by their positions
+pub waiting_further : (ids : List CellId) (n : ℕ) (list new : List Waiting) (w : Waiting) → n < length ids → w.at ≡ n → new ≡ list ++ w ∷ [] →
+    map (id_at ids) list ≡ take n ids → map (id_at ids) new ≡ take (n + 1) ids
+waiting_further ids n list new w inside same is was =
+    ap (λ (ws : List Waiting). map (id_at ids) ws) is ∙ map-append (id_at ids) list (w ∷ [])
+    ∙ ap (λ (zs : List CellId). zs ++ id_at ids w ∷ []) was
+    ∙ ap (λ (k : ℕ). take n ids ++ get_or ids k none ∷ []) same
+    ∙ sym (take_more ids n none inside)
+  where
+    none : CellId
+    none = record { team = 0; own = 0 }
+
+-- ids of cells differ
+flips : (x y : ℕ) → eqb x y ≡ eqb y x
+flips x y = elim (eqb_tells x y) [
+  | inl same ↦ elim (eqb_tells y x) [ inl back ↦ same.0 ∙ sym back.0 | inr away ↦ absurd (away.1 (sym same.1)) ]
+  | inr away ↦ elim (eqb_tells y x) [ inl back ↦ absurd (away.1 (sym back.1)) | inr other ↦ away.0 ∙ sym other.0 ]
+]
+
+pub ids_apart : (cells : Cells) (all order : List CellId) → AreAll cells all → IsPermutation all order → AllPairs (λ a b. a ≢ b) order
+ids_apart cells all order are moved i j d less within same =
+    let there = AllPairs-from_IsDistinct Decides-eqb (map pos order)
+    (IsDistinct-IsPermutation eqb flips (map pos all) (map pos order) (IsPermutation-map pos all order moved)
+    (IsDistinct-from_AllPairs Decides-eqb (map pos all) apart)) in
+    let long = length-map order pos in
+    let a = get_or-map pos order i d 0 (omega (arith, less, within)) in
+    let b = get_or-map pos order j d 0 within in
+    there i j 0 less (omega (arith, long, within)) (a ∙ ap pos same ∙ sym b)
+  where
+    pos : CellId → ℕ
+    pos id = position_of cells id
+
+    none : CellId
+    none = record { team = 0; own = 0 }
+
+    apart : AllPairs (λ a b. a ≢ b) (map pos all)
+    apart i j d less within same =
+        let long = length-map all pos in
+        let a = get_or-map pos all i none d (omega (arith, long, less, within)) in
+        let b = get_or-map pos all j none d (omega (arith, long, within)) in
+        let up = are.rise i j none less (omega (arith, long, within)) in
+        omega (arith, a, b, up, same)
+
+-- the next cell is none of those before
+fresh_id : (ids : List CellId) (i : ℕ) (id : CellId) → AllPairs (λ a b. a ≢ b) ids → i < length ids → id ≡ get_or ids i id → Contains (take i ids) id → ⊥
+fresh_id ids i id apart within is (k, below, at) =
+    let long = length-take i ids in
+    let less : k < i = omega (arith, below, long, within) in
+    apart k i id less within (sym (get_or-take i ids k id less) ∙ at ∙ is)
+
+-- a cell of the list has a box, and another one may be put there
+pub has_cell : (f : Frame) (cells : Cells) (ids : List CellId) (id : CellId) (boxes : List (List (Option Rect))) (c : Cell) → AreFilled f cells ids boxes →
+    cell_at cells id ≡ Some c → HasCell boxes id
+has_cell f cells ids id boxes c filled there = record { team = has_team reach; own = has_own }
+  where
+    has_own : id.own < length (get_or boxes id.team [])
+    has_own = let m = filled.many id.team in let w = slice_get_within (cells_of cells id.team) id.own c there in omega (arith, m, w)
+
+    reach : (id.team < length boxes) ⊎ (length boxes ≤ id.team)
+    reach = grind arith
+
+    has_team : (id.team < length boxes) ⊎ (length boxes ≤ id.team) → id.team < length boxes
+    has_team (inl inside) = inside
+    has_team (inr past) =
+        let long : length (get_or boxes id.team []) ≡ 0 = ap (λ xs. length xs) (get_or_past boxes id.team [] past) in
+        let w = has_own in
+        absurd (omega (arith, long, w))
+
+-- the ids that are passed once one more is
+passed : (ids : List CellId) (i : ℕ) (id other : CellId) → i < length ids → id ≡ get_or ids i id → Contains (take (i + 1) ids) other →
+    Contains (take i ids) other ⊎ (id ≡ other)
+passed ids i id other within is there =
+    elim (Contains-push_cases (take i ids) (get_or ids i id) other (subst (λ xs. Contains xs other) (take_more ids i id within) there)) [
+      | inl before ↦ inl before
+      | inr last ↦ inr (is ∙ last)
+    ]
+
+passed_before : (ids : List CellId) (i : ℕ) (other : CellId) → i < length ids → Contains (take i ids) other → Contains (take (i + 1) ids) other
+passed_before ids i other within (k, below, at) =
+    let long = length-take i ids in
+    let longer = length-take (i + 1) ids in
+    let less : k < i = omega (arith, below, long, within) in
+    (k, omega (arith, less, longer, within), get_or-take (i + 1) ids k other (omega (arith, less)) ∙ sym (get_or-take i ids k other less) ∙ at)
+
+passed_now : (ids : List CellId) (i : ℕ) (id : CellId) → i < length ids → id ≡ get_or ids i id → Contains (take (i + 1) ids) id
+passed_now ids i id within is =
+    let longer = length-take (i + 1) ids in
+    (i, omega (arith, longer, within), get_or-take (i + 1) ids i id (omega arith) ∙ sym is)
+
 -- one more cell has its box
 pub filled_further : (f : Frame) (cells : Cells) (ids : List CellId) (i : ℕ) (id : CellId) (box : Option Rect) (boxes : List (List (Option Rect))) →
-    i < length ids →
-    id ≡ get_or ids i id → AreIds cells ids → ((c : Cell) → cell_at cells id ≡ Some c → box ≡ box_of f c) → AreFilled f cells (take i ids) boxes →
+    i < length ids → id ≡ get_or ids i id → HasCell boxes id → ((c : Cell) → cell_at cells id ≡ Some c → box ≡ box_of f c) →
+    AreFilled f cells (take i ids) boxes →
     AreFilled f cells (take (i + 1) ids) (set boxes id.team (set (get_or boxes id.team []) id.own box))
-filled_further f cells ids i id box boxes within is all said before = record {
+filled_further f cells ids i id box boxes within is has said before = record {
   many = λ team. elim (eqb_tells team id.team) [
-    | inl same ↦ elim (reach team) [
-      | inl inside ↦
-          let At : ℕ → Type 0 = λ t. length (get_or (set boxes id.team changed) t []) ≡ length (cells_of cells t) in
-          subst At (sym same.1)
-          (ap (λ xs. length xs) (get_or-set_same boxes id.team changed [] (let e = same.1 in omega (arith, e, inside)))
-          ∙ length-set (get_or boxes id.team []) id.own box ∙ before.many id.team)
-      | inr past ↦
-          let long = length-set boxes id.team changed in
-          ap (λ xs. length xs) (get_or_past (set boxes id.team changed) team [] (omega (arith, long, past)) ∙ sym
-          (get_or_past boxes team [] past)) ∙ before.many team
-    ]
+    | inl same ↦
+        let At : ℕ → Type 0 = λ t. length (get_or (set boxes id.team changed) t []) ≡ length (cells_of cells t) in
+        subst At (sym same.1)
+        (ap (λ xs. length xs) (get_or-set_same boxes id.team changed [] has.team) ∙ length-set (get_or boxes id.team []) id.own box ∙ before.many id.team)
     | inr apart ↦ ap (λ xs. length xs) (get_or-set_other boxes id.team team changed [] apart.1) ∙ before.many team
   ];
-  done = done;
+  done = λ other c there at. elim (eqb_tells other.team id.team) [
+    | inr away ↦ still other (λ t o. away.1 t) ∙ before.done other c (among other there (λ t o. away.1 t)) at
+    | inl same ↦ elim (eqb_tells other.own id.own) [
+      | inr away ↦ still other (λ t o. away.1 o) ∙ before.done other c (among other there (λ t o. away.1 o)) at
+      | inl also ↦
+          let At : ℕ → ℕ → Type 0 = λ t o. cell_box (get_or (set boxes id.team changed) t []) o ≡ box_of f c in
+          let Cell_at : ℕ → ℕ → Type 0 = λ t o. slice_get (cells_of cells t) o ≡ Some c in
+          let there_is : cell_at cells id ≡ Some c = subst (λ t. Cell_at t id.own) same.1 (subst (λ o. Cell_at other.team o) also.1 at) in
+          subst (λ t. At t other.own) (sym same.1) (subst (λ o. At id.team o) (sym also.1) (here ∙ said c there_is))
+    ]
+  ];
+  rest = λ other never. elim (eqb_tells other.team id.team) [
+    | inr away ↦ still other (λ t o. away.1 t) ∙ before.rest other (λ old. never (passed_before ids i other within old))
+    | inl same ↦ elim (eqb_tells other.own id.own) [
+      | inr away ↦ still other (λ t o. away.1 o) ∙ before.rest other (λ old. never (passed_before ids i other within old))
+      | inl also ↦ absurd (never (subst (λ (x : CellId). Contains (take (i + 1) ids) x) (id_is other same.1 also.1) (passed_now ids i id within is)))
+    ]
+  ];
 }
   where
     changed : List (Option Rect)
     changed = set (get_or boxes id.team []) id.own box
 
-    reach : (team : ℕ) → (team < length boxes) ⊎ (length boxes ≤ team)
-    reach team = grind arith
+    id_is : (other : CellId) → other.team ≡ id.team → other.own ≡ id.own → id ≡ other
+    id_is other team own =
+        sym (ap (λ (t : ℕ). id_of t other.own) team ∙ ap (λ (o : ℕ). id_of id.team o) own)
 
-    has_own : (c : Cell) → cell_at cells id ≡ Some c → id.own < length (get_or boxes id.team [])
-    has_own c there = let m = before.many id.team in let w = slice_get_within (cells_of cells id.team) id.own c there in omega (arith, m, w)
+    here : cell_box (get_or (set boxes id.team changed) id.team []) id.own ≡ box
+    here = ap (λ cs. cell_box cs id.own) (get_or-set_same boxes id.team changed [] has.team) ∙ box_same (get_or boxes id.team []) id.own box has.own
 
-    has_team : (c : Cell) → cell_at cells id ≡ Some c → id.team < length boxes
-    has_team c there = elim (reach id.team) [
-      | inl inside ↦ inside
-      | inr past ↦
-          let long : length (get_or boxes id.team []) ≡ 0 = ap (λ xs. length xs) (get_or_past boxes id.team [] past) in
-          let w = has_own c there in
-          absurd (omega (arith, long, w))
+    still : (other : CellId) → ((other.team ≡ id.team) → (other.own ≡ id.own) → ⊥) →
+        cell_box (get_or (set boxes id.team changed) other.team []) other.own ≡ cell_box (get_or boxes other.team []) other.own
+    still other apart = elim (eqb_tells other.team id.team) [
+      | inr away ↦ ap (λ cs. cell_box cs other.own) (get_or-set_other boxes id.team other.team changed [] away.1)
+      | inl same ↦
+          let At : ℕ → Type 0 = λ t. cell_box (get_or (set boxes id.team changed) t []) other.own ≡ cell_box (get_or boxes t []) other.own in
+          subst At (sym same.1)
+          (ap (λ cs. cell_box cs other.own) (get_or-set_same boxes id.team changed [] has.team)
+          ∙ box_other (get_or boxes id.team []) id.own other.own box (λ own. apart same.1 own))
     ]
 
-    here : (c : Cell) → cell_at cells id ≡ Some c → cell_box (get_or (set boxes id.team changed) id.team []) id.own ≡ box_of f c
-    here c there =
-        ap (λ cs. cell_box cs id.own) (get_or-set_same boxes id.team changed [] (has_team c there))
-        ∙ box_same (get_or boxes id.team []) id.own box (has_own c there) ∙ said c there
-
-    old_one : (other : CellId) (c : Cell) → ((other.team ≡ id.team) → (other.own ≡ id.own) → ⊥) → Contains (take i ids) other → cell_at cells other ≡ Some c →
-        cell_box (get_or (set boxes id.team changed) other.team []) other.own ≡ box_of f c
-    old_one other c apart among there = elim (eqb_tells other.team id.team) [
-      | inr away ↦ ap (λ cs. cell_box cs other.own) (get_or-set_other boxes id.team other.team changed [] away.1) ∙ before.done other c among there
-      | inl same ↦ elim (reach id.team) [
-        | inl inside ↦
-            let At : ℕ → Type 0 = λ t. get_or (set boxes id.team changed) t [] ≡ changed in
-            let first : get_or (set boxes id.team changed) other.team [] ≡ changed = subst At (sym same.1) (get_or-set_same boxes id.team changed [] inside) in
-            let Own : ℕ → Type 0 = λ t. cell_box (get_or boxes t []) other.own ≡ box_of f c in
-            ap (λ cs. cell_box cs other.own) first
-            ∙ box_other (get_or boxes id.team []) id.own other.own box (λ own. apart same.1 own)
-            ∙ subst Own same.1 (before.done other c among there)
-        | inr past ↦
-            let long = length-set boxes id.team changed in
-            let e = same.1 in
-            ap (λ cs. cell_box cs other.own)
-            (get_or_past (set boxes id.team changed) other.team [] (omega (arith, long, past, e)) ∙ sym (get_or_past boxes other.team [] (omega
-            (arith, past, e))))
-            ∙ before.done other c among there
-      ]
+    among : (other : CellId) → Contains (take (i + 1) ids) other → ((other.team ≡ id.team) → (other.own ≡ id.own) → ⊥) → Contains (take i ids) other
+    among other there apart = elim (passed ids i id other within is there) [
+      | inl old ↦ old
+      | inr same ↦ absurd (apart (sym (ap (λ (x : CellId). x.team) same)) (sym (ap (λ (x : CellId). x.own) same)))
     ]
 
-    among_old : (other : CellId) → Contains (take (i + 1) ids) other → ((other.team ≡ id.team) → (other.own ≡ id.own) → ⊥) → Contains (take i ids) other
-    among_old other there apart =
-        elim (Contains-push_cases (take i ids) (get_or ids i id) other (subst (λ xs. Contains xs other) (take_more ids i id within) there)) [
-          | inl before ↦ before
-          | inr last ↦
-              let same = is ∙ last in
-              absurd (apart (sym (ap (λ (x : CellId). x.team) same)) (sym (ap (λ (x : CellId). x.own) same)))
-        ]
+row_same : (rows : List (List (Option Rect))) (k own : ℕ) → cell_box (get_or rows k []) own ≡ None → set rows k (set (get_or rows k []) own None) ≡ rows
+row_same [] zero own none = refl
+row_same [] (suc k) own none = refl
+row_same (r ∷ rows) zero own none = ap (λ (z : List (Option Rect)). z ∷ rows) (set_none r own none)
+  where
+    set_none : (bs : List (Option Rect)) (n : ℕ) → cell_box bs n ≡ None → set bs n None ≡ bs
+    set_none [] n is = refl
+    set_none (b ∷ bs) zero is = ap (λ (x : Option Rect). x ∷ bs) (sym is)
+    set_none (b ∷ bs) (suc n) is = ap (λ (xs : List (Option Rect)). b ∷ xs) (set_none bs n is)
+row_same (r ∷ rows) (suc k) own none = ap (λ (rs : List (List (Option Rect))). r ∷ rs) (row_same rows k own none)
 
-    done : (other : CellId) (c : Cell) → Contains (take (i + 1) ids) other → cell_at cells other ≡ Some c →
-        cell_box (get_or (set boxes id.team changed) other.team []) other.own ≡ box_of f c
-    done other c there at = elim (eqb_tells other.team id.team) [
-      | inr away ↦ old_one other c (λ t o. away.1 t) (among_old other there (λ t o. away.1 t)) at
-      | inl same ↦ elim (eqb_tells other.own id.own) [
-        | inr away ↦ old_one other c (λ t o. away.1 o) (among_old other there (λ t o. away.1 o)) at
-        | inl also ↦
-            let At : ℕ → ℕ → Type 0 = λ t o. cell_box (get_or (set boxes id.team changed) t []) o ≡ box_of f c in
-            let Cell_at : ℕ → ℕ → Type 0 = λ t o. slice_get (cells_of cells t) o ≡ Some c in
-            let there_is : cell_at cells id ≡ Some c = subst (λ t. Cell_at t id.own) same.1 (subst (λ o. Cell_at other.team o) also.1 at) in
-            subst (λ t. At t other.own) (sym same.1) (subst (λ o. At id.team o) (sym also.1) (here c there_is))
-      ]
-    ]
+-- a cell without a box stays so
+pub none_set : (xs : List Strip) (boxes : List (List (Option Rect))) (id : CellId) (lanes : List Lane) → IsNowhere boxes id → AreLanes xs boxes lanes →
+    AreLanes xs (set boxes id.team (set (get_or boxes id.team []) id.own None)) lanes
+none_set xs boxes id lanes nowhere are = subst (λ (bs : List (List (Option Rect))). AreLanes xs bs lanes) (sym (row_same boxes id.team id.own nowhere.at)) are
+
+some_of : (o : Option Cell) → IsSome o → (c : Cell) × (o ≡ Some c)
+some_of None some = absurd cc
+some_of (Some c) some = (c, refl)
+
+-- so far the next cell stands nowhere
+pub next_nowhere : (f : Frame) (cells : Cells) (ids : List CellId) (i : ℕ) (id : CellId) (boxes : List (List (Option Rect))) →
+    AreIds cells ids → AllPairs (λ a b. a ≢ b) ids → i < length ids → id ≡ get_or ids i id → AreFilled f cells (take i ids) boxes → IsNowhere boxes id
+next_nowhere f cells ids i id boxes all apart within is filled =
+    let c = some_of (cell_at cells id) ((all id).0 (i, within, sym is)) in
+    record { known = has_cell f cells (take i ids) id boxes c.0 filled c.1; at = filled.rest id (fresh_id ids i id apart within is) }
+
+-- the next of the cells is marked
+pub one_filled : (f : Frame) (cells : Cells) (xs : List Strip) (ids : List CellId) (i : ℕ) (id : CellId) (old new : List Lane) →
+    AreIds cells ids → AllPairs (λ a b. a ≢ b) ids → i < length ids → id ≡ get_or ids i id → (was : AreFilledIn f cells xs (take i ids) old) →
+    (IsNowhere was.boxes id → AreLanes xs was.boxes old →
+    AreLanes xs (set was.boxes id.team (set (get_or was.boxes id.team []) id.own (cell_box (get_or (boxes_in f cells) id.team []) id.own))) new) →
+    AreFilledIn f cells xs (take (i + 1) ids) new
+one_filled f cells xs ids i id old new all apart within is was marks =
+    let nowhere = next_nowhere f cells ids i id was.boxes all apart within is was.filled in
+    let box : Option Rect = cell_box (get_or (boxes_in f cells) id.team []) id.own in
+    record {
+      boxes = set was.boxes id.team (set (get_or was.boxes id.team []) id.own box);
+      filled = filled_further f cells ids i id box was.boxes within is nowhere.known (box_said f cells id box refl) was.filled;
+      marked = marks nowhere was.marked;
+    }
 
 -- the box of a cell of the list is the element there
 cell_box_at : (cells : List (Option Rect)) (k : ℕ) (d : Option Rect) → k < length cells → cell_box cells k ≡ get_or cells k d
@@ -194,31 +361,16 @@ all_filled f cells ids boxes all filled team = same_lists (get_or boxes team [])
         some_is : (o : Option Cell) (c : Cell) → o ≡ Some c → IsSome o
         some_is o c e = subst IsSome (sym e) refl
 
--- the teams beyond a limit have no cells
-pub nowhere_all : (cells : Cells) (ids : List CellId) (boxes : List (List (Option Rect))) (limit : ℕ) → AreAll cells ids → All (λ id. id.team < limit) ids →
-    length boxes ≡ limit → ((t : ℕ) → t < limit → get_or boxes t [] ≡ replicate (length (cells_of cells t)) None) → AreNowhere cells boxes
-nowhere_all cells ids boxes limit all below many each team = elim order [
-  | inl h ↦ each team h
-  | inr h ↦ get_or_past boxes team [] (omega (arith, many, h)) ∙ ap (λ n. replicate n None) (sym (none h))
-]
-  where
-    order : (team < limit) ⊎ (limit ≤ team)
-    order = grind arith
+-- lanes of the same boxes
+pub lanes_of_same : (xs : List Strip) (boxes other : List (List (Option Rect))) (lanes : List Lane) →
+    ((team : ℕ) → get_or boxes team [] ≡ get_or other team []) → AreLanes xs boxes lanes → AreLanes xs other lanes
+lanes_of_same xs boxes other lanes same are = record {
+  many = are.many;
+  each = λ n d e within.
+      subst (λ (cs : List (Option Rect)). IsMarked cs (get_or xs n d).area (get_or lanes n e)) (same (get_or xs n d).team) (are.each n d e within);
+}
 
-    some_is : (o : Option Cell) (c : Cell) → o ≡ Some c → IsSome o
-    some_is o c e = subst IsSome (sym e) refl
-
-    two : (length (cells_of cells team) ≡ 0) ⊎ (0 < length (cells_of cells team))
-    two = grind arith
-
-    none : limit ≤ team → length (cells_of cells team) ≡ 0
-    none past = elim two [
-      | inl e ↦ e
-      | inr h ↦
-          let id : CellId = record { team = team; own = 0 } in
-          let c : Cell = some_cell (cells_of cells team) 0 h in
-          let at : cell_at cells id ≡ Some (get_or (cells_of cells team) 0 c) = slice_get-get_or (cells_of cells team) 0 c h in
-          let there : Contains ids id = (all.cells id).1 (some_is (cell_at cells id) (get_or (cells_of cells team) 0 c) at) in
-          let less = All-contains (λ x. x.team < limit) ids id below there in
-          absurd (omega (arith, less, past))
-    ]
+pub lanes_filled : (f : Frame) (cells : Cells) (xs : List Strip) (ids : List CellId) (lanes : List Lane) → AreIds cells ids → AreFilledIn f cells xs ids lanes →
+    AreLanes xs (boxes_in f cells) lanes
+lanes_filled f cells xs ids lanes all are =
+    lanes_of_same xs are.boxes (boxes_in f cells) lanes (λ team. all_filled f cells ids are.boxes all are.filled team ∙ sym (boxes_there f cells team)) are.marked

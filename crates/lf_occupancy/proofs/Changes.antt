@@ -1,5 +1,5 @@
 -- Lanes that are changed one after another.
-use Rattle.std.proofs.Common.{◌≡◌, ◌≢◌, ◌⊎◌, inl, inr, ℕ, ◌+◌, ◌<◌, ◌≤◌, List, length, get_or, set, take, refl, sym, ap, subst, ◌∙◌, arith}
+use Rattle.std.proofs.Common.{◌≡◌, ◌≢◌, ◌⊎◌, inl, inr, ℕ, ◌+◌, ◌<◌, ◌≤◌, List, [], ◌∷◌, length, get_or, set, take, refl, sym, ap, subst, ◌∙◌, arith}
 use Rattle.std.specs.Prelude.{AllPairs}
 use Rattle.std.proofs.lemmas.Bool.Decides.{eqb_tells}
 use Rattle.std.proofs.lemmas.List.{get_or_default, get_or-set_same, get_or-set_other, length-set, length-take, get_or-take}
@@ -12,6 +12,11 @@ use Rattle.lf_segments.specs.Strips.{AreNear, IsNear}
 use Rattle.lf_occupancy.specs.Strips.{AreChanged, AreKept, IsReached, IsReachedIn}
 use Rattle.lf_occupancy.proofs.Lists.{any_more, any_less}
 use Rattle.lf_occupancy.proofs.Finds.{no_strip}
+
+-- a lane of the list
+pub some_lane : (lanes : List Lane) (k : ℕ) → k < length lanes → Lane
+some_lane [] k within = absurd (omega (arith, within))
+some_lane (l ∷ lanes) k within = l
 
 -- the number lies between two, and below the end
 pub record IsBetween (start k end m : ℕ) : Type 0 where
@@ -121,7 +126,7 @@ rows_further Change xs rows i r team rect old mid new once within is first secon
 
 -- a lane that holds what it held
 pub kept_same : (lanes : List Lane) → AreKept lanes lanes
-kept_same lanes = record { many = refl; each = λ n e within. record { entries = refl; widest = refl; many = refl; room = omega arith } }
+kept_same lanes = record { many = refl; each = λ n e within. record { marks = refl; widest = refl; many = refl; room = omega arith } }
 
 pub kept_along : (a b c : List Lane) → AreKept a b → AreKept b c → AreKept a c
 kept_along a b c first second = record {
@@ -130,7 +135,7 @@ kept_along a b c first second = record {
       let p = first.each n e within in
       let q = second.each n e (let m = first.many in omega (arith, m, within)) in
       record {
-        entries = q.entries ∙ p.entries;
+        marks = q.marks ∙ p.marks;
         widest = q.widest ∙ p.widest;
         many = q.many ∙ p.many;
         room = let r = p.room in let s = q.room in omega (arith, r, s);
@@ -148,7 +153,7 @@ kept_set lanes k lane new within is kept = record {
         subst (λ (m : ℕ). IsKept (get_or lanes m e) (get_or (set lanes k new) m e)) (sym same) here
     | inr apart ↦
         subst (λ (l : Lane). IsKept (get_or lanes n e) l) (sym (get_or-set_other lanes k n new e apart))
-        record { entries = refl; widest = refl; many = refl; room = omega arith }
+        record { marks = refl; widest = refl; many = refl; room = omega arith }
   ];
 }
   where

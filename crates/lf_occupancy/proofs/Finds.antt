@@ -6,37 +6,36 @@ use Rattle.std.proofs.lemmas.List.{get_or_default}
 use Rattle.std.proofs.lemmas.List.Elements.{All-contains, Contains-append_cases}
 use Rattle.lf_units.specs.declared.area.Rect.{Rect}
 use Rattle.lf_segments.specs.declared.rows_by_y.RowEntry.{RowEntry}
-use Rattle.lf_occupancy.specs.declared.lane.Lane.{Lane}
 use Rattle.lf_segments.specs.declared.strip.Strip.{Strip}
 use Rattle.lf_segments.specs.Grounds.{Lookups}
-use Rattle.lf_occupancy.specs.Lanes.{IsInside, IsLeast, MeetsOne}
+use Rattle.lf_occupancy.specs.Lanes.{IsInside, IsLeast, MeetsOne, Shown}
 use Rattle.lf_segments.specs.Strips.{AreNear, AreRowsNear}
 use Rattle.lf_occupancy.specs.Strips.{AreOrderly, MeetsAt, MeetsInOne, MeetsInRow}
 use Rattle.lf_occupancy.proofs.Around.{IsFelt}
 use Rattle.lf_occupancy.proofs.Leasts.{least_alike, least_of_both}
 
 -- a lane between two numbers has an entry that is met
-pub record MeetsBetween (lanes : List Lane) (start n end : ℕ) (rect : Rect) (but own : ℕ) : Type 0 where
+pub record MeetsBetween (lanes : List Shown) (start n end : ℕ) (rect : Rect) (but own : ℕ) : Type 0 where
   pub m : ℕ
   pub from : start ≤ m
   pub below : m < n
   pub until : m < end
-  pub meets : (d : Lane) → MeetsOne (get_or lanes m d).entries.items rect but own
+  pub meets : (d : Shown) → MeetsOne (get_or lanes m d).entries rect but own
 
-pub nothing_between : (lanes : List Lane) (start end : ℕ) (rect : Rect) (but own : ℕ) → MeetsBetween lanes start start end rect but own → ⊥
+pub nothing_between : (lanes : List Shown) (start end : ℕ) (rect : Rect) (but own : ℕ) → MeetsBetween lanes start start end rect but own → ⊥
 nothing_between lanes start end rect but own m = let a = m.from in let b = m.below in omega (arith, a, b)
 
 -- the least over the lanes passed, and over one more
-pub least_further : (lanes : List Lane) (start n end : ℕ) (rect : Rect) (but : ℕ) (lane : Lane) (a b c : Option ℕ) → start ≤ n → n < end → n < length lanes →
-    lane ≡ get_or lanes n lane → IsLeast (MeetsBetween lanes start n end rect but) a b → IsLeast (λ own. MeetsOne lane.entries.items rect but own) b c →
+pub least_further : (lanes : List Shown) (start n end : ℕ) (rect : Rect) (but : ℕ) (lane : Shown) (a b c : Option ℕ) → start ≤ n → n < end → n < length lanes →
+    lane ≡ get_or lanes n lane → IsLeast (MeetsBetween lanes start n end rect but) a b → IsLeast (λ own. MeetsOne lane.entries rect but own) b c →
     IsLeast (MeetsBetween lanes start (n + 1) end rect but) a c
 least_further lanes start n end rect but lane a b c from until within is first second =
-    least_alike (λ own. MeetsBetween lanes start n end rect but own ⊎ MeetsOne lane.entries.items rect but own) (MeetsBetween lanes start
+    least_alike (λ own. MeetsBetween lanes start n end rect but own ⊎ MeetsOne lane.entries rect but own) (MeetsBetween lanes start
     (n + 1) end rect but) a c
     more less
-    (least_of_both (MeetsBetween lanes start n end rect but) (λ own. MeetsOne lane.entries.items rect but own) a b c first second)
+    (least_of_both (MeetsBetween lanes start n end rect but) (λ own. MeetsOne lane.entries rect but own) a b c first second)
   where
-    more : (own : ℕ) → MeetsBetween lanes start n end rect but own ⊎ MeetsOne lane.entries.items rect but own →
+    more : (own : ℕ) → MeetsBetween lanes start n end rect but own ⊎ MeetsOne lane.entries rect but own →
         MeetsBetween lanes start (n + 1) end rect but own
     more own (inl m) = record { m = m.m; from = m.from; below = (let h = m.below in omega (arith, h)); until = m.until; meets = m.meets }
     more own (inr met) = record {
@@ -44,30 +43,30 @@ least_further lanes start n end rect but lane a b c from until within is first s
       from = from;
       below = omega arith;
       until = until;
-      meets = λ d. subst (λ (l : Lane). MeetsOne l.entries.items rect but own) (is ∙ get_or_default lanes n lane d within) met;
+      meets = λ d. subst (λ (l : Shown). MeetsOne l.entries rect but own) (is ∙ get_or_default lanes n lane d within) met;
     }
 
-    less : (own : ℕ) → MeetsBetween lanes start (n + 1) end rect but own → MeetsBetween lanes start n end rect but own ⊎ MeetsOne lane.entries.items rect
+    less : (own : ℕ) → MeetsBetween lanes start (n + 1) end rect but own → MeetsBetween lanes start n end rect but own ⊎ MeetsOne lane.entries rect
         but own
     less own m = elim order [
       | inl h ↦ inl record { m = m.m; from = m.from; below = h; until = m.until; meets = m.meets }
       | inr h ↦ inr
-          (subst (λ (l : Lane). MeetsOne l.entries.items rect but own) (sym is)
-          (subst (λ (k : ℕ). MeetsOne (get_or lanes k lane).entries.items rect but own) h (m.meets lane)))
+          (subst (λ (l : Shown). MeetsOne l.entries rect but own) (sym is)
+          (subst (λ (k : ℕ). MeetsOne (get_or lanes k lane).entries rect but own) h (m.meets lane)))
     ]
       where
         order : (m.m < n) ⊎ (m.m ≡ n)
         order = let h = m.below in grind (arith, h)
 
-pub some_lane : (lanes : List Lane) (k : ℕ) → k < length lanes → Lane
-some_lane [] k within = absurd (omega (arith, within))
-some_lane (l ∷ lanes) k within = l
+pub some_shown : (lanes : List Shown) (k : ℕ) → k < length lanes → Shown
+some_shown [] k within = absurd (omega (arith, within))
+some_shown (l ∷ lanes) k within = l
 
 abbrev pub no_strip : Strip
 no_strip = record { row = 0; team = 0; area = record { x1 = pos 0; y1 = pos 0; x2 = pos 0; y2 = pos 0 } }
 
 -- what is met between the two bisections is what is met in the row
-pub between_in_row : (xs : List Strip) (lanes : List Lane) (row team start n end : ℕ) (rect : Rect) (but own : ℕ) →
+pub between_in_row : (xs : List Strip) (lanes : List Shown) (row team start n end : ℕ) (rect : Rect) (but own : ℕ) →
     AreNear xs row team rect.x1 rect.x2 start end →
     MeetsBetween lanes start n end rect but own → MeetsInRow xs lanes row team rect but own
 between_in_row xs lanes row team start n end rect but own near m =
@@ -84,14 +83,14 @@ between_in_row xs lanes row team start n end rect but own near m =
     )
 
 -- the x range of a strip overlaps that of the rectangle, where an entry of its lane is met
-pub met_overlaps : (xs : List Strip) (lanes : List Lane) (team : ℕ) (rect : Rect) (but own n : ℕ) (d : Strip) → AreOrderly xs lanes →
+pub met_overlaps : (xs : List Strip) (lanes : List Shown) (team : ℕ) (rect : Rect) (but own n : ℕ) (d : Strip) → AreOrderly xs lanes →
     (at : MeetsAt xs lanes team rect but own n) → (rect.x1 <ℤ (get_or xs n d).area.x2) × ((get_or xs n d).area.x1 <ℤ rect.x2)
 met_overlaps xs lanes team rect but own n d orderly at =
     let many = orderly.many in
     let within = at.within in
-    let lane = some_lane lanes n (omega (arith, many, within)) in
+    let lane = some_shown lanes n (omega (arith, many, within)) in
     let met = at.meets lane in
-    let inside = All-contains (IsInside (get_or xs n d).area) (get_or lanes n lane).entries.items met.1 (orderly.inside n d lane within)
+    let inside = All-contains (IsInside (get_or xs n d).area) (get_or lanes n lane).entries met.1 (orderly.inside n d lane within)
     (met.0, met.2, met.3) in
     let s = met.4.meets in
     let a = s.in_first.left in
@@ -102,7 +101,7 @@ met_overlaps xs lanes team rect but own n d orderly at =
     let r = inside.right in
     (omega (arith, ints, a, f, r), omega (arith, ints, b, e, l))
 
-pub row_in_between : (xs : List Strip) (lanes : List Lane) (row team start n end : ℕ) (rect : Rect) (but own : ℕ) →
+pub row_in_between : (xs : List Strip) (lanes : List Shown) (row team start n end : ℕ) (rect : Rect) (but own : ℕ) →
     AreNear xs row team rect.x1 rect.x2 start end →
     AreOrderly xs lanes → end ≤ n → MeetsInRow xs lanes row team rect but own → MeetsBetween lanes start n end rect but own
 row_in_between xs lanes row team start n end rect but own near orderly past (m, in_row, at) =
@@ -112,7 +111,7 @@ row_in_between xs lanes row team start n end rect but own near orderly past (m, 
     record { m = m; from = both.0; below = omega (arith, until, past); until = until; meets = at.meets }
 
 -- the row of a strip in which an entry is met stands among the near ones
-pub row_is_near : (s : Lookups) (lanes : List Lane) (team : ℕ) (rect : Rect) (but own n : ℕ) (run : List RowEntry) → All (IsFelt s.rows s.height) s.strips →
+pub row_is_near : (s : Lookups) (lanes : List Shown) (team : ℕ) (rect : Rect) (but own n : ℕ) (run : List RowEntry) → All (IsFelt s.rows s.height) s.strips →
     AreOrderly s.strips lanes →
     AreRowsNear s.rows s.height rect run → MeetsAt s.strips lanes team rect but own n →
     Any (λ e. MeetsInRow s.strips lanes e.row team rect but own) run
@@ -143,13 +142,13 @@ row_is_near s lanes team rect but own n run strips orderly rows at =
     here : (d : Strip) → (get_or xs n d).row ≡ e.row
     here d = ap (λ (x : Strip). x.row) (get_or_default xs n d no_strip at.within) ∙ sym placed.found.4.0
 
-    lane : Lane
-    lane = some_lane lanes n (let many = orderly.many in let within = at.within in omega (arith, many, within))
+    lane : Shown
+    lane = some_shown lanes n (let many = orderly.many in let within = at.within in omega (arith, many, within))
 
     inside : IsInside g.area (at.meets lane).1
     inside =
         let met = at.meets lane in
-        All-contains (IsInside g.area) (get_or lanes n lane).entries.items met.1 (orderly.inside n no_strip lane at.within) (met.0, met.2, met.3)
+        All-contains (IsInside g.area) (get_or lanes n lane).entries met.1 (orderly.inside n no_strip lane at.within) (met.0, met.2, met.3)
 
     level : e.y ≡ g.area.y1
     level = placed.found.4.1
@@ -173,6 +172,6 @@ row_is_near s lanes team rect but own n run strips orderly rows at =
         let l = level in
         omega (arith, ints, a, b, t, l)
 
-pub near_row_is_one : (xs : List Strip) (lanes : List Lane) (team : ℕ) (rect : Rect) (but own : ℕ) (run : List RowEntry) →
+pub near_row_is_one : (xs : List Strip) (lanes : List Shown) (team : ℕ) (rect : Rect) (but own : ℕ) (run : List RowEntry) →
     Any (λ e. MeetsInRow xs lanes e.row team rect but own) run → MeetsInOne xs lanes team rect but own
 near_row_is_one xs lanes team rect but own run (k, e, within, is, (n, in_row, at)) = (n, at)

@@ -8,32 +8,32 @@ use Rattle.lf_spans.specs.declared.span.Span.{Span}
 use Rattle.lf_spans.specs.Spans.{IsApart, IsFilled, IsFreeIn, IsRising, LiesIn, LiesInOne}
 use Rattle.lf_spans.proofs.Anys.{any_left, any_split}
 use Rattle.lf_spans.proofs.Edges.{in_of_lies}
-use Rattle.lf_occupancy.specs.declared.lane.Lane.{Lane}
 use Rattle.lf_segments.specs.declared.strip.Strip.{Strip}
-use Rattle.lf_occupancy.specs.Lanes.{all_padded, others_in, spans_in, x_range}
+use Rattle.lf_occupancy.specs.Lanes.{Shown, all_padded, others_in, spans_in, x_range}
 use Rattle.lf_occupancy.specs.Occupied.{across}
 use Rattle.lf_segments.specs.Strips.{AreNear, LiesBefore, IsNear}
-use Rattle.lf_occupancy.specs.Strips.{AreFreeTo, LiesFree}
+use Rattle.lf_cells.specs.declared.cell.CellId.{CellId}
+use Rattle.lf_occupancy.specs.Strips.{AreFreeTo, AreLeft, LiesFree}
 use Rattle.lf_occupancy.proofs.Lists.{pairs_append, any_right}
 use Rattle.lf_occupancy.proofs.Finds.{no_strip}
 
 -- the span lies in the strip of that number between two, and shares no number with another cell's entry made wider by the padding
-pub record FreeBetween (xs : List Strip) (lanes : List Lane) (own : ℕ) (padding : ℤ) (start k end : ℕ) (s : Span) : Type 0 where
+pub record FreeBetween (xs : List Strip) (lanes : List Shown) (own : ℕ) (padding : ℤ) (start k end : ℕ) (s : Span) : Type 0 where
   pub m : ℕ
   pub from : start ≤ m
   pub below : m < k
   pub until : m < end
   pub inside : (d : Strip) → LiesIn s (across (get_or xs m d))
-  pub apart : (d : Lane) → IsApart (spans_in (others_in (all_padded padding (get_or lanes m d).entries.items) own)) s
+  pub apart : (d : Shown) → IsApart (spans_in (others_in (all_padded padding (get_or lanes m d).entries) own)) s
 
 -- the free spans of the strips passed
-pub record AreFreeBetween (xs : List Strip) (lanes : List Lane) (own : ℕ) (padding : ℤ) (start k end : ℕ) (window : Span) (free : List Span) : Type 0 where
+pub record AreFreeBetween (xs : List Strip) (lanes : List Shown) (own : ℕ) (padding : ℤ) (start k end : ℕ) (window : Span) (free : List Span) : Type 0 where
   pub rising : IsRising free
   pub ends : (m : ℕ) (d : Strip) → k ≤ m → m < end → All (λ t. t.hi ≤ℤ (get_or xs m d).area.x1) free
   pub exact : (s : Span) → IsFilled s → (LiesInOne free s → LiesIn s window × FreeBetween xs lanes own padding start k end s) ×
       (LiesIn s window × FreeBetween xs lanes own padding start k end s → LiesInOne free s)
 
-pub none_free : (xs : List Strip) (lanes : List Lane) (own : ℕ) (padding : ℤ) (start end : ℕ) (window : Span) → AreFreeBetween xs lanes own padding start start end window []
+pub none_free : (xs : List Strip) (lanes : List Shown) (own : ℕ) (padding : ℤ) (start end : ℕ) (window : Span) → AreFreeBetween xs lanes own padding start start end window []
 none_free xs lanes own padding start end window = record {
   rising = record { filled = All-nil IsFilled; apart = λ i j d less within. absurd (omega (arith, within)) };
   ends = λ m d from until. All-nil (λ t. t.hi ≤ℤ (get_or xs m d).area.x1);
@@ -58,11 +58,11 @@ near_rise row team lo hi a b p q (inl less) = let e = p.in_row in let f = q.in_r
 near_rise row team lo hi a b p q (inr (same, inl less)) = let e = p.of_team in let f = q.of_team in absurd (omega (arith, less, e, f))
 near_rise row team lo hi a b p q (inr (same, inr (alike, apart))) = apart
 
-pub free_further : (xs : List Strip) (lanes : List Lane) (row team own : ℕ) (padding : ℤ) (start k end : ℕ) (window : Span) (lane : Lane) (g : Strip) (free part : List Span) →
+pub free_further : (xs : List Strip) (lanes : List Shown) (row team own : ℕ) (padding : ℤ) (start k end : ℕ) (window : Span) (lane : Shown) (g : Strip) (free part : List Span) →
     AllPairs LiesBefore xs → AreNear xs row team window.lo window.hi start end → start ≤ k → k < end → k < length lanes →
     All (λ x. x.area.x1 <ℤ x.area.x2) xs →
     lane ≡ get_or lanes k lane → ((d : Strip) → g ≡ get_or xs k d) → AreFreeBetween xs lanes own padding start k end window free →
-    IsFreeIn (x_range g.area) (spans_in (others_in (all_padded padding lane.entries.items) own)) window part → AreFreeBetween xs lanes own padding start (k + 1) end window (free ++ part)
+    IsFreeIn (x_range g.area) (spans_in (others_in (all_padded padding lane.entries) own)) window part → AreFreeBetween xs lanes own padding start (k + 1) end window (free ++ part)
 free_further xs lanes row team own padding start k end window lane g free part pairs near from until has wide is at old new = record {
   rising = record {
     filled = All-append IsFilled free part old.rising.filled new.rising.filled;
@@ -85,7 +85,7 @@ free_further xs lanes row team own padding start k end window lane g free part p
     here = let b = bound in omega (arith, b, until)
 
     inside : All (λ t. (g.area.x1 ≤ℤ t.lo) × (t.hi ≤ℤ g.area.x2)) part
-    inside = part_inside (x_range g.area) window (spans_in (others_in (all_padded padding lane.entries.items) own)) part new
+    inside = part_inside (x_range g.area) window (spans_in (others_in (all_padded padding lane.entries) own)) part new
 
     cross : All (λ s. All (λ t. s.hi ≤ℤ t.lo) part) free
     cross i d within j e inner =
@@ -116,7 +116,7 @@ free_further xs lanes row team own padding start k end window lane g free part p
             below = omega arith;
             until = until;
             inside = λ d. subst (λ (x : Strip). LiesIn s (across x)) (at d) h.0;
-            apart = λ d. subst (λ (l : Lane). IsApart (spans_in (others_in (all_padded padding l.entries.items) own)) s) (is ∙ get_or_default lanes k lane d has) h.2;
+            apart = λ d. subst (λ (l : Shown). IsApart (spans_in (others_in (all_padded padding l.entries) own)) s) (is ∙ get_or_default lanes k lane d has) h.2;
           },
         )
 
@@ -128,8 +128,8 @@ free_further xs lanes row team own padding start k end window lane g free part p
           ((new.exact s filled).1 (
             subst (λ (x : Strip). LiesIn s (across x)) (sym (at no_strip)) (subst (λ (m : ℕ). LiesIn s (across (get_or xs m no_strip))) h (f.inside no_strip)),
             shown,
-            subst (λ (l : Lane). IsApart (spans_in (others_in (all_padded padding l.entries.items) own)) s) (sym is)
-                (subst (λ (m : ℕ). IsApart (spans_in (others_in (all_padded padding (get_or lanes m lane).entries.items) own)) s) h (f.apart lane)),
+            subst (λ (l : Shown). IsApart (spans_in (others_in (all_padded padding l.entries) own)) s) (sym is)
+                (subst (λ (m : ℕ). IsApart (spans_in (others_in (all_padded padding (get_or lanes m lane).entries) own)) s) h (f.apart lane)),
           ))
     ]
       where
@@ -137,7 +137,7 @@ free_further xs lanes row team own padding start k end window lane g free part p
         order = let b = f.below in grind (arith, b)
 
 -- what is free between the two bisections is what is free in the strips of the row and the team
-pub free_of_row : (xs : List Strip) (lanes : List Lane) (row team own : ℕ) (padding : ℤ) (start k end : ℕ) (window : Span) (free : List Span) →
+pub free_of_row : (xs : List Strip) (lanes : List Shown) (row team own : ℕ) (padding : ℤ) (start k end : ℕ) (window : Span) (free : List Span) →
     AreNear xs row team window.lo window.hi start end →
     end ≤ k → AreFreeBetween xs lanes own padding start k end window free → AreFreeTo xs lanes row team own window padding (length xs) free
 free_of_row xs lanes row team own padding start k end window free near past f = record {
@@ -183,3 +183,55 @@ free_of_row xs lanes row team own padding start k end window free near past f = 
         } in
         let until = both.1 in
         (shown, record { m = n; from = both.0; below = omega (arith, until, past); until = until; inside = l.inside; apart = l.apart })
+
+-- what is free in one strip of the cell's team is left by the others
+pub left_by_others : (xs : List Strip) (lanes : List Shown) (without : CellId) (padding : ℤ) (n : ℕ) (lane : Shown) (free : List Span) → n < length xs →
+    ((d : Strip) → (get_or xs n d).team ≡ without.team) → ((e : Shown) → lane ≡ get_or lanes n e) →
+    IsFreeIn (x_range (get_or xs n no_strip).area) (spans_in (others_in (all_padded padding lane.entries) without.own)) (x_range (get_or xs n no_strip).area) free →
+    AreLeft xs lanes without padding n free
+left_by_others xs lanes without padding n lane free within of_team is f = record {
+  rising = f.rising;
+  exact = λ s filled. (
+    λ lies.
+        let h = (f.exact s filled).0 lies in
+        record {
+          within = within;
+          inside = λ d. subst (λ (g : Strip). LiesIn s (across g)) (sym (get_or_default xs n d no_strip within)) h.0;
+          own = λ d e same.
+              subst (λ (l : Shown). IsApart (spans_in (others_in (all_padded padding l.entries) without.own)) s) (is e) h.2;
+          foreign = λ d e away. absurd (away (of_team d));
+        },
+    λ l.
+        (f.exact s filled).1 (
+          l.inside no_strip,
+          l.inside no_strip,
+          subst (λ (x : Shown). IsApart (spans_in (others_in (all_padded padding x.entries) without.own)) s) (sym (is lane))
+              (l.own no_strip lane (of_team no_strip)),
+        ),
+  );
+}
+
+-- what is free in one strip of another team is left by all
+pub left_by_all : (xs : List Strip) (lanes : List Shown) (without : CellId) (padding : ℤ) (n : ℕ) (lane : Shown) (free : List Span) → n < length xs →
+    ((d : Strip) → (get_or xs n d).team ≡ without.team → ⊥) → ((e : Shown) → lane ≡ get_or lanes n e) →
+    IsFreeIn (x_range (get_or xs n no_strip).area) (spans_in (all_padded padding lane.entries)) (x_range (get_or xs n no_strip).area) free →
+    AreLeft xs lanes without padding n free
+left_by_all xs lanes without padding n lane free within other is f = record {
+  rising = f.rising;
+  exact = λ s filled. (
+    λ lies.
+        let h = (f.exact s filled).0 lies in
+        record {
+          within = within;
+          inside = λ d. subst (λ (g : Strip). LiesIn s (across g)) (sym (get_or_default xs n d no_strip within)) h.0;
+          own = λ d e same. absurd (other d same);
+          foreign = λ d e away. subst (λ (l : Shown). IsApart (spans_in (all_padded padding l.entries)) s) (is e) h.2;
+        },
+    λ l.
+        (f.exact s filled).1 (
+          l.inside no_strip,
+          l.inside no_strip,
+          subst (λ (x : Shown). IsApart (spans_in (all_padded padding x.entries)) s) (sym (is lane)) (l.foreign no_strip lane (other no_strip)),
+        ),
+  );
+}

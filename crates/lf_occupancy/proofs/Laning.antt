@@ -1,19 +1,22 @@
 -- How a lane follows the boxes of its team's cells.
 use Rattle.std.proofs.Common.{◌≡◌, ◌≢◌, inl, inr, Bool, true, ℕ, zero, suc, ◌+◌, ◌<◌, ◌≤◌, ℤ, pos, ◌-ℤ◌, ◌≤ℤ◌, ◌<ℤ◌, List, [], ◌∷◌, Option}
-use Rattle.std.proofs.Common.{Some, None, length, get_or, set, take, drop, eqb, refl, sym, ap, subst, ◌∙◌, arith}
+use Rattle.std.proofs.Common.{Some, None, length, get_or, set, take, drop, map, eqb, false, cond, refl, sym, ap, subst, ◌∙◌, arith}
+use Rattle.std.specs.Int.{int_max}
 use Rattle.std.specs.Prelude.{All, AllPairs, Any, Contains, filter, insert, not, option_and_then, slice_get}
 use Rattle.std.proofs.lemmas.Bool.Decides.{eqb_tells, nat_tests}
 use Rattle.std.proofs.lemmas.Int.{ints, clamps}
-use Rattle.std.proofs.lemmas.List.{get_or_default, get_or-take, get_or-drop, length-take, length-drop, take-append-drop}
+use Rattle.std.proofs.lemmas.List.{get_or_default, get_or-map, get_or-take, get_or-drop, length-map, length-take, length-drop, take-append-drop}
 use Rattle.std.proofs.lemmas.List.Elements.{All-append, All-cons, All-drop, All-filter, All-take, filter_passes}
 use Rattle.std.proofs.lemmas.List.Elements.{Contains-append_left, Contains-append_right, Contains-append_cases}
 use Rattle.lf_units.specs.declared.area.Rect.{Rect}
 use Rattle.lf_units.specs.Area.{Covers}
 use Rattle.lf_occupancy.specs.declared.lane.Entry.{Entry}
 use Rattle.lf_occupancy.specs.declared.lane.Lane.{Lane}
-use Rattle.lf_occupancy.specs.Lanes.{AreInOrder, HoldsPoint, IsInside, IsJoined, IsKept, IsLane, IsPruned, IsPutIn, IsWhole, IsNearZero, LiesInBox}
+use Rattle.lf_occupancy.specs.declared.lane.Mark.{Mark}
+use Rattle.lf_occupancy.specs.Lanes.{AreInOrder, AreRising, AreTold, HoldsPoint, IsAdded, IsInside, IsJoined, IsKept, IsLane, IsMarked, IsPart}
+use Rattle.lf_occupancy.specs.Lanes.{IsPruned, IsPutIn, IsWhole, IsNearZero, LiesInBox, Shown, Tells, entries_in, entry_in, entry_of_box, marks_but, others_in, part_in, shown}
 use Rattle.lf_occupancy.specs.Occupied.{cell_box}
-use Rattle.lf_occupancy.specs.Lanes.{entry_for}
+use Rattle.lf_occupancy.proofs.Parts.{part_is}
 use Rattle.lf_occupancy.proofs.Lists.{contains_filter, pairs_filter, pairs_append, pairs_cons}
 
 get_set_other : {X : Type 0} (xs : List X) (i k : ℕ) (x : X) → k ≢ i → slice_get (set xs i x) k ≡ slice_get xs k
@@ -48,7 +51,7 @@ in_box_of : (cells other : List (Option Rect)) (area : Rect) (own : ℕ) (x y : 
 in_box_of cells other area own x y same l = record { box = l.box; is = same ∙ l.is; in_area = l.in_area; in_box = l.in_box }
 
 -- the same points lie in the boxes
-pub lane_alike : (cells other : List (Option Rect)) (area : Rect) (l : Lane) → ((own : ℕ) (x y : ℤ) → LiesInBox cells area own x y →
+lane_alike : (cells other : List (Option Rect)) (area : Rect) (l : Shown) → ((own : ℕ) (x y : ℤ) → LiesInBox cells area own x y →
     LiesInBox other area own x y) →
     ((own : ℕ) (x y : ℤ) → LiesInBox other area own x y → LiesInBox cells area own x y) → IsLane cells area l → IsLane other area l
 lane_alike cells other area l f g lane = record {
@@ -56,31 +59,11 @@ lane_alike cells other area l f g lane = record {
   whole = lane.whole;
   inside = lane.inside;
   held = λ own x y lies. lane.held own x y (g own x y lies);
-  told = λ k d within x y covers. f (get_or l.entries.items k d).own x y (lane.told k d within x y covers);
+  told = λ k d within x y covers. f (get_or l.entries k d).own x y (lane.told k d within x y covers);
   once = lane.once;
 }
 
--- a lane with the same entries
-pub lane_kept : (cells : List (Option Rect)) (area : Rect) (old new : Lane) → IsLane cells area old → IsKept old new → IsLane cells area new
-lane_kept cells area old new lane kept = record {
-  orderly = record {
-    order = subst AreInOrder back lane.orderly.order;
-    wide = subst (λ (w : ℤ). All (λ e. (e.area.x2 -ℤ e.area.x1) ≤ℤ w) new.entries.items) (sym kept.widest)
-        (subst (All (λ e. (e.area.x2 -ℤ e.area.x1) ≤ℤ old.widest)) back lane.orderly.wide);
-    some = let w = kept.widest in let h = lane.orderly.some in omega (arith, ints, w, h);
-    most = let w = kept.widest in let h = lane.orderly.most in omega (arith, ints, w, h);
-  };
-  whole = subst (All (λ e. IsWhole e.area)) back lane.whole;
-  inside = subst (All (IsInside area)) back lane.inside;
-  held = λ own x y lies. subst (Any (HoldsPoint own x y)) back (lane.held own x y lies);
-  told = subst (All (λ e. (x y : ℤ) → Covers e.area x y → LiesInBox cells area e.own x y)) back lane.told;
-  once = subst AreOnce back lane.once;
-}
-  where
-    back : old.entries.items ≡ new.entries.items
-    back = sym kept.entries
-
-none_is_not_some : (r : Rect) → ◌≡◌ {A = Option Rect} None (Some r) → ⊥
+pub none_is_not_some : (r : Rect) → ◌≡◌ {A = Option Rect} None (Some r) → ⊥
 none_is_not_some r e = cc
 
 other_test : (a b : ℕ) → (a ≡ b → ⊥) → not (eqb a b) ≡ true
@@ -89,13 +72,26 @@ other_test a b apart = grind (arith, nat_tests, apart)
 test_other : (a b : ℕ) → not (eqb a b) ≡ true → a ≡ b → ⊥
 test_other a b t same = grind (arith, nat_tests)
 
+-- the entry is added to what a lane shows, at its place in the order
+record IsShownWith (e : Entry) (old new : Shown) : Type 0 where
+  at : ℕ
+  entries : new.entries ≡ insert old.entries at e
+  before : (k : ℕ) (d : Entry) → k < at → (get_or old.entries k d).area.x1 <ℤ e.area.x1
+  behind : (k : ℕ) (d : Entry) → at ≤ k → k < length old.entries → e.area.x1 ≤ℤ (get_or old.entries k d).area.x1
+  widest : new.widest ≡ int_max old.widest (e.area.x2 -ℤ e.area.x1)
+
+-- what a lane shows without the cell's entries
+record IsShownWithout (own : ℕ) (old new : Shown) : Type 0 where
+  entries : new.entries ≡ others_in old.entries own
+  widest : new.widest ≡ old.widest
+
 -- a lane without the cell's entries is that of the boxes with none for the cell
-pub lane_pruned : (cells : List (Option Rect)) (area : Rect) (own : ℕ) (old new : Lane) → own < length cells → IsLane cells area old → IsPruned own old new →
+lane_pruned : (cells : List (Option Rect)) (area : Rect) (own : ℕ) (old new : Shown) → own < length cells → IsLane cells area old → IsShownWithout own old new →
     IsLane (set cells own None) area new
 lane_pruned cells area own old new has lane pruned = record {
   orderly = record {
     order = subst AreInOrder back (pairs_filter (λ a b. a.area.x1 ≤ℤ b.area.x1) p items lane.orderly.order);
-    wide = subst (λ (w : ℤ). All (λ e. (e.area.x2 -ℤ e.area.x1) ≤ℤ w) new.entries.items) (sym pruned.widest)
+    wide = subst (λ (w : ℤ). All (λ e. (e.area.x2 -ℤ e.area.x1) ≤ℤ w) new.entries) (sym pruned.widest)
         (subst (All (λ e. (e.area.x2 -ℤ e.area.x1) ≤ℤ old.widest)) back (All-filter p (λ e. (e.area.x2 -ℤ e.area.x1) ≤ℤ old.widest) items lane.orderly.wide));
     some = let w = pruned.widest in let h = lane.orderly.some in omega (arith, ints, w, h);
     most = let w = pruned.widest in let h = lane.orderly.most in omega (arith, ints, w, h);
@@ -108,12 +104,12 @@ lane_pruned cells area own old new has lane pruned = record {
 }
   where
     items : List Entry
-    items = old.entries.items
+    items = old.entries
 
     p : Entry → Bool
     p e = not (eqb e.own own)
 
-    back : filter p items ≡ new.entries.items
+    back : filter p items ≡ new.entries
     back = sym pruned.entries
 
     apart_from : (k : ℕ) (x y : ℤ) → LiesInBox (set cells own None) area k x y → k ≡ own → ⊥
@@ -137,7 +133,7 @@ lane_pruned cells area own old new has lane pruned = record {
         (All-filter p (λ z. (x y : ℤ) → Covers z.area x y → LiesInBox cells area z.own x y) items lane.told k d within x y covers)
 
 -- a lane where no point of the strip lies in the old box of the cell, nor in the new one
-pub lane_beside : (cells : List (Option Rect)) (area : Rect) (own : ℕ) (box : Option Rect) (l : Lane) → own < length cells →
+lane_beside : (cells : List (Option Rect)) (area : Rect) (own : ℕ) (box : Option Rect) (l : Shown) → own < length cells →
     ((x y : ℤ) → LiesInBox cells area own x y → ⊥) → ((r : Rect) (x y : ℤ) → box ≡ Some r → Covers area x y → Covers r x y → ⊥) → IsLane cells area l →
     IsLane (set cells own box) area l
 lane_beside cells area own box l has old new lane = lane_alike cells (set cells own box) area l to back lane
@@ -258,37 +254,44 @@ once_insert xs i e once fresh = pairs_append R (take i xs) (e ∷ drop i xs) cro
         ∙ own_of _ _ (get_or_default xs (i + n) z d (omega (arith, wide, inner))))
 
 -- the lane with the cell's part is that of the boxes where the cell stands there
-pub lane_put : (cells : List (Option Rect)) (area : Rect) (own : ℕ) (rect : Rect) (old new : Lane) → own < length cells → cell_box cells own ≡ None →
-    IsNearZero area →
-    IsLane cells area old → IsPutIn own rect area old new → IsLane (set cells own (Some rect)) area new
-lane_put cells area own rect old new has nowhere def lane put = elim put.change [
-  | inl both ↦ joined both.0 both.1
-  | inr both ↦
-      subst (IsLane (set cells own (Some rect)) area) (sym both.1)
-      (lane_beside cells area own (Some rect) old has (λ x y lies. none_is_not_some lies.box (sym nowhere ∙ lies.is))
-      (λ r x y same a b. both.0 (whole_at x y ((put.is.points x y).1 (a, subst (λ (q : Rect). Covers q x y) (same_rect r same) b)))) lane)
-]
+lane_joined : (cells : List (Option Rect)) (area : Rect) (own : ℕ) (rect part : Rect) (old new : Shown) → own < length cells → cell_box cells own ≡ None →
+    IsNearZero area → IsPart area rect part → IsWhole part →
+    IsLane cells area old → IsShownWith record { own = own; area = part } old new → IsLane (set cells own (Some rect)) area new
+lane_joined cells area own rect part old new has nowhere def is whole lane j = record {
+  orderly = record {
+    order = subst AreInOrder back (order_insert items j.at e lane.orderly.order j.before j.behind);
+    wide = subst (All (λ z. (z.area.x2 -ℤ z.area.x1) ≤ℤ new.widest)) back
+        (all_insert (λ z. (z.area.x2 -ℤ z.area.x1) ≤ℤ new.widest) items j.at e (let w = j.widest in omega (arith, ints, clamps, w))
+        (λ k d within. let h = lane.orderly.wide k d within in let w = j.widest in omega (arith, ints, clamps, w, h)));
+    some = let w = j.widest in let h = lane.orderly.some in omega (arith, ints, clamps, w, h);
+    most = let w = j.widest in
+        let h = lane.orderly.most in
+        let l = def.low in
+        let r = def.high in
+        let a = is.left in
+        let b = is.right in
+        omega (arith, ints, clamps, w, h, l, r, a, b);
+  };
+  whole = subst (All (λ z. IsWhole z.area)) back (all_insert (λ z. IsWhole z.area) items j.at e whole lane.whole);
+  inside = subst (All (IsInside area)) back (all_insert (IsInside area) items j.at e is_in lane.inside);
+  held = λ k x y lies. subst (Any (HoldsPoint k x y)) back (held k x y lies);
+  told = subst (All (λ z. (x y : ℤ) → Covers z.area x y → LiesInBox (set cells own (Some rect)) area z.own x y)) back
+      (all_insert (λ z. (x y : ℤ) → Covers z.area x y → LiesInBox (set cells own (Some rect)) area z.own x y) items j.at e here there);
+  once = subst AreOnce back (once_insert items j.at e lane.once fresh);
+}
   where
     same_rect : (r : Rect) → ◌≡◌ {A = Option Rect} (Some rect) (Some r) → r ≡ rect
     same_rect r e = cc
 
-    whole_at : (x y : ℤ) → Covers put.part x y → IsWhole put.part
-    whole_at x y covers =
-        let a = covers.left in
-        let b = covers.right in
-        let c = covers.bottom in
-        let d = covers.top in
-        record { wide = omega (arith, ints, a, b); high = omega (arith, ints, c, d) }
-
     e : Entry
-    e = entry_for own put.part
+    e = record { own = own; area = part }
 
-    is_in : IsWhole put.part → IsInside area e
-    is_in whole =
+    is_in : IsInside area e
+    is_in =
         let w = whole.wide in
         let h = whole.high in
-        let first = ((put.is.points put.part.x1 put.part.y1).0 record { left = omega (arith, ints); right = w; bottom = omega (arith, ints); top = h }).0 in
-        let last = ((put.is.points (put.part.x2 -ℤ pos 1) (put.part.y2 -ℤ pos 1)).0 record {
+        let first = ((is.points part.x1 part.y1).0 record { left = omega (arith, ints); right = w; bottom = omega (arith, ints); top = h }).0 in
+        let last = ((is.points (part.x2 -ℤ pos 1) (part.y2 -ℤ pos 1)).0 record {
           left = omega (arith, ints, w);
           right = omega (arith, ints);
           bottom = omega (arith, ints, h);
@@ -296,72 +299,260 @@ lane_put cells area own rect old new has nowhere def lane put = elim put.change 
         }).0 in
         let a = first.bottom in
         let b = last.top in
-        record { left = put.is.left; bottom = a; right = put.is.right; top = omega (arith, ints, b) }
+        record { left = is.left; bottom = a; right = is.right; top = omega (arith, ints, b) }
 
     apart_from : (k : ℕ) → (box : Rect) → cell_box cells k ≡ Some box → k ≡ own → ⊥
-    apart_from k box is same =
+    apart_from k box stands same =
         let At : ℕ → Type 0 = λ m. cell_box cells m ≡ Some box in
-        none_is_not_some box (sym nowhere ∙ subst At same is)
+        none_is_not_some box (sym nowhere ∙ subst At same stands)
 
-    joined : IsWhole put.part → IsJoined e old new → IsLane (set cells own (Some rect)) area new
-    joined whole j = record {
-      orderly = record {
-        order = subst AreInOrder back (order_insert items j.at e lane.orderly.order j.before j.behind);
-        wide = subst (All (λ z. (z.area.x2 -ℤ z.area.x1) ≤ℤ new.widest)) back
-            (all_insert (λ z. (z.area.x2 -ℤ z.area.x1) ≤ℤ new.widest) items j.at e (let w = j.widest in omega (arith, ints, clamps, w))
-            (λ k d within. let h = lane.orderly.wide k d within in let w = j.widest in omega (arith, ints, clamps, w, h)));
-        some = let w = j.widest in let h = lane.orderly.some in omega (arith, ints, clamps, w, h);
-        most = let w = j.widest in
-            let h = lane.orderly.most in
-            let l = def.low in
-            let r = def.high in
-            let a = put.is.left in
-            let b = put.is.right in
-            omega (arith, ints, clamps, w, h, l, r, a, b);
+    items : List Entry
+    items = old.entries
+
+    back : insert items j.at e ≡ new.entries
+    back = sym j.entries
+
+    here : (x y : ℤ) → Covers e.area x y → LiesInBox (set cells own (Some rect)) area own x y
+    here x y covers =
+        let both = (is.points x y).0 covers in
+        record { box = rect; is = box_same cells own (Some rect) has; in_area = both.0; in_box = both.1 }
+
+    there : All (λ z. (x y : ℤ) → Covers z.area x y → LiesInBox (set cells own (Some rect)) area z.own x y) items
+    there k d within x y covers =
+        let z : Entry = get_or items k d in
+        let lies = lane.told k d within x y covers in
+        in_box_of cells (set cells own (Some rect)) area z.own x y (box_other cells own z.own (Some rect) (apart_from z.own lies.box lies.is)) lies
+
+    fresh : All (λ z. z.own ≢ own) items
+    fresh k d within =
+        let z : Entry = get_or items k d in
+        let w = (lane.whole k d within).wide in
+        let h = (lane.whole k d within).high in
+        let lies = lane.told k d within z.area.x1 z.area.y1
+        record { left = omega (arith, ints); right = w; bottom = omega (arith, ints); top = h } in
+        apart_from z.own lies.box lies.is
+
+    held : (k : ℕ) (x y : ℤ) → LiesInBox (set cells own (Some rect)) area k x y → Any (HoldsPoint k x y) (insert items j.at e)
+    held k x y lies = elim (eqb_tells k own) [
+      | inl same ↦
+          let At : ℕ → Type 0 = λ m. cell_box (set cells own (Some rect)) m ≡ Some lies.box in
+          let same_box = same_rect lies.box (sym (box_same cells own (Some rect) has) ∙ subst At same.1 lies.is) in
+          let c = insert_contains items j.at e in
+          (c.0, e, c.1, c.2, record { is = sym same.1; covers = (is.points x y).1 (lies.in_area, subst (λ (q : Rect). Covers q x y) same_box lies.in_box) })
+      | inr apart ↦
+          let found = lane.held k x y (in_box_of (set cells own (Some rect)) cells area k x y (sym (box_other cells own k (Some rect) apart.1)) lies) in
+          let c = contains_insert items j.at e found.1 (found.0, found.2, found.3) in
+          (c.0, found.1, c.1, c.2, found.4)
+    ]
+
+-- ---- from marks to what they show
+
+-- the cell whose box differs is not marked
+entry_other : (cells : List (Option Rect)) (area : Rect) (own : ℕ) (box : Option Rect) (m : Mark) → m.own ≢ own →
+    entry_in (set cells own box) area m ≡ entry_in cells area m
+entry_other cells area own box m apart = ap (λ (b : Option Rect). entry_of_box area b m.own) (box_other cells own m.own box apart)
+
+entries_other : (cells : List (Option Rect)) (area : Rect) (own : ℕ) (box : Option Rect) (ms : List Mark) → All (λ m. m.own ≢ own) ms →
+    entries_in (set cells own box) area ms ≡ entries_in cells area ms
+entries_other cells area own box [] all = refl
+entries_other cells area own box (m ∷ ms) all =
+    ap (λ (e : Entry). e ∷ entries_in (set cells own box) area ms) (entry_other cells area own box m (all 0 m (omega arith)))
+    ∙ ap (λ (es : List Entry). entry_in cells area m ∷ es)
+    (entries_other cells area own box ms (λ k d within. all (suc k) d (omega (arith, within))))
+
+entries_but : (cells : List (Option Rect)) (area : Rect) (own : ℕ) (ms : List Mark) → entries_in cells area (marks_but ms own) ≡ others_in (entries_in cells area ms) own
+entries_but cells area own [] = refl
+entries_but cells area own (m ∷ ms) = both (not (eqb m.own own)) (entries_but cells area own ms)
+  where
+    both : (b : Bool) → entries_in cells area (marks_but ms own) ≡ others_in (entries_in cells area ms) own →
+        entries_in cells area (cond b (m ∷ marks_but ms own) (marks_but ms own))
+        ≡ cond b (entry_in cells area m ∷ others_in (entries_in cells area ms) own) (others_in (entries_in cells area ms) own)
+    both true rest = ap (λ (es : List Entry). entry_in cells area m ∷ es) rest
+    both false rest = rest
+
+entries_insert : (f : Mark → Entry) (ms : List Mark) (i : ℕ) (m : Mark) → map f (insert ms i m) ≡ insert (map f ms) i (f m)
+entries_insert f [] zero m = refl
+entries_insert f [] (suc i) m = refl
+entries_insert f (x ∷ ms) zero m = refl
+entries_insert f (x ∷ ms) (suc i) m = ap (λ (es : List Entry). f x ∷ es) (entries_insert f ms i m)
+
+no_mark : Mark
+no_mark = record { own = 0; left = pos 0; width = 0 }
+
+pub entry_there : (cells : List (Option Rect)) (area : Rect) (ms : List Mark) (k : ℕ) (d : Entry) (e : Mark) → k < length ms →
+    get_or (entries_in cells area ms) k d ≡ entry_in cells area (get_or ms k e)
+entry_there cells area ms k d e within = get_or-map (entry_in cells area) ms k e d within
+
+pub entries_many : (cells : List (Option Rect)) (area : Rect) (ms : List Mark) → length (entries_in cells area ms) ≡ length ms
+entries_many cells area ms = length-map ms (entry_in cells area)
+
+-- what is marked is of a cell whose box has a point in the area
+pub none_marked : (cells : List (Option Rect)) (area : Rect) (own : ℕ) (l : Lane) → IsMarked cells area l → ((x y : ℤ) → LiesInBox cells area own x y → ⊥) →
+    All (λ m. m.own ≢ own) l.marks.items
+none_marked cells area own l marked never k d within same =
+    let es = entries_in cells area l.marks.items in
+    let many = entries_many cells area l.marks.items in
+    let m : Mark = get_or l.marks.items k d in
+    let e : Entry = entry_in cells area m in
+    let inner : k < length es = omega (arith, within, many) in
+    let at : get_or es k e ≡ e = entry_there cells area l.marks.items k e d within in
+    let whole = subst (λ (z : Entry). IsWhole z.area) at (marked.lane.whole k e inner) in
+    let told = subst (λ (z : Entry). (x y : ℤ) → Covers z.area x y → LiesInBox cells area z.own x y) at (marked.lane.told k e inner) in
+    let w = whole.wide in
+    let h = whole.high in
+    let lies = told e.area.x1 e.area.y1 record { left = omega (arith, ints); right = w; bottom = omega (arith, ints); top = h } in
+    never e.area.x1 e.area.y1 (subst (λ (n : ℕ). LiesInBox cells area n e.area.x1 e.area.y1) same lies)
+
+-- marks are in the order of the entries
+pub marks_rise : (cells : List (Option Rect)) (area : Rect) (l : Lane) → IsMarked cells area l → AreRising l.marks.items
+marks_rise cells area l marked i j d less within =
+    let ms = l.marks.items in
+    let many = entries_many cells area ms in
+    let e : Entry = entry_in cells area d in
+    let up = marked.lane.orderly.order i j e less (omega (arith, within, many)) in
+    let a = (marked.told i d (omega (arith, less, within))).left in
+    let b = (marked.told j d within).left in
+    let first : (get_or (entries_in cells area ms) i e).area.x1 ≡ (entry_in cells area (get_or ms i d)).area.x1 =
+    ap (λ (z : Entry). z.area.x1) (entry_there cells area ms i e d (omega (arith, less, within))) in
+    let second : (get_or (entries_in cells area ms) j e).area.x1 ≡ (entry_in cells area (get_or ms j d)).area.x1 =
+    ap (λ (z : Entry). z.area.x1) (entry_there cells area ms j e d within) in
+    omega (arith, ints, up, a, b, first, second)
+
+abbrev made : List Entry → ℤ → Shown
+made es w = record { entries = es; widest = w }
+
+-- a lane with the same marks
+pub marked_kept : (cells : List (Option Rect)) (area : Rect) (old new : Lane) → IsMarked cells area old → IsKept old new → IsMarked cells area new
+marked_kept cells area old new marked kept = record {
+  lane = subst (IsLane cells area) same marked.lane;
+  told = subst (AreTold cells area) (sym kept.marks) marked.told;
+}
+  where
+    same : shown cells area old ≡ shown cells area new
+    same = ap (λ (ms : List Mark). made (entries_in cells area ms) old.widest) (sym kept.marks)
+        ∙ ap (λ (w : ℤ). made (entries_in cells area new.marks.items) w) (sym kept.widest)
+
+-- marks that are not the cell's tell of the same entries
+told_other : (cells : List (Option Rect)) (area : Rect) (own : ℕ) (box : Option Rect) (ms : List Mark) → All (λ m. m.own ≢ own) ms →
+    AreTold cells area ms → AreTold (set cells own box) area ms
+told_other cells area own box ms apart told k d within =
+    subst (λ (e : Entry). Tells e (get_or ms k d)) (sym (entry_other cells area own box (get_or ms k d) (apart k d within))) (told k d within)
+
+-- a lane without the cell's marks is that of the boxes with none for the cell
+pub marked_pruned : (cells : List (Option Rect)) (area : Rect) (own : ℕ) (old new : Lane) → own < length cells → IsMarked cells area old →
+    IsPruned own old new → IsMarked (set cells own None) area new
+marked_pruned cells area own old new has marked pruned = record {
+  lane = lane_pruned cells area own (shown cells area old) (shown (set cells own None) area new) has marked.lane record {
+    entries = ap (λ (ms : List Mark). entries_in (set cells own None) area ms) pruned.marks
+        ∙ entries_other cells area own None (marks_but items own) apart ∙ entries_but cells area own items;
+    widest = pruned.widest;
+  };
+  told = subst (AreTold (set cells own None) area) (sym pruned.marks)
+      (told_other cells area own None (marks_but items own) apart (All-filter p (λ m. Tells (entry_in cells area m) m) items marked.told));
+}
+  where
+    items : List Mark
+    items = old.marks.items
+
+    p : Mark → Bool
+    p m = not (eqb m.own own)
+
+    apart : All (λ m. m.own ≢ own) (marks_but items own)
+    apart k d within = test_other (get_or (marks_but items own) k d).own own (filter_passes p items k d within)
+
+-- a lane where no point of the strip lies in the old box of the cell, nor in the new one
+pub marked_beside : (cells : List (Option Rect)) (area : Rect) (own : ℕ) (box : Option Rect) (l : Lane) → own < length cells →
+    ((x y : ℤ) → LiesInBox cells area own x y → ⊥) → ((r : Rect) (x y : ℤ) → box ≡ Some r → Covers area x y → Covers r x y → ⊥) → IsMarked cells area l →
+    IsMarked (set cells own box) area l
+marked_beside cells area own box l has old new marked = record {
+  lane = subst (λ (es : List Entry). IsLane (set cells own box) area record { entries = es; widest = l.widest })
+      (sym (entries_other cells area own box l.marks.items apart)) (lane_beside cells area own box (shown cells area l) has old new marked.lane);
+  told = told_other cells area own box l.marks.items apart marked.told;
+}
+  where
+    apart : All (λ m. m.own ≢ own) l.marks.items
+    apart = none_marked cells area own l marked old
+
+mark_insert : (P : Mark → Type 0) (xs : List Mark) (i : ℕ) (m : Mark) → P m → All P xs → All P (insert xs i m)
+mark_insert P xs i m here all = All-append P (take i xs) (m ∷ drop i xs) (All-take P i xs all) (All-cons P m (drop i xs) here (All-drop P i xs all))
+
+-- the lane with the cell's part marked is that of the boxes where the cell stands there
+pub marked_put : (cells : List (Option Rect)) (area : Rect) (own : ℕ) (rect : Rect) (old new : Lane) → own < length cells → cell_box cells own ≡ None →
+    IsNearZero area → IsMarked cells area old → IsPutIn own rect area old new → IsMarked (set cells own (Some rect)) area new
+marked_put cells area own rect old new has nowhere near marked put = elim put [
+  | inl both ↦ joined both.0 both.1
+  | inr both ↦
+      subst (IsMarked (set cells own (Some rect)) area) (sym both.1)
+      (marked_beside cells area own (Some rect) old has nothing
+      (λ r x y same a b. both.0 (whole_at x y ((is.points x y).1 (a, subst (λ (q : Rect). Covers q x y) (same_rect r same) b)))) marked)
+]
+  where
+    part : Rect
+    part = part_in area rect
+
+    is : IsPart area rect part
+    is = part_is area rect part refl refl refl refl
+
+    same_rect : (r : Rect) → ◌≡◌ {A = Option Rect} (Some rect) (Some r) → r ≡ rect
+    same_rect r e = cc
+
+    nothing : (x y : ℤ) → LiesInBox cells area own x y → ⊥
+    nothing x y lies = none_is_not_some lies.box (sym nowhere ∙ lies.is)
+
+    whole_at : (x y : ℤ) → Covers part x y → IsWhole part
+    whole_at x y covers =
+        let a = covers.left in
+        let b = covers.right in
+        let c = covers.bottom in
+        let d = covers.top in
+        record { wide = omega (arith, ints, a, b); high = omega (arith, ints, c, d) }
+
+    joined : IsWhole part → IsAdded own part old new → IsMarked (set cells own (Some rect)) area new
+    joined whole added = record {
+      lane = lane_joined cells area own rect part (shown cells area old) (shown (set cells own (Some rect)) area new) has nowhere near is whole marked.lane record {
+        at = j.at;
+        entries = ap (λ (ms : List Mark). entries_in (set cells own (Some rect)) area ms) j.marks
+            ∙ entries_insert (entry_in (set cells own (Some rect)) area) items j.at m
+            ∙ ap (λ (es : List Entry). insert es j.at (entry_in (set cells own (Some rect)) area m)) (entries_other cells area own (Some rect) items apart)
+            ∙ ap (λ (e : Entry). insert (entries_in cells area items) j.at e) mine;
+        before = λ k d less.
+            let bound = j.bound in
+            let within : k < length items = omega (arith, bound, less) in
+            let h = j.before k no_mark less in
+            let l = (marked.told k no_mark within).left in
+            let at : (get_or (entries_in cells area items) k d).area.x1 ≡ (entry_in cells area (get_or items k no_mark)).area.x1 =
+            ap (λ (z : Entry). z.area.x1) (entry_there cells area items k d no_mark within) in
+            omega (arith, ints, h, l, at);
+        behind = λ k d from until.
+            let many = entries_many cells area items in
+            let within : k < length items = omega (arith, until, many) in
+            let h = j.behind k no_mark from within in
+            let l = (marked.told k no_mark within).left in
+            let at : (get_or (entries_in cells area items) k d).area.x1 ≡ (entry_in cells area (get_or items k no_mark)).area.x1 =
+            ap (λ (z : Entry). z.area.x1) (entry_there cells area items k d no_mark within) in
+            omega (arith, ints, h, l, at);
+        widest = j.widest;
       };
-      whole = subst (All (λ z. IsWhole z.area)) back (all_insert (λ z. IsWhole z.area) items j.at e whole lane.whole);
-      inside = subst (All (IsInside area)) back (all_insert (IsInside area) items j.at e (is_in whole) lane.inside);
-      held = λ k x y lies. subst (Any (HoldsPoint k x y)) back (held k x y lies);
-      told = subst (All (λ z. (x y : ℤ) → Covers z.area x y → LiesInBox (set cells own (Some rect)) area z.own x y)) back
-          (all_insert (λ z. (x y : ℤ) → Covers z.area x y → LiesInBox (set cells own (Some rect)) area z.own x y) items j.at e here there);
-      once = subst AreOnce back (once_insert items j.at e lane.once fresh);
+      told = subst (AreTold (set cells own (Some rect)) area) (sym j.marks)
+          (mark_insert (λ z. Tells (entry_in (set cells own (Some rect)) area z) z) items j.at m (subst (λ (e : Entry). Tells e m) (sym mine) of_part)
+          (told_other cells area own (Some rect) items apart marked.told));
     }
       where
-        items : List Entry
-        items = old.entries.items
+        items : List Mark
+        items = old.marks.items
 
-        back : insert items j.at e ≡ new.entries.items
-        back = sym j.entries
+        m : Mark
+        m = added.mark
 
-        here : (x y : ℤ) → Covers e.area x y → LiesInBox (set cells own (Some rect)) area own x y
-        here x y covers =
-            let both = (put.is.points x y).0 covers in
-            record { box = rect; is = box_same cells own (Some rect) has; in_area = both.0; in_box = both.1 }
+        j : IsJoined m (part.x2 -ℤ part.x1) old new
+        j = added.joined
 
-        there : All (λ z. (x y : ℤ) → Covers z.area x y → LiesInBox (set cells own (Some rect)) area z.own x y) items
-        there k d within x y covers =
-            let z : Entry = get_or items k d in
-            let lies = lane.told k d within x y covers in
-            in_box_of cells (set cells own (Some rect)) area z.own x y (box_other cells own z.own (Some rect) (apart_from z.own lies.box lies.is)) lies
+        of_part : Tells record { own = own; area = part } m
+        of_part = record { left = added.of.left; width = added.of.width }
 
-        fresh : All (λ z. z.own ≢ own) items
-        fresh k d within =
-            let z : Entry = get_or items k d in
-            let w = (lane.whole k d within).wide in
-            let h = (lane.whole k d within).high in
-            let lies = lane.told k d within z.area.x1 z.area.y1
-            record { left = omega (arith, ints); right = w; bottom = omega (arith, ints); top = h } in
-            apart_from z.own lies.box lies.is
+        apart : All (λ z. z.own ≢ own) items
+        apart = none_marked cells area own old marked nothing
 
-        held : (k : ℕ) (x y : ℤ) → LiesInBox (set cells own (Some rect)) area k x y → Any (HoldsPoint k x y) (insert items j.at e)
-        held k x y lies = elim (eqb_tells k own) [
-          | inl same ↦
-              let At : ℕ → Type 0 = λ m. cell_box (set cells own (Some rect)) m ≡ Some lies.box in
-              let is = same_rect lies.box (sym (box_same cells own (Some rect) has) ∙ subst At same.1 lies.is) in
-              let c = insert_contains items j.at e in
-              (c.0, e, c.1, c.2, record { is = sym same.1; covers = (put.is.points x y).1 (lies.in_area, subst (λ (q : Rect). Covers q x y) is lies.in_box) })
-          | inr apart ↦
-              let found = lane.held k x y (in_box_of (set cells own (Some rect)) cells area k x y (sym (box_other cells own k (Some rect) apart.1)) lies) in
-              let c = contains_insert items j.at e found.1 (found.0, found.2, found.3) in
-              (c.0, found.1, c.1, c.2, found.4)
-        ]
+        mine : entry_in (set cells own (Some rect)) area m ≡ record { own = own; area = part }
+        mine = ap (λ (n : ℕ). entry_in (set cells own (Some rect)) area record { own = n; left = m.left; width = m.width }) added.of.is
+            ∙ ap (λ (b : Option Rect). entry_of_box area b own) (box_same cells own (Some rect) has)

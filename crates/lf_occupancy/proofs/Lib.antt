@@ -9,6 +9,7 @@ pub mod Frees
 pub mod Changes
 pub mod Laning
 pub mod Reaching
+pub mod Showing
 pub mod Views
 pub mod Covering
 pub mod Building

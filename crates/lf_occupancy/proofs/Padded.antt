@@ -1,16 +1,19 @@
 -- Entries made wider by a padding.
-use Rattle.std.proofs.Common.{◌≡◌, ◌⊎◌, inl, inr, ℕ, ◌+◌, ◌<◌, ℤ, pos, ◌+ℤ◌, ◌-ℤ◌, ◌*ℤ◌, ◌≤ℤ◌, ◌<ℤ◌, Bool, true, false, cond, List, [], ◌∷◌, ◌++◌}
+use Rattle.std.proofs.Common.{◌≡◌, ◌⊎◌, inl, inr, ℕ, ◌+◌, ◌<◌, ℤ, pos, ◌+ℤ◌, ◌-ℤ◌, ◌*ℤ◌, ◌≤ℤ◌, ◌<ℤ◌, Bool, true, false, cond, List, [], ◌∷◌, ◌++◌, Option}
 use Rattle.std.proofs.Common.{length, get_or, take, eqb, sym, ap, subst, ◌∙◌, arith}
 use Rattle.std.specs.Prelude.{All, Contains, not}
 use Rattle.std.proofs.lemmas.Bool.Decides.{nat_tests}
 use Rattle.std.proofs.lemmas.Int.{ints}
 use Rattle.std.proofs.lemmas.List.{append-nil, get_or-map, get_or_default, length-map, map-append, take_more}
 use Rattle.std.proofs.lemmas.List.Elements.{All-contains, All-map, Contains-get_or, filter-append}
+use Rattle.lf_units.specs.declared.area.Rect.{Rect}
 use Rattle.lf_rules.specs.Padding.{HasRoomAround}
 use Rattle.lf_spans.specs.declared.span.Span.{Span}
 use Rattle.lf_spans.specs.Spans.{AreApart, IsApart}
 use Rattle.lf_occupancy.specs.declared.lane.Entry.{Entry}
-use Rattle.lf_occupancy.specs.Lanes.{AreInOrder, IsNearRun, all_padded, others_in, padded, spans_in, x_range}
+use Rattle.lf_occupancy.specs.declared.lane.Mark.{Mark}
+use Rattle.lf_occupancy.specs.Lanes.{AreInOrder, IsNearRun, all_padded, entries_in, entry_in, others_in, padded, spans_in, wider_range, x_range}
+use Rattle.lf_occupancy.proofs.Laning.{entry_there}
 use Rattle.lf_occupancy.proofs.Runs.{apart_each, each_apart, all_apart_each, each_all_apart, near_in}
 
 pub padded_in_order : (by : ℤ) (es : List Entry) → AreInOrder es → AreInOrder (all_padded by es)
@@ -110,6 +113,13 @@ nearest_in lo hi by x wide low high some = elim order [
     order : (x <ℤ lo) ⊎ ((hi ≤ℤ x) ⊎ ((lo ≤ℤ x) × (x <ℤ hi)))
     order = grind (arith, ints)
 
+-- one more entry
+padded_further : (by : ℤ) (es : List Entry) (i : ℕ) (e : Entry) → i < length es → e ≡ get_or es i e →
+    all_padded by (take (i + 1) es) ≡ all_padded by (take i es) ++ padded by e ∷ []
+padded_further by es i e within is =
+    ap (λ (xs : List Entry). all_padded by xs) (take_more es i e within ∙ ap (λ (x : Entry). take i es ++ x ∷ []) (sym is))
+    ∙ map-append (padded by) (take i es) (e ∷ [])
+
 further : (by : ℤ) (es : List Entry) (i : ℕ) (e : Entry) (own : ℕ) → i < length es → e ≡ get_or es i e →
     others_in (all_padded by (take (i + 1) es)) own ≡ others_in (all_padded by (take i es)) own ++ cond (not (eqb e.own own)) (padded by e ∷ []) []
 further by es i e own within is =
@@ -118,7 +128,7 @@ further by es i e own within is =
     ∙ filter-append (λ (x : Entry). not (eqb x.own own)) (all_padded by (take i es)) (padded by e ∷ [])
 
 -- one more entry of the others
-pub other_further : (by : ℤ) (es : List Entry) (i : ℕ) (e : Entry) (own : ℕ) → i < length es → e ≡ get_or es i e → (e.own ≡ own → ⊥) →
+other_further : (by : ℤ) (es : List Entry) (i : ℕ) (e : Entry) (own : ℕ) → i < length es → e ≡ get_or es i e → (e.own ≡ own → ⊥) →
     others_in (all_padded by (take (i + 1) es)) own ≡ others_in (all_padded by (take i es)) own ++ padded by e ∷ []
 other_further by es i e own within is apart =
     further by es i e own within is
@@ -128,7 +138,7 @@ other_further by es i e own within is apart =
     apart_test a b away = grind (arith, nat_tests, away)
 
 -- and where the next entry is the cell's, none more
-pub other_no_further : (by : ℤ) (es : List Entry) (i : ℕ) (e : Entry) (own : ℕ) → i < length es → e ≡ get_or es i e → e.own ≡ own →
+other_no_further : (by : ℤ) (es : List Entry) (i : ℕ) (e : Entry) (own : ℕ) → i < length es → e ≡ get_or es i e → e.own ≡ own →
     others_in (all_padded by (take (i + 1) es)) own ≡ others_in (all_padded by (take i es)) own
 other_no_further by es i e own within is same =
     further by es i e own within is
@@ -137,3 +147,39 @@ other_no_further by es i e own within is same =
   where
     same_test : (a b : ℕ) → a ≡ b → not (eqb a b) ≡ false
     same_test a b is = grind (arith, nat_tests)
+
+pub no_entry : Entry
+no_entry = record { own = 0; area = record { x1 = pos 0; y1 = pos 0; x2 = pos 0; y2 = pos 0 } }
+
+pub same_entry : (es : List Entry) (i : ℕ) → i < length es → get_or es i no_entry ≡ get_or es i (get_or es i no_entry)
+same_entry es i within = get_or_default es i no_entry (get_or es i no_entry) within
+
+-- the x range of a marked entry is that of the entry there
+pub range_there : (cells : List (Option Rect)) (area : Rect) (ms : List Mark) (i : ℕ) (m : Mark) (s : Span) → i < length ms →
+    s ≡ x_range (entry_in cells area (get_or ms i m)).area → s ≡ x_range (get_or (entries_in cells area ms) i no_entry).area
+range_there cells area ms i m s within is = is ∙ ap (λ (z : Entry). x_range z.area) (sym (entry_there cells area ms i no_entry m within))
+
+-- the spans with one more entry
+spans_more : (by : ℤ) (es : List Entry) (e : Entry) (s : Span) (old new : List Span) → old ≡ spans_in es → s ≡ wider_range by (x_range e.area) →
+    new ≡ old ++ s ∷ [] → new ≡ spans_in (es ++ padded by e ∷ [])
+spans_more by es e s old new before is pushed =
+    pushed ∙ ap (λ (t : Span). old ++ t ∷ []) is ∙ ap (λ (xs : List Span). xs ++ wider_range by (x_range e.area) ∷ []) before
+    ∙ sym (map-append (λ (z : Entry). x_range z.area) es (padded by e ∷ []))
+
+-- one more of the spans
+pub spans_further : (by : ℤ) (es : List Entry) (i : ℕ) (e : Entry) (s : Span) (old new : List Span) → i < length es → e ≡ get_or es i e →
+    old ≡ spans_in (all_padded by (take i es)) → s ≡ wider_range by (x_range e.area) → new ≡ old ++ s ∷ [] → new ≡ spans_in (all_padded by (take (i + 1) es))
+spans_further by es i e s old new within at before is pushed =
+    spans_more by (all_padded by (take i es)) e s old new before is pushed ∙ ap spans_in (sym (padded_further by es i e within at))
+
+-- one more of the spans of the others
+pub other_spans_further : (by : ℤ) (es : List Entry) (i : ℕ) (e : Entry) (own : ℕ) (s : Span) (old new : List Span) → i < length es → e ≡ get_or es i e →
+    (e.own ≡ own → ⊥) → old ≡ spans_in (others_in (all_padded by (take i es)) own) → s ≡ wider_range by (x_range e.area) → new ≡ old ++ s ∷ [] →
+    new ≡ spans_in (others_in (all_padded by (take (i + 1) es)) own)
+other_spans_further by es i e own s old new within at apart before is pushed =
+    spans_more by (others_in (all_padded by (take i es)) own) e s old new before is pushed ∙ ap spans_in (sym (other_further by es i e own within at apart))
+
+-- and where the next entry is the cell's, none more
+pub other_spans_no_further : (by : ℤ) (es : List Entry) (i : ℕ) (e : Entry) (own : ℕ) (old : List Span) → i < length es → e ≡ get_or es i e →
+    e.own ≡ own → old ≡ spans_in (others_in (all_padded by (take i es)) own) → old ≡ spans_in (others_in (all_padded by (take (i + 1) es)) own)
+other_spans_no_further by es i e own old within at same before = before ∙ ap spans_in (sym (other_no_further by es i e own within at same))

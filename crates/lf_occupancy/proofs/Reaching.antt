@@ -7,7 +7,7 @@ use Rattle.std.proofs.lemmas.Bool.Decides.{eqb_tells}
 use Rattle.std.proofs.lemmas.Int.{ints}
 use Rattle.std.proofs.lemmas.List.{get_or-map, get_or_past, length-map}
 use Rattle.std.proofs.lemmas.Option.{slice_get-get_or, slice_get_past}
-use Rattle.std.proofs.lemmas.List.{get_or_default, get_or-set_same, get_or-set_other, set-set, length-append, get_or_append_left, get_or-append-add}
+use Rattle.std.proofs.lemmas.List.{get_or_default, get_or-set_same, get_or-set_other, length-append, get_or_append_left, get_or-append-add}
 use Rattle.std.proofs.lemmas.List.Elements.{All-contains, Contains-append_cases}
 use Rattle.lf_units.specs.declared.area.Rect.{Rect}
 use Rattle.lf_units.specs.Area.{Covers, SharesPoint}
@@ -16,17 +16,18 @@ use Rattle.lf_segments.specs.declared.rows_by_y.RowEntry.{RowEntry}
 use Rattle.lf_occupancy.specs.declared.lane.Lane.{Lane}
 use Rattle.lf_segments.specs.declared.strip.Strip.{Strip}
 use Rattle.lf_segments.specs.Grounds.{Lookups}
-use Rattle.lf_occupancy.specs.Lanes.{IsLane, IsPruned}
+use Rattle.lf_occupancy.specs.Lanes.{AreRising, IsMarked, IsPruned, Shown, part_in}
 use Rattle.lf_segments.specs.Strips.{AreRowsNear}
-use Rattle.lf_occupancy.specs.Strips.{AreChanged, AreKept, AreLanes, AreOrderly, AreRoomy, MeetsStrip, felt_strips}
+use Rattle.lf_occupancy.specs.Strips.{AreChanged, AreKept, AreLanes, AreOrderly, AreShown, MeetsStrip}
 use Rattle.lf_segments.specs.Strips.{IsNear}
 use Rattle.lf_occupancy.specs.Strips.{IsReached, PutsIn, CanTake, HaveRoom, rooms_in}
 use Rattle.lf_occupancy.specs.Occupied.{NoLess, cell_box}
-use Rattle.lf_occupancy.proofs.Around.{IsFelt, felt_many}
-use Rattle.lf_occupancy.proofs.Finds.{no_strip, some_lane}
+use Rattle.lf_occupancy.proofs.Around.{IsFelt}
+use Rattle.lf_occupancy.proofs.Finds.{no_strip}
 use Rattle.lf_occupancy.proofs.Lists.{maps_alike}
-use Rattle.lf_occupancy.proofs.Changes.{room_kept}
-use Rattle.lf_occupancy.proofs.Laning.{lane_beside, lane_kept, lane_pruned, lane_put}
+use Rattle.lf_occupancy.proofs.Parts.{part_is}
+use Rattle.lf_occupancy.proofs.Changes.{room_kept, some_lane}
+use Rattle.lf_occupancy.proofs.Laning.{marked_beside, marked_kept, marked_pruned, marked_put, marks_rise, none_is_not_some}
 
 -- a strip that shares a point with the rectangle is reached
 pub point_is_reached : (s : Lookups) (rect : Rect) (run : List RowEntry) (team n : ℕ) (d : Strip) (x y : ℤ) → All (IsFelt s.rows s.height) s.strips →
@@ -135,8 +136,8 @@ not_of_team xs run team rect n d other (within, (k, r, below, is, near)) = other
 pub lanes_of_team : (xs : List Strip) (boxes : List (List (Option Rect))) (team : ℕ) (cells : List (Option Rect)) (lanes new : List Lane) →
     team < length boxes →
     length new ≡ length lanes → AreLanes xs boxes lanes →
-    ((n : ℕ) (d : Strip) (e : Lane) → n < length xs → (get_or xs n d).team ≡ team → IsLane (get_or boxes team []) (get_or xs n d).area (get_or lanes n e) →
-    IsLane cells (get_or xs n d).area (get_or new n e)) →
+    ((n : ℕ) (d : Strip) (e : Lane) → n < length xs → (get_or xs n d).team ≡ team → IsMarked (get_or boxes team []) (get_or xs n d).area (get_or lanes n e) →
+    IsMarked cells (get_or xs n d).area (get_or new n e)) →
     ((n : ℕ) (d : Strip) (e : Lane) → n < length xs → ((get_or xs n d).team ≡ team → ⊥) → get_or new n e ≡ get_or lanes n e) →
     AreLanes xs (set boxes team cells) new
 lanes_of_team xs boxes team cells lanes new has many old own others = record {
@@ -146,23 +147,23 @@ lanes_of_team xs boxes team cells lanes new has many old own others = record {
       let lane = old.each n d e within in
       elim (eqb_tells g.team team) [
         | inl same ↦
-            let At : ℕ → Type 0 = λ t. IsLane (get_or boxes t []) g.area (get_or lanes n e) in
-            let Here : ℕ → Type 0 = λ t. IsLane (get_or (set boxes team cells) t []) g.area (get_or new n e) in
+            let At : ℕ → Type 0 = λ t. IsMarked (get_or boxes t []) g.area (get_or lanes n e) in
+            let Here : ℕ → Type 0 = λ t. IsMarked (get_or (set boxes team cells) t []) g.area (get_or new n e) in
             subst Here (sym same.1)
-            (subst (λ (cs : List (Option Rect)). IsLane cs g.area (get_or new n e)) (sym (get_or-set_same boxes team cells [] has))
+            (subst (λ (cs : List (Option Rect)). IsMarked cs g.area (get_or new n e)) (sym (get_or-set_same boxes team cells [] has))
             (own n d e within same.1 (subst At same.1 lane)))
         | inr apart ↦
-            subst (λ (cs : List (Option Rect)). IsLane cs g.area (get_or new n e)) (sym (get_or-set_other boxes team g.team cells [] apart.1))
-            (subst (IsLane (get_or boxes g.team []) g.area) (sym (others n d e within apart.1)) lane)
+            subst (λ (cs : List (Option Rect)). IsMarked cs g.area (get_or new n e)) (sym (get_or-set_other boxes team g.team cells [] apart.1))
+            (subst (IsMarked (get_or boxes g.team []) g.area) (sym (others n d e within apart.1)) lane)
       ];
 }
 
 -- the lanes that are pruned where the old box reaches
 pub lanes_out : (s : Lookups) (boxes : List (List (Option Rect))) (team own : ℕ) (rect : Rect) (run : List RowEntry) (lanes new : List Lane) → All (IsFelt s.rows s.height) s.strips →
-    AreRowsNear s.rows s.height rect run → team < length boxes → own < length (get_or boxes team []) → cell_box (get_or boxes team []) own ≡ Some rect →
+    AreRowsNear s.rows s.height rect run → team < length boxes → own < length (get_or boxes team []) → (cell_box (get_or boxes team []) own ≡ None) ⊎ (cell_box (get_or boxes team []) own ≡ Some rect) →
     AreLanes s.strips boxes lanes → AreChanged (IsReached s.strips run team rect) (λ n. IsPruned own) lanes new →
     AreLanes s.strips (set boxes team (set (get_or boxes team []) own None)) new
-lanes_out s boxes team own rect run lanes new strips rows has_team has is old changed =
+lanes_out s boxes team own rect run lanes new strips rows has_team has at old changed =
     lanes_of_team s.strips boxes team (set cells own None) lanes new has_team changed.many old each
     (λ n d e within other. changed.others n e (inside n within) (not_of_team s.strips run team rect n d other))
   where
@@ -176,38 +177,23 @@ lanes_out s boxes team own rect run lanes new strips rows has_team has is old ch
     same_rect r e = cc
 
     each : (n : ℕ) (d : Strip) (e : Lane) → n < length s.strips → (get_or s.strips n d).team ≡ team →
-        IsLane cells (get_or s.strips n d).area (get_or lanes n e) → IsLane (set cells own None) (get_or s.strips n d).area (get_or new n e)
+        IsMarked cells (get_or s.strips n d).area (get_or lanes n e) → IsMarked (set cells own None) (get_or s.strips n d).area (get_or new n e)
     each n d e within of_team lane = elim (decide_reached s.strips run team rect n within) [
-      | inl reached ↦ lane_pruned cells (get_or s.strips n d).area own (get_or lanes n e) (get_or new n e) has lane (changed.chosen n e
+      | inl reached ↦ marked_pruned cells (get_or s.strips n d).area own (get_or lanes n e) (get_or new n e) has lane (changed.chosen n e
           (inside n within) reached)
       | inr never ↦
-          subst (IsLane (set cells own None) (get_or s.strips n d).area) (sym (changed.others n e (inside n within) never))
-          (lane_beside cells (get_or s.strips n d).area own None (get_or lanes n e) has
-          (λ x y lies.
-          never (point_is_reached s rect run team n d x y strips rows within of_team lies.in_area
-          (subst (λ (q : Rect). Covers q x y) (same_rect lies.box (sym is ∙ lies.is)) lies.in_box)))
+          subst (IsMarked (set cells own None) (get_or s.strips n d).area) (sym (changed.others n e (inside n within) never))
+          (marked_beside cells (get_or s.strips n d).area own None (get_or lanes n e) has
+          (λ x y lies. elim at [
+            | inl none ↦ none_is_not_some lies.box (sym none ∙ lies.is)
+            | inr is ↦ never (point_is_reached s rect run team n d x y strips rows within of_team lies.in_area
+                (subst (λ (q : Rect). Covers q x y) (same_rect lies.box (sym is ∙ lies.is)) lies.in_box))
+          ])
           (λ r x y same a b. nothing r same) lane)
     ]
       where
         nothing : (r : Rect) → ◌≡◌ {A = Option Rect} None (Some r) → ⊥
         nothing r same = cc
-
--- a cell without a box is taken out of no lane
-pub lanes_without : (xs : List Strip) (boxes : List (List (Option Rect))) (team own : ℕ) (lanes : List Lane) → team < length boxes →
-    own < length (get_or boxes team []) → cell_box (get_or boxes team []) own ≡ None → AreLanes xs boxes lanes →
-    AreLanes xs (set boxes team (set (get_or boxes team []) own None)) lanes
-lanes_without xs boxes team own lanes has_team has is old =
-    lanes_of_team xs boxes team (set cells own None) lanes lanes has_team refl old
-    (λ n d e within of_team lane.
-    lane_beside cells (get_or xs n d).area own None (get_or lanes n e) has (λ x y lies. nothing lies.box (sym is ∙ lies.is))
-    (λ r x y same a b. nothing r same) lane)
-    (λ n d e within other. refl)
-  where
-    cells : List (Option Rect)
-    cells = get_or boxes team []
-
-    nothing : (r : Rect) → ◌≡◌ {A = Option Rect} None (Some r) → ⊥
-    nothing r same = cc
 
 -- the lanes that take the parts of the new box where it reaches
 pub lanes_in : (s : Lookups) (boxes : List (List (Option Rect))) (team own : ℕ) (rect : Rect) (run : List RowEntry) (lanes new : List Lane) → All (IsFelt s.rows s.height) s.strips →
@@ -231,15 +217,15 @@ lanes_in s boxes team own rect run lanes new strips rows has_team has is old cha
     same_rect r e = cc
 
     each : (n : ℕ) (d : Strip) (e : Lane) → n < length s.strips → (get_or s.strips n d).team ≡ team →
-        IsLane cells (get_or s.strips n d).area (get_or lanes n e) → IsLane (set cells own (Some rect)) (get_or s.strips n d).area (get_or new n e)
+        IsMarked cells (get_or s.strips n d).area (get_or lanes n e) → IsMarked (set cells own (Some rect)) (get_or s.strips n d).area (get_or new n e)
     each n d e within of_team lane = elim (decide_reached s.strips run team rect n within) [
       | inl reached ↦
-          lane_put cells (get_or s.strips n d).area own rect (get_or lanes n e)
+          marked_put cells (get_or s.strips n d).area own rect (get_or lanes n e)
           (get_or new n e) has is (strips n d within).near lane
           (changed.chosen n e (inside n within) reached d)
       | inr never ↦
-          subst (IsLane (set cells own (Some rect)) (get_or s.strips n d).area) (sym (changed.others n e (inside n within) never))
-          (lane_beside cells (get_or s.strips n d).area own (Some rect) (get_or lanes n e) has (λ x y lies. nothing lies.box (sym is ∙ lies.is))
+          subst (IsMarked (set cells own (Some rect)) (get_or s.strips n d).area) (sym (changed.others n e (inside n within) never))
+          (marked_beside cells (get_or s.strips n d).area own (Some rect) (get_or lanes n e) has (λ x y lies. nothing lies.box (sym is ∙ lies.is))
           (λ r x y same a b. never (point_is_reached s rect run team n d x y strips rows within of_team a (subst (λ (q : Rect). Covers q x y)
           (same_rect r same) b)))
           lane)
@@ -250,44 +236,27 @@ pub lanes_kept : (xs : List Strip) (boxes : List (List (Option Rect))) (old new 
 lanes_kept xs boxes old new kept lanes = record {
   many = kept.many ∙ lanes.many;
   each = λ n d e within.
-      lane_kept _ _ (get_or old n e) (get_or new n e) (lanes.each n d e within) (kept.each n e (let m = lanes.many in omega (arith, m, within)));
+      marked_kept _ _ (get_or old n e) (get_or new n e) (lanes.each n d e within) (kept.each n e (let m = lanes.many in omega (arith, m, within)));
 }
 
-pub lanes_orderly : (xs : List Strip) (boxes : List (List (Option Rect))) (lanes : List Lane) → AreLanes xs boxes lanes → AreOrderly xs lanes
+-- lanes that show their strips' boxes are in order
+pub lanes_orderly : (xs : List Strip) (boxes : List (List (Option Rect))) (lanes : List Shown) → AreShown xs boxes lanes → AreOrderly xs lanes
 lanes_orderly xs boxes lanes l = record {
   many = l.many;
   each = λ n e within. (l.each n no_strip e within).orderly;
   inside = λ n d e within. (l.each n d e within).inside;
 }
 
--- lanes of strips that are felt around have room around their entries
-pub lanes_roomy : (site : ℤ) (s : Lookups) (boxes : List (List (Option Rect))) (lanes : List Lane) → All (IsFelt s.rows s.height) (felt_strips site s.strips) →
-    AreLanes (felt_strips site s.strips) boxes lanes → AreRoomy (length s.strips) lanes
-lanes_roomy site s boxes lanes felt l = record {
-  many = l.many ∙ felt_many site s.strips;
-  each = λ n e within. (l.each n no_strip e (inner n within)).orderly;
-  around = λ n e within k d at.
-      let near = (felt n no_strip (inner n within)).near in
-      let a = near.low in
-      let b = near.high in
-      let inside = (l.each n no_strip e (inner n within)).inside k d at in
-      let p = inside.left in
-      let q = inside.right in
-      record { low = omega (arith, ints, a, p); high = omega (arith, ints, b, q) };
-}
-  where
-    inner : (n : ℕ) → n < length s.strips → n < length (felt_strips site s.strips)
-    inner n within = let m = felt_many site s.strips in omega (arith, m, within)
+-- marks are in order in each lane
+pub lanes_rise : (xs : List Strip) (boxes : List (List (Option Rect))) (lanes : List Lane) → AreLanes xs boxes lanes → All (λ l. AreRising l.marks.items) lanes
+lanes_rise xs boxes lanes l n e within =
+    let many = l.many in marks_rise _ _ (get_or lanes n e) (l.each n no_strip e (omega (arith, many, within)))
 
--- a team's boxes changed twice are changed once
-pub set_twice : (boxes : List (List (Option Rect))) (team own : ℕ) (a b : Option Rect) → team < length boxes →
-    set (set boxes team (set (get_or boxes team []) own a)) team (set (get_or (set boxes team (set (get_or boxes team []) own a)) team []) own b)
-    ≡ set boxes team (set (get_or boxes team []) own b)
-set_twice boxes team own a b has =
-    let cells : List (Option Rect) = get_or boxes team [] in
-    ap (λ (cs : List (Option Rect)). set (set boxes team (set cells own a)) team (set cs own b)) (get_or-set_same boxes team (set cells own a) [] has)
-    ∙ set-set boxes team (set cells own a) (set (set cells own a) own b)
-    ∙ ap (λ (cs : List (Option Rect)). set boxes team cs) (set-set cells own a b)
+pub rising_kept : (old new : List Lane) → AreKept old new → All (λ l. AreRising l.marks.items) old → All (λ l. AreRising l.marks.items) new
+rising_kept old new kept rising n e within =
+    let many = kept.many in
+    let inner : n < length old = omega (arith, many, within) in
+    subst AreRising (sym (kept.each n e inner).marks) (rising n e inner)
 
 -- what differs in a list differs in its parts
 pub once_in_run : (s : Lookups) (rect : Rect) (run : List RowEntry) → AllPairs (λ a b. a.row ≢ b.row) s.rows → AreRowsNear s.rows s.height rect run →
@@ -306,12 +275,12 @@ once_in_run s rect run once rows i j d less within =
 -- lanes that are pruned or stay the same have the room that they had
 pub rooms_out : (xs : List Strip) (run : List RowEntry) (team own : ℕ) (rect : Rect) (lanes new : List Lane) → length lanes ≡ length xs →
     AreChanged (IsReached xs run team rect) (λ n. IsPruned own) lanes new → rooms_in new ≡ rooms_in lanes
-rooms_out xs run team own rect lanes new many changed = maps_alike (λ (l : Lane). vec_capacity l.entries) new lanes changed.many each
+rooms_out xs run team own rect lanes new many changed = maps_alike (λ (l : Lane). vec_capacity l.marks) new lanes changed.many each
   where
-    each : (n : ℕ) (e : Lane) → n < length lanes → vec_capacity (get_or new n e).entries ≡ vec_capacity (get_or lanes n e).entries
+    each : (n : ℕ) (e : Lane) → n < length lanes → vec_capacity (get_or new n e).marks ≡ vec_capacity (get_or lanes n e).marks
     each n e within = elim (decide_reached xs run team rect n (omega (arith, within, many))) [
       | inl reached ↦ (changed.chosen n e within reached).room
-      | inr never ↦ ap (λ (l : Lane). vec_capacity l.entries) (changed.others n e within never)
+      | inr never ↦ ap (λ (l : Lane). vec_capacity l.marks) (changed.others n e within never)
     ]
 
 order_of : (n m : ℕ) → (n < m) ⊎ (m ≤ n)
@@ -320,23 +289,25 @@ order_of n m = grind arith
 -- lanes that take the parts of a box keep their room
 pub rooms_put : (xs : List Strip) (run : List RowEntry) (team own : ℕ) (rect : Rect) (lanes new : List Lane) → length lanes ≡ length xs →
     AreChanged (IsReached xs run team rect) (PutsIn xs own rect) lanes new → rooms_in new ≡ rooms_in lanes
-rooms_put xs run team own rect lanes new many changed = maps_alike (λ (l : Lane). vec_capacity l.entries) new lanes changed.many each
+rooms_put xs run team own rect lanes new many changed = maps_alike (λ (l : Lane). vec_capacity l.marks) new lanes changed.many each
   where
-    each : (n : ℕ) (e : Lane) → n < length lanes → vec_capacity (get_or new n e).entries ≡ vec_capacity (get_or lanes n e).entries
+    each : (n : ℕ) (e : Lane) → n < length lanes → vec_capacity (get_or new n e).marks ≡ vec_capacity (get_or lanes n e).marks
     each n e within = elim (decide_reached xs run team rect n (omega (arith, within, many))) [
-      | inl reached ↦ elim (changed.chosen n e within reached no_strip).change [
-        | inl joined ↦ joined.1.room
-        | inr same ↦ ap (λ (l : Lane). vec_capacity l.entries) same.1
+      | inl reached ↦ elim (changed.chosen n e within reached no_strip) [
+        | inl both ↦ both.1.joined.room
+        | inr same ↦ ap (λ (l : Lane). vec_capacity l.marks) same.1
       ]
-      | inr never ↦ ap (λ (l : Lane). vec_capacity l.entries) (changed.others n e within never)
+      | inr never ↦ ap (λ (l : Lane). vec_capacity l.marks) (changed.others n e within never)
     ]
 
 -- a reached lane takes the part of the box where the strips that the box meets have room
-pub takes_parts : (xs : List Strip) (boxes : List (List (Option Rect))) (team : ℕ) (rect : Rect) (run : List RowEntry) (lanes : List Lane) →
-    AreLanes xs boxes lanes → HaveRoom (MeetsStrip xs team rect) 1 lanes → CanTake xs rect (IsReached xs run team rect) lanes
-takes_parts xs boxes team rect run lanes are room n d e (within, (k, r, below, at, near)) = record {
-  order = (are.each n d e within).orderly.order;
-  room = λ part is whole.
+pub takes_parts : (xs : List Strip) (team : ℕ) (rect : Rect) (run : List RowEntry) (lanes : List Lane) → length lanes ≡ length xs →
+    All (λ l. AreRising l.marks.items) lanes → HaveRoom (MeetsStrip xs team rect) 1 lanes → CanTake xs rect (IsReached xs run team rect) lanes
+takes_parts xs team rect run lanes many rising room n d e (within, (k, r, below, at, near)) = record {
+  order = rising n e (omega (arith, many, within));
+  room = λ whole.
+      let part : Rect = part_in (get_or xs n d).area rect in
+      let is = part_is (get_or xs n d).area rect part refl refl refl refl in
       let both = (is.points part.x1 part.y1).0
       record { left = omega (arith, ints); right = whole.wide; bottom = omega (arith, ints); top = whole.high } in
       let meets : MeetsStrip xs team rect n =
@@ -373,21 +344,26 @@ pub move_stays : (xs : List Strip) (team : ℕ) (to : Option Rect) (more : ℕ) 
 move_stays xs team None more old new many kept room = tt
 move_stays xs team (Some rect) more old new many kept room = room_stays xs team rect more old new many kept room
 
+-- lanes of the same rooms are as many
+pub many_still : (old new : List Lane) → rooms_in new ≡ rooms_in old → length new ≡ length old
+many_still old new rooms =
+    sym (length-map new (λ (l : Lane). vec_capacity l.marks)) ∙ ap (λ (ns : List ℕ). length ns) rooms ∙ length-map old (λ (l : Lane). vec_capacity l.marks)
+
 -- lanes that hold what they held have no less room
 pub rooms_kept : (old new : List Lane) → AreKept old new → NoLess (rooms_in old) (rooms_in new)
 rooms_kept old new kept = record {
-  many = length-map new (λ (l : Lane). vec_capacity l.entries) ∙ kept.many ∙ sym (length-map old (λ (l : Lane). vec_capacity l.entries));
+  many = length-map new (λ (l : Lane). vec_capacity l.marks) ∙ kept.many ∙ sym (length-map old (λ (l : Lane). vec_capacity l.marks));
   each = λ n. elim (order_of n (length old)) [
     | inl within ↦
         let many = kept.many in
         let e = some_lane old n within in
-        let a = get_or-map (λ (l : Lane). vec_capacity l.entries) old n e 0 within in
-        let b = get_or-map (λ (l : Lane). vec_capacity l.entries) new n e 0 (omega (arith, within, many)) in
+        let a = get_or-map (λ (l : Lane). vec_capacity l.marks) old n e 0 within in
+        let b = get_or-map (λ (l : Lane). vec_capacity l.marks) new n e 0 (omega (arith, within, many)) in
         let h = (kept.each n e within).room in
         omega (arith, a, b, h)
     | inr past ↦
-        let long = length-map old (λ (l : Lane). vec_capacity l.entries) in
-        let a = get_or_past (map (λ (l : Lane). vec_capacity l.entries) old) n 0 (omega (arith, past, long)) in
+        let long = length-map old (λ (l : Lane). vec_capacity l.marks) in
+        let a = get_or_past (map (λ (l : Lane). vec_capacity l.marks) old) n 0 (omega (arith, past, long)) in
         omega (arith, a)
   ];
 }

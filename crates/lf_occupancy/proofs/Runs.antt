@@ -13,7 +13,8 @@ use Rattle.lf_units.specs.declared.area.Rect.{Rect}
 use Rattle.lf_spans.specs.declared.span.Span.{Span}
 use Rattle.lf_spans.specs.Spans.{AreApart, Holds, IsApart, IsFreeIn, LiesIn}
 use Rattle.lf_occupancy.specs.declared.lane.Entry.{Entry}
-use Rattle.lf_occupancy.specs.Lanes.{AreInOrder, IsNearRun, MeetsOne, others_in, spans_in, x_range}
+use Rattle.lf_occupancy.specs.declared.lane.Mark.{Mark}
+use Rattle.lf_occupancy.specs.Lanes.{AreInOrder, AreRising, IsNearRun, MeetsOne, others_in, spans_in, x_range}
 use Rattle.lf_occupancy.proofs.Lists.{contains_filter, pairs_filter}
 
 less_of : (a b : ℤ) → int_lt a b ≡ true → a <ℤ b
@@ -25,28 +26,28 @@ of_less a b h = grind (arith, ints)
 not_less_of : (a b : ℤ) → int_lt a b ≡ false → b ≤ℤ a
 not_less_of a b e = grind (arith, ints)
 
-rises : (xs : List Entry) (i j : ℕ) (d : Entry) → AreInOrder xs → i ≤ j → j < length xs → (get_or xs i d).area.x1 ≤ℤ (get_or xs j d).area.x1
+rises : (xs : List Mark) (i j : ℕ) (d : Mark) → AreRising xs → i ≤ j → j < length xs → (get_or xs i d).left ≤ℤ (get_or xs j d).left
 rises xs i j d pairs order within = elim same_or [
-  | inl same ↦ let At : ℕ → Type 0 = λ n. (get_or xs i d).area.x1 ≤ℤ (get_or xs n d).area.x1 in subst At same (omega (arith, ints))
+  | inl same ↦ let At : ℕ → Type 0 = λ n. (get_or xs i d).left ≤ℤ (get_or xs n d).left in subst At same (omega (arith, ints))
   | inr less ↦ pairs i j d less within
 ]
   where
     same_or : (i ≡ j) ⊎ (i < j)
     same_or = grind arith
 
-pub parted : (xs : List Entry) (x : ℤ) → AreInOrder xs → IsPartitionedBy (λ e. int_lt e.area.x1 x) xs
+pub parted : (xs : List Mark) (x : ℤ) → AreRising xs → IsPartitionedBy (λ e. int_lt e.left x) xs
 parted xs x pairs i j d order within t =
     let later = rises xs i j d pairs order within in
-    let low = less_of (get_or xs j d).area.x1 x t in
-    of_less (get_or xs i d).area.x1 x (omega (arith, ints, later, low))
+    let low = less_of (get_or xs j d).left x t in
+    of_less (get_or xs i d).left x (omega (arith, ints, later, low))
 
-pub below_x : (xs : List Entry) (x : ℤ) (n : ℕ) → IsPartitionPoint (λ e. int_lt e.area.x1 x ≡ true) (λ e. int_lt e.area.x1 x ≡ false) xs n →
-    (k : ℕ) (d : Entry) → k < n → (get_or xs k d).area.x1 <ℤ x
-below_x xs x n point k d less = less_of (get_or xs k d).area.x1 x (point.0 k d (omega arith) less)
+pub below_x : (xs : List Mark) (x : ℤ) (n : ℕ) → IsPartitionPoint (λ e. int_lt e.left x ≡ true) (λ e. int_lt e.left x ≡ false) xs n →
+    (k : ℕ) (d : Mark) → k < n → (get_or xs k d).left <ℤ x
+below_x xs x n point k d less = less_of (get_or xs k d).left x (point.0 k d (omega arith) less)
 
-pub from_x : (xs : List Entry) (x : ℤ) (n : ℕ) → IsPartitionPoint (λ e. int_lt e.area.x1 x ≡ true) (λ e. int_lt e.area.x1 x ≡ false) xs n →
-    (k : ℕ) (d : Entry) → n ≤ k → k < length xs → x ≤ℤ (get_or xs k d).area.x1
-from_x xs x n point k d from within = not_less_of (get_or xs k d).area.x1 x (point.1 k d from within)
+pub from_x : (xs : List Mark) (x : ℤ) (n : ℕ) → IsPartitionPoint (λ e. int_lt e.left x ≡ true) (λ e. int_lt e.left x ≡ false) xs n →
+    (k : ℕ) (d : Mark) → n ≤ k → k < length xs → x ≤ℤ (get_or xs k d).left
+from_x xs x n point k d from within = not_less_of (get_or xs k d).left x (point.1 k d from within)
 
 -- two bisections cut out what lies near a range
 pub near_run : (xs ys : List Entry) (lo hi widest : ℤ) (f c : ℕ) → f ≤ length xs → ys ≡ drop f xs → All (λ e. (e.area.x2 -ℤ e.area.x1) ≤ℤ widest) xs →

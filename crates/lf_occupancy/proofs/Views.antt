@@ -17,12 +17,14 @@ use Rattle.lf_occupancy.specs.declared.lane.Entry.{Entry}
 use Rattle.lf_occupancy.specs.declared.lane.Lane.{Lane}
 use Rattle.lf_segments.specs.declared.strip.Strip.{Strip}
 use Rattle.lf_rules.specs.Padding.{wider}
-use Rattle.lf_occupancy.specs.Lanes.{IsLane, LiesInBox, IsLeast, padded, x_range}
-use Rattle.lf_occupancy.specs.Strips.{AreFreeTo, AreLanes, AreLeft, HaveRoom, LiesFree, LiesLeft, MeetsInOne, MeetsStrip, felt_strips, rooms_in}
+use Rattle.lf_occupancy.specs.Lanes.{IsLane, IsMarked, LiesInBox, IsLeast, Shown, padded, shown, x_range}
+use Rattle.lf_occupancy.specs.Strips.{AreFreeTo, AreLanes, AreLeft, AreShown, HaveRoom, LiesFree, LiesLeft, MeetsInOne, MeetsStrip, felt_strips, rooms_in}
 use Rattle.lf_occupancy.specs.Occupied.{AreFreeSpans, FitIn, HasRoomFor, IsLeftOver, StandsBut, boxes_of, cell_box, count_in, meets}
 use Rattle.lf_occupancy.specs.Occupied.{Occupied, IsFirstMet, IsFreeInRow, IsFreeOver, IsOther, IsPaddingOf, IsStripOf, MeetsInStrips, across, felt, over, reach}
 use Rattle.lf_occupancy.proofs.Counting.{meets_shares, named_are_counted, shares_meets}
-use Rattle.lf_occupancy.proofs.Finds.{no_strip, some_lane}
+use Rattle.lf_occupancy.proofs.Finds.{no_strip, some_shown}
+use Rattle.lf_occupancy.proofs.Changes.{some_lane}
+use Rattle.lf_occupancy.proofs.Laning.{entries_many}
 use Rattle.lf_occupancy.proofs.Leasts.{least_alike, least_from_none}
 use Rattle.lf_occupancy.proofs.Around.{felt_at, felt_many}
 use Rattle.lf_occupancy.proofs.Lists.{any_made, any_unmade, made_at, unmade_at}
@@ -33,13 +35,13 @@ abbrev pub felts : Occupied → List Strip
 felts o = felt_strips o.site o.index.strips
 
 -- the lane of a strip of the team
-team_lane : (o : Occupied) (lanes : List Lane) (team n : ℕ) (d : Strip) (e : Lane) → AreLanes (felts o) o.boxes lanes → n < length (felts o) →
+team_lane : (o : Occupied) (lanes : List Shown) (team n : ℕ) (d : Strip) (e : Shown) → AreShown (felts o) o.boxes lanes → n < length (felts o) →
     (get_or (felts o) n d).team ≡ team → IsLane (get_or o.boxes team []) (get_or (felts o) n d).area (get_or lanes n e)
 team_lane o lanes team n d e are within of_team =
     let At : ℕ → Type 0 = λ t. IsLane (get_or o.boxes t []) (get_or (felts o) n d).area (get_or lanes n e) in
     subst At of_team (are.each n d e within)
 
-met_in_lanes : (o : Occupied) (lanes : List Lane) (id : CellId) (rect : Rect) (own : ℕ) → AreLanes (felts o) o.boxes lanes → MeetsInStrips o id rect own →
+met_in_lanes : (o : Occupied) (lanes : List Shown) (id : CellId) (rect : Rect) (own : ℕ) → AreShown (felts o) o.boxes lanes → MeetsInStrips o id rect own →
     MeetsInOne (felts o) lanes id.team rect id.own own
 met_in_lanes o lanes id rect own are m =
     let strip = any_made (λ (g : Strip). (g.team ≡ id.team) × Covers g.area m.x m.y) (felt (reach o)) o.index.strips m.in_strip in
@@ -69,18 +71,18 @@ met_in_lanes o lanes id rect own are m =
       },
     )
 
-met_in_strips : (o : Occupied) (lanes : List Lane) (id : CellId) (rect : Rect) (own : ℕ) → AreLanes (felts o) o.boxes lanes →
+met_in_strips : (o : Occupied) (lanes : List Shown) (id : CellId) (rect : Rect) (own : ℕ) → AreShown (felts o) o.boxes lanes →
     MeetsInOne (felts o) lanes id.team rect id.own own → MeetsInStrips o id rect own
 met_in_strips o lanes id rect own are (n, at) =
     let within = at.within in
     let many = are.many in
-    let lane = some_lane lanes n (omega (arith, many, within)) in
+    let lane = some_shown lanes n (omega (arith, many, within)) in
     let met = at.meets lane in
     let e = met.1 in
     let m = met.4 in
     let l = team_lane o lanes id.team n no_strip lane are within (at.of_team no_strip) in
     let told = All-contains (λ z. (x y : ℤ) → Covers z.area x y → LiesInBox (get_or o.boxes id.team []) (get_or (felts o) n no_strip).area z.own x y)
-    (get_or lanes n lane).entries.items e l.told (met.0, met.2, met.3) in
+    (get_or lanes n lane).entries e l.told (met.0, met.2, met.3) in
     let lies = told m.meets.x m.meets.y m.meets.in_second in
     let At : ℕ → Type 0 = λ k. cell_box (get_or o.boxes id.team []) k ≡ Some lies.box in
     record {
@@ -94,7 +96,7 @@ met_in_strips o lanes id rect own are (n, at) =
       in_box = lies.in_box;
     }
 
-pub first_of_least : (o : Occupied) (lanes : List Lane) (id : CellId) (rect : Rect) (met : Option ℕ) → AreLanes (felts o) o.boxes lanes →
+pub first_of_least : (o : Occupied) (lanes : List Shown) (id : CellId) (rect : Rect) (met : Option ℕ) → AreShown (felts o) o.boxes lanes →
     IsLeast (MeetsInOne (felts o) lanes id.team rect id.own) None met → IsFirstMet o id rect met
 first_of_least o lanes id rect met are least =
     least_from_none (MeetsInStrips o id rect) met
@@ -102,7 +104,7 @@ first_of_least o lanes id rect met are least =
     (λ own m. met_in_lanes o lanes id rect own are m) least)
 
 -- the lane of a strip, which is felt around
-felt_lane : (o : Occupied) (lanes : List Lane) (n : ℕ) (d : Strip) (e : Lane) → AreLanes (felts o) o.boxes lanes → n < length o.index.strips →
+felt_lane : (o : Occupied) (lanes : List Shown) (n : ℕ) (d : Strip) (e : Shown) → AreShown (felts o) o.boxes lanes → n < length o.index.strips →
     IsLane (get_or o.boxes (get_or o.index.strips n d).team []) (wider (reach o) (get_or o.index.strips n d).area) (get_or lanes n e)
 felt_lane o lanes n d e are within =
     let many = felt_many o.site o.index.strips in
@@ -111,15 +113,15 @@ felt_lane o lanes n d e are within =
 
 -- a box that shares a point with what is made wider over a span of a strip has an entry in the strip's lane, and that made wider
 -- shares a number with the span
-record IsTooNear (padding : ℤ) (own : ℕ) (s : Span) (l : Lane) : Type 0 where
+record IsTooNear (padding : ℤ) (own : ℕ) (s : Span) (l : Shown) : Type 0 where
   e : Entry
-  there : Contains l.entries.items e
+  there : Contains l.entries e
   is : e.own ≡ own
   x : ℤ
   held : Holds s x
   taken : Holds (x_range (padded padding e).area) x
 
-too_near : (by padding : ℤ) (cells : List (Option Rect)) (g : Strip) (s : Span) (l : Lane) (own : ℕ) (box : Rect) → IsLane cells (wider by g.area) l →
+too_near : (by padding : ℤ) (cells : List (Option Rect)) (g : Strip) (s : Span) (l : Shown) (own : ℕ) (box : Rect) → IsLane cells (wider by g.area) l →
     pos 0 ≤ℤ padding → padding ≤ℤ by → IsFilled s → LiesIn s (across g) → cell_box cells own ≡ Some box → SharesPoint (wider padding (over g s)) box →
     IsTooNear padding own s l
 too_near by padding cells g s l own box lane some most filled within is shares =
@@ -158,13 +160,13 @@ record HasNearBox (cells : List (Option Rect)) (padding : ℤ) (g : Strip) (s : 
   is : cell_box cells own ≡ Some box
   shares : SharesPoint (wider padding (over g s)) box
 
-near_box : (by padding : ℤ) (cells : List (Option Rect)) (g : Strip) (s : Span) (l : Lane) (e : Entry) (x : ℤ) → IsLane cells (wider by g.area) l →
-    pos 0 ≤ℤ padding → Contains l.entries.items e → Holds s x → Holds (x_range (padded padding e).area) x → HasNearBox cells padding g s e.own
+near_box : (by padding : ℤ) (cells : List (Option Rect)) (g : Strip) (s : Span) (l : Shown) (e : Entry) (x : ℤ) → IsLane cells (wider by g.area) l →
+    pos 0 ≤ℤ padding → Contains l.entries e → Holds s x → Holds (x_range (padded padding e).area) x → HasNearBox cells padding g s e.own
 near_box by padding cells g s l e x lane some there first second =
-    let whole = All-contains (λ z. (z.area.x1 <ℤ z.area.x2) × (z.area.y1 <ℤ z.area.y2)) l.entries.items e
+    let whole = All-contains (λ z. (z.area.x1 <ℤ z.area.x2) × (z.area.y1 <ℤ z.area.y2)) l.entries e
     (λ k c inner. let w = lane.whole k c inner in (w.wide, w.high)) there in
     let high = whole.1 in
-    let told = All-contains (λ z. (x y : ℤ) → Covers z.area x y → LiesInBox cells (wider by g.area) z.own x y) l.entries.items e lane.told there in
+    let told = All-contains (λ z. (x y : ℤ) → Covers z.area x y → LiesInBox cells (wider by g.area) z.own x y) l.entries e lane.told there in
     let near = nearest_in e.area.x1 e.area.x2 padding x whole.0 second.low second.high some in
     let lies = told near.z e.area.y1 record { left = near.low; right = near.high; bottom = omega (arith, ints); top = high } in
     record {
@@ -183,8 +185,8 @@ near_box by padding cells g s l e x lane some there first second =
       };
     }
 
-pub free_of_strips : (o : Occupied) (lanes : List Lane) (row : ℕ) (id : CellId) (window : Span) (padding : ℤ) (free : List Span) → IsPaddingOf o padding →
-    AreLanes (felts o) o.boxes lanes → AreFreeTo o.index.strips lanes row id.team id.own window padding (length o.index.strips) free →
+pub free_of_strips : (o : Occupied) (lanes : List Shown) (row : ℕ) (id : CellId) (window : Span) (padding : ℤ) (free : List Span) → IsPaddingOf o padding →
+    AreShown (felts o) o.boxes lanes → AreFreeTo o.index.strips lanes row id.team id.own window padding (length o.index.strips) free →
     IsFreeInRow o row id window padding free
 free_of_strips o lanes row id window padding free short are f = record {
   rising = f.rising;
@@ -197,7 +199,7 @@ free_of_strips o lanes row id window padding free short are f = record {
     xs : List Strip
     xs = o.index.strips
 
-    lane_of : (n : ℕ) (d : Strip) (e : Lane) → n < length xs → (get_or xs n d).team ≡ id.team →
+    lane_of : (n : ℕ) (d : Strip) (e : Shown) → n < length xs → (get_or xs n d).team ≡ id.team →
         IsLane (get_or o.boxes id.team []) (wider (reach o) (get_or xs n d).area) (get_or lanes n e)
     lane_of n d e within of_team =
         let At : ℕ → Type 0 = λ t. IsLane (get_or o.boxes t []) (wider (reach o) (get_or xs n d).area) (get_or lanes n e) in
@@ -227,10 +229,10 @@ free_of_strips o lanes row id window padding free short are f = record {
             let many = are.many in
             let felt_too = felt_many o.site xs in
             let within = l.within in
-            let lane = some_lane lanes n (omega (arith, many, felt_too, within)) in
+            let lane = some_shown lanes n (omega (arith, many, felt_too, within)) in
             let near = too_near (reach o) padding (get_or o.boxes id.team []) g s (get_or lanes n lane) own box
             (lane_of n no_strip lane within (l.of_team no_strip)) short.least short.most filled (l.inside no_strip) other.stands shares in
-            other_padded padding (get_or lanes n lane).entries.items id.own s (l.apart lane) near.e near.there
+            other_padded padding (get_or lanes n lane).entries id.own s (l.apart lane) near.e near.there
             (λ same. other.other (sym near.is ∙ same)) near.x near.held near.taken
 
     back : (s : Span) → Any (λ g. IsStripOf row id.team g × IsFreeOver o id padding g s) xs →
@@ -244,7 +246,7 @@ free_of_strips o lanes row id window padding free short are f = record {
           in_row = λ d. ap (λ (x : Strip). x.row) (same d) ∙ strip.in_row;
           of_team = λ d. ap (λ (x : Strip). x.team) (same d) ∙ strip.of_team;
           inside = λ d. subst (λ (x : Strip). LiesIn s (across x)) (sym (same d)) free_over.within;
-          apart = λ d. others_padded padding (get_or lanes n d).entries.items id.own s (λ e there other x first second. never d e there other x first second);
+          apart = λ d. others_padded padding (get_or lanes n d).entries id.own s (λ e there other x first second. never d e there other x first second);
         },
       ),
     )
@@ -255,7 +257,7 @@ free_of_strips o lanes row id window padding free short are f = record {
         of_team : (get_or xs n g).team ≡ id.team
         of_team = ap (λ (x : Strip). x.team) is ∙ strip.of_team
 
-        never : (d : Lane) (e : Entry) → Contains (get_or lanes n d).entries.items e → (e.own ≡ id.own → ⊥) → AreApart s (x_range (padded padding e).area)
+        never : (d : Shown) (e : Entry) → Contains (get_or lanes n d).entries e → (e.own ≡ id.own → ⊥) → AreApart s (x_range (padded padding e).area)
         never d e there other x first second =
             let At : Strip → Type 0 = λ q. HasNearBox (get_or o.boxes id.team []) padding q s e.own in
             let near : At g = subst At is
@@ -264,8 +266,8 @@ free_of_strips o lanes row id window padding free short are f = record {
             free_over.clear e.own near.box record { other = other; stands = near.is } near.shares
 
 -- what lies over the strip of that number, and no entry of the lane made wider shares a number with it
-left_over : (o : Occupied) (lanes : List Lane) (id : CellId) (padding : ℤ) (n : ℕ) (s : Span) → IsPaddingOf o padding → IsFilled s →
-    AreLanes (felts o) o.boxes lanes → LiesLeft o.index.strips lanes id padding n s → IsLeftOver o id padding (get_or o.index.strips n no_strip) s
+left_over : (o : Occupied) (lanes : List Shown) (id : CellId) (padding : ℤ) (n : ℕ) (s : Span) → IsPaddingOf o padding → IsFilled s →
+    AreShown (felts o) o.boxes lanes → LiesLeft o.index.strips lanes id padding n s → IsLeftOver o id padding (get_or o.index.strips n no_strip) s
 left_over o lanes id padding n s short filled are l = record { within = l.inside no_strip; clear = clear }
   where
     g : Strip
@@ -276,30 +278,30 @@ left_over o lanes id padding n s short filled are l = record { within = l.inside
         let many = are.many in
         let felt_too = felt_many o.site o.index.strips in
         let within = l.within in
-        let lane = some_lane lanes n (omega (arith, many, felt_too, within)) in
+        let lane = some_shown lanes n (omega (arith, many, felt_too, within)) in
         let near = too_near (reach o) padding (get_or o.boxes g.team []) g s (get_or lanes n lane) own box (felt_lane o lanes n no_strip lane are within)
         short.least short.most filled (l.inside no_strip) stands.stands shares in
         elim (eqb_tells g.team id.team) [
-          | inl same ↦ other_padded padding (get_or lanes n lane).entries.items id.own s (l.own no_strip lane same.1) near.e near.there
+          | inl same ↦ other_padded padding (get_or lanes n lane).entries id.own s (l.own no_strip lane same.1) near.e near.there
               (λ is. stands.other same.1 (sym near.is ∙ is)) near.x near.held near.taken
-          | inr away ↦ one_padded padding (get_or lanes n lane).entries.items s (l.foreign no_strip lane away.1) near.e near.there near.x near.held
+          | inr away ↦ one_padded padding (get_or lanes n lane).entries s (l.foreign no_strip lane away.1) near.e near.there near.x near.held
               near.taken
         ]
 
-over_left : (o : Occupied) (lanes : List Lane) (id : CellId) (padding : ℤ) (n : ℕ) (g : Strip) (s : Span) → IsPaddingOf o padding →
-    AreLanes (felts o) o.boxes lanes → n < length o.index.strips → ((d : Strip) → get_or o.index.strips n d ≡ g) → IsLeftOver o id padding g s →
+over_left : (o : Occupied) (lanes : List Shown) (id : CellId) (padding : ℤ) (n : ℕ) (g : Strip) (s : Span) → IsPaddingOf o padding →
+    AreShown (felts o) o.boxes lanes → n < length o.index.strips → ((d : Strip) → get_or o.index.strips n d ≡ g) → IsLeftOver o id padding g s →
     LiesLeft o.index.strips lanes id padding n s
 over_left o lanes id padding n g s short are within is left = record {
   within = within;
   inside = λ d. subst (λ (x : Strip). LiesIn s (across x)) (sym (is d)) left.within;
   own = λ d e same.
-      others_padded padding (get_or lanes n e).entries.items id.own s (λ x there other. never e x there (λ team. other));
+      others_padded padding (get_or lanes n e).entries id.own s (λ x there other. never e x there (λ team. other));
   foreign = λ d e away.
-      each_padded padding (get_or lanes n e).entries.items s
+      each_padded padding (get_or lanes n e).entries s
       (λ x there. never e x there (λ team. absurd (away (ap (λ (q : Strip). q.team) (is d) ∙ team))));
 }
   where
-    never : (d : Lane) (e : Entry) → Contains (get_or lanes n d).entries.items e → (g.team ≡ id.team → e.own ≡ id.own → ⊥) →
+    never : (d : Shown) (e : Entry) → Contains (get_or lanes n d).entries e → (g.team ≡ id.team → e.own ≡ id.own → ⊥) →
         AreApart s (x_range (padded padding e).area)
     never d e there other x first second =
         let At : Strip → Type 0 = λ q. IsLane (get_or o.boxes q.team []) (wider (reach o) q.area) (get_or lanes n d) in
@@ -307,8 +309,8 @@ over_left o lanes id padding n g s short are within is left = record {
         let near = near_box (reach o) padding (get_or o.boxes g.team []) g s (get_or lanes n d) e x lane short.least there first second in
         left.clear e.own near.box record { other = other; stands = near.is } near.shares
 
-pub spans_of_strip : (o : Occupied) (lanes : List Lane) (id : CellId) (padding : ℤ) (n : ℕ) (free : List Span) → IsPaddingOf o padding →
-    AreLanes (felts o) o.boxes lanes → AreLeft o.index.strips lanes id padding n free → AreFreeSpans o n id padding free
+pub spans_of_strip : (o : Occupied) (lanes : List Shown) (id : CellId) (padding : ℤ) (n : ℕ) (free : List Span) → IsPaddingOf o padding →
+    AreShown (felts o) o.boxes lanes → AreLeft o.index.strips lanes id padding n free → AreFreeSpans o n id padding free
 spans_of_strip o lanes id padding n free short are left = record {
   rising = left.rising;
   exact = λ s filled. (λ lies. to s filled ((left.exact s filled).0 lies), λ some. (left.exact s filled).1 (back s some));
@@ -332,11 +334,11 @@ spans_of_strip o lanes id padding n free short are left = record {
     ]
 
 -- a lane has an entry for each of its team's boxes that meet the strip, and no other
-lane_is_counted : (g : Strip) (boxes : List (Option Rect)) (l : Lane) → IsLane boxes g.area l → vec_len l.entries ≡ count_in g boxes
-lane_is_counted g boxes l lane = l.entries.ok.0 ∙ sym (length-map items (λ (e : Entry). e.own)) ∙ named_are_counted g boxes owns once (λ own. (to own, back own))
+lane_is_counted : (g : Strip) (boxes : List (Option Rect)) (l : Shown) → IsLane boxes g.area l → length l.entries ≡ count_in g boxes
+lane_is_counted g boxes l lane = sym (length-map items (λ (e : Entry). e.own)) ∙ named_are_counted g boxes owns once (λ own. (to own, back own))
   where
     items : List Entry
-    items = l.entries.items
+    items = l.entries
 
     owns : List ℕ
     owns = map (λ (e : Entry). e.own) items
@@ -387,8 +389,8 @@ lane_is_counted g boxes l lane = l.entries.ok.0 ∙ sym (length-map items (λ (e
 
 -- what the lane of a strip has, in numbers
 record InNumbers (g : Strip) (boxes : List (Option Rect)) (places : ℕ) (l : Lane) : Type 0 where
-  count : vec_len l.entries ≡ count_in g boxes
-  room : vec_capacity l.entries ≡ places
+  count : vec_len l.marks ≡ count_in g boxes
+  room : vec_capacity l.marks ≡ places
 
 strip_is_within : (xs : List Strip) (n : ℕ) (g : Strip) → slice_get xs n ≡ Some g → (n < length xs) × ((d : Strip) → get_or xs n d ≡ g)
 strip_is_within [] n g is = absurd cc
@@ -401,12 +403,14 @@ in_numbers xs boxes lanes n g team e are is of_team =
     let at = strip_is_within xs n g is in
     let many = are.many in
     let within = at.0 in
-    let At : Strip → Type 0 = λ q. IsLane (get_or boxes q.team []) q.area (get_or lanes n e) in
+    let At : Strip → Type 0 = λ q. IsMarked (get_or boxes q.team []) q.area (get_or lanes n e) in
     let lane : At g = subst At (at.1 g) (are.each n g e within) in
-    let Of : ℕ → Type 0 = λ t. IsLane (get_or boxes t []) g.area (get_or lanes n e) in
+    let Of : ℕ → Type 0 = λ t. IsMarked (get_or boxes t []) g.area (get_or lanes n e) in
+    let marked : IsMarked (get_or boxes team []) g.area (get_or lanes n e) = subst Of of_team lane in
     record {
-      count = lane_is_counted g (get_or boxes team []) (get_or lanes n e) (subst Of of_team lane);
-      room = sym (get_or-map (λ (l : Lane). vec_capacity l.entries) lanes n e 0 (omega (arith, many, within)));
+      count = (get_or lanes n e).marks.ok.0 ∙ sym (entries_many (get_or boxes team []) g.area (get_or lanes n e).marks.items)
+          ∙ lane_is_counted g (get_or boxes team []) (shown (get_or boxes team []) g.area (get_or lanes n e)) marked.lane;
+      room = sym (get_or-map (λ (l : Lane). vec_capacity l.marks) lanes n e 0 (omega (arith, many, within)));
     }
 
 lane_at : (xs : List Strip) (boxes : List (List (Option Rect))) (lanes : List Lane) (n : ℕ) (g : Strip) → AreLanes xs boxes lanes → slice_get xs n ≡ Some g → Lane
@@ -423,7 +427,7 @@ boxes_that_stand_fit o lanes rooms are team n g is of_team =
     let a = numbers.count in
     let b = numbers.room in
     let c = ap (λ (ns : List ℕ). get_or ns n 0) rooms in
-    let most = (get_or lanes n e).entries.ok.1 in
+    let most = (get_or lanes n e).marks.ok.1 in
     omega (arith, a, b, c, most)
 
 -- room in lanes is room in what a contract sees

@@ -1,17 +1,20 @@
 -- The steps of making an occupancy.
-use Rattle.std.specs.Prelude.{◌≡◌, ℕ, pos, List, [], All, Contains, length, Option, None, Some, slice_index_or, replicate}
+use Rattle.std.specs.Prelude.{◌≡◌, ℕ, pos, List, [], All, Contains, length, Option, None, Some, slice_index_or}
 use Rattle.lf_units.specs.declared.area.Rect.{Rect}
 use Rattle.lf_floorplan.specs.declared.frame.Frame.{Frame}
 use Rattle.lf_cells.specs.declared.cell.Cell.{Cell}
 use Rattle.lf_cells.specs.declared.cell.CellId.{CellId}
 use Rattle.lf_cells.specs.Cells.{Cells, cells_of, cell_at}
+use Rattle.lf_occupancy.specs.declared.build.Waiting.{Waiting}
 use Rattle.lf_occupancy.specs.declared.lane.Lane.{Lane}
+use Rattle.lf_segments.specs.declared.strip.Strip.{Strip}
 use Rattle.lf_occupancy.specs.Floorplans.{box_of}
 use Rattle.lf_occupancy.specs.Occupied.{cell_box}
+use Rattle.lf_occupancy.specs.Strips.{AreLanes}
 
--- the lane has no entry
+-- the lane has no mark
 pub record IsBare (l : Lane) : Type 0 where
-  pub entries : l.entries.items ≡ []
+  pub marks : l.marks.items ≡ []
   pub widest : l.widest ≡ pos 0
 
 -- this many empty lanes
@@ -19,11 +22,18 @@ pub record AreBare (count : ℕ) (lanes : List Lane) : Type 0 where
   pub many : length lanes ≡ count
   pub each : All IsBare lanes
 
--- each team has a box for each of its cells, and each is None
-abbrev pub AreNowhere : Cells → List (List (Option Rect)) → Type 0
-AreNowhere cells boxes = (team : ℕ) → slice_index_or boxes team [] ≡ replicate (length (cells_of cells team)) None
+-- the id of a cell by its position among these
+abbrev pub id_at : List CellId → Waiting → CellId
+id_at ids w = slice_index_or ids w.at record { team = 0; own = 0 }
 
--- each team has a box for each of its cells, and those of these ids are the cells' boxes
+-- each team has a box for each of its cells: those of these ids are the cells' boxes, and all others None
 pub record AreFilled (f : Frame) (cells : Cells) (ids : List CellId) (boxes : List (List (Option Rect))) : Type 0 where
   pub many : (team : ℕ) → length (slice_index_or boxes team []) ≡ length (cells_of cells team)
   pub done : (id : CellId) (c : Cell) → Contains ids id → cell_at cells id ≡ Some c → cell_box (slice_index_or boxes id.team []) id.own ≡ box_of f c
+  pub rest : (id : CellId) → (Contains ids id → ⊥) → cell_box (slice_index_or boxes id.team []) id.own ≡ None
+
+-- the lanes mark the boxes of the cells of these ids
+pub record AreFilledIn (f : Frame) (cells : Cells) (strips : List Strip) (ids : List CellId) (lanes : List Lane) : Type 0 where
+  pub boxes : List (List (Option Rect))
+  pub filled : AreFilled f cells ids boxes
+  pub marked : AreLanes strips boxes lanes

@@ -1,5 +1,5 @@
 -- The boxes of a table's cells, and the strips that they stand in.
-use Rattle.std.specs.Prelude.{◌≡◌, ◌<◌, ◌≤ℤ◌, ◌<ℤ◌, pos, length, ℕ, ℤ, map, Any, Option}
+use Rattle.std.specs.Prelude.{◌≡◌, ◌<◌, ◌≤ℤ◌, ◌<ℤ◌, pos, length, ℕ, ℤ, List, map, All, Any, Option}
 use Rattle.std.specs.Option.{option_map}
 use Rattle.lf_units.specs.declared.area.Rect.{Rect}
 use Rattle.lf_units.specs.Area.{Covers}
@@ -14,6 +14,7 @@ use Rattle.lf_rules.specs.Team.{box_in}
 use Rattle.lf_cells.specs.declared.cell.Cell.{Cell}
 use Rattle.lf_cells.specs.Cells.{Cells, cells_of}
 use Rattle.lf_occupancy.specs.Occupied.{Occupied, boxes_of, reach}
+use Rattle.lf_occupancy.specs.Strips.{Holds, Marked}
 
 -- the cell's macro is one of the frame's, of whole size
 pub record HasSize (f : Frame) (c : Cell) : Type 0 where
@@ -24,6 +25,14 @@ pub record HasSize (f : Frame) (c : Cell) : Type 0 where
 abbrev pub box_of : Frame → Cell → Option Rect
 box_of f c = option_map (λ p. box_in f c.mac (spot_of p)) c.working
 
+-- the boxes of all teams' cells at their working places
+abbrev pub boxes_in : Frame → Cells → List (List (Option Rect))
+boxes_in f cells = map (λ own. map (box_of f) own) cells.cells
+
+-- the macros of all cells are the frame's, of whole size
+abbrev pub HaveSize : Frame → Cells → Type 0
+HaveSize f cells = (team : ℕ) → All (HasSize f) (cells_of cells team)
+
 -- the boxes are those of the table's cells at their working places
 abbrev pub HoldsCells : Frame → Cells → Occupied → Type 0
 HoldsCells f cells o = (team : ℕ) → boxes_of o team ≡ map (box_of f) (cells_of cells team)
@@ -33,6 +42,12 @@ pub record IsOccupancyOf (f : Frame) (cells : Cells) (o : Occupied) : Type 0 whe
   pub index : IsGroundOf f o.index
   pub site : o.site ≡ f.pitch.x
   pub boxes : HoldsCells f cells o
+
+-- what is kept is of this frame, and marks the working places of this table's cells
+pub record IsMarkedBy (f : Frame) (cells : Cells) (m : Marked) : Type 0 where
+  pub index : IsGroundOf f m.index
+  pub site : m.site ≡ f.pitch.x
+  pub holds : Holds m (boxes_in f cells)
 
 -- each point of a box that stands on rows, stays in a team's ground and is clear of obstacles lies in one of the team's strips
 abbrev pub StripsCover : Type 0

@@ -1,14 +1,16 @@
--- The entries of one strip, which is felt around: one for the part of each cell's box that lies in it.
+-- The entries of one strip, which is felt around: one for the part of each cell's box that lies in it. A lane keeps a mark of each,
+-- and shows them where the boxes of its team's cells are known.
 use Rattle.std.specs.Prelude.{◌≡◌, ◌≢◌, ◌⊎◌, ◌↔◌, ◌==◌, ℕ, ◌+◌, ◌<◌, ◌≤◌, ℤ, pos, negsuc}
-use Rattle.std.specs.Prelude.{◌-ℤ◌, ◌≤ℤ◌, ◌<ℤ◌, List, ◌++◌, map, filter, not, length, All, AllPairs, Any}
-use Rattle.std.specs.Prelude.{Option, Some, IfSome, insert, IsSomeAnd, slice_index_or}
-use Rattle.std.specs.Int.{int_max}
+use Rattle.std.specs.Prelude.{◌+ℤ◌, ◌-ℤ◌, ◌≤ℤ◌, ◌<ℤ◌, List, ◌++◌, map, filter, not, length, All, AllPairs, Any}
+use Rattle.std.specs.Prelude.{Option, None, Some, IfSome, insert, IsSomeAnd, slice_index_or}
+use Rattle.std.specs.Int.{int_max, int_min}
 use Rattle.std.specs.Vec.{vec_len, vec_capacity}
 use Rattle.lf_units.specs.declared.area.Rect.{Rect}
 use Rattle.lf_units.specs.Area.{Covers, SharesPoint}
 use Rattle.lf_spans.specs.declared.span.Span.{Span}
 use Rattle.lf_occupancy.specs.declared.lane.Entry.{Entry}
 use Rattle.lf_occupancy.specs.declared.lane.Lane.{Lane}
+use Rattle.lf_occupancy.specs.declared.lane.Mark.{Mark}
 use Rattle.lf_rules.specs.Padding.{wider}
 use Rattle.lf_occupancy.specs.Occupied.{cell_box}
 
@@ -27,6 +29,36 @@ pub record IsPart (a b part : Rect) : Type 0 where
   pub left : a.x1 ≤ℤ part.x1
   pub right : part.x2 ≤ℤ a.x2
 
+-- that part by the edges
+abbrev pub part_in : Rect → Rect → Rect
+part_in a b = record { x1 = int_max a.x1 b.x1; y1 = int_max a.y1 b.y1; x2 = int_min a.x2 b.x2; y2 = int_min a.y2 b.y2 }
+
+-- the box; a rectangle without points if there is none
+abbrev pub some_box : Option Rect → Rect
+some_box None = record { x1 = pos 0; y1 = pos 0; x2 = pos 0; y2 = pos 0 }
+some_box (Some box) = box
+
+-- the entry of a cell for the part of its box that lies in the area
+abbrev pub entry_of_box : Rect → Option Rect → ℕ → Entry
+entry_of_box area box own = record { own = own; area = part_in area (some_box box) }
+
+-- the entry that is marked in the lane of a strip of that area
+abbrev pub entry_in : List (Option Rect) → Rect → Mark → Entry
+entry_in cells area m = entry_of_box area (cell_box cells m.own) m.own
+
+-- each of the entries that are marked
+abbrev pub entries_in : List (Option Rect) → Rect → List Mark → List Entry
+entries_in cells area marks = map (entry_in cells area) marks
+
+-- entries, and a width that none exceeds
+pub record Shown : Type 0 where
+  pub entries : List Entry
+  pub widest : ℤ
+
+-- what a lane of a strip of that area shows of the cells' boxes
+abbrev pub shown : List (Option Rect) → Rect → Lane → Shown
+shown cells area l = record { entries = entries_in cells area l.marks.items; widest = l.widest }
+
 -- the entry is the cell's, and holds the point
 pub record HoldsPoint (own : ℕ) (x y : ℤ) (e : Entry) : Type 0 where
   pub is : e.own ≡ own
@@ -43,10 +75,14 @@ pub record LiesInBox (cells : List (Option Rect)) (area : Rect) (own : ℕ) (x y
 abbrev pub AreInOrder : List Entry → Type 0
 AreInOrder entries = AllPairs (λ a b. a.area.x1 ≤ℤ b.area.x1) entries
 
+-- marks in the order of their left edges
+abbrev pub AreRising : List Mark → Type 0
+AreRising marks = AllPairs (λ a b. a.left ≤ℤ b.left) marks
+
 -- the entries are in order, and none is wider than the widest
-pub record IsOrderly (l : Lane) : Type 0 where
-  pub order : AreInOrder l.entries.items
-  pub wide : All (λ e. (e.area.x2 -ℤ e.area.x1) ≤ℤ l.widest) l.entries.items
+pub record IsOrderly (l : Shown) : Type 0 where
+  pub order : AreInOrder l.entries
+  pub wide : All (λ e. (e.area.x2 -ℤ e.area.x1) ≤ℤ l.widest) l.entries
   pub some : pos 0 ≤ℤ l.widest
   pub most : l.widest ≤ℤ pos 1099511627776
 
@@ -58,13 +94,31 @@ pub record IsInside (area : Rect) (e : Entry) : Type 0 where
   pub top : e.area.y2 ≤ℤ area.y2
 
 -- each point of the area that lies in a cell's box is in an entry of the cell, entries hold no other point, and no cell has two
-pub record IsLane (cells : List (Option Rect)) (area : Rect) (l : Lane) : Type 0 where
+pub record IsLane (cells : List (Option Rect)) (area : Rect) (l : Shown) : Type 0 where
   pub orderly : IsOrderly l
-  pub whole : All (λ e. IsWhole e.area) l.entries.items
-  pub inside : All (IsInside area) l.entries.items
-  pub held : (own : ℕ) (x y : ℤ) → LiesInBox cells area own x y → Any (HoldsPoint own x y) l.entries.items
-  pub told : All (λ e. (x y : ℤ) → Covers e.area x y → LiesInBox cells area e.own x y) l.entries.items
-  pub once : AllPairs (λ a b. a.own ≢ b.own) l.entries.items
+  pub whole : All (λ e. IsWhole e.area) l.entries
+  pub inside : All (IsInside area) l.entries
+  pub held : (own : ℕ) (x y : ℤ) → LiesInBox cells area own x y → Any (HoldsPoint own x y) l.entries
+  pub told : All (λ e. (x y : ℤ) → Covers e.area x y → LiesInBox cells area e.own x y) l.entries
+  pub once : AllPairs (λ a b. a.own ≢ b.own) l.entries
+
+-- what a mark keeps of a width: the width, or 2^32 - 1, which tells nothing
+abbrev pub IsKeptAs : ℤ → ℕ → Type 0
+IsKeptAs width kept = kept ≢ 4294967295 → width ≡ pos kept
+
+-- the mark tells the entry's left edge, and what it keeps of its width
+pub record Tells (e : Entry) (m : Mark) : Type 0 where
+  pub left : m.left ≡ e.area.x1
+  pub width : IsKeptAs (e.area.x2 -ℤ e.area.x1) m.width
+
+-- each of the marks tells of its entry
+abbrev pub AreTold : List (Option Rect) → Rect → List Mark → Type 0
+AreTold cells area marks = All (λ m. Tells (entry_in cells area m) m) marks
+
+-- the lane shows just that, and each of its marks tells of its entry
+pub record IsMarked (cells : List (Option Rect)) (area : Rect) (l : Lane) : Type 0 where
+  pub lane : IsLane cells area (shown cells area l)
+  pub told : AreTold cells area l.marks.items
 
 -- the run of entries near a range: the entries before the run end before the range, and those after it begin after the range
 pub record IsNearRun (entries : List Entry) (lo hi : ℤ) (near : List Entry) : Type 0 where
@@ -77,6 +131,18 @@ pub record IsNearRun (entries : List Entry) (lo hi : ℤ) (near : List Entry) : 
 -- the entries of all cells but this one
 abbrev pub others_in : List Entry → ℕ → List Entry
 others_in entries own = filter (λ e. not (e.own == own)) entries
+
+-- the marks of all cells but this one
+abbrev pub marks_but : List Mark → ℕ → List Mark
+marks_but marks own = filter (λ m. not (m.own == own)) marks
+
+-- the range and the x range of the rectangle have no number in common
+abbrev pub LiesBeside : Span → Rect → Type 0
+LiesBeside s r = (s.hi ≤ℤ r.x1) ⊎ (r.x2 ≤ℤ s.lo)
+
+-- the range made wider by a length on its left and on its right
+abbrev pub wider_range : ℤ → Span → Span
+wider_range by s = record { lo = s.lo -ℤ by; hi = s.hi +ℤ by }
 
 -- the spans of entries
 abbrev pub spans_in : List Entry → List Span
@@ -110,70 +176,86 @@ pub record IsLeast (P : ℕ → Type 0) (so_far least : Option ℕ) : Type 0 whe
   pub no_greater : IfSome so_far (IsUpTo least)
   pub each : (own : ℕ) → P own → IsUpTo least own
 
--- in the lane, whose entries are in order, the cell has one entry at most, and it begins at `left`
+-- in the lane, whose marks are in order, the cell has one mark at most, and it is at `left`
 pub record HasAtMostOne (own : ℕ) (left : ℤ) (l : Lane) : Type 0 where
-  pub order : AreInOrder l.entries.items
-  pub once : AllPairs (λ a b. a.own ≢ b.own) l.entries.items
-  pub begins : All (λ e. e.own ≡ own → e.area.x1 ≡ left) l.entries.items
+  pub order : AreRising l.marks.items
+  pub once : AllPairs (λ a b. a.own ≢ b.own) l.marks.items
+  pub begins : All (λ m. m.own ≡ own → m.left ≡ left) l.marks.items
 
--- the entry of that position is the cell's
-pub record StandsAt (entries : List Entry) (own n : ℕ) : Type 0 where
-  pub within : n < length entries
-  pub is : (d : Entry) → (slice_index_or entries n d).own ≡ own
+-- the mark of that position is the cell's
+pub record StandsAt (marks : List Mark) (own n : ℕ) : Type 0 where
+  pub within : n < length marks
+  pub is : (d : Mark) → (slice_index_or marks n d).own ≡ own
 
--- none of the entries from that position on is the cell's
-abbrev pub StandsNotFrom : List Entry → ℕ → ℕ → Type 0
-StandsNotFrom entries own from = (k : ℕ) (d : Entry) → from ≤ k → k < length entries → (slice_index_or entries k d).own ≢ own
+-- none of the marks from that position on is the cell's
+abbrev pub StandsNotFrom : List Mark → ℕ → ℕ → Type 0
+StandsNotFrom marks own from = (k : ℕ) (d : Mark) → from ≤ k → k < length marks → (slice_index_or marks k d).own ≢ own
 
--- the lane without the cell's entries
+-- the lane without the cell's marks
 pub record IsPruned (own : ℕ) (old new : Lane) : Type 0 where
-  pub entries : new.entries.items ≡ others_in old.entries.items own
+  pub marks : new.marks.items ≡ marks_but old.marks.items own
   pub widest : new.widest ≡ old.widest
-  pub fewer : vec_len new.entries ≤ vec_len old.entries
-  pub room : vec_capacity new.entries ≡ vec_capacity old.entries
+  pub fewer : vec_len new.marks ≤ vec_len old.marks
+  pub room : vec_capacity new.marks ≡ vec_capacity old.marks
 
 -- the lane holds what it held, and has no less room
 pub record IsKept (old new : Lane) : Type 0 where
-  pub entries : new.entries.items ≡ old.entries.items
+  pub marks : new.marks.items ≡ old.marks.items
   pub widest : new.widest ≡ old.widest
-  pub many : vec_len new.entries ≡ vec_len old.entries
-  pub room : vec_capacity old.entries ≤ vec_capacity new.entries
+  pub many : vec_len new.marks ≡ vec_len old.marks
+  pub room : vec_capacity old.marks ≤ vec_capacity new.marks
 
--- the lane has room for one more entry
+-- the lane has room for one more mark
 abbrev pub HasRoom : Lane → Type 0
-HasRoom l = vec_len l.entries < vec_capacity l.entries
+HasRoom l = vec_len l.marks < vec_capacity l.marks
 
--- the lane has room for this many more entries
+-- the lane has room for this many more marks
 abbrev pub HasRoomOf : ℕ → Lane → Type 0
-HasRoomOf more l = (vec_len l.entries + more) ≤ vec_capacity l.entries
+HasRoomOf more l = (vec_len l.marks + more) ≤ vec_capacity l.marks
 
--- the lane's entries are in order, and it has room for the part of the rectangle that lies in the area, if there is one
+-- the lane's marks are in order, and it has room for one of the part of the rectangle that lies in the area, if there is one
 pub record TakesPart (area rect : Rect) (l : Lane) : Type 0 where
-  pub order : AreInOrder l.entries.items
-  pub room : (part : Rect) → IsPart area rect part → IsWhole part → HasRoom l
+  pub order : AreRising l.marks.items
+  pub room : IsWhole (part_in area rect) → HasRoom l
 
--- the entry is added to the lane, at its place in the order
-pub record IsJoined (e : Entry) (old new : Lane) : Type 0 where
+-- the mark of an entry of this width is added to the lane, at its place in the order
+pub record IsJoined (m : Mark) (width : ℤ) (old new : Lane) : Type 0 where
   pub at : ℕ
-  pub bound : at ≤ length old.entries.items
-  pub entries : new.entries.items ≡ insert old.entries.items at e
-  pub before : (k : ℕ) (d : Entry) → k < at → (slice_index_or old.entries.items k d).area.x1 <ℤ e.area.x1
-  pub behind : (k : ℕ) (d : Entry) → at ≤ k → k < length old.entries.items → e.area.x1 ≤ℤ (slice_index_or old.entries.items k d).area.x1
-  pub widest : new.widest ≡ int_max old.widest (e.area.x2 -ℤ e.area.x1)
-  pub more : vec_len new.entries ≡ vec_len old.entries + 1
-  pub room : vec_capacity new.entries ≡ vec_capacity old.entries
+  pub bound : at ≤ length old.marks.items
+  pub marks : new.marks.items ≡ insert old.marks.items at m
+  pub before : (k : ℕ) (d : Mark) → k < at → (slice_index_or old.marks.items k d).left <ℤ m.left
+  pub behind : (k : ℕ) (d : Mark) → at ≤ k → k < length old.marks.items → m.left ≤ℤ (slice_index_or old.marks.items k d).left
+  pub widest : new.widest ≡ int_max old.widest width
+  pub more : vec_len new.marks ≡ vec_len old.marks + 1
+  pub room : vec_capacity new.marks ≡ vec_capacity old.marks
 
--- the entry of a cell for a part of its strip
-abbrev pub entry_for : ℕ → Rect → Entry
-entry_for own area = record { own = own; area = area }
+-- the mark is the cell's for that part of its strip
+pub record IsMarkOf (own : ℕ) (part : Rect) (m : Mark) : Type 0 where
+  pub is : m.own ≡ own
+  pub left : m.left ≡ part.x1
+  pub width : IsKeptAs (part.x2 -ℤ part.x1) m.width
 
--- the part of the cell's box that lies in the area is added to the lane; if there is none, the lane is the same
-pub record IsPutIn (own : ℕ) (rect area : Rect) (old new : Lane) : Type 0 where
-  pub part : Rect
-  pub is : IsPart area rect part
-  pub change : (IsWhole part × IsJoined (entry_for own part) old new) ⊎ ((IsWhole part → ⊥) × (new ≡ old))
+-- a mark of the cell for that part is added to the lane
+pub record IsAdded (own : ℕ) (part : Rect) (old new : Lane) : Type 0 where
+  pub mark : Mark
+  pub of : IsMarkOf own part mark
+  pub joined : IsJoined mark (part.x2 -ℤ part.x1) old new
 
--- the rectangle lies no farther from 0 along x than a strip that is felt around
+-- the part is marked in the lane if it has a point; else the lane is the same
+abbrev pub IsPutPart : ℕ → Rect → Lane → Lane → Type 0
+IsPutPart own part old new = (IsWhole part × IsAdded own part old new) ⊎ ((IsWhole part → ⊥) × (new ≡ old))
+
+-- so is the part of the cell's box that lies in the area
+abbrev pub IsPutIn : ℕ → Rect → Rect → Lane → Lane → Type 0
+IsPutIn own rect area old new = IsPutPart own (part_in area rect) old new
+
+-- the rectangle lies no farther from 0 along x than a strip that is felt around, and begins at an x of a place or before
 pub record IsNearZero (r : Rect) : Type 0 where
   pub low : negsuc 549755813887 ≤ℤ r.x1
   pub high : r.x2 ≤ℤ pos 549755813888
+  pub begins : r.x1 ≤ℤ pos 2147483647
+
+-- the number may be the x of a place
+pub record IsPlaceX (x : ℤ) : Type 0 where
+  pub low : negsuc 2147483647 ≤ℤ x
+  pub high : x ≤ℤ pos 2147483647

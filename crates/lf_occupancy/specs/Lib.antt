@@ -1,5 +1,5 @@
 pub mod Occupied
-pub mod Floorplans
 pub mod Lanes
 pub mod Strips
+pub mod Floorplans
 pub mod Building

@@ -1,6 +1,6 @@
 -- What stands in strips: the lanes of each, and how they change.
 use Rattle.std.specs.Prelude.{◌≡◌, ◌≢◌, ◌↔◌, ℕ, ◌<◌, ℤ, pos, ◌*ℤ◌, ◌≤ℤ◌, ◌<ℤ◌, List, length, All, Any, IfSome, IsSomeAnd, slice_get}
-use Rattle.std.specs.Prelude.{Option, map, slice_index_or, slice_set, []}
+use Rattle.std.specs.Prelude.{◌⊎◌, Option, None, Some, map, slice_index_or, slice_set, [], ◌∷◌}
 use Rattle.std.specs.Int.{int_max}
 use Rattle.std.specs.Vec.{vec_capacity}
 use Rattle.lf_cells.specs.declared.cell.CellId.{CellId}
@@ -11,11 +11,11 @@ use Rattle.lf_spans.specs.Spans.{IsFilled, IsRising, LiesIn, LiesInOne, IsApart}
 use Rattle.lf_segments.specs.declared.rows_by_y.RowEntry.{RowEntry}
 use Rattle.lf_segments.specs.declared.strip.Strip.{Strip}
 use Rattle.lf_segments.specs.Strips.{IsNear}
-use Rattle.lf_rules.specs.Padding.{HasRoomAround}
 use Rattle.lf_occupancy.specs.declared.lane.Lane.{Lane}
-use Rattle.lf_occupancy.specs.Lanes.{HasAtMostOne, HasRoomOf, IsInside, IsKept, IsLane, IsOrderly, IsPruned, IsPutIn, MeetsOne, TakesPart}
-use Rattle.lf_occupancy.specs.Lanes.{all_padded, others_in, spans_in}
-use Rattle.lf_occupancy.specs.Occupied.{across, cell_box, felt}
+use Rattle.lf_segments.specs.Grounds.{Lookups}
+use Rattle.lf_occupancy.specs.Lanes.{HasAtMostOne, HasRoomOf, IsInside, IsKept, IsLane, IsMarked, IsOrderly, IsPruned, IsPutIn, MeetsOne, Shown}
+use Rattle.lf_occupancy.specs.Lanes.{TakesPart, all_padded, others_in, shown, spans_in}
+use Rattle.lf_occupancy.specs.Occupied.{HasRoomFor, Occupied, across, cell_box, felt}
 
 -- the width of a core site of a frame
 pub record IsSite (site : ℤ) : Type 0 where
@@ -27,50 +27,56 @@ abbrev pub felt_strips : ℤ → List Strip → List Strip
 felt_strips site strips = map (felt (pos 16 *ℤ site)) strips
 
 -- the strip of that number is of the team, and an entry of the cell in it is met
-pub record MeetsAt (strips : List Strip) (lanes : List Lane) (team : ℕ) (rect : Rect) (but own n : ℕ) : Type 0 where
+pub record MeetsAt (strips : List Strip) (lanes : List Shown) (team : ℕ) (rect : Rect) (but own n : ℕ) : Type 0 where
   pub within : n < length strips
   pub of_team : (d : Strip) → (slice_index_or strips n d).team ≡ team
-  pub meets : (d : Lane) → MeetsOne (slice_index_or lanes n d).entries.items rect but own
+  pub meets : (d : Shown) → MeetsOne (slice_index_or lanes n d).entries rect but own
 
 -- the cell is met in a strip of the row
-abbrev pub MeetsInRow : List Strip → List Lane → ℕ → ℕ → Rect → ℕ → ℕ → Type 0
+abbrev pub MeetsInRow : List Strip → List Shown → ℕ → ℕ → Rect → ℕ → ℕ → Type 0
 MeetsInRow strips lanes row team rect but own =
     (n : ℕ) × ((d : Strip) → (slice_index_or strips n d).row ≡ row) × MeetsAt strips lanes team rect but own n
 
 -- the cell is met in a strip
-abbrev pub MeetsInOne : List Strip → List Lane → ℕ → Rect → ℕ → ℕ → Type 0
+abbrev pub MeetsInOne : List Strip → List Shown → ℕ → Rect → ℕ → ℕ → Type 0
 MeetsInOne strips lanes team rect but own = (n : ℕ) × MeetsAt strips lanes team rect but own n
 
 -- each strip has a lane, whose entries are in order and lie in the strip
-pub record AreOrderly (strips : List Strip) (lanes : List Lane) : Type 0 where
+pub record AreOrderly (strips : List Strip) (lanes : List Shown) : Type 0 where
   pub many : length lanes ≡ length strips
-  pub each : (n : ℕ) (e : Lane) → n < length strips → IsOrderly (slice_index_or lanes n e)
-  pub inside : (n : ℕ) (d : Strip) (e : Lane) → n < length strips →
-      All (IsInside (slice_index_or strips n d).area) (slice_index_or lanes n e).entries.items
+  pub each : (n : ℕ) (e : Shown) → n < length strips → IsOrderly (slice_index_or lanes n e)
+  pub inside : (n : ℕ) (d : Strip) (e : Shown) → n < length strips →
+      All (IsInside (slice_index_or strips n d).area) (slice_index_or lanes n e).entries
 
--- there are this many lanes, the entries of each are in order, and there is room around each entry
-pub record AreRoomy (count : ℕ) (lanes : List Lane) : Type 0 where
-  pub many : length lanes ≡ count
-  pub each : (n : ℕ) (e : Lane) → n < count → IsOrderly (slice_index_or lanes n e)
-  pub around : (n : ℕ) (e : Lane) → n < count → All (λ x. HasRoomAround x.area) (slice_index_or lanes n e).entries.items
+-- each strip shows the lane of its team's boxes
+pub record AreShown (strips : List Strip) (boxes : List (List (Option Rect))) (lanes : List Shown) : Type 0 where
+  pub many : length lanes ≡ length strips
+  pub each : (n : ℕ) (d : Strip) (e : Shown) → n < length strips →
+      IsLane (slice_index_or boxes (slice_index_or strips n d).team []) (slice_index_or strips n d).area (slice_index_or lanes n e)
 
--- each strip has the lane of its team's boxes
+-- what the lanes of strips show of the boxes of teams' cells
+abbrev pub shown_lanes : List Strip → List (List (Option Rect)) → List Lane → List Shown
+shown_lanes [] boxes lanes = []
+shown_lanes (g ∷ strips) boxes [] = []
+shown_lanes (g ∷ strips) boxes (l ∷ lanes) = shown (slice_index_or boxes g.team []) g.area l ∷ shown_lanes strips boxes lanes
+
+-- each strip has a lane, which marks its team's boxes
 pub record AreLanes (strips : List Strip) (boxes : List (List (Option Rect))) (lanes : List Lane) : Type 0 where
   pub many : length lanes ≡ length strips
   pub each : (n : ℕ) (d : Strip) (e : Lane) → n < length strips →
-      IsLane (slice_index_or boxes (slice_index_or strips n d).team []) (slice_index_or strips n d).area (slice_index_or lanes n e)
+      IsMarked (slice_index_or boxes (slice_index_or strips n d).team []) (slice_index_or strips n d).area (slice_index_or lanes n e)
 
 -- the span lies in the strip of that number, which is of the row and the team, and shares no number with another cell's entry made
 -- wider by the padding
-pub record LiesFree (strips : List Strip) (lanes : List Lane) (row team own : ℕ) (padding : ℤ) (s : Span) (n : ℕ) : Type 0 where
+pub record LiesFree (strips : List Strip) (lanes : List Shown) (row team own : ℕ) (padding : ℤ) (s : Span) (n : ℕ) : Type 0 where
   pub within : n < length strips
   pub in_row : (d : Strip) → (slice_index_or strips n d).row ≡ row
   pub of_team : (d : Strip) → (slice_index_or strips n d).team ≡ team
   pub inside : (d : Strip) → LiesIn s (across (slice_index_or strips n d))
-  pub apart : (d : Lane) → IsApart (spans_in (others_in (all_padded padding (slice_index_or lanes n d).entries.items) own)) s
+  pub apart : (d : Shown) → IsApart (spans_in (others_in (all_padded padding (slice_index_or lanes n d).entries) own)) s
 
 -- a span that holds a number lies in a free one if and only if it lies in the window and free in a strip numbered below the limit
-pub record AreFreeTo (strips : List Strip) (lanes : List Lane) (row team own : ℕ) (window : Span) (padding : ℤ) (limit : ℕ)
+pub record AreFreeTo (strips : List Strip) (lanes : List Shown) (row team own : ℕ) (window : Span) (padding : ℤ) (limit : ℕ)
     (free : List Span) : Type 0 where
   pub rising : IsRising free
   pub exact : (s : Span) → IsFilled s →
@@ -95,7 +101,7 @@ pub record AreKept (old new : List Lane) : Type 0 where
   pub many : length new ≡ length old
   pub each : (n : ℕ) (e : Lane) → n < length old → IsKept (slice_index_or old n e) (slice_index_or new n e)
 
--- the strip's part of the cell's box is put into its lane
+-- the strip's part of the cell's box is marked in its lane
 abbrev pub PutsIn : List Strip → ℕ → Rect → ℕ → Lane → Lane → Type 0
 PutsIn strips own rect n old new = (d : Strip) → IsPutIn own rect (slice_index_or strips n d).area old new
 
@@ -108,11 +114,15 @@ pub record HasCell (boxes : List (List (Option Rect))) (id : CellId) : Type 0 wh
 abbrev pub boxes_set : List (List (Option Rect)) → CellId → Option Rect → List (List (Option Rect))
 boxes_set boxes id box = slice_set boxes id.team (slice_set (slice_index_or boxes id.team []) id.own box)
 
--- lanes of the boxes of teams' cells become those of the boxes with the cell's box replaced
-abbrev pub Follows : List Strip → CellId → Option Rect → Option Rect → List Lane → List Lane → Type 0
-Follows strips id from to old new =
-    (boxes : List (List (Option Rect))) → HasCell boxes id → cell_box (slice_index_or boxes id.team []) id.own ≡ from → AreLanes strips boxes old →
-    AreLanes strips (boxes_set boxes id to) new
+-- there is a cell of that id, which stands nowhere or has this box
+pub record IsAt (boxes : List (List (Option Rect))) (id : CellId) (rect : Rect) : Type 0 where
+  pub known : HasCell boxes id
+  pub at : (cell_box (slice_index_or boxes id.team []) id.own ≡ None) ⊎ (cell_box (slice_index_or boxes id.team []) id.own ≡ Some rect)
+
+-- there is a cell of that id, which stands nowhere
+pub record IsNowhere (boxes : List (List (Option Rect))) (id : CellId) : Type 0 where
+  pub known : HasCell boxes id
+  pub at : cell_box (slice_index_or boxes id.team []) id.own ≡ None
 
 -- the strip of that number is of the team, and shares a point with the rectangle
 abbrev pub MeetsStrip : List Strip → ℕ → Rect → ℕ → Type 0
@@ -137,9 +147,9 @@ pub record IsOfTeam (strips : List Strip) (team n : ℕ) : Type 0 where
   pub within : n < length strips
   pub of_team : (d : Strip) → (slice_index_or strips n d).team ≡ team
 
--- in each lane of its team's strips a cell of this box, if it has one, has one entry at most
-abbrev pub StandOnce : List Strip → CellId → Option Rect → List Lane → Type 0
-StandOnce strips id box lanes = IfSome box (λ rect. HaveAtMostOne strips id.own rect (IsOfTeam strips id.team) lanes)
+-- in each lane of its team's strips a cell of this box has one mark at most
+abbrev pub StandOnce : List Strip → CellId → Rect → List Lane → Type 0
+StandOnce strips id rect lanes = HaveAtMostOne strips id.own rect (IsOfTeam strips id.team) lanes
 
 -- in each lane of a row that the cell's box reaches, the cell has one entry at most
 abbrev pub StandOnceInRow : List Strip → ℕ → CellId → Rect → List Lane → Type 0
@@ -175,23 +185,56 @@ PutInRows strips rows id rect old new = AreChanged (IsReached strips rows id.tea
 
 -- for how many entries each lane has room
 abbrev pub rooms_in : List Lane → List ℕ
-rooms_in lanes = map (λ l. vec_capacity l.entries) lanes
+rooms_in lanes = map (λ l. vec_capacity l.marks) lanes
 
 -- the span lies in the strip of that number, and shares no number with an entry there made wider by the padding, leaving out a cell
 -- of the strip's team
-pub record LiesLeft (strips : List Strip) (lanes : List Lane) (without : CellId) (padding : ℤ) (n : ℕ) (s : Span) : Type 0 where
+pub record LiesLeft (strips : List Strip) (lanes : List Shown) (without : CellId) (padding : ℤ) (n : ℕ) (s : Span) : Type 0 where
   pub within : n < length strips
   pub inside : (d : Strip) → LiesIn s (across (slice_index_or strips n d))
-  pub own : (d : Strip) (e : Lane) → (slice_index_or strips n d).team ≡ without.team →
-      IsApart (spans_in (others_in (all_padded padding (slice_index_or lanes n e).entries.items) without.own)) s
-  pub foreign : (d : Strip) (e : Lane) → (slice_index_or strips n d).team ≢ without.team →
-      IsApart (spans_in (all_padded padding (slice_index_or lanes n e).entries.items)) s
+  pub own : (d : Strip) (e : Shown) → (slice_index_or strips n d).team ≡ without.team →
+      IsApart (spans_in (others_in (all_padded padding (slice_index_or lanes n e).entries) without.own)) s
+  pub foreign : (d : Strip) (e : Shown) → (slice_index_or strips n d).team ≢ without.team →
+      IsApart (spans_in (all_padded padding (slice_index_or lanes n e).entries)) s
 
 -- a span that holds a number lies in one of the free ones if and only if it lies so in the strip of that number
-pub record AreLeft (strips : List Strip) (lanes : List Lane) (without : CellId) (padding : ℤ) (n : ℕ) (free : List Span) : Type 0 where
+pub record AreLeft (strips : List Strip) (lanes : List Shown) (without : CellId) (padding : ℤ) (n : ℕ) (free : List Span) : Type 0 where
   pub rising : IsRising free
   pub exact : (s : Span) → IsFilled s → (LiesInOne free s ↔ LiesLeft strips lanes without padding n s)
 
 -- for the box of each of the moves, the strips of the cell's team that it meets have room for so many more entries
 abbrev pub HaveRoomForAll : List Strip → List (CellId × Option Rect) → ℕ → List Lane → Type 0
 HaveRoomForAll strips moves more lanes = All (λ m. IfSome m.1 (λ rect. HaveRoom (MeetsStrip strips m.0.team rect) more lanes)) moves
+
+-- what an occupancy keeps: what of the frame is looked up, the width of a core site, and the lane of each strip
+pub record Marked : Type 0 where
+  pub index : Lookups
+  pub site : ℤ
+  pub lanes : List Lane
+
+-- there is a lane for each strip
+pub record HasLanes (m : Marked) : Type 0 where
+  pub site : IsSite m.site
+  pub many : length m.lanes ≡ length (felt_strips m.site m.index.strips)
+
+-- the lanes mark these boxes of all teams' cells in the strips, felt 16 core sites around
+abbrev pub Holds : Marked → List (List (Option Rect)) → Type 0
+Holds m boxes = AreLanes (felt_strips m.site m.index.strips) boxes m.lanes
+
+-- what is kept, with the boxes that it marks
+abbrev pub filled_by : Marked → List (List (Option Rect)) → Occupied
+filled_by m boxes = record { index = m.index; site = m.site; boxes = boxes; rooms = rooms_in m.lanes }
+
+-- there are boxes that the lanes mark, where the cell stands nowhere or has this box
+pub record CanLeave (m : Marked) (id : CellId) (rect : Rect) : Type 0 where
+  pub boxes : List (List (Option Rect))
+  pub holds : Holds m boxes
+  pub is : IsAt boxes id rect
+
+-- there are boxes that the lanes mark, where the cell stands nowhere, and each strip of its team that, felt around, shares a point with
+-- the rectangle has room for one more
+pub record CanEnter (m : Marked) (id : CellId) (rect : Rect) : Type 0 where
+  pub boxes : List (List (Option Rect))
+  pub holds : Holds m boxes
+  pub nowhere : IsNowhere boxes id
+  pub room : HasRoomFor (filled_by m boxes) id.team rect 1

@@ -1,107 +1,92 @@
-//! The boxes of one team's cells.
+//! The boxes of the cells of all teams, which follow from their places and macros.
 
-ghost use Rattle.std.specs.Prelude.{◌≡◌, ◌++◌, ◌∷◌, ◌↔◌, ◌<◌, [], IfOk, IsTrue, None, OnOk, length, replicate, slice_index_or, slice_set};
+ghost use Rattle.std.specs.Prelude.{◌≡◌, [], All, IfSome, option_and_then, slice_index_or};
+ghost use Rattle.lf_cells.specs.Cells.{cell_at, cells_of, id_in};
+ghost use Rattle.lf_occupancy.specs.Floorplans.{HasSize, HaveSize, box_of, boxes_in};
+ghost use Rattle.lf_occupancy.specs.Lanes.{IsPlaceX};
 ghost use Rattle.lf_occupancy.specs.Occupied.{cell_box};
-ghost use Rattle.lf_occupancy.specs.Strips.{HasCell, boxes_set};
 
-use lf_cells::CellId;
+use lf_cells::{CellId, CellTable};
+use lf_floorplan::Frame;
+use lf_rules::solid_box;
 use lf_units::Rect;
-use std::alloc::{AllocError, Global};
 use std::marker::Model;
 
-/// The box of each cell of a team, in database units; none for a cell that has no box.
+/// The boxes of a table's cells at their working places, in database units; none for a cell that is
+/// unplaced. A contract sees for each team the list of them.
 #[derive(Drop)]
-pub(crate) struct TeamBoxes {
-    list: Vec<Option<Rect>>,
+pub(crate) struct Boxes<'a> {
+    frame: &'a Frame,
+    cells: &'a CellTable,
 }
 
-impl Model for TeamBoxes {
+impl<'a> Model for Boxes<'a> {
     ghost use Rattle.std.specs.Prelude.{List, Option};
     ghost use Rattle.lf_units.specs.declared.area.Rect.{Rect};
+    ghost use Rattle.lf_occupancy.specs.Floorplans.{HaveSize, boxes_in};
 
-    ghost Value = { List (Option Rect) };
+    ghost Value = { List (List (Option Rect)) };
 
-    ghost view = { λ b. b.list.items };
+    ghost view = { λ b. boxes_in b.frame.now b.cells.now };
+
+    ghost invariant = { λ b. HaveSize b.frame.now b.cells.now };
 }
 
-/// This many boxes, each none.
-fn no_boxes(alloc: Global, count: usize) -> Result<Vec<Option<Rect>>, AllocError>
-    ensures { IfOk result (λ list. list.items ≡ replicate count None) }
+/// The box of a cell of the table at its working place; none if it is unplaced, or there is no such
+/// cell.
+fn box_in_table(frame: &Frame, cells: &CellTable, id: CellId) -> Option<Rect>
+    requires { All (HasSize frame.now) (cells_of cells.now id.team) }
+    ensures is { result ≡ option_and_then (box_of frame.now) (cell_at cells.now id) }
+    ensures edge { IfSome result (λ rect. IsPlaceX rect.x1) }
 {
-    let mut list = Vec::with_capacity(alloc, count)?;
-    for _ in 0..count {
-        list.push(None)?;
-    }
-    Ok(list)
+    let standing = cells.standing(id)?;
+    let place = standing.working?;
+    let mac = &frame.macros.as_slice()[standing.mac];
+    Some(solid_box(frame, mac, &place))
 }
 
-/// Changes one box of the list.
-fn put(list: &mut Vec<Option<Rect>>, own: usize, rect: &Option<Rect>)
-    requires { own < length list.old.items }
-    ensures { list.new.items ≡ slice_set list.old.items own rect.now }
+/// The same, as one of the boxes of all teams' cells.
+pub(crate) fn box_at_work(frame: &Frame, cells: &CellTable, id: &CellId) -> Option<Rect>
+    requires { HaveSize frame.now cells.now }
+    ensures is { result ≡ cell_box (slice_index_or (boxes_in frame.now cells.now) id.now.team []) id.now.own }
+    ensures edge { IfSome result (λ rect. IsPlaceX rect.x1) }
 {
-    list[own] = *rect;
+    box_in_table(frame, cells, *id)
 }
 
-impl TeamBoxes {
-    /// The boxes of this many cells, none of which has one.
-    pub(crate) fn empty(alloc: Global, count: usize) -> Result<Self, AllocError>
-        ensures { IfOk result (λ boxes. boxes ≡ replicate count None) }
-    {
-        let list = no_boxes(alloc, count)?;
-        Ok(TeamBoxes { list })
-    }
-
-    /// How many cells there are.
-    pub(crate) fn len(&self) -> usize
-        ensures { result ≡ length self.now }
-    {
-        self.list.len()
-    }
-
-    /// The box of the cell of that position; none if it has none, or there is no such cell.
-    pub(crate) fn get(&self, own: usize) -> Option<Rect>
-        ensures { result ≡ cell_box self.now own }
-    {
-        match self.list.get(own) {
-            Some(rect) => *rect,
-            None => None,
-        }
-    }
-
-    /// Changes the box of the cell of that position.
-    pub(crate) fn set(&mut self, own: usize, rect: &Option<Rect>)
-        requires { own < length self.old }
-        ensures { self.new ≡ slice_set self.old own rect.now }
-    {
-        put(&mut self.list, own, rect);
-    }
-}
-
-/// The box of the cell; none if it has none, or there is no such cell.
-pub(crate) fn box_of_cell(boxes: &[TeamBoxes], id: &CellId) -> Option<Rect>
-    ensures { result ≡ cell_box (slice_index_or boxes.now id.now.team []) id.now.own }
+/// The team's cell of that position; none if there is no such cell.
+fn cell_in(cells: &CellTable, team: usize, own: u32) -> Option<CellId>
+    ensures { result ≡ id_in (cells_of cells.now team) team own }
 {
-    match boxes.get(id.team as usize) {
-        Some(team) => team.get(id.own as usize),
+    match cells.cells_of(team).get(own as usize) {
+        Some(id) => Some(*id),
         None => None,
     }
 }
 
-/// Whether there is such a cell.
-pub(crate) fn has_cell(boxes: &[TeamBoxes], id: &CellId) -> bool
-    ensures { IsTrue result ↔ HasCell boxes.now id.now }
-{
-    match boxes.get(id.team as usize) {
-        Some(team) => (id.own as usize) < team.len(),
-        None => false,
+impl<'a> Boxes<'a> {
+    /// The boxes of the table's cells.
+    pub(crate) fn new(frame: &'a Frame, cells: &'a CellTable) -> Boxes<'a>
+        requires { HaveSize frame.now cells.now }
+        ensures { result ≡ boxes_in frame.now cells.now }
+    {
+        Boxes { frame, cells }
     }
-}
 
-/// Changes the box of the cell.
-pub(crate) fn set_box(boxes: &mut Vec<TeamBoxes>, id: &CellId, rect: &Option<Rect>)
-    requires { HasCell boxes.old.items id.now }
-    ensures { boxes.new.items ≡ boxes_set boxes.old.items id.now rect.now }
-{
-    boxes[id.team as usize].set(id.own as usize, rect);
+    /// The box of the cell; none if it has none, or there is no such cell.
+    pub(crate) fn get(&self, id: &CellId) -> Option<Rect>
+        ensures { result ≡ cell_box (slice_index_or self.now id.now.team []) id.now.own }
+    {
+        box_at_work(self.frame, self.cells, id)
+    }
+
+    /// The box of the team's cell of that position; none if it has none, or there is no such cell.
+    pub(crate) fn get_in(&self, team: usize, own: u32) -> Option<Rect>
+        ensures { result ≡ cell_box (slice_index_or self.now team []) own }
+    {
+        match cell_in(self.cells, team, own) {
+            Some(id) => box_at_work(self.frame, self.cells, &id),
+            None => None,
+        }
+    }
 }

@@ -1,13 +1,12 @@
-//! How the entries of strips are changed. The strips are felt around here.
+//! How the marks in strips are changed. The strips are felt around here.
 
-ghost use Rattle.std.specs.Prelude.{AllPairs, IfSome, [], ◌≡◌, ◌≢◌, None, OnErr, OnOk, Some, length, slice_index_or};
-ghost use Rattle.lf_occupancy.specs.declared.lane.Lane.{Lane};
-ghost use Rattle.lf_occupancy.specs.Strips.{AreKept, AreLanes, CanTakeInRow, CanTakeInRows, Follows, HasCell, HaveRoom, HaveRoomForAll, IsReached};
+ghost use Rattle.std.specs.Prelude.{All, AllPairs, IfSome, List, Option, ◌≡◌, ◌≢◌, None, OnOk, Some, length};
+ghost use Rattle.lf_units.specs.declared.area.Rect.{Rect};
+ghost use Rattle.lf_occupancy.specs.Lanes.{AreRising, IsPlaceX};
+ghost use Rattle.lf_occupancy.specs.Strips.{AreKept, AreLanes, CanTakeInRow, CanTakeInRows, HaveRoom, HaveRoomForAll, IsAt, IsNowhere, IsReached};
 ghost use Rattle.lf_occupancy.specs.Strips.{IsReachedIn, IsSite, MeetsStrip, PruneInRow, PruneInRows, PutInRow, PutInRows, StandOnce, StandOnceInRow};
 ghost use Rattle.lf_occupancy.specs.Strips.{StandOnceInRows, boxes_set, felt_strips, rooms_in};
-ghost use Rattle.lf_occupancy.specs.Occupied.{NoLess, cell_box};
 
-use crate::boxes::{TeamBoxes, box_of_cell, has_cell, set_box};
 use crate::felt::{felt_area, near_felt};
 use crate::lane::{Lane, make_room, prune, put_in};
 use lf_cells::CellId;
@@ -15,7 +14,7 @@ use lf_segments::{Ground, RowEntry};
 use lf_units::Rect;
 use std::alloc::AllocError;
 
-/// Makes room for this many more entries in the strips of a row and the cell's team that the rectangle
+/// Makes room for this many more marks in the strips of a row and the cell's team that the rectangle
 /// reaches. Also on `Err` each strip holds what it held.
 fn make_room_in_row(
     lanes: &mut Vec<Lane>,
@@ -59,7 +58,7 @@ fn make_room_in_rows(
     Ok(())
 }
 
-/// Takes the cell's entries out of the strips of a row and the cell's team that its box reaches.
+/// Takes the cell's marks out of the strips of a row and the cell's team that its box reaches.
 fn prune_row(
     lanes: &mut Vec<Lane>,
     index: &Ground,
@@ -103,7 +102,7 @@ fn prune_rows(
     }
 }
 
-/// Puts the parts of the cell's box into the strips of a row and the cell's team that it reaches.
+/// Marks the parts of the cell's box in the strips of a row and the cell's team that it reaches.
 fn put_in_row(
     lanes: &mut Vec<Lane>,
     index: &Ground,
@@ -114,6 +113,7 @@ fn put_in_row(
 )
     requires site { IsSite site.now }
     requires many { length lanes.old.items ≡ length (felt_strips site.now index.now.strips) }
+    requires edge { IsPlaceX rect.now.x1 }
     requires room { CanTakeInRow (felt_strips site.now index.now.strips) row id.now rect.now lanes.old.items }
     ensures { PutInRow (felt_strips site.now index.now.strips) row id.now rect.now lanes.old.items lanes.new.items }
 {
@@ -135,6 +135,7 @@ fn put_in_rows(
     requires site { IsSite site.now }
     requires many { length lanes.old.items ≡ length (felt_strips site.now index.now.strips) }
     requires once { AllPairs (λ a b. a.row ≢ b.row) rows.now }
+    requires edge { IsPlaceX rect.now.x1 }
     requires room { CanTakeInRows (felt_strips site.now index.now.strips) rows.now id.now rect.now lanes.old.items }
     ensures { PutInRows (felt_strips site.now index.now.strips) rows.now id.now rect.now lanes.old.items lanes.new.items }
 {
@@ -143,67 +144,36 @@ fn put_in_rows(
     }
 }
 
-/// Takes the cell out of all strips that its old box reaches.
-fn take_out(lanes: &mut Vec<Lane>, index: &Ground, site: &i64, id: &CellId, old: &Option<Rect>)
+/// Takes a cell of this box out of all strips that the box reaches; a cell without a box stays so. Each
+/// strip keeps the room that it has.
+pub(crate) fn take_out(lanes: &mut Vec<Lane>, index: &Ground, site: &i64, id: &CellId, rect: &Rect)
     requires site { IsSite site.now }
     requires many { length lanes.old.items ≡ length (felt_strips site.now index.now.strips) }
-    requires one { StandOnce (felt_strips site.now index.now.strips) id.now old.now lanes.old.items }
-    ensures follows { Follows (felt_strips site.now index.now.strips) id.now old.now None lanes.old.items lanes.new.items }
+    requires one { StandOnce (felt_strips site.now index.now.strips) id.now rect.now lanes.old.items }
+    ensures lanes { (boxes : List (List (Option Rect))) → IsAt boxes id.now rect.now → AreLanes (felt_strips site.now index.now.strips) boxes lanes.old.items
+        → AreLanes (felt_strips site.now index.now.strips) (boxes_set boxes id.now None) lanes.new.items }
     ensures rooms { rooms_in lanes.new.items ≡ rooms_in lanes.old.items }
 {
     index.strips_are_placed();
-    if let Some(rect) = old {
-        prune_rows(lanes, index, site, index.rows_near(rect), id, rect);
-    }
+    prune_rows(lanes, index, site, index.rows_near(rect), id, rect);
 }
 
-/// Takes the cell's box away, and updates the lanes; if there is no such
-/// cell, nothing changes.
-pub(crate) fn remove_box(
-    lanes: &mut Vec<Lane>,
-    boxes: &mut Vec<TeamBoxes>,
-    index: &Ground,
-    site: &i64,
-    id: &CellId,
-)
+/// Gives a cell without a box this one: its parts are marked in the strips. It allocates nothing.
+pub(crate) fn take_in(lanes: &mut Vec<Lane>, index: &Ground, site: &i64, id: &CellId, rect: &Rect)
     requires site { IsSite site.now }
-    requires lanes { AreLanes (felt_strips site.now index.now.strips) boxes.old.items lanes.old.items }
-    ensures lanes { AreLanes (felt_strips site.now index.now.strips) boxes.new.items lanes.new.items }
-    ensures boxes { boxes.new.items ≡ boxes_set boxes.old.items id.now None }
-    ensures rooms { rooms_in lanes.new.items ≡ rooms_in lanes.old.items }
-{
-    if !has_cell(boxes, id) {
-        return;
-    }
-    let old = box_of_cell(boxes, id);
-    take_out(lanes, index, site, id, &old);
-    set_box(boxes, id, &None);
-}
-
-/// Gives a cell without a box this one, and updates the lanes. It allocates nothing.
-pub(crate) fn insert_box(
-    lanes: &mut Vec<Lane>,
-    boxes: &mut Vec<TeamBoxes>,
-    index: &Ground,
-    site: &i64,
-    id: &CellId,
-    rect: &Rect,
-)
-    requires site { IsSite site.now }
-    requires lanes { AreLanes (felt_strips site.now index.now.strips) boxes.old.items lanes.old.items }
-    requires known { HasCell boxes.old.items id.now }
-    requires nowhere { cell_box (slice_index_or boxes.old.items id.now.team []) id.now.own ≡ None }
+    requires many { length lanes.old.items ≡ length (felt_strips site.now index.now.strips) }
+    requires edge { IsPlaceX rect.now.x1 }
+    requires rising { All (λ l. AreRising l.marks.items) lanes.old.items }
     requires room { HaveRoom (MeetsStrip (felt_strips site.now index.now.strips) id.now.team rect.now) 1 lanes.old.items }
-    ensures lanes { AreLanes (felt_strips site.now index.now.strips) boxes.new.items lanes.new.items }
-    ensures boxes { boxes.new.items ≡ boxes_set boxes.old.items id.now (Some rect.now) }
+    ensures lanes { (boxes : List (List (Option Rect))) → IsNowhere boxes id.now → AreLanes (felt_strips site.now index.now.strips) boxes lanes.old.items
+        → AreLanes (felt_strips site.now index.now.strips) (boxes_set boxes id.now (Some rect.now)) lanes.new.items }
     ensures rooms { rooms_in lanes.new.items ≡ rooms_in lanes.old.items }
 {
     index.strips_are_placed();
     put_in_rows(lanes, index, site, index.rows_near(rect), id, rect);
-    set_box(boxes, id, &Some(*rect));
 }
 
-/// Makes room for this many more entries in the strips of the cell's team that share a point with its
+/// Makes room for this many more marks in the strips of the cell's team that share a point with its
 /// box, if it has one. Also on `Err` each strip holds what it held.
 fn reserve_box(
     lanes: &mut Vec<Lane>,
@@ -243,28 +213,22 @@ pub(crate) fn reserve_moves(
     Ok(())
 }
 
-/// Gives the cell this box, or none, after room was made for it, and lets the lanes follow; where there
-/// is no such cell, nothing changes. On `Err` it stands nowhere.
+/// Gives a cell without a box this one, after room was made for it.
 pub(crate) fn settle(
     lanes: &mut Vec<Lane>,
-    boxes: &mut Vec<TeamBoxes>,
     index: &Ground,
     site: &i64,
     id: &CellId,
-    to: &Option<Rect>,
+    rect: &Rect,
 ) -> Result<(), AllocError>
     requires site { IsSite site.now }
-    requires lanes { AreLanes (felt_strips site.now index.now.strips) boxes.old.items lanes.old.items }
-    ensures lanes { AreLanes (felt_strips site.now index.now.strips) boxes.new.items lanes.new.items }
-    ensures ok { OnOk result (boxes.new.items ≡ boxes_set boxes.old.items id.now to.now) }
+    requires many { length lanes.old.items ≡ length (felt_strips site.now index.now.strips) }
+    requires edge { IsPlaceX rect.now.x1 }
+    requires rising { All (λ l. AreRising l.marks.items) lanes.old.items }
+    ensures { (boxes : List (List (Option Rect))) → IsNowhere boxes id.now → AreLanes (felt_strips site.now index.now.strips) boxes lanes.old.items
+        → OnOk result (AreLanes (felt_strips site.now index.now.strips) (boxes_set boxes id.now (Some rect.now)) lanes.new.items) }
 {
-    if !has_cell(boxes, id) {
-        return Ok(());
-    }
-    remove_box(lanes, boxes, index, site, id);
-    reserve_box(lanes, index, site, id, to, 1)?;
-    if let Some(rect) = to {
-        insert_box(lanes, boxes, index, site, id, rect);
-    }
+    reserve_box(lanes, index, site, id, &Some(*rect), 1)?;
+    take_in(lanes, index, site, id, rect);
     Ok(())
 }

@@ -3,8 +3,9 @@
 ghost use Rattle.std.specs.Prelude.{IfOk, None, negsuc, ◌≤ℤ◌, length};
 ghost use Rattle.lf_rules.specs.Padding.{IsShort};
 ghost use Rattle.lf_occupancy.specs.Lanes.{IsLeast};
-ghost use Rattle.lf_occupancy.specs.Strips.{AreFreeTo, AreLeft, AreOrderly, AreRoomy, IsSite, MeetsInOne, MeetsInRow, felt_strips};
+ghost use Rattle.lf_occupancy.specs.Strips.{AreFreeTo, AreLanes, AreLeft, IsSite, MeetsInOne, MeetsInRow, felt_strips, shown_lanes};
 
+use crate::boxes::Boxes;
 use crate::felt::{felt_area, near_felt};
 use crate::lane::{Lane, free_in_lane, free_of_all, least_in_lane, x_range_of};
 use lf_cells::CellId;
@@ -19,21 +20,25 @@ fn least_in_row(
     index: &Ground,
     site: &i64,
     lanes: &[Lane],
+    boxes: &Boxes<'_>,
     row: usize,
     id: &CellId,
     rect: &Rect,
     so_far: Option<u32>,
 ) -> Option<u32>
     requires site { IsSite site.now }
-    requires lanes { AreOrderly (felt_strips site.now index.now.strips) lanes.now }
-    ensures { IsLeast (MeetsInRow (felt_strips site.now index.now.strips) lanes.now row id.now.team rect.now id.now.own) so_far result }
+    requires lanes { AreLanes (felt_strips site.now index.now.strips) boxes.now lanes.now }
+    ensures { IsLeast (MeetsInRow (felt_strips site.now index.now.strips) (shown_lanes (felt_strips site.now index.now.strips) boxes.now lanes.now) row
+        id.now.team rect.now id.now.own) so_far result }
 {
     let near = near_felt(index, site, row, id.team as usize, rect);
     let mut least = so_far;
     for n in near.start..near.end {
         least = least_in_lane(
+            boxes,
+            id.team,
             &lanes[n],
-            &felt_area(index, site, n).x1,
+            &felt_area(index, site, n),
             rect,
             id.own,
             least,
@@ -47,17 +52,19 @@ pub(crate) fn least_met(
     index: &Ground,
     site: &i64,
     lanes: &[Lane],
+    boxes: &Boxes<'_>,
     id: &CellId,
     rect: &Rect,
 ) -> Option<u32>
     requires site { IsSite site.now }
-    requires lanes { AreOrderly (felt_strips site.now index.now.strips) lanes.now }
-    ensures { IsLeast (MeetsInOne (felt_strips site.now index.now.strips) lanes.now id.now.team rect.now id.now.own) None result }
+    requires lanes { AreLanes (felt_strips site.now index.now.strips) boxes.now lanes.now }
+    ensures { IsLeast (MeetsInOne (felt_strips site.now index.now.strips) (shown_lanes (felt_strips site.now index.now.strips) boxes.now lanes.now)
+        id.now.team rect.now id.now.own) None result }
 {
     index.strips_are_placed();
     let mut least = None;
     for entry in index.rows_near(rect) {
-        least = least_in_row(index, site, lanes, entry.row, id, rect, least);
+        least = least_in_row(index, site, lanes, boxes, entry.row, id, rect, least);
     }
     least
 }
@@ -67,16 +74,20 @@ pub(crate) fn least_met(
 pub(crate) fn free_in_strips(
     alloc: Global,
     index: &Ground,
+    site: &i64,
     lanes: &[Lane],
+    boxes: &Boxes<'_>,
     row: usize,
     id: &CellId,
     window: &Span,
     padding: &i64,
 ) -> Result<Vec<Span>, AllocError>
-    requires lanes { AreRoomy (length index.now.strips) lanes.now }
+    requires site { IsSite site.now }
+    requires lanes { AreLanes (felt_strips site.now index.now.strips) boxes.now lanes.now }
     requires short { IsShort padding.now }
     requires low { negsuc 4611686018427387903 ≤ℤ window.now.lo }
-    ensures { IfOk result (λ free. AreFreeTo index.now.strips lanes.now row id.now.team id.now.own window.now padding.now (length index.now.strips) free.items) }
+    ensures { IfOk result (λ free. AreFreeTo index.now.strips (shown_lanes (felt_strips site.now index.now.strips) boxes.now lanes.now) row id.now.team
+        id.now.own window.now padding.now (length index.now.strips) free.items) }
 {
     index.strips_are_placed();
     let list = index.strips();
@@ -84,7 +95,8 @@ pub(crate) fn free_in_strips(
     let mut free = Vec::new(alloc);
     for n in near.start..near.end {
         let span = x_range_of(&list[n].area);
-        let part = free_in_lane(alloc, &lanes[n], &span, id.own, window, padding)?;
+        let area = felt_area(index, site, n);
+        let part = free_in_lane(alloc, boxes, id, &lanes[n], &area, &span, window, padding)?;
         free.extend_from_slice(&part)?;
     }
     Ok(free)
@@ -95,14 +107,18 @@ pub(crate) fn free_in_strips(
 pub(crate) fn free_in_one(
     alloc: Global,
     index: &Ground,
+    site: &i64,
     lanes: &[Lane],
+    boxes: &Boxes<'_>,
     number: usize,
     without: &CellId,
     padding: &i64,
 ) -> Result<Vec<Span>, AllocError>
-    requires lanes { AreRoomy (length index.now.strips) lanes.now }
+    requires site { IsSite site.now }
+    requires lanes { AreLanes (felt_strips site.now index.now.strips) boxes.now lanes.now }
     requires short { IsShort padding.now }
-    ensures { IfOk result (λ free. AreLeft index.now.strips lanes.now without.now padding.now number free.items) }
+    ensures { IfOk result (λ free. AreLeft index.now.strips (shown_lanes (felt_strips site.now index.now.strips) boxes.now lanes.now) without.now
+        padding.now number free.items) }
 {
     index.strips_are_placed();
     let list = index.strips();
@@ -110,8 +126,11 @@ pub(crate) fn free_in_one(
         return Ok(Vec::new(alloc));
     }
     let span = x_range_of(&list[number].area);
-    if list[number].team == without.team as usize {
-        return free_in_lane(alloc, &lanes[number], &span, without.own, &span, padding);
+    let team = list[number].team;
+    let lane = &lanes[number];
+    let area = felt_area(index, site, number);
+    if team == without.team as usize {
+        return free_in_lane(alloc, boxes, without, lane, &area, &span, &span, padding);
     }
-    free_of_all(alloc, &lanes[number], &span, padding)
+    free_of_all(alloc, boxes, team, lane, &area, &span, padding)
 }

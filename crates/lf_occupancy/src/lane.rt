@@ -1,16 +1,18 @@
 //! The entries of one strip.
 
-ghost use Rattle.std.specs.Prelude.{All, ◌≡◌, ◌↔◌, ◌<◌, ◌≤◌, ◌≤ℤ◌, ◌<ℤ◌, ◌+ℤ◌, ◌*ℤ◌, ℕ, IfOk, IsTrue, MatchOption, OnOk, insert, length, negsuc, pos, slice_index_or};
+ghost use Rattle.std.specs.Prelude.{[], All, List, Option, ◌≡◌, ◌↔◌, ◌<◌, ◌≤◌, ◌≤ℤ◌, ◌<ℤ◌, ◌+ℤ◌, ◌-ℤ◌, ◌*ℤ◌, ℕ, IfOk, IsTrue, MatchOption, OnOk, insert, length, negsuc, pos, slice_index_or};
 ghost use Rattle.lf_spans.specs.Spans.{IsFreeIn};
 ghost use Rattle.lf_rules.specs.Padding.{HasRoomAround, IsShort};
 ghost use Rattle.lf_units.specs.declared.area.Rect.{Rect};
-ghost use Rattle.lf_occupancy.specs.declared.lane.Entry.{Entry};
-ghost use Rattle.lf_occupancy.specs.Lanes.{AreInOrder, HasAtMostOne, HasRoom, HasRoomOf, IsKept, IsLeast, IsNearRun, IsOrderly, IsPart, IsPruned, IsWhole};
-ghost use Rattle.lf_occupancy.specs.Lanes.{IsJoined, IsPutIn, IsNearZero, MeetsEntry, MeetsOne, StandsAt, StandsNotFrom, entry_for, others_in};
-ghost use Rattle.lf_occupancy.specs.Lanes.{all_padded, padded, spans_in, x_range};
+ghost use Rattle.lf_occupancy.specs.declared.lane.Mark.{Mark};
+ghost use Rattle.lf_occupancy.specs.Lanes.{AreRising, AreTold, HasAtMostOne, HasRoom, HasRoomOf, IsJoined, IsKept, IsKeptAs, IsLeast, IsMarked};
+ghost use Rattle.lf_occupancy.specs.Lanes.{IsNearRun, IsNearZero, IsPlaceX, IsPruned, IsPutIn, IsWhole, LiesBeside, MeetsEntry, MeetsOne, StandsAt};
+ghost use Rattle.lf_occupancy.specs.Lanes.{StandsNotFrom, Tells, all_padded, entries_in, entry_in, entry_of_box, others_in, part_in, some_box, spans_in};
+ghost use Rattle.lf_occupancy.specs.Lanes.{wider_range, x_range};
 
-use lf_rules::wider;
-use lf_spans::{HasSpan, Span, free_in};
+use crate::boxes::Boxes;
+use lf_cells::CellId;
+use lf_spans::{Span, free_in};
 use lf_units::Rect;
 use std::alloc::{AllocError, Global};
 
@@ -23,19 +25,21 @@ pub(crate) struct Entry {
     pub(crate) area: Rect,
 }
 
-impl HasSpan for Entry {
-    ghost span = { λ e. x_range e.area };
-
-    fn span(&self) -> Span {
-        x_range_of(&self.area)
-    }
+/// What is kept of an entry: the cell's position among its team's cells, and the entry's left edge and
+/// width, in database units; of a width of 2^32 - 1 or more that number. The rest of it follows from the
+/// cell's box.
+#[derive(Clone, Copy, Debug, PartialEq, Eq)]
+pub(crate) struct Mark {
+    pub(crate) own: u32,
+    pub(crate) left: i32,
+    pub(crate) width: u32,
 }
 
-/// The entries of one strip, felt around, in the order of their left edges, and a width that none
-/// exceeds, in database units.
+/// The marks of the entries of one strip, felt around, in the order of their left edges, and a width
+/// that no entry exceeds, in database units.
 #[derive(Drop)]
 pub(crate) struct Lane {
-    pub(crate) entries: Vec<Entry>,
+    pub(crate) marks: Vec<Mark>,
     pub(crate) widest: i64,
 }
 
@@ -51,7 +55,7 @@ pub(crate) fn x_range_of(rect: &Rect) -> Span
 
 /// The part of the first rectangle that the second one covers.
 pub(crate) fn part_of(a: &Rect, b: &Rect) -> Rect
-    ensures { IsPart a.now b.now result }
+    ensures { result ≡ part_in a.now b.now }
 {
     Rect {
         x1: a.x1.max(b.x1),
@@ -71,117 +75,232 @@ pub(crate) fn is_whole(rect: &Rect) -> bool
     rect.y1 < rect.y2
 }
 
-/// How many of the entries begin before x.
-pub(crate) fn count_before(entries: &[Entry], x: &i64) -> usize
-    requires { AreInOrder entries.now }
-    ensures within { result ≤ length entries.now }
-    ensures below { (k : ℕ) → (d : Entry) → k < result → (slice_index_or entries.now k d).area.x1 <ℤ x.now }
-    ensures rest { (k : ℕ) → (d : Entry) → result ≤ k → k < length entries.now → x.now ≤ℤ (slice_index_or entries.now k d).area.x1 }
+/// The box; a rectangle without points if there is none.
+fn box_or_none(found: &Option<Rect>) -> Rect
+    ensures { result ≡ some_box found.now }
 {
-    entries.partition_point(|entry| entry.area.x1 < *x)
+    match found {
+        Some(rect) => *rect,
+        None => Rect {
+            x1: 0,
+            y1: 0,
+            x2: 0,
+            y2: 0,
+        },
+    }
 }
 
-/// The entries that lie near a range of x. They are found by bisection.
-pub(crate) fn near_entries<'a>(lane: &'a Lane, lo: &i64, hi: &i64) -> &'a [Entry]
-    requires orderly { IsOrderly lane.now }
-    requires low { negsuc 4611686018427387903 ≤ℤ lo.now }
-    ensures { IsNearRun lane.now.entries.items lo.now hi.now result.now }
+/// The entry of a cell of this box in a strip of that area.
+fn entry_of(area: &Rect, found: &Option<Rect>, own: u32) -> Entry
+    ensures { result ≡ entry_of_box area.now found.now own }
 {
-    let entries = lane.entries.as_slice();
+    Entry {
+        own,
+        area: part_of(area, &box_or_none(found)),
+    }
+}
+
+/// The entry that is marked in a strip of the team, of that area.
+fn entry_at(boxes: &Boxes<'_>, team: u32, area: &Rect, mark: &Mark) -> Entry
+    ensures { result ≡ entry_in (slice_index_or boxes.now team []) area.now mark.now }
+{
+    let id = CellId {
+        team,
+        own: mark.own,
+    };
+    entry_of(area, &boxes.get(&id), mark.own)
+}
+
+/// The same, of a team of that number.
+fn entry_of_team(boxes: &Boxes<'_>, team: usize, area: &Rect, mark: &Mark) -> Entry
+    ensures { result ≡ entry_in (slice_index_or boxes.now team []) area.now mark.now }
+{
+    entry_of(area, &boxes.get_in(team, mark.own), mark.own)
+}
+
+/// The x range of the entry that is marked in a strip of the team, of that area. The cell is asked only
+/// where its mark does not tell the width.
+fn range_at(boxes: &Boxes<'_>, team: usize, area: &Rect, mark: &Mark) -> Span
+    requires { Tells (entry_in (slice_index_or boxes.now team []) area.now mark.now) mark.now }
+    ensures { result ≡ x_range (entry_in (slice_index_or boxes.now team []) area.now mark.now).area }
+{
+    if mark.width == u32::MAX {
+        return x_range_of(&entry_of_team(boxes, team, area, mark).area);
+    }
+    let lo = i64::from(mark.left);
+    Span {
+        lo,
+        hi: lo + i64::from(mark.width),
+    }
+}
+
+/// Whether the mark lies farther right.
+fn is_beyond(mark: &Mark, left: &i64) -> bool
+    ensures { IsTrue result ↔ (left.now <ℤ mark.now.left) }
+{
+    i64::from(mark.left) > *left
+}
+
+/// How many of the marks are before x.
+pub(crate) fn count_before(marks: &[Mark], x: &i64) -> usize
+    requires { AreRising marks.now }
+    ensures within { result ≤ length marks.now }
+    ensures below { (k : ℕ) → (d : Mark) → k < result → (slice_index_or marks.now k d).left <ℤ x.now }
+    ensures rest { (k : ℕ) → (d : Mark) → result ≤ k → k < length marks.now → x.now ≤ℤ (slice_index_or marks.now k d).left }
+{
+    marks.partition_point(|mark| i64::from(mark.left) < *x)
+}
+
+/// The marks of the entries that lie near a range of x. They are found by bisection.
+pub(crate) fn near_marks<'a>(lane: &'a Lane, lo: &i64, hi: &i64) -> &'a [Mark]
+    requires rising { AreRising lane.now.marks.items }
+    requires some { pos 0 ≤ℤ lane.now.widest }
+    requires most { lane.now.widest ≤ℤ pos 1099511627776 }
+    requires low { negsuc 4611686018427387903 ≤ℤ lo.now }
+    ensures near { (cells : List (Option Rect)) → (area : Rect) → IsMarked cells area lane.now →
+        IsNearRun (entries_in cells area lane.now.marks.items) lo.now hi.now (entries_in cells area result.now) }
+    ensures told { (cells : List (Option Rect)) → (area : Rect) → IsMarked cells area lane.now → AreTold cells area result.now }
+{
+    let marks = lane.marks.as_slice();
     let from = *lo - lane.widest;
-    let rest = &entries[count_before(entries, &from)..];
+    let rest = &marks[count_before(marks, &from)..];
     &rest[..count_before(rest, hi)]
 }
 
-/// The number of the cell if it is the lesser one, is not `but`, and the entry shares a point with
-/// the rectangle; else the number so far.
-fn lesser(entry: &Entry, rect: &Rect, but: u32, so_far: Option<u32>) -> Option<u32>
-    ensures { IsLeast (λ own. MeetsEntry rect.now but own entry.now) so_far result }
+/// Whether no number lies in the range and in the x range of the rectangle.
+fn lies_beside(range: &Span, rect: &Rect) -> bool
+    ensures { IsTrue result ↔ LiesBeside range.now rect.now }
 {
-    if entry.own == but {
+    range.hi <= rect.x1 || rect.x2 <= range.lo
+}
+
+/// The number of the cell if it is the lesser one, is not `but`, and its entry shares a point with
+/// the rectangle; else the number so far.
+fn lesser(
+    boxes: &Boxes<'_>,
+    team: u32,
+    area: &Rect,
+    mark: &Mark,
+    rect: &Rect,
+    but: u32,
+    so_far: Option<u32>,
+) -> Option<u32>
+    requires { Tells (entry_in (slice_index_or boxes.now team []) area.now mark.now) mark.now }
+    ensures { IsLeast (λ own. MeetsEntry rect.now but own (entry_in (slice_index_or boxes.now team []) area.now mark.now)) so_far result }
+{
+    if mark.own == but {
         return so_far;
     }
     if let Some(least) = so_far
-        && least <= entry.own
+        && least <= mark.own
     {
         return so_far;
     }
-    if rect.overlaps(&entry.area) {
-        Some(entry.own)
+    if !lies_beside(&range_at(boxes, team as usize, area, mark), rect)
+        && rect.overlaps(&entry_at(boxes, team, area, mark).area)
+    {
+        Some(mark.own)
     } else {
         so_far
     }
 }
 
-/// The same over each of the entries, one after another.
-fn least_in(entries: &[Entry], rect: &Rect, but: u32, so_far: Option<u32>) -> Option<u32>
-    ensures { IsLeast (MeetsOne entries.now rect.now but) so_far result }
-{
-    let mut least = so_far;
-    for entry in entries {
-        least = lesser(entry, rect, but, least);
-    }
-    least
-}
-
-/// The same over the entries of a lane whose strip begins at `left`. Only those near the rectangle are
-/// looked at.
-pub(crate) fn least_in_lane(
-    lane: &Lane,
-    left: &i64,
+/// The same over each of the marks, one after another.
+fn least_in(
+    boxes: &Boxes<'_>,
+    team: u32,
+    area: &Rect,
+    marks: &[Mark],
     rect: &Rect,
     but: u32,
     so_far: Option<u32>,
 ) -> Option<u32>
-    requires orderly { IsOrderly lane.now }
-    requires inside { All (λ e. left.now ≤ℤ e.area.x1) lane.now.entries.items }
-    requires low { negsuc 549755813887 ≤ℤ left.now }
-    ensures { IsLeast (λ own. MeetsOne lane.now.entries.items rect.now but own) so_far result }
+    requires { AreTold (slice_index_or boxes.now team []) area.now marks.now }
+    ensures { IsLeast (MeetsOne (entries_in (slice_index_or boxes.now team []) area.now marks.now) rect.now but) so_far result }
 {
-    let lo = rect.x1.max(*left);
-    least_in(near_entries(lane, &lo, &rect.x2), rect, but, so_far)
+    let mut least = so_far;
+    for mark in marks {
+        least = lesser(boxes, team, area, mark, rect, but, least);
+    }
+    least
 }
 
-/// The entry made wider by the padding on its left and on its right.
-fn padded_entry(entry: &Entry, padding: &i64) -> Entry
-    requires short { IsShort padding.now }
-    requires around { HasRoomAround entry.now.area }
-    ensures { result ≡ padded padding.now entry.now }
+/// The same over the marks of the lane of a strip of that area. Only those near the rectangle are looked
+/// at.
+pub(crate) fn least_in_lane(
+    boxes: &Boxes<'_>,
+    team: u32,
+    lane: &Lane,
+    area: &Rect,
+    rect: &Rect,
+    but: u32,
+    so_far: Option<u32>,
+) -> Option<u32>
+    requires marked { IsMarked (slice_index_or boxes.now team []) area.now lane.now }
+    requires near { IsNearZero area.now }
+    ensures { IsLeast (MeetsOne (entries_in (slice_index_or boxes.now team []) area.now lane.now.marks.items) rect.now but) so_far result }
 {
-    Entry {
-        own: entry.own,
-        area: wider(&entry.area, *padding),
+    let lo = rect.x1.max(area.x1);
+    let near = near_marks(lane, &lo, &rect.x2);
+    least_in(boxes, team, area, near, rect, but, so_far)
+}
+
+/// The range made wider by the padding on its left and on its right.
+fn padded_range(range: &Span, padding: &i64) -> Span
+    requires short { IsShort padding.now }
+    requires low { negsuc 4611686018427387903 ≤ℤ range.now.lo }
+    requires high { range.now.hi ≤ℤ pos 4611686018427387904 }
+    ensures { result ≡ wider_range padding.now range.now }
+{
+    Span {
+        lo: range.lo - *padding,
+        hi: range.hi + *padding,
     }
 }
 
-/// The entries, each made wider by the padding.
-fn padded_of(alloc: Global, entries: &[Entry], padding: &i64) -> Result<Vec<Entry>, AllocError>
+/// The x ranges of the entries that are marked in a strip of the team, of that area, each made wider by
+/// the padding.
+fn padded_of(
+    alloc: Global,
+    boxes: &Boxes<'_>,
+    team: usize,
+    area: &Rect,
+    marks: &[Mark],
+    padding: &i64,
+) -> Result<Vec<Span>, AllocError>
     requires short { IsShort padding.now }
-    requires around { All (λ e. HasRoomAround e.area) entries.now }
-    ensures { IfOk result (λ list. list.items ≡ all_padded padding.now entries.now) }
+    requires told { AreTold (slice_index_or boxes.now team []) area.now marks.now }
+    requires around { All (λ e. HasRoomAround e.area) (entries_in (slice_index_or boxes.now team []) area.now marks.now) }
+    ensures { IfOk result (λ list. list.items ≡ spans_in (all_padded padding.now (entries_in (slice_index_or boxes.now team []) area.now marks.now))) }
 {
-    let mut list = Vec::with_capacity(alloc, entries.len())?;
-    for entry in entries {
-        list.push(padded_entry(entry, padding))?;
+    let mut list = Vec::with_capacity(alloc, marks.len())?;
+    for mark in marks {
+        let range = range_at(boxes, team, area, mark);
+        list.push(padded_range(&range, padding))?;
     }
     Ok(list)
 }
 
-/// The entries of all cells but this one, each made wider by the padding.
+/// Those of all cells but this one.
 fn others_of(
     alloc: Global,
-    entries: &[Entry],
-    own: u32,
+    boxes: &Boxes<'_>,
+    id: &CellId,
+    area: &Rect,
+    marks: &[Mark],
     padding: &i64,
-) -> Result<Vec<Entry>, AllocError>
+) -> Result<Vec<Span>, AllocError>
     requires short { IsShort padding.now }
-    requires around { All (λ e. HasRoomAround e.area) entries.now }
-    ensures { IfOk result (λ others. others.items ≡ others_in (all_padded padding.now entries.now) own) }
+    requires told { AreTold (slice_index_or boxes.now id.now.team []) area.now marks.now }
+    requires around { All (λ e. HasRoomAround e.area) (entries_in (slice_index_or boxes.now id.now.team []) area.now marks.now) }
+    ensures { IfOk result (λ others. others.items
+        ≡ spans_in (others_in (all_padded padding.now (entries_in (slice_index_or boxes.now id.now.team []) area.now marks.now)) id.now.own)) }
 {
     let mut others = Vec::new(alloc);
-    for entry in entries {
-        if entry.own != own {
-            others.push(padded_entry(entry, padding))?;
+    for mark in marks {
+        if mark.own != id.own {
+            let range = range_at(boxes, id.team as usize, area, mark);
+            others.push(padded_range(&range, padding))?;
         }
     }
     Ok(others)
@@ -189,35 +308,40 @@ fn others_of(
 
 /// A width that no entry of the lane exceeds that is made wider by the padding.
 fn widest_padded(lane: &Lane, padding: &i64) -> i64
-    requires orderly { IsOrderly lane.now }
+    requires some { pos 0 ≤ℤ lane.now.widest }
+    requires most { lane.now.widest ≤ℤ pos 1099511627776 }
     requires short { IsShort padding.now }
     ensures { result ≡ lane.now.widest +ℤ (pos 2 *ℤ padding.now) }
 {
     lane.widest + 2 * *padding
 }
 
-/// Within a window, the spans of a strip that other cells than this one leave free, with the padding
-/// around each. Only entries near the window are looked at.
+/// Within a window, the spans of a strip that other cells of its team than this one leave free, with the
+/// padding around each; the strip has that area, felt around. Only marks near the window are looked at.
 pub(crate) fn free_in_lane(
     alloc: Global,
+    boxes: &Boxes<'_>,
+    id: &CellId,
     lane: &Lane,
+    area: &Rect,
     strip: &Span,
-    own: u32,
     window: &Span,
     padding: &i64,
 ) -> Result<Vec<Span>, AllocError>
-    requires orderly { IsOrderly lane.now }
-    requires around { All (λ e. HasRoomAround e.area) lane.now.entries.items }
+    requires marked { IsMarked (slice_index_or boxes.now id.now.team []) area.now lane.now }
+    requires near { IsNearZero area.now }
     requires short { IsShort padding.now }
     requires left { negsuc 2147483647 ≤ℤ strip.now.lo }
     requires right { strip.now.hi ≤ℤ pos 2147483647 }
     requires low { negsuc 4611686018427387903 ≤ℤ window.now.lo }
-    ensures { IfOk result (λ free. IsFreeIn strip.now (spans_in (others_in (all_padded padding.now lane.now.entries.items) own)) window.now free.items) }
+    ensures { IfOk result (λ free. IsFreeIn strip.now
+        (spans_in (others_in (all_padded padding.now (entries_in (slice_index_or boxes.now id.now.team []) area.now lane.now.marks.items)) id.now.own))
+        window.now free.items) }
 {
     let lo = window.lo.max(strip.lo) - *padding;
     let hi = window.hi.min(strip.hi) + *padding;
-    let near = near_entries(lane, &lo, &hi);
-    let others = others_of(alloc, near, own, padding)?;
+    let near = near_marks(lane, &lo, &hi);
+    let others = others_of(alloc, boxes, id, area, near, padding)?;
     free_in(
         alloc,
         strip,
@@ -227,20 +351,25 @@ pub(crate) fn free_in_lane(
     )
 }
 
-/// The spans of a strip that its cells leave free, with the padding around each.
+/// The spans of a strip that its team's cells leave free, with the padding around each; the strip has
+/// that area, felt around.
 pub(crate) fn free_of_all(
     alloc: Global,
+    boxes: &Boxes<'_>,
+    team: usize,
     lane: &Lane,
+    area: &Rect,
     strip: &Span,
     padding: &i64,
 ) -> Result<Vec<Span>, AllocError>
-    requires orderly { IsOrderly lane.now }
-    requires around { All (λ e. HasRoomAround e.area) lane.now.entries.items }
+    requires marked { IsMarked (slice_index_or boxes.now team []) area.now lane.now }
+    requires near { IsNearZero area.now }
     requires short { IsShort padding.now }
     requires low { negsuc 4611686018427387903 ≤ℤ strip.now.lo }
-    ensures { IfOk result (λ free. IsFreeIn strip.now (spans_in (all_padded padding.now lane.now.entries.items)) strip.now free.items) }
+    ensures { IfOk result (λ free. IsFreeIn strip.now
+        (spans_in (all_padded padding.now (entries_in (slice_index_or boxes.now team []) area.now lane.now.marks.items))) strip.now free.items) }
 {
-    let all = padded_of(alloc, lane.entries.as_slice(), padding)?;
+    let all = padded_of(alloc, boxes, team, area, lane.marks.as_slice(), padding)?;
     free_in(
         alloc,
         strip,
@@ -250,70 +379,105 @@ pub(crate) fn free_of_all(
     )
 }
 
-/// The position of the cell's entry among those from a position on; none if it has none there.
-fn place_from(entries: &[Entry], own: u32, from: usize) -> Option<usize>
-    requires { from ≤ length entries.now }
-    ensures { MatchOption result (StandsNotFrom entries.now own from) (StandsAt entries.now own) }
+/// The position of the cell's mark, which is at `left` if there is one, among those from a position on;
+/// none if it has none there. Marks farther right are not looked at.
+fn place_from(marks: &[Mark], own: u32, from: usize, left: &i64) -> Option<usize>
+    requires bound { from ≤ length marks.now }
+    requires order { AreRising marks.now }
+    requires begins { All (λ m. m.own ≡ own → m.left ≡ left.now) marks.now }
+    ensures { MatchOption result (StandsNotFrom marks.now own from) (StandsAt marks.now own) }
 {
-    for n in from..entries.len() {
-        if entries[n].own == own {
+    for n in from..marks.len() {
+        if marks[n].own == own {
             return Some(n);
+        }
+        if is_beyond(&marks[n], left) {
+            return None;
         }
     }
     None
 }
 
-/// Takes the cell's entry out, which begins at `left` if there is one. It is found by bisection.
+/// Takes the cell's mark out, which is at `left` if there is one. It is found by bisection.
 pub(crate) fn prune(lane: &mut Lane, own: u32, left: &i64)
     requires { HasAtMostOne own left.now lane.old }
     ensures { IsPruned own lane.old lane.new }
 {
-    let entries = lane.entries.as_slice();
-    if let Some(n) = place_from(entries, own, count_before(entries, left)) {
-        lane.entries.remove(n);
+    let marks = lane.marks.as_slice();
+    if let Some(n) = place_from(marks, own, count_before(marks, left), left) {
+        lane.marks.remove(n);
     }
 }
 
-/// Makes room for this many more entries.
+/// Makes room for this many more marks, where there is none for a quarter more than there are: lanes are
+/// many, and doubling each would cost too much.
 pub(crate) fn make_room(lane: &mut Lane, more: usize) -> Result<(), AllocError>
     ensures kept { IsKept lane.old lane.new }
     ensures ok { OnOk result (HasRoomOf more lane.new) }
 {
-    lane.entries.reserve(more)
+    let marks = &mut lane.marks;
+    if more <= marks.capacity().saturating_sub(marks.len()) {
+        return Ok(());
+    }
+    marks.reserve_exact(more.max(marks.len() / 4))
 }
 
-/// Inserts an entry at its place in the order. It allocates nothing.
-fn join(lane: &mut Lane, entry: &Entry)
-    requires order { AreInOrder lane.old.entries.items }
-    requires within { IsNearZero entry.now.area }
-    requires whole { IsWhole entry.now.area }
+/// Inserts the mark of an entry of that area at its place in the order. It allocates nothing.
+fn join(lane: &mut Lane, mark: &Mark, area: &Rect)
+    requires order { AreRising lane.old.marks.items }
+    requires left { negsuc 549755813887 ≤ℤ area.now.x1 }
+    requires right { area.now.x2 ≤ℤ pos 549755813888 }
+    requires whole { IsWhole area.now }
     requires room { HasRoom lane.old }
-    ensures { IsJoined entry.now lane.old lane.new }
+    ensures { IsJoined mark.now (area.now.x2 -ℤ area.now.x1) lane.old lane.new }
 {
-    let at = count_before(lane.entries.as_slice(), &entry.area.x1);
-    lane.widest = lane.widest.max(entry.area.x2 - entry.area.x1);
-    if lane.entries.insert(at, *entry).is_err() {
+    let at = count_before(lane.marks.as_slice(), &i64::from(mark.left));
+    lane.widest = lane.widest.max(area.x2 - area.x1);
+    if lane.marks.insert(at, *mark).is_err() {
         unreachable!();
     }
 }
 
-/// The entry of a cell for a part of its strip.
-fn entry_of(own: u32, area: &Rect) -> Entry
-    ensures { result ≡ entry_for own area.now }
+/// The width of the part as a mark keeps it: one of 2^32 - 1 or more as that number.
+fn kept_width(part: &Rect) -> u32
+    requires left { IsPlaceX part.now.x1 }
+    requires right { part.now.x2 ≤ℤ pos 549755813888 }
+    requires whole { IsWhole part.now }
+    ensures { IsKeptAs (part.now.x2 -ℤ part.now.x1) result }
 {
-    Entry { own, area: *area }
+    match u32::try_from(part.x2 - part.x1) {
+        Ok(kept) => kept,
+        Err(_) => u32::MAX,
+    }
 }
 
-/// Inserts the part of the cell's box that lies in the strip's area, if there is one. It allocates
+/// The mark of a cell for a part of its strip.
+fn mark_of(own: u32, part: &Rect) -> Mark
+    requires left { IsPlaceX part.now.x1 }
+    requires right { part.now.x2 ≤ℤ pos 549755813888 }
+    requires whole { IsWhole part.now }
+    ensures is { result.own ≡ own }
+    ensures left { result.left ≡ part.now.x1 }
+    ensures width { IsKeptAs (part.now.x2 -ℤ part.now.x1) result.width }
+{
+    Mark {
+        own,
+        left: part.x1 as i32,
+        width: kept_width(part),
+    }
+}
+
+/// Marks the part of the cell's box that lies in the strip's area, if there is one. It allocates
 /// nothing.
 pub(crate) fn put_in(lane: &mut Lane, area: &Rect, own: u32, rect: &Rect)
-    requires order { AreInOrder lane.old.entries.items }
+    requires order { AreRising lane.old.marks.items }
     requires within { IsNearZero area.now }
-    requires room { (part : Rect) → IsPart area.now rect.now part → IsWhole part → HasRoom lane.old }
+    requires edge { IsPlaceX rect.now.x1 }
+    requires room { IsWhole (part_in area.now rect.now) → HasRoom lane.old }
     ensures { IsPutIn own rect.now area.now lane.old lane.new }
 {
     let part = part_of(area, rect);
     if is_whole(&part) {
-        join(lane, &entry_of(own, &part));
+        join(lane, &mark_of(own, &part), &part);
     }
 }

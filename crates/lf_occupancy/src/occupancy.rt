@@ -1,17 +1,17 @@
 //! The cells in the strips of a frame.
 
-ghost use Rattle.std.specs.Prelude.{ℕ, ◌≡◌, ◌≤ℤ◌, ◌*ℤ◌, All, IfOk, IfSome, None, OnErr, OnOk, Some, length, negsuc, pos};
-ghost use Rattle.lf_floorplan.specs.declared.frame.Frame.{Frame};
+ghost use Rattle.std.specs.Prelude.{◌≡◌, ◌≤ℤ◌, ◌*ℤ◌, [], All, IfOk, IfSome, List, None, OnOk, Option, Some, length, pos, slice_index_or, ℕ};
+ghost use Rattle.lf_units.specs.declared.area.Rect.{Rect};
 ghost use Rattle.lf_segments.specs.Grounds.{IsGroundOf};
-ghost use Rattle.lf_occupancy.specs.Occupied.{box_at, boxes_of, boxes_with, reach, AreFreeSpans, FitIn, HasRoomFor, NoLess, IsFirstMet, IsFreeInRow, IsPaddingOf};
-ghost use Rattle.lf_occupancy.specs.Floorplans.{HasSize, IsOccupancyOf};
-ghost use Rattle.lf_cells.specs.Cells.{cells_of};
-ghost use Rattle.lf_occupancy.specs.Strips.{HasCell};
+ghost use Rattle.lf_occupancy.specs.Floorplans.{HaveSize, IsMarkedBy, boxes_in};
+ghost use Rattle.lf_occupancy.specs.Lanes.{IsPlaceX};
+ghost use Rattle.lf_occupancy.specs.Occupied.{AreFreeSpans, FitIn, HasRoomFor, IsPaddingOf, NoLess};
+ghost use Rattle.lf_occupancy.specs.Strips.{CanEnter, CanLeave, Holds, IsAt, IsNowhere, boxes_set, filled_by, rooms_in};
 
-use crate::boxes::TeamBoxes;
-use crate::build::{bare_lanes, fill, no_boxes_of};
-use crate::change::{insert_box, remove_box, reserve_moves};
-use crate::find::{free_in_one, free_in_strips, least_met};
+use crate::boxes::Boxes;
+use crate::build::lanes_of;
+use crate::change::{reserve_moves, take_in, take_out};
+use crate::filled::Filled;
 use crate::lane::Lane;
 use lf_cells::{CellId, CellTable};
 use lf_floorplan::Frame;
@@ -21,39 +21,32 @@ use std::alloc::{AllocError, Global};
 use std::marker::Model;
 
 /// The cells in the strips of a frame: what of the frame is looked up, the width of a core site in
-/// database units, for each team the boxes of its cells, and for each strip the parts of those boxes
-/// that lie in it, felt 16 sites around, in the order of their left edges. So what lies near enough to a
-/// strip for some padding is known there. A contract sees the look-ups, the width, the boxes, and for
-/// each strip how many boxes it has room for.
+/// database units, and for each strip which cells' boxes have a part in it, felt 16 sites around, in the
+/// order of the parts' left edges. So what lies near enough to a strip for some padding is known there.
+///
+/// The boxes follow from frame and cells, and are computed where they are asked for (`filled`). A contract
+/// sees what is kept, and says which boxes the strips hold.
 #[derive(Drop)]
 pub struct Occupancy {
-    index: Ground,
-    site: i64,
-    lanes: Vec<Lane>,
-    boxes: Vec<TeamBoxes>,
+    pub(crate) index: Ground,
+    pub(crate) site: i64,
+    pub(crate) lanes: Vec<Lane>,
 }
 
 impl Model for Occupancy {
-    ghost use Rattle.lf_occupancy.specs.Occupied.{Occupied};
+    ghost use Rattle.lf_occupancy.specs.Strips.{HasLanes, Marked};
 
-    ghost Value = { Occupied };
+    ghost Value = { Marked };
 
-    ghost use Rattle.lf_occupancy.specs.Strips.{AreLanes, IsSite, felt_strips, rooms_in};
+    ghost view = { λ o. record { index = o.index; site = o.site; lanes = o.lanes.items } };
 
-    ghost view = { λ o. record {
-      index = o.index;
-      site = o.site;
-      boxes = o.boxes.items;
-      rooms = rooms_in o.lanes.items;
-    } };
-
-    ghost invariant = { λ o. IsSite o.site × AreLanes (felt_strips o.site o.index.strips) o.boxes.items o.lanes.items };
+    ghost invariant = { λ o. HasLanes record { index = o.index; site = o.site; lanes = o.lanes.items } };
 }
 
 impl Occupancy {
     /// The occupancy of the frame's strips by the cells at their working places, with the frame's
-    /// look-ups; each cell's macro is one of the frame's and has a whole size. `Err` if an allocation
-    /// fails.
+    /// look-ups; each cell's macro is one of the frame's and has a whole size. Each strip has room for its
+    /// cells, and little more. `Err` if an allocation fails.
     pub fn build(
         alloc: Global,
         frame: &Frame,
@@ -61,17 +54,14 @@ impl Occupancy {
         cells: &CellTable,
     ) -> Result<Self, AllocError>
         requires index { IsGroundOf frame.now index }
-        requires sized { (team : ℕ) → All (HasSize frame.now) (cells_of cells.now team) }
-        ensures { IfOk result (λ occupancy. IsOccupancyOf frame.now cells.now occupancy) }
+        requires sized { HaveSize frame.now cells.now }
+        ensures { IfOk result (λ occupancy. IsMarkedBy frame.now cells.now occupancy) }
     {
-        let mut lanes = bare_lanes(alloc, index.strips().len())?;
-        let mut boxes = no_boxes_of(alloc, cells)?;
-        fill(alloc, &mut lanes, &mut boxes, &index, frame, cells)?;
+        let lanes = lanes_of(alloc, &index, frame, cells)?;
         Ok(Occupancy {
             index,
             site: frame.pitch.x,
             lanes,
-            boxes,
         })
     }
 
@@ -84,30 +74,19 @@ impl Occupancy {
 
     /// The greatest padding as a length, in database units: 16 core sites.
     pub fn reach(&self) -> i64
-        ensures is { result ≡ reach self.now }
+        ensures is { result ≡ pos 16 *ℤ self.now.site }
         ensures least { pos 0 ≤ℤ result }
     {
         16 * self.site
     }
 
-    /// Within a window, the spans of a row that are free for a cell, which is taken away first:
-    /// of the strips of the row and the cell's team, what the team's other cells leave with the padding
-    /// around each. All lengths are in database units. Only what lies near the window is looked at.
-    /// `Err` if an allocation fails.
-    pub fn free_in_row(
-        &self,
-        alloc: Global,
-        row: usize,
-        id: CellId,
-        window: &Span,
-        padding: i64,
-    ) -> Result<Vec<Span>, AllocError>
-        requires window { negsuc 4611686018427387903 ≤ℤ window.now.lo }
-        requires padding { IsPaddingOf self.now padding }
-        ensures { IfOk result (λ free. IsFreeInRow self.now row id window.now padding free.items) }
+    /// The strips, filled with the table's cells at their working places.
+    pub fn filled<'a>(&'a self, frame: &'a Frame, cells: &'a CellTable) -> Filled<'a>
+        requires sized { HaveSize frame.now cells.now }
+        requires holds { Holds self.now (boxes_in frame.now cells.now) }
+        ensures { result ≡ filled_by self.now (boxes_in frame.now cells.now) }
     {
-        self.index.strips_are_placed();
-        free_in_strips(alloc, &self.index, &self.lanes, row, &id, window, &padding)
+        Filled::new(self, Boxes::new(frame, cells))
     }
 
     /// The free spans of one strip, that of the segment of that number, in database units: what the
@@ -117,83 +96,67 @@ impl Occupancy {
     pub fn free_spans(
         &self,
         alloc: Global,
+        frame: &Frame,
+        cells: &CellTable,
         segment: usize,
         without: CellId,
         padding: i64,
     ) -> Result<Vec<Span>, AllocError>
-        requires { IsPaddingOf self.now padding }
-        ensures { IfOk result (λ free. AreFreeSpans self.now segment without padding free.items) }
+        requires sized { HaveSize frame.now cells.now }
+        requires holds { Holds self.now (boxes_in frame.now cells.now) }
+        requires padding { IsPaddingOf (filled_by self.now (boxes_in frame.now cells.now)) padding }
+        ensures { IfOk result (λ free. AreFreeSpans (filled_by self.now (boxes_in frame.now cells.now)) segment without padding free.items) }
     {
-        self.index.strips_are_placed();
-        free_in_one(alloc, &self.index, &self.lanes, segment, &without, &padding)
+        self.filled(frame, cells)
+            .free_spans(alloc, segment, without, padding)
     }
 
-    /// The first of the other cells of the cell's team, by their positions, that shares with the
-    /// rectangle a point of one of the team's strips, felt 16 core sites around; none if none does. It
-    /// allocates nothing.
-    pub fn first_met(&self, id: CellId, rect: &Rect) -> Option<u32>
-        ensures { IsFirstMet self.now id rect.now result }
-    {
-        least_met(&self.index, &self.site, &self.lanes, &id, rect)
-    }
-
-    /// Takes the cell's box away; if it has none, or there is no such cell,
-    /// nothing changes. It allocates nothing, and each strip keeps the room that it has.
-    pub fn remove(&mut self, id: CellId)
-        ensures boxes { self.new.boxes ≡ boxes_with self.old id None }
+    /// Takes the cell, which has this box, out of the strips; if it has no box, nothing changes. It
+    /// allocates nothing, and each strip keeps the room that it has.
+    pub fn remove(&mut self, id: CellId, rect: &Rect)
+        requires { CanLeave self.old id rect.now }
+        ensures holds { (boxes : List (List (Option Rect))) → IsAt boxes id rect.now → Holds self.old boxes → Holds self.new (boxes_set boxes id None) }
         ensures index { self.new.index ≡ self.old.index }
         ensures site { self.new.site ≡ self.old.site }
-        ensures rooms { self.new.rooms ≡ self.old.rooms }
+        ensures rooms { rooms_in self.new.lanes ≡ rooms_in self.old.lanes }
     {
-        remove_box(
-            &mut self.lanes,
-            &mut self.boxes,
-            &self.index,
-            &self.site,
-            &id,
-        );
+        take_out(&mut self.lanes, &self.index, &self.site, &id, rect);
     }
 
     /// Gives a cell without a box this one. It allocates nothing: each strip of its team that, felt
     /// around, shares a point with the box has room for one more. Each strip keeps the room that it has.
     pub fn insert(&mut self, id: CellId, rect: &Rect)
-        requires known { HasCell self.old.boxes id }
-        requires nowhere { box_at self.old id.team id.own ≡ None }
-        requires room { HasRoomFor self.old id.team rect.now 1 }
-        ensures boxes { self.new.boxes ≡ boxes_with self.old id (Some rect.now) }
+        requires edge { IsPlaceX rect.now.x1 }
+        requires enter { CanEnter self.old id rect.now }
+        ensures holds { (boxes : List (List (Option Rect))) → IsNowhere boxes id → Holds self.old boxes
+            → Holds self.new (boxes_set boxes id (Some rect.now)) }
         ensures index { self.new.index ≡ self.old.index }
         ensures site { self.new.site ≡ self.old.site }
-        ensures rooms { self.new.rooms ≡ self.old.rooms }
+        ensures rooms { rooms_in self.new.lanes ≡ rooms_in self.old.lanes }
     {
-        insert_box(
-            &mut self.lanes,
-            &mut self.boxes,
-            &self.index,
-            &self.site,
-            &id,
-            rect,
-        );
+        take_in(&mut self.lanes, &self.index, &self.site, &id, rect);
     }
 
     /// Makes the room that `insert` needs if the moves are made in their order, each by removing the
     /// cell's box and inserting its new one, if it has one: for as many more boxes as there are moves, in
-    /// each strip of a cell's team that, felt around, shares a point with its box. The boxes are
-    /// unchanged. `Err` if an allocation fails: then strips may have gained room, and nothing else is
+    /// each strip of a cell's team that, felt around, shares a point with its box. The strips hold the
+    /// same boxes. `Err` if an allocation fails: then strips may have gained room, and nothing else is
     /// changed.
     pub fn reserve_for(&mut self, moves: &[(CellId, Option<Rect>)]) -> Result<(), AllocError>
-        ensures ok { OnOk result (All (λ m. IfSome m.1 (λ rect. HasRoomFor self.new m.0.team rect (length moves.now))) moves.now) }
-        ensures boxes { self.new.boxes ≡ self.old.boxes }
+        ensures ok { (boxes : List (List (Option Rect))) → Holds self.old boxes
+            → OnOk result (All (λ m. IfSome m.1 (λ rect. HasRoomFor (filled_by self.new boxes) m.0.team rect (length moves.now))) moves.now) }
+        ensures holds { (boxes : List (List (Option Rect))) → Holds self.old boxes → Holds self.new boxes }
         ensures index { self.new.index ≡ self.old.index }
         ensures site { self.new.site ≡ self.old.site }
-        ensures rooms { NoLess self.old.rooms self.new.rooms }
+        ensures rooms { NoLess (rooms_in self.old.lanes) (rooms_in self.new.lanes) }
     {
         reserve_moves(&mut self.lanes, &self.index, &self.site, moves)
     }
 
-    /// The boxes that stand fit: each strip has room for as many of its team's boxes as share a point
-    /// with it, felt around.
+    /// The boxes that the strips hold fit: each strip has room for as many of its team's boxes as share a
+    /// point with it, felt around.
     pub fn boxes_fit(&self)
-        ensures { (team : ℕ) → FitIn self.now team (boxes_of self.now team) }
+        ensures { (boxes : List (List (Option Rect))) → Holds self.now boxes → (team : ℕ) → FitIn (filled_by self.now boxes) team (slice_index_or boxes team []) }
     {
         let _ = &self.lanes;
     }

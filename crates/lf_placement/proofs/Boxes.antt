@@ -2,19 +2,19 @@
 use Rattle.std.proofs.Common.{◌≡◌, ◌≢◌, ◌⊎◌, inl, inr, ⊎_elim, ◌<◌, ◌≤◌, ℕ, zero, suc, ◌+◌, List, [], ◌∷◌, map, length, set, get_or, Option, Some, None, refl, ap, sym, subst, ◌∙◌, arith, below_more}
 use Rattle.std.specs.Prelude.{slice_get, option_map}
 use Rattle.std.proofs.lemmas.Bool.{cases_eq}
-use Rattle.std.proofs.lemmas.List.{get_or-set_other, length-set, set-set}
+use Rattle.std.proofs.lemmas.List.{get_or-set_other, length-set}
 use Rattle.lf_units.specs.declared.area.Rect.{Rect}
 use Rattle.lf_floorplan.specs.declared.frame.Frame.{Frame}
 use Rattle.lf_cells.specs.declared.cell.Cell.{Cell}
 use Rattle.lf_cells.specs.declared.cell.CellId.{CellId}
-use Rattle.lf_cells.specs.Cells.{Cells, cells_of, id_in, id_of, working_at}
+use Rattle.lf_cells.specs.Cells.{Cells, id_in, id_of, working_at}
 use Rattle.lf_segments.specs.Grounds.{Lookups}
 use Rattle.lf_occupancy.specs.Occupied.{FitIn, HasRoomFor, Occupied, box_at, boxes_of, boxes_with, cell_box, felt, reach}
 use Rattle.lf_occupancy.specs.Strips.{HasCell}
 use Rattle.lf_occupancy.specs.Floorplans.{box_of}
 use Rattle.lf_occupancy.proofs.Counting.{part_leaves_room}
 use Rattle.lf_undo.specs.declared.moves.Move.{Move}
-use Rattle.lf_placement.specs.Steps.{IsOut, KeepsStrips, MayStand, TakesOut, box_moved, owns, working_boxes}
+use Rattle.lf_placement.specs.Steps.{IsOut, KeepsStrips, MayStand, OthersStand, TakesOut, box_moved, owns, working_boxes}
 use Rattle.lf_placement.proofs.Moves.{id_there}
 
 abbrev Boxes : Type 0
@@ -32,7 +32,7 @@ none_here [] own = refl
 none_here (b ∷ bs) zero = refl
 none_here (b ∷ bs) (suc own) = none_here bs own
 
-set_none : (bs : Boxes) (own : ℕ) → cell_box bs own ≡ None → set bs own None ≡ bs
+pub set_none : (bs : Boxes) (own : ℕ) → cell_box bs own ≡ None → set bs own None ≡ bs
 set_none [] own none = refl
 set_none (b ∷ bs) zero none = ap (λ (x : Option Rect). x ∷ bs) (sym none)
 set_none (b ∷ bs) (suc own) none = ap (λ (r : Boxes). b ∷ r) (set_none bs own none)
@@ -178,9 +178,8 @@ may_with team own boxes a b put kept may = record {
 }
 
 -- the cell of this box is one of those of the occupancy
-pub has_cell : (id : CellId) (boxes : Boxes) (o : Occupied) (r : Rect) → MayStand id.team boxes o → cell_box boxes id.own ≡ Some r → HasCell o.boxes id
-has_cell id boxes o r may is =
-    let many = may.many in
+pub has_cell : (id : CellId) (boxes : Boxes) (o : Occupied) (r : Rect) → length (boxes_of o id.team) ≡ length boxes → cell_box boxes id.own ≡ Some r → HasCell o.boxes id
+has_cell id boxes o r many is =
     let own = box_within boxes id.own r is in
     let within : id.own < length (boxes_of o id.team) = omega (arith, many, own) in
     record { team = row_there o.boxes id.team within; own = within }
@@ -198,72 +197,44 @@ has_room id boxes o r may nowhere is = λ n g there of_team shares.
     let most = may.fits n g there of_team in
     omega (arith, more, most)
 
--- a cell that stands nowhere stays so
-pub none_put_in : (id : CellId) (boxes : Boxes) (o : Occupied) → cell_box boxes id.own ≡ None → box_at o id.team id.own ≡ None
-    → boxes_of o id.team ≡ set (boxes_of o id.team) id.own (cell_box boxes id.own)
-none_put_in id boxes o none nowhere = rw none (sym (set_none (boxes_of o id.team) id.own nowhere))
-
 pub nowhere_now : (id : CellId) (a b : Occupied) → b.boxes ≡ boxes_with a id None → box_at b id.team id.own ≡ None
 nowhere_now id a b is = rw (box_put id None a b is) (none_here (boxes_of a id.team) id.own)
 
-pub twice_put : (id : CellId) (x : Option Rect) (a b c : Occupied) → b.boxes ≡ boxes_with a id None
-    → boxes_of c id.team ≡ set (boxes_of b id.team) id.own x → boxes_of c id.team ≡ set (boxes_of a id.team) id.own x
-twice_put id x a b c out put =
-    put ∙ ap (λ (bs : Boxes). set bs id.own x) (box_put id None a b out) ∙ set-set (boxes_of a id.team) id.own None x
-
 -- so far these stand, and what the rest does not name
-pub record AreStanding (team : ℕ) (boxes : Boxes) (named : List ℕ) (n : ℕ) (old new : Occupied) : Type 0 where
-  pub may : MayStand team boxes new
-  pub rest : (own : ℕ) → ((k : ℕ) → n ≤ k → k < length named → get_or named k 0 ≢ own) → cell_box (boxes_of new team) own ≡ cell_box boxes own
-  pub kept : KeepsStrips team old new
+pub record AreStanding (f : Frame) (cells : Cells) (team : ℕ) (named : List ℕ) (n : ℕ) (o : Occupied) : Type 0 where
+  pub may : MayStand team (working_boxes f cells team) o
+  pub rest : (own : ℕ) → ((k : ℕ) → n ≤ k → k < length named → get_or named k 0 ≢ own) → cell_box (boxes_of o team) own ≡ cell_box (working_boxes f cells team) own
+  pub others : OthersStand f cells team o
 
-pub standing_next : (team : ℕ) (boxes : Boxes) (named : List ℕ) (n own : ℕ) (a b c : Occupied) → own ≡ get_or named n 0
-    → boxes_of c team ≡ set (boxes_of b team) own (cell_box boxes own) → KeepsStrips team b c → AreStanding team boxes named n a b
-    → AreStanding team boxes named (n + 1) a c
-standing_next team boxes named n own a b c is put kept standing = record {
+pub standing_next : (f : Frame) (cells : Cells) (team : ℕ) (named : List ℕ) (n own : ℕ) (b c : Occupied) → own ≡ get_or named n 0
+    → boxes_of c team ≡ set (boxes_of b team) own (cell_box (working_boxes f cells team) own) → KeepsStrips team b c → AreStanding f cells team named n b
+    → AreStanding f cells team named (n + 1) c
+standing_next f cells team named n own b c is put kept standing = record {
   may = may_with team own boxes b c put kept standing.may;
   rest = λ k never. ⊎_elim (λ (same : k ≡ own). rw (put, same) (box_here (boxes_of b team) boxes own standing.may.many))
       (λ (differ : k ≢ own). rw put (there_still (boxes_of b team) own k (cell_box boxes own) differ
       ∙ standing.rest k (λ i from within. at_or_behind k differ never i from within (cases_eq i n)))) (cases_eq k own);
-  kept = keeps_through team a b c standing.kept kept;
+  others = λ other differ. kept.boxes other differ ∙ standing.others other differ;
 }
   where
+    boxes : Boxes
+    boxes = working_boxes f cells team
+
     at_or_behind : (k : ℕ) → k ≢ own → ((i : ℕ) → n + 1 ≤ i → i < length named → get_or named i 0 ≢ k) → (i : ℕ) → n ≤ i → i < length named
         → (i ≡ n) ⊎ (i ≢ n) → get_or named i 0 ≢ k
     at_or_behind k differ never i from within (inl same) = λ here. differ (sym here ∙ ap (λ (j : ℕ). get_or named j 0) same ∙ sym is)
     at_or_behind k differ never i from within (inr other) = never i (omega (arith, from, other)) within
 
-pub all_stand : (team : ℕ) (boxes : Boxes) (named : List ℕ) (n : ℕ) (a b : Occupied) → length named ≤ n → AreStanding team boxes named n a b
-    → boxes_of b team ≡ boxes
-all_stand team boxes named n a b past standing =
-    boxes_alike (boxes_of b team) boxes standing.may.many (λ own. standing.rest own (λ k from within. absurd (omega (arith, past, from, within))))
+pub all_stand : (f : Frame) (cells : Cells) (team : ℕ) (named : List ℕ) (n : ℕ) (o : Occupied) → length named ≤ n → AreStanding f cells team named n o
+    → boxes_of o team ≡ working_boxes f cells team
+all_stand f cells team named n o past standing =
+    boxes_alike (boxes_of o team) (working_boxes f cells team) standing.may.many
+    (λ own. standing.rest own (λ k from within. absurd (omega (arith, past, from, within))))
 
 -- ---- by a team's number and a position
 
-team_is : (team own : ℕ) (cells : List Cell) (id : CellId) → Some id ≡ id_in cells team own → id ≡ id_of team own
+pub team_is : (team own : ℕ) (cells : List Cell) (id : CellId) → Some id ≡ id_in cells team own → id ≡ id_of team own
 team_is team own cells id is = id_there cells team own id (sym is)
-
--- the cell is out, and what is to stand is as it was
-pub may_out : (team own : ℕ) (f : Frame) (cells : Cells) (id : CellId) (a b : Occupied) → Some id ≡ id_in (cells_of cells team) team own
-    → b.boxes ≡ boxes_with a id None → b.index ≡ a.index → b.site ≡ a.site → b.rooms ≡ a.rooms → MayStand team (working_boxes f cells team) a
-    → MayStand id.team (working_boxes f cells id.team) b
-may_out team own f cells id a b is out index site rooms may =
-    let same = ap {B = ℕ} (λ (i : CellId). i.team) (team_is team own (cells_of cells team) id is) in
-    may_without id.team id.own (working_boxes f cells id.team) a b (box_put id None a b out) (keeps_put id None a b out index site rooms)
-    (subst (λ (k : ℕ). MayStand k (working_boxes f cells k) a) (sym same) may)
-
-pub put_twice : (team own : ℕ) (f : Frame) (cells : Cells) (id : CellId) (a b c : Occupied) → Some id ≡ id_in (cells_of cells team) team own
-    → b.boxes ≡ boxes_with a id None → boxes_of c id.team ≡ set (boxes_of b id.team) id.own (cell_box (working_boxes f cells id.team) id.own)
-    → boxes_of c team ≡ set (boxes_of a team) own (cell_box (working_boxes f cells team) own)
-put_twice team own f cells id a b c is out put =
-    subst (λ (i : CellId). boxes_of c i.team ≡ set (boxes_of a i.team) i.own (cell_box (working_boxes f cells i.team) i.own))
-    (team_is team own (cells_of cells team) id is) (twice_put id (cell_box (working_boxes f cells id.team) id.own) a b c out put)
-
-pub keeps_twice : (team own : ℕ) (cells : List Cell) (id : CellId) (a b c : Occupied) → Some id ≡ id_in cells team own
-    → b.boxes ≡ boxes_with a id None → b.index ≡ a.index → b.site ≡ a.site → b.rooms ≡ a.rooms → KeepsStrips id.team b c → KeepsStrips team a c
-keeps_twice team own cells id a b c is out index site rooms kept =
-    subst (λ (i : CellId). KeepsStrips i.team a c) (team_is team own cells id is)
-    (keeps_through id.team a b c (keeps_put id None a b out index site rooms) kept)
 
 -- the position that a move names
 pub own_there : (moves : List Move) (n : ℕ) (m : Move) → n < length moves → m ≡ get_or moves n m → m.own ≡ get_or (owns moves) n 0

@@ -15,12 +15,14 @@ use Rattle.lf_cells.specs.declared.cell.Cell.{Cell}
 use Rattle.lf_cells.specs.Cells.{Cells, as_committed, cells_of}
 use Rattle.lf_cells.specs.Openings.{opening_cell, opening_cells, own_cells, team_numbers}
 use Rattle.lf_legalize.specs.Members.{IsSizedCell}
-use Rattle.lf_segments.specs.Grounds.{Lookups}
+use Rattle.lf_segments.specs.Grounds.{IsGroundOf, Lookups}
+use Rattle.lf_occupancy.specs.Strips.{Marked, rooms_in}
 use Rattle.lf_occupancy.specs.Occupied.{FitIn, NoLess, Occupied, boxes_of}
-use Rattle.lf_occupancy.specs.Floorplans.{IsOccupancyOf, box_of}
+use Rattle.lf_occupancy.specs.Floorplans.{IsOccupancyOf, box_of, boxes_in}
+use Rattle.lf_occupancy.proofs.Building.{boxes_there}
 use Rattle.lf_undo.specs.declared.moves.Move.{Move}
 use Rattle.lf_undo.specs.Entries.{Places, taken_back}
-use Rattle.lf_placement.specs.Placings.{Fits, IsPlacing, OtherCellsStay, Placing, SameButPlaces, boxes_at, committed_of, made, places_of}
+use Rattle.lf_placement.specs.Placings.{Fits, IsPlacing, OtherCellsStay, Placing, SameButPlaces, boxes_at, committed_of, made, placing_of, places_of}
 use Rattle.lf_placement.specs.Steps.{made_back}
 use Rattle.lf_placement.specs.Laws.{SameMacros}
 use Rattle.lf_placement.proofs.Moves.{length_same, places_back, same_back, same_made}
@@ -104,23 +106,29 @@ committed_now : (cells : List Cell) → committed_of (map as_committed cells) �
 committed_now [] = refl
 committed_now (c ∷ cs) = ap (λ (r : Places). c.working ∷ r) (committed_now cs)
 
-pub placing_committed : (p : Placing) (team : ℕ) (cells : Cells) → IsPlacing p → OtherCellsStay team p.cells cells
+-- committing leaves the cells' boxes
+pub boxes_still_committed : (f : Frame) (team : ℕ) (old new : Cells) → OtherCellsStay team old new → cells_of new team ≡ map as_committed (cells_of old team)
+    → (other : ℕ) → get_or (boxes_in f old) other [] ≡ get_or (boxes_in f new) other []
+boxes_still_committed f team old new others own other =
+    boxes_there f old other
+    ∙ sym (each_team (λ n cs. map (box_of f) cs ≡ map (box_of f) (cells_of old n)) team old new others
+    (ap (λ (cs : List Cell). map (box_of f) cs) own ∙ boxes_committed f (cells_of old team)) (λ n. refl) other)
+    ∙ sym (boxes_there f new other)
+
+pub placing_committed : (p : Placing) (team : ℕ) (cells : Cells) (held : Occupied) → IsPlacing p → OtherCellsStay team p.cells cells
     → cells_of cells team ≡ map as_committed (cells_of p.cells team) → ((other : ℕ) → FitIn p.held other (boxes_of p.held other))
-    → IsPlacing record { frame = p.frame; cells = cells; held = p.held }
-placing_committed p team cells is others own fits = record {
+    → IsOccupancyOf p.frame cells held → held.index ≡ p.held.index → held.site ≡ p.held.site → held.rooms ≡ p.held.rooms
+    → IsPlacing record { frame = p.frame; cells = cells; held = held }
+placing_committed p team cells held is others own fits follows index site rooms = record {
   sized = each_team (λ n cs. All (IsSizedCell p.frame) cs) team p.cells cells others
       (sized_in p.frame old (cells_of cells team) macros (is.sized team)) is.sized;
   few = each_team (λ n cs. length cs ≤ 4000000) team p.cells cells others (rw (own, length-map old as_committed) (is.few team)) is.few;
-  follows = record {
-    index = is.follows.index;
-    site = is.follows.site;
-    boxes = each_team (λ n cs. boxes_of p.held n ≡ map (box_of p.frame) cs) team p.cells cells others
-        (rw own (is.follows.boxes team ∙ sym (boxes_committed p.frame old))) is.follows.boxes;
-  };
-  committed = each_team (λ n cs. FitIn p.held n (boxes_at p.frame cs (committed_of cs))) team p.cells cells others
-      (subst (λ (places : Places). FitIn p.held team (boxes_at p.frame (cells_of cells team) places)) (sym (ap committed_of own ∙ committed_now old))
-      (fits_as p.frame p.held p.held team old (cells_of cells team) (places_of old) macros refl refl refl (places_fit p is.follows fits team)))
-      is.committed;
+  follows = follows;
+  committed = each_team (λ n cs. FitIn held n (boxes_at p.frame cs (committed_of cs))) team p.cells cells others
+      (subst (λ (places : Places). FitIn held team (boxes_at p.frame (cells_of cells team) places)) (sym (ap committed_of own ∙ committed_now old))
+      (fits_as p.frame p.held held team old (cells_of cells team) (places_of old) macros index site rooms (places_fit p is.follows fits team)))
+      (λ other. fits_still other (boxes_at p.frame (cells_of p.cells other) (committed_of (cells_of p.cells other))) held p.held index site rooms
+      (is.committed other));
 }
   where
     old : List Cell
@@ -224,3 +232,14 @@ last old new team places frame index site rooms same fits = λ n g there of_team
     let less = rooms.each n in
     let before = fits n g (subst (λ (looked : Lookups). slice_get looked.strips n ≡ Some g) index there) of_team in
     rw (frame, site, boxes_alike_at old.frame (cells_of old.cells team) (cells_of new.cells team) places same) (omega (arith, before, less))
+
+-- where strips have gained room
+pub placing_grown : (f : Frame) (cells : Cells) (m n : Marked) → IsPlacing (placing_of f cells m) → n.index ≡ m.index → n.site ≡ m.site
+    → NoLess (rooms_in m.lanes) (rooms_in n.lanes) → IsPlacing (placing_of f cells n)
+placing_grown f cells m n is index site rooms = record {
+  sized = is.sized;
+  few = is.few;
+  follows = record { index = subst (IsGroundOf f) (sym index) is.follows.index; site = site ∙ is.follows.site; boxes = boxes_there f cells };
+  committed = λ team.
+      last (placing_of f cells m) (placing_of f cells n) team (committed_of (cells_of cells team)) refl index site rooms refl (is.committed team);
+}

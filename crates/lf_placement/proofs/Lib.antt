@@ -1,5 +1,6 @@
 pub mod Moves
 pub mod Boxes
+pub mod Marks
 pub mod Changing
 pub mod Keeping
 pub mod Overlapping

@@ -16,7 +16,8 @@ use Rattle.lf_cells.specs.declared.cell.Cell.{Cell}
 use Rattle.lf_cells.specs.declared.cell.CellId.{CellId}
 use Rattle.lf_cells.specs.Cells.{Cells, cell_at, cells_of, moved}
 use Rattle.lf_occupancy.specs.Occupied.{FitIn, NoLess, Occupied}
-use Rattle.lf_occupancy.specs.Floorplans.{IsOccupancyOf}
+use Rattle.lf_occupancy.specs.Floorplans.{IsOccupancyOf, boxes_in}
+use Rattle.lf_occupancy.specs.Strips.{Holds, Marked, filled_by}
 use Rattle.lf_undo.specs.declared.moves.Move.{Move}
 use Rattle.lf_undo.specs.Entries.{Places, taken_back}
 use Rattle.lf_legalize.specs.Members.{IsSizedCell, member_of}
@@ -26,6 +27,10 @@ pub record Placing : Type 0 where
   pub frame : Frame
   pub cells : Cells
   pub held : Occupied
+
+-- frame, cells and what is kept of the strips, with the cells' boxes at their working places
+abbrev pub placing_of : Frame → Cells → Marked → Placing
+placing_of f cells m = record { frame = f; cells = cells; held = filled_by m (boxes_in f cells) }
 
 -- ---- places of a team's cells
 
@@ -103,6 +108,11 @@ pub record IsPlacing (p : Placing) : Type 0 where
   pub few : (team : ℕ) → length (cells_of p.cells team) ≤ 4000000
   pub follows : IsOccupancyOf p.frame p.cells p.held
   pub committed : (team : ℕ) → Fits p team (committed_of (cells_of p.cells team))
+
+-- the strips hold the cells at their working places, and that is kept
+pub record IsStanding (f : Frame) (cells : Cells) (m : Marked) : Type 0 where
+  pub holds : Holds m (boxes_in f cells)
+  pub placing : IsPlacing (placing_of f cells m)
 
 -- ---- a cell at a place
 

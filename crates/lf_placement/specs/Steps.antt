@@ -1,5 +1,5 @@
 -- The steps of a change: its cells are taken out of the strips, moved in the table, and put back; no public clause cites it.
-use Rattle.std.specs.Prelude.{◌≡◌, ◌≢◌, ◌⊎◌, ℕ, ◌<◌, List, [], ◌∷◌, map, length, Option, None, option_and_then, slice_get, slice_index, unwrap_or}
+use Rattle.std.specs.Prelude.{◌≡◌, ◌≢◌, ◌⊎◌, ℕ, ◌<◌, List, [], ◌∷◌, map, length, Option, None, option_and_then, slice_get, slice_index, slice_index_or, slice_set, unwrap_or}
 use Rattle.std.specs.Option.{option_map}
 use Rattle.lf_units.specs.declared.area.Rect.{Rect}
 use Rattle.lf_floorplan.specs.declared.frame.Frame.{Frame}
@@ -9,7 +9,8 @@ use Rattle.lf_rules.specs.Team.{box_in}
 use Rattle.lf_cells.specs.declared.cell.Cell.{Cell}
 use Rattle.lf_cells.specs.declared.cell.CellId.{CellId}
 use Rattle.lf_cells.specs.Cells.{Cells, cells_of, id_in, moved}
-use Rattle.lf_occupancy.specs.Occupied.{ArePartOf, FitIn, Occupied, boxes_of, cell_box}
+use Rattle.lf_occupancy.specs.Occupied.{ArePartOf, FitIn, HasRoomFor, Occupied, boxes_of, cell_box}
+use Rattle.lf_occupancy.specs.Strips.{Holds, IsAt, Marked, filled_by, rooms_in}
 use Rattle.lf_occupancy.specs.Floorplans.{box_of}
 use Rattle.lf_undo.specs.declared.moves.Move.{Move}
 
@@ -47,6 +48,31 @@ pub record KeepsStrips (team : ℕ) (old new : Occupied) : Type 0 where
   pub site : new.site ≡ old.site
   pub rooms : new.rooms ≡ old.rooms
 
+-- the strips hold some boxes of which this is true
+pub record HoldsSome (Fact : Occupied → Type 0) (m : Marked) : Type 0 where
+  pub boxes : List (List (Option Rect))
+  pub holds : Holds m boxes
+  pub is : Fact (filled_by m boxes)
+
+-- the boxes of all teams, with this one for the team's cell of that position
+abbrev pub box_set : List (List (Option Rect)) → ℕ → ℕ → Option Rect → List (List (Option Rect))
+box_set boxes team own box = slice_set boxes team (slice_set (slice_index_or boxes team []) own box)
+
+-- the look-ups, the site and the rooms of strips stay
+pub record KeepsRooms (old new : Marked) : Type 0 where
+  pub index : new.index ≡ old.index
+  pub site : new.site ≡ old.site
+  pub rooms : rooms_in new.lanes ≡ rooms_in old.lanes
+
+-- the boxes of the team's cells are part of these, which are as many
+pub record IsPartly (team : ℕ) (boxes : List (Option Rect)) (o : Occupied) : Type 0 where
+  pub many : length (boxes_of o team) ≡ length boxes
+  pub part : ArePartOf (boxes_of o team) boxes
+
+-- the cells of all other teams stand at their working places
+abbrev pub OthersStand : Frame → Cells → ℕ → Occupied → Type 0
+OthersStand f cells team o = (other : ℕ) → other ≢ team → boxes_of o other ≡ working_boxes f cells other
+
 -- the first so many of the named cells were taken out
 pub record TakesOut (team : ℕ) (named : List ℕ) (count : ℕ) (old new : Occupied) : Type 0 where
   pub each : (own : ℕ) → IsOut named count (boxes_of old team) (boxes_of new team) own
@@ -58,9 +84,20 @@ pub record MayStand (team : ℕ) (boxes : List (Option Rect)) (o : Occupied) : T
   pub part : ArePartOf (boxes_of o team) boxes
   pub fits : FitIn o team boxes
 
+-- there is a cell of that id, which is out or has this box, and there is room for the box where it is out
+pub record MayHave (id : CellId) (rect : Rect) (o : Occupied) : Type 0 where
+  pub at : IsAt o.boxes id rect
+  pub room : HasRoomFor record { index = o.index; site = o.site; boxes = box_set o.boxes id.team id.own None; rooms = o.rooms } id.team rect 1
+
 -- what none of these names stands where it is to stand
 abbrev pub StandButFor : ℕ → List (Option Rect) → List ℕ → Occupied → Type 0
 StandButFor team boxes named o = (own : ℕ) → NameNot named (length named) own → cell_box (boxes_of o team) own ≡ cell_box boxes own
+
+-- the cells of a team are to be put where they stand, and all others stand
+pub record CanStand (f : Frame) (cells : Cells) (team : ℕ) (named : List ℕ) (o : Occupied) : Type 0 where
+  pub may : MayStand team (working_boxes f cells team) o
+  pub rest : StandButFor team (working_boxes f cells team) named o
+  pub others : OthersStand f cells team o
 
 -- the cell that a move names, and its box at the move's place; no box where there is no such cell
 abbrev pub asked_for : Frame → ℕ → List Cell → Move → CellId × Option Rect

@@ -1,10 +1,11 @@
 //! The tables of a design as it is loaded.
 
-ghost use Rattle.std.specs.Prelude.{◌≡◌, ◌≤◌, ℕ, All, IfOk, length};
+ghost use Rattle.std.specs.Prelude.{◌≡◌, ◌≤◌, ℕ, IfOk, length};
 ghost use Rattle.lf_cells.specs.Cells.{cells_of};
 ghost use Rattle.lf_cells.specs.Openings.{opening_cells, opening_components};
-ghost use Rattle.lf_occupancy.specs.Floorplans.{HasSize, IsOccupancyOf};
-ghost use Rattle.lf_placement.specs.Placings.{AreSized, IsPlacing};
+ghost use Rattle.lf_occupancy.specs.Floorplans.{HaveSize, IsMarkedBy, boxes_in};
+ghost use Rattle.lf_occupancy.specs.Strips.{Holds};
+ghost use Rattle.lf_placement.specs.Placings.{AreSized, IsPlacing, placing_of};
 
 use lf_cells::CellTable;
 use lf_floorplan::{Frame, Loaded};
@@ -12,40 +13,50 @@ use lf_occupancy::Occupancy;
 use lf_segments::Ground;
 use std::alloc::{AllocError, Global};
 
-/// The cells of all teams, and what stands in the strips.
+/// The frame, the cells of all teams, and what stands in the strips.
 #[derive(Drop)]
 pub(crate) struct Tables {
+    pub(crate) frame: Frame,
     pub(crate) cells: CellTable,
     pub(crate) occupancy: Occupancy,
 }
 
-/// The cells of all teams.
-fn cells_in(alloc: Global, loaded: &Loaded) -> Result<CellTable, AllocError>
-    ensures cells { IfOk result (λ cells. cells.cells ≡ opening_cells loaded.now) }
-    ensures components { IfOk result (λ cells. cells.components ≡ opening_components loaded.now) }
-    ensures sized { IfOk result (λ cells. AreSized loaded.now.frame cells) }
-    ensures few { IfOk result (λ cells. (team : ℕ) → length (cells_of cells team) ≤ 4000000) }
+/// The frame of a design, and the cells of all teams.
+fn cells_in(alloc: Global, loaded: Loaded) -> Result<(Frame, CellTable), AllocError>
+    ensures frame { IfOk result (λ built. built.0 ≡ loaded.frame) }
+    ensures cells { IfOk result (λ built. built.1.cells ≡ opening_cells loaded) }
+    ensures components { IfOk result (λ built. built.1.components ≡ opening_components loaded) }
+    ensures sized { IfOk result (λ built. AreSized built.0 built.1) }
+    ensures few { IfOk result (λ built. (team : ℕ) → length (cells_of built.1 team) ≤ 4000000) }
 {
-    CellTable::build(alloc, loaded)
+    let built = CellTable::build(alloc, loaded)?;
+    Ok(built)
 }
 
 /// What stands in the strips of the frame: the cells at their working places.
 fn occupancy_of(alloc: Global, frame: &Frame, cells: &CellTable) -> Result<Occupancy, AllocError>
-    requires { (team : ℕ) → All (HasSize frame.now) (cells_of cells.now team) }
-    ensures held { IfOk result (λ held. IsOccupancyOf frame.now cells.now held) }
+    requires { HaveSize frame.now cells.now }
+    ensures held { IfOk result (λ held. IsMarkedBy frame.now cells.now held) }
 {
     let index = Ground::build(alloc, frame)?;
     Occupancy::build(alloc, frame, index, cells)
 }
 
 /// The tables of a design.
-pub(crate) fn tables_of(alloc: Global, loaded: &Loaded) -> Result<Tables, AllocError>
-    ensures cells { IfOk result (λ tables. tables.cells.cells ≡ opening_cells loaded.now) }
-    ensures components { IfOk result (λ tables. tables.cells.components ≡ opening_components loaded.now) }
-    ensures placing { IfOk result (λ tables. IsPlacing record { frame = loaded.now.frame; cells = tables.cells; held = tables.occupancy }) }
+pub(crate) fn tables_of(alloc: Global, loaded: Loaded) -> Result<Tables, AllocError>
+    ensures frame { IfOk result (λ tables. tables.frame ≡ loaded.frame) }
+    ensures cells { IfOk result (λ tables. tables.cells.cells ≡ opening_cells loaded) }
+    ensures components { IfOk result (λ tables. tables.cells.components ≡ opening_components loaded) }
+    ensures holds { IfOk result (λ tables. Holds tables.occupancy (boxes_in tables.frame tables.cells)) }
+    ensures placing { IfOk result (λ tables. IsPlacing (placing_of tables.frame tables.cells tables.occupancy)) }
 {
-    let cells = cells_in(alloc, loaded)?;
-    let occupancy = occupancy_of(alloc, &loaded.frame, &cells)?;
+    let built = cells_in(alloc, loaded)?;
+    let (frame, cells) = built;
+    let occupancy = occupancy_of(alloc, &frame, &cells)?;
     occupancy.boxes_fit();
-    Ok(Tables { cells, occupancy })
+    Ok(Tables {
+        frame,
+        cells,
+        occupancy,
+    })
 }

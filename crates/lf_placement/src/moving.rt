@@ -6,9 +6,10 @@ ghost use Rattle.lf_cells.specs.declared.cell.Cell.{Cell};
 ghost use Rattle.lf_cells.specs.Cells.{as_committed, cells_of};
 ghost use Rattle.lf_legalize.specs.Members.{IsSizedCell};
 ghost use Rattle.lf_occupancy.specs.Occupied.{FitIn};
-ghost use Rattle.lf_occupancy.specs.Floorplans.{IsOccupancyOf, box_of};
+ghost use Rattle.lf_occupancy.specs.Floorplans.{box_of, boxes_in};
+ghost use Rattle.lf_occupancy.specs.Strips.{Holds, filled_by};
 ghost use Rattle.lf_placement.specs.Placings.{HaveMoved, OtherCellsStay, made};
-ghost use Rattle.lf_placement.specs.Steps.{made_back};
+ghost use Rattle.lf_placement.specs.Steps.{KeepsRooms, made_back};
 
 use crate::strips::{lift, stand};
 use crate::table::{make_in_table, take_back_in_table};
@@ -37,17 +38,21 @@ pub(crate) fn make_moves(
     from: usize,
 )
     requires sized { All (IsSizedCell frame.now) (cells_of cells.old team) }
-    requires held { IsOccupancyOf frame.now cells.old occupancy.old }
-    requires fits { FitIn occupancy.old team (map (box_of frame.now) (made (drop from moves.old) (cells_of cells.old team))) }
+    requires holds { Holds occupancy.old (boxes_in frame.now cells.old) }
+    requires fits { FitIn (filled_by occupancy.old (boxes_in frame.now cells.old)) team (map (box_of frame.now) (made (drop from moves.old) (cells_of cells.old team))) }
     ensures own { cells_of cells.new team ≡ made (drop from moves.old) (cells_of cells.old team) }
     ensures moved { (before : List Cell) → HaveMoved before (take from moves.old) (cells_of cells.old team) → HaveMoved before moves.new (cells_of cells.new team) }
     ensures others { OtherCellsStay team cells.old cells.new }
-    ensures held { IsOccupancyOf frame.now cells.new occupancy.new }
-    ensures index { occupancy.new.index ≡ occupancy.old.index }
-    ensures site { occupancy.new.site ≡ occupancy.old.site }
-    ensures rooms { occupancy.new.rooms ≡ occupancy.old.rooms }
+    ensures holds { Holds occupancy.new (boxes_in frame.now cells.new) }
+    ensures rooms { KeepsRooms occupancy.old occupancy.new }
 {
-    lift(occupancy, cells, team, moves_from(moves.as_slice(), from));
+    lift(
+        frame,
+        occupancy,
+        cells,
+        team,
+        moves_from(moves.as_slice(), from),
+    );
     make_in_table(cells, team, moves, from);
     stand(
         frame,
@@ -67,16 +72,14 @@ pub(crate) fn take_back_moves(
     moves: &Moves,
 )
     requires sized { All (IsSizedCell frame.now) (cells_of cells.old team) }
-    requires held { IsOccupancyOf frame.now cells.old occupancy.old }
-    requires fits { FitIn occupancy.old team (map (box_of frame.now) (made_back moves.now (cells_of cells.old team))) }
+    requires holds { Holds occupancy.old (boxes_in frame.now cells.old) }
+    requires fits { FitIn (filled_by occupancy.old (boxes_in frame.now cells.old)) team (map (box_of frame.now) (made_back moves.now (cells_of cells.old team))) }
     ensures own { cells_of cells.new team ≡ made_back moves.now (cells_of cells.old team) }
     ensures others { OtherCellsStay team cells.old cells.new }
-    ensures held { IsOccupancyOf frame.now cells.new occupancy.new }
-    ensures index { occupancy.new.index ≡ occupancy.old.index }
-    ensures site { occupancy.new.site ≡ occupancy.old.site }
-    ensures rooms { occupancy.new.rooms ≡ occupancy.old.rooms }
+    ensures holds { Holds occupancy.new (boxes_in frame.now cells.new) }
+    ensures rooms { KeepsRooms occupancy.old occupancy.new }
 {
-    lift(occupancy, cells, team, moves.as_slice());
+    lift(frame, occupancy, cells, team, moves.as_slice());
     take_back_in_table(cells, team, moves);
     stand(frame, occupancy, cells, team, moves.as_slice());
 }

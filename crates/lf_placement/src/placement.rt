@@ -12,7 +12,7 @@ ghost use Rattle.lf_undo.specs.Entries.{taken_back};
 ghost use Rattle.lf_placement.specs.Placings.{AreSized, Fits, HaveMoved, IsBrokenAlone, IsBrokenAt, KeepsRest, OtherCellsStay, SameButRooms};
 ghost use Rattle.lf_placement.specs.Placings.{committed_of, made, places_of};
 
-use crate::build::tables_of;
+use crate::build::{Tables, tables_of};
 use crate::moving::{commit_places, make_moves, take_back_moves};
 use crate::rooms::make_room;
 use lf_cells::{CellId, CellTable};
@@ -39,13 +39,13 @@ pub struct Placement {
 }
 
 impl Model for Placement {
-    ghost use Rattle.lf_placement.specs.Placings.{IsPlacing, Placing};
+    ghost use Rattle.lf_placement.specs.Placings.{IsStanding, Placing, placing_of};
 
     ghost Value = { Placing };
 
-    ghost view = { λ p. record { frame = p.frame; cells = p.cells; held = p.occupancy } };
+    ghost view = { λ p. placing_of p.frame p.cells p.occupancy };
 
-    ghost invariant = { λ p. IsPlacing record { frame = p.frame; cells = p.cells; held = p.occupancy } };
+    ghost invariant = { λ p. IsStanding p.frame p.cells p.occupancy };
 }
 
 impl Placement {
@@ -57,12 +57,15 @@ impl Placement {
         ensures cells { IfOk result (λ placement. placement.cells.cells ≡ opening_cells loaded) }
         ensures components { IfOk result (λ placement. placement.cells.components ≡ opening_components loaded) }
     {
-        let tables = tables_of(alloc, &loaded)?;
-        let Loaded { frame, cells: _ } = loaded;
+        let Tables {
+            frame,
+            cells,
+            occupancy,
+        } = tables_of(alloc, loaded)?;
         Ok(Placement {
             frame,
-            cells: tables.cells,
-            occupancy: tables.occupancy,
+            cells,
+            occupancy,
         })
     }
 
@@ -108,7 +111,9 @@ impl Placement {
         let mac = &self.frame.macros.as_slice()[standing.mac];
         let rect = padded_box(&self.frame, mac, place, padding);
         strips_feel();
-        self.occupancy.first_met(id, &rect)
+        self.occupancy
+            .filled(&self.frame, &self.cells)
+            .first_met(id, &rect)
     }
 
     /// The first rule that the cell breaks at the place beside the other cells of its team, which has
@@ -141,7 +146,7 @@ impl Placement {
             alloc,
             &self.frame,
             &self.cells,
-            &self.occupancy,
+            &self.occupancy.filled(&self.frame, &self.cells),
             id,
             target,
             padding,

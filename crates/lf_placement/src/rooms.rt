@@ -4,7 +4,8 @@ ghost use Rattle.std.specs.Prelude.{◌≡◌, All, IfOk, OnOk, map};
 ghost use Rattle.lf_cells.specs.Cells.{cells_of};
 ghost use Rattle.lf_legalize.specs.Members.{IsSizedCell};
 ghost use Rattle.lf_occupancy.specs.Occupied.{FitIn, NoLess};
-ghost use Rattle.lf_occupancy.specs.Floorplans.{IsOccupancyOf, box_of};
+ghost use Rattle.lf_occupancy.specs.Floorplans.{box_of, boxes_in};
+ghost use Rattle.lf_occupancy.specs.Strips.{Holds, filled_by, rooms_in};
 ghost use Rattle.lf_placement.specs.Placings.{made};
 ghost use Rattle.lf_placement.specs.Steps.{asked_for};
 
@@ -23,7 +24,7 @@ fn asked_for(frame: &Frame, cells: &CellTable, team: usize, next: &Move) -> (Cel
     ensures { result ≡ asked_for frame.now team (cells_of cells.now team) next.now }
 {
     match cell_of(cells, team, next.own) {
-        Some(id) => (id, box_at(frame, cells, id, next.old)),
+        Some(id) => (id, box_at(frame, cells, id, next.old.place())),
         None => (CellId { team: 0, own: 0 }, None),
     }
 }
@@ -58,12 +59,12 @@ pub(crate) fn make_room(
     moves: &[Move],
 ) -> Result<(), AllocError>
     requires sized { All (IsSizedCell frame.now) (cells_of cells.now team) }
-    requires held { IsOccupancyOf frame.now cells.now occupancy.old }
-    ensures ok { OnOk result (FitIn occupancy.new team (map (box_of frame.now) (made moves.now (cells_of cells.now team)))) }
-    ensures boxes { occupancy.new.boxes ≡ occupancy.old.boxes }
+    requires holds { Holds occupancy.old (boxes_in frame.now cells.now) }
+    ensures ok { OnOk result (FitIn (filled_by occupancy.new (boxes_in frame.now cells.now)) team (map (box_of frame.now) (made moves.now (cells_of cells.now team)))) }
+    ensures holds { Holds occupancy.new (boxes_in frame.now cells.now) }
     ensures index { occupancy.new.index ≡ occupancy.old.index }
     ensures site { occupancy.new.site ≡ occupancy.old.site }
-    ensures rooms { NoLess occupancy.old.rooms occupancy.new.rooms }
+    ensures rooms { NoLess (rooms_in occupancy.old.lanes) (rooms_in occupancy.new.lanes) }
 {
     let asked = all_asked_for(alloc, frame, cells, team, moves)?;
     occupancy.reserve_for(asked.as_slice())?;

@@ -1,10 +1,14 @@
 //! Cells of a team are taken out of the strips, and put where they are to stand.
 
-ghost use Rattle.std.specs.Prelude.{◌≡◌, All, None, length, slice_set};
+ghost use Rattle.std.specs.Prelude.{◌≡◌, All, IfSome, List, None, Option, Some, length};
+ghost use Rattle.lf_units.specs.declared.area.Rect.{Rect};
 ghost use Rattle.lf_cells.specs.Cells.{cell_at, cells_of};
 ghost use Rattle.lf_legalize.specs.Members.{IsSizedCell};
-ghost use Rattle.lf_occupancy.specs.Occupied.{boxes_of, box_at, cell_box};
-ghost use Rattle.lf_placement.specs.Steps.{KeepsStrips, MayStand, StandButFor, TakesOut, box_moved, owns, working_boxes};
+ghost use Rattle.lf_occupancy.specs.Floorplans.{boxes_in};
+ghost use Rattle.lf_occupancy.specs.Lanes.{IsPlaceX};
+ghost use Rattle.lf_occupancy.specs.Occupied.{cell_box};
+ghost use Rattle.lf_occupancy.specs.Strips.{Holds, IsAt, filled_by};
+ghost use Rattle.lf_placement.specs.Steps.{CanStand, HoldsSome, IsPartly, KeepsRooms, MayHave, MayStand, TakesOut, box_moved, box_set, owns, working_boxes};
 
 use crate::table::cell_of;
 use lf_cells::{CellId, CellTable};
@@ -22,7 +26,8 @@ pub(crate) fn box_at(
     place: Option<Place>,
 ) -> Option<Rect>
     requires { All (IsSizedCell frame.now) (cells_of cells.now id.team) }
-    ensures { result ≡ box_moved frame.now (cell_at cells.now id) place }
+    ensures is { result ≡ box_moved frame.now (cell_at cells.now id) place }
+    ensures edge { IfSome result (λ rect. IsPlaceX rect.x1) }
 {
     let standing = cells.standing(id)?;
     let place = place?;
@@ -33,58 +38,76 @@ pub(crate) fn box_at(
 /// The box of a cell at its working place.
 fn box_at_work(frame: &Frame, cells: &CellTable, id: CellId) -> Option<Rect>
     requires { All (IsSizedCell frame.now) (cells_of cells.now id.team) }
-    ensures { result ≡ cell_box (working_boxes frame.now cells.now id.team) id.own }
+    ensures is { result ≡ cell_box (working_boxes frame.now cells.now id.team) id.own }
+    ensures edge { IfSome result (λ rect. IsPlaceX rect.x1) }
 {
     box_at(frame, cells, id, cells.working(id))
 }
 
-/// Takes the team's cell of that position out of the strips, where there is one.
-fn take_out(occupancy: &mut Occupancy, cells: &CellTable, team: usize, own: u32)
-    requires { length (boxes_of occupancy.old team) ≡ length (cells_of cells.now team) }
-    ensures boxes { boxes_of occupancy.new team ≡ slice_set (boxes_of occupancy.old team) own None }
-    ensures rest { KeepsStrips team occupancy.old occupancy.new }
+/// Takes the team's cell of that position, which is out or stands at its working place, out of the
+/// strips, where there is one.
+fn take_out(frame: &Frame, occupancy: &mut Occupancy, cells: &CellTable, team: usize, own: u32)
+    requires sized { All (IsSizedCell frame.now) (cells_of cells.now team) }
+    requires part { HoldsSome (IsPartly team (working_boxes frame.now cells.now team)) occupancy.old }
+    ensures holds { (boxes : List (List (Option Rect))) → IsPartly team (working_boxes frame.now cells.now team) (filled_by occupancy.old boxes)
+        → Holds occupancy.old boxes → Holds occupancy.new (box_set boxes team own None) }
+    ensures rooms { KeepsRooms occupancy.old occupancy.new }
 {
-    if let Some(id) = cell_of(cells, team, own) {
-        occupancy.remove(id);
-    }
+    let Some(id) = cell_of(cells, team, own) else {
+        return;
+    };
+    let Some(rect) = box_at_work(frame, cells, id) else {
+        return;
+    };
+    occupancy.remove(id, &rect);
 }
 
 /// Takes the cells of the moves out of the strips.
-pub(crate) fn lift(occupancy: &mut Occupancy, cells: &CellTable, team: usize, moves: &[Move])
-    requires { length (boxes_of occupancy.old team) ≡ length (cells_of cells.now team) }
-    ensures { TakesOut team (owns moves.now) (length moves.now) occupancy.old occupancy.new }
+pub(crate) fn lift(
+    frame: &Frame,
+    occupancy: &mut Occupancy,
+    cells: &CellTable,
+    team: usize,
+    moves: &[Move],
+)
+    requires sized { All (IsSizedCell frame.now) (cells_of cells.now team) }
+    requires holds { Holds occupancy.old (boxes_in frame.now cells.now) }
+    ensures out { HoldsSome (TakesOut team (owns moves.now) (length moves.now) (filled_by occupancy.old (boxes_in frame.now cells.now))) occupancy.new }
+    ensures rooms { KeepsRooms occupancy.old occupancy.new }
 {
     for next in moves {
-        take_out(occupancy, cells, team, next.own);
+        take_out(frame, occupancy, cells, team, next.own);
     }
 }
 
-/// Puts a cell that is out of the strips to its working place, if it has one.
-fn put_in(frame: &Frame, occupancy: &mut Occupancy, cells: &CellTable, id: CellId)
-    requires sized { All (IsSizedCell frame.now) (cells_of cells.now id.team) }
-    requires may { MayStand id.team (working_boxes frame.now cells.now id.team) occupancy.old }
-    requires nowhere { box_at occupancy.old id.team id.own ≡ None }
-    ensures boxes { boxes_of occupancy.new id.team
-        ≡ slice_set (boxes_of occupancy.old id.team) id.own (cell_box (working_boxes frame.now cells.now id.team) id.own) }
-    ensures rest { KeepsStrips id.team occupancy.old occupancy.new }
+/// Puts a cell, which is out of the strips or has this box already, where this box is.
+fn put_in(occupancy: &mut Occupancy, id: CellId, rect: &Rect)
+    requires edge { IsPlaceX rect.now.x1 }
+    requires may { HoldsSome (MayHave id rect.now) occupancy.old }
+    ensures holds { (boxes : List (List (Option Rect))) → IsAt boxes id rect.now → Holds occupancy.old boxes
+        → Holds occupancy.new (box_set boxes id.team id.own (Some rect.now)) }
+    ensures rooms { KeepsRooms occupancy.old occupancy.new }
 {
-    if let Some(rect) = box_at_work(frame, cells, id) {
-        occupancy.insert(id, &rect);
-    }
+    occupancy.remove(id, rect);
+    occupancy.insert(id, rect);
 }
 
-/// Puts the team's cell of that position to its working place, where there is such a cell.
+/// Puts the team's cell of that position, which is out or stands there already, to its working place,
+/// where there is such a cell.
 fn put_at_work(frame: &Frame, occupancy: &mut Occupancy, cells: &CellTable, team: usize, own: u32)
     requires sized { All (IsSizedCell frame.now) (cells_of cells.now team) }
-    requires may { MayStand team (working_boxes frame.now cells.now team) occupancy.old }
-    ensures boxes { boxes_of occupancy.new team
-        ≡ slice_set (boxes_of occupancy.old team) own (cell_box (working_boxes frame.now cells.now team) own) }
-    ensures rest { KeepsStrips team occupancy.old occupancy.new }
+    requires may { HoldsSome (MayStand team (working_boxes frame.now cells.now team)) occupancy.old }
+    ensures holds { (boxes : List (List (Option Rect))) → IsPartly team (working_boxes frame.now cells.now team) (filled_by occupancy.old boxes)
+        → Holds occupancy.old boxes → Holds occupancy.new (box_set boxes team own (cell_box (working_boxes frame.now cells.now team) own)) }
+    ensures rooms { KeepsRooms occupancy.old occupancy.new }
 {
-    if let Some(id) = cell_of(cells, team, own) {
-        occupancy.remove(id);
-        put_in(frame, occupancy, cells, id);
-    }
+    let Some(id) = cell_of(cells, team, own) else {
+        return;
+    };
+    let Some(rect) = box_at_work(frame, cells, id) else {
+        return;
+    };
+    put_in(occupancy, id, &rect);
 }
 
 /// Puts the cells of the moves to their working places. It allocates nothing.
@@ -96,10 +119,9 @@ pub(crate) fn stand(
     moves: &[Move],
 )
     requires sized { All (IsSizedCell frame.now) (cells_of cells.now team) }
-    requires may { MayStand team (working_boxes frame.now cells.now team) occupancy.old }
-    requires rest { StandButFor team (working_boxes frame.now cells.now team) (owns moves.now) occupancy.old }
-    ensures boxes { boxes_of occupancy.new team ≡ working_boxes frame.now cells.now team }
-    ensures rest { KeepsStrips team occupancy.old occupancy.new }
+    requires may { HoldsSome (CanStand frame.now cells.now team (owns moves.now)) occupancy.old }
+    ensures holds { Holds occupancy.new (boxes_in frame.now cells.now) }
+    ensures rooms { KeepsRooms occupancy.old occupancy.new }
 {
     for next in moves {
         put_at_work(frame, occupancy, cells, team, next.own);

@@ -56,7 +56,7 @@ pub(crate) fn make_in_table(cells: &mut CellTable, team: usize, moves: &mut Move
     for at in from..moves.as_slice().len() {
         let next = moves.as_slice()[at];
         let was = place_at(cells, team, next.own);
-        put_at(cells, team, next.own, next.old);
+        put_at(cells, team, next.own, next.old.place());
         moves.replace(at, was);
     }
 }
@@ -69,6 +69,6 @@ pub(crate) fn take_back_in_table(cells: &mut CellTable, team: usize, moves: &Mov
     let moves = moves.as_slice();
     for at in (0..moves.len()).rev() {
         let last = moves[at];
-        put_at(cells, team, last.own, last.old);
+        put_at(cells, team, last.own, last.old.place());
     }
 }

@@ -335,7 +335,6 @@ pub report_is : (l : Legalizer) (f : Frame) (padding : ℕ) (cells : Cells) (cou
 report_is l f padding cells count unplaced violations is_count is_unplaced is_violations =
     let e : report_with count unplaced violations ≡ report_with (length cells) (count_by (λ c. is_none c.place) cells) (violations_in l f padding cells) = cc in e
 
-pub joined : (cells lent : List Cell) (places : List (Option Place)) (slice items : List (Listed (Bor (List ℕ)))) → slice ≡ items →
-    map named items ≡ listed_at lent places → lent ≡ cells → map named slice ≡ listed_at cells places
-joined cells lent places slice items is_items is_listed is_cells =
-    ap (λ (cs : List (Listed (Bor (List ℕ)))). map named cs) is_items ∙ is_listed ∙ ap (λ (cs : List Cell). listed_at cs places) is_cells
+pub joined : (cells : List Cell) (places : List (Option Place)) (slice items : List (Listed (Bor (List ℕ)))) → slice ≡ items →
+    map named items ≡ listed_at cells places → map named slice ≡ listed_at cells places
+joined cells places slice items is_items is_listed = ap (λ (cs : List (Listed (Bor (List ℕ)))). map named cs) is_items ∙ is_listed

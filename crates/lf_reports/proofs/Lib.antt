@@ -2,4 +2,5 @@ pub mod MetLemmas
 pub mod VerdictLists
 pub mod ReportLemmas
 pub mod CleanLemmas
+pub mod ListedCells
 pub mod IllegalLemmas

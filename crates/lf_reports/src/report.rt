@@ -10,7 +10,7 @@ ghost use Rattle.lf_rules.specs.Reports.{IsClean, IsTold};
 ghost use Rattle.lf_reports.specs.Reports.{IsListed, broken_among, listed_at, member_of, name_among, named, report_of, standing_of, trial_among, AreSomeVerdicts, HaveVerdicts, IsPut, AreVerdicts, PutsVerdict, verdict_at, violation_at, violation_of, violations_in};
 ghost use Rattle.lf_rules.specs.Team.{Member, boxes_beside, boxes_from, with_box};
 
-use lf_floorplan::{Cell, Frame, Loaded, Macro, Near, Place, cell_is_sized};
+use lf_floorplan::{Frame, Loaded, LoadedCells, Macro, Near, Place, cell_is_sized};
 use lf_rtree::{Placed, RTree};
 use lf_rules::{
     Broken, Listed, Padding, Report, Violation, box_of, broken_alone, legalizer_is_there,
@@ -381,16 +381,17 @@ fn report_of(alloc: Global, frame: &Frame, cells: &[Listed<&[u8]>]) -> Result<Re
 /// The cells of a design at these places.
 fn listed_cells<'a>(
     alloc: Global,
-    cells: &'a [Cell],
+    cells: &'a LoadedCells,
     places: &[Option<Place>],
 ) -> Result<Vec<Listed<&'a [u8]>>, AllocError>
     requires { length places.now ≡ length cells.now }
     ensures { IfOk result (λ listed. map named listed.items ≡ listed_at cells.now places.now) }
 {
     let mut listed = Vec::with_capacity(alloc, cells.len())?;
-    for (own, cell) in cells.iter().enumerate() {
+    for own in 0..cells.len() {
+        let cell = cells.get(own).unwrap();
         listed.push(Listed {
-            name: cell.name.as_bytes(),
+            name: cell.name,
             team: cell.team,
             mac: cell.mac,
             place: places[own],
@@ -414,6 +415,6 @@ pub fn check_all(
     ensures told { IfOk result (λ report. All IsTold report.violations) }
 {
     cell_is_sized();
-    let cells = listed_cells(alloc, loaded.cells.as_slice(), places)?;
+    let cells = listed_cells(alloc, &loaded.cells, places)?;
     report_of(alloc, &loaded.frame, &cells)
 }

@@ -12,10 +12,7 @@ use std::test::Fail;
 
 /// A move of a cell that stood at (3, 4).
 fn moved(own: u32) -> Move {
-    Move {
-        own,
-        old: Some(Place::new(3, 4, Orient::S)),
-    }
+    Move::new(own, Some(Place::new(3, 4, Orient::S)))
 }
 
 /// The moves of a command that moved that cell alone.

@@ -1,2 +1,1 @@
-mod Moves
 mod Sized

@@ -54,8 +54,8 @@ fn keeps_places(table: &mut CellTable) -> bool {
 }
 
 /// Whether the table of the design's cells does both.
-fn serves(alloc: Global, design: &Loaded) -> Result<bool, Fail> {
-    let mut table = CellTable::build(alloc, design)?;
+fn serves(alloc: Global, design: Loaded) -> Result<bool, Fail> {
+    let (_, mut table) = CellTable::build(alloc, design)?;
     Ok(finds_cells(&table) && keeps_places(&mut table))
 }
 
@@ -67,7 +67,7 @@ enum Case {
 }
 
 impl Asked for Case {
-    fn holds(&self, alloc: Global, design: &Loaded) -> Result<bool, Fail> {
+    fn holds(&self, alloc: Global, design: Loaded) -> Result<bool, Fail> {
         match self {
             Case::Table => serves(alloc, design),
             Case::Strangers => Ok(strangers_have_none(&design.frame)),

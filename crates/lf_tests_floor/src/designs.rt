@@ -5,10 +5,11 @@ ghost use Rattle.lf_floorplan.specs.Boxes.{IsSized};
 
 use lf_def::{DefDoc, W_DEF, read_def};
 use lf_floor::Floor;
-use lf_frame::{Cell, Frame, Limits, Loaded, Macro, Place, is_sized, load};
+use lf_frame::{Frame, Limits, Loaded, LoadedCells, Macro, Place, is_sized, load};
 use lf_lef::{Library, W_LEF, read_lef};
 use lf_legalize::PlainSeeker;
 use lf_orient::Orient;
+use lf_placement::Placement;
 use lf_reports::{BrokenCell, Report, Violation, check_all, first_illegal};
 use lf_rules::{Broken, Padding, Placed, Rule, box_of, first_broken};
 use lf_tests_texts::with_line;
@@ -52,6 +53,12 @@ pub fn floor_of(alloc: Global, def: &[u8]) -> Result<Floor<PlainSeeker>, Fail> {
     Ok(Floor::start(alloc, design, PlainSeeker)?)
 }
 
+/// The placement of the design of the built-in LEF text and this DEF text.
+pub fn placement_of(alloc: Global, def: &[u8]) -> Result<Placement, Fail> {
+    let design = design_of(alloc, def, Limits::standard())?;
+    Ok(Placement::build(alloc, design)?)
+}
+
 /// The floor of the built-in design, on which each team can undo two changes.
 pub fn floor_of_two_undos(alloc: Global) -> Result<Floor<PlainSeeker>, Fail> {
     let Some(limits) = Limits::checked(65_535, 1_024, 4_000_000, 8, 2, 4_000_000_000) else {
@@ -69,13 +76,13 @@ pub fn floor(alloc: Global) -> Result<Floor<PlainSeeker>, Fail> {
 /// What is asked of a design.
 pub trait Asked {
     /// Whether the design is as it is asked.
-    fn holds(&self, alloc: Global, design: &Loaded) -> Result<bool, Fail>;
+    fn holds(&self, alloc: Global, design: Loaded) -> Result<bool, Fail>;
 }
 
 /// Whether the design of the built-in LEF text and this DEF text is as it is asked.
 pub fn holds<A: Asked>(alloc: Global, def: &[u8], asked: &A) -> Result<bool, Fail> {
     let design = design_of(alloc, def, Limits::standard())?;
-    asked.holds(alloc, &design)
+    asked.holds(alloc, design)
 }
 
 /// What is asked of the built-in design, or of one with soft blockages.
@@ -87,13 +94,11 @@ enum Case {
 }
 
 impl Asked for Case {
-    fn holds(&self, alloc: Global, design: &Loaded) -> Result<bool, Fail> {
+    fn holds(&self, alloc: Global, design: Loaded) -> Result<bool, Fail> {
         match self {
-            Case::Counts => {
-                Ok(is_built_in(&design.frame) && are_built_in(design.cells.as_slice()))
-            }
+            Case::Counts => Ok(is_built_in(&design.frame) && are_built_in(&design.cells)),
             Case::SoftBlockages => Ok(has_soft_blockages(&design.frame)),
-            Case::Searches => search_alike_everywhere(alloc, design),
+            Case::Searches => search_alike_everywhere(alloc, &design),
         }
     }
 }
@@ -143,14 +148,19 @@ fn has_soft_blockages(frame: &Frame) -> bool {
         && are_rects(frame.obstacles.as_slice(), &[(4000, 0, 4400, 2000)])
 }
 
+/// The team of the cell of that number.
+fn team_at(cells: &LoadedCells, own: usize) -> Option<usize> {
+    Some(cells.get(own)?.team)
+}
+
 /// Whether the cells are of the teams of the built-in design.
-fn are_built_in(cells: &[Cell]) -> bool {
-    match cells {
-        [a1, a2, a3, b1, g1] => {
-            (a1.team, a2.team, a3.team) == (0, 0, 0) && (b1.team, g1.team) == (1, 2)
+fn are_built_in(cells: &LoadedCells) -> bool {
+    for (own, team) in [0, 0, 0, 1, 2].iter().enumerate() {
+        if team_at(cells, own) != Some(*team) {
+            return false;
         }
-        _ => false,
     }
+    cells.len() == 5
 }
 
 #[test]
@@ -178,15 +188,14 @@ fn limits(rt: HostRuntime) {
 
 /// The name of the cell of that number.
 fn name_at(design: &Loaded, own: usize) -> Option<&[u8]> {
-    let cell = design.cells.as_slice().get(own)?;
-    Some(cell.name.as_bytes())
+    Some(design.cells.get(own)?.name)
 }
 
 /// The macro of the cell of that number, whose size is whole.
 fn macro_at(design: &Loaded, own: usize) -> Option<&Macro>
     ensures { IfSome result (λ m. IsSized design.now.frame m.now) }
 {
-    let cell = design.cells.as_slice().get(own)?;
+    let cell = design.cells.get(own)?;
     let mac = design.frame.macros.as_slice().get(cell.mac)?;
     if is_sized(&design.frame, mac) {
         return Some(mac);
@@ -231,7 +240,7 @@ fn broken_by_all(
 ) -> Result<Option<Broken>, Fail> {
     let others = boxes_beside(alloc, design, places, own)?;
     let (Some(cell), Some(mac), Some(Some(place))) = (
-        design.cells.as_slice().get(own),
+        design.cells.get(own),
         macro_at(design, own),
         places.get(own),
     ) else {

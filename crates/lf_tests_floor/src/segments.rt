@@ -91,7 +91,7 @@ enum Case {
 }
 
 impl Asked for Case {
-    fn holds(&self, alloc: Global, design: &Loaded) -> Result<bool, Fail> {
+    fn holds(&self, alloc: Global, design: Loaded) -> Result<bool, Fail> {
         let frame = &design.frame;
         Ok(match self {
             Case::Segments => has_segments(alloc, frame)?,

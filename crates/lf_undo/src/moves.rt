@@ -4,7 +4,7 @@ ghost use Rattle.std.specs.Prelude.{◌≡◌, ◌++◌, ◌∷◌, ◌<◌, [],
 ghost use Rattle.lf_undo.specs.Entries.{replaced};
 
 use crate::stacks::Stacks;
-use lf_floorplan::Place;
+use lf_floorplan::{PackedPlace, Place};
 use std::alloc::{AllocError, Allocator, Global};
 use std::marker::Model;
 
@@ -13,7 +13,19 @@ use std::marker::Model;
 #[derive(Clone, Copy, Debug, PartialEq, Eq)]
 pub struct Move {
     pub own: u32,
-    pub old: Option<Place>,
+    pub old: PackedPlace,
+}
+
+impl Move {
+    /// The move of the cell of that position, with that place.
+    pub fn new(own: u32, old: Option<Place>) -> Self
+        ensures { result ≡ record { own = own; old = old } }
+    {
+        Move {
+            own,
+            old: PackedPlace::of(old),
+        }
+    }
 }
 
 /// The moves of one command, in their order. A cell that the command moved twice is there
@@ -58,7 +70,7 @@ impl<A: Allocator> Moves<A> {
         requires { at < length self.old }
         ensures { self.new ≡ replaced self.old at old }
     {
-        self.moves[at].old = old;
+        self.moves[at].old = PackedPlace::of(old);
     }
 
     /// The moves, in their order.

@@ -7,6 +7,6 @@ use Rattle.lf_app.proofs.reports.design_report.Goals as goal
 
 pub returns-clause-report : goal.returns-clause-report
 returns-clause-report c = λ l.
-    let at : c.deref.result.now ≡ def_places c.args.loaded.now.cells = c.deref.ensures.value ∙ c.in_ok-places.ensures {u = tt} ∙ ap def_places c.as_slice.ensures in
+    let at : c.deref.result.now ≡ def_places c.args.loaded.now.cells = c.deref.ensures.value ∙ c.in_ok-places.ensures {u = tt} in
     subst (λ (places : List (Option Place)). IfOk c.check_all.result (λ report. report ≡ report_of l c.args.loaded.now.frame 0 (listed_at c.args.loaded.now.cells places)))
     at (c.check_all.ensures.report l)

@@ -4,5 +4,5 @@ use Rattle.lf_describe.specs.Description.{places_of}
 use Rattle.lf_describe.proofs.cells.listed.Given as goal
 
 -- the cells so far, followed by those that are left, are all
-abbrev pub invariant-loop-cell : goal.invariant-loop-cell
-invariant-loop-cell l = map named l.listed.items ++ listed_at (drop l.cell-index l.cells) (places_of (drop l.cell-index l.cells)) ≡ listed_at l.cells (places_of l.cells)
+abbrev pub invariant-loop-at : goal.invariant-loop-at
+invariant-loop-at l = map named l.listed.items ++ listed_at (drop l.at l.cells) (places_of (drop l.at l.cells)) ≡ listed_at l.cells (places_of l.cells)

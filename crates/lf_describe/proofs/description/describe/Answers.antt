@@ -10,22 +10,22 @@ use Rattle.lf_describe.proofs.description.describe.Goals as goal
 
 pub describe_cells-requires-clause-listed : goal.describe_cells-requires-clause-listed
 describe_cells-requires-clause-listed g c =
-    each_is_listed c.cell_is_sized.ensures c.args.loaded.now c.deref-2.result.now (are_cells c.args.loaded.now.cells _ _ _ c.deref-2.ensures.value c.in-Ok-listed.ensures c.as_slice-2.ensures)
+    each_is_listed c.cell_is_sized.ensures c.args.loaded.now c.deref-2.result.now (are_cells c.args.loaded.now.cells _ _ c.deref-2.ensures.value c.in-Ok-listed.ensures)
 
 pub describe_cells-requires-clause-few : goal.describe_cells-requires-clause-few
 describe_cells-requires-clause-few g c =
-    few_are c.args.loaded.now c.deref-2.result.now (are_cells c.args.loaded.now.cells _ _ _ c.deref-2.ensures.value c.in-Ok-listed.ensures c.as_slice-2.ensures)
+    few_are c.args.loaded.now c.deref-2.result.now (are_cells c.args.loaded.now.cells _ _ c.deref-2.ensures.value c.in-Ok-listed.ensures)
 
 pub returns-clause-legal : goal.returns-clause-legal
 returns-clause-legal g c =
     let l = c.legalizer_is_there.ensures in
     legal_is c.cell_is_sized.ensures l c.args.loaded.now c.deref-2.result.now c.describe_cells.result
-    (are_cells c.args.loaded.now.cells _ _ _ c.deref-2.ensures.value c.in-Ok-listed.ensures c.as_slice-2.ensures) (c.describe_cells.ensures.clean l)
+    (are_cells c.args.loaded.now.cells _ _ c.deref-2.ensures.value c.in-Ok-listed.ensures) (c.describe_cells.ensures.clean l)
 
 pub returns-clause-cut : goal.returns-clause-cut
 returns-clause-cut g c = λ l.
     let f = c.args.loaded.now.frame in
-    let cells = are_cells c.args.loaded.now.cells _ _ _ c.deref-2.ensures.value c.in-Ok-listed.ensures c.as_slice-2.ensures in
+    let cells = are_cells c.args.loaded.now.cells _ _ c.deref-2.ensures.value c.in-Ok-listed.ensures in
     let names = ap (λ (ns : List (Bor (List ℕ))). map (λ n. n.now) ns) c.deref.ensures.value ∙ c.in-Ok.ensures ∙ ap fixed_names c.as_slice.ensures in
     on_err_weaker c.describe_cells.result
     (λ p. first_bytes _ _ _ (subst (AppendsFront (g.W.Sink.contents c.args.writer.now) (g.W.Sink.contents c.describe_cells.new.writer))

@@ -1,5 +1,6 @@
-use Rattle.std.proofs.Common.{refl, sym, ◌∙◌}
+use Rattle.std.proofs.Common.{ap, sym, ◌∙◌}
 use Rattle.lf_cells.specs.Cells.{cells_of}
+use Rattle.lf_undo.specs.declared.moves.Move.{Move}
 use Rattle.lf_floor.proofs.Reverting.{one_noted, stays_noted}
 use Rattle.lf_floor.proofs.wholes.note_back.Goals as goal
 
@@ -10,5 +11,5 @@ returns-then-are_alike c =
 
 pub returns : goal.returns
 returns c =
-    one_noted (cells_of c.args.cells.now c.args.id.team) c.args.id.own c.args.moves.now c.push.new.self
-    record { own = c.args.id.own; old = c.committed-committed.result } refl c.committed-committed.ensures (c.in_ok-push.ensures {u = tt}).ok
+    one_noted (cells_of c.args.cells.now c.args.id.team) c.args.id.own c.args.moves.now c.push.new.self c.new.result
+    (ap (λ (m : Move). m.own) c.new.ensures) (ap (λ (m : Move). m.old) c.new.ensures ∙ c.committed-committed.ensures) (c.in_ok-push.ensures {u = tt}).ok

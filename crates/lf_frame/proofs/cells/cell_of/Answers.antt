@@ -1,11 +1,13 @@
-use Rattle.std.proofs.Common.{refl, sym, ◌∙◌}
+use Rattle.std.proofs.Common.{refl, sym, ap, ◌∙◌}
+use Rattle.std.specs.Prelude.{option_map}
+use Rattle.lf_frame.specs.Loads.{as_location}
 use Rattle.lf_frame.proofs.cells.cell_of.Goals as goal
 
 pub returns : goal.returns
 returns c = record {
-  name = c.in_ok-from_slice.ensures ∙ c.name.ensures;
-  team = c.requires.team;
-  mac = rw c.macro_name.ensures at (sym c.find_macro.ensures ∙ c.unwrap.ensures);
-  place = c.place_of.ensures;
-  component = refl;
+  name = refl;
+  team = rw (c.in_ok-own_team.ensures {u = tt}) c.requires.team;
+  mac = rw (c.in_ok-own_macro.ensures {u = tt}) (rw c.macro_name.ensures at (sym c.find_macro.ensures ∙ c.unwrap-mac.ensures));
+  place = ap (option_map as_location) c.of.ensures ∙ c.place_of.ensures;
+  component = c.in_ok-entry.ensures {u = tt};
 }

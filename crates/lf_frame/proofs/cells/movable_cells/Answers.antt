@@ -1,10 +1,11 @@
 use Rattle.std.proofs.Common.{◌≡◌, ◌<◌, ◌≤◌, length, get_or, arith, ap, List, refl, sym, ◌∙◌}
 use Rattle.lf_def.specs.declared.components.Component.{Component}
 use Rattle.lf_refusals.specs.Findings.{Inputs, inputs}
+use Rattle.lf_floorplan.specs.LoadedCells.{with_name}
 use Rattle.lf_frame.specs.Loads.{CanBeCell}
 use Rattle.std.proofs.lemmas.Option.{slice_get_read}
-use Rattle.lf_frame.proofs.CellsMade.{cell_more, none_more, all_made}
-use Rattle.lf_frame.proofs.cells.movable_cells.Goals.{then-is_movable+in_ok-cell_of+in_ok-push, else-is_movable}
+use Rattle.lf_frame.proofs.CellsMade.{cell_more, none_more, all_made, none_earlier, stays_earlier, one_earlier, is_new}
+use Rattle.lf_frame.proofs.cells.movable_cells.Goals.{then-is_movable+in_ok-cell+in_ok-push, else-is_movable}
 use Rattle.lf_frame.proofs.cells.movable_cells.Goals as goal
 
 pub loop-number-preserved : goal.loop-number-preserved
@@ -14,11 +15,29 @@ loop-number-preserved c =
     let within : c.loop-number.number < length c.args.document.now.components = rw same at c.loop-number-test.true in
     let is : c.component-item.result ≡ get_or c.args.document.now.components c.loop-number.number c.component-item.result = rw same at c.component-item.is in
     elim c.if-is_movable.branch [
-      | then-is_movable+in_ok-cell_of+in_ok-push w ↦
+      | then-is_movable+in_ok-cell+in_ok-push w ↦
           let pushed = w.in_ok-push.ensures {u = tt} in
-          rw (w.cells-is, pushed.ok) (cell_more i c.args.document.now.components c.loop-number.number c.component-item.result c.loop-number.cells w.in_ok-cell_of.field-0 within is (sym c.is_movable.ensures ∙ w.if-is_movable.true) (w.in_ok-cell_of.ensures {u = tt}) c.loop-number.invariant)
-      | else-is_movable w ↦ rw w.cells-is (none_more i c.args.document.now.components c.loop-number.number c.component-item.result c.loop-number.cells within is (sym c.is_movable.ensures ∙ w.if-is_movable.false) c.loop-number.invariant)
+          let cell = with_name c.component-item.result.name w.in_ok-cell.cell in
+          rw (w.cells-is, pushed.ok, w.name.ensures) (
+            cell_more i c.args.document.now.components c.loop-number.number c.component-item.result c.loop-number.cells cell within is (sym c.is_movable.ensures ∙ w.if-is_movable.true) (w.in_ok-cell.ensures {u = tt}) c.loop-number.invariant.0,
+            one_earlier c.args.document.now.components c.loop-number.number c.component-item.result c.loop-number.cells cell within is refl c.loop-number.invariant.1,
+          )
+      | else-is_movable w ↦ rw w.cells-is (
+        none_more i c.args.document.now.components c.loop-number.number c.component-item.result c.loop-number.cells within is (sym c.is_movable.ensures ∙ w.if-is_movable.false) c.loop-number.invariant.0,
+        stays_earlier c.args.document.now.components c.loop-number.number c.loop-number.cells c.loop-number.invariant.1,
+      )
     ]
+
+pub loop-number-init : goal.loop-number-init
+loop-number-init c = rw c.new-cells.ensures (λ more zip. zip, none_earlier c.args.document.now.components)
+
+pub push-requires : goal.push-requires
+push-requires c =
+    let same : c.as_slice-component-items.result.now ≡ c.args.document.now.components = c.as_slice-component-items.ensures in
+    let within : c.loop-number.number < length c.args.document.now.components = rw same at c.loop-number-test.true in
+    let is : c.component-item.result ≡ get_or c.args.document.now.components c.loop-number.number c.component-item.result = rw same at c.component-item.is in
+    rw c.name.ensures
+    (is_new c.args.document.now.components c.loop-number.number c.component-item.result c.loop-number.cells c.requires.differ within is c.loop-number.invariant.1)
 
 pub cell_of-requires-clause-team : goal.cell_of-requires-clause-team
 cell_of-requires-clause-team c =
@@ -38,4 +57,4 @@ returns c =
     let same : c.as_slice-component-items.result.now ≡ c.args.document.now.components = c.as_slice-component-items.ensures in
     let count = ap (λ (xs : List Component). length xs) same in
     let past : length c.args.document.now.components ≤ c.loop-number.number = omega (arith, count) in
-    all_made i c.args.document.now.components c.loop-number.number c.loop-number.cells past c.loop-number.invariant
+    all_made i c.args.document.now.components c.loop-number.number c.loop-number.cells past c.loop-number.invariant.0

@@ -29,7 +29,7 @@ put_in-requires c =
     c.loop-n.invariant.others n lane (omega (arith, within, many)) (λ b. let h = b.below in omega (arith, h)) in
     let one = subst (TakesPart (get_or xs n no_strip).area rect) (sym same ∙ sym c.index_mut.ensures.value) takes in
     let part = subst (λ (a : Rect). TakesPart a rect lane) (sym (c.felt_area.ensures.is no_strip)) one in
-    record { order = part.order; within = c.felt_area.ensures.near; room = part.room }
+    record { order = part.order; within = c.felt_area.ensures.near; edge = c.requires.edge; room = part.room }
 
 pub loop-n-preserved : goal.loop-n-preserved
 loop-n-preserved c =

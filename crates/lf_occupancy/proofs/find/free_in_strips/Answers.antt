@@ -1,11 +1,14 @@
-use Rattle.std.proofs.Common.{◌≡◌, ◌<◌, ◌+◌, ◌++◌, List, arith, length, get_or, ap, subst, sym, ◌∙◌}
+use Rattle.std.proofs.Common.{◌≡◌, ◌<◌, ◌+◌, ◌++◌, List, [], arith, length, get_or, ap, subst, sym, ◌∙◌}
 use Rattle.std.proofs.lemmas.List.{get_or_default}
 use Rattle.lf_spans.specs.declared.span.Span.{Span}
 use Rattle.lf_spans.specs.Spans.{IsFreeIn}
 use Rattle.lf_segments.specs.declared.strip.Strip.{Strip}
-use Rattle.lf_occupancy.specs.Lanes.{all_padded, others_in, spans_in, x_range}
+use Rattle.lf_occupancy.specs.Lanes.{all_padded, others_in, shown, spans_in, x_range}
+use Rattle.lf_occupancy.specs.Strips.{felt_strips, shown_lanes}
+use Rattle.lf_occupancy.proofs.Around.{felt_many}
 use Rattle.lf_occupancy.proofs.Frees.{AreFreeBetween, none_free, free_further, free_of_row}
 use Rattle.lf_occupancy.proofs.Finds.{no_strip}
+use Rattle.lf_occupancy.proofs.Showing.{felt_team, one_marked, one_shown, shown_many}
 use Rattle.lf_occupancy.proofs.find.free_in_strips.Goals as goal
 
 pub loop-n-init : goal.loop-n-init
@@ -13,40 +16,68 @@ loop-n-init c =
     let start = c.near-near.result.start in
     let end = c.near-near.result.end in
     let xs = c.args.index.now.strips in
-    let lanes = c.args.lanes.now in
+    let lanes = shown_lanes (felt_strips c.args.site.now xs) c.args.boxes.now c.args.lanes.now in
     let own = c.args.id.now.own in
     let padding = c.args.padding.now in
     subst (λ (free : List Span). AreFreeBetween xs lanes own padding start start end c.args.window.now free) (sym c.new-free.ensures.items)
     (none_free xs lanes own padding start end c.args.window.now)
+
+pub felt_area-area-requires-clause-within : goal.felt_area-area-requires-clause-within
+felt_area-area-requires-clause-within c =
+    let bound = c.near-near.ensures.within in
+    let test = c.loop-n-test.true in
+    let long = felt_many c.args.site.now c.args.index.now.strips in
+    omega (arith, bound, test, long)
+
+pub free_in_lane-requires-clause-marked : goal.free_in_lane-requires-clause-marked
+free_in_lane-requires-clause-marked c =
+    let xs = c.args.index.now.strips in
+    let n = c.loop-n.n in
+    let near = c.near-near.ensures in
+    let bound = near.within in
+    let test = c.loop-n-test.true in
+    let long = felt_many c.args.site.now xs in
+    let within : n < length xs = omega (arith, bound, test) in
+    one_marked (felt_strips c.args.site.now xs) c.args.boxes.now c.args.lanes.now n c.args.id.now.team c.felt_area-area.result c.index-lanes-n.result
+    c.requires.lanes (omega (arith, within, long))
+    (felt_team c.args.site.now xs n c.args.id.now.team within (λ d. ((near.exact n d within).0 (c.loop-n.auto.n, test)).of_team))
+    (c.felt_area-area.ensures.is no_strip) c.index-lanes-n.is
 
 pub loop-n-preserved : goal.loop-n-preserved
 loop-n-preserved c =
     let start = c.near-near.result.start in
     let end = c.near-near.result.end in
     let n = c.loop-n.n in
+    let site = c.args.site.now in
+    let boxes = c.args.boxes.now in
     let xs = c.args.index.now.strips in
-    let lanes = c.args.lanes.now in
+    let lanes = shown_lanes (felt_strips site xs) boxes c.args.lanes.now in
     let row = c.args.row in
     let team = c.args.id.now.team in
     let own = c.args.id.now.own in
     let padding = c.args.padding.now in
     let window = c.args.window.now in
-    let lane = c.index-lanes-n.result in
+    let area = c.felt_area-area.result in
+    let lane = shown (get_or boxes team []) area c.index-lanes-n.result in
     let list = c.strips-list.ensures in
     let part = c.in_ok-part.part.items in
     let free = c.loop-n.free.items in
     let near = c.near-near.ensures in
     let bound = near.within in
     let test = c.loop-n-test.true in
-    let many = c.requires.lanes.many in
+    let long = felt_many site xs in
     let within : n < length xs = omega (arith, bound, test) in
+    let many = shown_many (felt_strips site xs) boxes c.args.lanes.now c.requires.lanes.many in
     let g : Strip = get_or xs n no_strip in
     let is : c.x_range_of-span.result ≡ x_range g.area = c.x_range_of-span.ensures ∙ ap (λ (zs : List Strip). x_range (get_or zs n no_strip).area) list in
-    let new = subst (λ (s : Span). IsFreeIn s (spans_in (others_in (all_padded padding lane.entries.items) own)) window part) is c.in_ok-part.ensures in
+    let new = subst (λ (s : Span). IsFreeIn s (spans_in (others_in (all_padded padding lane.entries) own)) window part) is c.in_ok-part.ensures in
+    let shows = one_shown (felt_strips site xs) boxes c.args.lanes.now n team area c.index-lanes-n.result c.requires.lanes (omega (arith, within, long))
+    (felt_team site xs n team within (λ d. ((near.exact n d within).0 (c.loop-n.auto.n, test)).of_team))
+    (c.felt_area-area.ensures.is no_strip) c.index-lanes-n.is lane in
     subst (λ (zs : List Span). AreFreeBetween xs lanes own padding start (n + 1) end window zs)
     (sym (c.in_ok-extend_from_slice.ensures.items ∙ ap (λ (zs : List Span). free ++ zs) c.deref.ensures.value))
     (free_further xs lanes row team own padding start n end window lane g free part c.strips_are_placed.ensures.in_order near c.loop-n.auto.n test
-    (omega (arith, within, many)) (λ k d inner. (c.strips_are_placed.ensures.placed k d inner).wide) c.index-lanes-n.is
+    (omega (arith, within, many, long)) (λ k d inner. (c.strips_are_placed.ensures.placed k d inner).wide) shows
     (λ d. get_or_default xs n no_strip d within) c.loop-n.invariant new)
 
 pub returns : goal.returns
@@ -54,8 +85,9 @@ returns c =
     let start = c.near-near.result.start in
     let end = c.near-near.result.end in
     let xs = c.args.index.now.strips in
+    let lanes = shown_lanes (felt_strips c.args.site.now xs) c.args.boxes.now c.args.lanes.now in
     let row = c.args.row in
     let team = c.args.id.now.team in
     let window = c.args.window.now in
     let near = c.near-near.ensures in
-    free_of_row xs c.args.lanes.now row team c.args.id.now.own c.args.padding.now start c.loop-n.n end window c.loop-n.free.items near c.loop-n-test.false c.loop-n.invariant
+    free_of_row xs lanes row team c.args.id.now.own c.args.padding.now start c.loop-n.n end window c.loop-n.free.items near c.loop-n-test.false c.loop-n.invariant

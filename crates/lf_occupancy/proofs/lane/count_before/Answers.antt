@@ -5,16 +5,16 @@ use Rattle.lf_occupancy.proofs.lane.count_before.Goals as goal
 
 pub returns-clause-below : goal.returns-clause-below
 returns-clause-below c =
-    let entries = c.args.entries.now in
+    let marks = c.args.marks.now in
     let x = c.args.x.now in
-    below_x entries x c.partition_point.result
-    (IsPartitionPoint-from_clause (λ e. int_lt e.area.x1 x) entries _ c.partition_point.ensures.partitioned (parted entries x c.requires)
+    below_x marks x c.partition_point.result
+    (IsPartitionPoint-from_clause (λ m. int_lt m.left x) marks _ c.partition_point.ensures.partitioned (parted marks x c.requires)
     (λ a r q k. search rules))
 
 pub returns-clause-rest : goal.returns-clause-rest
 returns-clause-rest c =
-    let entries = c.args.entries.now in
+    let marks = c.args.marks.now in
     let x = c.args.x.now in
-    from_x entries x c.partition_point.result
-    (IsPartitionPoint-from_clause (λ e. int_lt e.area.x1 x) entries _ c.partition_point.ensures.partitioned (parted entries x c.requires)
+    from_x marks x c.partition_point.result
+    (IsPartitionPoint-from_clause (λ m. int_lt m.left x) marks _ c.partition_point.ensures.partitioned (parted marks x c.requires)
     (λ a r q k. search rules))

@@ -1,33 +1,41 @@
-use Rattle.std.proofs.Common.{◌≤◌, ◌<◌, ◌≤ℤ◌, ◌<ℤ◌, ℕ, List, cond, length, get_or, ap, subst, ◌∙◌, arith, rules}
+use Rattle.std.proofs.Common.{◌≡◌, List, cond, length, get_or, ap, ◌∙◌, arith, rules}
 use Rattle.std.specs.Prelude.{insert, not}
 use Rattle.std.proofs.lemmas.Int.{ints, clamps}
-use Rattle.lf_occupancy.specs.declared.lane.Entry.{Entry}
+use Rattle.lf_occupancy.specs.declared.lane.Mark.{Mark}
 use Rattle.lf_occupancy.proofs.lane.join.Goals as goal
 
-pub overflow_sub-entry : goal.overflow_sub-entry
-overflow_sub-entry c =
-    let low = c.requires.within.low in
-    let high = c.requires.within.high in
+pub overflow_sub-area : goal.overflow_sub-area
+overflow_sub-area c =
+    let low = c.requires.left in
+    let high = c.requires.right in
     let wide = c.requires.whole.wide in
     omega (arith, ints, low, high, wide)
 
 pub returns : goal.returns
 returns c =
-    let old = c.args.lane.now.entries.items in
+    let old = c.args.lane.now.marks.items in
     let at = c.count_before-at.result in
-    let e = c.args.entry.now in
+    let m = c.args.mark.now in
     let same = c.as_slice.ensures.value in
     let ok = c.is_err.ensures.negation ∙ ap not c.if-is_err.false in
     record {
       at = at;
-      bound = let h = c.count_before-at.ensures.within in let long = ap (λ (xs : List Entry). length xs) same in omega (arith, h, long);
-      entries = c.insert.ensures.items ∙ ap (λ b. cond b (insert old at e) old) ok;
-      before = subst (λ (xs : List Entry). (k : ℕ) (d : Entry) → k < at → (get_or xs k d).area.x1 <ℤ e.area.x1) same c.count_before-at.ensures.below;
-      behind = subst (λ (xs : List Entry). (k : ℕ) (d : Entry) → at ≤ k → k < length xs → e.area.x1 ≤ℤ (get_or xs k d).area.x1) same
-          c.count_before-at.ensures.rest;
+      bound = let h = c.count_before-at.ensures.within in let long = ap (λ (xs : List Mark). length xs) same in omega (arith, h, long);
+      marks = c.insert.ensures.items ∙ ap (λ b. cond b (insert old at m) old) ok;
+      before = λ k d less.
+          let h = c.count_before-at.ensures.below k d less in
+          let there : (get_or c.as_slice.result.now k d).left ≡ (get_or old k d).left = ap (λ (xs : List Mark). (get_or xs k d).left) same in
+          let left = c.from.ensures in
+          omega (arith, ints, h, there, left);
+      behind = λ k d from until.
+          let long = ap (λ (xs : List Mark). length xs) same in
+          let h = c.count_before-at.ensures.rest k d from (omega (arith, until, long)) in
+          let there : (get_or c.as_slice.result.now k d).left ≡ (get_or old k d).left = ap (λ (xs : List Mark). (get_or xs k d).left) same in
+          let left = c.from.ensures in
+          omega (arith, ints, h, there, left);
       widest = let h = c.max-lane.ensures.value in
-          let low = c.requires.within.low in
-          let high = c.requires.within.high in
+          let low = c.requires.left in
+          let high = c.requires.right in
           let wide = c.requires.whole.wide in
           omega (arith, ints, clamps, h, low, high, wide);
       more = search rules;

@@ -1,7 +1,7 @@
 use Rattle.std.proofs.Common.{◌≢◌, ◌<◌, ◌≤◌, ℕ, get_or}
-use Rattle.lf_occupancy.specs.declared.lane.Entry.{Entry}
+use Rattle.lf_occupancy.specs.declared.lane.Mark.{Mark}
 use Rattle.lf_occupancy.proofs.lane.place_from.Given as goal
 
--- none of the entries passed is the cell's
+-- none of the marks passed is the cell's
 abbrev pub invariant-loop-n : goal.invariant-loop-n
-invariant-loop-n l = (k : ℕ) (d : Entry) → l.from ≤ k → k < l.n → (get_or l.entries k d).own ≢ l.own
+invariant-loop-n l = (k : ℕ) (d : Mark) → l.from ≤ k → k < l.n → (get_or l.marks k d).own ≢ l.own

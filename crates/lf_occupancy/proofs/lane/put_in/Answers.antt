@@ -1,34 +1,53 @@
-use Rattle.std.proofs.Common.{inl, inr, refl, sym, subst, arith}
+use Rattle.std.proofs.Common.{inl, inr, refl, subst, ap, arith}
 use Rattle.std.proofs.lemmas.Bool.{false≢true}
-use Rattle.std.proofs.lemmas.Int.{ints}
-use Rattle.lf_occupancy.specs.declared.lane.Entry.{Entry}
-use Rattle.lf_occupancy.specs.Lanes.{IsJoined, IsWhole, IsNearZero}
+use Rattle.std.proofs.lemmas.Int.{ints, clamps}
+use Rattle.lf_units.specs.declared.area.Rect.{Rect}
+use Rattle.lf_occupancy.specs.Lanes.{IsAdded, IsPutPart, IsWhole}
 use Rattle.lf_occupancy.proofs.lane.put_in.Goals as goal
+
+pub mark_of-requires-clause-left : goal.mark_of-requires-clause-left
+mark_of-requires-clause-left c =
+    let left = ap (λ (r : Rect). r.x1) c.part_of-part.ensures in
+    let begins = c.requires.within.begins in
+    let low = c.requires.edge.low in
+    let high = c.requires.edge.high in
+    record { low = omega (arith, ints, clamps, left, low); high = omega (arith, ints, clamps, left, begins, high) }
+
+pub mark_of-requires-clause-right : goal.mark_of-requires-clause-right
+mark_of-requires-clause-right c =
+    let right = ap (λ (r : Rect). r.x2) c.part_of-part.ensures in
+    let high = c.requires.within.high in
+    omega (arith, ints, clamps, right, high)
+
+pub mark_of-requires-clause-whole : goal.mark_of-requires-clause-whole
+mark_of-requires-clause-whole c = c.if-is_whole.ensures.0 refl
 
 pub join-requires : goal.join-requires
 join-requires c =
-    let left = c.part_of-part.ensures.left in
-    let right = c.part_of-part.ensures.right in
+    let left = ap (λ (r : Rect). r.x1) c.part_of-part.ensures in
+    let right = ap (λ (r : Rect). r.x2) c.part_of-part.ensures in
     let low = c.requires.within.low in
     let high = c.requires.within.high in
     record {
       order = c.requires.order;
-      within = subst (λ (e : Entry). IsNearZero e.area) (sym c.entry_of.ensures)
-          record { low = omega (arith, ints, low, left); high = omega (arith, ints, high, right) };
-      whole = subst (λ (e : Entry). IsWhole e.area) (sym c.entry_of.ensures) (c.if-is_whole.ensures.0 refl);
-      room = c.requires.room c.part_of-part.result c.part_of-part.ensures (c.if-is_whole.ensures.0 refl);
+      left = omega (arith, ints, clamps, left, low);
+      right = omega (arith, ints, clamps, right, high);
+      whole = c.if-is_whole.ensures.0 refl;
+      room = c.requires.room (subst IsWhole c.part_of-part.ensures (c.if-is_whole.ensures.0 refl));
     }
 
 pub returns-then-is_whole : goal.returns-then-is_whole
-returns-then-is_whole c = record {
-  part = c.part_of-part.result;
-  is = c.part_of-part.ensures;
-  change = inl (c.if-is_whole.ensures.0 refl, subst (λ (e : Entry). IsJoined e c.args.lane.now c.join.new.lane) c.entry_of.ensures c.join.ensures);
-}
+returns-then-is_whole c =
+    let own = c.args.own in
+    let part = c.part_of-part.result in
+    let added : IsAdded own part c.args.lane.now c.join.new.lane = record {
+      mark = c.mark_of.result;
+      of = record { is = c.mark_of.ensures.is; left = c.mark_of.ensures.left; width = c.mark_of.ensures.width };
+      joined = c.join.ensures;
+    } in
+    subst (λ (r : Rect). IsPutPart own r c.args.lane.now c.join.new.lane) c.part_of-part.ensures (inl (c.if-is_whole.ensures.0 refl, added))
 
 pub returns-else-is_whole : goal.returns-else-is_whole
-returns-else-is_whole c = record {
-  part = c.part_of-part.result;
-  is = c.part_of-part.ensures;
-  change = inr (λ whole. false≢true (c.if-is_whole.ensures.1 whole), refl);
-}
+returns-else-is_whole c =
+    subst (λ (r : Rect). IsPutPart c.args.own r c.args.lane.now c.args.lane.now) c.part_of-part.ensures
+    (inr (λ whole. false≢true (c.if-is_whole.ensures.1 whole), refl))

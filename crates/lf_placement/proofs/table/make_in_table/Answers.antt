@@ -13,7 +13,7 @@ loop-at-preserved c =
     let within : c.loop-at.at < length c.loop-at.moves = omega (arith, count, given, c.loop-at-test.true) in
     record {
       making =
-          rw (c.put_at.ensures.own, c.replace.ensures)
+          rw (c.put_at.ensures.own, c.place.ensures, c.replace.ensures)
           (making_next _ _ (cells_of c.loop-at.cells team) c.args.moves.now c.loop-at.moves c.args.from c.loop-at.at next c.place_at-was.result within
           (subst (λ (ms : List Move). next ≡ get_or ms c.loop-at.at next) c.as_slice.ensures c.index-as_slice-at.is) c.place_at-was.ensures
           c.loop-at.invariant.making);

@@ -12,7 +12,7 @@ loop-at-preserved c =
     let more : n + 1 ≡ c.loop-at.at = omega (arith, c.loop-at-test.true) in
     let within : n < length moves = omega (arith, c.loop-at.auto.at, c.loop-at-test.true) in
     record {
-      left = rw c.put_at.ensures.own
+      left = rw (c.put_at.ensures.own, c.place.ensures)
           (one_less (cells_of c.loop-at.cells team) moves n c.index-moves-at.result within c.index-moves-at.is
           ∙ ap (λ (k : ℕ). made_back (take k moves) (cells_of c.loop-at.cells team)) more
           ∙ c.loop-at.invariant.left);

@@ -1,4 +1,5 @@
-use Rattle.std.proofs.Common.{sym, ◌∙◌}
+use Rattle.std.proofs.Common.{Option, Some, ap, sym, ◌∙◌}
+use Rattle.lf_floorplan.specs.declared.place.Place.{Place}
 use Rattle.lf_cells.proofs.Looks.{standing_is}
 use Rattle.lf_cells.proofs.table.CellTable.standing.Goals as goal
 
@@ -8,5 +9,6 @@ returns-in_err-slot c =
     ∙ sym (standing_is c.self.inside.parts c.args.self.now c.args.id _ c.self.view_is (sym (c.in_err-slot.was {u = tt}) ∙ c.slot.ensures))
 
 pub returns : goal.returns
-returns c = sym (standing_is c.self.inside.parts c.args.self.now c.args.id _ c.self.view_is
+returns c =
+    ap (λ (p : Option Place). Some (record { mac = c.in_ok-slot.slot.mac; working = p })) c.place.ensures ∙ sym (standing_is c.self.inside.parts c.args.self.now c.args.id _ c.self.view_is
     (sym (c.in_ok-slot.was {u = tt}) ∙ c.slot.ensures))

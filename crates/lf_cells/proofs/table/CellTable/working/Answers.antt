@@ -8,4 +8,5 @@ returns-in_err-slot c =
     ∙ sym (working_is c.self.inside.parts c.args.self.now c.args.id _ c.self.view_is (sym (c.in_err-slot.was {u = tt}) ∙ c.slot.ensures))
 
 pub returns : goal.returns
-returns c = sym (working_is c.self.inside.parts c.args.self.now c.args.id _ c.self.view_is (sym (c.in_ok-slot.was {u = tt}) ∙ c.slot.ensures))
+returns c =
+    c.place.ensures ∙ sym (working_is c.self.inside.parts c.args.self.now c.args.id _ c.self.view_is (sym (c.in_ok-slot.was {u = tt}) ∙ c.slot.ensures))

@@ -1,12 +1,12 @@
-use Rattle.std.proofs.Common.{ℕ, refl, subst}
-use Rattle.lf_occupancy.specs.Occupied.{FitIn, Occupied, boxes_of}
-use Rattle.lf_occupancy.specs.Strips.{rooms_in}
+use Rattle.std.proofs.Common.{ℕ, [], List, Option, get_or, refl, subst}
+use Rattle.lf_units.specs.declared.area.Rect.{Rect}
+use Rattle.lf_occupancy.specs.Occupied.{FitIn}
+use Rattle.lf_occupancy.specs.Strips.{Holds, Marked, filled_by}
 use Rattle.lf_occupancy.proofs.Views.{boxes_that_stand_fit}
 use Rattle.lf_occupancy.proofs.occupancy.Occupancy.boxes_fit.Goals as goal
 
 pub returns : goal.returns
 returns c =
     let o = c.self.inside in
-    let seen : Occupied = record { index = o.index; site = o.site; boxes = o.boxes.items; rooms = rooms_in o.lanes.items } in
-    subst (λ (o : Occupied). (team : ℕ) → FitIn o team (boxes_of o team)) c.self.view_is
-    (boxes_that_stand_fit seen o.lanes.items refl c.self.invariant.1)
+    subst (λ (m : Marked). (boxes : List (List (Option Rect))) → Holds m boxes → (team : ℕ) → FitIn (filled_by m boxes) team (get_or boxes team [])) c.self.view_is
+    (λ boxes holds. boxes_that_stand_fit (filled_by record { index = o.index; site = o.site; lanes = o.lanes.items } boxes) o.lanes.items refl holds)

@@ -1,12 +1,34 @@
-use Rattle.std.proofs.Common.{refl, subst, sym}
-use Rattle.lf_occupancy.specs.Occupied.{HasRoomFor, Occupied}
-use Rattle.lf_occupancy.specs.Strips.{rooms_in}
+use Rattle.std.proofs.Common.{refl, subst, sym, ◌∙◌}
+use Rattle.lf_occupancy.specs.Strips.{CanEnter, Holds, Marked, felt_strips, filled_by}
+use Rattle.lf_occupancy.proofs.Reaching.{lanes_rise, many_still}
 use Rattle.lf_occupancy.proofs.Views.{seen_is_room}
 use Rattle.lf_occupancy.proofs.occupancy.Occupancy.insert.Goals as goal
 
-pub insert_box-requires-clause-room : goal.insert_box-requires-clause-room
-insert_box-requires-clause-room c =
+pub take_in-requires-clause-site : goal.take_in-requires-clause-site
+take_in-requires-clause-site c = c.self.invariant.site
+
+pub take_in-requires-clause-many : goal.take_in-requires-clause-many
+take_in-requires-clause-many c = c.self.invariant.many
+
+pub invariant_of-self : goal.invariant_of-self
+invariant_of-self c = record {
+  site = c.self.invariant.site;
+  many = many_still c.self.inside.lanes.items c.take_in.new.lanes.items c.take_in.ensures.rooms ∙ c.self.invariant.many;
+}
+
+pub take_in-requires-clause-rising : goal.take_in-requires-clause-rising
+take_in-requires-clause-rising c =
     let o = c.self.inside in
-    let seen : Occupied = record { index = o.index; site = o.site; boxes = o.boxes.items; rooms = rooms_in o.lanes.items } in
-    seen_is_room seen o.lanes.items c.args.id.team c.args.rect.now 1 refl c.self.invariant.1
-    (subst (λ (o : Occupied). HasRoomFor o c.args.id.team c.args.rect.now 1) (sym c.self.view_is) c.requires.room)
+    let enter = subst (λ (m : Marked). CanEnter m c.args.id c.args.rect.now) (sym c.self.view_is) c.requires.enter in
+    lanes_rise (felt_strips o.site o.index.strips) enter.boxes o.lanes.items enter.holds
+
+pub take_in-requires-clause-room : goal.take_in-requires-clause-room
+take_in-requires-clause-room c =
+    let o = c.self.inside in
+    let enter = subst (λ (m : Marked). CanEnter m c.args.id c.args.rect.now) (sym c.self.view_is) c.requires.enter in
+    seen_is_room (filled_by record { index = o.index; site = o.site; lanes = o.lanes.items } enter.boxes) o.lanes.items c.args.id.team c.args.rect.now 1 refl
+    enter.holds enter.room
+
+pub returns-clause-holds : goal.returns-clause-holds
+returns-clause-holds c = λ boxes nowhere holds.
+    c.take_in.ensures.lanes boxes nowhere (subst (λ (m : Marked). Holds m boxes) (sym c.self.view_is) holds)

@@ -1,0 +1,70 @@
+-- Cells and their names, one after the other.
+use Rattle.std.proofs.Common.{◌≡◌, ◌≢◌, ℕ, zero, suc, List, [], ◌∷◌, ◌++◌, length, map, None, Some, refl, ap, subst, ◌∙◌, arith}
+use Rattle.std.specs.Prelude.{All, slice_get}
+use Rattle.std.proofs.lemmas.List.Elements.{All-nil, All-cons, All-head, All-tail}
+use Rattle.std.proofs.lemmas.Option.{slice_get_within, get_or_from_slice_get}
+use Rattle.lf_names.specs.Adds.{Adds}
+use Rattle.lf_names.specs.declared.table.Added.{Added}
+use Rattle.lf_names.specs.declared.table.Added.TheVariants.{Present}
+use Rattle.lf_names.proofs.Positions.{stands_there}
+use Rattle.lf_floorplan.specs.declared.loaded.Cell.{Cell}
+use Rattle.lf_floorplan.specs.declared.cells.PlainCell.{PlainCell}
+use Rattle.lf_floorplan.specs.LoadedCells.{with_name, with_names}
+
+-- a name that differs from all is not there
+pub is_new : (old new : List (List ℕ)) (name : List ℕ) (added : Added) (at : ℕ) → All (λ n. n ≢ name) old → Adds old name added new → added ≡ Present at → ⊥
+is_new old new name added at apart adds is =
+    let there = stands_there old name at (subst (λ (a : Added). Adds old name a new) is adds).0 in
+    apart at name (slice_get_within old at name there) (get_or_from_slice_get old at name name there)
+
+pub many_seen : (names : List (List ℕ)) (cells : List PlainCell) → length names ≡ length cells → length (with_names names cells) ≡ length cells
+many_seen [] [] same = refl
+many_seen [] (c ∷ cells) same = absurd (omega (arith, same))
+many_seen (n ∷ names) [] same = refl
+many_seen (n ∷ names) (c ∷ cells) same = ap suc (many_seen names cells (omega (arith, same)))
+
+pub names_seen : (names : List (List ℕ)) (cells : List PlainCell) → length names ≡ length cells → map (λ c. c.name) (with_names names cells) ≡ names
+names_seen [] [] same = refl
+names_seen [] (c ∷ cells) same = absurd (omega (arith, same))
+names_seen (n ∷ names) [] same = absurd (omega (arith, same))
+names_seen (n ∷ names) (c ∷ cells) same = ap (λ (ns : List (List ℕ)). n ∷ ns) (names_seen names cells (omega (arith, same)))
+
+pub apart_seen : (names : List (List ℕ)) (cells : List PlainCell) (name : List ℕ) → length names ≡ length cells → All (λ c. c.name ≢ name) (with_names names cells) →
+    All (λ n. n ≢ name) names
+apart_seen [] [] name same apart = All-nil (λ n. n ≢ name)
+apart_seen [] (c ∷ cells) name same apart = absurd (omega (arith, same))
+apart_seen (n ∷ names) [] name same apart = absurd (omega (arith, same))
+apart_seen (n ∷ names) (c ∷ cells) name same apart =
+    let P : Cell → Type 0 = λ d. d.name ≢ name in
+    All-cons (λ m. m ≢ name) n names (All-head P (with_name n c) (with_names names cells) apart)
+    (apart_seen names cells name (omega (arith, same)) (All-tail P (with_name n c) (with_names names cells) apart))
+
+pub one_appended : (names : List (List ℕ)) (cells : List PlainCell) (name : List ℕ) (cell : PlainCell) → length names ≡ length cells →
+    with_names (names ++ name ∷ []) (cells ++ cell ∷ []) ≡ with_names names cells ++ with_name name cell ∷ []
+one_appended [] [] name cell same = refl
+one_appended [] (c ∷ cells) name cell same = absurd (omega (arith, same))
+one_appended (n ∷ names) [] name cell same = absurd (omega (arith, same))
+one_appended (n ∷ names) (c ∷ cells) name cell same =
+    ap (λ (cs : List Cell). with_name n c ∷ cs) (one_appended names cells name cell (omega (arith, same)))
+
+pub cell_seen : (names : List (List ℕ)) (cells : List PlainCell) (at : ℕ) (name : List ℕ) (cell : PlainCell) → slice_get names at ≡ Some name →
+    slice_get cells at ≡ Some cell → slice_get (with_names names cells) at ≡ Some (with_name name cell)
+cell_seen [] cells at name cell is_name is_cell = absurd cc
+cell_seen (n ∷ names) [] at name cell is_name is_cell = absurd cc
+cell_seen (n ∷ names) (c ∷ cells) zero name cell is_name is_cell =
+    let same_name : n ≡ name = cc in
+    let same_cell : c ≡ cell = cc in
+    ap (λ (m : List ℕ). Some (with_name m c)) same_name ∙ ap (λ (d : PlainCell). Some (with_name name d)) same_cell
+cell_seen (n ∷ names) (c ∷ cells) (suc at) name cell is_name is_cell = cell_seen names cells at name cell is_name is_cell
+
+pub unnamed : (names : List (List ℕ)) (cells : List PlainCell) (at : ℕ) → slice_get names at ≡ None → slice_get (with_names names cells) at ≡ None
+unnamed [] cells at none = refl
+unnamed (n ∷ names) [] at none = refl
+unnamed (n ∷ names) (c ∷ cells) zero none = absurd cc
+unnamed (n ∷ names) (c ∷ cells) (suc at) none = unnamed names cells at none
+
+pub no_cell : (names : List (List ℕ)) (cells : List PlainCell) (at : ℕ) → slice_get cells at ≡ None → slice_get (with_names names cells) at ≡ None
+no_cell [] cells at none = refl
+no_cell (n ∷ names) [] at none = refl
+no_cell (n ∷ names) (c ∷ cells) zero none = absurd cc
+no_cell (n ∷ names) (c ∷ cells) (suc at) none = no_cell names cells at none

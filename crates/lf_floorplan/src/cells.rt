@@ -1,0 +1,159 @@
+//! The movable cells of a loaded design, as they are kept.
+
+ghost use Rattle.std.specs.Prelude.{◌≡◌, ◌≢◌, ◌++◌, ◌∷◌, [], All, OnErr, OnOk, length, slice_get};
+ghost use Rattle.std.specs.Option.{option_map};
+ghost use Rattle.lf_floorplan.specs.LoadedCells.{lent, with_name, with_names};
+
+use crate::packed::PackedPlace;
+use crate::place::Place;
+use lf_names::{Added, NameTable};
+use std::alloc::{AllocError, Global};
+use std::marker::Model;
+
+/// A movable cell without its name.
+#[derive(Clone, Copy)]
+pub struct PlainCell {
+    /// The number of its team.
+    pub team: u32,
+    /// The position of its macro in the frame.
+    pub mac: u32,
+    /// The position of its entry among all COMPONENTS of the DEF text.
+    pub component: u32,
+    /// Its place in the DEF text; none if it is unplaced there.
+    pub place: PackedPlace,
+}
+
+/// A movable cell, whose name is borrowed from the list of cells.
+#[derive(Clone, Copy)]
+pub struct LentCell<'a> {
+    pub name: &'a [u8],
+    /// The number of its team.
+    pub team: usize,
+    /// The position of its macro in the frame.
+    pub mac: usize,
+    /// Its place in the DEF text; none if it is unplaced there.
+    pub place: Option<Place>,
+    /// The position of its entry among all COMPONENTS of the DEF text.
+    pub component: usize,
+}
+
+/// The names of cells, and beside each the cell without it.
+#[derive(Drop)]
+pub struct CellParts {
+    pub names: NameTable,
+    pub cells: Vec<PlainCell>,
+}
+
+/// The movable cells of a design, in loading order: each name stands once, in a table that `into_parts` hands on. Contracts see
+/// the list of cells.
+#[derive(Drop)]
+pub struct LoadedCells {
+    parts: CellParts,
+}
+
+impl Model for LoadedCells {
+    ghost use Rattle.std.specs.Prelude.{List};
+    ghost use Rattle.lf_floorplan.specs.declared.loaded.Cell.{Cell};
+
+    ghost Value = { List Cell };
+
+    ghost use Rattle.std.specs.Prelude.{◌≡◌, length};
+    ghost use Rattle.lf_floorplan.specs.LoadedCells.{with_names};
+
+    ghost view = { λ l. with_names l.parts.names l.parts.cells.items };
+
+    ghost invariant = { λ l. length l.parts.names ≡ length l.parts.cells.items };
+}
+
+/// Adds a name that is not there yet.
+fn add_new(names: &mut NameTable, name: &[u8]) -> Result<(), AllocError>
+    requires { All (λ n. n ≢ name.now) names.old }
+    ensures ok { OnOk result (names.new ≡ names.old ++ name.now ∷ []) }
+    ensures err { OnErr result (names.new ≡ names.old) }
+{
+    match names.add(name)? {
+        Added::New(_) => Ok(()),
+        Added::Present(_) => unreachable!(),
+    }
+}
+
+/// Appends a cell, for which there is room if its name could be added.
+fn push_cell(parts: &mut CellParts, name: &[u8], cell: PlainCell) -> Result<(), AllocError>
+    requires { All (λ n. n ≢ name.now) parts.old.names }
+    ensures names { OnOk result (parts.new.names ≡ parts.old.names ++ name.now ∷ []) }
+    ensures cells { OnOk result (parts.new.cells.items ≡ parts.old.cells.items ++ cell ∷ []) }
+    ensures names_stay { OnErr result (parts.new.names ≡ parts.old.names) }
+    ensures cells_stay { OnErr result (parts.new.cells.items ≡ parts.old.cells.items) }
+{
+    parts.cells.reserve(1)?;
+    add_new(&mut parts.names, name)?;
+    parts.cells.push(cell).unwrap();
+    Ok(())
+}
+
+/// The cell of this position; none if there is none.
+fn plain_at(cells: &[PlainCell], at: usize) -> Option<PlainCell>
+    ensures { result ≡ slice_get cells.now at }
+{
+    match cells.get(at) {
+        Some(cell) => Some(*cell),
+        None => None,
+    }
+}
+
+impl LoadedCells {
+    /// The empty list, which allocates nothing.
+    pub fn new(alloc: Global) -> Self
+        ensures { result ≡ [] }
+    {
+        LoadedCells {
+            parts: CellParts {
+                names: NameTable::new(alloc),
+                cells: Vec::new(alloc),
+            },
+        }
+    }
+
+    /// Appends a cell whose name no other cell has.
+    ///
+    /// `Err` if an allocation fails; the list is then unchanged.
+    pub fn push(&mut self, name: &[u8], cell: PlainCell) -> Result<(), AllocError>
+        requires { All (λ c. c.name ≢ name.now) self.old }
+        ensures ok { OnOk result (self.new ≡ self.old ++ with_name name.now cell ∷ []) }
+        ensures err { OnErr result (self.new ≡ self.old) }
+    {
+        push_cell(&mut self.parts, name, cell)?;
+        Ok(())
+    }
+
+    /// How many cells there are.
+    pub fn len(&self) -> usize
+        ensures { result ≡ length self.now }
+    {
+        self.parts.cells.len()
+    }
+
+    /// The cell of this position; none if there is none.
+    pub fn get(&self, at: usize) -> Option<LentCell<'_>>
+        ensures { option_map lent result ≡ slice_get self.now at }
+    {
+        let name = self.parts.names.name_at(at)?;
+        let cell = plain_at(self.parts.cells.as_slice(), at)?;
+        Some(LentCell {
+            name,
+            team: cell.team as usize,
+            mac: cell.mac as usize,
+            place: cell.place.place(),
+            component: cell.component as usize,
+        })
+    }
+
+    /// The names, and the cells without them.
+    pub fn into_parts(self) -> CellParts
+        ensures cells { with_names result.names result.cells.items ≡ self }
+        ensures count { length result.names ≡ length result.cells.items }
+    {
+        let LoadedCells { parts } = self;
+        parts
+    }
+}

@@ -1,0 +1,27 @@
+use Rattle.std.proofs.Common.{subst, sym, ◌∙◌}
+use Rattle.lf_occupancy.specs.Strips.{CanLeave, Holds, Marked, felt_strips}
+use Rattle.lf_occupancy.proofs.Reaching.{many_still}
+use Rattle.lf_occupancy.proofs.Ones.{lanes_have_one}
+use Rattle.lf_occupancy.proofs.occupancy.Occupancy.remove.Goals as goal
+
+pub take_out-requires-clause-one : goal.take_out-requires-clause-one
+take_out-requires-clause-one c =
+    let o = c.self.inside in
+    let leave = subst (λ (m : Marked). CanLeave m c.args.id c.args.rect.now) (sym c.self.view_is) c.requires in
+    lanes_have_one (felt_strips o.site o.index.strips) leave.boxes o.lanes.items c.args.id c.args.rect.now leave.holds leave.is
+
+pub take_out-requires-clause-site : goal.take_out-requires-clause-site
+take_out-requires-clause-site c = c.self.invariant.site
+
+pub take_out-requires-clause-many : goal.take_out-requires-clause-many
+take_out-requires-clause-many c = c.self.invariant.many
+
+pub invariant_of-self : goal.invariant_of-self
+invariant_of-self c = record {
+  site = c.self.invariant.site;
+  many = many_still c.self.inside.lanes.items c.take_out.new.lanes.items c.take_out.ensures.rooms ∙ c.self.invariant.many;
+}
+
+pub returns-clause-holds : goal.returns-clause-holds
+returns-clause-holds c = λ boxes is holds.
+    c.take_out.ensures.lanes boxes is (subst (λ (m : Marked). Holds m boxes) (sym c.self.view_is) holds)
