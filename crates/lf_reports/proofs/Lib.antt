@@ -3,4 +3,4 @@ pub mod VerdictLists
 pub mod ReportLemmas
 pub mod CleanLemmas
 pub mod ListedCells
-pub mod IllegalLemmas
+pub mod LegalVerdicts

@@ -1,5 +1,5 @@
 -- What a check reports: how many cells there are, how many of them are unplaced, and which break a rule where they stand.
-use Rattle.std.specs.Prelude.{◌≡◌, ◌↔◌, ℕ, ◌<◌, List, [], ◌∷◌, Option, None, All, is_none, count_by, map, filter_map, length, set, slice_get, slice_index_or, ◌⊎◌, Some, option_map, option_and_then}
+use Rattle.std.specs.Prelude.{◌≡◌, ◌↔◌, ℕ, ◌<◌, List, [], ◌∷◌, Option, None, All, is_none, is_some, count_by, map, filter_map, length, set, slice_get, slice_index_or, ◌⊎◌, Some, option_map, option_and_then}
 use Rattle.std.specs.List.{range_with_len}
 use Rattle.std.specs.Borrow.{Bor}
 use Rattle.lf_floorplan.specs.declared.frame.Frame.{Frame}
@@ -47,6 +47,11 @@ verdict_at verdicts own = slice_index_or verdicts own None
 pub record AreVerdicts (l : Legalizer) (f : Frame) (padding : ℕ) (cells : List (Listed (List ℕ))) (verdicts : List (Option Broken)) : Type 0 where
   pub count : length verdicts ≡ length cells
   pub each : (own : ℕ) (c : Listed (List ℕ)) → slice_get cells own ≡ Some c → verdict_at verdicts own ≡ broken_among l f padding cells own c
+
+-- no cell is unplaced, and no verdict says that a rule is broken
+pub record IsFaultless (places : List (Option Place)) (verdicts : List (Option Broken)) : Type 0 where
+  pub all_placed : count_by is_none places ≡ 0
+  pub none_broken : count_by is_some verdicts ≡ 0
 
 -- some cells have their verdict, and the others none yet
 pub record AreSomeVerdicts (l : Legalizer) (f : Frame) (padding : ℕ) (cells : List (Listed (List ℕ))) (verdicts : List (Option Broken)) : Type 0 where

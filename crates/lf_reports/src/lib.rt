@@ -5,7 +5,7 @@ mod illegal;
 mod laws;
 mod report;
 
-pub use illegal::{BrokenCell, first_illegal};
+pub use illegal::BrokenCell;
 pub use laws::clean_is_legal;
 pub use lf_rules::{Listed, Report, Violation};
-pub use report::{check_all, report_by_verdicts, verdicts_on};
+pub use report::{check_all, report_by_verdicts, verdicts_of_all, verdicts_on};

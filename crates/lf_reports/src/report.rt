@@ -7,7 +7,7 @@ ghost use Rattle.lf_rules.specs.Legality.{trial_of};
 ghost use Rattle.lf_rules.specs.Legalizer.{IsVerdict, Legalizer};
 ghost use Rattle.lf_rules.specs.FullyLegal.{IsFullyLegal, standing_at};
 ghost use Rattle.lf_rules.specs.Reports.{IsClean, IsTold};
-ghost use Rattle.lf_reports.specs.Reports.{IsListed, broken_among, listed_at, member_of, name_among, named, report_of, standing_of, trial_among, AreSomeVerdicts, HaveVerdicts, IsPut, AreVerdicts, PutsVerdict, verdict_at, violation_at, violation_of, violations_in};
+ghost use Rattle.lf_reports.specs.Reports.{IsFaultless, IsListed, broken_among, listed_at, member_of, name_among, named, report_of, trial_among, AreSomeVerdicts, HaveVerdicts, IsPut, AreVerdicts, PutsVerdict, verdict_at, violation_at, violation_of, violations_in};
 ghost use Rattle.lf_rules.specs.Team.{Member, boxes_beside, boxes_from, with_box};
 
 use lf_floorplan::{Frame, Loaded, LoadedCells, Macro, Near, Place, cell_is_sized};
@@ -353,29 +353,19 @@ pub fn verdicts_on(
     verdicts_in(alloc, plan, &tree, cells, padding)
 }
 
-/// The report of these cells with no padding, in which overlap is between any two of them.
-fn report_on(alloc: Global, plan: &Plan<'_>, cells: &[Listed<&[u8]>]) -> Result<Report, AllocError>
-    requires listed { All (λ c. IsListed plan.now (named c)) cells.now }
-    requires few { length cells.now ≤ 4000000 }
-    ensures report { (l : Legalizer) → IfOk result (λ report. report ≡ report_of l plan.now 0 (map named cells.now)) }
-    ensures legal { IfOk result (λ report. IsClean report ↔ IsFullyLegal plan.now (map standing_of (map named cells.now))) }
-    ensures told { IfOk result (λ report. All IsTold report.violations) }
-{
-    legalizer_is_there();
-    let verdicts = verdicts_on(alloc, plan, cells, Padding::none())?;
-    report_by_verdicts(alloc, cells, &verdicts)
-}
-
-/// The report of these cells on a frame of which nothing is looked up yet.
-fn report_of(alloc: Global, frame: &Frame, cells: &[Listed<&[u8]>]) -> Result<Report, AllocError>
+/// For each of these cells, with no padding, the first rule that it breaks where it stands, or none.
+fn verdicts_over(
+    alloc: Global,
+    frame: &Frame,
+    cells: &[Listed<&[u8]>],
+) -> Result<Vec<Option<Broken>>, AllocError>
     requires listed { All (λ c. IsListed frame.now (named c)) cells.now }
     requires few { length cells.now ≤ 4000000 }
-    ensures report { (l : Legalizer) → IfOk result (λ report. report ≡ report_of l frame.now 0 (map named cells.now)) }
-    ensures legal { IfOk result (λ report. IsClean report ↔ IsFullyLegal frame.now (map standing_of (map named cells.now))) }
-    ensures told { IfOk result (λ report. All IsTold report.violations) }
+    ensures count { IfOk result (λ verdicts. length verdicts.items ≡ length cells.now) }
+    ensures each { (l : Legalizer) → IfOk result (λ verdicts. AreVerdicts l frame.now 0 (map named cells.now) verdicts.items) }
 {
-    let index = Ground::build(alloc, frame)?;
-    report_on(alloc, &Plan::new(frame, &index), cells)
+    let ground = Ground::build(alloc, frame)?;
+    verdicts_on(alloc, &Plan::new(frame, &ground), cells, Padding::none())
 }
 
 /// The cells of a design at these places.
@@ -400,6 +390,27 @@ fn listed_cells<'a>(
     Ok(listed)
 }
 
+/// The verdicts of a design whose movable cells stand at these places, one for each cell in loading order: the first rule
+/// that the cell breaks there, and for Overlap the first other cell that it meets; none if it breaks no rule, or is unplaced.
+/// Overlap is between cells of any teams, and paddings play no part.
+///
+/// A cell is only compared with what lies near it. `Err` if an allocation fails.
+pub fn verdicts_of_all(
+    alloc: Global,
+    loaded: &Loaded,
+    places: &[Option<Place>],
+) -> Result<Vec<Option<Broken>>, AllocError>
+    requires { length places.now ≡ length loaded.now.cells }
+    ensures count { IfOk result (λ verdicts. length verdicts.items ≡ length loaded.now.cells) }
+    ensures each { (l : Legalizer) → IfOk result (λ verdicts. AreVerdicts l loaded.now.frame 0 (listed_at loaded.now.cells places.now) verdicts.items) }
+    ensures legal { IfOk result (λ verdicts. IsFaultless places.now verdicts.items ↔ IsFullyLegal loaded.now.frame (standing_at loaded.now.cells places.now)) }
+{
+    cell_is_sized();
+    legalizer_is_there();
+    let cells = listed_cells(alloc, &loaded.cells, places)?;
+    verdicts_over(alloc, &loaded.frame, &cells)
+}
+
 /// The report of a design whose movable cells stand at these places, one for each cell in loading order; overlap
 /// is between cells of any teams, and paddings play no part.
 ///
@@ -415,6 +426,8 @@ pub fn check_all(
     ensures told { IfOk result (λ report. All IsTold report.violations) }
 {
     cell_is_sized();
+    legalizer_is_there();
+    let verdicts = verdicts_of_all(alloc, loaded, places)?;
     let cells = listed_cells(alloc, &loaded.cells, places)?;
-    report_of(alloc, &loaded.frame, &cells)
+    report_by_verdicts(alloc, &cells, &verdicts)
 }

@@ -10,8 +10,8 @@ use lf_lef::{Library, W_LEF, read_lef};
 use lf_legalize::PlainSeeker;
 use lf_orient::Orient;
 use lf_placement::Placement;
-use lf_reports::{BrokenCell, Report, Violation, check_all, first_illegal};
-use lf_rules::{Broken, Padding, Placed, Rule, box_of, first_broken};
+use lf_reports::{Report, Violation, check_all};
+use lf_rules::{Broken, Padding, Placed, box_of, first_broken};
 use lf_tests_texts::with_line;
 use lf_units::Rect;
 use std::alloc::Global;
@@ -323,28 +323,4 @@ fn search_alike_everywhere(alloc: Global, design: &Loaded) -> Result<bool, Fail>
 fn reports_tell_what_a_look_at_all_tells(rt: HostRuntime) -> Result<(), Fail> {
     assert!(rt; holds(rt.alloc(), W_DEF, &Case::Searches)?);
     Ok(())
-}
-
-#[test]
-fn the_first_cell_that_breaks_a_rule(rt: HostRuntime) {
-    let overlap = Broken {
-        rule: Rule::Overlap,
-        other: Some(2),
-    };
-    let off_its_row = Broken {
-        rule: Rule::Row,
-        other: None,
-    };
-    for (verdicts, first) in [
-        ([None, Some(overlap), Some(off_its_row)], Some((1, overlap))),
-        ([None, None, Some(off_its_row)], Some((2, off_its_row))),
-        ([Some(off_its_row), None, None], Some((0, off_its_row))),
-        ([None, None, None], None),
-    ] {
-        let found = first_illegal(&verdicts);
-        assert_eq!(rt;
-            found,
-            first.map(|(own, broken)| BrokenCell { own, broken })
-        );
-    }
 }

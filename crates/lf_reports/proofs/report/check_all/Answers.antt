@@ -1,35 +1,48 @@
-use Rattle.std.proofs.Common.{◌≡◌, ◌∙◌, ℕ, List, ap, sym, subst, arith, length, map}
+use Rattle.std.proofs.Common.{◌≡◌, ◌∙◌, ℕ, List, Option, ap, sym, subst, length}
 use Rattle.std.specs.Prelude.{All, IfOk, ◌↔◌}
 use Rattle.std.proofs.Math.ListN.{length-map}
+use Rattle.std.proofs.lemmas.Result.{IfOk-weaker}
 use Rattle.lf_rules.specs.declared.report.Listed.{Listed}
-use Rattle.lf_rules.specs.FullyLegal.{Standing, IsFullyLegal}
+use Rattle.lf_rules.specs.declared.report.Report.{Report}
+use Rattle.lf_rules.specs.declared.rule.Broken.{Broken}
+use Rattle.lf_rules.specs.FullyLegal.{IsFullyLegal, standing_at}
 use Rattle.lf_rules.specs.Reports.{IsClean}
-use Rattle.lf_reports.specs.Reports.{named, standing_of, report_of, IsListed}
-use Rattle.lf_reports.proofs.CleanLemmas.{all_listed, each_named, joined, length_listed, standing_listed}
+use Rattle.lf_reports.specs.Reports.{named, report_of, IsListed}
+use Rattle.lf_reports.proofs.CleanLemmas.{all_listed, each_named, joined, length_listed}
+use Rattle.lf_reports.proofs.LegalVerdicts.{clean_there, verdicts_moved}
 use Rattle.lf_reports.proofs.report.check_all.Goals as goal
 
-pub report_of-requires-clause-listed : goal.report_of-requires-clause-listed
-report_of-requires-clause-listed c =
-    let f = c.args.loaded.now.frame in
+pub report_by_verdicts-requires : goal.report_by_verdicts-requires
+report_by_verdicts-requires c =
     let are = joined c.args.loaded.now.cells c.args.places.now c.deref.result.now c.in_ok-cells.cells.items c.deref.ensures.value (c.in_ok-cells.ensures {u = tt}) in
-    each_named f c.deref.result.now
-    (subst (All (IsListed f)) (sym are) (all_listed f c.cell_is_sized.ensures c.args.loaded.now.cells c.args.places.now c.args.loaded.now.cells_known))
-
-pub report_of-requires-clause-few : goal.report_of-requires-clause-few
-report_of-requires-clause-few c =
-    let are = joined c.args.loaded.now.cells c.args.places.now c.deref.result.now c.in_ok-cells.cells.items c.deref.ensures.value (c.in_ok-cells.ensures {u = tt}) in
-    let count : length c.deref.result.now ≡ length c.args.loaded.now.cells =
-    sym (length-map c.deref.result.now named) ∙ ap (λ (cs : List (Listed (List ℕ))). length cs) are ∙ length_listed c.args.loaded.now.cells c.args.places.now in
-    let few = c.args.loaded.now.few_cells in
-    omega (arith, count, few)
+    ap (λ (vs : List (Option Broken)). length vs) c.deref-2.ensures.value ∙ c.in_ok-verdicts.ensures.count
+    ∙ sym (length_listed c.args.loaded.now.cells c.args.places.now) ∙ sym (ap (λ (cs : List (Listed (List ℕ))). length cs) are) ∙ length-map c.deref.result.now named
 
 pub returns-clause-report : goal.returns-clause-report
 returns-clause-report c = λ l.
+    let f = c.args.loaded.now.frame in
     let are = joined c.args.loaded.now.cells c.args.places.now c.deref.result.now c.in_ok-cells.cells.items c.deref.ensures.value (c.in_ok-cells.ensures {u = tt}) in
-    subst (λ (cells : List (Listed (List ℕ))). IfOk c.report_of.result (λ report. report ≡ report_of l c.args.loaded.now.frame 0 cells)) are (c.report_of.ensures.report l)
+    let verdicts = verdicts_moved l f are c.deref-2.ensures.value (c.in_ok-verdicts.ensures.each l) in
+    subst (λ (cells : List (Listed (List ℕ))). IfOk c.report_by_verdicts.result (λ report. report ≡ report_of l f 0 cells)) are (c.report_by_verdicts.ensures.report l f 0 verdicts)
 
 pub returns-clause-legal : goal.returns-clause-legal
 returns-clause-legal c =
-    let are = joined c.args.loaded.now.cells c.args.places.now c.deref.result.now c.in_ok-cells.cells.items c.deref.ensures.value (c.in_ok-cells.ensures {u = tt}) in
-    subst (λ (cells : List Standing). IfOk c.report_of.result (λ report. IsClean report ↔ IsFullyLegal c.args.loaded.now.frame cells))
-    (ap (λ (cells : List (Listed (List ℕ))). map standing_of cells) are ∙ standing_listed c.args.loaded.now.cells c.args.places.now) c.report_of.ensures.legal
+    let l = c.legalizer_is_there.ensures in
+    let f = c.args.loaded.now.frame in
+    let cells = c.args.loaded.now.cells in
+    let are = joined cells c.args.places.now c.deref.result.now c.in_ok-cells.cells.items c.deref.ensures.value (c.in_ok-cells.ensures {u = tt}) in
+    let verdicts = verdicts_moved l f are c.deref-2.ensures.value (c.in_ok-verdicts.ensures.each l) in
+    IfOk-weaker c.report_by_verdicts.result _ _
+    (λ report is. subst (λ (r : Report). IsClean r ↔ IsFullyLegal f (standing_at cells c.args.places.now)) (sym (is ∙ ap (λ (cs : List (Listed (List ℕ))). report_of l f 0 cs) are))
+    (clean_there l f cells c.args.places.now c.cell_is_sized.ensures c.args.loaded.now.cells_known))
+    (c.report_by_verdicts.ensures.report l f 0 verdicts)
+
+pub returns-clause-told : goal.returns-clause-told
+returns-clause-told c =
+    let l = c.legalizer_is_there.ensures in
+    let f = c.args.loaded.now.frame in
+    let cells = c.args.loaded.now.cells in
+    let are = joined cells c.args.places.now c.deref.result.now c.in_ok-cells.cells.items c.deref.ensures.value (c.in_ok-cells.ensures {u = tt}) in
+    let verdicts = verdicts_moved l f are c.deref-2.ensures.value (c.in_ok-verdicts.ensures.each l) in
+    c.report_by_verdicts.ensures.told l f 0 verdicts
+    (each_named f c.deref.result.now (subst (All (IsListed f)) (sym are) (all_listed f c.cell_is_sized.ensures cells c.args.places.now c.args.loaded.now.cells_known)))
