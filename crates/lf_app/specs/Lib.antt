@@ -3,5 +3,6 @@ pub mod Designs
 pub mod Exits
 pub mod Faults
 pub mod Lines
+pub mod Reporting
 pub mod Services
 pub mod Work

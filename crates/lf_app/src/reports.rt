@@ -1,19 +1,34 @@
 //! The report of a loaded design.
 
-ghost use Rattle.std.specs.Prelude.{◌≡◌, ◌++◌, [], ◌∷◌, ◌↔◌, All, IfErr, IfOk, IsTrue, OnErr, OnOk, true};
+ghost use Rattle.std.specs.Prelude.{◌≡◌, ◌++◌, [], ◌∷◌, ◌↔◌, All, IfErr, IfOk, IsTrue, List, OnErr, OnOk, Option, count_by, false, is_none, is_some, length, map, option_and_then, true};
 ghost use Rattle.std.specs.Io.KnownBytes.{Appends};
+ghost use Rattle.std.specs.List.{cons_option};
+ghost use Rattle.lf_floorplan.specs.declared.place.Place.{Place};
+ghost use Rattle.lf_floorplan.specs.Bounds.{IsName};
+ghost use Rattle.lf_rules.specs.declared.report.Violation.{Violation};
 ghost use Rattle.lf_rules.specs.Legalizer.{Legalizer};
-ghost use Rattle.lf_rules.specs.Reports.{IsClean, IsTold};
+ghost use Rattle.lf_reports.specs.Reports.{AreVerdicts, IsFaultless, violations_in};
+ghost use Rattle.lf_proto.specs.ReportText.{report_text, violations_text};
 ghost use Rattle.lf_app.specs.Checks.{IsLegalDesign, def_places, design_report, report_line};
 ghost use Rattle.lf_app.specs.Faults.{Blames, IsReportFault};
+ghost use Rattle.lf_app.specs.Reporting.{listed_of, name_at, violation_by};
 
 use crate::faults::Fault;
 use lf_devices::{DeviceFault, Sink, send};
 use lf_frame::{Loaded, LoadedCells, Place};
-use lf_proto::report_json;
-use lf_reports::check_all;
-use lf_rules::Report;
+use lf_proto::{Text, put_violation, report_begun, report_closed};
+use lf_reports::verdicts_of_all;
+use lf_rules::{Broken, Violation};
+use lf_units::Name;
 use std::alloc::{AllocError, Global};
+
+/// The report of a design.
+#[derive(Drop)]
+struct DesignReport {
+    text: Text,
+    /// Whether the design is fully legal.
+    legal: bool,
+}
 
 /// The cells' places in the DEF text, in loading order.
 fn def_places(alloc: Global, cells: &LoadedCells) -> Result<Vec<Option<Place>>, AllocError>
@@ -27,21 +42,153 @@ fn def_places(alloc: Global, cells: &LoadedCells) -> Result<Vec<Option<Place>>, 
     Ok(places)
 }
 
-/// The report of the design, each cell at its place in the DEF text.
-fn design_report(alloc: Global, loaded: &Loaded) -> Result<Report, AllocError>
-    ensures report { (l : Legalizer) → IfOk result (λ report. report ≡ design_report l loaded.now) }
-    ensures legal { IfOk result (λ report. IsClean report ↔ IsLegalDesign loaded.now) }
-    ensures told { IfOk result (λ report. All IsTold report.violations) }
+/// How many of the places are none.
+fn unplaced_in(places: &[Option<Place>]) -> usize
+    ensures { result ≡ count_by is_none places.now }
 {
-    let places = def_places(alloc, &loaded.cells)?;
-    check_all(alloc, loaded, &places)
+    places.iter().filter(|place| place.is_none()).count()
 }
 
-/// Whether no cell is unplaced and none breaks a rule.
-fn is_clean(report: &Report) -> bool
-    ensures { IsTrue result ↔ IsClean report.now }
+/// How many of the verdicts say that a rule is broken.
+fn illegal_in(verdicts: &[Option<Broken>]) -> usize
+    ensures { result ≡ count_by is_some verdicts.now }
 {
-    report.unplaced == 0 && report.violations.is_empty()
+    verdicts.iter().filter(|verdict| verdict.is_some()).count()
+}
+
+/// Whether the count of unplaced cells is 0 and no verdict says that a rule is broken.
+fn is_faultless(unplaced: usize, verdicts: &[Option<Broken>]) -> bool
+    ensures { (places : List (Option Place)) → unplaced ≡ count_by is_none places → IsTrue result ↔ IsFaultless places verdicts.now }
+{
+    unplaced == 0 && illegal_in(verdicts) == 0
+}
+
+/// A copy of the name of the cell of that number; none if there is no such cell.
+fn name_of(alloc: Global, cells: &LoadedCells, own: usize) -> Result<Option<Name>, AllocError>
+    ensures { IfOk result (λ name. name ≡ name_at cells.now own) }
+{
+    match cells.get(own) {
+        Some(cell) => Ok(Some(Name::from_slice(alloc, cell.name)?)),
+        None => Ok(None),
+    }
+}
+
+/// A copy of the name of the other cell, if there is another.
+fn other_name(
+    alloc: Global,
+    cells: &LoadedCells,
+    other: Option<u32>,
+) -> Result<Option<Name>, AllocError>
+    ensures { IfOk result (λ name. name ≡ option_and_then (name_at cells.now) other) }
+{
+    match other {
+        Some(own) => name_of(alloc, cells, own as usize),
+        None => Ok(None),
+    }
+}
+
+/// The violation of the cell of that number, which breaks this rule first; none if there is no such cell.
+fn violation_of(
+    alloc: Global,
+    cells: &LoadedCells,
+    own: usize,
+    broken: Broken,
+) -> Result<Option<Violation>, AllocError>
+    ensures { IfOk result (λ violation. violation ≡ violation_by cells.now own broken) }
+{
+    let Some(cell) = name_of(alloc, cells, own)? else {
+        return Ok(None);
+    };
+    let other = other_name(alloc, cells, broken.other)?;
+    Ok(Some(Violation {
+        cell,
+        rule: broken.rule,
+        other,
+    }))
+}
+
+/// The violation of the cell of that number by its verdict; none if it breaks no rule.
+fn violation_told(
+    alloc: Global,
+    cells: &LoadedCells,
+    own: usize,
+    verdict: Option<Broken>,
+) -> Result<Option<Violation>, AllocError>
+    ensures { IfOk result (λ violation. violation ≡ option_and_then (violation_by cells.now own) verdict) }
+{
+    match verdict {
+        Some(broken) => violation_of(alloc, cells, own, broken),
+        None => Ok(None),
+    }
+}
+
+/// Puts the violation of the cell of that number behind the text, if its verdict says that it breaks a rule, and returns
+/// whether there is a violation in the text then; `later` is whether there was one before.
+fn put_cell(
+    alloc: Global,
+    cells: &LoadedCells,
+    own: usize,
+    verdict: Option<Broken>,
+    text: &mut Vec<u8>,
+    later: bool,
+) -> Result<bool, AllocError>
+    requires { All (λ c. IsName c.name) cells.now }
+    ensures { (rest : List Violation) → IfOk result (λ now. text.new.items ++ violations_text now rest
+        ≡ text.old.items ++ violations_text later (cons_option (option_and_then (violation_by cells.now own) verdict) rest)) }
+{
+    let Some(violation) = violation_told(alloc, cells, own, verdict)? else {
+        return Ok(later);
+    };
+    put_violation(alloc, text, later, &violation)?;
+    Ok(true)
+}
+
+/// Puts the violations of the cells behind the text, in loading order, one at a time.
+fn put_cells(
+    alloc: Global,
+    loaded: &Loaded,
+    verdicts: &[Option<Broken>],
+    text: &mut Vec<u8>,
+) -> Result<(), AllocError>
+    requires { length verdicts.now ≡ length loaded.now.cells }
+    ensures { (l : Legalizer) → AreVerdicts l loaded.now.frame 0 (map listed_of loaded.now.cells) verdicts.now → OnOk result (text.new.items ++ violations_text true []
+        ≡ text.old.items ++ violations_text false (violations_in l loaded.now.frame 0 (map listed_of loaded.now.cells))) }
+{
+    let mut later = false;
+    for own in 0..verdicts.len() {
+        later = put_cell(alloc, &loaded.cells, own, verdicts[own], text, later)?;
+    }
+    Ok(())
+}
+
+/// The text of the report of the design, of whose cells this many are unplaced, by the verdict of each.
+fn text_by_verdicts(
+    alloc: Global,
+    loaded: &Loaded,
+    unplaced: usize,
+    verdicts: &[Option<Broken>],
+) -> Result<Text, AllocError>
+    requires { length verdicts.now ≡ length loaded.now.cells }
+    ensures { (l : Legalizer) → unplaced ≡ (design_report l loaded.now).unplaced → AreVerdicts l loaded.now.frame 0 (map listed_of loaded.now.cells) verdicts.now →
+        IfOk result (λ text. text ≡ report_text (design_report l loaded.now)) }
+{
+    let mut text = report_begun(alloc, loaded.cells.len(), unplaced)?;
+    put_cells(alloc, loaded, verdicts, &mut text)?;
+    report_closed(text)
+}
+
+/// The report of the design, each cell at its place in the DEF text.
+fn design_report(alloc: Global, loaded: &Loaded) -> Result<DesignReport, AllocError>
+    ensures text { (l : Legalizer) → IfOk result (λ report. report.text ≡ report_text (design_report l loaded.now)) }
+    ensures legal { IfOk result (λ report. IsTrue report.legal ↔ IsLegalDesign loaded.now) }
+{
+    let places = def_places(alloc, &loaded.cells)?;
+    let verdicts = verdicts_of_all(alloc, loaded, &places)?;
+    let unplaced = unplaced_in(&places);
+    drop(places);
+    let text = text_by_verdicts(alloc, loaded, unplaced, &verdicts)?;
+    let legal = is_faultless(unplaced, &verdicts);
+    Ok(DesignReport { text, legal })
 }
 
 /// Writes the text and a line feed.
@@ -72,11 +219,8 @@ pub(crate) fn report_design<'f, W: Sink>(
     let Ok(report) = design_report(alloc, loaded) else {
         return Err(Fault::NoMemory);
     };
-    let Ok(text) = report_json(alloc, &report) else {
-        return Err(Fault::NoMemory);
-    };
-    match put_line(writer, text.as_bytes()) {
-        Ok(()) => Ok(is_clean(&report)),
+    match put_line(writer, report.text.as_bytes()) {
+        Ok(()) => Ok(report.legal),
         Err(_) => Err(Fault::Output),
     }
 }
