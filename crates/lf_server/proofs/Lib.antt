@@ -1,5 +1,5 @@
 pub mod Fitting
-pub mod Reporting
+pub mod Parts
 pub mod Steps
 pub mod Finishing
 pub mod Telling

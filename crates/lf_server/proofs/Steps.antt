@@ -10,19 +10,19 @@ use Rattle.lf_rules.specs.Legalizer.{Legalizer}
 use Rattle.lf_proto.specs.declared.framer.Fed.{Fed}
 use Rattle.lf_proto.specs.declared.framer.Got.{Got}
 use Rattle.lf_proto.specs.declared.framer.Got.TheVariants.{More}
+use Rattle.lf_proto.specs.declared.reply.Reply.{Reply}
 use Rattle.lf_proto.specs.declared.request.Command.{Command}
 use Rattle.lf_proto.specs.Feeds.{Feeds, FinishesAt, given}
 use Rattle.lf_proto.specs.Framing.{Framing}
 use Rattle.lf_teams.specs.States.{FloorState}
 use Rattle.lf_server.specs.Connections.{Stays}
 use Rattle.lf_server.specs.Devices.{Writer, writer, Sends, Breaks}
-use Rattle.lf_server.specs.Exchanges.{BreaksOff, Exchange, Exchanges, Line, asked_on, is_bye, lines}
+use Rattle.lf_server.specs.Exchanges.{AnswersTo, BreaksOff, Exchange, Exchanges, Line, asked_on, is_bye, lines, text_of}
 use Rattle.lf_server.specs.Endings.{Comes, EndsAt, NoneIsBye}
 use Rattle.lf_server.specs.declared.serving.Ending.{Ending}
 use Rattle.lf_server.specs.declared.serving.Ending.TheVariants.{Done, Bye, ReadFault, WriteFault, TooManyLines, OutOfMemory}
 use Rattle.lf_proto.specs.Pieces.{lines_from, pieces}
-use Rattle.lf_server.specs.Progress.{ExchangeEnds, Given, Goes, IsAnswered, IsExchanged, Stops, StopsAt}
-use Rattle.lf_devices.proofs.Known.{Appends-same}
+use Rattle.lf_server.specs.Progress.{ExchangeEnds, Given, Goes, IsAnswered, IsExchanged, Stops, StopsAt, team_asked}
 use Rattle.lf_proto.proofs.Cuttings.{IsBounded, feed_step, finish_gives}
 
 -- ---- results
@@ -37,21 +37,13 @@ on_ok_no (Err x) e p = absurd (false≢true (sym e))
 
 -- ---- what is written
 
-pub sends_one : (a a' : Option (List ℕ)) (f f' h h' : Bool) (text bytes : List ℕ) → bytes ≡ text → Appends a a' bytes → f' ≡ true → h' ≡ h
+pub sends_one : (a a' : Option (List ℕ)) (f f' h h' : Bool) (text : List ℕ) → Appends a a' text → f' ≡ true → h' ≡ h
     → Sends (writer a f h) (writer a' f' h') text
-sends_one a a' f f' h h' text bytes same appends flushed healthy = record {
-  written = Appends-same a a' bytes text same appends;
-  flushed = flushed;
-  healthy = healthy;
-}
+sends_one a a' f f' h h' text appends flushed healthy = record { written = appends; flushed = flushed; healthy = healthy }
 
-pub breaks_one : (a a' : Option (List ℕ)) (f f' h h' : Bool) (text bytes : List ℕ) → bytes ≡ text → (n : ℕ) × Appends a a' (take n bytes) → h' ≡ true
+pub breaks_one : (a a' : Option (List ℕ)) (f f' h h' : Bool) (text : List ℕ) → (n : ℕ) × Appends a a' (take n text) → h' ≡ true
     → Breaks (writer a f h) (writer a' f' h') text
-breaks_one a a' f f' h h' text bytes same front failed = record {
-  count = front.0;
-  written = subst (λ (b : List ℕ). Appends a a' (take front.0 b)) same front.1;
-  failed = failed;
-}
+breaks_one a a' f f' h h' text front failed = record { count = front.0; written = front.1; failed = failed }
 
 -- ---- what stays
 
@@ -135,12 +127,14 @@ lines_length (e ∷ s) = ap suc (lines_length s)
 
 -- ---- one exchange
 
-pub exchanged : (l : Legalizer) (stop : Option Ending) (w w' : Writer) (old new : FloorState) (line : Line) (asked : Option (Command (List ℕ) Place)) (text : List ℕ)
-    → asked ≡ asked_on line → ExchangeEnds stop w w' line text → IsAnswered l old asked text new → IsExchanged l stop w w' old new line
-exchanged l stop w w' old new line asked text is ends answered = record {
-  reply = answered.reply;
-  text = text;
-  answers = (subst (λ (o : Option (Command (List ℕ) Place)). IsAnswered l old o text new) is answered).answers;
+pub exchanged : (l : Legalizer) (stop : Option Ending) (w w' : Writer) (old new : FloorState) (line : Line) (asked : Option (Command (List ℕ) Place)) (reply : Reply) (team : List ℕ)
+    → asked ≡ asked_on line → team ≡ team_asked asked → ExchangeEnds stop w w' line (text_of new team reply) → IsAnswered l old asked reply new
+    → IsExchanged l stop w w' old new line
+exchanged l stop w w' old new line asked reply team is own ends answered = record {
+  reply = reply;
+  text = text_of new team reply;
+  answers = subst (λ (o : Option (Command (List ℕ) Place)). AnswersTo l old o reply (text_of new team reply) new) is
+      (subst (λ (t : List ℕ). AnswersTo l old asked reply (text_of new t reply) new) (sym own) answered);
   ends = ends;
 }
 

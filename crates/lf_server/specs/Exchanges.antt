@@ -1,12 +1,12 @@
 -- The requests of a connection's lines, and the answer to each.
-use Rattle.std.specs.Prelude.{◌≡◌, ◌⊎◌, ℕ, Bool, true, false, List, [], ◌∷◌, ◌++◌, map, Option, Some, None, option_and_then, unwrap_or, MatchOption}
+use Rattle.std.specs.Prelude.{◌≡◌, ℕ, Bool, true, false, List, [], ◌∷◌, ◌++◌, map, Option, Some, None, option_and_then, unwrap_or, MatchOption}
 use Rattle.lf_floorplan.specs.declared.place.Place.{Place}
 use Rattle.lf_rules.specs.Legalizer.{Legalizer}
 use Rattle.lf_proto.specs.declared.request.Command.{Command}
 use Rattle.lf_proto.specs.declared.request.Command.TheVariants.{Bye, To}
 use Rattle.lf_proto.specs.declared.reply.Reply.{Reply}
 use Rattle.lf_proto.specs.declared.reply.Reply.TheVariants.{Report, Def, Refused}
-use Rattle.lf_proto.specs.declared.reply.Refusal.TheVariants.{BadRequest, Unplaced, NoPlace, Illegal, OutOfMemory}
+use Rattle.lf_proto.specs.declared.reply.Refusal.TheVariants.{BadRequest, Unplaced, NoPlace, Illegal}
 use Rattle.lf_proto.specs.ReplyText.{reply_text}
 use Rattle.lf_proto.specs.Requests.{command_on}
 use Rattle.lf_teams.specs.States.{FloorState}
@@ -107,15 +107,3 @@ pub record BreaksOff (l : Legalizer) (old : FloorState) (before : Writer) (done 
 
 abbrev pub lines : List Exchange → List Line
 lines done = map (λ e. e.line) done
-
--- ---- what replaces a long text
-
--- what is written of a reply: the reply, or OutOfMemory in place of a long text
-abbrev pub StandsIn : Reply → Reply → Type 0
-StandsIn reply told = (told ≡ reply) ⊎ ((is_long reply ≡ true) × (told ≡ Refused OutOfMemory))
-
--- the text of what is written of the reply
-pub record Tells (floor : FloorState) (team : List ℕ) (reply : Reply) (text : List ℕ) : Type 0 where
-  pub told : Reply
-  pub stands_in : StandsIn reply told
-  pub text_is : text ≡ text_of floor team told

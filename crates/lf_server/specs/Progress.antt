@@ -11,7 +11,7 @@ use Rattle.lf_proto.specs.Stream.{lines_of}
 use Rattle.lf_proto.specs.Pieces.{lines_from, pieces}
 use Rattle.lf_teams.specs.States.{FloorState}
 use Rattle.lf_server.specs.Devices.{Writer, Sends, Breaks}
-use Rattle.lf_server.specs.Exchanges.{AnswersTo, Exchange, Exchanges, Line, asked_on, is_bye, lines}
+use Rattle.lf_server.specs.Exchanges.{AnswersTo, Exchange, Exchanges, Line, asked_on, is_bye, lines, team_of, text_of}
 use Rattle.lf_server.specs.Endings.{ActedOn, Comes, NoneIsBye, ended_lines}
 use Rattle.lf_server.specs.declared.serving.Ending.{Ending}
 use Rattle.lf_server.specs.declared.serving.Ending.TheVariants.{Bye, ReadFault, WriteFault, OutOfMemory}
@@ -22,10 +22,14 @@ Given got bytes line = ((got ≡ IsLine) × (line ≡ Some bytes)) ⊎ ((got ≡
 
 -- ---- one line
 
--- the request was answered with this text
-pub record IsAnswered (l : Legalizer) (old : FloorState) (asked : Option (Command (List ℕ) Place)) (text : List ℕ) (new : FloorState) : Type 0 where
-  pub reply : Reply
-  pub answers : AnswersTo l old asked reply text new
+-- the team that a request is to; 'bye' and a line that is no request are to none
+abbrev pub team_asked : Option (Command (List ℕ) Place) → List ℕ
+team_asked None = []
+team_asked (Some command) = team_of command
+
+-- the request is answered with this reply and the reply's own text
+abbrev pub IsAnswered : Legalizer → FloorState → Option (Command (List ℕ) Place) → Reply → FloorState → Type 0
+IsAnswered l old asked reply new = AnswersTo l old asked reply (text_of new (team_asked asked) reply) new
 
 -- what was written of the one reply, by how the connection goes on
 abbrev pub ExchangeEnds : Option Ending → Writer → Writer → Line → List ℕ → Type 0

@@ -4,6 +4,7 @@
 
 mod laws;
 mod reply;
+mod sending;
 mod serving;
 mod tcp;
 

@@ -1,21 +1,20 @@
-//! The texts that answer lines.
+//! Answers to lines, and the texts of short ones.
 
-ghost use Rattle.std.specs.Prelude.{◌≡◌, ◌≤◌, [], IsOk, OnErr, OnOk, decimal, false, length, option_map, vec_capacity};
+ghost use Rattle.std.specs.Prelude.{◌≡◌, ◌≤◌, decimal, false, length, option_map, vec_capacity};
 ghost use Rattle.std.specs.Fmt.{signed_decimal};
 ghost use Rattle.lf_orient.specs.Words.{orient_word};
 ghost use Rattle.lf_rules.specs.Legalizer.{Legalizer};
 ghost use Rattle.lf_proto.specs.Commands.{command_of};
 ghost use Rattle.lf_proto.specs.ReplyText.{reply_text};
 ghost use Rattle.lf_proto.specs.declared.reply.Reply.TheVariants.{Refused};
-ghost use Rattle.lf_server.specs.Exchanges.{Tells, asked_on, asks_end, cells_in, is_long, name_in, team_of, text_of};
+ghost use Rattle.lf_server.specs.Exchanges.{asked_on, asks_end, cells_in, is_long, name_in, text_of};
 ghost use Rattle.lf_server.specs.Connections.{Stays};
-ghost use Rattle.lf_server.specs.Progress.{IsAnswered};
+ghost use Rattle.lf_server.specs.Progress.{IsAnswered, team_asked};
 
 use lf_floor::Floor;
 use lf_floorplan::Place;
 use lf_legalize::Seeker;
 use lf_proto::{Command, Refusal, Reply, Request, parse_line, reply_text};
-use std::alloc::AllocError;
 
 /// The request of a line; one over the limit has none.
 pub(crate) fn request_in<'a>(line: Option<&'a [u8]>) -> Option<Request<'a>>
@@ -121,80 +120,46 @@ fn text_fits(reply: &Reply, cell_name: &[u8], other_name: &[u8])
     }
 }
 
-/// Puts the text of a reply to a command of the team into the empty buffer; it fits unless it is a report or a DEF text.
-fn put_reply<K: Seeker + Drop>(
+/// Replaces what is in the buffer by the text of a reply to a command of the team that is neither a report nor a DEF text.
+pub(crate) fn put_short<K: Seeker + Drop>(
+    text: &mut Vec<u8>,
     floor: &Floor<K>,
     team: &[u8],
     reply: &Reply,
-    text: &mut Vec<u8>,
-) -> Result<(), AllocError>
-    requires empty { text.old.items ≡ [] }
+)
     requires room { 4096 ≤ vec_capacity text.old }
-    ensures ok { OnOk result (text.new.items ≡ text_of floor.now team.now reply.now) }
-    ensures err { OnErr result (text.new.items ≡ []) }
-    ensures succeeds { is_long reply.now ≡ false → IsOk result }
+    requires short { is_long reply.now ≡ false }
+    ensures text { text.new.items ≡ text_of floor.now team.now reply.now }
     ensures room { 4096 ≤ vec_capacity text.new }
 {
     let (cell, other) = cells_in(reply);
     let cell_name = name_in(floor, team, cell);
     let other_name = name_in(floor, team, other);
     text_fits(reply, cell_name, other_name);
-    reply_text(reply, cell_name, other_name, text)
-}
-
-/// Puts the text of a reply that is neither a report nor a DEF text into the empty buffer.
-fn put_short<K: Seeker + Drop>(floor: &Floor<K>, team: &[u8], reply: &Reply, text: &mut Vec<u8>)
-    requires empty { text.old.items ≡ [] }
-    requires room { 4096 ≤ vec_capacity text.old }
-    requires short { is_long reply.now ≡ false }
-    ensures text { text.new.items ≡ text_of floor.now team.now reply.now }
-    ensures room { 4096 ≤ vec_capacity text.new }
-{
-    if put_reply(floor, team, reply, text).is_err() {
+    text.clear();
+    if reply_text(reply, cell_name, other_name, text).is_err() {
         unreachable!();
     }
 }
 
-/// Puts the text of a reply into the empty buffer; a report or a DEF text for which memory runs out is replaced by
-/// `OutOfMemory`, for which the buffer has room.
-fn put_told<K: Seeker + Drop>(floor: &Floor<K>, team: &[u8], reply: &Reply, text: &mut Vec<u8>)
-    requires empty { text.old.items ≡ [] }
-    requires room { 4096 ≤ vec_capacity text.old }
-    ensures told { Tells floor.now team.now reply.now text.new.items }
-    ensures room { 4096 ≤ vec_capacity text.new }
-{
-    if put_reply(floor, team, reply, text).is_err() {
-        put_short(floor, team, &Reply::Refused(Refusal::OutOfMemory), text);
-    }
-}
-
-/// The team that a request is to; `bye` is to none.
-fn team_of<'a>(request: &Request<'a>) -> &'a [u8]
-    ensures { result.now ≡ team_of (command_of request.now) }
+/// The team that a request is to; `bye` and a line that is no request are to none.
+pub(crate) fn team_asked<'a>(request: &Option<Request<'a>>) -> &'a [u8]
+    ensures { result.now ≡ team_asked (option_map command_of request.now) }
 {
     match request {
-        Command::Bye => b"",
-        Command::To { team, .. } => team,
+        Some(Command::To { team, .. }) => team,
+        Some(Command::Bye) => b"",
+        None => b"",
     }
 }
 
-/// Answers a line, and replaces what is in the buffer by the reply's text.
-pub(crate) fn answer<K: Seeker + Drop>(
-    floor: &mut Floor<K>,
-    request: &Option<Request>,
-    text: &mut Vec<u8>,
-)
-    requires room { 4096 ≤ vec_capacity text.old }
+/// Answers a line: one step of the floor, or `BadRequest`.
+pub(crate) fn answer<K: Seeker + Drop>(floor: &mut Floor<K>, request: &Option<Request>) -> Reply
     ensures stays { Stays floor.old floor.new }
-    ensures answered { (l : Legalizer) → IsAnswered l floor.old (option_map command_of request.now) text.new.items floor.new }
-    ensures room { 4096 ≤ vec_capacity text.new }
+    ensures answered { (l : Legalizer) → IsAnswered l floor.old (option_map command_of request.now) result floor.new }
 {
-    text.clear();
     match request {
-        None => put_short(floor, b"", &Reply::Refused(Refusal::BadRequest), text),
-        Some(request) => {
-            let reply = floor.step(request);
-            put_told(floor, team_of(request), &reply, text);
-        }
+        None => Reply::Refused(Refusal::BadRequest),
+        Some(request) => floor.step(request),
     }
 }

@@ -8,8 +8,9 @@ ghost use Rattle.lf_server.specs.Endings.{Serves};
 ghost use Rattle.lf_proto.specs.Pieces.{lines_from, pieces};
 ghost use Rattle.lf_server.specs.Progress.{Finishes, Given, Goes, IsExchanged, SinkAt, Stops, told_answered};
 
-use crate::reply::{answer, is_end, request_in};
-use lf_devices::{Sink, Source, send};
+use crate::reply::{answer, is_end, request_in, team_asked};
+use crate::sending::send_reply;
+use lf_devices::{Sink, Source};
 use lf_floor::Floor;
 use lf_legalize::Seeker;
 use lf_proto::{Got, LineFramer};
@@ -77,8 +78,8 @@ fn exchange<K: Seeker + Drop, W: Sink>(
     ensures serves { (l : Legalizer) → IsExchanged l result (writer (W.contents sink.old) (W.is_flushed sink.old) (W.has_failed sink.old)) (writer (W.contents sink.new) (W.is_flushed sink.new) (W.has_failed sink.new)) floor.old floor.new (option_map (λ bytes. bytes.now) line.entry) }
 {
     let request = request_in(line);
-    answer(floor, &request, text);
-    if send(sink, text.as_slice()).is_err() {
+    let reply = answer(floor, &request);
+    if send_reply(sink, text, floor, team_asked(&request), &reply).is_err() {
         return Some(Ending::WriteFault);
     }
     if is_end(&request) {

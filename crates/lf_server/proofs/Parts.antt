@@ -1,0 +1,39 @@
+-- Texts that are sent in parts.
+use Rattle.std.proofs.Common.{◌≡◌, ℕ, ◌+◌, List, [], ◌∷◌, ◌++◌, length, min, take, Option, refl, sym, ◌∙◌, subst, append-nil, Result, Ok, Err, arith}
+use Rattle.std.specs.Prelude.{OnErr, codes, decimal}
+use Rattle.std.specs.Io.KnownBytes.{Appends}
+use Rattle.std.proofs.Math.Seq.{take-append-add}
+use Rattle.std.proofs.lemmas.List.{take-append-le, take_min}
+use Rattle.lf_devices.proofs.Known.{Appends-more}
+use Rattle.lf_proto.specs.declared.reply.Reply.{Reply}
+use Rattle.lf_proto.specs.declared.reply.Reply.TheVariants.{Report, Def}
+use Rattle.lf_proto.specs.ReplyText.{line_text}
+use Rattle.lf_teams.specs.States.{FloorState}
+use Rattle.lf_server.specs.Exchanges.{text_of}
+
+-- a front of the bytes was written
+abbrev pub Front : Option (List ℕ) → Option (List ℕ) → List ℕ → Type 0
+Front a b bytes = (n : ℕ) × Appends a b (take n bytes)
+
+-- a front of the first part is one of the whole
+pub front_first : {T E : Type 0} (r : Result T E) (a b : Option (List ℕ)) (x y : List ℕ) → Front a b x → OnErr r (Front a b (x ++ y))
+front_first (Ok t) a b x y front = tt
+front_first (Err e) a b x y (n, written) =
+    (min n (length x), subst (Appends a b) (sym (take-append-le (min n (length x)) x y (omega arith) ∙ take_min n x)) written)
+
+-- so are the first part and a front of the second
+pub front_after : {T E : Type 0} (r : Result T E) (a b c : Option (List ℕ)) (x y : List ℕ) → Appends a b x → OnErr r (Front b c y)
+    → OnErr r (Front a c (x ++ y))
+front_after (Ok t) a b c x y first front = tt
+front_after (Err e) a b c x y first (n, written) =
+    (length x + n, subst (Appends a c) (sym (take-append-add x y n)) (Appends-more a b c x (take n y) first written))
+
+-- the parts of a report's text
+pub report_parts : (floor : FloorState) (team : List ℕ) (reply : Reply) (text bytes : List ℕ) → reply ≡ Report text → bytes ≡ text
+    → (codes "ok " ++ bytes) ++ codes "\n" ≡ text_of floor team reply
+report_parts floor team reply text bytes is shown = rw (is, shown) (sym (append-nil (line_text (codes "ok" ∷ text ∷ []))))
+
+-- the parts of a DEF text's
+pub def_parts : (floor : FloorState) (team : List ℕ) (reply : Reply) (text line counted bytes : List ℕ) → reply ≡ Def text → counted ≡ text
+    → line ≡ line_text (codes "ok" ∷ decimal (length counted) ∷ []) → bytes ≡ text → line ++ bytes ≡ text_of floor team reply
+def_parts floor team reply text line counted bytes is same line_is shown = rw (is, line_is, same, shown) refl
