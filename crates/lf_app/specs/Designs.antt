@@ -67,7 +67,7 @@ IsDesignIn library text loaded = (document : def.Document) × (def.document_of t
 -- what is kept of a DEF text besides its bytes: the design of its document over the library, and the clauses of its components
 pub record IsKept (text : List ℕ) (library : Contents) (document : def.Document) (clauses : List ClauseFacts) (loaded : Loaded) : Type 0 where
   pub read : def.document_of text ≡ Ok document
-  pub clauses_are : clauses ≡ map clause_of document.components
+  pub clauses_are : clauses ≡ map (clause_of text) document.components
   pub loads : IsLoadedIn library document loaded
 
 -- the file of the path is read, and the design is that of its DEF text over the library

@@ -18,7 +18,7 @@ use lf_devices::Sink;
 use lf_frame::{Limits, Loaded, load};
 use lf_lef::{Library, read_lef};
 use lf_lex::ReadError;
-use lf_write::{Clause, clauses_of};
+use lf_write::{Clauses, clauses_of};
 use std::alloc::Global;
 
 /// What the built-in texts are called in place of a path.
@@ -230,7 +230,7 @@ fn load_text<F: Sink>(
 pub(crate) struct Opened {
     pub(crate) loaded: Loaded,
     /// Where the placement clauses of its components are.
-    pub(crate) clauses: Vec<Clause>,
+    pub(crate) clauses: Clauses,
 }
 
 /// What is kept of the document, that of the text of the path, beside the design.
@@ -243,7 +243,7 @@ fn with_clauses<F: Sink>(
     faults: &mut F,
 ) -> Result<Opened, Exit>
     ensures design { IfOk result (λ opened. opened.loaded ≡ loaded) }
-    ensures clauses { IfOk result (λ opened. opened.clauses.items ≡ map clause_of document.now.components) }
+    ensures clauses { IfOk result (λ opened. opened.clauses ≡ map (clause_of document.now.text.now) document.now.components) }
     ensures kept { OnOk result (faults.new ≡ faults.old) }
     ensures err { (library : Contents) → IfErr result (Ends (IsRefused Def path.now text.now (IsLoadRefusal library (contents document.now)))
         (F.contents faults.old) (F.contents faults.new) (F.has_failed faults.new)) }
@@ -276,7 +276,7 @@ fn open_document<F: Sink>(
     faults: &mut F,
 ) -> Result<Opened, Exit>
     ensures design { IfOk result (λ opened. IsLoadedIn library.now (contents document.now) opened.loaded) }
-    ensures clauses { IfOk result (λ opened. opened.clauses.items ≡ map clause_of document.now.components) }
+    ensures clauses { IfOk result (λ opened. opened.clauses ≡ map (clause_of document.now.text.now) document.now.components) }
     ensures kept { OnOk result (faults.new ≡ faults.old) }
     ensures err { IfErr result (Ends (IsRefused Def path.now text.now (IsLoadRefusal library.now (contents document.now)))
         (F.contents faults.old) (F.contents faults.new) (F.has_failed faults.new)) }
@@ -296,7 +296,7 @@ pub(crate) fn open_text<F: Sink>(
     text: &[u8],
     faults: &mut F,
 ) -> Result<Opened, Exit>
-    ensures ok { IfOk result (λ opened. (document : Document) × IsKept text.now library.now document opened.clauses.items opened.loaded) }
+    ensures ok { IfOk result (λ opened. (document : Document) × IsKept text.now library.now document opened.clauses opened.loaded) }
     ensures kept { OnOk result (faults.new ≡ faults.old) }
     ensures err { IfErr result (Ends (IsRefused Def path.now text.now (IsDefRefusal library.now text.now)) (F.contents faults.old) (F.contents faults.new) (F.has_failed faults.new)) }
     ensures faults_held { F.holds faults.new ≡ F.holds faults.old }

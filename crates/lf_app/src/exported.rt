@@ -9,7 +9,7 @@ use lf_files::Pieces;
 use lf_floor::{CommittedPlaces, Floor};
 use lf_floorplan::Place;
 use lf_legalize::IndexSeeker;
-use lf_write::{Clause, Given, write_export};
+use lf_write::{Clauses, Given, write_export};
 use std::io;
 use std::io::Write;
 use std::marker::Model;
@@ -20,7 +20,7 @@ use std::marker::Model;
 #[derive(Drop)]
 pub(crate) struct ExportedText<'a> {
     text: &'a [u8],
-    clauses: &'a [Clause],
+    clauses: &'a Clauses,
     places: CommittedPlaces<'a>,
 }
 
@@ -60,7 +60,7 @@ impl<'a> Pieces for ExportedText<'a> {
 pub(crate) fn exported_text<'a>(
     floor: &'a Floor<IndexSeeker>,
     text: &'a [u8],
-    clauses: &'a [Clause],
+    clauses: &'a Clauses,
 ) -> ExportedText<'a>
     requires fits { (places : List (ℕ × Option Place)) → AreCommittedPlaces floor.now places → CanBeRenewed text.now clauses.now places }
     ensures { (places : List (ℕ × Option Place)) × AreCommittedPlaces floor.now places

@@ -34,7 +34,7 @@ use lf_lef::Library;
 use lf_legalize::IndexSeeker;
 use lf_reread::loaded_cells_can_be_given;
 use lf_teams::places_follow_design;
-use lf_write::{Clause, clauses_serve};
+use lf_write::{Clauses, clauses_serve};
 use std::alloc::{AllocError, Global};
 
 /// Where the lines of a design come from.
@@ -189,13 +189,13 @@ fn try_export<E: Exports, F: Sink>(
 fn export_to<E: Exports, F: Sink>(
     floor: &Floor<IndexSeeker>,
     text: &[u8],
-    clauses: &[Clause],
+    clauses: &Clauses,
     path: Option<&str>,
     exports: &mut E,
     faults: &mut F,
 ) -> Result<(), Exit>
     requires fits { (places : List (ℕ × Option Place)) → AreCommittedPlaces floor.now places → CanBeRenewed text.now clauses.now places }
-    ensures ok { (document : Document) → clauses.now ≡ map clause_of document.components
+    ensures ok { (document : Document) → clauses.now ≡ map (clause_of text.now) document.components
         → OnOk result (IsExported (option_map (λ path. path.now) path.entry) text.now document floor.now (E.puts exports.old) (E.puts exports.new)) }
     ensures kept { OnOk result (faults.new ≡ faults.old) }
     ensures err { IfErr result (Ends (IsExportFault (option_map (λ path. path.now) path.entry)) (F.contents faults.old) (F.contents faults.new) (F.has_failed faults.new)) }
@@ -219,7 +219,7 @@ fn export_to<E: Exports, F: Sink>(
 fn work_on_floor<E: Exports, V: Services, R: Source, W: Sink, F: Sink>(
     alloc: Global,
     text: &[u8],
-    clauses: &[Clause],
+    clauses: &Clauses,
     floor: &mut Floor<IndexSeeker>,
     lines: Lines,
     path: Option<&str>,
@@ -234,7 +234,7 @@ fn work_on_floor<E: Exports, V: Services, R: Source, W: Sink, F: Sink>(
     requires writable { W.has_failed writer.old ≡ false }
     requires fits { (s : FloorState) (places : List (ℕ × Option Place)) → s.components ≡ floor.old.components → AreCommittedPlaces s places
         → CanBeRenewed text.now clauses.now places }
-    ensures ok { (document : Document) (loaded : Loaded) → clauses.now ≡ map clause_of document.components → floor.old ≡ opening loaded → IfOk result (λ status. (status ≡ 0) × IsFinished (IsDone lines loaded)
+    ensures ok { (document : Document) (loaded : Loaded) → clauses.now ≡ map (clause_of text.now) document.components → floor.old ≡ opening loaded → IfOk result (λ status. (status ≡ 0) × IsFinished (IsDone lines loaded)
         (option_map (λ path. path.now) path.entry) text.now document
         (streams (R.remaining reader.old) (R.remaining reader.new) (W.contents writer.old) (W.contents writer.new) (E.puts exports.old) (E.puts exports.new))) }
     ensures kept { OnOk result (faults.new ≡ faults.old) }
@@ -267,7 +267,7 @@ fn work_on_floor<E: Exports, V: Services, R: Source, W: Sink, F: Sink>(
 fn work_on_loaded<E: Exports, V: Services, R: Source, W: Sink, F: Sink>(
     alloc: Global,
     text: &[u8],
-    clauses: &[Clause],
+    clauses: &Clauses,
     loaded: Loaded,
     lines: Lines,
     path: Option<&str>,
@@ -281,7 +281,7 @@ fn work_on_loaded<E: Exports, V: Services, R: Source, W: Sink, F: Sink>(
     requires fresh { R.reads reader.old ≡ 0 }
     requires writable { W.has_failed writer.old ≡ false }
     requires loads { (library : Contents) × (document : Document) × IsKept text.now library document clauses.now loaded }
-    ensures ok { (document : Document) → clauses.now ≡ map clause_of document.components → IfOk result (λ status. (status ≡ 0) × IsFinished (IsDone lines loaded)
+    ensures ok { (document : Document) → clauses.now ≡ map (clause_of text.now) document.components → IfOk result (λ status. (status ≡ 0) × IsFinished (IsDone lines loaded)
         (option_map (λ path. path.now) path.entry) text.now document
         (streams (R.remaining reader.old) (R.remaining reader.new) (W.contents writer.old) (W.contents writer.new) (E.puts exports.old) (E.puts exports.new))) }
     ensures kept { OnOk result (faults.new ≡ faults.old) }
@@ -318,7 +318,7 @@ fn opened_of<F: Sink>(
     text: &[u8],
     faults: &mut F,
 ) -> Result<Opened, Exit>
-    ensures ok { IfOk result (λ opened. (document : Document) × IsKept text.now library document opened.clauses.items opened.loaded) }
+    ensures ok { IfOk result (λ opened. (document : Document) × IsKept text.now library document opened.clauses opened.loaded) }
     ensures kept { OnOk result (faults.new ≡ faults.old) }
     ensures err { IfErr result (Ends (IsRefused Def def.now text.now (IsDefRefusal library text.now)) (F.contents faults.old) (F.contents faults.new) (F.has_failed faults.new)) }
     ensures faults_held { F.holds faults.new ≡ F.holds faults.old }
@@ -342,8 +342,8 @@ fn work_on_opened<E: Exports, V: Services, R: Source, W: Sink, F: Sink>(
     requires readable { R.has_failed reader.old ≡ false }
     requires fresh { R.reads reader.old ≡ 0 }
     requires writable { W.has_failed writer.old ≡ false }
-    requires loads { (library : Contents) × (document : Document) × IsKept text.now library document opened.clauses.items opened.loaded }
-    ensures ok { (document : Document) → opened.clauses.items ≡ map clause_of document.components → IfOk result (λ status. (status ≡ 0)
+    requires loads { (library : Contents) × (document : Document) × IsKept text.now library document opened.clauses opened.loaded }
+    ensures ok { (document : Document) → opened.clauses ≡ map (clause_of text.now) document.components → IfOk result (λ status. (status ≡ 0)
         × IsFinished (IsDone lines opened.loaded) (option_map (λ path. path.now) path.entry) text.now document
         (streams (R.remaining reader.old) (R.remaining reader.new) (W.contents writer.old) (W.contents writer.new) (E.puts exports.old) (E.puts exports.new))) }
     ensures kept { OnOk result (faults.new ≡ faults.old) }

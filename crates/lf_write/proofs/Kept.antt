@@ -1,52 +1,96 @@
 -- What is kept of components says what is replaced.
-use Rattle.std.proofs.Common.{◌≡◌, ℕ, List, [], ◌∷◌, map, length, Option, Some, None, refl, ap, ◌∙◌}
+use Rattle.std.proofs.Common.{◌≡◌, ℕ, ◌-◌, Bool, true, false, inl, inr, List, map, length, take, drop, Option, Some, None, refl, sym, ap, ◌∙◌}
 use Rattle.std.specs.Prelude.{slice_get, option_map}
-use Rattle.std.specs.List.{cons_option}
 use Rattle.std.specs.Option.{option_and_then}
 use Rattle.std.proofs.lemmas.List.{length-map}
 use Rattle.std.proofs.lemmas.Option.{slice_get-map}
-use Rattle.lf_lex.specs.Splices.{Splice, spliced}
+use Rattle.std.proofs.lemmas.Slice.Eq.{bytes_eq-Decides}
+use Rattle.lf_lex.specs.Splices.{joined}
+use Rattle.lf_texts.specs.Clauses.{clause_words}
 use Rattle.lf_floorplan.specs.declared.place.Place.{Place}
 use Rattle.lf_def.specs.Laws as def
 use Rattle.lf_def.specs.declared.components.Component.{Component}
+use Rattle.lf_def.specs.declared.components.Location.{Location}
 use Rattle.lf_def.specs.declared.components.Placement.{Placement}
-use Rattle.lf_write.specs.Export.{CanBeGiven, CanBeRenewed, ClauseFacts, change, change_at, changes, clause_from, clause_of, exported}
-use Rattle.lf_write.specs.Export.{renewal, renewal_at, renewals, renewed}
+use Rattle.lf_write.specs.Export.{CanBeGiven, CanBeRenewed, as_location, change, change_at, clause_from, clause_of, clause_splice, clause_with}
+use Rattle.lf_write.specs.Export.{exported, is_at, is_left, is_plain, location_words, renewal, renewal_at, renewed, splice_at}
+use Rattle.lf_write.proofs.Apart.{IsOf, clauses_rise}
+use Rattle.lf_write.proofs.Idle.{Agree, agree_same, same_spliced}
 use Rattle.lf_write.proofs.Positions.{Given, listed}
-use Rattle.lf_write.proofs.Spans.{rising}
+use Rattle.lf_write.proofs.Standing.{stands_by}
 
--- of one component
+-- A plain clause, written anew for the place at which the component is, is as it was.
 
-with_placement : (c : Component) (p : Option Placement) (given : Option Place) → renewal (clause_from p c.semicolon) given ≡ change (record c { placement = p }) given
-with_placement c None given = refl
-with_placement c (Some p) given = refl
+same_words : (given : Option Place) → location_words (option_map as_location given) ≡ clause_words given
+same_words None = refl
+same_words (Some p) = refl
 
-one_renewal : (c : Component) (given : Option Place) → renewal (clause_of c) given ≡ change c given
-one_renewal c given = with_placement c c.placement given
+written_again : (text : List ℕ) (p : Placement) (given : Option Place) → is_plain text p ≡ true → is_at p.place given ≡ true
+    → joined (clause_words given) ≡ take (p.stop - p.start) (drop p.start text)
+written_again text p given plain stands =
+    let bytes = (bytes_eq-Decides (take (p.stop - p.start) (drop p.start text)) (joined (location_words p.place))).0 plain in
+    let place : p.place ≡ option_map as_location given = (stands_by p.place given).0 stands in
+    ap (λ (w : List (List ℕ)). joined w) (sym (same_words given)) ∙ ap (λ (l : Option Location). joined (location_words l)) (sym place) ∙ sym bytes
 
--- of all
+-- Of one component.
 
-of_found : (o : Option Component) (given : Option Place)
-    → option_and_then (λ k. renewal k given) (option_map clause_of o) ≡ option_and_then (λ c. change c given) o
-of_found None given = refl
-of_found (Some c) given = one_renewal c given
+plain_agrees : (text : List ℕ) (c : Component) (p : Placement) (given : Option Place) → is_plain text p ≡ true
+    → (test : Bool) → is_at p.place given ≡ test → Agree text (renewal (clause_with true p) given) (change (record c { placement = Some p }) given)
+plain_agrees text c p given plain true e = rw e (inr (refl, written_again text p given plain e))
+plain_agrees text c p given plain false e = rw e (inl refl)
 
-at_position : (cs : List Component) (g : ℕ × Option Place) → renewal_at (map clause_of cs) g ≡ change_at cs g
-at_position cs g =
-    ap (λ (o : Option ClauseFacts). option_and_then (λ k. renewal k g.1) o) (slice_get-map clause_of cs g.0) ∙ of_found (slice_get cs g.0) g.1
+clause_agrees : (text : List ℕ) (c : Component) (p : Placement) (given : Option Place) (test : Bool) → is_plain text p ≡ test
+    → Agree text (renewal (clause_with test p) given) (change (record c { placement = Some p }) given)
+clause_agrees text c p given true e = plain_agrees text c p given e (is_at p.place given) refl
+clause_agrees text c p given false e = agree_same text (change (record c { placement = Some p }) given)
 
-pub same_changes : (cs : List Component) (places : Given) → renewals (map clause_of cs) places ≡ changes cs places
-same_changes cs [] = refl
-same_changes cs (g ∷ places) =
-    ap (λ (o : Option Splice). cons_option o (renewals (map clause_of cs) places)) (at_position cs g)
-    ∙ ap (λ (ss : List Splice). cons_option (change_at cs g) ss) (same_changes cs places)
+with_placement : (text : List ℕ) (c : Component) (p : Option Placement) (given : Option Place)
+    → Agree text (renewal (clause_from text p c.semicolon) given) (change (record c { placement = p }) given)
+with_placement text c None given = agree_same text (change (record c { placement = None }) given)
+with_placement text c (Some p) given = clause_agrees text c p given (is_plain text p) refl
 
-pub same_text : (text : List ℕ) (cs : List Component) (places : Given) → renewed text (map clause_of cs) places ≡ exported text cs places
-same_text text cs places = ap (λ (ss : List Splice). spliced 0 ss text) (same_changes cs places)
+of_found : (text : List ℕ) (o : Option Component) (given : Option Place)
+    → Agree text (option_and_then (λ k. renewal k given) (option_map (clause_of text) o)) (option_and_then (λ c. change c given) o)
+of_found text None given = refl
+of_found text (Some c) given = with_placement text c c.placement given
+
+at_position : (text : List ℕ) (cs : List Component) (g : ℕ × Option Place) → Agree text (renewal_at (map (clause_of text) cs) g) (change_at cs g)
+at_position text cs g = rw (slice_get-map (clause_of text) cs g.0) (of_found text (slice_get cs g.0) g.1)
+
+-- the texts are the same
+pub same_text : (text : List ℕ) (cs : List Component) (places : Given) → CanBeRenewed text (map (clause_of text) cs) places
+    → renewed text (map (clause_of text) cs) places ≡ exported text cs places
+same_text text cs places can =
+    same_spliced text (renewal_at (map (clause_of text) cs)) (change_at cs) places (at_position text cs) can.rising
+
+-- What is replaced is the clause of the component.
+
+splice_is : (test : Bool) (p : Placement) (semicolon : ℕ) (given : Option Place)
+    → splice_at (clause_with test p) given ≡ clause_splice (Some p) semicolon given
+splice_is true p semicolon given = refl
+splice_is false p semicolon given = refl
+
+splice_from : (text : List ℕ) (p : Option Placement) (semicolon : ℕ) (given : Option Place)
+    → splice_at (clause_from text p semicolon) given ≡ clause_splice p semicolon given
+splice_from text None semicolon given = refl
+splice_from text (Some p) semicolon given = splice_is (is_plain text p) p semicolon given
+
+renewal_is : (text : List ℕ) (cs : List Component) (g : ℕ × Option Place) (c : Component) → slice_get cs g.0 ≡ Some c
+    → (test : Bool) → is_left (clause_of text c) g.1 ≡ test → IsOf cs g (renewal (clause_of text c) g.1)
+renewal_is text cs g c there true e = rw e tt
+renewal_is text cs g c there false e = rw e (c, there, splice_from text c.placement c.semicolon g.1)
+
+renewal_of : (text : List ℕ) (cs : List Component) (g : ℕ × Option Place) (o : Option Component) → slice_get cs g.0 ≡ o
+    → IsOf cs g (option_and_then (λ k. renewal k g.1) (option_map (clause_of text) o))
+renewal_of text cs g None e = tt
+renewal_of text cs g (Some c) e = renewal_is text cs g c e (is_left (clause_of text c) g.1) refl
+
+renewals_are : (text : List ℕ) (cs : List Component) (g : ℕ × Option Place) → IsOf cs g (renewal_at (map (clause_of text) cs) g)
+renewals_are text cs g = rw (slice_get-map (clause_of text) cs g.0) (renewal_of text cs g (slice_get cs g.0) refl)
 
 pub ready_for : (text : List ℕ) (cs : List Component) (places : Given) → def.Rising 0 (length text) cs → CanBeGiven cs places
-    → CanBeRenewed text (map clause_of cs) places
+    → CanBeRenewed text (map (clause_of text) cs) places
 ready_for text cs places rise can = record {
-  listed = rw (length-map cs clause_of) (listed 0 (length cs) places can.rise);
-  rising = rw (same_changes cs places) (rising (length text) places cs can.rise rise);
+  listed = rw (length-map cs (clause_of text)) (listed 0 (length cs) places can.rise);
+  rising = clauses_rise (length text) cs (renewal_at (map (clause_of text) cs)) places (length cs) rise (renewals_are text cs) can.rise;
 }

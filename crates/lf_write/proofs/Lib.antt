@@ -1,7 +1,10 @@
+pub mod Apart
 pub mod Before
 pub mod Behind
 pub mod Edits
 pub mod Entries
+pub mod Idle
+pub mod Keeping
 pub mod Kept
 pub mod Positions
 pub mod Reading

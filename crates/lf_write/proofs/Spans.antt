@@ -11,7 +11,7 @@ use Rattle.lf_write.specs.Export.{Rise, stands_at, clause_splice, change, change
 use Rattle.lf_write.proofs.Positions.{Given, change_of, changes_from, changes_are}
 
 -- from an earlier place on
-earlier : (from more len : ℕ) (ss : List Splice) → more ≤ from → Rising from len ss → Rising more len ss
+pub earlier : (from more len : ℕ) (ss : List Splice) → more ≤ from → Rising from len ss → Rising more len ss
 earlier from more len [] le h = omega (arith, le, h)
 earlier from more len (s ∷ ss) le h = (omega (arith, le, h.0), h.1, h.2)
 

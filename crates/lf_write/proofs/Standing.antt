@@ -56,7 +56,7 @@ is_there p =
 some_same : (a b : Location) → ◌≡◌ {A = Option Location} (Some a) (Some b) → a ≡ b
 some_same a b e = cc
 
-stands_by : (at : Option Location) (given : Option Place) → (is_at at given ≡ true) ↔ (at ≡ option_map as_location given)
+pub stands_by : (at : Option Location) (given : Option Place) → (is_at at given ≡ true) ↔ (at ≡ option_map as_location given)
 stands_by None None = ((λ h. refl), (λ h. refl))
 stands_by None (Some p) = ((λ h. absurd cc), (λ h. absurd cc))
 stands_by (Some l) None = ((λ h. absurd cc), (λ h. absurd cc))

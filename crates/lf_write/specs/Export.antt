@@ -1,7 +1,8 @@
 -- The exported text: the document's text with the placement clauses of components that are given other places written anew
 -- (LEF/DEF 5.8, DEF COMPONENTS).
-use Rattle.std.specs.Prelude.{◌≢◌, ℕ, ◌+◌, ◌≤◌, ◌<◌, ◌==◌, Bool, true, false, ◌&&◌, List, [], ◌∷◌, ◌++◌, map, length, All, IfSome, Option, Some, None, codes}
-use Rattle.std.specs.Prelude.{bytes_eq, filter_map, slice_get, if◌then◌else◌}
+use Rattle.std.specs.Prelude.{◌≢◌, ℕ, ◌+◌, ◌-◌, ◌≤◌, ◌<◌, ◌==◌, Bool, true, false, not, ◌&&◌, List, [], ◌∷◌, ◌++◌, map, length, All, IfSome, Option, Some, None, codes}
+use Rattle.std.specs.Prelude.{bytes_eq, drop, filter_map, slice_get, take, if◌then◌else◌}
+use Rattle.std.specs.Fmt.{signed_decimal}
 use Rattle.std.specs.Option.{option_and_then}
 use Rattle.std.specs.Ordering.{int_eq}
 use Rattle.std.specs.List.{enumerate_from}
@@ -75,25 +76,45 @@ exported text components places = spliced 0 (changes components places) text
 
 -- What is kept of a component for its export, once the document is gone.
 
--- its place, the offsets between which its clause is, or twice that of its semicolon, and whether it lacks a clause
+-- Its place, the offsets between which its clause is, or twice that of its semicolon, whether it lacks a clause, and whether its
+-- clause is plain. Of a component with a plain clause no place is kept.
 pub record ClauseFacts : Type 0 where
   pub place : Option Location
   pub start : ℕ
   pub stop : ℕ
   pub lacks : Bool
+  pub plain : Bool
 
 abbrev pub clause_at : ℕ → ℕ → Option Location → ClauseFacts
-clause_at start stop place = record { place = place; start = start; stop = stop; lacks = false }
+clause_at start stop place = record { place = place; start = start; stop = stop; lacks = false; plain = false }
+
+abbrev pub plain_clause : ℕ → ℕ → ClauseFacts
+plain_clause start stop = record { place = None; start = start; stop = stop; lacks = false; plain = true }
 
 abbrev pub no_clause : ℕ → ClauseFacts
-no_clause semicolon = record { place = None; start = semicolon; stop = semicolon; lacks = true }
+no_clause semicolon = record { place = None; start = semicolon; stop = semicolon; lacks = true; plain = false }
 
-abbrev pub clause_from : Option Placement → ℕ → ClauseFacts
-clause_from None semicolon = no_clause semicolon
-clause_from (Some p) semicolon = clause_at p.start p.stop p.place
+-- the words of the clause that is written for this location
+abbrev pub location_words : Option Location → List (List ℕ)
+location_words None = codes "+" ∷ codes "UNPLACED" ∷ []
+location_words (Some at) =
+    codes "+" ∷ codes "PLACED" ∷ codes "(" ∷ signed_decimal at.x ∷ signed_decimal at.y ∷ codes ")" ∷ orient_word at.orient ∷ []
 
-abbrev pub clause_of : Component → ClauseFacts
-clause_of c = clause_from c.placement c.semicolon
+-- a clause is plain if its bytes in the text are those that are written for its place
+abbrev pub is_plain : List ℕ → Placement → Bool
+is_plain text p = bytes_eq (take (p.stop - p.start) (drop p.start text)) (joined (location_words p.place))
+
+abbrev pub clause_with : Bool → Placement → ClauseFacts
+clause_with true p = plain_clause p.start p.stop
+clause_with false p = clause_at p.start p.stop p.place
+
+abbrev pub clause_from : List ℕ → Option Placement → ℕ → ClauseFacts
+clause_from text None semicolon = no_clause semicolon
+clause_from text (Some p) semicolon = clause_with (is_plain text p) p
+
+-- of a component of this text
+abbrev pub clause_of : List ℕ → Component → ClauseFacts
+clause_of text c = clause_from text c.placement c.semicolon
 
 -- the new clause, with a space behind it if there was none
 abbrev pub new_clause : Bool → Option Place → List ℕ
@@ -103,9 +124,13 @@ new_clause false given = joined (clause_words given)
 abbrev pub splice_at : ClauseFacts → Option Place → Splice
 splice_at k given = record { start = k.start; stop = k.stop; new = new_clause k.lacks given }
 
--- what is replaced if the component of this clause is given this place: nothing, if it is there
+-- whether the clause is left as it is if its component is given this place; a plain one is always written anew
+abbrev pub is_left : ClauseFacts → Option Place → Bool
+is_left k given = not k.plain && is_at k.place given
+
+-- what is replaced if the component of this clause is given this place: nothing, if the clause is left
 abbrev pub renewal : ClauseFacts → Option Place → Option Splice
-renewal k given = if is_at k.place given then None else Some (splice_at k given)
+renewal k given = if is_left k given then None else Some (splice_at k given)
 
 abbrev pub renewal_at : List ClauseFacts → ℕ × Option Place → Option Splice
 renewal_at clauses g = option_and_then (λ k. renewal k g.1) (slice_get clauses g.0)

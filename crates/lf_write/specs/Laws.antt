@@ -29,9 +29,10 @@ NothingChanges = (text : List ℕ) (components : List Component) (places : List 
 -- What is kept of the components of a text is enough for its export.
 pub record ClausesServe : Type 0 where
   pub same : (text : List ℕ) (components : List Component) (places : List (ℕ × Option Place))
-      → renewed text (map clause_of components) places ≡ exported text components places
+      → CanBeRenewed text (map (clause_of text) components) places
+      → renewed text (map (clause_of text) components) places ≡ exported text components places
   pub ready : (text : List ℕ) (d : Document) (places : List (ℕ × Option Place)) → document_of text ≡ Ok d → CanBeGiven d.components places
-      → CanBeRenewed text (map clause_of d.components) places
+      → CanBeRenewed text (map (clause_of text) d.components) places
 
 -- A component is at a place if and only if its location is that place; without a location it is at none.
 abbrev pub StandsThere : Type 0

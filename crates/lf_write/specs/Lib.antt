@@ -1,2 +1,3 @@
 pub mod Export
+pub mod Keeping
 pub mod Laws

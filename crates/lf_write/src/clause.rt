@@ -1,13 +1,14 @@
 //! Placement clauses as they are written.
 
-ghost use Rattle.std.specs.Prelude.{◌++◌, OnOk, codes};
+ghost use Rattle.std.specs.Prelude.{◌≡◌, ◌++◌, OnOk, Some, codes};
 ghost use Rattle.std.specs.Fmt.{signed_decimal};
 ghost use Rattle.std.specs.Io.KnownBytes.{Appends};
 ghost use Rattle.lf_lex.specs.Splices.{joined};
 ghost use Rattle.lf_texts.specs.Clauses.{clause_words};
-ghost use Rattle.lf_write.specs.Export.{new_clause};
+ghost use Rattle.lf_write.specs.Export.{location_words, new_clause};
 
 use itoa::Buffer;
+use lf_def::Location;
 use lf_floorplan::Place;
 use lf_orient::orient_word;
 use std::io;
@@ -21,26 +22,47 @@ fn put_number<W: Write>(out: &mut W, number: &i32) -> io::Result<()>
 }
 
 /// Writes `+ PLACED ( x y ) orient`.
-fn put_placed<W: Write>(out: &mut W, place: &Place) -> io::Result<()>
-    ensures { OnOk result (Appends (W.contents out.old) (W.contents out.new) (joined (clause_words (Some place.now)))) }
+fn put_placed<W: Write>(out: &mut W, at: &Location) -> io::Result<()>
+    ensures { OnOk result (Appends (W.contents out.old) (W.contents out.new) (joined (location_words (Some at.now)))) }
 {
     out.write_all(b"+ PLACED ( ")?;
-    put_number(out, &place.x)?;
+    put_number(out, &at.x)?;
     out.write_all(b" ")?;
-    put_number(out, &place.y)?;
+    put_number(out, &at.y)?;
     out.write_all(b" ) ")?;
-    out.write_all(orient_word(place.orient))?;
+    out.write_all(orient_word(at.orient))?;
     Ok(())
 }
 
-/// Writes the placement clause of a component at this place: `+ PLACED ( x y ) orient`, or `+ UNPLACED`.
+/// Writes the placement clause of a component at this location: `+ PLACED ( x y ) orient`, or `+ UNPLACED`.
+pub(crate) fn put_location<W: Write>(out: &mut W, location: &Option<Location>) -> io::Result<()>
+    ensures { OnOk result (Appends (W.contents out.old) (W.contents out.new) (joined (location_words location.now))) }
+{
+    match location {
+        Some(at) => put_placed(out, at),
+        None => out.write_all(b"+ UNPLACED"),
+    }
+}
+
+/// The place, as a document has it.
+fn location_of(place: &Option<Place>) -> Option<Location>
+    ensures { location_words result ≡ clause_words place.now }
+{
+    match place {
+        Some(place) => Some(Location {
+            x: place.x,
+            y: place.y,
+            orient: place.orient,
+        }),
+        None => None,
+    }
+}
+
+/// Writes the placement clause of a component at this place.
 fn put_clause<W: Write>(out: &mut W, place: &Option<Place>) -> io::Result<()>
     ensures { OnOk result (Appends (W.contents out.old) (W.contents out.new) (joined (clause_words place.now))) }
 {
-    match place {
-        Some(place) => put_placed(out, place),
-        None => out.write_all(b"+ UNPLACED"),
-    }
+    put_location(out, &location_of(place))
 }
 
 /// Writes the placement clause, and a space behind it.

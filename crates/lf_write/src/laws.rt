@@ -23,8 +23,8 @@ pub fn components_stand_where_they_are()
     ensures given { GivenStands }
 {}
 
-/// What is kept of the components of a text is enough for its export: the text that is made from it is the exported
-/// one, and places that the components can be given can be written with it.
+/// What is kept of the components of a text is enough for its export: places that the components can be given can be
+/// written with it, and the text that is made from it is then the exported one.
 pub fn clauses_serve()
     ensures { ClausesServe }
 {

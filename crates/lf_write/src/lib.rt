@@ -6,7 +6,7 @@ mod clauses;
 mod laws;
 mod text;
 
-pub use clauses::{Clause, clauses_of};
+pub use clauses::{Clauses, clauses_of};
 pub use laws::{
     clauses_serve, components_stand_where_they_are, exports_read_back, nothing_changes,
 };

@@ -9,7 +9,7 @@ ghost use Rattle.lf_write.specs.Export as spec;
 ghost use Rattle.lf_write.specs.Laws.{FitsText, ReadsBack};
 
 use crate::clause::put_new_clause;
-use crate::clauses::{Clause, clauses_of};
+use crate::clauses::{Clause, Clauses, clauses_of};
 use crate::laws::{clauses_serve, exports_read_back};
 use lf_def::{DefDoc, Location};
 use lf_floorplan::Place;
@@ -65,11 +65,11 @@ fn is_at(location: &Option<Location>, place: &Option<Place>) -> bool
     }
 }
 
-/// Whether the component of the clause is at the place.
-fn stands_at(clause: &Clause, place: &Option<Place>) -> bool
-    ensures { result ≡ spec.is_at clause.now.place place.now }
+/// Whether the clause is left as it is if its component is given the place.
+fn is_left(clause: &Clause, place: &Option<Place>) -> bool
+    ensures { result ≡ spec.is_left clause.now place.now }
 {
-    is_at(&clause.place(), place)
+    !clause.is_plain() && is_at(&clause.place(), place)
 }
 
 /// Writes the bytes from one offset up to another.
@@ -119,11 +119,12 @@ fn fits_text(place: &Option<Place>)
 }
 
 /// Writes the text with these places given to the components of these clauses: piece by piece, so that nothing is
-/// allocated. Every byte outside the clauses that change is copied.
+/// allocated. Every byte outside the clauses that are written anew is copied: a plain clause is, also if its component
+/// stays, since the same bytes are written then.
 pub fn write_export<G: Given, W: Write>(
     out: &mut W,
     text: &[u8],
-    clauses: &[Clause],
+    clauses: &Clauses,
     given: &G,
 ) -> io::Result<()>
     requires { CanBeRenewed text.now clauses.now (G.places given.now) }
@@ -136,9 +137,9 @@ pub fn write_export<G: Given, W: Write>(
             unreachable!();
         };
         fits_text(&place);
-        let clause = &clauses[position];
-        if !stands_at(clause, &place) {
-            at = put_change(out, text, at, clause, &place)?;
+        let clause = clauses.at(position);
+        if !is_left(&clause, &place) {
+            at = put_change(out, text, at, &clause, &place)?;
         }
     }
     put_rest(out, text, at)?;

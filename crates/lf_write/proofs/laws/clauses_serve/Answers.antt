@@ -3,6 +3,6 @@ use Rattle.lf_write.proofs.laws.clauses_serve.Goals as goal
 
 pub returns : goal.returns
 returns c = record {
-  same = λ text components places. same_text text components places;
+  same = λ text components places can. same_text text components places can;
   ready = λ text d places e can. ready_for text d.components places (c.components_rise.ensures text d e) can;
 }

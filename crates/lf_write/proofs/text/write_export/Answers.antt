@@ -2,7 +2,7 @@ use Rattle.std.proofs.Common.{sym, ◌∙◌, arith}
 use Rattle.lf_write.proofs.Writing.{all_looked, listed_next, none_looked, one_looked, ready, rest_within}
 use Rattle.lf_write.proofs.Writing.{written_change, written_first, written_last, written_standing}
 use Rattle.lf_write.proofs.text.write_export.Goals as goal
-use Rattle.lf_write.proofs.text.write_export.Goals.{then-not-stands_at+in_ok-at, else-not-stands_at}
+use Rattle.lf_write.proofs.text.write_export.Goals.{then-not-is_left+in_ok-at, else-not-is_left}
 
 pub loop-number-init : goal.loop-number-init
 loop-number-init g c = record {
@@ -13,25 +13,25 @@ loop-number-init g c = record {
 
 pub put_change-requires-clause-order : goal.put_change-requires-clause-order
 put_change-requires-clause-order g c =
-    let k = listed_next c.requires.listed (sym c.in-Some.ensures) c.index-clauses-position.is in
-    (ready k (sym c.stands_at.ensures ∙ c.if-not-stands_at.true) c.loop-number.invariant.written).0
+    let k = listed_next c.requires.listed (sym c.in-Some.ensures) c.at-clause.ensures in
+    (ready k (sym c.is_left.ensures ∙ c.if-not-is_left.true) c.loop-number.invariant.written).0
 
 pub put_change-requires-clause-within : goal.put_change-requires-clause-within
 put_change-requires-clause-within g c =
-    let k = listed_next c.requires.listed (sym c.in-Some.ensures) c.index-clauses-position.is in
-    (ready k (sym c.stands_at.ensures ∙ c.if-not-stands_at.true) c.loop-number.invariant.written).1
+    let k = listed_next c.requires.listed (sym c.in-Some.ensures) c.at-clause.ensures in
+    (ready k (sym c.is_left.ensures ∙ c.if-not-is_left.true) c.loop-number.invariant.written).1
 
 pub loop-number-preserved : goal.loop-number-preserved
 loop-number-preserved g c =
-    let k = listed_next c.requires.listed (sym c.in-Some.ensures) c.index-clauses-position.is in
+    let k = listed_next c.requires.listed (sym c.in-Some.ensures) c.at-clause.ensures in
     record {
-      written = elim c.if-not-stands_at.branch [
-        | then-not-stands_at+in_ok-at w ↦
+      written = elim c.if-not-is_left.branch [
+        | then-not-is_left+in_ok-at w ↦
             rw (w.out-is, w.at-is)
-            (written_change k (sym c.stands_at.ensures ∙ w.if-not-stands_at.true) c.loop-number.invariant.written w.in_ok-at.ensures.bytes
+            (written_change k (sym c.is_left.ensures ∙ w.if-not-is_left.true) c.loop-number.invariant.written w.in_ok-at.ensures.bytes
             w.in_ok-at.ensures.behind)
-        | else-not-stands_at w ↦
-            rw (w.out-is, w.at-is) (written_standing k (sym c.stands_at.ensures ∙ w.if-not-stands_at.false) c.loop-number.invariant.written)
+        | else-not-is_left w ↦
+            rw (w.out-is, w.at-is) (written_standing k (sym c.is_left.ensures ∙ w.if-not-is_left.false) c.loop-number.invariant.written)
       ];
       looked = one_looked (sym c.in-Some.ensures) c.fits_text.ensures c.loop-number.invariant.looked;
     }
