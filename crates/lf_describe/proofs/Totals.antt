@@ -1,11 +1,8 @@
 -- What the program found of a design is what a report says of it.
-use Rattle.std.proofs.Common.{◌≡◌, ℕ, zero, suc, ◌+◌, ◌<◌, Bool, List, [], ◌∷◌, ◌++◌, length, map, Option, Some, None, Result, refl, sym, ◌∙◌, ap, subst, arith, slice_get}
-use Rattle.std.specs.Prelude.{flat_map, filter, filter_map, count_by, is_none, is_some, option_map, option_and_then, ◌↔◌, IfOk, IsTrue, OnErr, OnOk}
-use Rattle.std.specs.List.{enumerate_from, range_with_len, cons_option}
-use Rattle.std.proofs.lemmas.Option.{slice_get_within, get_or_from_slice_get}
-use Rattle.std.proofs.lemmas.Bool.{false≢true}
+use Rattle.std.proofs.Common.{◌≡◌, ℕ, suc, ◌+◌, Bool, List, [], ◌∷◌, ◌++◌, length, map, Option, Some, Result, refl, sym, ◌∙◌, ap, subst, arith, slice_get}
+use Rattle.std.specs.Prelude.{flat_map, count_by, is_none, is_some, ◌↔◌, IfOk, IsTrue, OnErr, OnOk}
+use Rattle.std.specs.List.{enumerate_from}
 use Rattle.std.proofs.lemmas.Grind.{flat_map-append}
-use Rattle.std.proofs.lemmas.List.Sums.{length-filter}
 use Rattle.serde_json.specs.Data.{Data}
 use Rattle.lf_floorplan.specs.declared.frame.Frame.{Frame}
 use Rattle.lf_rules.specs.declared.rule.Broken.{Broken}
@@ -13,56 +10,14 @@ use Rattle.lf_rules.specs.declared.report.Listed.{Listed}
 use Rattle.lf_rules.specs.declared.report.Report.{Report}
 use Rattle.lf_rules.specs.Legalizer.{Legalizer}
 use Rattle.lf_rules.specs.Reports.{IsClean}
-use Rattle.lf_reports.specs.Reports.{AreVerdicts, broken_among, report_of, verdict_at, violation_at, violation_by, violation_of, violations_in}
+use Rattle.lf_reports.specs.Reports.{AreVerdicts, report_of, verdict_at, violations_in}
+use Rattle.lf_reports.proofs.LegalVerdicts.{illegal_are}
 use Rattle.std.specs.Io.KnownBytes.{Appends}
 use Rattle.lf_describe.specs.Written.{AppendsFront}
 use Rattle.lf_describe.specs.declared.told.Told.{Told}
 use Rattle.lf_describe.specs.declared.parts.TheConstants.{PARTS}
 use Rattle.lf_describe.specs.Description.{cell_data, cell_lines, design_data, fence_data, line_text, lines_of, lines_text, obstacle_lines, row_data, soft_data, total_data}
 use Rattle.lf_describe.specs.Parts.{Counts, cells_in, names_in, part_lines, part_text, parts_text}
-
--- ---- counts
-
-counted : {Y V : Type 0} (g : ℕ → Option Y) (n : ℕ) (vs : List (Option V)) →
-    ((k : ℕ) (v : Option V) → slice_get vs k ≡ Some v → is_some (g (n + k)) ≡ is_some v) →
-    length (filter_map g (range_with_len n (length vs))) ≡ length (filter is_some vs)
-counted g n [] same = refl
-counted {Y = Y} {V = V} g n (v ∷ vs) same =
-    step (g n) v (filter_map g (range_with_len (n + 1) (length vs))) (subst (λ (m : ℕ). is_some (g m) ≡ is_some v) (omega arith) (same 0 v refl))
-    (counted g (n + 1) vs (λ k u at. subst (λ (m : ℕ). is_some (g m) ≡ is_some u) (omega arith) (same (suc k) u at)))
-  where
-    step : (o : Option Y) (u : Option V) (rest : List Y) → is_some o ≡ is_some u → length rest ≡ length (filter is_some vs) →
-        length (cons_option o rest) ≡ length (filter is_some (u ∷ vs))
-    step None None rest e h = h
-    step (Some y) (Some u) rest e h = ap suc h
-    step None (Some u) rest e h = absurd (false≢true e)
-    step (Some y) None rest e h = absurd (false≢true (sym e))
-
-there_is : {X : Type 0} (xs : List X) (k : ℕ) → k < length xs → (x : X) × (slice_get xs k ≡ Some x)
-there_is [] k less = absurd (omega (arith, less))
-there_is (x ∷ xs) zero less = (x, refl)
-there_is (x ∷ xs) (suc k) less = there_is xs k (omega (arith, less))
-
-is_some_map : {X Y : Type 0} (h : X → Y) (o : Option X) → is_some (option_map h o) ≡ is_some o
-is_some_map h None = refl
-is_some_map h (Some x) = refl
-
--- as many verdicts say that a rule is broken as there are violations
-pub illegal_are : (l : Legalizer) (f : Frame) (cells : List (Listed (List ℕ))) (verdicts : List (Option Broken)) → AreVerdicts l f 0 cells verdicts →
-    count_by is_some verdicts ≡ length (violations_in l f 0 cells)
-illegal_are l f cells verdicts are =
-    sym (length-filter is_some verdicts) ∙ sym (counted (violation_at l f 0 cells) 0 verdicts (λ k v at. by k v at))
-    ∙ ap (λ (n : ℕ). length (filter_map (violation_at l f 0 cells) (range_with_len 0 n))) are.count
-  where
-    here : (own : ℕ) (v : Option Broken) (c : Listed (List ℕ)) → verdict_at verdicts own ≡ v → slice_get cells own ≡ Some c → is_some (violation_at l f 0 cells own) ≡ is_some v
-    here own v c is there =
-        ap (λ (o : Option (Listed (List ℕ))). is_some (option_and_then (violation_by l f 0 cells own) o)) there
-        ∙ is_some_map (violation_of cells c) (broken_among l f 0 cells own c) ∙ ap is_some (sym (are.each own c there) ∙ is)
-
-    by : (k : ℕ) (v : Option Broken) → slice_get verdicts k ≡ Some v → is_some (violation_at l f 0 cells (0 + k)) ≡ is_some v
-    by k v at =
-        let there = there_is cells k (subst (λ (n : ℕ). k < n) are.count (slice_get_within verdicts k v at)) in
-        subst (λ (n : ℕ). is_some (violation_at l f 0 cells n) ≡ is_some v) (omega arith) (here k v there.0 (get_or_from_slice_get verdicts k v None at) there.1)
 
 -- ---- lines
 
