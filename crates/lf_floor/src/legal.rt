@@ -20,6 +20,10 @@ use lf_reports::BrokenCell;
 use lf_rules::{Broken, Padding, legalizer_is_there, verdict_is_one};
 use std::alloc::AllocError;
 
+/// So many cells are put in the order of their places at a time: the list of them stays small beside the cells, and
+/// in a million cells those that are asked one after another still lie near each other.
+const BATCH: usize = 65536;
+
 /// Whether the cell is placed, and breaks no rule where it stands.
 fn stands_legal(placement: &Placement, id: CellId, padding: Padding) -> bool
     ensures { IsTrue result → StandsLegal placement.now.frame id.team padding.sites (map member_of (cells_of placement.now.cells id.team)) id.own }
@@ -60,8 +64,27 @@ fn mark_legal<S>(around: &Surroundings<'_, S>, tables: &Tables, own: usize, mark
     mark(marks, own);
 }
 
-/// For each of the team's cells, in loading order, whether it is placed, and team-legal where it stands. They are asked in the
-/// order of their places.
+/// Marks those of the team's cells of these ids that are placed, and team-legal where they stand. They are asked in the order of
+/// their places.
+///
+/// `Err` if an allocation fails.
+fn mark_batch<S>(
+    around: &Surroundings<'_, S>,
+    tables: &Tables,
+    ids: &[CellId],
+    marks: &mut Vec<bool>,
+) -> Result<(), AllocError>
+    ensures { AreMarked (frame_of tables.now) around.now.number around.now.padding.sites (cells_in around.now.number tables.now) marks.old.items
+        → AreMarked (frame_of tables.now) around.now.number around.now.padding.sites (cells_in around.now.number tables.now) marks.new.items }
+{
+    let order = by_place(around.alloc, tables.placement.cells(), ids)?;
+    for cell in &order {
+        mark_legal(around, tables, cell.own as usize, marks);
+    }
+    Ok(())
+}
+
+/// For each of the team's cells, in loading order, whether it is placed, and team-legal where it stands.
 ///
 /// `Err` if an allocation fails.
 pub(crate) fn legal_marks<S>(
@@ -70,10 +93,10 @@ pub(crate) fn legal_marks<S>(
 ) -> Result<Vec<bool>, AllocError>
     ensures { IfOk result (λ marks. AreMarked (frame_of tables.now) around.now.number around.now.padding.sites (cells_in around.now.number tables.now) marks.items) }
 {
-    let order = by_place(around.alloc, tables.placement.cells(), around.number)?;
-    let mut marks = vec![in around.alloc; false; order.len()]?;
-    for cell in &order {
-        mark_legal(around, tables, cell.own as usize, &mut marks);
+    let ids = tables.placement.cells().cells_of(around.number);
+    let mut marks = vec![in around.alloc; false; ids.len()]?;
+    for batch in ids.chunks(BATCH) {
+        mark_batch(around, tables, batch, &mut marks)?;
     }
     Ok(marks)
 }

@@ -1,7 +1,6 @@
-//! The cells of a team in the order of their places.
+//! Cells in the order of their places.
 
 ghost use Rattle.std.specs.Prelude.{◌≡◌, IfOk, IsPermutation, OnOk, map};
-ghost use Rattle.lf_cells.specs.Cells.{cells_of, ids_of};
 
 use lf_cells::{CellId, CellTable};
 use std::alloc::{AllocError, Global};
@@ -54,18 +53,18 @@ fn sort_by_place(list: &mut Vec<ByPlace>)
     list.sort_unstable_by_key(|cell| (cell.y, cell.x));
 }
 
-/// The team's cells in the order of their working places, from row to row and from left to right, so
+/// The cells of these ids in the order of their working places, from row to row and from left to right, so
 /// that those which are asked one after another lie side by side. Who calls it relies on no order.
 ///
 /// `Err` if an allocation fails.
 pub(crate) fn by_place(
     alloc: Global,
     cells: &CellTable,
-    number: usize,
+    ids: &[CellId],
 ) -> Result<Vec<ByPlace>, AllocError>
-    ensures { IfOk result (λ list. IsPermutation (map (λ id. id.own) (ids_of number (cells_of cells.now number))) (map (λ c. c.own) list.items)) }
+    ensures { IfOk result (λ list. IsPermutation (map (λ id. id.own) ids.now) (map (λ c. c.own) list.items)) }
 {
-    let mut list = all_standing(alloc, cells, cells.cells_of(number))?;
+    let mut list = all_standing(alloc, cells, ids)?;
     sort_by_place(&mut list);
     Ok(list)
 }

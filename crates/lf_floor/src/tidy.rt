@@ -1,6 +1,6 @@
 //! What `tidy` does.
 
-ghost use Rattle.std.specs.Prelude.{◌≡◌, List, IfOk, OnErr, OnOk};
+ghost use Rattle.std.specs.Prelude.{◌≡◌, [], List, IfOk, OnErr, OnOk};
 ghost use Rattle.lf_rules.specs.Legalizer.{Legalizer};
 ghost use Rattle.lf_cells.specs.declared.cell.Cell.{Cell};
 ghost use Rattle.lf_cells.specs.Cells.{cells_of, moved};
@@ -160,6 +160,15 @@ fn send_all<S: Seeker>(
     Ok(Tidy::Done(moved))
 }
 
+/// No move, with room for one of each cell that is not marked: a list that grows would take up to three times as much.
+///
+/// `Err` if an allocation fails.
+fn moves_for(alloc: Global, marks: &[bool]) -> Result<Moves, AllocError>
+    ensures { IfOk result (λ moves. moves ≡ []) }
+{
+    Moves::with_capacity(alloc, marks.iter().filter(|marked| !**marked).count())
+}
+
 impl Tables {
     /// Goes through the team's cells in loading order and sends each that is unplaced or breaks a
     /// rule to its best place: `NoPlace`, and no cell is moved, if one has none.
@@ -181,9 +190,9 @@ impl Tables {
         ensures fit { EntriesFit around.now.number self.new }
     {
         let marks = legal_marks(around, self)?;
+        let mut moves = moves_for(around.alloc, &marks)?;
         self.make_room(around.number)?;
         self.placement.places_stand();
-        let mut moves = Moves::new(around.alloc);
         match send_all(around, &mut self.placement, &mut moves, &marks) {
             Ok(Tidy::Done(moved)) => {
                 let revision = self.keep(around.number, session, moves);

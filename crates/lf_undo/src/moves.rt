@@ -1,6 +1,6 @@
 //! What an undo entry keeps: the cells that a command moved, with the places that they had.
 
-ghost use Rattle.std.specs.Prelude.{◌≡◌, ◌++◌, ◌∷◌, ◌<◌, [], OnOk, OnErr, length};
+ghost use Rattle.std.specs.Prelude.{◌≡◌, ◌++◌, ◌∷◌, ◌<◌, [], IfOk, OnOk, OnErr, length};
 ghost use Rattle.lf_undo.specs.Entries.{replaced};
 
 use crate::stacks::Stacks;
@@ -52,6 +52,17 @@ impl<A: Allocator> Moves<A> {
         Moves {
             moves: Vec::new(alloc),
         }
+    }
+
+    /// No move, with room for this many.
+    ///
+    /// `Err` if an allocation fails.
+    pub fn with_capacity(alloc: A, count: usize) -> Result<Self, AllocError>
+        ensures { IfOk result (λ moves. moves ≡ []) }
+    {
+        Ok(Moves {
+            moves: Vec::with_capacity(alloc, count)?,
+        })
     }
 
     /// Appends a move.
