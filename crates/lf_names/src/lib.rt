@@ -5,6 +5,7 @@
 mod lent;
 mod name_parts;
 mod pattern;
+mod stored;
 mod table;
 
 pub use name_parts::{Match, NameParts};

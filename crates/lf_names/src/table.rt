@@ -5,6 +5,7 @@ ghost use Rattle.std.specs.Option.{option_map};
 ghost use Rattle.lf_names.specs.Names.{position_of};
 ghost use Rattle.lf_names.specs.Adds.{Adds};
 
+use crate::stored::StoredName;
 use indexmap::IndexSet;
 use std::alloc::{AllocError, Allocator, Global};
 use std::hash::{BuildHasherDefault, FoldHasher};
@@ -22,19 +23,22 @@ pub enum Added {
 /// Distinct names, in first-seen order. A name's place in that order is its position, which does
 /// not change while the table grows.
 ///
+/// Names of up to 16 bytes lie in the table itself; a longer one takes memory of its own.
+///
 /// A name is looked up in a time that does not depend on their number, but for names chosen against
 /// the fixed hash.
 #[derive(Drop)]
 pub struct NameTable<A: Allocator + Copy = Global> {
-    names: IndexSet<Vec<u8, A>, BuildHasherDefault<FoldHasher>, A>,
+    names: IndexSet<StoredName<A>, BuildHasherDefault<FoldHasher>, A>,
 }
 
 impl<A: Allocator + Copy> Model for NameTable<A> {
     ghost use Rattle.std.specs.Prelude.{List, ℕ, map};
+    ghost use Rattle.lf_names.specs.Stored.{bytes_of};
 
     ghost Value = { List (List ℕ) };
 
-    ghost view = { λ t. map (λ v. v.items) t.names.keys };
+    ghost view = { λ t. map bytes_of t.names.keys };
 }
 
 impl<A: Allocator + Copy> NameTable<A> {
@@ -58,7 +62,7 @@ impl<A: Allocator + Copy> NameTable<A> {
             Some(position) => Ok(Added::Present(position)),
             None => {
                 let position = self.names.len();
-                let copy = Vec::from_slice(*self.names.allocator(), name)?;
+                let copy = StoredName::copied(*self.names.allocator(), name)?;
                 self.names.insert(copy)?;
                 Ok(Added::New(position))
             }

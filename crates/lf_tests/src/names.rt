@@ -96,6 +96,9 @@ fn finds_names_in_parts(rt: HostRuntime) -> Result<(), Fail> {
     Ok(())
 }
 
+/// A name of 17 bytes, which needs memory of its own.
+const LONG: &[u8] = b"seventeen_bytes_x";
+
 /// Whether the table of one name stays as it is where no memory is left.
 fn stays<'a>(
     alloc: Global,
@@ -103,10 +106,10 @@ fn stays<'a>(
     heap: &'a LocalHeap,
 ) -> Result<bool, AllocError> {
     let _blocks = take_all(alloc, heap)?;
-    if Vec::<u8, &LocalHeap>::with_capacity(heap, 1).is_ok() || table.add(b"b").is_ok() {
+    if Vec::<u8, &LocalHeap>::with_capacity(heap, 1).is_ok() || table.add(LONG).is_ok() {
         return Ok(false);
     }
-    Ok(holds(table, &[b"a"]) && table.find(b"b").is_none())
+    Ok(holds(table, &[b"a"]) && table.find(LONG).is_none())
 }
 
 /// Whether it does, and takes another name once memory is given back.
@@ -115,7 +118,7 @@ fn stays_and_grows(alloc: Global, heap: &LocalHeap) -> Result<bool, AllocError> 
     if table.add(b"a")? != Added::New(0) || !stays(alloc, &mut table, heap)? {
         return Ok(false);
     }
-    Ok(table.add(b"b")? == Added::New(1))
+    Ok(table.add(LONG)? == Added::New(1) && holds(&table, &[b"a", LONG]))
 }
 
 /// With every growth refused the table answers as before, and once memory is given back it grows.
