@@ -1,8 +1,8 @@
 -- How an occupancy is made: the boxes of all cells.
 use Rattle.std.proofs.Common.{◌≡◌, ◌≢◌, ◌⊎◌, inl, inr, ℕ, zero, suc, ◌+◌, ◌<◌, ◌≤◌, List, [], ◌∷◌, ◌++◌, Option, Some, None}
 use Rattle.std.proofs.Common.{length, get_or, set, take, map, eqb, slice_get, refl, sym, ap, subst, ◌∙◌, arith}
-use Rattle.std.specs.Prelude.{AllPairs, Contains, option_and_then, IsPermutation, IsSome, ◌↔◌, option_map}
-use Rattle.std.proofs.lemmas.List.Sorted.{Contains-permutation, IsPermutation-map, IsPermutation-sym}
+use Rattle.std.specs.Prelude.{AllPairs, Contains, option_and_then, IsPermutation, ◌↔◌, option_map}
+use Rattle.std.proofs.lemmas.List.Sorted.{IsPermutation-map}
 use Rattle.std.proofs.lemmas.Map.Keys.{IsDistinct-IsPermutation}
 use Rattle.std.proofs.lemmas.Map.Made.{AllPairs-from_IsDistinct, IsDistinct-from_AllPairs}
 use Rattle.std.proofs.lemmas.Bool.Decides.{Decides-eqb, eqb_tells}
@@ -15,11 +15,11 @@ use Rattle.lf_units.specs.declared.area.Rect.{Rect}
 use Rattle.lf_floorplan.specs.declared.frame.Frame.{Frame}
 use Rattle.lf_cells.specs.declared.cell.Cell.{Cell}
 use Rattle.lf_cells.specs.declared.cell.CellId.{CellId}
-use Rattle.lf_cells.specs.Cells.{AreAll, Cells, cell_at, cells_of, id_of, position_of}
+use Rattle.lf_cells.specs.Cells.{Cells, cell_at, cells_of, id_of}
 use Rattle.lf_occupancy.specs.declared.build.Waiting.{Waiting}
 use Rattle.lf_occupancy.specs.declared.lane.Lane.{Lane}
 use Rattle.lf_segments.specs.declared.strip.Strip.{Strip}
-use Rattle.lf_occupancy.specs.Building.{AreBare, AreFilled, AreFilledIn, IsBare, id_at}
+use Rattle.lf_occupancy.specs.Building.{AreBare, AreFilled, AreFilledIn, IsBare, IsBefore, id_at}
 use Rattle.lf_occupancy.specs.Floorplans.{box_of, boxes_in}
 use Rattle.lf_occupancy.specs.Occupied.{cell_box}
 use Rattle.lf_occupancy.specs.Lanes.{IsMarked, entries_in}
@@ -111,13 +111,18 @@ bare_lane cells area l none b =
       told = λ k d within. absurd (omega (arith, long, within));
     }
 
-pub lanes_bare : (f : Frame) (cells : Cells) (xs : List Strip) (lanes : List Lane) → AreBare (length xs) lanes → AreFilledIn f cells xs [] lanes
+none_before : (id : CellId) → IsBefore 0 0 id → ⊥
+none_before id before = elim before [ inl less ↦ omega (arith, less) | inr same ↦ let less = same.1 in omega (arith, less) ]
+
+-- no cell is done where the lanes are bare
+pub lanes_bare : (f : Frame) (cells : Cells) (xs : List Strip) (lanes : List Lane) → AreBare (length xs) lanes →
+    AreFilledIn f cells xs (IsBefore 0 0) lanes
 lanes_bare f cells xs lanes bare = record {
   boxes = no_boxes cells;
   filled = record {
     many = λ team. ap (λ (bs : List (Option Rect)). length bs) (row_made none_of cells.cells team) ∙ length-map (cells_of cells team) none_of;
-    done = λ id c there at. let within = there.1 in absurd (omega (arith, within));
-    rest = λ id never. no_box cells id.team id.own;
+    done = λ id c at before. absurd (none_before id before);
+    rest = λ id c at never. no_box cells id.team id.own;
   };
   marked = record {
     many = bare.many;
@@ -126,17 +131,6 @@ lanes_bare f cells xs lanes bare = record {
         (bare.each n e (let m = bare.many in omega (arith, m, within)));
   };
 }
-
--- the ids are those of all cells of the table
-abbrev pub AreIds : Cells → List CellId → Type 0
-AreIds cells ids = (id : CellId) → Contains ids id ↔ IsSome (cell_at cells id)
-
--- the order of ids is nothing to whose they are
-pub ids_moved : (cells : Cells) (all order : List CellId) → AreAll cells all → IsPermutation all order → AreIds cells order
-ids_moved cells all order are moved id = (
-  λ there. ((are.cells id).0) (Contains-permutation order all id (IsPermutation-sym all order moved) there),
-  λ some. Contains-permutation all order id moved ((are.cells id).1 some),
-)
 
 -- the cells of the first so many ids, by their positions
 pub waiting_further : (ids : List CellId) (n : ℕ) (list new : List Waiting) (w : Waiting) → n < length ids → w.at ≡ n → new ≡ list ++ w ∷ [] →
@@ -157,41 +151,42 @@ flips x y = elim (eqb_tells x y) [
   | inr away ↦ elim (eqb_tells y x) [ inl back ↦ absurd (away.1 (sym back.1)) | inr other ↦ away.0 ∙ sym other.0 ]
 ]
 
-pub ids_apart : (cells : Cells) (all order : List CellId) → AreAll cells all → IsPermutation all order → AllPairs (λ a b. a ≢ b) order
-ids_apart cells all order are moved i j d less within same =
+pub ids_apart : (ids order : List CellId) → ((i j : ℕ) (d : CellId) → i < j → j < length ids → (get_or ids i d).own < (get_or ids j d).own) →
+    IsPermutation ids order → AllPairs (λ a b. a ≢ b) order
+ids_apart ids order rise moved i j d less within same =
     let there = AllPairs-from_IsDistinct Decides-eqb (map pos order)
-    (IsDistinct-IsPermutation eqb flips (map pos all) (map pos order) (IsPermutation-map pos all order moved)
-    (IsDistinct-from_AllPairs Decides-eqb (map pos all) apart)) in
+    (IsDistinct-IsPermutation eqb flips (map pos ids) (map pos order) (IsPermutation-map pos ids order moved)
+    (IsDistinct-from_AllPairs Decides-eqb (map pos ids) apart)) in
     let long = length-map order pos in
     let a = get_or-map pos order i d 0 (omega (arith, less, within)) in
     let b = get_or-map pos order j d 0 within in
     there i j 0 less (omega (arith, long, within)) (a ∙ ap pos same ∙ sym b)
   where
     pos : CellId → ℕ
-    pos id = position_of cells id
+    pos id = id.own
 
     none : CellId
     none = record { team = 0; own = 0 }
 
-    apart : AllPairs (λ a b. a ≢ b) (map pos all)
+    apart : AllPairs (λ a b. a ≢ b) (map pos ids)
     apart i j d less within same =
-        let long = length-map all pos in
-        let a = get_or-map pos all i none d (omega (arith, long, less, within)) in
-        let b = get_or-map pos all j none d (omega (arith, long, within)) in
-        let up = are.rise i j none less (omega (arith, long, within)) in
+        let long = length-map ids pos in
+        let a = get_or-map pos ids i none d (omega (arith, long, less, within)) in
+        let b = get_or-map pos ids j none d (omega (arith, long, within)) in
+        let up = rise i j none less (omega (arith, long, within)) in
         omega (arith, a, b, up, same)
 
 -- the next cell is none of those before
-fresh_id : (ids : List CellId) (i : ℕ) (id : CellId) → AllPairs (λ a b. a ≢ b) ids → i < length ids → id ≡ get_or ids i id → Contains (take i ids) id → ⊥
+pub fresh_id : (ids : List CellId) (i : ℕ) (id : CellId) → AllPairs (λ a b. a ≢ b) ids → i < length ids → id ≡ get_or ids i id → Contains (take i ids) id → ⊥
 fresh_id ids i id apart within is (k, below, at) =
     let long = length-take i ids in
     let less : k < i = omega (arith, below, long, within) in
     apart k i id less within (sym (get_or-take i ids k id less) ∙ at ∙ is)
 
--- a cell of the list has a box, and another one may be put there
-pub has_cell : (f : Frame) (cells : Cells) (ids : List CellId) (id : CellId) (boxes : List (List (Option Rect))) (c : Cell) → AreFilled f cells ids boxes →
-    cell_at cells id ≡ Some c → HasCell boxes id
-has_cell f cells ids id boxes c filled there = record { team = has_team reach; own = has_own }
+-- a cell of the table has a box, and another one may be put there
+pub has_cell : (f : Frame) (cells : Cells) (Done : CellId → Type 0) (id : CellId) (boxes : List (List (Option Rect))) (c : Cell) →
+    AreFilled f cells Done boxes → cell_at cells id ≡ Some c → HasCell boxes id
+has_cell f cells Done id boxes c filled there = record { team = has_team reach; own = has_own }
   where
     has_own : id.own < length (get_or boxes id.team [])
     has_own = let m = filled.many id.team in let w = slice_get_within (cells_of cells id.team) id.own c there in omega (arith, m, w)
@@ -227,12 +222,29 @@ passed_now ids i id within is =
     let longer = length-take (i + 1) ids in
     (i, omega (arith, longer, within), get_or-take (i + 1) ids i id (omega arith) ∙ sym is)
 
+-- those done before, and this cell
+abbrev pub IsOneMore : (CellId → Type 0) → CellId → (CellId → Type 0) → Type 0
+IsOneMore Done id More = (other : CellId) → More other ↔ (Done other ⊎ (id ≡ other))
+
+-- one more id is passed
+pub one_passed : (Before : CellId → Type 0) (ids : List CellId) (i : ℕ) (id : CellId) → i < length ids → id ≡ get_or ids i id →
+    IsOneMore (λ other. Before other ⊎ Contains (take i ids) other) id (λ other. Before other ⊎ Contains (take (i + 1) ids) other)
+one_passed Before ids i id within is other = (
+  λ more. elim more [
+    | inl before ↦ inl (inl before)
+    | inr there ↦ elim (passed ids i id other within is there) [ inl old ↦ inl (inr old) | inr same ↦ inr same ]
+  ],
+  λ done. elim done [
+    | inl old ↦ elim old [ inl before ↦ inl before | inr there ↦ inr (passed_before ids i other within there) ]
+    | inr same ↦ inr (subst (λ (x : CellId). Contains (take (i + 1) ids) x) same (passed_now ids i id within is))
+  ],
+)
+
 -- one more cell has its box
-pub filled_further : (f : Frame) (cells : Cells) (ids : List CellId) (i : ℕ) (id : CellId) (box : Option Rect) (boxes : List (List (Option Rect))) →
-    i < length ids → id ≡ get_or ids i id → HasCell boxes id → ((c : Cell) → cell_at cells id ≡ Some c → box ≡ box_of f c) →
-    AreFilled f cells (take i ids) boxes →
-    AreFilled f cells (take (i + 1) ids) (set boxes id.team (set (get_or boxes id.team []) id.own box))
-filled_further f cells ids i id box boxes within is has said before = record {
+pub filled_further : (f : Frame) (cells : Cells) (Done More : CellId → Type 0) (id : CellId) (box : Option Rect) (boxes : List (List (Option Rect))) →
+    IsOneMore Done id More → HasCell boxes id → ((c : Cell) → cell_at cells id ≡ Some c → box ≡ box_of f c) → AreFilled f cells Done boxes →
+    AreFilled f cells More (set boxes id.team (set (get_or boxes id.team []) id.own box))
+filled_further f cells Done More id box boxes more has said before = record {
   many = λ team. elim (eqb_tells team id.team) [
     | inl same ↦
         let At : ℕ → Type 0 = λ t. length (get_or (set boxes id.team changed) t []) ≡ length (cells_of cells t) in
@@ -240,10 +252,10 @@ filled_further f cells ids i id box boxes within is has said before = record {
         (ap (λ xs. length xs) (get_or-set_same boxes id.team changed [] has.team) ∙ length-set (get_or boxes id.team []) id.own box ∙ before.many id.team)
     | inr apart ↦ ap (λ xs. length xs) (get_or-set_other boxes id.team team changed [] apart.1) ∙ before.many team
   ];
-  done = λ other c there at. elim (eqb_tells other.team id.team) [
-    | inr away ↦ still other (λ t o. away.1 t) ∙ before.done other c (among other there (λ t o. away.1 t)) at
+  done = λ other c at there. elim (eqb_tells other.team id.team) [
+    | inr away ↦ still other (λ t o. away.1 t) ∙ before.done other c at (among other there (λ t o. away.1 t))
     | inl same ↦ elim (eqb_tells other.own id.own) [
-      | inr away ↦ still other (λ t o. away.1 o) ∙ before.done other c (among other there (λ t o. away.1 o)) at
+      | inr away ↦ still other (λ t o. away.1 o) ∙ before.done other c at (among other there (λ t o. away.1 o))
       | inl also ↦
           let At : ℕ → ℕ → Type 0 = λ t o. cell_box (get_or (set boxes id.team changed) t []) o ≡ box_of f c in
           let Cell_at : ℕ → ℕ → Type 0 = λ t o. slice_get (cells_of cells t) o ≡ Some c in
@@ -251,11 +263,11 @@ filled_further f cells ids i id box boxes within is has said before = record {
           subst (λ t. At t other.own) (sym same.1) (subst (λ o. At id.team o) (sym also.1) (here ∙ said c there_is))
     ]
   ];
-  rest = λ other never. elim (eqb_tells other.team id.team) [
-    | inr away ↦ still other (λ t o. away.1 t) ∙ before.rest other (λ old. never (passed_before ids i other within old))
+  rest = λ other c at never. elim (eqb_tells other.team id.team) [
+    | inr away ↦ still other (λ t o. away.1 t) ∙ before.rest other c at (λ old. never ((more other).1 (inl old)))
     | inl same ↦ elim (eqb_tells other.own id.own) [
-      | inr away ↦ still other (λ t o. away.1 o) ∙ before.rest other (λ old. never (passed_before ids i other within old))
-      | inl also ↦ absurd (never (subst (λ (x : CellId). Contains (take (i + 1) ids) x) (id_is other same.1 also.1) (passed_now ids i id within is)))
+      | inr away ↦ still other (λ t o. away.1 o) ∙ before.rest other c at (λ old. never ((more other).1 (inl old)))
+      | inl also ↦ absurd (never ((more other).1 (inr (id_is other same.1 also.1))))
     ]
   ];
 }
@@ -281,8 +293,8 @@ filled_further f cells ids i id box boxes within is has said before = record {
           ∙ box_other (get_or boxes id.team []) id.own other.own box (λ own. apart same.1 own))
     ]
 
-    among : (other : CellId) → Contains (take (i + 1) ids) other → ((other.team ≡ id.team) → (other.own ≡ id.own) → ⊥) → Contains (take i ids) other
-    among other there apart = elim (passed ids i id other within is there) [
+    among : (other : CellId) → More other → ((other.team ≡ id.team) → (other.own ≡ id.own) → ⊥) → Done other
+    among other there apart = elim ((more other).0 there) [
       | inl old ↦ old
       | inr same ↦ absurd (apart (sym (ap (λ (x : CellId). x.team) same)) (sym (ap (λ (x : CellId). x.own) same)))
     ]
@@ -303,31 +315,33 @@ pub none_set : (xs : List Strip) (boxes : List (List (Option Rect))) (id : CellI
     AreLanes xs (set boxes id.team (set (get_or boxes id.team []) id.own None)) lanes
 none_set xs boxes id lanes nowhere are = subst (λ (bs : List (List (Option Rect))). AreLanes xs bs lanes) (sym (row_same boxes id.team id.own nowhere.at)) are
 
-some_of : (o : Option Cell) → IsSome o → (c : Cell) × (o ≡ Some c)
-some_of None some = absurd cc
-some_of (Some c) some = (c, refl)
-
--- so far the next cell stands nowhere
-pub next_nowhere : (f : Frame) (cells : Cells) (ids : List CellId) (i : ℕ) (id : CellId) (boxes : List (List (Option Rect))) →
-    AreIds cells ids → AllPairs (λ a b. a ≢ b) ids → i < length ids → id ≡ get_or ids i id → AreFilled f cells (take i ids) boxes → IsNowhere boxes id
-next_nowhere f cells ids i id boxes all apart within is filled =
-    let c = some_of (cell_at cells id) ((all id).0 (i, within, sym is)) in
-    record { known = has_cell f cells (take i ids) id boxes c.0 filled c.1; at = filled.rest id (fresh_id ids i id apart within is) }
-
 -- the next of the cells is marked
-pub one_filled : (f : Frame) (cells : Cells) (xs : List Strip) (ids : List CellId) (i : ℕ) (id : CellId) (old new : List Lane) →
-    AreIds cells ids → AllPairs (λ a b. a ≢ b) ids → i < length ids → id ≡ get_or ids i id → (was : AreFilledIn f cells xs (take i ids) old) →
+pub one_filled : (f : Frame) (cells : Cells) (xs : List Strip) (Done More : CellId → Type 0) (id : CellId) (c : Cell) (old new : List Lane) →
+    cell_at cells id ≡ Some c → (Done id → ⊥) → IsOneMore Done id More → (was : AreFilledIn f cells xs Done old) →
     (IsNowhere was.boxes id → AreLanes xs was.boxes old →
     AreLanes xs (set was.boxes id.team (set (get_or was.boxes id.team []) id.own (cell_box (get_or (boxes_in f cells) id.team []) id.own))) new) →
-    AreFilledIn f cells xs (take (i + 1) ids) new
-one_filled f cells xs ids i id old new all apart within is was marks =
-    let nowhere = next_nowhere f cells ids i id was.boxes all apart within is was.filled in
+    AreFilledIn f cells xs More new
+one_filled f cells xs Done More id c old new there fresh more was marks =
+    let has = has_cell f cells Done id was.boxes c was.filled there in
     let box : Option Rect = cell_box (get_or (boxes_in f cells) id.team []) id.own in
     record {
       boxes = set was.boxes id.team (set (get_or was.boxes id.team []) id.own box);
-      filled = filled_further f cells ids i id box was.boxes within is nowhere.known (box_said f cells id box refl) was.filled;
-      marked = marks nowhere was.marked;
+      filled = filled_further f cells Done More id box was.boxes more has (box_said f cells id box refl) was.filled;
+      marked = marks (record { known = has; at = was.filled.rest id c there fresh }) was.marked;
     }
+
+-- what is said of the same cells of the table
+pub filled_same : (f : Frame) (cells : Cells) (xs : List Strip) (Done Other : CellId → Type 0) (lanes : List Lane) →
+    ((id : CellId) (c : Cell) → cell_at cells id ≡ Some c → Done id ↔ Other id) → AreFilledIn f cells xs Done lanes → AreFilledIn f cells xs Other lanes
+filled_same f cells xs Done Other lanes same are = record {
+  boxes = are.boxes;
+  filled = record {
+    many = are.filled.many;
+    done = λ id c at other. are.filled.done id c at ((same id c at).1 other);
+    rest = λ id c at never. are.filled.rest id c at (λ done. never ((same id c at).0 done));
+  };
+  marked = are.marked;
+}
 
 -- the box of a cell of the list is the element there
 cell_box_at : (cells : List (Option Rect)) (k : ℕ) (d : Option Rect) → k < length cells → cell_box cells k ≡ get_or cells k d
@@ -335,13 +349,17 @@ cell_box_at [] k d within = absurd (omega (arith, within))
 cell_box_at (c ∷ cells) zero d within = refl
 cell_box_at (c ∷ cells) (suc k) d within = cell_box_at cells k d (omega (arith, within))
 
-some_cell : (cells : List Cell) (k : ℕ) → k < length cells → Cell
+pub some_cell : (cells : List Cell) (k : ℕ) → k < length cells → Cell
 some_cell [] k within = absurd (omega (arith, within))
 some_cell (c ∷ cells) k within = c
 
-pub all_filled : (f : Frame) (cells : Cells) (ids : List CellId) (boxes : List (List (Option Rect))) → AreIds cells ids → AreFilled f cells ids boxes →
-    (team : ℕ) → get_or boxes team [] ≡ map (box_of f) (cells_of cells team)
-all_filled f cells ids boxes all filled team = same_lists (get_or boxes team []) (map (box_of f) (cells_of cells team))
+-- all cells of the table are done
+abbrev pub AreAllDone : Cells → (CellId → Type 0) → Type 0
+AreAllDone cells Done = (id : CellId) (c : Cell) → cell_at cells id ≡ Some c → Done id
+
+pub all_filled : (f : Frame) (cells : Cells) (Done : CellId → Type 0) (boxes : List (List (Option Rect))) → AreAllDone cells Done →
+    AreFilled f cells Done boxes → (team : ℕ) → get_or boxes team [] ≡ map (box_of f) (cells_of cells team)
+all_filled f cells Done boxes all filled team = same_lists (get_or boxes team []) (map (box_of f) (cells_of cells team))
     (filled.many team ∙ sym (length-map (cells_of cells team) (box_of f))) each
   where
     own_cells : List Cell
@@ -354,12 +372,8 @@ all_filled f cells ids boxes all filled team = same_lists (get_or boxes team [])
         let c : Cell = get_or own_cells k (some_cell own_cells k inner) in
         let id : CellId = record { team = team; own = k } in
         let at : cell_at cells id ≡ Some c = slice_get-get_or own_cells k (some_cell own_cells k inner) inner in
-        let there : Contains ids id = (all id).1 (some_is (cell_at cells id) c at) in
-        sym (cell_box_at (get_or boxes team []) k d within) ∙ filled.done id c there at ∙ sym (get_or-map (box_of f) own_cells k
+        sym (cell_box_at (get_or boxes team []) k d within) ∙ filled.done id c at (all id c at) ∙ sym (get_or-map (box_of f) own_cells k
         (some_cell own_cells k inner) d inner)
-      where
-        some_is : (o : Option Cell) (c : Cell) → o ≡ Some c → IsSome o
-        some_is o c e = subst IsSome (sym e) refl
 
 -- lanes of the same boxes
 pub lanes_of_same : (xs : List Strip) (boxes other : List (List (Option Rect))) (lanes : List Lane) →
@@ -370,7 +384,7 @@ lanes_of_same xs boxes other lanes same are = record {
       subst (λ (cs : List (Option Rect)). IsMarked cs (get_or xs n d).area (get_or lanes n e)) (same (get_or xs n d).team) (are.each n d e within);
 }
 
-pub lanes_filled : (f : Frame) (cells : Cells) (xs : List Strip) (ids : List CellId) (lanes : List Lane) → AreIds cells ids → AreFilledIn f cells xs ids lanes →
-    AreLanes xs (boxes_in f cells) lanes
-lanes_filled f cells xs ids lanes all are =
-    lanes_of_same xs are.boxes (boxes_in f cells) lanes (λ team. all_filled f cells ids are.boxes all are.filled team ∙ sym (boxes_there f cells team)) are.marked
+pub lanes_filled : (f : Frame) (cells : Cells) (xs : List Strip) (Done : CellId → Type 0) (lanes : List Lane) → AreAllDone cells Done →
+    AreFilledIn f cells xs Done lanes → AreLanes xs (boxes_in f cells) lanes
+lanes_filled f cells xs Done lanes all are =
+    lanes_of_same xs are.boxes (boxes_in f cells) lanes (λ team. all_filled f cells Done are.boxes all are.filled team ∙ sym (boxes_there f cells team)) are.marked

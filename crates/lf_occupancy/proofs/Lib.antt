@@ -13,6 +13,7 @@ pub mod Showing
 pub mod Views
 pub mod Covering
 pub mod Building
+pub mod Parting
 pub mod Ones
 pub mod Counting
 pub mod Knowing

@@ -1,5 +1,5 @@
 -- The steps of making an occupancy.
-use Rattle.std.specs.Prelude.{◌≡◌, ℕ, pos, List, [], All, Contains, length, Option, None, Some, slice_index_or}
+use Rattle.std.specs.Prelude.{◌≡◌, ◌⊎◌, ◌<◌, ℕ, pos, List, [], All, length, Option, None, Some, slice_index_or}
 use Rattle.lf_units.specs.declared.area.Rect.{Rect}
 use Rattle.lf_floorplan.specs.declared.frame.Frame.{Frame}
 use Rattle.lf_cells.specs.declared.cell.Cell.{Cell}
@@ -26,14 +26,18 @@ pub record AreBare (count : ℕ) (lanes : List Lane) : Type 0 where
 abbrev pub id_at : List CellId → Waiting → CellId
 id_at ids w = slice_index_or ids w.at record { team = 0; own = 0 }
 
--- each team has a box for each of its cells: those of these ids are the cells' boxes, and all others None
-pub record AreFilled (f : Frame) (cells : Cells) (ids : List CellId) (boxes : List (List (Option Rect))) : Type 0 where
-  pub many : (team : ℕ) → length (slice_index_or boxes team []) ≡ length (cells_of cells team)
-  pub done : (id : CellId) (c : Cell) → Contains ids id → cell_at cells id ≡ Some c → cell_box (slice_index_or boxes id.team []) id.own ≡ box_of f c
-  pub rest : (id : CellId) → (Contains ids id → ⊥) → cell_box (slice_index_or boxes id.team []) id.own ≡ None
+-- the cell's team comes before that one, or it is that one and the cell's position among its cells is less
+abbrev pub IsBefore : ℕ → ℕ → CellId → Type 0
+IsBefore team own id = (id.team < team) ⊎ ((id.team ≡ team) × (id.own < own))
 
--- the lanes mark the boxes of the cells of these ids
-pub record AreFilledIn (f : Frame) (cells : Cells) (strips : List Strip) (ids : List CellId) (lanes : List Lane) : Type 0 where
+-- each team has a box for each of its cells: those of the cells that are done are the cells' boxes, and all others None
+pub record AreFilled (f : Frame) (cells : Cells) (Done : CellId → Type 0) (boxes : List (List (Option Rect))) : Type 0 where
+  pub many : (team : ℕ) → length (slice_index_or boxes team []) ≡ length (cells_of cells team)
+  pub done : (id : CellId) (c : Cell) → cell_at cells id ≡ Some c → Done id → cell_box (slice_index_or boxes id.team []) id.own ≡ box_of f c
+  pub rest : (id : CellId) (c : Cell) → cell_at cells id ≡ Some c → (Done id → ⊥) → cell_box (slice_index_or boxes id.team []) id.own ≡ None
+
+-- the lanes mark the boxes of the cells that are done
+pub record AreFilledIn (f : Frame) (cells : Cells) (strips : List Strip) (Done : CellId → Type 0) (lanes : List Lane) : Type 0 where
   pub boxes : List (List (Option Rect))
-  pub filled : AreFilled f cells ids boxes
+  pub filled : AreFilled f cells Done boxes
   pub marked : AreLanes strips boxes lanes

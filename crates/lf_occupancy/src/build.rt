@@ -1,9 +1,8 @@
 //! How an occupancy is built.
 
-ghost use Rattle.std.specs.Prelude.{◌≡◌, [], All, IfOk, IsPermutation, List, OnOk, Option, length, map, slice_index_or};
-ghost use Rattle.lf_cells.specs.Cells.{AreAll};
+ghost use Rattle.std.specs.Prelude.{◌≡◌, ◌+◌, ◌<◌, [], All, IfOk, IsPermutation, List, OnOk, Option, drop, length, map, slice_index_or, take};
 ghost use Rattle.lf_occupancy.specs.declared.build.Waiting.{Waiting};
-ghost use Rattle.lf_occupancy.specs.Building.{AreBare, id_at};
+ghost use Rattle.lf_occupancy.specs.Building.{AreBare, AreFilledIn, IsBefore, id_at};
 ghost use Rattle.lf_occupancy.specs.Floorplans.{HaveSize, boxes_in};
 ghost use Rattle.lf_units.specs.declared.area.Rect.{Rect};
 ghost use Rattle.lf_occupancy.specs.Lanes.{AreRising};
@@ -19,6 +18,10 @@ use lf_segments::Ground;
 use lf_units::Rect;
 use std::alloc::{AllocError, Global};
 
+/// So many cells of a team are put in the order of their places at a time: the list of them stays small
+/// beside the cells, and the strips of a team of no more cells are filled from left to right.
+const PART: usize = 65_536;
+
 /// This many empty lanes.
 fn bare_lanes(alloc: Global, count: usize) -> Result<Vec<Lane>, AllocError>
     ensures { IfOk result (λ lanes. AreBare count lanes.items) }
@@ -33,8 +36,8 @@ fn bare_lanes(alloc: Global, count: usize) -> Result<Vec<Lane>, AllocError>
     Ok(lanes)
 }
 
-/// The position of a cell among those of all teams, and its working place, in database units; 0 if it
-/// has none.
+/// The position of a cell among those that are put in order, and its working place, in database units; 0
+/// if it has none.
 #[derive(Clone, Copy)]
 pub(crate) struct Waiting {
     at: u32,
@@ -77,7 +80,7 @@ fn sort_by_place(list: &mut Vec<Waiting>)
     list.sort_unstable_by_key(|waiting| (waiting.y, waiting.x));
 }
 
-/// The cells of these ids in the order of their working places, from row to row and from left to right:
+/// The cells of these ids in the order of their working places, from row to row and from left to right: so
 /// strips are filled one after another, each from its left end on.
 fn by_place(alloc: Global, cells: &CellTable, ids: &[CellId]) -> Result<Vec<Waiting>, AllocError>
     ensures { IfOk result (λ list. IsPermutation ids.now (map (id_at ids.now) list.items)) }
@@ -118,25 +121,66 @@ fn mark_cell(
     settle(lanes, index, &frame.pitch.x, id, &rect)
 }
 
-/// Marks each of these cells in the strips, at its working place.
+/// As many of these ids, from that position on, as are put in order at a time; fewer at their end.
+fn part_of(ids: &[CellId], from: usize) -> &[CellId]
+    ensures { result.now ≡ take 65536 (drop from ids.now) }
+{
+    let rest = &ids[from.min(ids.len())..];
+    &rest[..PART.min(rest.len())]
+}
+
+/// Marks as many cells of the team, from that position on, as are put in order at a time; those before are
+/// marked. The order matters for speed alone.
 fn fill_in(
+    alloc: Global,
     lanes: &mut Vec<Lane>,
     index: &Ground,
     frame: &Frame,
     cells: &CellTable,
-    ids: &[CellId],
-    order: &[Waiting],
+    team: usize,
+    from: usize,
 ) -> Result<(), AllocError>
     requires sized { HaveSize frame.now cells.now }
-    requires bare { AreBare (length (felt_strips frame.now.pitch.x index.now.strips)) lanes.old.items }
-    requires all { AreAll cells.now ids.now }
-    requires order { IsPermutation ids.now (map (id_at ids.now) order.now) }
-    ensures { OnOk result (AreLanes (felt_strips frame.now.pitch.x index.now.strips) (boxes_in frame.now cells.now) lanes.new.items) }
+    requires before { AreFilledIn frame.now cells.now (felt_strips frame.now.pitch.x index.now.strips) (IsBefore team from) lanes.old.items }
+    ensures { OnOk result (AreFilledIn frame.now cells.now (felt_strips frame.now.pitch.x index.now.strips) (IsBefore team (from + 65536)) lanes.new.items) }
 {
-    for waiting in order {
+    let ids = part_of(cells.cells_of(team), from);
+    let order = by_place(alloc, cells, ids)?;
+    for waiting in &order {
         mark_cell(lanes, index, frame, cells, &id_waiting(ids, waiting))?;
     }
     Ok(())
+}
+
+/// Marks the cells of the team; those of the teams before are marked.
+fn fill_team(
+    alloc: Global,
+    lanes: &mut Vec<Lane>,
+    index: &Ground,
+    frame: &Frame,
+    cells: &CellTable,
+    team: usize,
+) -> Result<(), AllocError>
+    requires sized { HaveSize frame.now cells.now }
+    requires before { AreFilledIn frame.now cells.now (felt_strips frame.now.pitch.x index.now.strips) (IsBefore team 0) lanes.old.items }
+    ensures { OnOk result (AreFilledIn frame.now cells.now (felt_strips frame.now.pitch.x index.now.strips) (IsBefore (team + 1) 0) lanes.new.items) }
+{
+    for part in 0..cells.cells_of(team).len() / PART + 1 {
+        fill_in(alloc, lanes, index, frame, cells, team, part * PART)?;
+    }
+    Ok(())
+}
+
+/// A number above that of each of these cells' teams. It is asked of the cells, since no contract says how
+/// many teams a table has.
+fn teams_of(ids: &[CellId]) -> usize
+    ensures { All (λ id. id.team < result) ids.now }
+{
+    let mut teams = 0;
+    for id in ids {
+        teams = teams.max(id.team as usize + 1);
+    }
+    teams
 }
 
 /// The lanes of the strips, felt around, which mark the cells at their working places.
@@ -150,8 +194,8 @@ pub(crate) fn lanes_of(
     ensures { IfOk result (λ lanes. AreLanes (felt_strips frame.now.pitch.x index.now.strips) (boxes_in frame.now cells.now) lanes.items) }
 {
     let mut lanes = bare_lanes(alloc, index.strips().len())?;
-    let ids = cells.all();
-    let order = by_place(alloc, cells, ids)?;
-    fill_in(&mut lanes, index, frame, cells, ids, &order)?;
+    for team in 0..teams_of(cells.all()) {
+        fill_team(alloc, &mut lanes, index, frame, cells, team)?;
+    }
     Ok(lanes)
 }

@@ -1,15 +1,21 @@
-use Rattle.std.proofs.Common.{◌≡◌, List, arith, map, get_or, subst, sym, ◌∙◌}
-use Rattle.std.proofs.lemmas.List.{get_or-map, length-map, take_all}
+use Rattle.std.proofs.Common.{◌≡◌, ◌∙◌, ◌+◌, ◌<◌, arith, get_or, length, map, sym}
+use Rattle.std.proofs.lemmas.List.{get_or-map, length-map}
 use Rattle.lf_cells.specs.declared.cell.CellId.{CellId}
-use Rattle.lf_occupancy.specs.Building.{AreFilledIn, id_at}
+use Rattle.lf_cells.specs.Cells.{cells_of}
+use Rattle.lf_occupancy.specs.Building.{IsBefore, id_at}
 use Rattle.lf_occupancy.specs.Strips.{felt_strips}
-use Rattle.lf_occupancy.proofs.Building.{ids_apart, ids_moved, lanes_bare, lanes_filled, one_filled}
+use Rattle.lf_occupancy.proofs.Building.{filled_same, one_filled, one_passed}
+use Rattle.lf_occupancy.proofs.Parting.{IsPart, IsPassed, none_passed, part_cell, part_fresh, part_passed, part_put}
 use Rattle.lf_occupancy.proofs.Reaching.{lanes_rise}
 use Rattle.lf_occupancy.proofs.build.fill_in.Goals as goal
 
 pub loop-waiting-init : goal.loop-waiting-init
 loop-waiting-init c =
-    lanes_bare c.args.frame.now c.args.cells.now (felt_strips c.args.frame.now.pitch.x c.args.index.now.strips) c.args.lanes.now.items c.requires.bare
+    let team = c.args.team in
+    let from = c.args.from in
+    let os = map (id_at c.part_of-ids.result.now) c.deref-waiting-items.result.now in
+    filled_same c.args.frame.now c.args.cells.now (felt_strips c.args.frame.now.pitch.x c.args.index.now.strips) (IsBefore team from) (IsPassed team from os 0)
+    c.args.lanes.now.items (λ id cell there. none_passed team from os id) c.requires.before
 
 pub mark_cell-requires-clause-many : goal.mark_cell-requires-clause-many
 mark_cell-requires-clause-many c = c.loop-waiting.invariant.marked.many
@@ -22,26 +28,38 @@ pub loop-waiting-preserved : goal.loop-waiting-preserved
 loop-waiting-preserved c =
     let f = c.args.frame.now in
     let cells = c.args.cells.now in
-    let ids = c.args.ids.now in
-    let order = c.args.order.now in
+    let team = c.args.team in
+    let from = c.args.from in
+    let ids = c.part_of-ids.result.now in
+    let order = c.deref-waiting-items.result.now in
     let os = map (id_at ids) order in
     let xs = felt_strips f.pitch.x c.args.index.now.strips in
     let i = c.loop-waiting.waiting-index in
+    let are : IsPart 65536 from team (cells_of cells team) os =
+    part_put 65536 from team (cells_of cells team) c.cells_of.result.now ids c.in_ok-order.order.items order c.cells_of.ensures c.part_of-ids.ensures
+    c.in_ok-order.ensures c.deref-waiting-items.ensures.value in
     let many = length-map order (id_at ids) in
+    let within : i < length os = omega (arith, many) in
     let id : CellId = c.id_waiting.result in
     let is : id ≡ get_or os i id = c.id_waiting.ensures ∙ sym (get_or-map (id_at ids) order i _ id (omega arith)) in
-    one_filled f cells xs os i id c.loop-waiting.lanes.items c.mark_cell.new.lanes.items (ids_moved cells ids os c.requires.all c.requires.order)
-    (ids_apart cells ids os c.requires.all c.requires.order) (omega (arith, many)) is c.loop-waiting.invariant
+    let cell = part_cell 65536 from team cells os id are (i, within, sym is) in
+    one_filled f cells xs (IsPassed team from os i) (IsPassed team from os (i + 1)) id cell.0 c.loop-waiting.lanes.items c.mark_cell.new.lanes.items cell.1
+    (part_fresh 65536 from team (cells_of cells team) os i id are within is) (one_passed (IsBefore team from) os i id within is) c.loop-waiting.invariant
     (c.in_ok-mark_cell.ensures c.loop-waiting.invariant.boxes)
 
 pub returns : goal.returns
 returns c =
     let f = c.args.frame.now in
     let cells = c.args.cells.now in
-    let ids = c.args.ids.now in
-    let os = map (id_at ids) c.args.order.now in
-    let xs = felt_strips f.pitch.x c.args.index.now.strips in
-    let many = length-map c.args.order.now (id_at ids) in
-    lanes_filled f cells xs os c.loop-waiting.lanes.items (ids_moved cells ids os c.requires.all c.requires.order)
-    (subst (λ (is : List CellId). AreFilledIn f cells xs is c.loop-waiting.lanes.items) (take_all c.loop-waiting.waiting-index os (omega (arith, many)))
-    c.loop-waiting.invariant)
+    let team = c.args.team in
+    let from = c.args.from in
+    let ids = c.part_of-ids.result.now in
+    let order = c.deref-waiting-items.result.now in
+    let os = map (id_at ids) order in
+    let i = c.loop-waiting.waiting-index in
+    let are : IsPart 65536 from team (cells_of cells team) os =
+    part_put 65536 from team (cells_of cells team) c.cells_of.result.now ids c.in_ok-order.order.items order c.cells_of.ensures c.part_of-ids.ensures
+    c.in_ok-order.ensures c.deref-waiting-items.ensures.value in
+    let many = length-map order (id_at ids) in
+    filled_same f cells (felt_strips f.pitch.x c.args.index.now.strips) (IsPassed team from os i) (IsBefore team (from + 65536)) c.loop-waiting.lanes.items
+    (part_passed 65536 from team cells os i are (omega (arith, many))) c.loop-waiting.invariant

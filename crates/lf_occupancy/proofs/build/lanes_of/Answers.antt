@@ -1,17 +1,24 @@
-use Rattle.std.proofs.Common.{ℕ, List, ap, length, map, subst, sym, ◌∙◌}
-use Rattle.std.specs.Prelude.{IsPermutation}
+use Rattle.std.proofs.Common.{ℕ, List, ap, length, subst, sym, ◌∙◌}
 use Rattle.lf_segments.specs.declared.strip.Strip.{Strip}
-use Rattle.lf_occupancy.specs.declared.build.Waiting.{Waiting}
-use Rattle.lf_occupancy.specs.Building.{AreBare, id_at}
+use Rattle.lf_occupancy.specs.Building.{AreBare, IsBefore}
+use Rattle.lf_occupancy.specs.Strips.{felt_strips}
 use Rattle.lf_occupancy.proofs.Around.{felt_many}
+use Rattle.lf_occupancy.proofs.Building.{lanes_bare, lanes_filled}
+use Rattle.lf_occupancy.proofs.Parting.{all_passed}
 use Rattle.lf_occupancy.proofs.build.lanes_of.Goals as goal
 
-pub fill_in-requires-clause-bare : goal.fill_in-requires-clause-bare
-fill_in-requires-clause-bare c =
-    subst (λ (n : ℕ). AreBare n c.in_ok-lanes.lanes.items)
-    (ap (λ (xs : List Strip). length xs) c.strips.ensures ∙ sym (felt_many c.args.frame.now.pitch.x c.args.index.now.strips)) c.in_ok-lanes.ensures
+pub loop-team-init : goal.loop-team-init
+loop-team-init c =
+    let f = c.args.frame.now in
+    let strips = c.args.index.now.strips in
+    lanes_bare f c.args.cells.now (felt_strips f.pitch.x strips) c.in_ok-lanes.lanes.items
+    (subst (λ (n : ℕ). AreBare n c.in_ok-lanes.lanes.items) (ap (λ (xs : List Strip). length xs) c.strips.ensures ∙ sym (felt_many f.pitch.x strips))
+    c.in_ok-lanes.ensures)
 
-pub fill_in-requires-clause-order : goal.fill_in-requires-clause-order
-fill_in-requires-clause-order c =
-    subst (λ (ws : List Waiting). IsPermutation c.all-ids.result.now (map (id_at c.all-ids.result.now) ws)) (sym c.deref.ensures.value)
-    c.in_ok-order.ensures
+pub returns : goal.returns
+returns c =
+    let f = c.args.frame.now in
+    let cells = c.args.cells.now in
+    let team = c.loop-team.team in
+    lanes_filled f cells (felt_strips f.pitch.x c.args.index.now.strips) (IsBefore team 0) c.loop-team.lanes.items
+    (all_passed cells c.all.result.now c.teams_of-team-end.result team c.all.ensures c.teams_of-team-end.ensures c.loop-team-test.false) c.loop-team.invariant
