@@ -59,14 +59,13 @@ put_section old a b new first last entries e1 e2 e3 =
     put_lines old b new (first ∷ entries) last (put_others old a b (first ∷ []) entries (put_one old a first e1) e2) e3
 
 -- a whole text: lines in four parts, and a last line
-pub put_whole : (empty a b c d new : List ℕ) (l1 l2 l3 l4 : List (List (List ℕ))) (last : List (List ℕ)) → empty ≡ [] → a ≡ empty ++ flat_map line_of l1
+pub put_whole : (old a b c d new : List ℕ) (l1 l2 l3 l4 : List (List (List ℕ))) (last : List (List ℕ)) → a ≡ old ++ flat_map line_of l1
     → b ≡ a ++ flat_map line_of l2 → c ≡ b ++ flat_map line_of l3 → d ≡ c ++ flat_map line_of l4 → new ≡ d ++ line_of last
-    → new ≡ flat_map line_of (l1 ++ (l2 ++ (l3 ++ (l4 ++ last ∷ []))))
-put_whole empty a b c d new l1 l2 l3 l4 last none e1 e2 e3 e4 e5 =
-    let begun : a ≡ [] ++ flat_map line_of l1 = e1 ∙ ap (λ (l : List ℕ). l ++ flat_map line_of l1) none in
-    let whole = put_lines [] d new (((l1 ++ l2) ++ l3) ++ l4) last
-    (put_others [] c d ((l1 ++ l2) ++ l3) l4 (put_others [] b c (l1 ++ l2) l3 (put_others [] a b l1 l2 begun e2) e3) e4) e5 in
-    whole ∙ ap (λ (ls : List (List (List ℕ))). flat_map line_of ls) (regroup l1 l2 l3 l4 (last ∷ []))
+    → new ≡ old ++ flat_map line_of (l1 ++ (l2 ++ (l3 ++ (l4 ++ last ∷ []))))
+put_whole old a b c d new l1 l2 l3 l4 last e1 e2 e3 e4 e5 =
+    put_lines old d new (((l1 ++ l2) ++ l3) ++ l4) last
+    (put_others old c d ((l1 ++ l2) ++ l3) l4 (put_others old b c (l1 ++ l2) l3 (put_others old a b l1 l2 e1 e2) e3) e4) e5
+    ∙ ap (λ (ls : List (List (List ℕ))). old ++ flat_map line_of ls) (regroup l1 l2 l3 l4 (last ∷ []))
   where
     regroup : (a b c d e : List (List (List ℕ))) → (((a ++ b) ++ c) ++ d) ++ e ≡ a ++ (b ++ (c ++ (d ++ e)))
     regroup a b c d e = simp append_assoc

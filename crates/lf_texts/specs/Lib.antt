@@ -1,3 +1,4 @@
+pub mod Output
 pub mod Clauses
 pub mod TeamText
 pub mod Words

@@ -1,23 +1,24 @@
 //! The entries of a team's sections: its fence, its cells and its group.
 
-ghost use Rattle.std.specs.Prelude.{◌≡◌, ◌++◌, OnOk, map};
+ghost use Rattle.std.specs.Prelude.{◌≡◌, map};
 ghost use Rattle.std.specs.List.{flat_map};
 ghost use Rattle.lf_floorplan.specs.Boxes.{macro_of};
 ghost use Rattle.lf_lex.specs.Splices.{spaced};
 ghost use Rattle.lf_cells.specs.Cells.{cell_at, cells_of};
 ghost use Rattle.lf_texts.specs.Entries.{component_line, placed_words, spaced_name};
+ghost use Rattle.lf_texts.specs.Output.{Puts};
 ghost use Rattle.lf_texts.specs.TeamText.{component_words, group_words, line_of, rect_words, region_words};
 
-use crate::words::{Word, put, put_line, put_spaced};
+use crate::output::Output;
+use crate::words::{Word, put_line, put_spaced};
 use lf_cells::{CellId, CellTable};
 use lf_floorplan::{Frame, Place, Team};
 use lf_orient::orient_word;
 use lf_units::Rect;
-use std::alloc::AllocError;
 
-/// Appends the points of a rectangle: its lower left corner, and its upper right one.
-fn put_rect(out: &mut Vec<u8>, rect: &Rect) -> Result<(), AllocError>
-    ensures { OnOk result (out.new.items ≡ out.old.items ++ spaced (rect_words rect.now)) }
+/// Puts the points of a rectangle: its lower left corner, and its upper right one.
+fn put_rect<O: Output>(out: &mut O, rect: &Rect)
+    ensures { Puts O.took out.old out.new (spaced (rect_words rect.now)) }
 {
     put_spaced(
         out,
@@ -31,26 +32,25 @@ fn put_rect(out: &mut Vec<u8>, rect: &Rect) -> Result<(), AllocError>
             Word::Length(rect.y2),
             Word::Text(b")"),
         ],
-    )
+    );
 }
 
-/// Appends the points of the rectangles.
-fn put_rects(out: &mut Vec<u8>, rects: &[Rect]) -> Result<(), AllocError>
-    ensures { OnOk result (out.new.items ≡ out.old.items ++ spaced (flat_map rect_words rects.now)) }
+/// Puts the points of the rectangles.
+fn put_rects<O: Output>(out: &mut O, rects: &[Rect])
+    ensures { Puts O.took out.old out.new (spaced (flat_map rect_words rects.now)) }
 {
     for rect in rects {
-        put_rect(out, rect)?;
+        put_rect(out, rect);
     }
-    Ok(())
 }
 
-/// Appends the line of a fence.
-pub(crate) fn put_region(out: &mut Vec<u8>, fence: &Team) -> Result<(), AllocError>
-    ensures { OnOk result (out.new.items ≡ out.old.items ++ line_of (region_words fence.now)) }
+/// Puts the line of a fence.
+pub(crate) fn put_region<O: Output>(out: &mut O, fence: &Team)
+    ensures { Puts O.took out.old out.new (line_of (region_words fence.now)) }
 {
-    put(out, b"-")?;
-    put_spaced(out, &[Word::Text(fence.name.as_bytes())])?;
-    put_rects(out, fence.rects.as_slice())?;
+    out.put(b"-");
+    put_spaced(out, &[Word::Text(fence.name.as_bytes())]);
+    put_rects(out, fence.rects.as_slice());
     put_spaced(
         out,
         &[
@@ -59,8 +59,8 @@ pub(crate) fn put_region(out: &mut Vec<u8>, fence: &Team) -> Result<(), AllocErr
             Word::Text(b"FENCE"),
             Word::Text(b";"),
         ],
-    )?;
-    put(out, b"\n")
+    );
+    out.put(b"\n");
 }
 
 /// The name of the macro of that number; no byte if the frame has no such macro.
@@ -73,14 +73,14 @@ fn macro_name(frame: &Frame, number: usize) -> &[u8]
     }
 }
 
-/// Appends the line of a component with that name, macro and place.
-fn put_component_at<'x>(
-    out: &mut Vec<u8>,
+/// Puts the line of a component with that name, macro and place.
+fn put_component_at<'x, O: Output>(
+    out: &mut O,
     name: &'x [u8],
     macro_name: &'x [u8],
     place: Option<Place>,
-) -> Result<(), AllocError>
-    ensures { OnOk result (out.new.items ≡ out.old.items ++ line_of (placed_words name.now macro_name.now place)) }
+)
+    ensures { Puts O.took out.old out.new (line_of (placed_words name.now macro_name.now place)) }
 {
     match place {
         None => put_line(
@@ -113,14 +113,9 @@ fn put_component_at<'x>(
     }
 }
 
-/// Appends the line of the cell's component, at its working place.
-fn put_component(
-    out: &mut Vec<u8>,
-    frame: &Frame,
-    cells: &CellTable,
-    id: CellId,
-) -> Result<(), AllocError>
-    ensures { OnOk result (out.new.items ≡ out.old.items ++ component_line frame.now (cell_at cells.now id)) }
+/// Puts the line of the cell's component, at its working place.
+fn put_component<O: Output>(out: &mut O, frame: &Frame, cells: &CellTable, id: CellId)
+    ensures { Puts O.took out.old out.new (component_line frame.now (cell_at cells.now id)) }
 {
     match cells.cell(id) {
         Some(facts) => put_component_at(
@@ -129,57 +124,45 @@ fn put_component(
             macro_name(frame, facts.mac),
             cells.working(id),
         ),
-        None => Ok(()),
+        None => {}
     }
 }
 
-/// Appends the lines of the components of the team's cells, in loading order.
-pub(crate) fn put_components(
-    out: &mut Vec<u8>,
-    frame: &Frame,
-    cells: &CellTable,
-    team: usize,
-) -> Result<(), AllocError>
-    ensures { OnOk result (out.new.items ≡ out.old.items ++ flat_map line_of (map (component_words frame.now) (cells_of cells.now team))) }
+/// Puts the lines of the components of the team's cells, in loading order.
+pub(crate) fn put_components<O: Output>(out: &mut O, frame: &Frame, cells: &CellTable, team: usize)
+    ensures { Puts O.took out.old out.new (flat_map line_of (map (component_words frame.now) (cells_of cells.now team))) }
 {
     for id in cells.cells_of(team) {
-        put_component(out, frame, cells, *id)?;
+        put_component(out, frame, cells, *id);
     }
-    Ok(())
 }
 
-/// Appends a space and the cell's name.
-fn put_name(out: &mut Vec<u8>, cells: &CellTable, id: CellId) -> Result<(), AllocError>
-    ensures { OnOk result (out.new.items ≡ out.old.items ++ spaced_name (cell_at cells.now id)) }
+/// Puts a space and the cell's name.
+fn put_name<O: Output>(out: &mut O, cells: &CellTable, id: CellId)
+    ensures { Puts O.took out.old out.new (spaced_name (cell_at cells.now id)) }
 {
     match cells.cell(id) {
         Some(facts) => put_spaced(out, &[Word::Text(facts.name)]),
-        None => Ok(()),
+        None => {}
     }
 }
 
-/// Appends the names of the team's cells, in loading order, a space before each.
-fn put_names(out: &mut Vec<u8>, cells: &CellTable, team: usize) -> Result<(), AllocError>
-    ensures { OnOk result (out.new.items ≡ out.old.items ++ spaced (map (λ c. c.name) (cells_of cells.now team))) }
+/// Puts the names of the team's cells, in loading order, a space before each.
+fn put_names<O: Output>(out: &mut O, cells: &CellTable, team: usize)
+    ensures { Puts O.took out.old out.new (spaced (map (λ c. c.name) (cells_of cells.now team))) }
 {
     for id in cells.cells_of(team) {
-        put_name(out, cells, *id)?;
+        put_name(out, cells, *id);
     }
-    Ok(())
 }
 
-/// Appends the line of the group that binds the team's cells to the fence.
-pub(crate) fn put_group(
-    out: &mut Vec<u8>,
-    fence: &Team,
-    cells: &CellTable,
-    team: usize,
-) -> Result<(), AllocError>
-    ensures { OnOk result (out.new.items ≡ out.old.items ++ line_of (group_words fence.now (cells_of cells.now team))) }
+/// Puts the line of the group that binds the team's cells to the fence.
+pub(crate) fn put_group<O: Output>(out: &mut O, fence: &Team, cells: &CellTable, team: usize)
+    ensures { Puts O.took out.old out.new (line_of (group_words fence.now (cells_of cells.now team))) }
 {
-    put(out, b"-")?;
-    put_spaced(out, &[Word::Text(fence.name.as_bytes())])?;
-    put_names(out, cells, team)?;
+    out.put(b"-");
+    put_spaced(out, &[Word::Text(fence.name.as_bytes())]);
+    put_names(out, cells, team);
     put_spaced(
         out,
         &[
@@ -188,6 +171,6 @@ pub(crate) fn put_group(
             Word::Text(fence.name.as_bytes()),
             Word::Text(b";"),
         ],
-    )?;
-    put(out, b"\n")
+    );
+    out.put(b"\n");
 }

@@ -2,7 +2,9 @@
 #![tactic(auto)]
 
 mod entries;
+mod output;
 mod team;
 mod words;
 
-pub use team::team_def;
+pub use output::Output;
+pub use team::{put_team_def, team_def, team_def_length};

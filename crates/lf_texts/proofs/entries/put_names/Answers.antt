@@ -1,4 +1,4 @@
-use Rattle.std.proofs.Common.{◌++◌, ap, ◌∙◌}
+use Rattle.std.proofs.Common.{◌++◌, ap, refl, subst, ◌∙◌}
 use Rattle.std.specs.List.{flat_map}
 use Rattle.lf_cells.specs.Cells.{cell_at}
 use Rattle.lf_texts.specs.Entries.{spaced_name}
@@ -7,8 +7,10 @@ use Rattle.lf_texts.proofs.ByIds.{names_by_ids}
 use Rattle.lf_texts.proofs.entries.put_names.Goals as goal
 
 pub returns : goal.returns
-returns c =
-    put_all (λ id. spaced_name (cell_at c.args.cells.now id)) c.args.out.now.items c.loop-id.out.items c.cells_of-id-items.result.now c.loop-id.id-index
-    c.loop-id-test.false c.loop-id.invariant
-    ∙ ap (λ ids. c.args.out.now.items ++ flat_map (λ id. spaced_name (cell_at c.args.cells.now id)) ids) c.cells_of-id-items.ensures
-    ∙ ap (λ l. c.args.out.now.items ++ l) (names_by_ids c.args.cells.now c.args.team)
+returns g c = λ start before had.
+    subst (g.O.Output.took start c.loop-id.out)
+    (put_all (λ id. spaced_name (cell_at c.args.cells.now id)) before _ c.cells_of-id-items.result.now c.loop-id.id-index
+    c.loop-id-test.false refl
+    ∙ ap (λ ids. before ++ flat_map (λ id. spaced_name (cell_at c.args.cells.now id)) ids) c.cells_of-id-items.ensures
+    ∙ ap (λ l. before ++ l) (names_by_ids c.args.cells.now c.args.team))
+    (c.loop-id.invariant start before had)

@@ -1,7 +1,6 @@
-use Rattle.std.proofs.Common.{[], ◌∷◌, ◌++◌, map, length, sym, ap, ◌∙◌}
+use Rattle.std.proofs.Common.{[], ◌∷◌, ◌++◌, map, length, sym, ap, refl, subst, ◌∙◌}
 use Rattle.std.specs.Prelude.{codes, decimal}
 use Rattle.std.proofs.lemmas.List.{length-map}
-use Rattle.std.proofs.lemmas.Result.{on_ok_weaker}
 use Rattle.lf_cells.specs.Cells.{cells_of}
 use Rattle.lf_cells.proofs.TeamIds.{ids_long}
 use Rattle.lf_texts.specs.TeamText.{line_of, component_words}
@@ -9,13 +8,13 @@ use Rattle.lf_texts.proofs.Lines.{put_section}
 use Rattle.lf_texts.proofs.team.put_cells.Goals as goal
 
 pub returns : goal.returns
-returns c =
+returns g c =
     let lines = map (component_words c.args.frame.now) (cells_of c.args.cells.now c.args.team) in
-    on_ok_weaker c.put_end.result
-    (put_section c.args.out.now.items c.put_begin.new.out.items c.put_components.new.out.items c.put_end.new.out.items
+    λ start before had.
+    subst (g.O.Output.took start c.put_end.new.out)
+    (put_section before _ _ _
     (codes "COMPONENTS" ∷ decimal (length lines) ∷ codes ";" ∷ []) (codes "END" ∷ codes "COMPONENTS" ∷ []) lines
-    (c.in_ok-put_begin.ensures
-    ∙ ap (λ n. c.args.out.now.items ++ line_of (codes "COMPONENTS" ∷ decimal n ∷ codes ";" ∷ []))
+    (ap (λ n. before ++ line_of (codes "COMPONENTS" ∷ decimal n ∷ codes ";" ∷ []))
     (ids_long c.args.team (cells_of c.args.cells.now c.args.team) c.cells_of.result.now c.cells_of.ensures ∙ sym (length-map (cells_of c.args.cells.now c.args.team) (component_words c.args.frame.now))))
-    c.in_ok-put_components.ensures)
-    c.put_end.ensures
+    refl refl)
+    (c.put_end.ensures start _ (c.put_components.ensures start _ (c.put_begin.ensures start before had)))
