@@ -16,3 +16,4 @@ pub mod Sending
 pub mod Marking
 pub mod Ends
 pub mod Places
+pub mod Asked

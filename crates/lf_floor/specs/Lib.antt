@@ -5,3 +5,4 @@ pub mod Swapping
 pub mod Tidying
 pub mod Marking
 pub mod Reporting
+pub mod Responses

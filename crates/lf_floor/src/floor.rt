@@ -41,7 +41,7 @@ use std::marker::Model;
 pub struct Floor<S: Seeker> {
     alloc: Global,
     seeker: S,
-    tables: Tables,
+    pub(crate) tables: Tables,
 }
 
 impl<S: Seeker> Model for Floor<S> {
@@ -64,7 +64,7 @@ fn is_outside(name: &[u8]) -> bool
 
 /// The number of the team of that name: the fence teams in the frame's order, then the one
 /// named `-`.
-fn team_named(frame: &Frame, name: &[u8]) -> Option<usize>
+pub(crate) fn team_named(frame: &Frame, name: &[u8]) -> Option<usize>
     ensures found { result ≡ team_number frame.now name.now }
     ensures within { IfSome result (λ number. number < length frame.now.teams + 1) }
 {

@@ -14,6 +14,7 @@ mod legal;
 mod looks;
 mod order;
 mod report;
+mod response;
 mod sessions;
 mod surroundings;
 mod swap;
@@ -35,3 +36,4 @@ pub use lf_teams::{
     run_stays_legal, run_tidied_commits, step_keeps_committed, stuck_tidy_keeps, swap_makes_legal,
     teams_in_any_order, tidy_makes_legal, undo_brings_back, verb_keeps_team, verb_rows,
 };
+pub use response::Response;

@@ -1,5 +1,6 @@
 pub mod Fitting
 pub mod Parts
+pub mod UnderWay
 pub mod Steps
 pub mod Finishing
 pub mod Telling

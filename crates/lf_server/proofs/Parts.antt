@@ -9,6 +9,9 @@ use Rattle.lf_proto.specs.declared.reply.Reply.{Reply}
 use Rattle.lf_proto.specs.declared.reply.Reply.TheVariants.{Report, Def}
 use Rattle.lf_proto.specs.ReplyText.{line_text}
 use Rattle.lf_teams.specs.States.{FloorState}
+use Rattle.lf_floor.specs.Responses.{def_text, reply_in}
+use Rattle.lf_floor.specs.declared.response.Response.{Response}
+use Rattle.lf_floor.specs.declared.response.Response.TheVariants.{Def as Apart}
 use Rattle.lf_server.specs.Exchanges.{text_of}
 
 -- a front of the bytes was written
@@ -16,17 +19,23 @@ abbrev pub Front : Option (List ℕ) → Option (List ℕ) → List ℕ → Type
 Front a b bytes = (n : ℕ) × Appends a b (take n bytes)
 
 -- a front of the first part is one of the whole
-pub front_first : {T E : Type 0} (r : Result T E) (a b : Option (List ℕ)) (x y : List ℕ) → Front a b x → OnErr r (Front a b (x ++ y))
-front_first (Ok t) a b x y front = tt
-front_first (Err e) a b x y (n, written) =
+pub first_front : (a b : Option (List ℕ)) (x y : List ℕ) → Front a b x → Front a b (x ++ y)
+first_front a b x y (n, written) =
     (min n (length x), subst (Appends a b) (sym (take-append-le (min n (length x)) x y (omega arith) ∙ take_min n x)) written)
 
+pub front_first : {T E : Type 0} (r : Result T E) (a b : Option (List ℕ)) (x y : List ℕ) → Front a b x → OnErr r (Front a b (x ++ y))
+front_first (Ok t) a b x y front = tt
+front_first (Err e) a b x y front = first_front a b x y front
+
 -- so are the first part and a front of the second
+pub front_behind : (a b c : Option (List ℕ)) (x y : List ℕ) → Appends a b x → Front b c y → Front a c (x ++ y)
+front_behind a b c x y first (n, written) =
+    (length x + n, subst (Appends a c) (sym (take-append-add x y n)) (Appends-more a b c x (take n y) first written))
+
 pub front_after : {T E : Type 0} (r : Result T E) (a b c : Option (List ℕ)) (x y : List ℕ) → Appends a b x → OnErr r (Front b c y)
     → OnErr r (Front a c (x ++ y))
 front_after (Ok t) a b c x y first front = tt
-front_after (Err e) a b c x y first (n, written) =
-    (length x + n, subst (Appends a c) (sym (take-append-add x y n)) (Appends-more a b c x (take n y) first written))
+front_after (Err e) a b c x y first front = front_behind a b c x y first front
 
 -- the parts of a report's text
 pub report_parts : (floor : FloorState) (team : List ℕ) (reply : Reply) (text bytes : List ℕ) → reply ≡ Report text → bytes ≡ text
@@ -37,3 +46,9 @@ report_parts floor team reply text bytes is shown = rw (is, shown) (sym (append-
 pub def_parts : (floor : FloorState) (team : List ℕ) (reply : Reply) (text line counted bytes : List ℕ) → reply ≡ Def text → counted ≡ text
     → line ≡ line_text (codes "ok" ∷ decimal (length counted) ∷ []) → bytes ≡ text → line ++ bytes ≡ text_of floor team reply
 def_parts floor team reply text line counted bytes is same line_is shown = rw (is, line_is, same, shown) refl
+
+-- the line before a DEF text that is put in pieces, and the text
+pub response_parts : (floor : FloorState) (team : List ℕ) (response : Response) (count : ℕ) (line : List ℕ) → response ≡ Apart count
+    → count ≡ length (def_text floor team) → line ≡ line_text (codes "ok" ∷ decimal count ∷ [])
+    → line ++ def_text floor team ≡ text_of floor team (reply_in floor team response)
+response_parts floor team response count line is counted line_is = rw (is, line_is, counted) refl

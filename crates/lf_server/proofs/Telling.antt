@@ -18,7 +18,8 @@ use Rattle.lf_teams.specs.Runs.{Run, asked}
 use Rattle.lf_teams.proofs.Answering.{own_answer, others_kept}
 use Rattle.lf_teams.proofs.Isolation.{step_frame}
 use Rattle.lf_server.specs.Devices.{Writer}
-use Rattle.lf_server.specs.Exchanges.{AnswersTo, Exchange, Exchanges, asked_on, cells_in, name_in, team_of, text_of}
+use Rattle.lf_floor.specs.Responses.{team_of}
+use Rattle.lf_server.specs.Exchanges.{AnswersTo, Exchange, Exchanges, asked_on, cells_in, name_in, text_of}
 use Rattle.lf_server.specs.Endings.{Comes}
 use Rattle.lf_server.specs.Laws.{commands, replies, told_before, texts_told, with_command, with_reply}
 use Rattle.lf_server.specs.declared.serving.Ending.{Ending}

@@ -13,6 +13,7 @@ use Rattle.lf_teams.specs.States.{FloorState}
 use Rattle.lf_teams.specs.Teams.{state_of}
 use Rattle.lf_teams.specs.Outcomes.{name_at}
 use Rattle.lf_teams.specs.Steps.{Step}
+use Rattle.lf_floor.specs.Responses.{team_of}
 use Rattle.lf_server.specs.Devices.{Writer, Sends, Breaks}
 
 -- a line without its line end, or None if it is over the limit
@@ -49,11 +50,6 @@ name_in floor team (Some own) = unwrap_or (option_and_then (λ s. name_at s.cell
 -- the text of a reply to a command of the team
 abbrev pub text_of : FloorState → List ℕ → Reply → List ℕ
 text_of floor team reply = reply_text reply (name_in floor team (cells_in reply).0) (name_in floor team (cells_in reply).1)
-
--- the team that a command is to; 'bye' is to none
-abbrev pub team_of : Command (List ℕ) Place → List ℕ
-team_of Bye = []
-team_of (To team order) = team
 
 -- the reply carries a text of any length: a report, or a team's DEF text
 abbrev pub is_long : Reply → Bool

@@ -1,4 +1,5 @@
 pub mod Devices
+pub mod Pieces
 pub mod Exchanges
 pub mod Endings
 pub mod Progress

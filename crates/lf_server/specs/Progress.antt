@@ -11,7 +11,8 @@ use Rattle.lf_proto.specs.Stream.{lines_of}
 use Rattle.lf_proto.specs.Pieces.{lines_from, pieces}
 use Rattle.lf_teams.specs.States.{FloorState}
 use Rattle.lf_server.specs.Devices.{Writer, Sends, Breaks}
-use Rattle.lf_server.specs.Exchanges.{AnswersTo, Exchange, Exchanges, Line, asked_on, is_bye, lines, team_of, text_of}
+use Rattle.lf_floor.specs.Responses.{team_of}
+use Rattle.lf_server.specs.Exchanges.{AnswersTo, Exchange, Exchanges, Line, asked_on, is_bye, lines, text_of}
 use Rattle.lf_server.specs.Endings.{ActedOn, Comes, NoneIsBye, ended_lines}
 use Rattle.lf_server.specs.declared.serving.Ending.{Ending}
 use Rattle.lf_server.specs.declared.serving.Ending.TheVariants.{Bye, ReadFault, WriteFault, OutOfMemory}

@@ -3,6 +3,7 @@
 #![tactic(auto)]
 
 mod laws;
+mod pieces;
 mod reply;
 mod sending;
 mod serving;

@@ -1,17 +1,19 @@
 //! Answers to lines, and the texts of short ones.
 
-ghost use Rattle.std.specs.Prelude.{◌≡◌, ◌≤◌, decimal, false, length, option_map, vec_capacity};
+ghost use Rattle.std.specs.Prelude.{◌≡◌, ◌≤◌, ℕ, decimal, false, length, option_map, vec_capacity};
 ghost use Rattle.std.specs.Fmt.{signed_decimal};
 ghost use Rattle.lf_orient.specs.Words.{orient_word};
 ghost use Rattle.lf_rules.specs.Legalizer.{Legalizer};
 ghost use Rattle.lf_proto.specs.Commands.{command_of};
 ghost use Rattle.lf_proto.specs.ReplyText.{reply_text};
 ghost use Rattle.lf_proto.specs.declared.reply.Reply.TheVariants.{Refused};
+ghost use Rattle.lf_floor.specs.Responses.{def_text, reply_in};
+ghost use Rattle.lf_floor.specs.declared.response.Response.TheVariants.{Def as Apart};
 ghost use Rattle.lf_server.specs.Exchanges.{asked_on, asks_end, cells_in, is_long, name_in, text_of};
 ghost use Rattle.lf_server.specs.Connections.{Stays};
 ghost use Rattle.lf_server.specs.Progress.{IsAnswered, team_asked};
 
-use lf_floor::Floor;
+use lf_floor::{Floor, Response};
 use lf_floorplan::Place;
 use lf_legalize::Seeker;
 use lf_proto::{Command, Refusal, Reply, Request, parse_line, reply_text};
@@ -153,13 +155,15 @@ pub(crate) fn team_asked<'a>(request: &Option<Request<'a>>) -> &'a [u8]
     }
 }
 
-/// Answers a line: one step of the floor, or `BadRequest`.
-pub(crate) fn answer<K: Seeker + Drop>(floor: &mut Floor<K>, request: &Option<Request>) -> Reply
+/// Answers a line: one step of the floor, or `BadRequest`. A DEF text is still to be put.
+pub(crate) fn answer<K: Seeker + Drop>(floor: &mut Floor<K>, request: &Option<Request>) -> Response
     ensures stays { Stays floor.old floor.new }
-    ensures answered { (l : Legalizer) → IsAnswered l floor.old (option_map command_of request.now) result floor.new }
+    ensures answered { (l : Legalizer) → IsAnswered l floor.old (option_map command_of request.now)
+        (reply_in floor.new (team_asked (option_map command_of request.now)) result) floor.new }
+    ensures length { (count : ℕ) → result ≡ Apart count → count ≡ length (def_text floor.new (team_asked (option_map command_of request.now))) }
 {
     match request {
-        None => Reply::Refused(Refusal::BadRequest),
-        Some(request) => floor.step(request),
+        None => Response::Whole(Reply::Refused(Refusal::BadRequest)),
+        Some(request) => floor.respond(request),
     }
 }

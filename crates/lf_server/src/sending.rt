@@ -1,19 +1,23 @@
 //! Replies that are sent.
 
-ghost use Rattle.std.specs.Prelude.{◌≡◌, ◌≤◌, ◌+◌, ◌++◌, ◌∷◌, [], ℕ, OnErr, OnOk, codes, decimal, length, take, true, vec_capacity, vec_len};
+ghost use Rattle.std.specs.Prelude.{◌≡◌, ◌≤◌, ◌+◌, ◌++◌, ◌∷◌, [], ℕ, OnErr, OnOk, codes, decimal, false, length, take, true, vec_capacity, vec_len};
 ghost use Rattle.std.specs.Io.KnownBytes.{Appends};
 ghost use Rattle.lf_proto.specs.ReplyText.{line_text};
+ghost use Rattle.lf_floor.specs.Responses.{def_text, reply_in};
+ghost use Rattle.lf_floor.specs.declared.response.Response.TheVariants.{Def as Apart};
 ghost use Rattle.lf_server.specs.Exchanges.{text_of};
+ghost use Rattle.lf_server.specs.Pieces.{IsUnderWay, has_failed_since};
 
+use crate::pieces::Pieces;
 use crate::reply::put_short;
 use itoa::Buffer;
 use lf_devices::{DeviceFault, Sink, send};
-use lf_floor::Floor;
+use lf_floor::{Floor, Response};
 use lf_legalize::Seeker;
 use lf_proto::Reply;
 
 /// Appends bytes for which there is room.
-fn put(out: &mut Vec<u8>, bytes: &[u8])
+pub(crate) fn put(out: &mut Vec<u8>, bytes: &[u8])
     requires room { vec_len out.old + length bytes.now ≤ vec_capacity out.old }
     ensures items { out.new.items ≡ out.old.items ++ bytes.now }
     ensures len { vec_len out.new ≡ vec_len out.old + length bytes.now }
@@ -38,7 +42,11 @@ fn put_def_line(text: &mut Vec<u8>, count: usize)
 }
 
 /// Sends the first bytes and then the second, as `send` does.
-fn send_both<W: Sink>(sink: &mut W, first: &[u8], second: &[u8]) -> Result<(), DeviceFault>
+pub(crate) fn send_both<W: Sink>(
+    sink: &mut W,
+    first: &[u8],
+    second: &[u8],
+) -> Result<(), DeviceFault>
     ensures ok { OnOk result (Appends (W.contents sink.old) (W.contents sink.new) (first.now ++ second.now)) }
     ensures flushed { OnOk result (W.is_flushed sink.new ≡ true) }
     ensures healthy { OnOk result (W.has_failed sink.new ≡ W.has_failed sink.old) }
@@ -52,7 +60,7 @@ fn send_both<W: Sink>(sink: &mut W, first: &[u8], second: &[u8]) -> Result<(), D
 
 /// Sends the text of a reply to a command of the team, as `send` does. A report or a DEF text is sent as it lies in the reply; the
 /// line before a DEF text, and any other reply, goes through the buffer.
-pub(crate) fn send_reply<K: Seeker + Drop, W: Sink>(
+fn send_reply<K: Seeker + Drop, W: Sink>(
     sink: &mut W,
     text: &mut Vec<u8>,
     floor: &Floor<K>,
@@ -80,6 +88,66 @@ pub(crate) fn send_reply<K: Seeker + Drop, W: Sink>(
         _ => {
             put_short(text, floor, team, reply);
             send(sink, text.as_slice())
+        }
+    }
+}
+
+/// Puts the DEF text of the team to the sink, of which no call has failed.
+fn put_pieces<K: Seeker + Drop, W: Sink>(pieces: &mut Pieces<'_, W>, floor: &Floor<K>, team: &[u8])
+    requires { pieces.old.failed ≡ false }
+    ensures under_way { IsUnderWay pieces.new.failed (W.contents pieces.old.sink.now) (W.contents pieces.new.sink.now) (pieces.old.waiting.now.items ++ def_text floor.now team.now) pieces.new.waiting.now.items }
+    ensures failed { W.has_failed pieces.new.sink.now ≡ has_failed_since pieces.new.failed (W.has_failed pieces.old.sink.now) }
+    ensures held { W.holds pieces.new.sink.now ≡ W.holds pieces.old.sink.now }
+    ensures room { vec_capacity pieces.old.waiting.now ≤ vec_capacity pieces.new.waiting.now }
+    ensures same_sink { pieces.new.sink.ghost_name ≡ pieces.old.sink.ghost_name }
+    ensures same_buffer { pieces.new.waiting.ghost_name ≡ pieces.old.waiting.ghost_name }
+{
+    floor.put_def(team, pieces);
+}
+
+/// Sends what the buffer holds and the DEF text of the team behind it, as `send` does, in pieces that fit the buffer.
+fn send_def<K: Seeker + Drop, W: Sink>(
+    sink: &mut W,
+    text: &mut Vec<u8>,
+    floor: &Floor<K>,
+    team: &[u8],
+) -> Result<(), DeviceFault>
+    ensures ok { OnOk result (Appends (W.contents sink.old) (W.contents sink.new) (text.old.items ++ def_text floor.now team.now)) }
+    ensures flushed { OnOk result (W.is_flushed sink.new ≡ true) }
+    ensures healthy { OnOk result (W.has_failed sink.new ≡ W.has_failed sink.old) }
+    ensures front { OnErr result ((n : ℕ) × Appends (W.contents sink.old) (W.contents sink.new) (take n (text.old.items ++ def_text floor.now team.now))) }
+    ensures failed { OnErr result (W.has_failed sink.new ≡ true) }
+    ensures held { W.holds sink.new ≡ W.holds sink.old }
+    ensures room { vec_capacity text.old ≤ vec_capacity text.new }
+{
+    let mut pieces = Pieces::new(sink, text);
+    put_pieces(&mut pieces, floor, team);
+    pieces.finish()
+}
+
+/// Sends the text of the response to a command of the team, as `send` does: a DEF text in pieces, behind its line.
+pub(crate) fn send_response<K: Seeker + Drop, W: Sink>(
+    sink: &mut W,
+    text: &mut Vec<u8>,
+    floor: &Floor<K>,
+    team: &[u8],
+    response: &Response,
+) -> Result<(), DeviceFault>
+    requires room { 4096 ≤ vec_capacity text.old }
+    requires length { (count : ℕ) → response.now ≡ Apart count → count ≡ length (def_text floor.now team.now) }
+    ensures ok { OnOk result (Appends (W.contents sink.old) (W.contents sink.new) (text_of floor.now team.now (reply_in floor.now team.now response.now))) }
+    ensures flushed { OnOk result (W.is_flushed sink.new ≡ true) }
+    ensures healthy { OnOk result (W.has_failed sink.new ≡ W.has_failed sink.old) }
+    ensures front { OnErr result ((n : ℕ) × Appends (W.contents sink.old) (W.contents sink.new) (take n (text_of floor.now team.now (reply_in floor.now team.now response.now)))) }
+    ensures failed { OnErr result (W.has_failed sink.new ≡ true) }
+    ensures held { W.holds sink.new ≡ W.holds sink.old }
+    ensures room { 4096 ≤ vec_capacity text.new }
+{
+    match response {
+        Response::Whole(reply) => send_reply(sink, text, floor, team, reply),
+        Response::Def(count) => {
+            put_def_line(text, *count);
+            send_def(sink, text, floor, team)
         }
     }
 }

@@ -9,7 +9,7 @@ ghost use Rattle.lf_proto.specs.Pieces.{lines_from, pieces};
 ghost use Rattle.lf_server.specs.Progress.{Finishes, Given, Goes, IsExchanged, SinkAt, Stops, told_answered};
 
 use crate::reply::{answer, is_end, request_in, team_asked};
-use crate::sending::send_reply;
+use crate::sending::send_response;
 use lf_devices::{Sink, Source};
 use lf_floor::Floor;
 use lf_legalize::Seeker;
@@ -18,6 +18,9 @@ use std::alloc::Global;
 
 /// The most bytes of a line, and of a reply that is neither a report nor a DEF text.
 const LINE: usize = 4096;
+
+/// How many bytes of a DEF text are written at once; no less than a line.
+const PIECE: usize = 65_536;
 
 /// How serving a connection ended.
 #[derive(Clone, Copy, Debug, PartialEq, Eq)]
@@ -78,8 +81,8 @@ fn exchange<K: Seeker + Drop, W: Sink>(
     ensures serves { (l : Legalizer) → IsExchanged l result (writer (W.contents sink.old) (W.is_flushed sink.old) (W.has_failed sink.old)) (writer (W.contents sink.new) (W.is_flushed sink.new) (W.has_failed sink.new)) floor.old floor.new (option_map (λ bytes. bytes.now) line.entry) }
 {
     let request = request_in(line);
-    let reply = answer(floor, &request);
-    if send_reply(sink, text, floor, team_asked(&request), &reply).is_err() {
+    let response = answer(floor, &request);
+    if send_response(sink, text, floor, team_asked(&request), &response).is_err() {
         return Some(Ending::WriteFault);
     }
     if is_end(&request) {
@@ -269,7 +272,7 @@ pub fn serve<K: Seeker + Drop, S: Source, W: Sink>(
     let Ok(mut framer) = LineFramer::new(alloc) else {
         return told(0, Ending::OutOfMemory);
     };
-    let Ok(mut text) = Vec::with_capacity(alloc, LINE) else {
+    let Ok(mut text) = Vec::with_capacity(alloc, PIECE) else {
         return told(0, Ending::OutOfMemory);
     };
     let mut left = limits.lines;

@@ -1,0 +1,65 @@
+-- A command that asks for a DEF text.
+use Rattle.std.proofs.Common.{◌≡◌, ℕ, ◌<◌, List, [], length, Option, Some, None, refl, sym, ap, subst, ◌∙◌}
+use Rattle.std.specs.Prelude.{slice_set}
+use Rattle.std.proofs.lemmas.List.{set-get_or}
+use Rattle.std.proofs.lemmas.Option.{get_or_from_slice_get}
+use Rattle.lf_floorplan.specs.declared.frame.Frame.{Frame}
+use Rattle.lf_floorplan.specs.declared.place.Place.{Place}
+use Rattle.lf_rules.specs.Legalizer.{Legalizer}
+use Rattle.lf_proto.specs.declared.reply.Reply.TheVariants.{Def}
+use Rattle.lf_proto.specs.declared.request.Command.TheVariants.{To}
+use Rattle.lf_proto.specs.declared.request.Order.{Order}
+use Rattle.lf_proto.specs.declared.request.Order.TheVariants.{Within}
+use Rattle.lf_proto.specs.declared.verb.Action.TheVariants.{Def as AskDef}
+use Rattle.lf_texts.specs.TeamText.{team_text}
+use Rattle.lf_teams.specs.States.{FloorState, TeamState}
+use Rattle.lf_teams.specs.Teams.{setting, team_number}
+use Rattle.lf_teams.specs.Looks.{written}
+use Rattle.lf_teams.specs.Outcomes.{Reaches}
+use Rattle.lf_teams.specs.Sessions.{seen_at}
+use Rattle.lf_teams.specs.Steps.{Answers, Gives, answer_at, floor_of, ruled}
+use Rattle.lf_teams.specs.Verbs.{outcome_by_slot}
+use Rattle.lf_teams.proofs.Answering.{some_answers}
+use Rattle.lf_teams.proofs.Serving.{gives}
+use Rattle.lf_floor.specs.Responses.{def_text, text_at, text_by}
+use Rattle.lf_floor.specs.Tables.{cells_in, floor_in, frame_of, own_team, teams_in}
+use Rattle.lf_floor.specs.declared.tables.Tables.{Tables}
+use Rattle.lf_floor.proofs.Rows.{team_there}
+
+-- the order of that session for the DEF text
+abbrev pub ask : ℕ → Order (List ℕ) Place
+ask session = Within session AskDef
+
+-- the DEF text of a team by its cells in the table, and of none
+pub text_there : (tables : Tables) (name : List ℕ) (number : ℕ) → Some number ≡ team_number (frame_of tables) name → number < length tables.revisions.items
+    → def_text (floor_in tables) name ≡ team_text (frame_of tables) number (cells_in number tables)
+text_there tables name number named within =
+    ap (text_at (floor_in tables)) (sym named) ∙ ap (text_by (frame_of tables) number) (team_there tables number within)
+
+pub text_none : (floor : FloorState) (name : List ℕ) → None ≡ team_number floor.frame name → def_text floor name ≡ []
+text_none floor name none = ap (text_at floor) (sym none)
+
+-- an open session gets the text, and the team stays
+text_reached : (l : Legalizer) (f : Frame) (number session seen : ℕ) (s : TeamState) → Some seen ≡ seen_at s.slots session
+    → Reaches (ruled l f number (ask session) s) (Def (team_text f number s.cells)) s
+unfolding written
+text_reached l f number session seen s opened =
+    subst (λ (o : Option ℕ). Reaches (outcome_by_slot o (setting l f number s.padding) session AskDef s) (Def (team_text f number s.cells)) s) opened
+    record { reply_is = refl; team_is = refl }
+
+pub def_answers : (l : Legalizer) (tables : Tables) (name : List ℕ) (session seen number : ℕ) → Some number ≡ team_number (frame_of tables) name
+    → number < length tables.revisions.items → Some seen ≡ seen_at (own_team number tables).slots session
+    → Answers l (floor_in tables) (To name (ask session)) (Def (def_text (floor_in tables) name)) (floor_in tables)
+def_answers l tables name session seen number named within opened =
+    let f = frame_of tables in
+    let components = tables.placement.cells.components in
+    let s = own_team number tables in
+    let there = team_there tables number within in
+    let text : List ℕ = team_text f number s.cells in
+    let same : floor_of f components (slice_set (teams_in tables) number s) ≡ floor_in tables =
+    ap (λ (t : TeamState). floor_of f components (slice_set (teams_in tables) number t)) (sym (get_or_from_slice_get (teams_in tables) number s s there))
+    ∙ ap (floor_of f components) (set-get_or (teams_in tables) number s) in
+    subst (λ (t : List ℕ). Answers l (floor_in tables) (To name (ask session)) (Def t) (floor_in tables)) (sym (text_there tables name number named within))
+    (some_answers l (floor_in tables) (floor_in tables) name (ask session) number (Def text) named
+    (subst (λ (v : FloorState). Gives (answer_at (Some number) l (floor_in tables) (ask session)) (Def text) v) same
+    (gives l f components (teams_in tables) number (ask session) s s (Def text) there (text_reached l f number session seen s opened))))

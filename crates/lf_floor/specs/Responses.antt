@@ -1,0 +1,37 @@
+-- Replies whose DEF text is put apart.
+use Rattle.std.specs.Prelude.{ℕ, List, [], Option, Some, None}
+use Rattle.lf_floorplan.specs.declared.frame.Frame.{Frame}
+use Rattle.lf_floorplan.specs.declared.place.Place.{Place}
+use Rattle.lf_proto.specs.declared.reply.Reply.{Reply}
+use Rattle.lf_proto.specs.declared.reply.Reply.TheVariants.{Def}
+use Rattle.lf_proto.specs.declared.request.Command.{Command}
+use Rattle.lf_proto.specs.declared.request.Command.TheVariants.{Bye, To}
+use Rattle.lf_texts.specs.TeamText.{team_text}
+use Rattle.lf_teams.specs.States.{FloorState, TeamState}
+use Rattle.lf_teams.specs.Teams.{state_at, team_number}
+use Rattle.lf_floor.specs.declared.response.Response.{Response}
+use Rattle.lf_floor.specs.declared.response.Response.TheVariants.{Whole, Def as Apart}
+
+-- the team that a command is to; 'bye' is to none
+abbrev pub team_of : Command (List ℕ) Place → List ℕ
+team_of Bye = []
+team_of (To team order) = team
+
+-- the DEF text of a team in that state, its cells at their working places; none: there is no such team
+abbrev pub text_by : Frame → ℕ → Option TeamState → List ℕ
+text_by f number None = []
+text_by f number (Some s) = team_text f number s.cells
+
+-- by the team's number
+abbrev pub text_at : FloorState → Option ℕ → List ℕ
+text_at floor None = []
+text_at floor (Some number) = text_by floor.frame number (state_at floor.teams (Some number))
+
+-- the DEF text of the team of that name
+abbrev pub def_text : FloorState → List ℕ → List ℕ
+def_text floor team = text_at floor (team_number floor.frame team)
+
+-- the reply to a command of the team of that name, of which the floor has the DEF text
+abbrev pub reply_in : FloorState → List ℕ → Response → Reply
+reply_in floor team (Whole reply) = reply
+reply_in floor team (Apart length) = Def (def_text floor team)

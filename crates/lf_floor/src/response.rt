@@ -1,0 +1,105 @@
+//! Replies whose DEF text is put apart, piece by piece.
+
+ghost use Rattle.std.specs.Prelude.{◌≡◌, IfSome, List, ℕ, length};
+ghost use Rattle.lf_rules.specs.Legalizer.{Legalizer};
+ghost use Rattle.lf_proto.specs.Commands.{command_of, order_of};
+ghost use Rattle.lf_proto.specs.declared.reply.Reply.TheVariants.{Def};
+ghost use Rattle.lf_proto.specs.declared.request.Order.TheVariants.{Within};
+ghost use Rattle.lf_proto.specs.declared.verb.Action.TheVariants.{Def as AskDef};
+ghost use Rattle.lf_teams.specs.Committed.{IsCommittedLegal};
+ghost use Rattle.lf_teams.specs.Steps.{Answers, IsTo, Step, TakesNone};
+ghost use Rattle.lf_teams.specs.Teams.{state_of};
+ghost use Rattle.lf_texts.specs.Output.{Puts};
+ghost use Rattle.lf_floor.specs.Responses.{def_text, reply_in, team_of};
+ghost use Rattle.lf_floor.specs.declared.response.Response.TheVariants.{Def as Apart};
+
+use crate::floor::{Floor, team_named};
+use lf_legalize::Seeker;
+use lf_proto::{Action, Command, Order, Refusal, Reply, Request};
+use lf_texts::{Output, put_team_def, team_def_length};
+
+/// The reply to a request, but for a DEF text.
+#[derive(Drop)]
+pub enum Response {
+    /// The reply.
+    Whole(Reply),
+    /// The DEF text of the team, of so many bytes: `Floor::put_def` puts it.
+    Def(usize),
+}
+
+/// The session for which the order asks for the team's DEF text, if it does.
+fn def_session(order: &Order<&[u8]>) -> Option<u32>
+    ensures { IfSome result (λ session. order_of order.now ≡ Within session AskDef) }
+{
+    match order {
+        Order::Within {
+            session,
+            action: Action::Def,
+        } => Some(*session),
+        _ => None,
+    }
+}
+
+impl<S: Seeker + Drop> Floor<S> {
+    /// Puts the DEF text of the team of that name, its cells at their working places, and takes no memory. Nothing is put
+    /// if there is no such team.
+    pub fn put_def<O: Output>(&self, team: &[u8], out: &mut O)
+        ensures { Puts O.took out.old out.new (def_text self.now team.now) }
+    {
+        let Some(number) = team_named(self.tables.placement.frame(), team) else {
+            return;
+        };
+        put_team_def(
+            out,
+            self.tables.placement.frame(),
+            self.tables.placement.cells(),
+            number,
+        );
+    }
+
+    /// How many bytes that text has; none if there is no such team, or they are 2^64 or more.
+    fn def_length(&self, team: &[u8]) -> Option<usize>
+        ensures { IfSome result (λ count. count ≡ length (def_text self.now team.now)) }
+    {
+        let number = team_named(self.tables.placement.frame(), team)?;
+        team_def_length(
+            self.tables.placement.frame(),
+            self.tables.placement.cells(),
+            number,
+        )
+    }
+
+    /// The team of which the request asks for the DEF text, if that is its reply.
+    fn def_asked<'a>(&self, request: &Request<'a>) -> Option<&'a [u8]>
+        ensures asked { (l : Legalizer) → IfSome result (λ team. Answers l self.now (command_of request.now) (Def (def_text self.now team.now)) self.now) }
+        ensures team { IfSome result (λ team. team.now ≡ team_of (command_of request.now)) }
+        ensures takes { IfSome result (λ team. TakesNone (command_of request.now) → ⊥) }
+    {
+        let Command::To { team, order } = request else {
+            return None;
+        };
+        let session = def_session(order)?;
+        let number = team_named(self.tables.placement.frame(), team)?;
+        self.tables.sessions.seen(number, session)?;
+        Some(*team)
+    }
+
+    /// Answers one command as `step` does, but that no DEF text is made: the floor is not changed by that command, so its text
+    /// can be put as long as no other is answered.
+    pub fn respond(&mut self, request: &Request) -> Response
+        ensures step { (l : Legalizer) → Step l self.old (command_of request.now) (reply_in self.new (team_of (command_of request.now)) result) self.new }
+        ensures length { (count : ℕ) → result ≡ Apart count → count ≡ length (def_text self.new (team_of (command_of request.now))) }
+        ensures others { (team : List ℕ) → ¬ IsTo team (command_of request.now) → state_of self.new team ≡ state_of self.old team }
+        ensures frame { self.new.frame ≡ self.old.frame }
+        ensures components { self.new.components ≡ self.old.components }
+        ensures legal { IsCommittedLegal self.old → IsCommittedLegal self.new }
+    {
+        match self.def_asked(request) {
+            None => Response::Whole(self.step(request)),
+            Some(team) => match self.def_length(team) {
+                Some(count) => Response::Def(count),
+                None => Response::Whole(Reply::Refused(Refusal::OutOfMemory)),
+            },
+        }
+    }
+}
