@@ -111,6 +111,11 @@ def def_text(source: random.Random) -> tuple[str, list[str]]:
     return "".join(parts) + "END GROUPS\nEND DESIGN\n", [cell.team for cell in cells]
 
 
+def entries(text: str) -> list[str]:
+    """The entries of the cells in a DEF text."""
+    return [line for line in text.split("\n") if line.startswith("- u")]
+
+
 class Large(unittest.TestCase):
     """One design for all tests, and what `check` says of it as it is."""
 
@@ -139,8 +144,8 @@ class Large(unittest.TestCase):
         self.assertEqual(refused[:3], [])
         return replies
 
-    def session(self, talk: Talk) -> None:
-        """Every team is tidied, every cell turned and looked at, every team checked, written and committed."""
+    def session(self, talk: Talk) -> list[str]:
+        """Every team is tidied, every cell turned and looked at, every team checked, written and committed; the entries written."""
         each = [f"f{fence}" for fence in range(FENCES)] + ["-"]
         count = 0
 
@@ -161,32 +166,36 @@ class Large(unittest.TestCase):
         for team, reply in zip(each, ask([f"check {team} 0" for team in each])):
             report = {"cells": self.teams.count(team), "unplaced": 0, "violations": []}
             self.assertEqual(json.loads(reply[3:]), report)
-        ask([f"def {team} 0" for team in each])
+        texts = [reply.partition("\n")[2] for reply in ask([f"def {team} 0" for team in each])]
         ask([f"commit {team} 0" for team in each])
         self.assertGreater(count, LINES)
+        return [entry for text in texts for entry in entries(text)]
 
-    def exported_by(self, ask: Callable[[list[str]], None], name: str) -> None:
-        """What the session exports is fully legal, and differs from the design in places alone."""
+    def exported_by(self, ask: Callable[[list[str]], list[str]], name: str) -> None:
+        """What the session exports is fully legal, differs from the design in places alone, and has the entries that were written."""
         target = Path(self.folder.name) / name
-        ask([*self.design, "--export", str(target)])
+        written = ask([*self.design, "--export", str(target)])
         ran = run(["check", str(target), self.design[1]])
         self.assertEqual(ran, (0, f'{{"cells":{CELLS},"unplaced":0,"violations":[]}}\n', ""))
         self.assertEqual(PLACEMENT.sub("", target.read_text()), PLACEMENT.sub("", self.text))
+        self.assertEqual(sorted(entries(target.read_text())), sorted(written))
 
     def test_over_a_pipe(self) -> None:
-        def ask(words: list[str]) -> None:
+        def ask(words: list[str]) -> list[str]:
             session = Session(["replay", *words])
-            self.session(session)
+            written = self.session(session)
             self.assertEqual(session.end(), (0, ""))
+            return written
 
         self.exported_by(ask, "pipe.def")
 
     def test_over_one_connection(self) -> None:
-        def ask(words: list[str]) -> None:
+        def ask(words: list[str]) -> list[str]:
             with Service(1, words) as service:
                 with service.client() as client:
-                    self.session(client)
+                    written = self.session(client)
                 self.assertEqual(service.end(), (0, "listening\n", ""))
+            return written
 
         self.exported_by(ask, "connection.def")
 

@@ -23,7 +23,7 @@ SHORT = "no 12 OutOfMemory"
 # The verbs of random requests.
 VERBS = ("place", "legalize", "unplace", "swap", "tidy", "undo", "revert", "commit", "pad", "check", "find", "def")
 # The verbs that take no memory: they ask for no growth that could be refused.
-WITHOUT_MEMORY = ("open", "close", "sync", "where", "undo", "pad")
+WITHOUT_MEMORY = ("open", "close", "sync", "where", "undo", "pad", "def")
 # How many growths a task can do without: one of the command line, and of a check the first one behind loading, for the list of the
 # cells' places. What was refused alone is then asked for again.
 SPARED = 2

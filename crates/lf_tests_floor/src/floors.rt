@@ -1,13 +1,16 @@
 //! The floor of all teams.
 
+ghost use Rattle.std.specs.Prelude.{⊤};
+
 use crate::designs::floor_of;
 use lf_def::W_DEF;
-use lf_floor::Floor;
+use lf_floor::{Floor, Response};
 use lf_frame::Place;
 use lf_legalize::PlainSeeker;
 use lf_orient::Orient;
-use lf_proto::{Action, Change, Command, Order, Reply, Request, RequestList, reply_text};
+use lf_proto::{Action, Change, Command, Order, Refusal, Reply, Request, RequestList, reply_text};
 use lf_tests_texts::with_line;
+use lf_texts::Output;
 use std::alloc::{AllocError, Global};
 use std::test::Fail;
 
@@ -92,5 +95,71 @@ fn runs(alloc: Global, mut floor: Floor<PlainSeeker>, replies: &[u8]) -> Result<
 fn runs_requests(rt: HostRuntime) -> Result<(), Fail> {
     let replies = b"ok 0 0\nok 1\nno 6 Unplaced b1\nok\n";
     assert!(rt; runs(rt.alloc(), floor(rt.alloc())?, replies)?);
+    Ok(())
+}
+
+/// A text in memory.
+#[derive(Drop)]
+struct Kept {
+    text: Vec<u8>,
+}
+
+impl Output for Kept {
+    ghost took = { λ _ _ _. ⊤ };
+
+    fn put(&mut self, bytes: &[u8]) {
+        let _ = self.text.extend_from_slice(bytes);
+    }
+}
+
+/// The request of a session of A for its DEF text.
+fn def_for(session: u32) -> Request<'static> {
+    Command::To {
+        team: b"A",
+        order: Order::Within {
+            session,
+            action: Action::Def,
+        },
+    }
+}
+
+/// The DEF text of A, put piece by piece.
+fn put_text(alloc: Global, floor: &Floor<PlainSeeker>) -> Vec<u8> {
+    let mut kept = Kept {
+        text: Vec::new(alloc),
+    };
+    floor.put_def(b"A", &mut kept);
+    kept.text
+}
+
+/// Whether a DEF text that is put is that of the reply, and has the length that the response tells; and other replies are whole.
+fn responds(alloc: Global, floor: &mut Floor<PlainSeeker>) -> bool {
+    let opened = floor.respond(&Command::To {
+        team: b"A",
+        order: Order::Open,
+    });
+    let Response::Whole(Reply::Opened { .. }) = opened else {
+        return false;
+    };
+    let Response::Whole(Reply::Refused(Refusal::NoSession)) = floor.respond(&def_for(1)) else {
+        return false;
+    };
+    let Response::Def(count) = floor.respond(&def_for(0)) else {
+        return false;
+    };
+    let Reply::Def(text) = floor.step(&def_for(0)) else {
+        return false;
+    };
+    count == text.as_bytes().len() && put_text(alloc, floor).as_slice() == text.as_bytes()
+}
+
+/// The same of a floor that is let go then.
+fn puts_its_text(alloc: Global, mut floor: Floor<PlainSeeker>) -> bool {
+    responds(alloc, &mut floor)
+}
+
+#[test]
+fn puts_a_def_text(rt: HostRuntime) -> Result<(), Fail> {
+    assert!(rt; puts_its_text(rt.alloc(), floor(rt.alloc())?));
     Ok(())
 }
