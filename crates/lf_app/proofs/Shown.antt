@@ -1,5 +1,5 @@
 -- Bytes that are shown, one after the other, and lines that are passed over.
-use Rattle.std.proofs.Common.{◌≡◌, ◌∙◌, ℕ, suc, ◌+◌, ◌-◌, ◌<◌, arith, ap, append-nil, subst, sym, Err, List, [], ◌++◌, drop, length, Ok, Option, Some, None, slice_index_or}
+use Rattle.std.proofs.Common.{◌≡◌, ◌∙◌, ℕ, suc, ◌+◌, ◌-◌, ◌<◌, arith, ap, subst, sym, Err, List, ◌++◌, drop, length, Ok, Option, slice_index_or}
 use Rattle.std.specs.Prelude.{OnOk, Result}
 use Rattle.std.proofs.Math.Numerals.{suc-eq-add-one}
 use Rattle.std.proofs.Math.Seq.{drop-cons}
@@ -26,11 +26,6 @@ pub one_more : (start here next : Option (List ℕ)) (bytes : List ℕ) (i d : �
     → Appends here next (shown_byte (slice_index_or bytes i d)) → Completes start next (drop (i + 1) bytes) bytes
 one_more start here next bytes i d lt completes put = λ end rest.
     completes end (subst (λ (t : List ℕ). Appends here end t) (sym (ahead bytes i d lt)) (Appends-more here next end _ _ put rest))
-
--- nothing is left to be shown
-pub all_shown : (start here : Option (List ℕ)) (bytes : List ℕ) → Completes start here [] bytes → Appends start here (shown bytes)
-all_shown start None bytes completes = completes None tt
-all_shown start (Some x) bytes completes = completes (Some x) (sym (append-nil x))
 
 -- one line more is passed over
 pub passed : (lines i : ℕ) (text rest : List ℕ) → i < lines → behind_lines (lines - i) rest ≡ behind_lines lines text

@@ -11,9 +11,8 @@ use Rattle.lf_app.specs.declared.faults.Fault.{Fault}
 use Rattle.lf_app.specs.declared.faults.Fault.TheVariants.{Refused, File, ReadFault, WriteFault, TooManyLines, OutOfMemory, Output, Bind, Accept, Unwritten, NoMemory, NoRoom}
 use Rattle.lf_app.specs.declared.faults.TextKind.{TextKind}
 use Rattle.lf_app.specs.declared.faults.TextKind.TheVariants.{Lef, Def}
-use Rattle.lf_app.specs.declared.designs.TheConstants.{BUILT_IN}
 use Rattle.lf_app.specs.Designs.{Gives, IsDefRefusal, IsDesignFault, IsDesignIn, IsDesignOf, IsFileDesign, IsFileFault, IsLefRefusal, IsLibraryFault, IsLibraryOf}
-use Rattle.lf_app.specs.Designs.{IsLoadRefusal, IsLoadedIn, IsRefused, IsTextFault, IsUnread, no_library}
+use Rattle.lf_app.specs.Designs.{IsLoadRefusal, IsLoadedIn, IsRefused, IsUnread, no_library}
 use Rattle.lf_app.specs.Exits.{Ends, IsUntouched, Streams}
 use Rattle.lf_app.specs.Faults.{Blames, IsEarly, IsExportFault}
 use Rattle.lf_app.specs.Work.{IsDone, IsFault, IsStopped}
@@ -140,11 +139,6 @@ library_early gives old (path ∷ paths) fault (inr later) = library_early gives
 pub design_early : (gives : Gives) (path : List ℕ) (lefs : List (List ℕ)) (fault : Fault) → IsDesignFault gives path lefs fault → IsEarly fault
 design_early gives path lefs fault (inl library) = library_early gives no_library lefs fault library
 design_early gives path lefs fault (inr file) = file_early gives Def path (IsDefRefusal file.0) fault file.2
-
--- and of the built-in design
-pub text_early : (text lef_text : List ℕ) (fault : Fault) → IsTextFault text lef_text fault → IsEarly fault
-text_early text lef_text fault (inl refused) = refused_early Lef BUILT_IN.now lef_text (IsLefRefusal no_library lef_text) fault refused
-text_early text lef_text fault (inr refused) = refused_early Def BUILT_IN.now text (IsDefRefusal refused.0 text) fault refused.2
 
 -- a fault before anything is written is one of the whole
 pub first_fails : (why all : Fault → Type 0) (kept reader writer : Type 0) (old new : Option (List ℕ)) (failed : Bool) (exit : Exit) → kept

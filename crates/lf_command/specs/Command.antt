@@ -208,11 +208,6 @@ as_job (Serve def lefs port connections export) = serve def.now (map (λ lef. le
 as_job (Check def lefs) = check def.now (map (λ lef. lef.now) lefs)
 as_job (Describe def lefs) = describe def.now (map (λ lef. lef.now) lefs)
 
--- the task is a check
-abbrev pub IsCheck : Task → Type 0
-IsCheck (Check def lefs) = Unit {0}
-IsCheck _ = ⊥
-
 -- the task reads no line
 abbrev pub ReadsNone : Task → Type 0
 ReadsNone (Check def lefs) = Unit {0}

@@ -1,8 +1,8 @@
 -- A text that is written piece by piece, some of which waits.
-use Rattle.std.proofs.Common.{◌≡◌, ℕ, zero, suc, ◌+◌, ◌≤◌, List, [], ◌∷◌, ◌++◌, length, take, drop, Option, Some, Result, Ok, Err, ◌<◌, refl, sym, ◌∙◌, ap, subst, arith, slice_get}
+use Rattle.std.proofs.Common.{◌≡◌, ℕ, zero, suc, ◌+◌, List, [], ◌∷◌, ◌++◌, length, take, drop, Option, Some, Result, Ok, Err, ◌<◌, refl, sym, ◌∙◌, ap, subst, arith, slice_get}
 use Rattle.std.specs.Prelude.{flat_map, OnErr, OnOk}
 use Rattle.std.specs.Io.KnownBytes.{Appends, Keeps}
-use Rattle.std.proofs.lemmas.List.{append_assoc, append-nil, take-append-drop, take_all}
+use Rattle.std.proofs.lemmas.List.{append_assoc, append-nil, take-append-drop}
 use Rattle.std.proofs.KnownBytes.{Appends-nil, Appends-trans, Appends-kept}
 use Rattle.lf_describe.specs.Written.{AppendsFront, Leaves}
 
@@ -12,10 +12,6 @@ nothing a text = ([], refl, Appends-nil a)
 
 pub unwritten : (a : Option (List ℕ)) (text : List ℕ) → AppendsFront a a text
 unwritten a text = (text, nothing a text)
-
--- all is written, and nothing waits
-pub all_written : (a b : Option (List ℕ)) (text : List ℕ) → Appends a b text → Leaves a b text []
-all_written a b text p = (text, sym (append-nil text), p)
 
 pub written : (a b : Option (List ℕ)) (text rest : List ℕ) → rest ≡ [] → Leaves a b text rest → Appends a b text
 written a b text rest none (front, e, p) =
@@ -36,10 +32,6 @@ goes_on a b text more (rest, (front, e, p)) =
 -- a piece behind a text was cut short
 pub cut_behind : (a b c : Option (List ℕ)) (text v x : List ℕ) → Leaves a b text v → AppendsFront b c (v ++ x) → AppendsFront a c (text ++ x)
 cut_behind a b c text v x left (u, right) = (u, behind a b c text v x u left right)
-
--- what waits was not written
-pub cut_here : (a b : Option (List ℕ)) (text v : List ℕ) → Leaves a b text v → AppendsFront a b text
-cut_here a b text v left = (v, left)
 
 -- nothing more is written
 pub kept : (a b c : Option (List ℕ)) (text v : List ℕ) → Leaves a b text v → Keeps b c → Leaves a c text v
@@ -124,8 +116,3 @@ cut_piece g xs i x a b c w v at left right =
     ∙ append_assoc w (flat_map g (take (suc i) xs)) (flat_map g (drop (suc i) xs)) ∙ ap (λ (l : List ℕ). w ++ l) (sym (cut_at g xs (suc i))) in
     subst (AppendsFront a c) same
     (goes_on a c ((w ++ flat_map g (take i xs)) ++ g x) (flat_map g (drop (suc i) xs)) (cut_behind a b c (w ++ flat_map g (take i xs)) v (g x) left right))
-
--- behind the last piece
-pub behind_last : {X : Type 0} (g : X → List ℕ) (xs : List X) (i : ℕ) (a b : Option (List ℕ)) (w v : List ℕ) → length xs ≤ i →
-    Leaves a b (w ++ flat_map g (take i xs)) v → Leaves a b (w ++ flat_map g xs) v
-behind_last {X = X} g xs i a b w v over left = subst (λ (ys : List X). Leaves a b (w ++ flat_map g ys) v) (take_all i xs over) left

@@ -1,5 +1,5 @@
 -- A command that asks for a DEF text.
-use Rattle.std.proofs.Common.{◌≡◌, ℕ, ◌<◌, List, [], length, Option, Some, None, refl, sym, ap, subst, ◌∙◌}
+use Rattle.std.proofs.Common.{◌≡◌, ℕ, ◌<◌, List, length, Option, Some, refl, sym, ap, subst, ◌∙◌}
 use Rattle.std.specs.Prelude.{slice_set}
 use Rattle.std.proofs.lemmas.List.{set-get_or}
 use Rattle.std.proofs.lemmas.Option.{get_or_from_slice_get}
@@ -35,9 +35,6 @@ pub text_there : (tables : Tables) (name : List ℕ) (number : ℕ) → Some num
     → def_text (floor_in tables) name ≡ team_text (frame_of tables) number (cells_in number tables)
 text_there tables name number named within =
     ap (text_at (floor_in tables)) (sym named) ∙ ap (text_by (frame_of tables) number) (team_there tables number within)
-
-pub text_none : (floor : FloorState) (name : List ℕ) → None ≡ team_number floor.frame name → def_text floor name ≡ []
-text_none floor name none = ap (text_at floor) (sym none)
 
 -- an open session gets the text, and the team stays
 text_reached : (l : Legalizer) (f : Frame) (number session seen : ℕ) (s : TeamState) → Some seen ≡ seen_at s.slots session

@@ -1,5 +1,5 @@
 -- What a seeker finds is what the rules of find, legalize and tidy name.
-use Rattle.std.proofs.Common.{◌≡◌, ℕ, zero, suc, ◌+◌, arith, List, [], ◌∷◌, ◌++◌, map, take, get_or, Option, Some, None, refl, ap, sym, ◌∙◌, subst}
+use Rattle.std.proofs.Common.{◌≡◌, ℕ, List, get_or, Option, Some, None, refl, ap, sym, ◌∙◌, subst}
 use Rattle.std.specs.Prelude.{All, slice_get, option_map, option_and_then}
 use Rattle.std.proofs.lemmas.Option.{slice_get_within, get_or_from_slice_get}
 use Rattle.lf_units.specs.declared.area.Point.{Point}
@@ -67,10 +67,3 @@ name_told table number own id facts is told =
     told ∙ ap (λ (i : CellId). option_map (λ (x : Cell). x.name) (cell_at table i)) (id_there (cells_of table number) number own id is)
 
 -- ---- one cell after the other
-
--- what is listed of one more cell is appended to what is listed of those before it
-pub one_more_told : {X Y : Type 0} (f : X → Y) (xs : List X) (k : ℕ) (y : Y) → Some y ≡ option_map f (slice_get xs k)
-    → map f (take (k + 1) xs) ≡ map f (take k xs) ++ y ∷ []
-one_more_told f [] k y is = absurd cc
-one_more_told f (x ∷ xs) zero y is = ap (λ r. r ∷ []) (sym (some_one is))
-one_more_told f (x ∷ xs) (suc k) y is = let at : suc k + 1 ≡ suc (k + 1) = omega arith in rw at (ap (λ r. f x ∷ r) (one_more_told f xs k y is))

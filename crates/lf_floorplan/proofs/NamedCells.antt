@@ -1,5 +1,5 @@
 -- Cells and their names, one after the other.
-use Rattle.std.proofs.Common.{◌≡◌, ◌≢◌, ℕ, zero, suc, List, [], ◌∷◌, ◌++◌, length, map, None, Some, refl, ap, subst, ◌∙◌, arith}
+use Rattle.std.proofs.Common.{◌≡◌, ◌≢◌, ℕ, zero, suc, List, [], ◌∷◌, ◌++◌, length, None, Some, refl, ap, subst, ◌∙◌, arith}
 use Rattle.std.specs.Prelude.{All, slice_get}
 use Rattle.std.proofs.lemmas.List.Elements.{All-nil, All-cons, All-head, All-tail}
 use Rattle.std.proofs.lemmas.Option.{slice_get_within, get_or_from_slice_get}
@@ -22,12 +22,6 @@ many_seen [] [] same = refl
 many_seen [] (c ∷ cells) same = absurd (omega (arith, same))
 many_seen (n ∷ names) [] same = refl
 many_seen (n ∷ names) (c ∷ cells) same = ap suc (many_seen names cells (omega (arith, same)))
-
-pub names_seen : (names : List (List ℕ)) (cells : List PlainCell) → length names ≡ length cells → map (λ c. c.name) (with_names names cells) ≡ names
-names_seen [] [] same = refl
-names_seen [] (c ∷ cells) same = absurd (omega (arith, same))
-names_seen (n ∷ names) [] same = absurd (omega (arith, same))
-names_seen (n ∷ names) (c ∷ cells) same = ap (λ (ns : List (List ℕ)). n ∷ ns) (names_seen names cells (omega (arith, same)))
 
 pub apart_seen : (names : List (List ℕ)) (cells : List PlainCell) (name : List ℕ) → length names ≡ length cells → All (λ c. c.name ≢ name) (with_names names cells) →
     All (λ n. n ≢ name) names

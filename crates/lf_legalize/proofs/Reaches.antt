@@ -13,7 +13,8 @@ use Rattle.lf_floorplan.specs.Sizes.{box_at}
 use Rattle.lf_floorplan.specs.Standing.{IsBottomRow}
 use Rattle.lf_floorplan.proofs.SizeBounds.{IsSmall, small_pitch, sized_pitch}
 use Rattle.lf_rules.specs.Choice.{Spot, Lifted, MayGo, Precedes, distance}
-use Rattle.lf_rules.proofs.Looking.{LooksAt, IsAsGood, taken_first, taken, left}
+use Rattle.lf_rules.specs.Looking.{LooksAt, IsAsGood}
+use Rattle.lf_rules.proofs.Looking.{taken_first, taken, left}
 use Rattle.lf_rules.proofs.Order.{through}
 use Rattle.lf_segments.specs.declared.rows_by_y.RowEntry.{RowEntry}
 use Rattle.lf_segments.specs.RowsByY.{IsEntryOf}

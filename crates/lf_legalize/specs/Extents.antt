@@ -9,7 +9,7 @@ use Rattle.lf_floorplan.specs.declared.parts.Row.{Row}
 use Rattle.lf_floorplan.specs.Sizes.{box_at}
 use Rattle.lf_floorplan.specs.Standing.{IsBottomRow}
 use Rattle.lf_rules.specs.Choice.{Spot, Lifted, Precedes, distance}
-use Rattle.lf_rules.proofs.Looking.{LooksAt, IsAsGood}
+use Rattle.lf_rules.specs.Looking.{LooksAt, IsAsGood}
 
 -- the value of a range that is nearest to another value: each value of the range is farther from the other by the same, their distance
 pub record IsNearestIn (lo hi value nearest : ℤ) : Type 0 where

@@ -3,7 +3,7 @@ use Rattle.std.specs.Prelude.{Option}
 use Rattle.std.specs.Option.{option_map}
 use Rattle.lf_floorplan.specs.declared.place.Place.{Place}
 use Rattle.lf_rules.specs.Choice.{Spot, Lifted, spot_of}
-use Rattle.lf_rules.proofs.Looking.{LooksAt as LooksAtSpots}
+use Rattle.lf_rules.specs.Looking.{LooksAt as LooksAtSpots}
 use Rattle.lf_legalize.specs.Lifting.{lifted}
 use Rattle.lf_legalize.specs.declared.search.Search.{Search}
 

@@ -6,7 +6,7 @@ ghost use Rattle.lf_floorplan.specs.Boxes.{IsSized};
 ghost use Rattle.lf_floorplan.specs.Rows.{IsHeeded};
 ghost use Rattle.lf_rules.specs.Choice.{spot_of, IsChoice, IsLegalAt, MayGo};
 ghost use Rattle.lf_rules.specs.Legalizer.{Legalizer};
-ghost use Rattle.lf_rules.proofs.Looking.{IsAtSite, IsOnSites, spot_at};
+ghost use Rattle.lf_rules.specs.Looking.{IsAtSite, IsOnSites, spot_at};
 ghost use Rattle.lf_legalize.specs.Lifting.{lifted};
 ghost use Rattle.lf_legalize.specs.Searches.{cell_of, LooksAt};
 

@@ -1,20 +1,18 @@
 -- Strips felt around.
-use Rattle.std.proofs.Common.{◌≡◌, ℕ, ◌*◌, ◌<◌, ◌≤◌, ℤ, pos, negsuc, ◌+ℤ◌, ◌-ℤ◌, ◌*ℤ◌, ◌≤ℤ◌, ◌<ℤ◌, List, length, get_or, sym, subst, arith}
+use Rattle.std.proofs.Common.{◌≡◌, ℕ, ◌*◌, ◌<◌, ◌≤◌, ℤ, pos, negsuc, ◌+ℤ◌, ◌-ℤ◌, ◌*ℤ◌, ◌≤ℤ◌, List, length, get_or, sym, subst, arith}
 use Rattle.std.specs.Prelude.{All, Any}
 use Rattle.std.specs.Int.{int_max, int_min}
 use Rattle.std.proofs.lemmas.Int.{ints, clamps}
-use Rattle.std.proofs.lemmas.Nat.{mul-le}
 use Rattle.std.proofs.lemmas.List.{get_or-map, length-map}
 use Rattle.std.proofs.lemmas.List.Elements.{All-map}
 use Rattle.lf_segments.specs.declared.rows_by_y.RowEntry.{RowEntry}
 use Rattle.lf_segments.specs.declared.strip.Strip.{Strip}
 use Rattle.lf_segments.specs.Grounds.{Lookups}
 use Rattle.lf_segments.specs.Strips.{AreNear, AreStrips, IsNear, IsPlaced}
-use Rattle.lf_floorplan.specs.declared.frame.Frame.{Frame}
-use Rattle.lf_rules.specs.Padding.{IsShort, length_of}
-use Rattle.lf_rules.proofs.PaddingLemmas.{short_length, short_sites}
+use Rattle.lf_rules.specs.Padding.{IsShort}
+use Rattle.lf_rules.proofs.PaddingLemmas.{short_sites}
 use Rattle.lf_occupancy.specs.Lanes.{IsNearZero}
-use Rattle.lf_occupancy.specs.Occupied.{IsPaddingOf, Occupied, felt}
+use Rattle.lf_occupancy.specs.Occupied.{felt}
 use Rattle.lf_occupancy.specs.Strips.{IsSite, felt_strips}
 
 -- the strip lies not far from 0, is as high as a row, and its row has an entry
@@ -35,21 +33,6 @@ around site s = record {
   extent = s.extent;
   height = s.height;
 }
-
--- a padding of sites is one of an occupancy of the frame
-pub padding_of_sites : (f : Frame) (o : Occupied) (sites : ℕ) → o.site ≡ f.pitch.x → sites ≤ 16 → IsPaddingOf o (length_of f sites)
-padding_of_sites f o sites same few = record {
-  least = (short_length f sites few).least;
-  most = subst (λ (site : ℤ). (pos sites *ℤ f.pitch.x) ≤ℤ (pos 16 *ℤ site)) (sym same) (no_longer f.pitch.x f.pitch_whole.wide);
-}
-  where
-    no_longer : (site : ℤ) → pos 0 <ℤ site → (pos sites *ℤ site) ≤ℤ (pos 16 *ℤ site)
-    no_longer (pos n) positive = let most : sites * n ≤ 16 * n = mul-le sites n 16 n few (omega arith) in omega (arith, ints, most)
-    no_longer (negsuc n) positive = absurd (omega (arith, ints))
-
--- and so is none at all
-pub no_padding : (f : Frame) (o : Occupied) → o.site ≡ f.pitch.x → IsPaddingOf o (pos 0)
-no_padding f o same = record { least = omega (arith, ints); most = let wide = f.pitch_whole.wide in omega (arith, ints, wide, same) }
 
 -- the greatest padding is short
 pub site_short : (site : ℤ) → IsSite site → IsShort (pos 16 *ℤ site)

@@ -156,38 +156,6 @@ set_is_one_more g (b ∷ bs) (suc own) box =
     let after = one_more g b (set bs own box) in
     omega (arith, before, after, rest)
 
--- and one that does not meet the strip no more
-pub set_apart_is_no_more : (g : Strip) (boxes : List (Option Rect)) (own : ℕ) (box : Option Rect) → meets g box ≡ false →
-    count_in g (set boxes own box) ≤ count_in g boxes
-set_apart_is_no_more g [] own box apart = omega arith
-set_apart_is_no_more g (b ∷ bs) zero box apart =
-    let before = one_more g b bs in
-    let after = one_more g box bs in
-    let none = ap one_if apart in
-    omega (arith, before, after, none)
-set_apart_is_no_more g (b ∷ bs) (suc own) box apart =
-    let rest = set_apart_is_no_more g bs own box apart in
-    let before = one_more g b bs in
-    let after = one_more g b (set bs own box) in
-    omega (arith, before, after, rest)
-
--- the same of the boxes of each team, where one cell has another box
-pub with_is_one_more : (g : Strip) (boxes : List (List (Option Rect))) (of own team : ℕ) (box : Option Rect) →
-    count_in g (get_or (set boxes of (set (get_or boxes of []) own box)) team []) ≤ count_in g (get_or boxes team []) + 1
-with_is_one_more g [] of own team box = omega arith
-with_is_one_more g (bs ∷ rest) zero own zero box = set_is_one_more g bs own box
-with_is_one_more g (bs ∷ rest) zero own (suc team) box = omega arith
-with_is_one_more g (bs ∷ rest) (suc of) own zero box = omega arith
-with_is_one_more g (bs ∷ rest) (suc of) own (suc team) box = with_is_one_more g rest of own team box
-
-pub without_is_no_more : (g : Strip) (boxes : List (List (Option Rect))) (of own team : ℕ) →
-    count_in g (get_or (set boxes of (set (get_or boxes of []) own None)) team []) ≤ count_in g (get_or boxes team [])
-without_is_no_more g [] of own team = omega arith
-without_is_no_more g (bs ∷ rest) zero own zero = set_apart_is_no_more g bs own None refl
-without_is_no_more g (bs ∷ rest) zero own (suc team) = omega arith
-without_is_no_more g (bs ∷ rest) (suc of) own zero = omega arith
-without_is_no_more g (bs ∷ rest) (suc of) own (suc team) = without_is_no_more g rest of own team
-
 -- how often a number is in a list
 abbrev count_of : ℕ → List ℕ → ℕ
 count_of k owns = count_by (λ own. eqb own k) owns

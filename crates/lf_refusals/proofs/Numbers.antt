@@ -1,8 +1,8 @@
 -- Refusals in the order of their numbers.
-use Rattle.std.proofs.Common.{◌≡◌, ℕ, ◌<◌, None, [], ◌∷◌, get_or, refl, sym, ap, ◌∙◌, arith}
+use Rattle.std.proofs.Common.{◌≡◌, ℕ, ◌<◌, None, [], ◌∷◌, get_or, refl, sym, ap, ◌∙◌}
 use Rattle.lf_lex.specs.declared.fault.FaultNumber.{FaultNumber}
 use Rattle.lf_lex.specs.declared.fault.FaultNumber.TheVariants.{BadToken, UnexpectedEnd, Unexpected, BadNumber, WrongEnd, UnknownStatement, NoUnits, NoSite, NoRows, VerticalRow, BadStep, RowOrient, RowsOverlap, NoMacro, NoSize, NotWhole, SecondName, SecondRegion, NoRegion, TeamName, FencesOverlap, TwoFences, TooMany, OutOfMemory}
-use Rattle.lf_refusals.specs.Findings.{Inputs, Finds, number_of, IsAccepted}
+use Rattle.lf_refusals.specs.Findings.{Inputs, Finds, number_of}
 
 abbrev numbered : ℕ → FaultNumber
 numbered n = get_or (OutOfMemory ∷ BadToken ∷ UnexpectedEnd ∷ Unexpected ∷ BadNumber ∷ WrongEnd ∷ UnknownStatement ∷ NoUnits ∷ NoSite ∷ NoRows ∷ VerticalRow ∷ BadStep ∷ RowOrient ∷ RowsOverlap ∷ NoMacro ∷ NoSize ∷ NotWhole ∷ SecondName ∷ SecondRegion ∷ NoRegion ∷ TeamName ∷ FencesOverlap ∷ TwoFences ∷ TooMany ∷ OutOfMemory ∷ []) n OutOfMemory
@@ -39,29 +39,3 @@ one_number m n same = sym (number_back m) ∙ ap numbered same ∙ number_back n
 -- no refusal below the number finds anything
 abbrev pub NoneBelow : Inputs → ℕ → Type 0
 NoneBelow i number = (n : FaultNumber) → number_of n < number → Finds i n None
-
-pub none_at_all : (i : Inputs) → NoneBelow i 24 → IsAccepted i
-none_at_all i before BadToken = before BadToken (omega arith)
-none_at_all i before UnexpectedEnd = before UnexpectedEnd (omega arith)
-none_at_all i before Unexpected = before Unexpected (omega arith)
-none_at_all i before BadNumber = before BadNumber (omega arith)
-none_at_all i before WrongEnd = before WrongEnd (omega arith)
-none_at_all i before UnknownStatement = before UnknownStatement (omega arith)
-none_at_all i before NoUnits = before NoUnits (omega arith)
-none_at_all i before NoSite = before NoSite (omega arith)
-none_at_all i before NoRows = before NoRows (omega arith)
-none_at_all i before VerticalRow = before VerticalRow (omega arith)
-none_at_all i before BadStep = before BadStep (omega arith)
-none_at_all i before RowOrient = before RowOrient (omega arith)
-none_at_all i before RowsOverlap = before RowsOverlap (omega arith)
-none_at_all i before NoMacro = before NoMacro (omega arith)
-none_at_all i before NoSize = before NoSize (omega arith)
-none_at_all i before NotWhole = before NotWhole (omega arith)
-none_at_all i before SecondName = before SecondName (omega arith)
-none_at_all i before SecondRegion = before SecondRegion (omega arith)
-none_at_all i before NoRegion = before NoRegion (omega arith)
-none_at_all i before TeamName = before TeamName (omega arith)
-none_at_all i before FencesOverlap = before FencesOverlap (omega arith)
-none_at_all i before TwoFences = before TwoFences (omega arith)
-none_at_all i before TooMany = before TooMany (omega arith)
-none_at_all i before OutOfMemory = refl

@@ -15,7 +15,8 @@ use Rattle.lf_floorplan.specs.Sizes.{turned}
 use Rattle.lf_rules.specs.Legality.{Holds}
 use Rattle.lf_rules.specs.Choice.{Spot, Lifted, IsLegalAt, MayGo, IsChoice, IsUpright, trial_at, rank}
 use Rattle.lf_floorplan.proofs.SizeBounds.{IsSmall, small_pitch, turned_small, sized_pitch}
-use Rattle.lf_rules.proofs.Looking.{LooksAt, IsAtSite, IsOnSites, IsOnRows, spot_at, onward}
+use Rattle.lf_rules.specs.Looking.{LooksAt, IsAtSite, IsOnSites, IsOnRows, spot_at}
+use Rattle.lf_rules.proofs.Looking.{onward}
 use Rattle.lf_rules.proofs.Order.{same_spot, compared}
 
 abbrev pub OneOfFour : Orient → Type 0

@@ -2,6 +2,7 @@ pub mod Padding
 pub mod Legality
 pub mod Solid
 pub mod Choice
+pub mod Looking
 pub mod Legalizer
 pub mod Team
 pub mod Tidy

@@ -1,7 +1,7 @@
 use Rattle.std.proofs.Common.{None}
 use Rattle.std.specs.Option.{option_map}
 use Rattle.lf_rules.specs.Choice.{spot_of}
-use Rattle.lf_rules.proofs.Looking.{LooksAt, IsOnRows}
+use Rattle.lf_rules.specs.Looking.{LooksAt, IsOnRows}
 use Rattle.lf_legalize.specs.Lifting.{lifted}
 use Rattle.lf_legalize.proofs.plain.best_place.Given as goal
 

@@ -1,7 +1,7 @@
 use Rattle.std.proofs.Common.{arith}
 use Rattle.std.proofs.lemmas.Int.{ints}
 use Rattle.lf_rules.specs.Choice.{spot_of}
-use Rattle.lf_rules.proofs.Looking.{spot_at}
+use Rattle.lf_rules.specs.Looking.{spot_at}
 use Rattle.lf_rules.proofs.Order.{same_spot}
 use Rattle.lf_legalize.proofs.plain.place_at.Goals as goal
 

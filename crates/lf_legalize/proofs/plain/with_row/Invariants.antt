@@ -1,4 +1,4 @@
-use Rattle.lf_rules.proofs.Looking.{IsOnSites}
+use Rattle.lf_rules.specs.Looking.{IsOnSites}
 use Rattle.lf_legalize.specs.Searches.{LooksAt}
 use Rattle.lf_legalize.proofs.plain.with_row.Given as goal
 
