@@ -11,6 +11,9 @@ ghost use Rattle.lf_teams.specs.States.{FloorState};
 ghost use Rattle.lf_write.specs.Export.{CanBeGiven};
 
 use crate::reading::{put_document, put_library};
+use crate::running::put_run;
+use crate::shipped;
+use crate::shipped::RowTexts;
 use lf_app::{Fault, TextFile, TextKind, answer_lines, write_fault};
 use lf_def::{DefDoc, W_DEF, read_def};
 use lf_devices::{FromRead, ToWrite};
@@ -43,6 +46,8 @@ pub struct Asked<'a> {
     pub is_by_index_alone: bool,
     /// Whether the exported text is asked for, once the requests are answered.
     pub is_exported: bool,
+    /// Whether the requests are handed over as one list.
+    pub is_run: bool,
     /// The requests.
     pub lines: &'a [u8],
 }
@@ -54,6 +59,8 @@ pub struct Design {
     lef: Vec<u8>,
     def: Vec<u8>,
     limits: Limits,
+    /// Whether these are not the standard ones.
+    is_limited: bool,
 }
 
 /// The line, with a line feed for each `~` in it.
@@ -101,6 +108,7 @@ impl Design {
             lef: Vec::from_slice(alloc, W_LEF)?,
             def: Vec::from_slice(alloc, W_DEF)?,
             limits: Limits::standard(),
+            is_limited: false,
         })
     }
 
@@ -133,6 +141,7 @@ impl Design {
     /// Sets the limits.
     pub fn set_limits(&mut self, limits: Limits) {
         self.limits = limits;
+        self.is_limited = true;
     }
 
     /// Writes what the design answers: its refusal, or what its texts say, where that is asked; or else `loaded`, its report
@@ -173,13 +182,58 @@ impl Design {
         }
         match load(self.alloc, library, document, self.limits) {
             Ok(loaded) => {
-                put_head(self.alloc, &loaded, asked.is_checked, writer)?;
+                self.put_head(&loaded, asked, writer)?;
                 let replies = replies_by_index(self.alloc, loaded, document, asked)?;
-                writer.write_all(&replies)?;
+                self.put_shipped(asked, &replies, writer)?;
                 self.compare(library, document, asked, &replies, writer)
             }
             Err(fault) => put_fault(writer, fault),
         }
+    }
+
+    /// The texts, as the program is handed them.
+    fn texts(&self) -> RowTexts<'_> {
+        RowTexts {
+            alloc: self.alloc,
+            lef: &self.lef,
+            def: &self.def,
+        }
+    }
+
+    /// Writes `loaded`, and the report where it is asked for: that of `lefence check`, and that of the library if it differs.
+    fn put_head<W: Write>(
+        &self,
+        loaded: &Loaded,
+        asked: &Asked<'_>,
+        writer: &mut W,
+    ) -> io::Result<()> {
+        writer.write_all(b"loaded\n")?;
+        if !asked.is_checked {
+            return Ok(());
+        }
+        let report = report_line(self.alloc, loaded)?;
+        if self.is_limited {
+            return writer.write_all(&report);
+        }
+        let shipped = shipped::report(&self.texts())?;
+        put_both(writer, &shipped, b"but by check_all\n", &report)
+    }
+
+    /// Writes the replies, with the exported text if it is asked for; then they are those of `lefence replay`, and those of the
+    /// library too, if they differ.
+    fn put_shipped<W: Write>(
+        &self,
+        asked: &Asked<'_>,
+        replies: &[u8],
+        writer: &mut W,
+    ) -> io::Result<()> {
+        if self.is_limited || !asked.is_exported {
+            return writer.write_all(replies);
+        }
+        let shipped = shipped::replay(&self.texts(), asked.lines)?;
+        let mut text = shipped.written;
+        put_lines(&mut text, &shipped.exported)?;
+        put_both(writer, &text, b"but by export\n", replies)
     }
 
     /// Writes what the plain seeker answers, where it is asked too and answers otherwise.
@@ -206,22 +260,9 @@ impl Design {
     }
 }
 
-/// Writes `loaded`, and the report where it is asked for.
-fn put_head<W: Write>(
-    alloc: Global,
-    loaded: &Loaded,
-    is_checked: bool,
-    writer: &mut W,
-) -> io::Result<()> {
-    writer.write_all(b"loaded\n")?;
-    if is_checked {
-        return put_report(alloc, loaded, writer);
-    }
-    Ok(())
-}
-
-/// Writes the report of the design as loaded.
-fn put_report<W: Write>(alloc: Global, loaded: &Loaded, writer: &mut W) -> io::Result<()> {
+/// The text of the report of the design as loaded, and a line feed.
+fn report_line(alloc: Global, loaded: &Loaded) -> Result<Vec<u8>, AllocError> {
+    let mut line = Vec::new(alloc);
     let mut places = Vec::new(alloc);
     for at in 0..loaded.cells.len() {
         if let Some(cell) = loaded.cells.get(at) {
@@ -229,11 +270,22 @@ fn put_report<W: Write>(alloc: Global, loaded: &Loaded, writer: &mut W) -> io::R
         }
     }
     if places.len() != loaded.cells.len() {
-        return Ok(());
+        return Ok(line);
     }
     let report = check_all(alloc, loaded, &places)?;
-    writer.write_all(report_json(alloc, &report)?.as_bytes())?;
-    writer.write_all(b"\n")
+    line.extend_from_slice(report_json(alloc, &report)?.as_bytes())?;
+    line.push(b'\n')?;
+    Ok(line)
+}
+
+/// Writes the text, and the other one behind these words, if it differs.
+fn put_both<W: Write>(writer: &mut W, text: &[u8], words: &[u8], other: &[u8]) -> io::Result<()> {
+    writer.write_all(text)?;
+    if text == other {
+        return Ok(());
+    }
+    writer.write_all(words)?;
+    writer.write_all(other)
 }
 
 /// The text of the document, with the committed places of the floor in it.
@@ -271,6 +323,25 @@ fn put_export<S: Seeker + Drop>(
     put_lines(replies, &text)
 }
 
+/// Puts the replies to the lines, each answered for itself, or all run as one list where that is asked for.
+fn put_answers<S: Seeker + Drop>(
+    alloc: Global,
+    floor: &mut Floor<S>,
+    asked: &Asked<'_>,
+    replies: &mut Vec<u8>,
+) -> Result<(), AllocError>
+    ensures { floor.new.components ≡ floor.old.components }
+{
+    if asked.is_run {
+        return put_run(alloc, floor, asked.lines, replies);
+    }
+    let mut reader = asked.lines;
+    let mut source = FromRead::new(&mut reader);
+    let mut sink = ToWrite::new(replies);
+    let _ending = answer_lines(alloc, floor, &mut source, &mut sink, MOST_LINES);
+    Ok(())
+}
+
 /// Puts the replies to the lines on the floor of the document's design, and the exported text where it is asked for.
 fn put_replies<S: Seeker + Drop>(
     alloc: Global,
@@ -282,10 +353,7 @@ fn put_replies<S: Seeker + Drop>(
     requires fits { (s : FloorState) (places : List (ℕ × Option Place)) → s.components ≡ floor.old.components → AreCommittedPlaces s places
         → CanBeGiven document.now.components places }
 {
-    let mut reader = asked.lines;
-    let mut source = FromRead::new(&mut reader);
-    let mut sink = ToWrite::new(replies);
-    let _ending = answer_lines(alloc, floor, &mut source, &mut sink, MOST_LINES);
+    put_answers(alloc, floor, asked, replies)?;
     if !asked.is_exported {
         return Ok(());
     }

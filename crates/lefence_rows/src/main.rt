@@ -19,15 +19,20 @@
 //! lines as those before it left them. `cut` keeps the first lines of a text alone; `limits` are those of rows, fences,
 //! components, sessions, undo entries and revisions; `check` asks for the report of the design; `read` asks what the texts
 //! say and nothing else (`reading`); `export` asks for the exported text, which stands behind the replies with a `|` in
-//! front of each line. All other lines are requests, but empty ones, which part rows. What is written of a row is the
-//! refusal of its design; or what its texts say; or `loaded`, the report if it is asked for, the replies, and the exported
-//! text if it is asked for. Each row is answered twice, its places looked for by index and by a look at every site, and
-//! replies that differ are written too; `= index` leaves the second out.
+//! front of each line; `run` hands the requests over as one list, not line by line. All other lines are requests, but empty
+//! ones, which part rows. What is written of a row is the refusal of its design; or what its texts say; or `loaded`, the
+//! report if it is asked for, the replies, and the exported text if it is asked for. Each row is answered twice, its places
+//! looked for by index and by a look at every site, and replies that differ are written too; `= index` leaves the second out.
+//!
+//! Where the limits are the standard ones, reports are those that `lefence check` writes, and a row with an exported text is
+//! answered by `lefence replay` (`shipped`); what the calls of the library answer beside them is written too if it differs.
 #![tactic(auto)]
 
 mod design;
 mod reading;
 mod row;
+mod running;
+mod shipped;
 
 use row::{Row, is_heading};
 use std::io;

@@ -15,6 +15,7 @@ pub struct Row {
     is_checked: bool,
     is_by_index_alone: bool,
     is_exported: bool,
+    is_run: bool,
     is_begun: bool,
     lines: Vec<u8>,
 }
@@ -62,6 +63,7 @@ impl Row {
             is_checked: false,
             is_by_index_alone: false,
             is_exported: false,
+            is_run: false,
             is_begun: false,
             lines: Vec::new(alloc),
         })
@@ -115,6 +117,8 @@ impl Row {
             self.is_by_index_alone = true;
         } else if setting == b"export".as_slice() {
             self.is_exported = true;
+        } else if setting == b"run".as_slice() {
+            self.is_run = true;
         } else {
             return false;
         }
@@ -131,6 +135,7 @@ impl Row {
             is_checked: self.is_checked,
             is_by_index_alone: self.is_by_index_alone,
             is_exported: self.is_exported,
+            is_run: self.is_run,
             lines: &self.lines,
         };
         self.design.answer(&asked, writer)

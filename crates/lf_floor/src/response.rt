@@ -1,6 +1,6 @@
 //! Replies whose DEF text is put apart, piece by piece.
 
-ghost use Rattle.std.specs.Prelude.{◌≡◌, IfSome, List, ℕ, length};
+ghost use Rattle.std.specs.Prelude.{◌≡◌, IfNone, IfSome, List, ℕ, length};
 ghost use Rattle.lf_rules.specs.Legalizer.{Legalizer};
 ghost use Rattle.lf_proto.specs.Commands.{command_of, order_of};
 ghost use Rattle.lf_proto.specs.declared.reply.Reply.TheVariants.{Def};
@@ -9,8 +9,8 @@ ghost use Rattle.lf_proto.specs.declared.verb.Action.TheVariants.{Def as AskDef}
 ghost use Rattle.lf_teams.specs.Committed.{IsCommittedLegal};
 ghost use Rattle.lf_teams.specs.Steps.{Answers, IsTo, Step, TakesNone};
 ghost use Rattle.lf_teams.specs.Teams.{state_of};
-ghost use Rattle.lf_texts.specs.Output.{Puts};
-ghost use Rattle.lf_floor.specs.Responses.{def_text, reply_in, team_of};
+ghost use Rattle.lf_texts.specs.Output.{IsLengthOf, Puts};
+ghost use Rattle.lf_floor.specs.Responses.{AsksForText, AsksText, GivesText, def_text, reply_in, team_of};
 ghost use Rattle.lf_floor.specs.declared.response.Response.TheVariants.{Def as Apart};
 
 use crate::floor::{Floor, team_named};
@@ -29,7 +29,8 @@ pub enum Response {
 
 /// The session for which the order asks for the team's DEF text, if it does.
 fn def_session(order: &Order<&[u8]>) -> Option<u32>
-    ensures { IfSome result (λ session. order_of order.now ≡ Within session AskDef) }
+    ensures is { IfSome result (λ session. order_of order.now ≡ Within session AskDef) }
+    ensures none { IfNone result (AsksText (order_of order.now) → ⊥) }
 {
     match order {
         Order::Within {
@@ -57,11 +58,13 @@ impl<S: Seeker + Drop> Floor<S> {
         );
     }
 
-    /// How many bytes that text has; none if there is no such team, or they are 2^64 or more.
+    /// How many bytes that text has; none just if they are 2^64 or more.
     fn def_length(&self, team: &[u8]) -> Option<usize>
-        ensures { IfSome result (λ count. count ≡ length (def_text self.now team.now)) }
+        ensures { IsLengthOf (def_text self.now team.now) result }
     {
-        let number = team_named(self.tables.placement.frame(), team)?;
+        let Some(number) = team_named(self.tables.placement.frame(), team) else {
+            return Some(0);
+        };
         team_def_length(
             self.tables.placement.frame(),
             self.tables.placement.cells(),
@@ -74,6 +77,7 @@ impl<S: Seeker + Drop> Floor<S> {
         ensures asked { (l : Legalizer) → IfSome result (λ team. Answers l self.now (command_of request.now) (Def (def_text self.now team.now)) self.now) }
         ensures team { IfSome result (λ team. team.now ≡ team_of (command_of request.now)) }
         ensures takes { IfSome result (λ team. TakesNone (command_of request.now) → ⊥) }
+        ensures none { (l : Legalizer) (text : List ℕ) → IfNone result (AsksForText (command_of request.now) → Answers l self.now (command_of request.now) (Def text) self.now → ⊥) }
     {
         let Command::To { team, order } = request else {
             return None;
@@ -85,10 +89,11 @@ impl<S: Seeker + Drop> Floor<S> {
     }
 
     /// Answers one command as `step` does, but that no DEF text is made: the floor is not changed by that command, so its text
-    /// can be put as long as no other is answered.
+    /// can be put as long as no other is answered. A DEF text is never answered `OutOfMemory`, unless it has 2^64 bytes.
     pub fn respond(&mut self, request: &Request) -> Response
         ensures step { (l : Legalizer) → Step l self.old (command_of request.now) (reply_in self.new (team_of (command_of request.now)) result) self.new }
         ensures length { (count : ℕ) → result ≡ Apart count → count ≡ length (def_text self.new (team_of (command_of request.now))) }
+        ensures text { GivesText self.old (command_of request.now) result }
         ensures others { (team : List ℕ) → ¬ IsTo team (command_of request.now) → state_of self.new team ≡ state_of self.old team }
         ensures frame { self.new.frame ≡ self.old.frame }
         ensures components { self.new.components ≡ self.old.components }

@@ -8,6 +8,7 @@ use lf_legalize::best_place;
 use lf_orient::Orient;
 use lf_rules::Padding;
 use lf_units::Point;
+use lf_write::team_def;
 use std::alloc::Global;
 use std::test::Fail;
 
@@ -59,11 +60,39 @@ fn serves(alloc: Global, design: Loaded) -> Result<bool, Fail> {
     Ok(finds_cells(&table) && keeps_places(&mut table))
 }
 
+/// The DEF text of A in the built-in design.
+const TEXT_OF_A: &[u8] = b"VERSION 5.8 ;
+DIVIDERCHAR \"/\" ;
+BUSBITCHARS \"[]\" ;
+DESIGN w ;
+UNITS DISTANCE MICRONS 1000 ;
+REGIONS 1 ;
+- A ( 0 0 ) ( 4000 4000 ) + TYPE FENCE ;
+END REGIONS
+COMPONENTS 3 ;
+- a1 INV + UNPLACED ;
+- a2 INV + UNPLACED ;
+- a3 DBL + UNPLACED ;
+END COMPONENTS
+GROUPS 1 ;
+- A a1 a2 a3 + REGION A ;
+END GROUPS
+END DESIGN
+";
+
+/// Whether the DEF text of A is made whole.
+fn has_text(alloc: Global, design: Loaded) -> Result<bool, Fail> {
+    let (frame, table) = CellTable::build(alloc, design)?;
+    let text = team_def(alloc, &frame, &table, 0)?;
+    Ok(text.as_slice() == TEXT_OF_A)
+}
+
 /// What is asked of the cells of the built-in design.
 #[derive(Clone, Copy)]
 enum Case {
     Table,
     Strangers,
+    Text,
 }
 
 impl Asked for Case {
@@ -71,6 +100,7 @@ impl Asked for Case {
         match self {
             Case::Table => serves(alloc, design),
             Case::Strangers => Ok(strangers_have_none(&design.frame)),
+            Case::Text => has_text(alloc, design),
         }
     }
 }
@@ -84,5 +114,11 @@ fn a_table_of_cells(rt: HostRuntime) -> Result<(), Fail> {
 #[test]
 fn strangers_have_no_best_place(rt: HostRuntime) -> Result<(), Fail> {
     assert!(rt; holds(rt.alloc(), W_DEF, &Case::Strangers)?);
+    Ok(())
+}
+
+#[test]
+fn a_team_has_a_text(rt: HostRuntime) -> Result<(), Fail> {
+    assert!(rt; holds(rt.alloc(), W_DEF, &Case::Text)?);
     Ok(())
 }

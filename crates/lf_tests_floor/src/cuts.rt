@@ -61,9 +61,65 @@ fn bars(log: &[u8]) -> u64 {
     count
 }
 
-/// Whether this is a front of the log.
-fn is_front(log: &[u8]) -> bool {
-    LOG.starts_with(log)
+/// The log of so many replies, each written whole and flushed.
+fn log_of_replies(count: u64) -> &'static [u8] {
+    let mut left = count;
+    for (at, byte) in LOG.iter().enumerate() {
+        if left == 0 {
+            return LOG.get(..at).unwrap_or(b"");
+        }
+        if *byte == b'|' {
+            left = left.saturating_sub(1);
+        }
+    }
+    LOG
+}
+
+/// The log of so many writes of three bytes, of which the last one of a reply may be shorter; each reply that is whole then is
+/// flushed.
+fn log_of_writes(count: u32) -> &'static [u8] {
+    let mut left = count;
+    let mut written = 0u32;
+    for (at, byte) in LOG.iter().enumerate() {
+        if *byte == b'|' {
+            written = 0;
+        } else {
+            if written == 0 && left == 0 {
+                return LOG.get(..at).unwrap_or(b"");
+            }
+            if written == 0 {
+                left = left.saturating_sub(1);
+            }
+            written = written.wrapping_add(1) % 3;
+        }
+    }
+    LOG
+}
+
+/// The log of so many flushes, and of the reply behind them, which is written and not flushed.
+fn log_of_flushes(count: u32) -> &'static [u8] {
+    let mut left = count;
+    for (at, byte) in LOG.iter().enumerate() {
+        if *byte == b'|' {
+            if left == 0 {
+                return LOG.get(..at).unwrap_or(b"");
+            }
+            left = left.saturating_sub(1);
+        }
+    }
+    LOG
+}
+
+/// How many lines of the script are whole in so many reads of 7 bytes.
+fn lines_in(reads: u32) -> u64 {
+    let read = (reads as usize).saturating_mul(7).min(SCRIPT.len());
+    let mut count = 0u64;
+    for byte in SCRIPT.get(..read).unwrap_or(b"") {
+        if *byte == b'\n' {
+            count = count.saturating_add(1);
+        }
+    }
+    count
 }
 
 /// What is told where so many replies were written whole and flushed: the line whose reply was not is acted on too.
@@ -81,21 +137,22 @@ const SMALL: Plan = Plan {
     ..SOUND
 };
 
-/// Whether the script over these devices ends so on the floor, with a front of the log, and the counts of that front.
+/// Whether the script over these devices ends so on the floor, with just this log and its counts.
 fn breaks_off_on(
     alloc: Global,
     floor: &mut Floor<PlainSeeker>,
     plan: &Plan,
     ending: Ending,
+    log: &[u8],
 ) -> bool {
     let told = serve_bytes(alloc, floor, SCRIPT, plan);
-    is_front(&told.log) && told.served == broken_off(bars(&told.log), ending)
+    told.log.as_slice() == log && told.served == broken_off(bars(log), ending)
 }
 
 /// The same of the floor of the built-in design on which two changes can be undone.
-fn breaks_off(alloc: Global, plan: &Plan, ending: Ending) -> Result<bool, Fail> {
+fn breaks_off(alloc: Global, plan: &Plan, ending: Ending, log: &[u8]) -> Result<bool, Fail> {
     match floor_of_two_undos(alloc) {
-        Ok(mut floor) => Ok(breaks_off_on(alloc, &mut floor, plan, ending)),
+        Ok(mut floor) => Ok(breaks_off_on(alloc, &mut floor, plan, ending, log)),
         Err(fail) => Err(fail),
     }
 }
@@ -109,7 +166,12 @@ fn each_read_may_fail(rt: HostRuntime) -> Result<(), Fail> {
             ..SMALL
         };
         assert!(rt;
-            breaks_off(rt.alloc(), &plan, Ending::ReadFault)?,
+            breaks_off(
+                rt.alloc(),
+                &plan,
+                Ending::ReadFault,
+                log_of_replies(lines_in(good_reads))
+            )?,
             "read {good_reads}"
         );
         good_reads = good_reads.saturating_add(1);
@@ -118,7 +180,7 @@ fn each_read_may_fail(rt: HostRuntime) -> Result<(), Fail> {
         good_reads,
         ..SMALL
     };
-    assert!(rt; breaks_off(rt.alloc(), &plan, Ending::Done)?);
+    assert!(rt; breaks_off(rt.alloc(), &plan, Ending::Done, LOG)?);
     Ok(())
 }
 
@@ -130,7 +192,12 @@ fn each_write_may_fail(rt: HostRuntime) -> Result<(), Fail> {
             ..SMALL
         };
         assert!(rt;
-            breaks_off(rt.alloc(), &plan, Ending::WriteFault)?,
+            breaks_off(
+                rt.alloc(),
+                &plan,
+                Ending::WriteFault,
+                log_of_writes(good_writes)
+            )?,
             "write {good_writes}"
         );
     }
@@ -138,7 +205,7 @@ fn each_write_may_fail(rt: HostRuntime) -> Result<(), Fail> {
         good_writes: 29,
         ..SMALL
     };
-    assert!(rt; breaks_off(rt.alloc(), &plan, Ending::Done)?);
+    assert!(rt; breaks_off(rt.alloc(), &plan, Ending::Done, LOG)?);
     Ok(())
 }
 
@@ -150,7 +217,12 @@ fn each_flush_may_fail(rt: HostRuntime) -> Result<(), Fail> {
             ..SMALL
         };
         assert!(rt;
-            breaks_off(rt.alloc(), &plan, Ending::WriteFault)?,
+            breaks_off(
+                rt.alloc(),
+                &plan,
+                Ending::WriteFault,
+                log_of_flushes(good_flushes)
+            )?,
             "flush {good_flushes}"
         );
     }
@@ -158,6 +230,6 @@ fn each_flush_may_fail(rt: HostRuntime) -> Result<(), Fail> {
         good_flushes: 9,
         ..SMALL
     };
-    assert!(rt; breaks_off(rt.alloc(), &plan, Ending::Done)?);
+    assert!(rt; breaks_off(rt.alloc(), &plan, Ending::Done, LOG)?);
     Ok(())
 }

@@ -134,6 +134,23 @@ fn shows_what_is_near(
     Ok(other == Some(a1.own) && itself.is_none())
 }
 
+/// Whether the occupancy, lent with the tables, tells of a strip what its filled strips do.
+fn tells_what_is_free(
+    alloc: Global,
+    occupancy: &Occupancy,
+    frame: &Frame,
+    cells: &CellTable,
+    a2: &CellId,
+) -> Result<bool, AllocError>
+    requires sized { HaveSize frame.now cells.now }
+    requires held { IsMarkedBy frame.now cells.now occupancy.now }
+{
+    let strips = occupancy.filled(frame, cells);
+    let padding = padding_of(&strips, 300);
+    let free = occupancy.free_spans(alloc, frame, cells, LOWEST, *a2, padding)?;
+    Ok(are(&free, &[(0, 100), (1100, 4000)]))
+}
+
 /// Whether the strips of the design show what is free and what is near.
 fn answer(alloc: Global, design: Loaded) -> Result<bool, Fail> {
     let built = tables_of(alloc, design)?;
@@ -145,6 +162,9 @@ fn answer(alloc: Global, design: Loaded) -> Result<bool, Fail> {
     let Some(a2) = cell_of(&cells, b"a2") else {
         return Ok(false);
     };
+    if !tells_what_is_free(alloc, &occupancy, &frame, &cells, &a2)? {
+        return Ok(false);
+    }
     let strips = occupancy.filled(&frame, &cells);
     if !shows_what_is_free(alloc, &strips, &a1, &a2)? {
         return Ok(false);

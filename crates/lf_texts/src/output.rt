@@ -1,7 +1,7 @@
 //! Where a text goes, piece by piece.
 
-ghost use Rattle.std.specs.Prelude.{◌≡◌, [], ℕ, List, IfOk, IfSome, false, length};
-ghost use Rattle.lf_texts.specs.Output.{Puts};
+ghost use Rattle.std.specs.Prelude.{◌≡◌, [], ℕ, List, IfOk, false};
+ghost use Rattle.lf_texts.specs.Output.{IsLengthOf, Puts};
 
 use std::alloc::{AllocError, Global};
 
@@ -17,7 +17,7 @@ pub trait Output {
         ensures { Puts took self.old self.new bytes.now };
 }
 
-/// The length of a text, of which nothing is kept: the number of its bytes, or none from 2^64 on.
+/// The length of a text, of which nothing is kept: the number of its bytes; none just if they are 2^64 or more.
 #[derive(Drop)]
 pub(crate) struct Length {
     pub(crate) count: Option<usize>,
@@ -33,7 +33,7 @@ impl Length {
 }
 
 impl Output for Length {
-    ghost took = { λ _ now text. IfSome now.count (λ count. count ≡ length text) };
+    ghost took = { λ _ now text. IsLengthOf text now.count };
 
     fn put(&mut self, bytes: &[u8]) {
         self.count = match self.count {

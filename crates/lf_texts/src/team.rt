@@ -1,9 +1,9 @@
 //! The DEF text of a team.
 
-ghost use Rattle.std.specs.Prelude.{◌≡◌, ◌∷◌, [], IfOk, IfSome, codes, decimal, length, map, slice_get};
+ghost use Rattle.std.specs.Prelude.{◌≡◌, ◌∷◌, [], IfOk, codes, decimal, map, slice_get};
 ghost use Rattle.std.specs.List.{flat_map};
 ghost use Rattle.lf_cells.specs.Cells.{cells_of};
-ghost use Rattle.lf_texts.specs.Output.{Puts};
+ghost use Rattle.lf_texts.specs.Output.{IsLengthOf, Puts};
 ghost use Rattle.lf_texts.specs.TeamText.{component_words, group_lines, header_lines, line_of, region_lines, section_lines, team_text};
 
 use crate::entries::{put_components, put_group, put_region};
@@ -107,9 +107,9 @@ pub fn put_team_def<O: Output>(out: &mut O, frame: &Frame, cells: &CellTable, te
     put_end(out, b"DESIGN");
 }
 
-/// How many bytes that text has; none if they are 2^64 or more.
+/// How many bytes that text has; none just if they are 2^64 or more.
 pub fn team_def_length(frame: &Frame, cells: &CellTable, team: usize) -> Option<usize>
-    ensures { IfSome result (λ count. count ≡ length (team_text frame.now team (cells_of cells.now team))) }
+    ensures { IsLengthOf (team_text frame.now team (cells_of cells.now team)) result }
 {
     let mut length = Length::zero();
     put_team_def(&mut length, frame, cells, team);

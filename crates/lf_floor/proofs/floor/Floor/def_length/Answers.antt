@@ -1,7 +1,7 @@
 use Rattle.std.proofs.Common.{◌≡◌, ◌<◌, ◌+◌, length, sym, ap, ◌∙◌, List, ℕ, Some, subst}
-use Rattle.std.specs.Prelude.{IfSome}
 use Rattle.lf_floorplan.specs.declared.frame.Frame.{Frame}
 use Rattle.lf_cells.specs.Cells.{Cells, cells_of}
+use Rattle.lf_texts.specs.Output.{IsLengthOf}
 use Rattle.lf_texts.specs.TeamText.{team_text}
 use Rattle.lf_teams.specs.States.{FloorState}
 use Rattle.lf_teams.specs.Teams.{team_number}
@@ -13,11 +13,11 @@ use Rattle.lf_floor.proofs.floor.Floor.def_length.Goals as goal
 pub returns : goal.returns
 returns g c =
     let tables = c.self.inside.tables in
-    let number = c.in_ok-number.number in
+    let number = c.in-Some.number in
     let text = ap (λ (v : FloorState). def_text v c.args.team.now) (sym c.self.view_is) ∙ text_there tables c.args.team.now number
-    (subst (λ (f : Frame). Some number ≡ team_number f c.args.team.now) c.frame.ensures c.in_ok-number.ensures.found)
-    (rw c.self.invariant.revisions (subst (λ (f : Frame). number < length f.teams + 1) c.frame.ensures c.in_ok-number.ensures.within)) in
-    subst (λ (t : List ℕ). IfSome c.team_def_length.result (λ count. count ≡ length t)) (sym text)
-    (subst (λ (cs : Cells). IfSome c.team_def_length.result (λ count. count ≡ length (team_text (frame_of tables) number (cells_of cs number)))) c.cells.ensures
-    (subst (λ (f : Frame). IfSome c.team_def_length.result (λ count. count ≡ length (team_text f number (cells_of c.cells.result.now number)))) c.frame-2.ensures
+    (subst (λ (f : Frame). Some number ≡ team_number f c.args.team.now) c.frame.ensures c.in-Some.ensures.found)
+    (rw c.self.invariant.revisions (subst (λ (f : Frame). number < length f.teams + 1) c.frame.ensures c.in-Some.ensures.within)) in
+    subst (λ (t : List ℕ). IsLengthOf t c.team_def_length.result) (sym text)
+    (subst (λ (cs : Cells). IsLengthOf (team_text (frame_of tables) number (cells_of cs number)) c.team_def_length.result) c.cells.ensures
+    (subst (λ (f : Frame). IsLengthOf (team_text f number (cells_of c.cells.result.now number)) c.team_def_length.result) c.frame-2.ensures
     c.team_def_length.ensures))

@@ -1,0 +1,125 @@
+//! What the program itself answers of a row: the report of `lefence check`, and the replies and the exported text of
+//! `lefence replay`, over texts in memory.
+
+use lf_app::{Offer, Services, Task, Texts, Unread, Unserved, perform_over};
+use lf_devices::{FromRead, Sink, ToWrite};
+use lf_files::{Exports, Pieces, Unwritten};
+use lf_floor::Floor;
+use lf_legalize::IndexSeeker;
+use lf_units::Sequence;
+use std::alloc::{AllocError, Global};
+
+/// The path of the LEF text; that of every other text is the DEF text's.
+const LEF: &str = "row.lef";
+
+/// The texts of a row.
+#[derive(Clone, Copy)]
+pub struct RowTexts<'a> {
+    pub alloc: Global,
+    pub lef: &'a [u8],
+    pub def: &'a [u8],
+}
+
+impl<'a> Texts for RowTexts<'a> {
+    fn text(&self, path: &str) -> Result<Vec<u8>, Unread> {
+        let text = if path == LEF { self.lef } else { self.def };
+        match Vec::from_slice(self.alloc, text) {
+            Ok(copy) => Ok(copy),
+            Err(_) => Err(Unread::OutOfMemory),
+        }
+    }
+}
+
+/// The last exported text.
+#[derive(Drop)]
+struct KeptExport {
+    text: Vec<u8>,
+}
+
+impl Exports for KeptExport {
+    fn try_path(&self, _path: &str) -> Result<(), Unwritten> {
+        Ok(())
+    }
+
+    fn put<P: Pieces>(&mut self, _path: &str, text: &P) -> Result<(), Unwritten> {
+        self.text.clear();
+        match text.write_to(&mut self.text) {
+            Ok(()) => Ok(()),
+            Err(_) => Err(Unwritten::OutOfMemory),
+        }
+    }
+}
+
+/// No services: none can be offered.
+#[derive(Clone, Copy)]
+struct NoServices;
+
+impl Services for NoServices {
+    fn offer<W: Sink>(
+        &mut self,
+        _offer: &Offer,
+        _floor: &mut Floor<IndexSeeker>,
+        _writer: &mut W,
+    ) -> Result<(), Unserved> {
+        Err(Unserved::Bind)
+    }
+}
+
+/// What a task wrote, and the text that it exported, if it did.
+#[derive(Drop)]
+pub struct Shipped {
+    pub written: Vec<u8>,
+    pub exported: Vec<u8>,
+}
+
+/// Does the task over these texts and lines; what is told of a fault stands behind what is written.
+fn performed(texts: &RowTexts<'_>, task: &Task<'_>, lines: &[u8]) -> Result<Shipped, AllocError> {
+    let mut exports = KeptExport {
+        text: Vec::new(texts.alloc),
+    };
+    let mut reader = lines;
+    let mut written = Vec::new(texts.alloc);
+    let mut faults = Vec::new(texts.alloc);
+    perform_over(
+        texts.alloc,
+        texts,
+        &mut exports,
+        &mut NoServices,
+        task,
+        &mut FromRead::new(&mut reader),
+        &mut ToWrite::new(&mut written),
+        &mut ToWrite::new(&mut faults),
+    );
+    written.extend_from_slice(&faults)?;
+    Ok(Shipped {
+        written,
+        exported: exports.text,
+    })
+}
+
+/// The list of the LEF path alone.
+fn lef_alone(alloc: Global) -> Result<Sequence<&'static str>, AllocError> {
+    let mut lefs = Sequence::new(alloc);
+    lefs.push(LEF)?;
+    Ok(lefs)
+}
+
+/// What `lefence check` writes.
+pub fn report(texts: &RowTexts<'_>) -> Result<Vec<u8>, AllocError> {
+    let task = Task::Check {
+        def: "row.def",
+        lefs: lef_alone(texts.alloc)?,
+    };
+    Ok(performed(texts, &task, b"")?.written)
+}
+
+/// What `lefence replay --export` writes of these lines.
+pub fn replay(texts: &RowTexts<'_>, lines: &[u8]) -> Result<Shipped, AllocError> {
+    let task = Task::Replay {
+        def: "row.def",
+        lefs: lef_alone(texts.alloc)?,
+        lines: 1_000,
+        export: Some("row.out"),
+    };
+    performed(texts, &task, lines)
+}
