@@ -20,8 +20,8 @@ const FACTOR: u32 = 0x9E37_79B1;
 /// A name's label, and how many bytes it has.
 #[derive(Clone, Copy)]
 pub struct Entry {
-    label: u32,
-    len: u32,
+    label: usize,
+    len: usize,
 }
 
 /// Names with labels, in the order in which they were pushed; their bytes are joined.
@@ -34,8 +34,8 @@ pub struct LabelledNames {
 /// The labels of a name that is in two lists: its own, and that of the asked name.
 #[derive(Clone, Copy)]
 pub struct Match {
-    pub own: u32,
-    pub asked: u32,
+    pub own: usize,
+    pub asked: usize,
 }
 
 /// A list of labelled names in parts, which copy their names. Equal names are in one part, so names are looked up part
@@ -71,11 +71,11 @@ fn part_of(name: &[u8]) -> usize
 }
 
 /// The first `len` bytes, and those after them.
-fn cut(bytes: &[u8], len: u32) -> (&[u8], &[u8])
+fn cut(bytes: &[u8], len: usize) -> (&[u8], &[u8])
     ensures front { result.0.now ≡ take len bytes.now }
     ensures back { result.1.now ≡ drop len bytes.now }
 {
-    bytes.split_at((len as usize).min(bytes.len()))
+    bytes.split_at(len.min(bytes.len()))
 }
 
 impl LabelledNames {
@@ -89,13 +89,12 @@ impl LabelledNames {
         }
     }
 
-    /// Appends a name with its label. `Err`, which leaves the names unchanged, if an allocation fails or the name's
-    /// length does not fit 32 bits.
-    fn push(&mut self, label: u32, name: &[u8]) -> Result<(), AllocError>
+    /// Appends a name with its label. `Err`, which leaves the names unchanged, if an allocation fails.
+    fn push(&mut self, label: usize, name: &[u8]) -> Result<(), AllocError>
         ensures ok { (names : List Labelled) → Keeps self.old names → OnOk result (Keeps self.new (names ++ record { label = label; name = name.now } ∷ [])) }
         ensures err { (names : List Labelled) → Keeps self.old names → OnErr result (Keeps self.new names) }
     {
-        let len = u32::try_from(name.len()).ok().ok_or(AllocError)?;
+        let len = name.len();
         let before = self.bytes.len();
         self.bytes.extend_from_slice(name)?;
         if self.entries.push(Entry { label, len }).is_err() {
@@ -126,7 +125,7 @@ fn table_of(alloc: Global, names: &LabelledNames) -> Result<Option<LentNames<'_>
 }
 
 /// The label of the name, by its position in the table.
-fn label_of(names: &LabelledNames, table: &LentNames, name: &[u8]) -> Option<u32>
+fn label_of(names: &LabelledNames, table: &LentNames, name: &[u8]) -> Option<usize>
     ensures { (own : List Labelled) → Keeps names.now own → table.now ≡ map (λ n. n.name) own → result ≡ label_in own name.now }
 {
     let entry = names.entries.get(table.find(name)?)?;
@@ -134,7 +133,7 @@ fn label_of(names: &LabelledNames, table: &LentNames, name: &[u8]) -> Option<u32
 }
 
 /// Appends a match if the asked name has a label.
-fn add_match(matches: &mut Vec<Match>, own: Option<u32>, asked: u32) -> Result<(), AllocError>
+fn add_match(matches: &mut Vec<Match>, own: Option<usize>, asked: usize) -> Result<(), AllocError>
     ensures { OnOk result (matches.new.items ≡ matches.old.items ++ option_to_list (option_map (labels_of asked) own)) }
 {
     if let Some(own) = own {
@@ -190,7 +189,7 @@ fn empty_parts(alloc: Global) -> Result<Vec<LabelledNames>, AllocError>
 }
 
 /// Appends the name to its part.
-fn push_in_part(parts: &mut Vec<LabelledNames>, label: u32, name: &[u8]) -> Result<(), AllocError>
+fn push_in_part(parts: &mut Vec<LabelledNames>, label: usize, name: &[u8]) -> Result<(), AllocError>
     ensures ok { (names : List Labelled) → ArePartsOf names parts.old.items → OnOk result (ArePartsOf (names ++ record { label = label; name = name.now } ∷ []) parts.new.items) }
     ensures err { (names : List Labelled) → ArePartsOf names parts.old.items → OnErr result (ArePartsOf names parts.new.items) }
 {
@@ -234,9 +233,8 @@ impl NameParts {
         })
     }
 
-    /// Adds the name with its label to its part. `Err` if an allocation fails or the name's length does not fit 32
-    /// bits.
-    pub fn push(&mut self, label: u32, name: &[u8]) -> Result<(), AllocError>
+    /// Adds the name with its label to its part. `Err` if an allocation fails.
+    pub fn push(&mut self, label: usize, name: &[u8]) -> Result<(), AllocError>
         ensures ok { OnOk result (IsPermutation (self.old ++ record { label = label; name = name.now } ∷ []) self.new) }
         ensures err { OnErr result (self.new ≡ self.old) }
     {
