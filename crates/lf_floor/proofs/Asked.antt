@@ -1,12 +1,14 @@
 -- A command that asks for a DEF text.
-use Rattle.std.proofs.Common.{◌≡◌, ℕ, ◌<◌, List, length, Option, Some, refl, sym, ap, subst, ◌∙◌}
+use Rattle.std.proofs.Common.{◌≡◌, ℕ, ◌<◌, List, length, Option, Some, None, refl, sym, ap, subst, ◌∙◌, false≢true}
 use Rattle.std.specs.Prelude.{slice_set}
 use Rattle.std.proofs.lemmas.List.{set-get_or}
 use Rattle.std.proofs.lemmas.Option.{get_or_from_slice_get}
 use Rattle.lf_floorplan.specs.declared.frame.Frame.{Frame}
 use Rattle.lf_floorplan.specs.declared.place.Place.{Place}
 use Rattle.lf_rules.specs.Legalizer.{Legalizer}
-use Rattle.lf_proto.specs.declared.reply.Reply.TheVariants.{Def}
+use Rattle.lf_proto.specs.declared.reply.Refusal.{Refusal}
+use Rattle.lf_proto.specs.declared.reply.Refusal.TheVariants.{NoSession, NoTeam}
+use Rattle.lf_proto.specs.declared.reply.Reply.TheVariants.{Def, Refused}
 use Rattle.lf_proto.specs.declared.request.Command.TheVariants.{To}
 use Rattle.lf_proto.specs.declared.request.Order.{Order}
 use Rattle.lf_proto.specs.declared.request.Order.TheVariants.{Within}
@@ -14,10 +16,11 @@ use Rattle.lf_proto.specs.declared.verb.Action.TheVariants.{Def as AskDef}
 use Rattle.lf_texts.specs.TeamText.{team_text}
 use Rattle.lf_teams.specs.States.{FloorState, TeamState}
 use Rattle.lf_teams.specs.Teams.{setting, team_number}
+use Rattle.lf_teams.specs.VerbLaws.{is_granted}
 use Rattle.lf_teams.specs.Looks.{written}
 use Rattle.lf_teams.specs.Outcomes.{Reaches}
 use Rattle.lf_teams.specs.Sessions.{seen_at}
-use Rattle.lf_teams.specs.Steps.{Answers, Gives, answer_at, floor_of, ruled}
+use Rattle.lf_teams.specs.Steps.{Answers, Gives, answer_at, answer_by, answer_of, floor_of, ruled}
 use Rattle.lf_teams.specs.Verbs.{outcome_by_slot}
 use Rattle.lf_teams.proofs.Answering.{some_answers}
 use Rattle.lf_teams.proofs.Serving.{gives}
@@ -60,3 +63,28 @@ def_answers l tables name session seen number named within opened =
     (some_answers l (floor_in tables) (floor_in tables) name (ask session) number (Def text) named
     (subst (λ (v : FloorState). Gives (answer_at (Some number) l (floor_in tables) (ask session)) (Def text) v) same
     (gives l f components (teams_in tables) number (ask session) s s (Def text) there (text_reached l f number session seen s opened))))
+
+-- a DEF text is no refusal
+no_refusal : (text : List ℕ) (refusal : Refusal) → Def text ≡ Refused refusal → ⊥
+no_refusal text refusal same = false≢true (sym (ap is_granted same))
+
+-- what no team answers is no DEF text
+pub none_without_team : (l : Legalizer) (floor : FloorState) (name : List ℕ) (order : Order (List ℕ) Place) (text : List ℕ) → None ≡ team_number floor.frame name
+    → Answers l floor (To name order) (Def text) floor → ⊥
+unfolding answer_of
+none_without_team l floor name order text none answers =
+    no_refusal text NoTeam (answers.reply_is ∙ ap (λ (n : Option ℕ). (answer_at n l floor order).reply) (sym none))
+
+-- and neither is what a session gets that is not open
+pub none_without_session : (l : Legalizer) (tables : Tables) (name : List ℕ) (session number : ℕ) (text : List ℕ)
+    → Some number ≡ team_number (frame_of tables) name → number < length tables.revisions.items → None ≡ seen_at (own_team number tables).slots session
+    → Answers l (floor_in tables) (To name (ask session)) (Def text) (floor_in tables) → ⊥
+unfolding answer_of
+none_without_session l tables name session number text named within closed answers =
+    let f = frame_of tables in
+    let s = own_team number tables in
+    let floor = floor_in tables in
+    no_refusal text NoSession
+    (answers.reply_is ∙ ap (λ (n : Option ℕ). (answer_at n l floor (ask session)).reply) (sym named)
+    ∙ ap (λ (t : Option TeamState). (answer_by t l floor number (ask session)).reply) (team_there tables number within)
+    ∙ ap (λ (o : Option ℕ). (outcome_by_slot o (setting l f number s.padding) session AskDef s).reply) (sym closed))

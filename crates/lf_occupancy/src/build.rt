@@ -1,6 +1,6 @@
 //! How an occupancy is built.
 
-ghost use Rattle.std.specs.Prelude.{◌≡◌, ◌+◌, ◌<◌, [], All, IfOk, IsPermutation, List, OnOk, Option, drop, length, map, slice_index_or, take};
+ghost use Rattle.std.specs.Prelude.{◌≡◌, ◌+◌, ◌<◌, ◌≤◌, [], All, IfOk, IsPermutation, List, OnOk, Option, drop, length, map, slice_index_or, take};
 ghost use Rattle.lf_occupancy.specs.declared.build.Waiting.{Waiting};
 ghost use Rattle.lf_occupancy.specs.Building.{AreBare, AreFilledIn, IsBefore, id_at};
 ghost use Rattle.lf_occupancy.specs.Floorplans.{HaveSize, boxes_in};
@@ -59,15 +59,22 @@ fn waiting_cell(cells: &CellTable, id: &CellId, at: u32) -> Waiting
     }
 }
 
-/// The cells of these ids with their working places. `Err` also if there are 2^32 cells.
+/// The same position in 32 bits.
+fn short_position(number: usize) -> u32
+    requires { number < 65536 }
+    ensures { result ≡ number }
+{
+    number as u32
+}
+
+/// The cells of these ids with their working places.
 fn all_waiting(alloc: Global, cells: &CellTable, ids: &[CellId]) -> Result<Vec<Waiting>, AllocError>
+    requires { length ids.now ≤ 65536 }
     ensures { IfOk result (λ list. map (id_at ids.now) list.items ≡ ids.now) }
 {
     let mut list = Vec::with_capacity(alloc, ids.len())?;
     for (number, id) in ids.iter().enumerate() {
-        let Ok(at) = u32::try_from(number) else {
-            return Err(AllocError);
-        };
+        let at = short_position(number);
         list.push(waiting_cell(cells, id, at))?;
     }
     Ok(list)
@@ -83,6 +90,7 @@ fn sort_by_place(list: &mut Vec<Waiting>)
 /// The cells of these ids in the order of their working places, from row to row and from left to right: so
 /// strips are filled one after another, each from its left end on.
 fn by_place(alloc: Global, cells: &CellTable, ids: &[CellId]) -> Result<Vec<Waiting>, AllocError>
+    requires { length ids.now ≤ 65536 }
     ensures { IfOk result (λ list. IsPermutation ids.now (map (id_at ids.now) list.items)) }
 {
     let mut list = all_waiting(alloc, cells, ids)?;
@@ -123,7 +131,8 @@ fn mark_cell(
 
 /// As many of these ids, from that position on, as are put in order at a time; fewer at their end.
 fn part_of(ids: &[CellId], from: usize) -> &[CellId]
-    ensures { result.now ≡ take 65536 (drop from ids.now) }
+    ensures is { result.now ≡ take 65536 (drop from ids.now) }
+    ensures few { length result.now ≤ 65536 }
 {
     let rest = &ids[from.min(ids.len())..];
     &rest[..PART.min(rest.len())]

@@ -1,12 +1,11 @@
-use Rattle.std.proofs.Common.{◌≡◌, ◌∙◌, arith}
+use Rattle.std.proofs.Common.{◌∙◌, arith}
 use Rattle.std.proofs.lemmas.List.{take_all}
 use Rattle.lf_occupancy.proofs.Building.{waiting_further}
 use Rattle.lf_occupancy.proofs.build.all_waiting.Goals as goal
 
 pub loop-number-preserved : goal.loop-number-preserved
 loop-number-preserved c =
-    let at : c.in-Ok.at ≡ c.loop-number.number = (rw c.in-Ok.is at c.try_from.ensures).1 in
-    waiting_further c.args.ids.now c.loop-number.number c.loop-number.list.items _ c.waiting_cell.result c.loop-number-test.true (c.waiting_cell.ensures ∙ at)
+    waiting_further c.args.ids.now c.loop-number.number c.loop-number.list.items _ c.waiting_cell.result c.loop-number-test.true (c.waiting_cell.ensures ∙ c.short_position-at.ensures)
     c.in_ok-push.ensures.items c.loop-number.invariant
 
 pub returns : goal.returns

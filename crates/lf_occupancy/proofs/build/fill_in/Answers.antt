@@ -36,7 +36,7 @@ loop-waiting-preserved c =
     let xs = felt_strips f.pitch.x c.args.index.now.strips in
     let i = c.loop-waiting.waiting-index in
     let are : IsPart 65536 from team (cells_of cells team) os =
-    part_put 65536 from team (cells_of cells team) c.cells_of.result.now ids c.in_ok-order.order.items order c.cells_of.ensures c.part_of-ids.ensures
+    part_put 65536 from team (cells_of cells team) c.cells_of.result.now ids c.in_ok-order.order.items order c.cells_of.ensures c.part_of-ids.ensures.is
     c.in_ok-order.ensures c.deref-waiting-items.ensures.value in
     let many = length-map order (id_at ids) in
     let within : i < length os = omega (arith, many) in
@@ -58,7 +58,7 @@ returns c =
     let os = map (id_at ids) order in
     let i = c.loop-waiting.waiting-index in
     let are : IsPart 65536 from team (cells_of cells team) os =
-    part_put 65536 from team (cells_of cells team) c.cells_of.result.now ids c.in_ok-order.order.items order c.cells_of.ensures c.part_of-ids.ensures
+    part_put 65536 from team (cells_of cells team) c.cells_of.result.now ids c.in_ok-order.order.items order c.cells_of.ensures c.part_of-ids.ensures.is
     c.in_ok-order.ensures c.deref-waiting-items.ensures.value in
     let many = length-map order (id_at ids) in
     filled_same f cells (felt_strips f.pitch.x c.args.index.now.strips) (IsPassed team from os i) (IsBefore team (from + 65536)) c.loop-waiting.lanes.items
