@@ -13,13 +13,13 @@ pub enum Claim {
     /// No fence does.
     Unclaimed,
     /// The fence of this number does, and no other.
-    ByOne(u32),
+    ByOne(usize),
     /// Two different fences do.
     ByTwo,
 }
 
 /// The claim with this fence added.
-pub(crate) fn joined(claim: Claim, fence: u32) -> Claim
+pub(crate) fn joined(claim: Claim, fence: usize) -> Claim
     ensures { result ≡ joined_claim claim fence }
 {
     match claim {
@@ -65,7 +65,7 @@ fn unclaimed(alloc: Global, count: usize) -> Result<Vec<Claim>, AllocError>
 }
 
 /// Adds the fence to the claim at the number, if there is one.
-fn join_at(claims: &mut Vec<Claim>, number: usize, fence: u32)
+fn join_at(claims: &mut Vec<Claim>, number: usize, fence: usize)
     ensures { claims.new.items ≡ slice_set claims.old.items number (joined_claim (claim_at claims.old.items number) fence) }
 {
     if let Some(claim) = claims.get_mut(number) {
@@ -83,7 +83,7 @@ pub(crate) fn claims_by_match(
 {
     let mut claims = unclaimed(alloc, count)?;
     for found in matches {
-        join_at(&mut claims, found.own as usize, found.asked);
+        join_at(&mut claims, found.own, found.asked);
     }
     Ok(claims)
 }

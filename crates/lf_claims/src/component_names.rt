@@ -9,8 +9,7 @@ use lf_def::Component;
 use lf_names::{Added, NameParts, NameTable};
 use std::alloc::{AllocError, Global};
 
-/// The names of components in parts, each labelled with its component's number. If the numbers exceed 32 bits, this is
-/// a failed allocation.
+/// The names of components in parts, each labelled with its component's number.
 pub(crate) fn parts_of_components(
     alloc: Global,
     components: &[Component],
@@ -19,10 +18,7 @@ pub(crate) fn parts_of_components(
 {
     let mut parts = NameParts::new(alloc)?;
     for (number, component) in components.iter().enumerate() {
-        let Ok(label) = u32::try_from(number) else {
-            return Err(AllocError);
-        };
-        parts.push(label, component.name())?;
+        parts.push(number, component.name())?;
     }
     Ok(parts)
 }

@@ -39,7 +39,7 @@ impl PatternIndex {
     }
 
     /// Adds a pattern without a star.
-    fn add_literal(&mut self, pattern: &[u8], fence: u32) -> Result<(), AllocError>
+    fn add_literal(&mut self, pattern: &[u8], fence: usize) -> Result<(), AllocError>
         ensures { ((name : List ℕ) → (Matches pattern.now name ↔ (name ≡ pattern.now))) → OnOk result (Extends self.old self.new (record { pattern = pattern.now; fence = fence } ∷ [])) }
     {
         self.literals.push(fence, pattern)?;
@@ -47,7 +47,7 @@ impl PatternIndex {
     }
 
     /// Adds a pattern with a star, to be tried on names that begin or end as it does.
-    fn add_starred(&mut self, alloc: Global, pattern: &[u8], fence: u32) -> Result<(), AllocError>
+    fn add_starred(&mut self, alloc: Global, pattern: &[u8], fence: usize) -> Result<(), AllocError>
         ensures { OnOk result (Extends self.old self.new (record { pattern = pattern.now; fence = fence } ∷ [])) }
     {
         self.starred.add(alloc, pattern, fence)?;
@@ -55,7 +55,7 @@ impl PatternIndex {
     }
 
     /// Adds a pattern.
-    fn add(&mut self, alloc: Global, pattern: &[u8], fence: u32) -> Result<(), AllocError>
+    fn add(&mut self, alloc: Global, pattern: &[u8], fence: usize) -> Result<(), AllocError>
         ensures { OnOk result (Extends self.old self.new (record { pattern = pattern.now; fence = fence } ∷ [])) }
     {
         if Pattern::new(pattern).is_literal() {
@@ -69,7 +69,7 @@ impl PatternIndex {
         &mut self,
         alloc: Global,
         patterns: &[Name],
-        fence: u32,
+        fence: usize,
     ) -> Result<(), AllocError>
         ensures { OnOk result (Extends self.old self.new (bound_to (Some fence) patterns.now)) }
     {
@@ -84,7 +84,7 @@ impl PatternIndex {
         &mut self,
         alloc: Global,
         group: &Group,
-        numbers: &NameMap<u32>,
+        numbers: &NameMap<usize>,
     ) -> Result<(), AllocError>
         ensures { OnOk result (Extends self.old self.new (bound_to (option_and_then (value_of numbers.now) group.now.region) group.now.patterns)) }
     {
@@ -158,7 +158,7 @@ impl PatternIndex {
 }
 
 /// The number of the fence that the group is bound to; none if it is bound to none.
-fn fence_of(group: &Group, numbers: &NameMap<u32>) -> Option<u32>
+fn fence_of(group: &Group, numbers: &NameMap<usize>) -> Option<usize>
     ensures { result ≡ option_and_then (value_of numbers.now) group.now.region }
 {
     match &group.region {
@@ -171,7 +171,7 @@ fn fence_of(group: &Group, numbers: &NameMap<u32>) -> Option<u32>
 pub(crate) fn index_of(
     alloc: Global,
     groups: &[Group],
-    numbers: &NameMap<u32>,
+    numbers: &NameMap<usize>,
 ) -> Result<PatternIndex, AllocError>
     ensures { (regions : List Region) → Numbers (fence_names regions) numbers.now → IfOk result (λ index. Holds index (all_bounds regions groups.now)) }
 {

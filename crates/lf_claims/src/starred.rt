@@ -14,7 +14,7 @@ use std::alloc::{AllocError, Global};
 #[derive(Drop)]
 pub struct Bound {
     pub pattern: Name,
-    pub fence: u32,
+    pub fence: usize,
 }
 
 /// Patterns bound to fences, by their key at one end: at the front their bytes before the first star, at the back those
@@ -119,7 +119,7 @@ impl PatternsAtEnd {
     }
 
     /// Adds a pattern. After an `Err` the patterns must be dropped.
-    fn add(&mut self, alloc: Global, pattern: &[u8], fence: u32) -> Result<(), AllocError>
+    fn add(&mut self, alloc: Global, pattern: &[u8], fence: usize) -> Result<(), AllocError>
         ensures { OnOk result ((bounds : List Bound) → HasAtEnd self.old bounds → HasAtEnd self.new (bounds ++ record { pattern = pattern.now; fence = fence } ∷ [])) }
     {
         let key = key_at(self.end, pattern);
@@ -188,7 +188,7 @@ impl StarredPatterns {
         &mut self,
         alloc: Global,
         pattern: &[u8],
-        fence: u32,
+        fence: usize,
     ) -> Result<(), AllocError>
         ensures { OnOk result ((bounds : List Bound) → HasStarred self.old bounds → HasStarred self.new (bounds ++ record { pattern = pattern.now; fence = fence } ∷ [])) }
     {

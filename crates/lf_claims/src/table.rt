@@ -26,7 +26,7 @@ use std::marker::Model;
 pub struct ClaimTable {
     second: Option<usize>,
     claims: Vec<Claim>,
-    ground: u32,
+    ground: usize,
 }
 
 impl Model for ClaimTable {
@@ -38,7 +38,7 @@ impl Model for ClaimTable {
 }
 
 /// Adds the fence's number under its name, unless an earlier fence has the name.
-fn put_fence(numbers: &mut NameMap<u32>, name: &Name, number: u32) -> Result<(), AllocError>
+fn put_fence(numbers: &mut NameMap<usize>, name: &Name, number: usize) -> Result<(), AllocError>
     requires { IsWhole numbers.old }
     ensures { OnOk result (NumbersOneMore numbers.old numbers.new number name.now) }
 {
@@ -49,17 +49,17 @@ fn put_fence(numbers: &mut NameMap<u32>, name: &Name, number: u32) -> Result<(),
     Ok(())
 }
 
-/// The number of each fence by its name, and the number of fences. If it exceeds 32 bits, this is a failed allocation.
-fn number_fences(alloc: Global, regions: &[Region]) -> Result<(NameMap<u32>, u32), AllocError>
+/// The number of each fence by its name, and the number of fences.
+fn number_fences(alloc: Global, regions: &[Region]) -> Result<(NameMap<usize>, usize), AllocError>
     ensures numbers { IfOk result (λ answer. Numbers (fence_names regions.now) answer.0) }
     ensures ground { IfOk result (λ answer. answer.1 ≡ length (fences regions.now)) }
 {
     let mut numbers = NameMap::new(alloc);
-    let mut count: u32 = 0;
+    let mut count: usize = 0;
     for region in regions {
         if is_fence(region) {
             put_fence(&mut numbers, &region.name, count)?;
-            count = count.checked_add(1).ok_or(AllocError)?;
+            count += 1;
         }
     }
     Ok((numbers, count))
@@ -104,9 +104,9 @@ impl ClaimTable {
         ensures { TellsTeam self.now number result }
     {
         match claim_of(&self.claims, number) {
-            Claim::ByOne(team) => team as usize,
-            Claim::Unclaimed => self.ground as usize,
-            Claim::ByTwo => self.ground as usize,
+            Claim::ByOne(team) => team,
+            Claim::Unclaimed => self.ground,
+            Claim::ByTwo => self.ground,
         }
     }
 

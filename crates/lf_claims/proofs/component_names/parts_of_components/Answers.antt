@@ -11,8 +11,7 @@ loop-number-preserved c =
     let n = c.loop-number.number in
     let item = c.index-components-number.result in
     let more = numbered_more components n item c.loop-number-test.true c.index-components-number.is in
-    let label : c.in-Ok.label ≡ n = (rw c.in-Ok.is at c.try_from.ensures).1 in
-    let pushed = rw (c.name.ensures, label) at c.in_ok-push.ensures.ok in
+    let pushed = rw c.name.ensures at c.in_ok-push.ensures.ok in
     let before = IsPermutation-append_left (record { label = n; name = item.name } ∷ []) (numbered_names (take n components)) c.loop-number.parts
     c.loop-number.invariant in
     rw (← more) (IsPermutation-trans (numbered_names (take n components) ++ record { label = n; name = item.name } ∷ [])

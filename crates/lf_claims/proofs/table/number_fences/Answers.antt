@@ -4,7 +4,7 @@ use Rattle.lf_claims.specs.Teams.{is_fence, fence_names}
 use Rattle.lf_claims.proofs.Named.{fence_next, fence_same}
 use Rattle.lf_claims.proofs.Tellings.{all_bounds_seen}
 use Rattle.lf_claims.proofs.table.number_fences.Goals as goal
-use Rattle.lf_claims.proofs.table.number_fences.Goals.{then-is_fence+in_ok-put_fence+in_ok-count, else-is_fence}
+use Rattle.lf_claims.proofs.table.number_fences.Goals.{then-is_fence+in_ok-put_fence, else-is_fence}
 
 pub loop-region-preserved : goal.loop-region-preserved
 loop-region-preserved c =
@@ -13,14 +13,14 @@ loop-region-preserved c =
     let i = c.loop-region.region-index in
     let known = c.loop-region.invariant in
     elim c.if-is_fence.branch [
-      | then-is_fence+in_ok-put_fence+in_ok-count w ↦
+      | then-is_fence+in_ok-put_fence w ↦
           let fence : is_fence item ≡ true = sym c.is_fence.ensures ∙ w.if-is_fence.true in
           let names = fence_next regions i item c.loop-region-test.true c.region-item.is fence in
           let one = w.in_ok-put_fence.ensures in
-          let sum = rw w.in_ok-count.ensures.ok_part at w.checked_add.ensures in
           record {
             whole = rw w.numbers-is one.whole;
-            counted = rw (w.count-is, names) (omega (arith, sum.1, length_push (fence_names (take i regions)) item.name, known.counted));
+            within = rw w.count-is (omega (arith, known.within));
+            counted = rw (w.count-is, names) (omega (arith, length_push (fence_names (take i regions)) item.name, known.counted));
             numbered = rw (w.numbers-is, names) (one.numbers (fence_names (take i regions)) known.counted known.numbered);
           }
       | else-is_fence w ↦
@@ -28,6 +28,7 @@ loop-region-preserved c =
           let names = fence_same regions i item c.loop-region-test.true c.region-item.is none in
           record {
             whole = rw w.numbers-is known.whole;
+            within = rw w.count-is (omega (arith, known.within));
             counted = rw (w.count-is, names) known.counted;
             numbered = rw (w.numbers-is, names) known.numbered;
           }
