@@ -31,16 +31,16 @@ fn gives_names_their_positions(rt: HostRuntime) -> Result<(), Fail> {
 }
 
 /// Whether one of the matches has these labels.
-fn has_match(matches: &[Match], own: u32, asked: u32) -> bool {
+fn has_match(matches: &[Match], own: usize, asked: usize) -> bool {
     matches
         .iter()
         .any(|found| found.own == own && found.asked == asked)
 }
 
 /// Puts 200 names of two bytes, with labels from this one on.
-fn push_names(parts: &mut NameParts, first: u32) -> Result<(), AllocError> {
+fn push_names(parts: &mut NameParts, first: usize) -> Result<(), AllocError> {
     for name in 0..200u8 {
-        parts.push(first.saturating_add(u32::from(name)), &[name, 0])?;
+        parts.push(first.saturating_add(usize::from(name)), &[name, 0])?;
     }
     Ok(())
 }
@@ -54,7 +54,7 @@ fn push_asked(parts: &mut NameParts) -> Result<(), AllocError> {
 
 /// Whether these are the matches of each name, and both of the one that is asked for twice.
 fn are_of_all(matches: &[Match]) -> bool {
-    for name in 0..200u32 {
+    for name in 0..200usize {
         if !has_match(matches, name, 1000 + name) {
             return false;
         }
