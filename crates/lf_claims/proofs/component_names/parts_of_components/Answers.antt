@@ -1,4 +1,4 @@
-use Rattle.std.proofs.Common.{◌≡◌, ◌∷◌, ◌++◌, [], take, arith}
+use Rattle.std.proofs.Common.{◌∷◌, ◌++◌, [], take, arith}
 use Rattle.std.proofs.lemmas.List.Sorted.{IsPermutation-append_left, IsPermutation-trans}
 use Rattle.lf_claims.specs.Tables.{numbered_names}
 use Rattle.lf_claims.proofs.Numbered.{numbered_more}
