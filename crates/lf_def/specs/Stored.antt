@@ -1,14 +1,19 @@
 -- What a component says, and what it is stored as.
-use Rattle.std.specs.Prelude.{ℕ, ℤ, List, Option, Some, None}
+use Rattle.std.specs.Prelude.{ℕ, ℤ, ◌<◌, List, Option, Some, None}
 use Rattle.lf_orient.specs.declared.Orient.{Orient}
 use Rattle.lf_def.specs.declared.components.Location.{Location}
 use Rattle.lf_def.specs.declared.components.Placement.{Placement}
 use Rattle.lf_def.specs.declared.components.PlacementKind.{PlacementKind}
+use Rattle.lf_def.specs.declared.offsets.Offsets.{Offsets}
+use Rattle.lf_def.specs.declared.offsets.Kept.{Kept}
+use Rattle.lf_def.specs.declared.offsets.Kept.TheVariants.{Near, Far}
 
--- the name of a component and that of its macro
-pub record BothNames : Type 0 where
+-- the names of a component and of its macro, and the kind and the place of its placement clause
+pub record ComponentWords : Type 0 where
   pub name : List ℕ
   pub mac : List ℕ
+  pub kind : Option PlacementKind
+  pub place : Option Location
 
 -- A component (DEF COMPONENTS): its name, its macro's, its placement clause, and the offset of its semicolon.
 pub record ComponentFacts : Type 0 where
@@ -26,3 +31,18 @@ place_from x y (Some orient) = Some (record { x = x; y = y; orient = orient })
 abbrev pub placement_from : Option PlacementKind → Option Location → ℕ → ℕ → Option Placement
 placement_from None place start stop = None
 placement_from (Some kind) place start stop = Some (record { kind = kind; place = place; start = start; stop = stop })
+
+-- the offsets that are kept like this
+abbrev pub offsets_of : Kept → Offsets
+offsets_of (Near start stop semicolon) = record { start = start; stop = stop; semicolon = semicolon }
+offsets_of (Far offsets) = offsets.value
+
+-- the offset has 32 bits
+abbrev pub IsNear : ℕ → Type 0
+IsNear offset = offset < 4294967296
+
+-- each of the offsets has 32 bits
+pub record AreNear (offsets : Offsets) : Type 0 where
+  pub start : IsNear offsets.start
+  pub stop : IsNear offsets.stop
+  pub semicolon : IsNear offsets.semicolon

@@ -1,24 +1,26 @@
 //! Components, with the offsets of their placement clauses.
 
-ghost use Rattle.std.specs.Prelude.{◌≡◌, All, IfOk, IfSome, codes};
+ghost use Rattle.std.specs.Prelude.{◌≡◌, None, All, IfOk, IfSome, codes};
 ghost use Rattle.lf_lex.specs.Tokens.{lexeme};
 ghost use Rattle.lf_lex.specs.Reading.{Reads, ReadsOn, block, turn};
 ghost use Rattle.lf_def.specs.Entries.{entry_or_end};
 ghost use Rattle.lf_def.specs.Components as grammar;
 ghost use Rattle.lf_def.specs.Ranges.{IsCoordinate, IsLocation, IsPlacement, IsComponent};
+ghost use Rattle.lf_def.specs.Stored.{placement_from};
 
 use crate::coordinates::{orient_of, point_rest};
 use crate::entries::Due;
-use crate::names::Names;
-use crate::packed_placement::{PackedPlacement, short_offset};
+use crate::offsets::{Offsets, PackedOffsets};
+use crate::words::Words;
 use lf_lex::{
     Block, FaultNumber, Lexer, ReadError, Token, end_name, fault_at, is, keyword, name, read_block,
     to_semicolon, token,
 };
 use lf_orient::Orient;
 use lf_units::Sequence;
-use std::alloc::AllocError;
+use std::alloc::{AllocError, Global};
 use std::marker::Model;
+use std::mem::size_of;
 
 /// What a placement clause says (LEF/DEF 5.8, DEF COMPONENTS).
 #[derive(Clone, Copy, Debug, PartialEq, Eq)]
@@ -52,68 +54,109 @@ pub struct Placement {
 /// A component (LEF/DEF 5.8, DEF COMPONENTS), whose names are borrowed from its text.
 #[derive(Drop)]
 pub struct Component<'a> {
-    names: Names<'a>,
-    placement: PackedPlacement,
-    semicolon: u32,
+    words: Words<'a>,
+    offsets: PackedOffsets,
 }
 
+// Designs of a million components are held to their memory.
+const _: () = prove!(size_of::<Component>() == 48);
+
 impl<'a> Model for Component<'a> {
-    ghost use Rattle.lf_def.specs.Stored.{ComponentFacts};
+    ghost use Rattle.lf_def.specs.Stored.{ComponentFacts, placement_from};
 
     ghost Value = { ComponentFacts };
 
     ghost view = { λ c. record {
-      name = c.names.name;
-      mac = c.names.mac;
-      placement = c.placement;
-      semicolon = c.semicolon;
+      name = c.words.name;
+      mac = c.words.mac;
+      placement = placement_from c.words.kind c.words.place c.offsets.start c.offsets.stop;
+      semicolon = c.offsets.semicolon;
     } };
+}
+
+/// The placement clause of this kind, with this place and these offsets, if there is a kind.
+fn clause_of(
+    kind: Option<PlacementKind>,
+    place: Option<Location>,
+    offsets: &Offsets,
+) -> Option<Placement>
+    ensures { result ≡ placement_from kind place offsets.now.start offsets.now.stop }
+{
+    match kind {
+        Some(kind) => Some(Placement {
+            kind,
+            place,
+            start: offsets.start,
+            stop: offsets.stop,
+        }),
+        None => None,
+    }
 }
 
 impl<'a> Component<'a> {
     /// The component of these names, with this placement clause and a `;` at this offset.
     fn new(
-        names: Names<'a>,
+        alloc: Global,
+        names: Words<'a>,
         placement: Option<Placement>,
         semicolon: usize,
     ) -> Result<Self, AllocError>
+        requires { names.kind ≡ None }
         ensures { IfOk result (λ c. c ≡ record { name = names.entry.name; mac = names.entry.mac; placement = placement; semicolon = semicolon }) }
     {
-        let placement = PackedPlacement::new(placement)?;
-        let semicolon = short_offset(semicolon)?;
-        Ok(Component {
-            names,
-            placement,
-            semicolon,
-        })
+        match placement {
+            Some(clause) => {
+                let offsets = Offsets {
+                    start: clause.start,
+                    stop: clause.stop,
+                    semicolon,
+                };
+                Ok(Component {
+                    offsets: PackedOffsets::new(alloc, offsets)?,
+                    words: names.placed(clause.kind, clause.place),
+                })
+            }
+            None => {
+                let offsets = Offsets {
+                    start: 0,
+                    stop: 0,
+                    semicolon,
+                };
+                Ok(Component {
+                    offsets: PackedOffsets::new(alloc, offsets)?,
+                    words: names,
+                })
+            }
+        }
     }
 
     /// Its name.
     pub fn name(&self) -> &[u8]
         ensures { result.now ≡ self.now.name }
     {
-        self.names.name()
+        self.words.name()
     }
 
     /// The name of its macro.
     pub fn macro_name(&self) -> &[u8]
         ensures { result.now ≡ self.now.mac }
     {
-        self.names.macro_name()
+        self.words.macro_name()
     }
 
     /// Its placement clause; a component without one is unplaced.
     pub fn placement(&self) -> Option<Placement>
         ensures { result ≡ self.now.placement }
     {
-        self.placement.get()
+        let offsets = self.offsets.get();
+        clause_of(self.words.kind(), self.words.place(), &offsets)
     }
 
     /// The offset of its `;` in the text.
     pub fn semicolon(&self) -> usize
         ensures { result ≡ self.now.semicolon }
     {
-        self.semicolon as usize
+        self.offsets.get().semicolon
     }
 }
 
@@ -341,7 +384,7 @@ fn no_component() -> ComponentParts
 
 /// A component after its minus.
 #[tactic(auto, unfolding(crate::specs::Components::component))]
-fn read_component<'a>(lexer: &mut Lexer<'a>) -> Result<Component<'a>, ReadError>
+fn read_component<'a>(alloc: Global, lexer: &mut Lexer<'a>) -> Result<Component<'a>, ReadError>
     ensures read { Reads (λ c. c) result grammar.component lexer.old lexer.new }
     ensures range { IfOk result (λ c. IsComponent c) }
 {
@@ -350,13 +393,14 @@ fn read_component<'a>(lexer: &mut Lexer<'a>) -> Result<Component<'a>, ReadError>
     let mac = name(lexer)?;
     let mut parts = no_component();
     read_block(lexer, &ComponentTokens, &mut parts)?;
-    let names = Names::new(text, &component, &mac);
-    Ok(Component::new(names, parts.placement, parts.semicolon)?)
+    let names = Words::new(text, &component, &mac);
+    Ok(Component::new(alloc, names, parts.placement, parts.semicolon)?)
 }
 
 /// An entry, or END COMPONENTS; returns whether more follow.
 #[tactic(auto, unfolding(crate::specs::Entries::entry_or_end))]
 fn component_or_end<'a>(
+    alloc: Global,
     lexer: &mut Lexer<'a>,
     components: &mut Sequence<Component<'a>>,
 ) -> Result<bool, ReadError>
@@ -366,7 +410,7 @@ fn component_or_end<'a>(
 {
     let token = token(lexer)?;
     if is(b"-", &token) {
-        let component = read_component(lexer)?;
+        let component = read_component(alloc, lexer)?;
         components.push(component)?;
         return Ok(true);
     }
@@ -379,6 +423,7 @@ fn component_or_end<'a>(
 
 /// The entries of a section, and its END. They borrow the text, so this loop does not use `read_block`.
 fn component_entries<'a>(
+    alloc: Global,
     lexer: &mut Lexer<'a>,
     components: &mut Sequence<Component<'a>>,
 ) -> Result<(), ReadError>
@@ -386,13 +431,14 @@ fn component_entries<'a>(
     ensures read { Reads (λ _. components.new) result (block (entry_or_end (codes "COMPONENTS") grammar.component) components.old) lexer.old lexer.new }
     ensures range { All IsComponent components.new }
 {
-    while component_or_end(lexer, components)? {}
+    while component_or_end(alloc, lexer, components)? {}
     Ok(())
 }
 
 /// A COMPONENTS section after its keyword: its components are appended.
 #[tactic(auto, unfolding(crate::specs::Entries::section))]
 pub(crate) fn components<'a>(
+    alloc: Global,
     lexer: &mut Lexer<'a>,
     components: &mut Sequence<Component<'a>>,
 ) -> Result<(), ReadError>
@@ -401,5 +447,5 @@ pub(crate) fn components<'a>(
     ensures range { All IsComponent components.new }
 {
     to_semicolon(lexer)?;
-    component_entries(lexer, components)
+    component_entries(alloc, lexer, components)
 }

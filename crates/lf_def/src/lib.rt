@@ -10,14 +10,14 @@ mod entries;
 mod groups;
 mod header;
 mod laws;
-mod names;
-mod packed_placement;
+mod offsets;
 mod parts;
 mod regions;
 mod rows;
 mod sample;
 mod statements;
 mod texts;
+mod words;
 
 pub use blockages::Blockage;
 pub use components::{Component, Location, Placement, PlacementKind};

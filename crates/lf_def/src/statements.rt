@@ -119,7 +119,7 @@ fn body_statement<'a>(
     } else if is(b"GROUPS", token) {
         groups(alloc, lexer, &mut parts.groups)
     } else if is(b"COMPONENTS", token) {
-        components(lexer, &mut parts.components)
+        components(alloc, lexer, &mut parts.components)
     } else if is(b"BLOCKAGES", token) {
         blockages(alloc, lexer, &mut parts.blockages)
     } else {

@@ -1,0 +1,95 @@
+//! The offsets of a component's placement clause and `;`, in few bytes.
+
+ghost use Rattle.std.specs.Prelude.{◌≡◌, IfOk, IfErr, IfSome, IfNone};
+ghost use Rattle.lf_def.specs.Stored.{AreNear, IsNear, offsets_of};
+
+use std::alloc::{AllocError, Global};
+use std::marker::Model;
+
+/// Where a component's placement clause and its `;` are in the text.
+#[derive(Clone, Copy, Debug, PartialEq, Eq)]
+pub struct Offsets {
+    /// The offset of the clause's `+`; 0 if there is no clause.
+    pub start: usize,
+    /// The offset after the clause's last token; 0 if there is no clause.
+    pub stop: usize,
+    pub semicolon: usize,
+}
+
+/// How offsets are kept: those that all have 32 bits in place, others on the heap.
+#[derive(Drop)]
+enum Kept {
+    Near {
+        start: u32,
+        stop: u32,
+        semicolon: u32,
+    },
+    Far(Box<Offsets>),
+}
+
+/// Offsets in 16 bytes, and 24 on the heap if one of them takes more than 32 bits.
+#[derive(Drop)]
+pub struct PackedOffsets {
+    kept: Kept,
+}
+
+impl Model for PackedOffsets {
+    ghost use Rattle.lf_def.specs.declared.offsets.Offsets.{Offsets};
+    ghost use Rattle.lf_def.specs.Stored.{offsets_of};
+
+    ghost Value = { Offsets };
+
+    ghost view = { λ p. offsets_of p.kept };
+}
+
+/// The offset in 32 bits, if it has no more.
+fn short(offset: usize) -> Option<u32>
+    ensures some { IfSome result (λ short. short ≡ offset) }
+    ensures none { IfNone result (¬ IsNear offset) }
+{
+    u32::try_from(offset).ok()
+}
+
+/// The offsets in place, if each has 32 bits.
+fn near(offsets: &Offsets) -> Option<Kept>
+    ensures some { IfSome result (λ kept. offsets_of kept ≡ offsets.now) }
+    ensures none { IfNone result (¬ AreNear offsets.now) }
+{
+    Some(Kept::Near {
+        start: short(offsets.start)?,
+        stop: short(offsets.stop)?,
+        semicolon: short(offsets.semicolon)?,
+    })
+}
+
+impl PackedOffsets {
+    /// These offsets. Only those that do not all have 32 bits take memory.
+    pub(crate) fn new(alloc: Global, offsets: Offsets) -> Result<Self, AllocError>
+        ensures ok { IfOk result (λ packed. packed ≡ offsets) }
+        ensures memory { IfErr result (λ _. ¬ AreNear offsets) }
+    {
+        let kept = match near(&offsets) {
+            Some(kept) => kept,
+            None => Kept::Far(Box::new(alloc, offsets)?),
+        };
+        Ok(PackedOffsets { kept })
+    }
+
+    /// The offsets.
+    pub(crate) fn get(&self) -> Offsets
+        ensures { result ≡ self.now }
+    {
+        match &self.kept {
+            Kept::Near {
+                start,
+                stop,
+                semicolon,
+            } => Offsets {
+                start: *start as usize,
+                stop: *stop as usize,
+                semicolon: *semicolon as usize,
+            },
+            Kept::Far(offsets) => **offsets,
+        }
+    }
+}
