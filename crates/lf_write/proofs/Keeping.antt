@@ -1,8 +1,8 @@
 -- What is kept of the components so far.
-use Rattle.std.proofs.Common.{◌≡◌, ℕ, ◌+◌, ◌≤◌, List, [], ◌∷◌, ◌++◌, map, length, refl, ap, ◌∙◌, arith}
+use Rattle.std.proofs.Common.{◌≡◌, ℕ, ◌+◌, ◌≤◌, List, [], ◌∷◌, ◌++◌, map, length, refl, sym, subst, ap, ◌∙◌, arith}
 use Rattle.std.specs.Prelude.{All, IfSome, Option, Some, None}
-use Rattle.std.proofs.lemmas.List.{get_or_append_left, length-append, map-append}
-use Rattle.std.proofs.lemmas.List.Elements.{All-cons, All-head, All-nil, All-push, All-tail, All-weaker}
+use Rattle.std.proofs.lemmas.List.{append-nil, get_or_append_left, map-append}
+use Rattle.std.proofs.lemmas.List.Elements.{All-cons, All-head, All-nil, All-tail}
 use Rattle.lf_def.specs.Laws as def
 use Rattle.lf_def.specs.Laws.{ClauseWithin}
 use Rattle.lf_def.specs.declared.components.Component.{Component}
@@ -10,16 +10,13 @@ use Rattle.lf_def.specs.declared.components.Placement.{Placement}
 use Rattle.lf_write.specs.declared.clauses.Entry.{Entry}
 use Rattle.lf_write.specs.declared.clauses.Entry.TheVariants.{Plain, Other}
 use Rattle.lf_write.specs.Export.{ClauseFacts, no_clause}
-use Rattle.lf_write.specs.Keeping.{IsInText, IsKept, IsWithin, clause_in}
+use Rattle.lf_write.specs.Keeping.{IsInText, IsKept, IsNext, IsWithin, all_in, clause_in}
 use Rattle.lf_write.proofs.Apart.{ends_within}
 
--- the entries stand for these clauses
-pub record AreKept (others : List ClauseFacts) (entries : List Entry) (clauses : List ClauseFacts) : Type 0 where
-  pub are : map (clause_in others) entries ≡ clauses
+-- these clauses are kept
+pub record AreKept (others : List ClauseFacts) (entries : List Entry) (far clauses : List ClauseFacts) : Type 0 where
+  pub are : all_in others entries far ≡ clauses
   pub within : All (IsWithin (length others)) entries
-
-pub none_kept : AreKept [] [] []
-none_kept = record { are = refl; within = All-nil (IsWithin 0) }
 
 one_stays : (others more : List ClauseFacts) (entry : Entry) → IsWithin (length others) entry → clause_in (others ++ more) entry ≡ clause_in others entry
 one_stays others more (Plain bytes start) h = refl
@@ -33,22 +30,25 @@ all_stay others more (e ∷ entries) h =
     ap (λ (z : ClauseFacts). z ∷ map (clause_in (others ++ more)) entries) (one_stays others more e (All-head (IsWithin (length others)) e entries h))
     ∙ ap (λ (z : List ClauseFacts). clause_in others e ∷ z) (all_stay others more entries (All-tail (IsWithin (length others)) e entries h))
 
-one_within : (n m : ℕ) → n ≤ m → (entry : Entry) → IsWithin n entry → IsWithin m entry
-one_within n m le (Plain bytes start) h = h
-one_within n m le (Other at) h = omega (arith, le, h)
+-- One entry more.
 
-pub one_kept : {old new : List ClauseFacts} {entries : List Entry} {clauses : List ClauseFacts} {entry : Entry} {clause : ClauseFacts}
-    → AreKept old entries clauses → IsKept old new entry clause → AreKept new (entries ++ entry ∷ []) (clauses ++ clause ∷ [])
-one_kept {old = old} {new = new} {entries = entries} {clauses = clauses} {entry = entry} {clause = clause} a k =
-    let le : length old ≤ length new = omega (arith, ap length k.grown, length-append old k.more) in
-    record {
-      are = map-append (clause_in new) entries (entry ∷ [])
-          ∙ ap (λ (z : List ClauseFacts). map (clause_in z) entries ++ clause_in new entry ∷ []) k.grown
-          ∙ ap (λ (z : List ClauseFacts). z ++ clause_in new entry ∷ []) (all_stay old k.more entries a.within ∙ a.are)
-          ∙ ap (λ (z : ClauseFacts). clauses ++ z ∷ []) k.is;
-      within = All-push (IsWithin (length new)) entries entry
-          (All-weaker (IsWithin (length old)) (IsWithin (length new)) (one_within (length old) (length new) le) entries a.within) k.within;
-    }
+near_is : (old new : List ClauseFacts) (entries : List Entry) (entry : Entry) (clause : ClauseFacts) → IsKept old new entry clause
+    → All (IsWithin (length old)) entries → map (clause_in new) (entries ++ entry ∷ []) ≡ map (clause_in old) entries ++ clause ∷ []
+near_is old new entries entry clause k h =
+    map-append (clause_in new) entries (entry ∷ [])
+    ∙ ap (λ (z : List ClauseFacts). map (clause_in z) entries ++ clause_in new entry ∷ []) k.grown
+    ∙ ap (λ (z : List ClauseFacts). z ++ clause_in new entry ∷ []) (all_stay old k.more entries h)
+    ∙ ap (λ (z : ClauseFacts). map (clause_in old) entries ++ z ∷ []) k.is
+
+-- nothing is behind the entries
+pub near_more : (old new far : List ClauseFacts) (entries : List Entry) (entry : Entry) (clause : ClauseFacts) → IsNext old new far entry clause
+    → All (IsWithin (length old)) entries → all_in new (entries ++ entry ∷ []) far ≡ all_in old entries far ++ clause ∷ []
+near_more old new far entries entry clause k h =
+    let alone : map (clause_in new) (entries ++ entry ∷ []) ++ [] ≡ (map (clause_in old) entries ++ []) ++ clause ∷ [] =
+    append-nil (map (clause_in new) (entries ++ entry ∷ [])) ∙ near_is old new entries entry clause k.kept h
+    ∙ ap (λ (z : List ClauseFacts). z ++ clause ∷ []) (sym (append-nil (map (clause_in old) entries))) in
+    subst (λ (z : List ClauseFacts). map (clause_in new) (entries ++ entry ∷ []) ++ z ≡ (map (clause_in old) entries ++ z) ++ clause ∷ [])
+    (sym k.none) alone
 
 -- The components of a document are in its text.
 

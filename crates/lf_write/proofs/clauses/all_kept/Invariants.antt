@@ -5,4 +5,4 @@ use Rattle.lf_write.proofs.clauses.all_kept.Given as goal
 
 -- what is kept of the components so far
 abbrev pub invariant-loop-component : goal.invariant-loop-component
-invariant-loop-component l = AreKept l.others.items l.entries.items (map (clause_of l.text) (take l.component-index l.components))
+invariant-loop-component l = AreKept l.others.items l.entries.items l.far.items (map (clause_of l.text) (take l.component-index l.components))
