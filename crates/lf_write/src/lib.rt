@@ -10,4 +10,5 @@ pub use clauses::{Clauses, clauses_of};
 pub use laws::{
     clauses_serve, components_stand_where_they_are, exports_read_back, nothing_changes,
 };
+pub use lf_texts::team_def;
 pub use text::{Given, export, write_export};
