@@ -8,6 +8,8 @@ import socket
 import struct
 import subprocess
 import threading
+from collections.abc import Callable
+from dataclasses import dataclass
 from pathlib import Path
 from typing import IO
 
@@ -21,13 +23,35 @@ DESIGN = [str(DEF), str(LEF)]
 PATIENCE = 30
 
 
-def run(words: list[str], lines: str | bytes = "", **options: object) -> tuple[int, str, str]:
+@dataclass(frozen=True)
+class Start:
+    """How the program is started: its standard input in place of lines, its standard output in place of a pipe that is read, its
+    folder and environment, what new files may not allow (-1: as here), and what its process does first."""
+
+    stdin: int | None = None
+    stdout: int | IO[bytes] = subprocess.PIPE
+    folder: str | Path | None = None
+    environment: dict[str, str] | None = None
+    umask: int = -1
+    first: Callable[[], None] | None = None
+
+
+def run(words: list[str], lines: str | bytes = "", start: Start = Start()) -> tuple[int, str, str]:
     """Runs the program with these words over these lines to its end: its status, and what it wrote on both streams."""
-    ends: dict[str, object] = {"stdout": subprocess.PIPE, "stderr": subprocess.PIPE, "timeout": PATIENCE, **options}
-    if "stdin" not in ends:
-        ends["input"] = lines if isinstance(lines, bytes) else lines.encode()
-    ran = subprocess.run([str(PROGRAM), *words], **ends)  # type: ignore[call-overload]
-    return ran.returncode, (ran.stdout or b"").decode(), (ran.stderr or b"").decode()
+    text = lines if isinstance(lines, bytes) else lines.encode()
+    ran = subprocess.run(
+        [str(PROGRAM), *words],
+        input=text if start.stdin is None else None,
+        stdin=start.stdin,
+        stdout=start.stdout,
+        stderr=subprocess.PIPE,
+        cwd=start.folder,
+        env=start.environment,
+        umask=start.umask,
+        preexec_fn=start.first,
+        timeout=PATIENCE,
+    )
+    return ran.returncode, (ran.stdout or b"").decode(), ran.stderr.decode()
 
 
 def preloading(source: str, folder: Path) -> dict[str, str]:

@@ -9,7 +9,7 @@ import unittest
 from pathlib import Path
 from typing import Any
 
-from program import DESIGN, LEF, run
+from program import DESIGN, LEF, Start, run
 
 Line = dict[str, Any]
 # The keys of each kind, which stay.
@@ -225,7 +225,7 @@ class Describe(unittest.TestCase):
     def test_a_description_that_cannot_be_written(self) -> None:
         with open("/dev/full", "wb") as full:
             for words in (DESIGN, self.design(LARGE)):
-                found, _, said = run(["describe", *words], stdout=full)
+                found, _, said = run(["describe", *words], start=Start(stdout=full))
                 self.assertEqual((found, said), (3, "lefence: Output\n"))
 
 

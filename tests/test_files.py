@@ -14,7 +14,7 @@ import tempfile
 import unittest
 from pathlib import Path
 
-from program import DEF, DESIGN, LEF, Service, Session, free_port, preloading, run
+from program import DEF, DESIGN, LEF, Service, Session, Start, free_port, preloading, run
 
 # A session that places and commits the three cells of team A, and its replies.
 LINES = "open A\nplace A 0 a1 0 0 N\nplace A 0 a2 400 0 N\nplace A 0 a3 800 0 N\ncommit A 0\n"
@@ -49,8 +49,8 @@ class InFolder(unittest.TestCase):
         self.folder = Path(folder.name).resolve()
         self.target = self.folder / "new.def"
 
-    def export(self, target: Path | str, **options: object) -> tuple[int, str, str]:
-        return run(["replay", *DESIGN, "--export", str(target)], LINES, **options)
+    def export(self, target: Path | str, start: Start = Start()) -> tuple[int, str, str]:
+        return run(["replay", *DESIGN, "--export", str(target)], LINES, start)
 
     def names(self) -> list[str]:
         """What stands in the folder."""
@@ -64,7 +64,7 @@ class Exported(InFolder):
     """Exports that are written."""
 
     def test_to_a_new_file(self) -> None:
-        self.assertEqual(self.export(self.target, umask=0o027), DONE)
+        self.assertEqual(self.export(self.target, Start(umask=0o027)), DONE)
         self.assertEqual(self.target.read_text(), EXPORTED)
         self.assertEqual(self.mode(self.target), 0o640)
         self.assertEqual(self.names(), ["new.def"])
@@ -82,7 +82,7 @@ class Exported(InFolder):
             with self.subTest(oct(mode)):
                 self.target.write_text("older")
                 self.target.chmod(mode)
-                self.assertEqual(self.export(self.target, umask=0o022), DONE)
+                self.assertEqual(self.export(self.target, Start(umask=0o022)), DONE)
                 self.assertEqual((self.target.read_text(), self.mode(self.target)), (EXPORTED, mode))
 
     def test_over_the_def_text_itself(self) -> None:
@@ -93,7 +93,7 @@ class Exported(InFolder):
         self.assertEqual(self.names(), ["new.def"])
 
     def test_by_a_relative_path(self) -> None:
-        self.assertEqual(self.export("new.def", cwd=self.folder), DONE)
+        self.assertEqual(self.export("new.def", Start(folder=self.folder)), DONE)
         self.assertEqual(self.target.read_text(), EXPORTED)
         self.assertEqual(self.names(), ["new.def"])
 
@@ -139,7 +139,7 @@ class Exported(InFolder):
         calls = self.folder / "calls"
         calls.touch()
         environment = {**preloading("record.c", self.folder), "RECORD": str(calls)}
-        self.assertEqual(self.export(self.target, env=environment), DONE)
+        self.assertEqual(self.export(self.target, Start(environment=environment)), DONE)
         self.assertEqual(calls.read_text(), "fsync\nrename\n")
 
     def test_to_a_pipe(self) -> None:
@@ -166,7 +166,7 @@ class Exported(InFolder):
                 with self.subTest(path=path, mode=mode):
                     self.target.write_text("older\n")
                     with open(self.target, mode) as output:
-                        self.assertEqual(self.export(path, stdout=output), (0, "", ""))
+                        self.assertEqual(self.export(path, Start(stdout=output)), (0, "", ""))
                     self.assertEqual(self.target.read_text(), before + REPLIES + EXPORTED)
                     self.assertEqual(self.names(), ["new.def"])
 
@@ -179,13 +179,13 @@ class Exported(InFolder):
 class NotExported(InFolder):
     """Exports that are not written: what was there stays as it was, and nothing is left beside it."""
 
-    def refused(self, target: Path | str, **options: object) -> None:
+    def refused(self, target: Path | str, start: Start = Start()) -> None:
         """It shows only when the text is written."""
-        self.assertEqual(self.export(target, **options), (3, REPLIES, unwritten(target)))
+        self.assertEqual(self.export(target, start), (3, REPLIES, unwritten(target)))
 
-    def refused_early(self, target: Path | str, **options: object) -> None:
+    def refused_early(self, target: Path | str, start: Start = Start()) -> None:
         """It shows before the first line is read."""
-        self.assertEqual(self.export(target, **options), (3, "", unwritten(target)))
+        self.assertEqual(self.export(target, start), (3, "", unwritten(target)))
 
     def test_into_a_folder_that_is_missing(self) -> None:
         missing = self.folder / "missing" / "new.def"
@@ -220,13 +220,13 @@ class NotExported(InFolder):
         self.assertEqual((self.target.read_text(), self.names()), ("older", ["new.def"]))
 
     def test_beyond_a_limit_on_file_size(self) -> None:
-        self.refused(self.target, preexec_fn=small_files)
+        self.refused(self.target, Start(first=small_files))
         self.assertEqual(self.names(), [])
         for older in ("older", "older\n" * 1_000):
             with self.subTest(len(older)):
                 self.target.write_text(older)
                 self.target.chmod(0o640)
-                self.refused(self.target, preexec_fn=small_files)
+                self.refused(self.target, Start(first=small_files))
                 self.assertEqual((self.target.read_text(), self.mode(self.target)), (older, 0o640))
                 self.assertEqual(self.names(), ["new.def"])
 
@@ -236,14 +236,14 @@ class NotExported(InFolder):
     def test_after_a_fault_of_the_replies(self) -> None:
         self.target.write_text("older")
         with open("/dev/full", "wb") as full:
-            ran = self.export(self.target, stdout=full)
+            ran = self.export(self.target, Start(stdout=full))
         self.assertEqual(ran, (3, "", "lefence: WriteFault\n"))
         self.assertEqual((self.target.read_text(), self.names()), ("older", ["new.def"]))
 
     def test_after_a_fault_of_the_input(self) -> None:
         folder = os.open(self.folder, os.O_RDONLY)
         try:
-            ran = self.export(self.target, stdin=folder)
+            ran = self.export(self.target, Start(stdin=folder))
         finally:
             os.close(folder)
         self.assertEqual(ran, (3, "", "lefence: ReadFault\n"))
@@ -251,13 +251,15 @@ class NotExported(InFolder):
 
     def test_after_one_line_too_many(self) -> None:
         words = ["replay", *DESIGN, "--export", str(self.target)]
-        for bound, most in (([], 1_000_000), (["--lines", "3"], 3)):
-            ran = run([*words, *bound], b"\n" * (most + 1), stdout=subprocess.DEVNULL)
+        bounds: list[tuple[list[str], int]] = [([], 1_000_000), (["--lines", "3"], 3)]
+        for bound, most in bounds:
+            ran = run([*words, *bound], b"\n" * (most + 1), Start(stdout=subprocess.DEVNULL))
             self.assertEqual(ran, (3, "", "lefence: TooManyLines\n"))
             self.assertEqual(self.names(), [])
 
     def test_after_as_many_lines_as_are_asked_for(self) -> None:
-        ran = run(["replay", *DESIGN, "--export", str(self.target), "--lines", "1000001"], b"\n" * 1_000_001, stdout=subprocess.DEVNULL)
+        words = ["replay", *DESIGN, "--export", str(self.target), "--lines", "1000001"]
+        ran = run(words, b"\n" * 1_000_001, Start(stdout=subprocess.DEVNULL))
         self.assertEqual((ran, self.target.read_bytes()), ((0, "", ""), DEF.read_bytes()))
 
     def test_after_a_signal(self) -> None:

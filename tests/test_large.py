@@ -52,7 +52,8 @@ def lef_text() -> str:
 
 def stacked(team: str, left: int, row: int, source: random.Random) -> list[Cell]:
     """Cells of a team side by side in eight rows from this row on."""
-    ends, cells = [left] * 8, []
+    ends = [left] * 8
+    cells: list[Cell] = []
     while True:
         sites, rows = MACROS[macro := source.randrange(len(MACROS))]
         bottoms = range(0, 9 - rows, 2 if rows % 2 == 0 else 1)

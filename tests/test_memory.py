@@ -183,7 +183,7 @@ class Refusing:
 
     def refused(self) -> int:
         """How many growths were refused; none is from now on."""
-        _, _, _, count = struct.unpack("=4Q", self.numbers[:])
+        count: int = struct.unpack("=4Q", self.numbers[:])[3]
         self.refuse(0, 0)
         return count
 

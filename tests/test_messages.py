@@ -7,7 +7,7 @@ import tempfile
 import unittest
 from pathlib import Path
 
-from program import DEF, DESIGN, LEF, free_port, run
+from program import DEF, DESIGN, LEF, Start, free_port, run
 
 W_DEF, W_LEF = DESIGN
 USAGE = "lefence: usage"
@@ -16,10 +16,10 @@ USAGE = "lefence: usage"
 class Mistakes(unittest.TestCase):
     """Each mistake: the status, what standard error says, and nothing on standard output."""
 
-    def said(self, words: list[str], status: int, first: str, second: str = "", **options: object) -> None:
+    def said(self, words: list[str], status: int, first: str, second: str = "", start: Start = Start()) -> None:
         """A second line tells where the fault lies, if it is given. Behind a usage fault comes what can be asked."""
         with self.subTest(" ".join(words)):
-            found, written, said = run(words, "", **options)
+            found, written, said = run(words, "", start)
             if first == USAGE:
                 said = said.split("\n")[0]
             else:
@@ -120,20 +120,21 @@ class Mistakes(unittest.TestCase):
 
     def test_a_report_that_cannot_be_written(self) -> None:
         with open("/dev/full", "wb") as full:
-            self.said(["check", *DESIGN], 3, "lefence: Output", stdout=full)
-            self.said(["describe", *DESIGN], 3, "lefence: Output", stdout=full)
-            self.said(["serve", *DESIGN, "--port", str(free_port()), "--connections", "1"], 3, "lefence: Output", stdout=full)
+            self.said(["check", *DESIGN], 3, "lefence: Output", start=Start(stdout=full))
+            self.said(["describe", *DESIGN], 3, "lefence: Output", start=Start(stdout=full))
+            self.said(["serve", *DESIGN, "--port", str(free_port()), "--connections", "1"], 3, "lefence: Output", start=Start(stdout=full))
 
     def test_no_words_at_all_answer_the_lines_of_the_demo(self) -> None:
-        for words in ([], ["demo"]):
+        lists: list[list[str]] = [[], ["demo"]]
+        for words in lists:
             self.assertEqual(run(words, "open A\nplace A 0 a1 0 0 N\n"), (0, "ok 0 0\nok 1\n", ""))
 
     def test_a_path_that_begins_with_a_dash_stands_behind_two(self) -> None:
         with tempfile.TemporaryDirectory() as folder:
             (Path(folder) / "-w.def").write_bytes(DEF.read_bytes())
-            self.said(["check", "-w.def", W_LEF], 2, USAGE, cwd=folder)
+            self.said(["check", "-w.def", W_LEF], 2, USAGE, start=Start(folder=folder))
             report = '{"cells":5,"unplaced":5,"violations":[]}\n'
-            self.assertEqual(run(["check", "--", "-w.def", W_LEF], cwd=folder), (4, report, ""))
+            self.assertEqual(run(["check", "--", "-w.def", W_LEF], start=Start(folder=folder)), (4, report, ""))
 
 
 class Help(unittest.TestCase):
@@ -164,7 +165,7 @@ class Help(unittest.TestCase):
 
     def test_help_that_cannot_be_written(self) -> None:
         with open("/dev/full", "wb") as full:
-            self.assertEqual(run(["--help"], stdout=full), (3, "", "lefence: Output\n"))
+            self.assertEqual(run(["--help"], start=Start(stdout=full)), (3, "", "lefence: Output\n"))
 
 
 class Recipes(unittest.TestCase):
