@@ -49,7 +49,8 @@ def seconds_before() -> dict[str, float]:
     """What each crate took in its last build here, or else by docs/GATE.md."""
     told = {name: 60 * float(minutes) for name, minutes in ROW.findall((TOP / "docs/GATE.md").read_text(encoding="utf-8"))}
     try:
-        return told | json.loads((OUT / "seconds.json").read_text(encoding="utf-8"))
+        taken: dict[str, float] = json.loads((OUT / "seconds.json").read_text(encoding="utf-8"))
+        return told | taken
     except (OSError, ValueError):
         return told
 

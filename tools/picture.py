@@ -41,7 +41,7 @@ def team_at(site: int, row: int) -> str | None:
 
 def cells(rng: random.Random) -> list[tuple[str, int, str]]:
     """Cells side by side: each with its team, its width in sites, and its placement clause."""
-    found = []
+    found: list[tuple[str, int, int, int]] = []
     for row in range(ROWS):
         at = 0
         while at < SITES:
@@ -51,10 +51,11 @@ def cells(rng: random.Random) -> list[tuple[str, int, str]]:
                 at += 1
                 continue
             if rng.random() < FILLED:
-                found.append([team, wide, at * SITE, row])
+                found.append((team, wide, at * SITE, row))
             at += wide
-    for cell in rng.sample(found, BROKEN):
-        cell[2] += rng.choice((SITE // 2, SITE, 3 * SITE))
+    for at in rng.sample(range(len(found)), BROKEN):
+        team, wide, x, row = found[at]
+        found[at] = team, wide, x + rng.choice((SITE // 2, SITE, 3 * SITE)), row
     clauses = [f"+ PLACED ( {x} {row * HEIGHT} ) {('N', 'FS')[row % 2]}" for _, _, x, row in found]
     for at in rng.sample(range(len(found)), UNPLACED):
         clauses[at] = ""
