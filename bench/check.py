@@ -8,22 +8,27 @@ a line, which is the same without the report and with the start of the floor. Ev
 that the report of a design has no violation. The designs take turns, run after run, and the best of a design's runs is
 printed. The peak is never below that of this Python, about 15 MB.
 """
+
+from __future__ import annotations
+
 import os
 import subprocess
 import sys
 import tempfile
 import time
+from functools import partial
 
-from load import LEFENCE, best, grown, need, write
+from load import LEFENCE, Figures, best, grown, need, write
 
 COUNTS = 10_000, 100_000, 1_000_000
 DESIGNS = ((10, 0), (500, 10_000))
 
 
-def run(task, lef, def_):
+def run(task: str, lef: str, def_: str) -> tuple[float, int, str]:
     """Seconds of the subcommand, its peak memory in bytes, and what it wrote."""
     start = time.perf_counter()
     child = subprocess.Popen([LEFENCE, task, def_, lef], stdin=subprocess.DEVNULL, stdout=subprocess.PIPE)
+    assert child.stdout
     out = child.stdout.read()
     _, status, usage = os.wait4(child.pid, 0)
     if status != 0:
@@ -31,14 +36,14 @@ def run(task, lef, def_):
     return time.perf_counter() - start, usage.ru_maxrss * 1024, out.decode()
 
 
-def figures(lef, def_, count):
+def figures(lef: str, def_: str, count: int) -> Figures:
     seconds, peak, told = run("check", lef, def_)
     if told != f'{{"cells":{count},"unplaced":0,"violations":[]}}\n':
         sys.exit(f"check: {told[:200]}")
     return seconds, peak, run("replay", lef, def_)[0]
 
 
-def main():
+def main() -> None:
     runs = int(sys.argv[1]) if len(sys.argv) > 1 else 5
     need(LEFENCE)
     print(f"{'fences':>7} {'obstacles':>10} {'components':>11} {'check s':>9} {'times':>6} {'peak MB':>8} {'times':>6} {'replay s':>9} {'times':>6}")
@@ -49,8 +54,8 @@ def main():
             texts = [(os.path.join(folder, f"{fences}_{count}.def"), count) for count in COUNTS]
             for text, count in texts:
                 write(text, "placed", count, fences, obstacles)
-            before = None
-            for count, now in zip(COUNTS, best([lambda text=text: figures(lef, *text) for text in texts], runs)):
+            before: Figures | None = None
+            for count, now in zip(COUNTS, best([partial(figures, lef, text, cells) for text, cells in texts], runs)):
                 seconds, peak, replayed = now
                 times = grown(before, now)
                 print(f"{fences:>7} {obstacles:>10} {count:>11} {seconds:9.3f} {times[0]:>6} {peak / 1e6:8.1f} {times[1]:>6} {replayed:9.3f} {times[2]:>6}", flush=True)

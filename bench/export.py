@@ -8,19 +8,22 @@ where it stands (N and FN, FS and S are exchanged), and each fence is committed.
 takes longer than the same replay without the option; `cp` is a copy of the exported file. The runs take turns, and the best
 of each is printed; the exported text is compared with the one that this script makes.
 """
+
+from __future__ import annotations
+
 import os
 import subprocess
 import sys
 import tempfile
 import time
 
-from load import LEFENCE, best, grown, need, write
+from load import LEFENCE, Figures, best, grown, need, write
 
 COUNTS = 10_000, 100_000, 1_000_000
 TURNED = {"N": "FN", "FN": "N", "FS": "S", "S": "FS"}
 
 
-def session(def_):
+def session(def_: str) -> tuple[str, str]:
     """The lines that turn each fifth cell of each fence and commit it, and the text that is to be exported."""
     with open(def_) as text:
         entries = text.read().split("\n")
@@ -41,11 +44,12 @@ def session(def_):
     return "\n".join(lines) + "\n", "\n".join(entries)
 
 
-def replay(lef, def_, lines, *words):
+def replay(lef: str, def_: str, lines: str, *words: str) -> tuple[float, int]:
     """Seconds of the replay, and its peak memory in bytes."""
     with open(lines) as source:
         start = time.perf_counter()
         child = subprocess.Popen([LEFENCE, "replay", def_, lef, *words], stdin=source, stdout=subprocess.PIPE)
+        assert child.stdout
         out = child.stdout.read()
         _, status, usage = os.wait4(child.pid, 0)
     if status != 0 or b"no" in out:
@@ -53,13 +57,13 @@ def replay(lef, def_, lines, *words):
     return time.perf_counter() - start, usage.ru_maxrss * 1024
 
 
-def copied(source, target):
+def copied(source: str, target: str) -> float:
     start = time.perf_counter()
     subprocess.run(["cp", source, target], check=True)
     return time.perf_counter() - start
 
 
-def figures(lef, def_, lines, new, wanted):
+def figures(lef: str, def_: str, lines: str, new: str, wanted: str) -> Figures:
     plain, _ = replay(lef, def_, lines)
     whole, peak = replay(lef, def_, lines, "--export", new)
     with open(new) as text:
@@ -68,14 +72,14 @@ def figures(lef, def_, lines, new, wanted):
     return plain, whole, copied(new, new + ".copy"), peak
 
 
-def main():
+def main() -> None:
     runs = int(sys.argv[1]) if len(sys.argv) > 1 else 5
     need(LEFENCE)
     print(f"{'components':>11} {'DEF MB':>7} {'replay s':>9} {'export s':>9} {'times':>6} {'cp s':>7} {'peak MB':>8}")
     with tempfile.TemporaryDirectory() as folder:
         lef = os.path.join(folder, "x.lef")
         write(lef, "lef", 200)
-        before = None
+        before: list[float] | None = None
         for count in COUNTS:
             def_, lines, new = (os.path.join(folder, name) for name in ("x.def", "lines", "new.def"))
             write(def_, "placed", count, max(10, count // 2_000))

@@ -108,7 +108,7 @@ def bare(folder: Path, program: str, line: Line, flight: int, seconds: float) ->
     """Lines a second of the program itself."""
     near, far = socket.socketpair()
     words = [program, "replay", str(folder / "t.def"), str(folder / "t.lef")]
-    with near, subprocess.Popen(words, stdin=far, stdout=far) as process:
+    with near, subprocess.Popen(words, stdin=far.fileno(), stdout=far.fileno()) as process:
         far.close()
         near.sendall(b"open f0\n")
         near.recv(100)

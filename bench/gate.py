@@ -61,7 +61,8 @@ def main(words: list[str]) -> int:
     if not words:
         print(__doc__, file=sys.stderr)
         return 2
-    start, checks = time.monotonic(), {}
+    start = time.monotonic()
+    checks: dict[tuple[Path, str], tuple[str, str, float]] = {}
     command = subprocess.Popen(words)
     while command.poll() is None:
         checks |= running(command.pid)

@@ -13,26 +13,32 @@ are the left halves of tiles, every cell stands on its rows within its fence, or
 sites. Groups name their cells one by one. `packed` is a design of cells of one to four rows that take about so many percent of
 the sites; ILLEGAL percent of its cells stand half a site beside their place. `starred` is `def` with cells in blocks, of which each group names one by a star.
 """
+
+from __future__ import annotations
+
 import random
 import sys
+from collections.abc import Iterator
 
 SITE = "SITE core\n  CLASS CORE ;\n  SYMMETRY Y ;\n  SIZE 0.2 BY 2.0 ;\nEND core\n"
+# A cell that stands: its macro, x in sites, its row, and the fence that it is of.
+Cell = tuple[int, int, int, int | None]
 
 
-def pin(name, use, width, low, high):
+def pin(name: str, use: str, width: str, low: float, high: float) -> str:
     return (f"  PIN {name}\n    DIRECTION INOUT ;\n    USE {use} ;\n    PORT\n      LAYER m1 ;\n"
             f"      RECT 0 {low} {width} {high} ;\n    END\n  END {name}\n")
 
 
-def sites_of(rng):
+def sites_of(rng: random.Random) -> int:
     return rng.randint(2, 12)
 
 
-def rows_of(number):
+def rows_of(number: int) -> int:
     return 2 if number % 10 == 9 else 1
 
 
-def macro(number, rng):
+def macro(number: int, rng: random.Random) -> str:
     sites, rows = sites_of(rng), rows_of(number)
     width = f"{sites * 0.2:.1f}"
     text = [f"MACRO M{number}\n  CLASS CORE ;\n  ORIGIN 0 0 ;\n  SIZE {width} BY {rows * 2.0:.1f} ;\n",
@@ -47,7 +53,7 @@ def macro(number, rng):
     return "".join(text)
 
 
-def lef(macros, seed):
+def lef(macros: int, seed: int) -> Iterator[str]:
     rng = random.Random(seed)
     yield "VERSION 5.8 ;\nUNITS\n  DATABASE MICRONS 1000 ;\nEND UNITS\n" + SITE
     for number in range(macros):
@@ -55,7 +61,7 @@ def lef(macros, seed):
     yield "END LIBRARY\n"
 
 
-def def_(components, fences, rows, seed, starred=False):
+def def_(components: int, fences: int, rows: int, seed: int, *, starred: bool = False) -> Iterator[str]:
     rng = random.Random(seed)
     rows = rows or max(8, int((components * 3) ** 0.5 / 2) // 2 * 2)
     sites = max(200, components * 10 // rows)
@@ -84,9 +90,10 @@ def def_(components, fences, rows, seed, starred=False):
     yield "END GROUPS\nEND DESIGN\n"
 
 
-def sizes(macros, seed):
+def sizes(macros: int, seed: int) -> list[tuple[int, int]]:
     """The macros' sizes in sites and rows, as the LEF text of that seed has them."""
-    rng, found = random.Random(seed), []
+    rng = random.Random(seed)
+    found: list[tuple[int, int]] = []
     for number in range(macros):
         sites = sites_of(rng)
         found.append((sites, rows_of(number)))
@@ -94,13 +101,13 @@ def sizes(macros, seed):
     return found
 
 
-def tiles(fences, rows, sites):
+def tiles(fences: int, rows: int) -> tuple[int, int]:
     """Columns of tiles, and the even number of rows of a tile: one tile for each fence at least."""
     down = max(1, min(rows // 2, int(fences ** 0.5)))
     return -(-fences // down), rows // down // 2 * 2
 
 
-def regions(fences, across, wide, high):
+def regions(fences: int, across: int, wide: int, high: int) -> Iterator[str]:
     """The fences, each the left half of its tile."""
     yield f"REGIONS {fences} ;\n"
     for fence in range(fences):
@@ -112,11 +119,15 @@ def regions(fences, across, wide, high):
 FILLED = 0.7    # how much of the ground the cells take; the rest is gaps between them
 
 
-def standing(wanted, fences, blockages, macros, rows, sites, rng):
+def standing(
+    wanted: int, fences: int, blockages: int, rows: int, sites: int, rng: random.Random
+) -> tuple[list[Cell], list[tuple[int, int]]] | None:
     """Cells (macro, x in sites, row, fence) side by side in pairs of rows, and blockages (x, row); None where there is no room."""
-    across, high = tiles(fences, rows, sites)
+    across, high = tiles(fences, rows)
     wide = sites // across
-    cells, blocked = [], []
+    macros = sizes(200, 1)
+    cells: list[Cell] = []
+    blocked: list[tuple[int, int]] = []
     for row in range(0, rows - 1, 2):
         for column in range(across):
             fence = row // high * across + column
@@ -142,17 +153,17 @@ def standing(wanted, fences, blockages, macros, rows, sites, rng):
     return (cells, blocked) if len(cells) == wanted else None
 
 
-def placed(components, fences, blockages, seed):
-    macros, area, found = sizes(200, 1), components * 10 + blockages * 2, None
+def placed(components: int, fences: int, blockages: int, seed: int) -> Iterator[str]:
+    area, found = components * 10 + blockages * 2, None
     while not found:
         area = area * 21 // 20
         rows = max(8, int((area / 10) ** 0.5) // 2 * 2)
-        sites = max(area // rows, 40 * tiles(fences, rows, 0)[0])
+        sites = max(area // rows, 40 * tiles(fences, rows)[0])
         rng = random.Random(seed)
-        found = standing(components, fences, blockages, macros, rows, sites, rng)
+        found = standing(components, fences, blockages, rows, sites, rng)
     cells, blocked = found
     rng.shuffle(cells)
-    across, high = tiles(fences, rows, sites)
+    across, high = tiles(fences, rows)
     wide = sites // across
     yield "VERSION 5.8 ;\nDIVIDERCHAR \"/\" ;\nBUSBITCHARS \"[]\" ;\nDESIGN bench ;\nUNITS DISTANCE MICRONS 1000 ;\n"
     yield f"DIEAREA ( 0 0 ) ( {sites * 200} {rows * 2000} ) ;\n"
@@ -160,7 +171,7 @@ def placed(components, fences, blockages, seed):
         yield f"ROW r{row} core 0 {row * 2000} {'N' if row % 2 == 0 else 'FS'} DO {sites} BY 1 STEP 200 0 ;\n"
     yield from regions(fences, across, wide, high)
     yield f"COMPONENTS {components} ;\n"
-    members = [[] for _ in range(fences)]
+    members: list[list[str]] = [[] for _ in range(fences)]
     for number, (mac, x, row, team) in enumerate(cells):
         orient = rng.choice(("N", "FN") if row % 2 == 0 else ("FS", "S"))
         yield f"- u{number} M{mac} + SOURCE NETLIST + PLACED ( {x * 200} {row * 2000} ) {orient} ;\n"
@@ -178,7 +189,7 @@ def placed(components, fences, blockages, seed):
 TALL = [(sites, rows) for rows in (1, 1, 1, 1, 1, 2, 2, 3, 4) for sites in range(2, 12)]
 
 
-def tall():
+def tall() -> Iterator[str]:
     """The LEF text of macros of one to four rows."""
     yield "VERSION 5.8 ;\nUNITS\n  DATABASE MICRONS 1000 ;\nEND UNITS\n" + SITE
     for number, (sites, rows) in enumerate(TALL):
@@ -188,24 +199,25 @@ def tall():
     yield "END LIBRARY\n"
 
 
-def stacked(left, right, percent, rng):
+def stacked(left: int, right: int, percent: int, rng: random.Random) -> list[tuple[int, int, int]]:
     """Cells (macro, x in sites, row) side by side in four rows from left to right, of which so many percent are kept."""
-    ends, cells = [left] * 4, []
+    ends = [left] * 4
+    cells: list[tuple[int, int, int]] = []
 
-    def put(mac, bottom):
+    def put(mac: int, bottom: int) -> None:
         sites, rows = TALL[mac]
         if rng.random() * 100 < percent:
             cells.append((mac, ends[bottom], bottom))
         ends[bottom:bottom + rows] = [ends[bottom] + sites] * rows
 
-    def fill(row, x):
+    def fill(row: int, x: int) -> None:
         while x - ends[row] > 1:    # with cells of one row
             put(min(x - ends[row], 11 if x - ends[row] != 12 else 10) - 2, row)
         ends[row] = x
 
     while True:
         sites, rows = TALL[mac := rng.randrange(len(TALL))]
-        bottom = min([b for b in range(5 - rows) if rows % 2 == 1 or b % 2 == 0], key=lambda b: max(ends[b:b + rows]))
+        bottom = min([b for b in range(5 - rows) if rows % 2 == 1 or b % 2 == 0], key=lambda low: max(ends[low:low + rows]))
         x = max(ends[bottom:bottom + rows])
         if x + sites > right:
             break
@@ -217,7 +229,7 @@ def stacked(left, right, percent, rng):
     return cells
 
 
-def packed(components, fences, percent, illegal, seed):
+def packed(components: int, fences: int, percent: int, illegal: int, seed: int) -> Iterator[str]:
     rng = random.Random(seed)
     area = sum(sites * rows for sites, rows in TALL) / len(TALL) * components * 100 / percent
     across = max(1, round(fences ** 0.5))
@@ -225,7 +237,7 @@ def packed(components, fences, percent, illegal, seed):
     quads = max(down, int((area / 10) ** 0.5) // 4 // down * down)
     wide = int(area * 0.8) // (quads * 4) // across
     while True:
-        cells = []
+        cells: list[Cell] = []
         for quad in range(quads):
             for column in range(across):
                 fence = quad * down // quads * across + column
@@ -244,7 +256,7 @@ def packed(components, fences, percent, illegal, seed):
         yield f"ROW r{row} core 0 {row * 2000} {'N' if row % 2 == 0 else 'FS'} DO {sites} BY 1 STEP 200 0 ;\n"
     yield from regions(fences, across, wide, high)
     yield f"COMPONENTS {components} ;\n"
-    members = [[] for _ in range(fences)]
+    members: list[list[str]] = [[] for _ in range(fences)]
     for number, (mac, x, row, team) in enumerate(cells):
         beside = 100 if rng.randrange(100) < illegal else 0
         yield f"- u{number} T{mac} + PLACED ( {x * 200 + beside} {row * 2000} ) {'N' if row % 2 == 0 else 'FS'} ;\n"
@@ -256,7 +268,7 @@ def packed(components, fences, percent, illegal, seed):
     yield "END GROUPS\nEND DESIGN\n"
 
 
-def main():
+def main() -> None:
     kind, numbers = sys.argv[1], [int(word) for word in sys.argv[2:]]
     if kind == "lef":
         parts = lef(numbers[0], numbers[1] if len(numbers) > 1 else 1)

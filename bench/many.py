@@ -6,6 +6,9 @@ usage: bench/many.py    (from the top; the program crates/lefence is proved and 
 The design is `generate.py packed` with 100,000 cells. To it come 20,000 equal blockages over all cells; or the rectangle of one
 fence, 20,000 times; or 2,000 patterns of one group that begin with a star and that no name ends with.
 """
+
+from __future__ import annotations
+
 import os
 import re
 import subprocess
@@ -19,23 +22,23 @@ RUNS = 3
 EVERYWHERE = "- PLACEMENT RECT ( 0 0 ) ( 2000000 2000000 ) ;\n"
 
 
-def blocked(text):
+def blocked(text: str) -> str:
     """The design with equal blockages over all cells."""
     section = f"BLOCKAGES 20000 ;\n{EVERYWHERE * 20_000}END BLOCKAGES\n"
     return text.replace("END COMPONENTS\n", "END COMPONENTS\n" + section, 1)
 
 
-def fenced(text):
+def fenced(text: str) -> str:
     """The design in which the first fence has its rectangle many times."""
     return re.sub(r"(- f0 )((?:\( -?\d+ -?\d+ \) ){2})", lambda found: found[1] + found[2] * 20_000, text, count=1)
 
 
-def starred(text):
+def starred(text: str) -> str:
     """The design in which the first group has many patterns more."""
     return text.replace("- g0 ", "- g0 " + "".join(f"*zz{number} " for number in range(2_000)), 1)
 
 
-def seconds(lef, def_):
+def seconds(lef: str, def_: str) -> float:
     """Seconds of `check`, which finds violations or none."""
     start = time.perf_counter()
     child = subprocess.run([LEFENCE, "check", def_, lef], stdout=subprocess.DEVNULL)
@@ -44,7 +47,7 @@ def seconds(lef, def_):
     return time.perf_counter() - start
 
 
-def main():
+def main() -> None:
     need(LEFENCE)
     with tempfile.TemporaryDirectory() as folder:
         lef, plain = os.path.join(folder, "x.lef"), os.path.join(folder, "plain.def")

@@ -11,6 +11,9 @@ commands go to cells of the first fence and of the ground team, half of each, ov
 team of a design in which a tenth of the cells stand half a site beside their places. With a padding every team keeps its cells
 that many core sites apart.
 """
+
+from __future__ import annotations
+
 import argparse
 import os
 import random
@@ -18,17 +21,23 @@ import subprocess
 import sys
 import tempfile
 import time
+from collections.abc import Iterable
 
 from load import LEFENCE, need, write
 
 RUNS = 3
 ASKED = 500    # commands of a verb
+# A cell: its macro, its corner and its orientation.
+Cell = tuple[str, int, int, str]
+# For each team its cells by their names.
+Teams = dict[str, dict[str, Cell]]
 
 
-def cells_of(def_):
+def cells_of(def_: str) -> Teams:
     """Of the first fence and of the ground team the cells, each with its macro and its place."""
-    cells, fences = {}, set()
-    first = None
+    cells: dict[str, Cell] = {}
+    fences: set[str] = set()
+    first: list[str] = []
     with open(def_) as text:
         for line in text:
             words = line.split()
@@ -42,13 +51,13 @@ def cells_of(def_):
     return {"f0": {name: cells[name] for name in first}, "-": {name: cell for name, cell in cells.items() if name not in fences}}
 
 
-def verbs(teams):
+def verbs(teams: Teams) -> dict[str, list[str]]:
     """For each verb its commands, in the order in which they are asked."""
     rng = random.Random(3)
-    told = {verb: [] for verb in ("where", "find", "place", "swap", "legalize", "unplace", "undo")}
+    told: dict[str, list[str]] = {verb: [] for verb in ("where", "find", "place", "swap", "legalize", "unplace", "undo")}
     for team, cells in teams.items():
         names = rng.sample(sorted(cells), min(ASKED // 2, len(cells)))
-        alike = {}
+        alike: dict[tuple[str, str], list[str]] = {}
         for name, (mac, x, y, orient) in cells.items():
             alike.setdefault((mac, orient), []).append(name)
         for name in names:
@@ -67,33 +76,34 @@ def verbs(teams):
 class Program:
     """The program over a pipe, with a session of each of these teams, which have this padding."""
 
-    def __init__(self, lef, def_, teams, padding):
+    def __init__(self, lef: str, def_: str, teams: Iterable[str], padding: int) -> None:
         self.child = subprocess.Popen([LEFENCE, "replay", def_, lef], stdin=subprocess.PIPE, stdout=subprocess.PIPE, bufsize=0)
-        self.replies = open(self.child.stdout.fileno(), "rb", closefd=False)
+        assert self.child.stdin and self.child.stdout
+        self.requests, self.replies = self.child.stdin, open(self.child.stdout.fileno(), "rb", closefd=False)
         self.ask([f"open {team}\n" for team in teams])
         if padding:
             self.ask([f"pad {team} 0 {padding}\n" for team in teams])
 
-    def ask(self, lines):
+    def ask(self, lines: list[str]) -> float:
         """Seconds of these commands."""
         start = time.perf_counter()
         for number in range(0, len(lines), 100):
             sent = lines[number:number + 100]
             text = "".join(sent).encode()
             while text:
-                text = text[self.child.stdin.write(text):]
+                text = text[self.requests.write(text):]
             for line in sent:
                 reply = self.replies.readline()
                 if not reply.startswith((b"ok", b"no 7", b"no 8", b"{")):
                     sys.exit(f"{line.strip()}: {reply.decode()}")
         return time.perf_counter() - start
 
-    def end(self):
-        self.child.stdin.close()
+    def end(self) -> None:
+        self.requests.close()
         self.child.wait()
 
 
-def best(asked, lef, def_, teams, padding):
+def best(asked: list[tuple[list[str], float]], lef: str, def_: str, teams: Iterable[str], padding: int) -> list[float]:
     """Of each of these lists of commands the best time of all runs, in seconds times its factor; a run asks them one after another."""
     found = [float("inf")] * len(asked)
     for _ in range(RUNS):
@@ -103,7 +113,7 @@ def best(asked, lef, def_, teams, padding):
     return found
 
 
-def main():
+def main() -> None:
     words = argparse.ArgumentParser()
     words.add_argument("--padding", type=int, default=0)
     words.add_argument("counts", type=int, nargs="*")
@@ -124,8 +134,8 @@ def main():
                     times = best([(lines, 1e6 / len(lines)) for lines in told.values()], lef, def_, teams, given.padding)
                     write(def_, "packed", count, fences, percent, 10)
                     all_teams = [f"f{fence}" for fence in range(fences)] + ["-"]
-                    whole = [([f"{verb} {team} 0\n" for team in all_teams], 1) for verb in ("tidy", "commit", "check")]
-                    whole = best(whole, lef, def_, all_teams, given.padding)
+                    asked = [([f"{verb} {team} 0\n" for team in all_teams], 1.0) for verb in ("tidy", "commit", "check")]
+                    whole = best(asked, lef, def_, all_teams, given.padding)
                     print(f"{count:>8} {fences:>6} {percent:>3}" + "".join(f" {t:{w}.1f}" for t, w in zip(times, (7, 7, 7, 7, 8, 7, 7)))
                           + "    " + "".join(f" {t:7.3f}" for t in whole), flush=True)
 

@@ -5,8 +5,10 @@ usage: bench/read.py      (from the top; the program crates/lefence_bench is pro
 
 Beside it, in the same run, `bytes.split` of this Python over the same bytes, and KLayout's reader where it is installed.
 """
+
+from __future__ import annotations
+
 import os
-import resource
 import subprocess
 import sys
 import tempfile
@@ -15,12 +17,12 @@ TOP = os.path.dirname(os.path.dirname(os.path.abspath(__file__)))
 PROGRAM = os.path.join(TOP, "crates", "lefence_bench", "out", "lefence_bench")
 
 
-def write(path, kind, count):
+def write(path: str, kind: str, count: int) -> None:
     with open(path, "wb") as out:
         subprocess.run([sys.executable, os.path.join(TOP, "bench", "generate.py"), kind, str(count)], stdout=out, check=True)
 
 
-def generated(folder, kind, count):
+def generated(folder: str, kind: str, count: int) -> str:
     # a folder for each text, since KLayout takes the LEF texts beside a DEF text along
     own = os.path.join(folder, f"{kind}{count}")
     os.makedirs(own)
@@ -31,9 +33,10 @@ def generated(folder, kind, count):
     return path
 
 
-def run(task, path):
+def run(task: str, path: str) -> tuple[float, int]:
     """Seconds that the program measured for the task, and its peak memory in bytes."""
     child = subprocess.Popen([PROGRAM, task, path], stdout=subprocess.PIPE, stderr=subprocess.PIPE)
+    assert child.stdout and child.stderr
     out, err = child.stdout.read(), child.stderr.read()
     _, status, usage = os.wait4(child.pid, 0)
     if status != 0:
@@ -41,13 +44,13 @@ def run(task, path):
     return int(err.split()[0]) / 1e9, usage.ru_maxrss * 1024
 
 
-def split_seconds(path):
+def split_seconds(path: str) -> float:
     # in a process of its own: a child's peak memory begins with its parent's
     script = "import sys,time;data=open(sys.argv[1],'rb').read();t=time.perf_counter();data.split();print(time.perf_counter()-t)"
     return float(subprocess.run([sys.executable, "-c", script, path], capture_output=True, check=True).stdout)
 
 
-def klayout_seconds(path):
+def klayout_seconds(path: str) -> float | None:
     script = "import pya,time;o=pya.LoadLayoutOptions();t=time.perf_counter();pya.Layout().read('%s',o);print(time.perf_counter()-t)" % path
     with tempfile.NamedTemporaryFile("w", suffix=".py") as file:
         file.write(script)
@@ -59,7 +62,7 @@ def klayout_seconds(path):
             return None
 
 
-def main():
+def main() -> None:
     if not os.access(PROGRAM, os.X_OK):
         sys.exit("build it first: (cd crates/lefence_bench && rt run)")
     print(f"{'text':>14} {'MB':>7} {'lex MB/s':>9} {'read MB/s':>10} {'split MB/s':>11} {'klayout MB/s':>13} {'peak / text':>12}")

@@ -58,7 +58,7 @@ def children() -> float:
 
 def tidied(program: str, folder: Path, teams: list[str]) -> tuple[float, int]:
     """Seconds of the program's tidies, and how many were refused; the export is tidy.def."""
-    words = [program, "replay", folder / "x.def", folder / "x.lef", "--export", folder / "tidy.def"]
+    words = [program, "replay", str(folder / "x.def"), str(folder / "x.lef"), "--export", str(folder / "tidy.def")]
     seconds = []
     for verbs in ((), ("tidy", "commit")):
         lines = "".join(f"open {team}\n" + "".join(f"{verb} {team} 0\n" for verb in verbs) for team in teams)
@@ -70,7 +70,7 @@ def tidied(program: str, folder: Path, teams: list[str]) -> tuple[float, int]:
 
 def repaired(program: str, folder: Path) -> tuple[float, float]:
     """Seconds of a processor and of the clock of the tool; the export is repair.def."""
-    texts = [folder / "x.def", folder / "x.lef", "--out", folder / "repair.def"]
+    texts = [str(folder / "x.def"), str(folder / "x.lef"), "--out", str(folder / "repair.def")]
     begin, start = children(), time.monotonic()
     done = subprocess.run([TOP / "front/bin/lefence-repair", *texts, "--program", program], stderr=subprocess.DEVNULL)
     if done.returncode not in (0, 4):

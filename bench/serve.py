@@ -9,24 +9,35 @@ fence in turn. `place` turns a cell where it stands (N and FN, FS and S are exch
 over loopback `lefence serve`. `one` waits for each reply before the next command, so it counts the client's time too, this
 Python's; `hundred` sends a hundred commands and then reads their replies. The best of the runs is printed.
 """
+
+from __future__ import annotations
+
 import os
 import socket
 import subprocess
 import sys
 import tempfile
 import time
+from collections.abc import Callable
+from typing import BinaryIO
 
 from export import TURNED
 from load import LEFENCE, need, write
 
+# Sends all bytes of a text.
+Send = Callable[[bytes], None]
+# The lines of each verb.
+Lines = dict[str, list[bytes]]
 
-def commands(def_, count):
+
+def commands(def_: str, count: int) -> Lines:
     """For each verb so many commands to the cells of the first fence."""
     with open(def_) as text:
         entries = [line.split() for line in text if line.startswith("- ")]
     standing = {words[1]: words[-5:-1] for words in entries if "PLACED" in words}
     members = next(words[2:-4] for words in entries if words[-3:-1] == ["REGION", "f0"])
-    where, place = [], []
+    where: list[bytes] = []
+    place: list[bytes] = []
     for number in range(count):
         name = members[number % len(members)]
         x, y, _, orient = standing[name]
@@ -37,7 +48,7 @@ def commands(def_, count):
     return {"where": where, "place": place}
 
 
-def asked(send, replies, lines, at_a_time):
+def asked(send: Send, replies: BinaryIO, lines: list[bytes], at_a_time: int) -> float:
     """Commands per second, of lines that are sent so many at a time."""
     start = time.perf_counter()
     for number in range(0, len(lines), at_a_time):
@@ -50,32 +61,34 @@ def asked(send, replies, lines, at_a_time):
     return len(lines) / (time.perf_counter() - start)
 
 
-def session(send, replies, lines):
+def session(send: Send, replies: BinaryIO, lines: Lines) -> list[float]:
     """The figures of one session: for each verb one by one, and a hundred at a time."""
     send(b"open f0\n")
     replies.readline()
     return [asked(send, replies, lines[verb], at_a_time) for verb in ("where", "place") for at_a_time in (1, 100)]
 
 
-def over_pipe(lef, def_, lines):
+def over_pipe(lef: str, def_: str, lines: Lines) -> list[float]:
     child = subprocess.Popen([LEFENCE, "replay", def_, lef], stdin=subprocess.PIPE, stdout=subprocess.PIPE, bufsize=0)
-    replies = open(child.stdout.fileno(), "rb", closefd=False)
+    assert child.stdin and child.stdout
+    requests, replies = child.stdin, open(child.stdout.fileno(), "rb", closefd=False)
 
-    def send(text):
+    def send(text: bytes) -> None:
         while text:
-            text = text[child.stdin.write(text):]
+            text = text[requests.write(text):]
 
     figures = session(send, replies, lines)
-    child.stdin.close()
+    requests.close()
     child.wait()
     return figures
 
 
-def over_loopback(lef, def_, lines):
+def over_loopback(lef: str, def_: str, lines: Lines) -> list[float]:
     with socket.socket() as free:
         free.bind(("127.0.0.1", 0))
         port = free.getsockname()[1]
     child = subprocess.Popen([LEFENCE, "serve", def_, lef, "--port", str(port), "--connections", "1"], stdout=subprocess.PIPE)
+    assert child.stdout
     if child.stdout.readline() != b"listening\n":
         sys.exit("serve: not listening")
     with socket.create_connection(("127.0.0.1", port)) as client:
@@ -85,7 +98,7 @@ def over_loopback(lef, def_, lines):
     return figures
 
 
-def main():
+def main() -> None:
     words = [int(word) for word in sys.argv[1:]]
     cells, count, runs = words + [100_000, 20_000, 5][len(words):]
     need(LEFENCE)
