@@ -3,11 +3,18 @@
 first those that the public clauses of the crate or of a crate above reach, and behind them those that only a crate's inside uses.
 
 usage: tools/definitions.py             (from the top) to standard output
-       tools/definitions.py --unused    definitions that no clause reaches, and lemmas that nothing names
+       tools/definitions.py --unused    each definition and lemma of the files of specs/ and proofs/ that nothing names: its name
+                                        stands in no other file, and in its own only in itself and where names are brought in;
+                                        status 1 where there is one
 """
+
+from __future__ import annotations
+
 import os
 import re
 import sys
+from collections.abc import Iterator
+from typing import NamedTuple
 
 HEAD = """# Definitions
 
@@ -17,12 +24,47 @@ value. Definitions without a line of their own are the cases of the one that sta
 stands first what the clauses of public functions and types reach, and behind it, under 'inside', what only clauses of its
 inside use.
 """
-START = re.compile(r"^(?:abbrev pub|unfoldable pub|pub record|pub data|pub|abbrev|unfoldable|record|data) +([^\s:({]+)")
+# The first line of a declaration that says what it is, and of any: `abbrev pub NAME : ..`, or `NAME : ..` alone.
+START = re.compile(r"(?:(?:abbrev|unfoldable|pub|record|data|ruleset|infix[lr]? +\d+) +)+(?!mod )([^\s:({]+)")
+SIGNATURE = re.compile(r"([^\s:({]+) :(?:\s|$)")
+# A line that brings names in, of a .antt file or a .rt file.
+IMPORT = re.compile(r"\s*(?:pub |ghost )?(?:use|mod) ")
 WORD = re.compile(r"[^\s(){}\[\],;:.`]+")
+COMMENT = {".rt": re.compile(r"//.*"), ".antt": re.compile(r"--.*")}
+CLAUSES = re.compile(r"^ *pub (?:const )?fn .*?\n *\{\n|^ *pub fn [^{]*\{\}|^ *pub fn .*?^\{\}", re.S | re.M)
+TYPES = re.compile(r"ghost (?:\w+): \{.*?\n|ghost (?:Value|view) = \{.*?\n")
 
 
-def crates():
-    for line in open("crates.txt", encoding="utf-8"):
+class Definition(NamedTuple):
+    name: str
+    # The comment above it.
+    said: str
+    text: str
+
+
+class Module(NamedTuple):
+    """A file of a crate's specs/: its name, its title, and its definitions in order."""
+
+    name: str
+    title: str
+    definitions: list[Definition]
+
+
+class Words(NamedTuple):
+    """The words of a file: those of the lines that bring names in, and those of each declaration; '' has all others."""
+
+    imported: set[str]
+    declared: dict[str, set[str]]
+
+
+def text_of(path: str) -> str:
+    with open(path, encoding="utf-8") as file:
+        return file.read()
+
+
+def crates() -> Iterator[str]:
+    """The crates of crates.txt that have definitions."""
+    for line in text_of("crates.txt").splitlines():
         line = line.split("#")[0].strip()
         if line:
             name = line.split(":")[0].split()[0]
@@ -30,7 +72,8 @@ def crates():
                 yield name
 
 
-def files(folder, ending):
+def files(folder: str, ending: str) -> Iterator[str]:
+    """The paths of the files below a folder, those that are made left out."""
     for path, folders, names in os.walk(folder):
         folders[:] = sorted(name for name in folders if name != "out")
         for name in sorted(names):
@@ -38,106 +81,150 @@ def files(folder, ending):
                 yield os.path.join(path, name)
 
 
-def order(crate):
+def order(crate: str) -> Iterator[str]:
     """The files of a crate's specs, in the order in which Lib.antt names them."""
-    for line in open(f"crates/{crate}/specs/Lib.antt", encoding="utf-8"):
+    for line in text_of(f"crates/{crate}/specs/Lib.antt").splitlines():
         if line.startswith("pub mod "):
             yield line.split()[2]
 
 
-def comment(lines, at):
+def comment(lines: list[str], at: int) -> str:
     """The comment directly above a line, as one text."""
-    words = []
+    words: list[str] = []
     while at > 0 and lines[at - 1].startswith("-- ") and not lines[at - 1].startswith("-- ----"):
         at -= 1
         words.insert(0, lines[at][3:].strip())
     return " ".join(words)
 
 
-def definitions(path):
-    """The title of a file, and its definitions in order: name, comment, text."""
-    lines = open(path, encoding="utf-8").read().split("\n")
-    end = next((i for i, line in enumerate(lines) if not line.startswith("--")), len(lines))
+def module_of(crate: str, name: str) -> Module:
+    """A file of a crate's specs/; cases that follow one another are one definition."""
+    lines = text_of(f"crates/{crate}/specs/{name}.antt").split("\n")
+    end = next((at for at, line in enumerate(lines) if not line.startswith("--")), len(lines))
     title = " ".join(line[2:].strip() for line in lines[:end]).strip()
-    found = []
-    for i, line in enumerate(lines):
+    starts: list[tuple[str, int]] = []
+    for at, line in enumerate(lines):
         start = START.match(line)
-        if start and i >= end and not line.startswith("pub mod"):
-            if found and found[-1][0] == start.group(1):
-                continue
-            found.append([start.group(1), comment(lines, i), i])
-    ends = [item[2] for item in found[1:]] + [len(lines)]
-    return title, [(name, said, "\n".join(lines[at:stop])) for (name, said, at), stop in zip(found, ends)]
+        if start and at >= end and not (starts and starts[-1][0] == start[1]):
+            starts.append((start[1], at))
+    stops = [at for _, at in starts[1:]] + [len(lines)]
+    found = [Definition(word, comment(lines, at), "\n".join(lines[at:stop])) for (word, at), stop in zip(starts, stops)]
+    return Module(name, title, found)
 
 
-def public_clauses(crate):
+def public_clauses(crate: str) -> str:
     """The text of the clauses of public functions, and of public types."""
-    text = []
+    text: list[str] = []
     for path in files(f"crates/{crate}/src", ".rt"):
-        whole = open(path, encoding="utf-8").read()
-        for match in re.finditer(r"^ *pub (?:const )?fn .*?\n *\{\n|^ *pub fn [^{]*\{\}|^ *pub fn .*?^\{\}", whole, re.S | re.M):
-            text.append(match.group(0))
-        for match in re.finditer(r"ghost (?:\w+): \{.*?\n|ghost (?:Value|view) = \{.*?\n", whole):
-            text.append(match.group(0))
+        whole = text_of(path)
+        text += (found[0] for found in CLAUSES.finditer(whole))
+        text += (found[0] for found in TYPES.finditer(whole))
     return "\n".join(text)
 
 
-def main():
-    known = {}
-    for crate in crates():
-        known[crate] = [(module, *definitions(f"crates/{crate}/specs/{module}.antt")) for module in order(crate)]
-    bodies = {}
-    for parts in known.values():
-        for _, _, found in parts:
-            for name, _, text in found:
-                bodies.setdefault(name, "")
-                bodies[name] += text
-    reached = set()
-    wanted = [word for crate in os.listdir("crates") if os.path.isdir(f"crates/{crate}/src")
-              for word in WORD.findall(public_clauses(crate))]
+def reached(known: dict[str, list[Module]]) -> set[str]:
+    """The names of the definitions that public clauses name, and of those that these name, and so on."""
+    bodies: dict[str, str] = {}
+    for modules in known.values():
+        for module in modules:
+            for definition in module.definitions:
+                bodies[definition.name] = bodies.get(definition.name, "") + definition.text
+    found: set[str] = set()
+    sources = [crate for crate in os.listdir("crates") if os.path.isdir(f"crates/{crate}/src")]
+    wanted = [word for crate in sources for word in WORD.findall(public_clauses(crate))]
     while wanted:
         word = wanted.pop()
-        if word in bodies and word not in reached:
-            reached.add(word)
+        if word in bodies and word not in found:
+            found.add(word)
             wanted += WORD.findall(bodies[word])
-    if "--unused" in sys.argv:
-        return unused(known)
+    return found
+
+
+def print_table(module: Module, names: set[str], is_inside: bool) -> None:
+    """The definitions of a file that are among the names, or if they are of the inside those that are not."""
+    rows = [it for it in module.definitions if it.said and (it.name not in names) == is_inside]
+    if rows:
+        print(f"### {'inside, ' if is_inside else ''}`specs/{module.name}.antt`: {module.title}\n")
+        print("| name | what it says |\n|---|---|")
+        for row in rows:
+            print(f"| `{row.name}` | {row.said.replace('|', chr(92) + '|')} |")
+        print()
+
+
+def print_definitions() -> None:
+    known = {crate: [module_of(crate, name) for name in order(crate)] for crate in crates()}
+    names = reached(known)
     print(HEAD)
-    for crate, parts in known.items():
+    for crate, modules in known.items():
         print(f"\n## {crate}\n")
-        for inside in (False, True):
-            for module, title, found in parts:
-                rows = [(name, said) for name, said, _ in found if said and (name not in reached) == inside]
-                if rows:
-                    print(f"### {'inside, ' if inside else ''}`specs/{module}.antt`: {title}\n")
-                    print("| name | what it says |\n|---|---|")
-                    for name, said in rows:
-                        print(f"| `{name}` | {said.replace('|', chr(92) + '|')} |")
-                    print()
+        for is_inside in (False, True):
+            for module in modules:
+                print_table(module, names, is_inside)
 
 
-def unused(known):
-    """Definitions that stand in no other definition, clause or proof, and lemmas that no other file names."""
-    texts = {}
-    for crate in os.listdir("crates"):
-        for ending in (".rt", ".antt"):
-            for path in files(f"crates/{crate}", ending):
-                texts[path] = open(path, encoding="utf-8").read()
-    counts = {}
-    for path, text in texts.items():
-        for word in WORD.findall(re.sub(r"--.*", "", text)):
-            counts.setdefault(word, {}).setdefault(path, 0)
-            counts[word][path] += 1
-    for path in sorted(texts):
-        if "/proofs/" in path and path.count("/") == 3 or "/specs/" in path:
-            if path.endswith("Lib.antt"):
-                continue
-            for name, _, _ in definitions(path)[1]:
-                where = counts.get(name, {})
-                own = where.get(path, 0)
-                clauses = 2 if "/proofs/" in path else 1
-                if len(where) == 1 and own <= 2 and clauses:
-                    print(path, name)
+def words_of(path: str) -> Words:
+    """The words of a file, comments apart. Only a .antt file has declarations, at its margin or at that of a `module _ ..`."""
+    ending = os.path.splitext(path)[1]
+    found, current, margin = Words(set(), {}), "", 0
+    for line in COMMENT[ending].sub("", text_of(path)).splitlines():
+        if IMPORT.match(line):
+            found.imported.update(WORD.findall(line))
+            continue
+        bare = line.lstrip()
+        if bare and ending == ".antt":
+            margin = min(margin, len(line) - len(bare))
+            start = START.match(line, margin) or SIGNATURE.match(line, margin)
+            if start:
+                current = start[1]
+            elif line.startswith("module ", margin):
+                current, margin = "", margin + 2
+        found.declared.setdefault(current, set()).update(WORD.findall(line))
+    return found
 
 
-main()
+def spellings(name: str) -> set[str]:
+    """How a name is written where it is used: an operator such as ◌+◌ without its places too."""
+    return {name, *(part for part in name.split("◌") if part)}
+
+
+def is_unused(name: str, path: str, words: dict[str, Words], holders: dict[str, set[str]]) -> bool:
+    """Whether a name that the file declares stands nowhere else; `holders` are the files in which a word stands."""
+    written = spellings(name)
+    if any(holders.get(word, set()) - {path} for word in written):
+        return False
+    return not any(written & found for other, found in words[path].declared.items() if other != name)
+
+
+def print_unused() -> int:
+    """Prints what nothing names, and how many definitions and lemmas there are; the status."""
+    words = {path: words_of(path) for ending in COMMENT for path in files("crates", ending)}
+    holders: dict[str, set[str]] = {}
+    for path, found in words.items():
+        for word in found.imported.union(*found.declared.values()):
+            holders.setdefault(word, set()).add(path)
+    count, unused = 0, 0
+    for path in sorted(words):
+        _, _, folder, *rest = path.split("/")
+        if folder not in ("specs", "proofs") or len(rest) != 1 or rest == ["Lib.antt"]:
+            continue
+        for name in words[path].declared:
+            count += name != ""
+            if name and is_unused(name, path, words, holders):
+                unused += 1
+                print(path, name)
+    print(f"{count} definitions and lemmas, {unused or 'none'} unused")
+    return 1 if unused else 0
+
+
+def main(words: list[str]) -> int:
+    if words == ["--unused"]:
+        return print_unused()
+    if words:
+        print(__doc__, file=sys.stderr)
+        return 2
+    print_definitions()
+    return 0
+
+
+if __name__ == "__main__":
+    sys.exit(main(sys.argv[1:]))
