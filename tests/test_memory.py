@@ -29,6 +29,9 @@ WITHOUT_MEMORY = ("open", "close", "sync", "where", "undo", "pad", "def")
 SPARED = 2
 # How a task ends that found no memory: before its lines, or for the buffers of its lines.
 NOT_DONE = [(1, "lefence: 24 OutOfMemory\n"), (3, "lefence: OutOfMemory\n")]
+# The program that answers worked rows, and what it writes in the place of all that is left of a row where it finds no memory.
+ROWS = TESTS.parent / "crates/lefence_rows/out/lefence_rows"
+ENDED_SHORT = "lefence: 24 OutOfMemory"
 
 PLACES = [("place A 0 a1 0 0 N", "ok 1"), ("place A 0 a2 400 0 N", "ok 2"), ("place A 0 a3 800 0 N", "ok 3")]
 # Scripts over the small design: what is changed in its DEF text, by lines, and requests with their replies.
@@ -354,6 +357,72 @@ class RunsRefused(WithRefusals):
             status, _, _, refused = self.run_with(words, "", first, last)
             self.assertGreater(refused, 0)
             self.assertNotEqual(status, 0, f"growth {first}")
+
+
+@unittest.skip("lefence_rows has no setting `run` yet, and ends with a status where it finds no memory")
+class RowsRefused(WithRefusals):
+    """A worked row whose requests are answered as one run: a refused growth is told in the place of a reply, and then the others are
+    those of the row without that request; or in the place of all that is left. Nothing else is written."""
+
+    heading = "# Requests that are answered as one run."
+    requests: list[str]
+    replies: list[str]
+    # What is written of the row, for those requests of it that found no memory.
+    written_without: dict[tuple[int, ...], list[str]]
+
+    def setUp(self) -> None:
+        script = next(script for name, _, script in SCRIPTS if name == "tidy, commit and revert")
+        self.requests = ["open A", *(request for request, _ in script)]
+        self.replies = ["ok 0 0", *(reply for _, reply in script)]
+        self.written_without = {}
+
+    def row(self, short: tuple[int, ...]) -> str:
+        """The text of the row without these of its requests; only the index of the rows looks for places."""
+        asked = [request for at, request in enumerate(self.requests) if at not in short]
+        return "\n".join([self.heading, "= run", "= index", *asked, ""])
+
+    def lines_of(self, written: str) -> list[str]:
+        *lines, behind = written.split("\n")
+        self.assertEqual(behind, "", "the last line has no end")
+        return lines
+
+    def wanted(self, short: tuple[int, ...]) -> list[str]:
+        """What is to be written of the row if these requests, and no other, find no memory."""
+        if short not in self.written_without:
+            status, written, said, _ = self.run_with([str(ROWS)], self.row(short), 0, 0)
+            self.assertEqual((status, said), (0, ""))
+            heading, loaded, *rest = self.lines_of(written)
+            others = iter(rest)
+            replies = [SHORT if at in short else next(others) for at in range(len(self.requests))]
+            self.assertEqual(list(others), [])
+            self.written_without[short] = [heading, loaded, *replies]
+        return self.written_without[short]
+
+    def check(self, written: str) -> None:
+        """What is written is what is wanted, or its first lines and the line that tells that no memory was found for more."""
+        lines = self.lines_of(written)
+        is_ended = lines[-1:] == [ENDED_SHORT]
+        found = lines[:-1] if is_ended else lines
+        short = tuple(at for at, line in enumerate(found[2:]) if line == SHORT)
+        for at in short:
+            self.assertNotIn(self.requests[at].split()[0], WITHOUT_MEMORY)
+        wanted = self.wanted(short)
+        self.assertEqual(found, wanted[: len(found)] if is_ended else wanted)
+
+    def test_run(self) -> None:
+        usual = [self.heading, "loaded", *self.replies]
+        self.assertEqual(self.wanted(()), usual)
+        words, row = [str(ROWS)], self.row(())
+        spared = []
+        for first, last in self.numbers(words, row):
+            status, written, said, refused = self.run_with(words, row, first, last)
+            self.assertGreater(refused, 0)
+            with self.subTest(growth=first, last=last):
+                self.assertEqual((status, said), (0, ""))
+                self.check(written)
+            if written == "\n".join([*usual, ""]):
+                spared.append(first)
+        self.assertLessEqual(len(spared), SPARED, spared)
 
 
 if __name__ == "__main__":
