@@ -7,11 +7,10 @@ import re
 import tempfile
 import unittest
 from pathlib import Path
-from typing import Any
 
 from program import DESIGN, LEF, Start, run
 
-Line = dict[str, Any]
+Line = dict[str, object]
 # The keys of each kind, which stay.
 KEYS: dict[str, list[str]] = {
     "design": ["kind", "name", "site", "site_height", "site_width", "units"],
