@@ -13,17 +13,21 @@ from functools import cached_property, lru_cache
 
 from .protocol import GROUND
 
-# White space and comments; then a token, a quoted text or a word. All repetitions keep what they took, so matching is linear.
-_SKIP = rb"(?:[ \t\r\n]++|#[^\n]*+)*+"
-_TOKEN = rb'(?:"(?:\\.|[^"\\])*+"|[^ \t\r\n]++)'
+# White space and comments; then a token, a quoted text or a word. Each is an atomic group, which keeps what it took, so matching is
+# linear. Possessive repetitions of groups (`(..)*+`) are not used: Python 3.11 matches them wrongly before 3.11.5.
+_SKIP = rb"(?>(?:[ \t\r\n]+|#[^\n]*)*)"
+_TOKEN = rb'(?>"[^"\\]*(?:\\.[^"\\]*)*"|[^ \t\r\n]+)'
 TOKENS = re.compile(_SKIP + rb"(" + _TOKEN + rb")", re.S)
 # Behind a word that stands alone.
 _ALONE = rb"(?![^ \t\r\n])"
 _SEMICOLON = rb";" + _ALONE
 # An entry of a section: from `-` to its semicolon, with its first word, the name, on its own.
-_MORE = rb"(?:" + _SKIP + rb"(?!" + _SEMICOLON + rb")" + _TOKEN + rb")*+"
-_NAME = rb"(?:" + _SKIP + rb"(?!" + _SEMICOLON + rb")(" + _TOKEN + rb"))?+"
+_NAME = rb"(?:" + _SKIP + rb"(?!" + _SEMICOLON + rb")(" + _TOKEN + rb"))?"
+_MORE = rb"(?>(?:" + _SKIP + rb"(?!" + _SEMICOLON + rb")" + _TOKEN + rb")*)"
 _ENTRY = re.compile(_SKIP + rb"-" + _ALONE + _NAME + _MORE + _SKIP + _SEMICOLON, re.S)
+
+# Tokens that are matched at a time: the memory that a match takes grows with them.
+_AT_ONCE = 1000
 
 # A star in a pattern of names, which is any run of bytes, unless it stands directly behind a backslash.
 _STAR = re.compile(rb"(?<!\\)\*")
@@ -36,15 +40,26 @@ SECTIONS = frozenset(
 
 
 @lru_cache
-def _end_of(keyword: bytes) -> re.Pattern[bytes]:
-    """What follows a keyword up to the end of its statement."""
-    if keyword == b"END":
-        return TOKENS
+def _parts_of(keyword: bytes) -> tuple[re.Pattern[bytes], re.Pattern[bytes]]:
+    """Expressions for tokens behind a keyword, many at a time, and for the last ones of its statement."""
     if keyword in SECTIONS:
         last = rb"END" + _ALONE + _SKIP + re.escape(keyword) + _ALONE
     else:
         last = rb"ENDEXT" + _ALONE if keyword == b"BEGINEXT" else _SEMICOLON
-    return re.compile(rb"(?:" + _SKIP + rb"(?!" + last + rb")" + _TOKEN + rb")*+" + _SKIP + last, re.S)
+    return re.compile(rb"(?:" + _SKIP + rb"(?!" + last + rb")" + _TOKEN + rb"){1,%d}" % _AT_ONCE, re.S), re.compile(_SKIP + last)
+
+
+def _end_of(text: bytes, keyword: re.Match[bytes]) -> int:
+    """Where the statement of that keyword ends."""
+    if keyword[1] == b"END":
+        end = TOKENS.match(text, keyword.end())
+    else:
+        tokens, last = _parts_of(keyword[1])
+        start = keyword.end()
+        while found := tokens.match(text, start):
+            start = found.end()
+        end = last.match(text, start)
+    return end.end() if end else len(text)
 
 
 @dataclass(frozen=True)
@@ -88,7 +103,11 @@ def pattern_of(word: bytes) -> re.Pattern[bytes]:
 
 def words_in(text: bytes) -> Iterator[bytes]:
     """The words and quoted texts of a DEF or LEF text, without comments."""
-    return (found[1] for found in TOKENS.finditer(text))
+    at = 0
+    # (a search would try each byte of a comment at the end of the text)
+    while found := TOKENS.match(text, at):
+        yield found[1]
+        at = found.end()
 
 
 def statements(text: bytes) -> list[Statement]:
@@ -96,11 +115,9 @@ def statements(text: bytes) -> list[Statement]:
     found: list[Statement] = []
     start = 0
     while first := TOKENS.match(text, start):
-        keyword = first[1]
-        end = _end_of(keyword).match(text, first.end())
-        stop = end.end() if end else len(text)
-        found.append(Statement(keyword, start, stop))
-        if keyword == b"END":
+        stop = _end_of(text, first)
+        found.append(Statement(first[1], start, stop))
+        if first[1] == b"END":
             break
         start = stop
     return found

@@ -17,7 +17,7 @@ from .faults import FAILED, REFUSED, Fault
 from .hub_client import Client, Entry
 from .journal import Journal
 from .protocol import CHANGES, GROUND, UNBOUNDED, is_change
-from .server import Server, ServerLost
+from .server import Server, ServerLost, teams_told
 
 # What a batch may weigh; a line of one cell weighs 1, one of a whole team as much as WHOLE.
 _BATCH = 1024
@@ -68,18 +68,23 @@ class Hub:
         text = await asyncio.to_thread(self.server.paths[0].read_bytes)
         teams = [GROUND, *await asyncio.to_thread(fences_in, text)]
         self.nobody = name_of_nobody(teams)
+        telling = asyncio.create_task(teams_told(self.server.program, self.server.paths))
+        try:
+            await self._start_program()
+            refuse_other_teams(teams, await telling)
+        finally:
+            telling.cancel()
+            await asyncio.gather(telling, return_exceptions=True)
+        if missing := [team for team in wanted if team not in teams]:
+            raise Fault(REFUSED, f"no team: {', '.join(missing)}")
+        return list(dict.fromkeys(wanted)) or teams
+
+    async def _start_program(self) -> None:
         try:
             await self.server.start()
             await self.server.restore(self.journal.records(self.journal.end), self._note_line)
         except ServerLost as lost:
             await self._revive(lost, self._note_line)
-        replies = await self.server.ask([b"sync %b 4294967295" % team.encode() for team in teams])
-        # No slot has that number: a team is told `no 3`, what is none `no 2`.
-        if strange := [team for team, reply in zip(teams, replies) if not reply.startswith(b"no 3 ")]:
-            raise Fault(FAILED, f"the program knows no team {strange[0]}")
-        if missing := [team for team in wanted if team not in teams]:
-            raise Fault(REFUSED, f"no team: {', '.join(missing)}")
-        return list(dict.fromkeys(wanted)) or teams
 
     # What clients call.
 
@@ -287,6 +292,15 @@ def name_of_nobody(teams: list[str]) -> bytes:
     signs = [chr(byte) for byte in range(33, 127)]
     names = (first + second for second in ("", *signs) for first in signs)
     return next(name for name in names if name not in teams).encode()
+
+
+def refuse_other_teams(found: list[str], told: list[str]) -> None:
+    """A fault where the teams that were found in the DEF text are not those that the program tells."""
+    if set(found) == set(told):
+        return
+    first, second = (", ".join(sorted(these)) or "no other" for these in (set(found) - set(told), set(told) - set(found)))
+    counts = f"{len(found)} teams are found in the DEF text, and the program tells {len(told)}"
+    raise Fault(REFUSED, f"{counts}; found alone: {first}; told alone: {second}")
 
 
 def is_export(entry: Entry) -> bool:

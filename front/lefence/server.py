@@ -4,7 +4,9 @@ from __future__ import annotations
 
 import asyncio
 import contextlib
+import io
 import itertools
+import json
 import os
 import signal
 from collections.abc import Callable, Iterator
@@ -12,11 +14,13 @@ from pathlib import Path
 
 from .faults import FAILED, REFUSED, Fault
 from .journal import sums_of
-from .program import replay_words
-from .protocol import text_length
+from .program import fault_of, path_words, replay_words
+from .protocol import GROUND, text_length
 
 # Bytes that are read at a time.
 _PIECE = 1 << 20
+# More bytes than any line of a description has.
+_LONGEST = 1 << 30
 # Lines that are asked at a time while a journal is restored.
 _CHUNK = 1000
 
@@ -114,9 +118,36 @@ class Server:
 
     async def kill(self) -> None:
         """Ends the program, where it runs."""
-        if self._process is not None and self._process.returncode is None:
-            # Its whole session: a program that is a script goes with what it runs.
-            with contextlib.suppress(ProcessLookupError):
-                os.killpg(self._process.pid, signal.SIGKILL)
-            await self._process.wait()
+        if self._process is not None:
+            await _kill(self._process)
         self._process = None
+
+
+async def _kill(process: asyncio.subprocess.Process) -> None:
+    """Ends a process, where it runs, with its whole session: a program that is a script goes with what it runs."""
+    if process.returncode is None:
+        with contextlib.suppress(ProcessLookupError):
+            os.killpg(process.pid, signal.SIGKILL)
+        await process.wait()
+
+
+async def teams_told(program: str, paths: list[Path]) -> list[str]:
+    """The teams that the program finds in a design: `lefence describe` tells them before its cells, and is ended there."""
+    pipe = asyncio.subprocess.PIPE
+    words = [program, "describe", *path_words(paths)]
+    process = await asyncio.create_subprocess_exec(
+        *words, stdin=asyncio.subprocess.DEVNULL, stdout=pipe, stderr=pipe, start_new_session=True, limit=_LONGEST
+    )
+    assert process.stdout and process.stderr
+    teams = [GROUND]
+    try:
+        while text := await process.stdout.readline():
+            line = json.loads(text)
+            if line["kind"] == "fence":
+                teams.append(line["name"])
+            elif line["kind"] not in ("design", "row"):
+                return teams
+        said = await process.stderr.read()
+        raise fault_of(await process.wait(), io.BytesIO(said), f"{program} does not tell the teams of the design")
+    finally:
+        await _kill(process)

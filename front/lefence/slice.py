@@ -8,12 +8,17 @@ from __future__ import annotations
 
 import os
 import sys
+import tempfile
 from collections.abc import Iterator
+from itertools import zip_longest
 from pathlib import Path
 
+from .description import Cell, Description
 from .design import Design, Statement, section_parts
-from .faults import DONE, REFUSED, USAGE, Fault, Parser, log, run_tool
+from .faults import DONE, REFUSED, Fault, Parser, log, run_tool
+from .program import find_program
 from .protocol import GROUND
+from .whole_file import refuse_inputs
 
 TOOL = "lefence-slice"
 # What speaks of components or nets that a slice lacks, and plays no part in legality.
@@ -50,16 +55,48 @@ def _section(design: Design, section: Statement, team: bytes) -> bytes:
     return before + b"%d" % len(kept) + behind + b"".join(kept) + b"\nEND " + section.keyword
 
 
+def refuse_difference(program: str, whole: Path, part: bytes, libraries: list[Path], team: str) -> None:
+    """A fault where the program does not find in the slice the frame and that team's cells of the whole design, and no others."""
+    with tempfile.NamedTemporaryFile(suffix=".def") as file:
+        file.write(part)
+        file.flush()
+        with Description(program, whole, libraries) as first, _described(program, Path(file.name), libraries) as second:
+            if first.frame != second.frame:
+                raise Fault(REFUSED, "the program finds another frame in the slice than in the whole design; nothing is written")
+            own = [_without_rule(cell) for cell in first.cells() if cell.team == team]
+            found = [_without_rule(cell) for cell in second.cells()]
+    if own != found:
+        pair = next(pair for pair in zip_longest(own, found) if pair[0] != pair[1])
+        counts = f"the program finds {len(own)} cells of team {team} in the whole design, and {len(found)} cells in the slice"
+        names = " and ".join(f"{cell.name} {place}" for cell, place in zip(pair, ("there", "here")) if cell)
+        raise Fault(REFUSED, f"{counts}; the first that differ are {names}; nothing is written")
+
+
+def _described(program: str, part: Path, libraries: list[Path]) -> Description:
+    try:
+        return Description(program, part, libraries)
+    except Fault as fault:
+        raise Fault(fault.status, f"the program refuses the slice, which is not written: {fault}") from None
+
+
+def _without_rule(cell: Cell) -> Cell:
+    """The cell without the rule that it breaks, which may be due to cells of other teams."""
+    return cell._replace(rule=None, other=None)
+
+
 def parser() -> Parser:
     made = Parser(
         TOOL,
         "Writes a DEF text with the frame and one team's cells alone. The program answers that team's commands on\n"
-        "it byte for byte as on the whole design.",
-        f"{TOOL} chip.def --team A --output A.def\nlefence replay A.def tech.lef cells.lef < session.txt",
+        "it byte for byte as on the whole design. With the LEF texts, the slice is compared with what the program\n"
+        "reads in the whole design, and not written where it differs.",
+        f"{TOOL} chip.def tech.lef cells.lef --team A --output A.def\nlefence replay A.def tech.lef cells.lef < session.txt",
     )
     made.add_argument("design", metavar="DEF", type=Path, help="the whole design")
+    made.add_argument("libraries", metavar="LEF", type=Path, nargs="*", help="its LEF texts; without them nothing is compared")
     made.add_argument("--team", metavar="NAME", required=True, help="a FENCE region, or - for the ground outside all fences")
     made.add_argument("--output", metavar="FILE", type=Path, help="where the slice is written (standard output)")
+    made.add_program()
     return made
 
 
@@ -67,10 +104,14 @@ def main() -> int:
     options = parser().parse_args()
 
     def work() -> int:
-        if options.output is not None and options.output.exists() and options.output.samefile(options.design):
-            raise Fault(USAGE, f"{options.output} is the whole design")
+        if options.output is not None:
+            refuse_inputs(options.output, [options.design, *options.libraries])
         text = options.design.read_bytes()
         made = slice_of(text, options.team)
+        if options.libraries:
+            refuse_difference(find_program(options.program), options.design, made, options.libraries, options.team)
+        else:
+            log(TOOL, "no LEF texts are given: the slice is not compared with what the program reads")
         if options.output is None:
             sys.stdout.buffer.write(made)
             sys.stdout.buffer.flush()

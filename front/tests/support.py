@@ -39,6 +39,11 @@ END LIBRARY
 """
 
 
+def tool_words(name: str) -> list[str]:
+    """The command line that a tool begins with, by the interpreter of the tests."""
+    return [sys.executable, str(FRONT / "bin" / name)]
+
+
 def design_text(sections: str = "") -> str:
     """Fences f0.. side by side over four rows, with cells f0c0.. each, and as many outside; more sections before the last line."""
     names = [f"f{team}" for team in range(TEAMS)] + ["g"]
@@ -177,9 +182,16 @@ class FrontCase(unittest.TestCase):
         command = (PROGRAM, "replay", str(design or self.design), str(self.lef), *words)
         return subprocess.run(command, input=text, stdout=subprocess.PIPE, check=True, timeout=PATIENCE).stdout
 
+    def describing(self, script: str) -> str:
+        """A program that describes a design as this script does; all else does the proved program."""
+        made = self.folder / "describing"
+        made.write_text(f"#!/bin/sh\nif [ \"$1\" = describe ]; then\n{script}\nelse exec '{PROGRAM}' \"$@\"\nfi\n")
+        made.chmod(0o755)
+        return str(made)
+
     def tool(self, name: str, *words: str | Path | bytes, lines: bytes = b"") -> subprocess.CompletedProcess[bytes]:
         """A tool that runs to its end."""
-        command = [str(FRONT / "bin" / name), *words]
+        command = [*tool_words(name), *words]
         return subprocess.run(command, input=lines, capture_output=True, timeout=PATIENCE, cwd=self.folder)
 
     @contextlib.contextmanager
@@ -204,7 +216,7 @@ class Hub:
     def __init__(self, folder: Path, words: list[str], log: str = "log") -> None:
         self.log = folder / log
         with open(self.log, "wb") as told:
-            self.process = subprocess.Popen([str(FRONT / "bin/lefence-hub"), *words], stderr=told)
+            self.process = subprocess.Popen([*tool_words("lefence-hub"), *words], stderr=told)
 
     def told(self) -> str:
         return self.log.read_text()

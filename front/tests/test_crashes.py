@@ -123,10 +123,11 @@ class Programs(HubCase):
     """A program that dies by itself."""
 
     def wrap(self, script: str) -> None:
-        """Puts a script before the program, which counts its starts in a file."""
+        """Puts a script before the program that answers lines, which counts its starts in a file."""
         wrapper = self.folder / "wrapper"
         count = f"echo x >> '{self.folder}/starts'\nstarts=$(wc -l < '{self.folder}/starts')"
-        wrapper.write_text(f"#!/bin/sh\n{count}\n{script}\nexec '{PROGRAM}' \"$@\"\n")
+        describes = f"[ \"$1\" = replay ] || exec '{PROGRAM}' \"$@\""
+        wrapper.write_text(f"#!/bin/sh\n{describes}\n{count}\n{script}\nexec '{PROGRAM}' \"$@\"\n")
         wrapper.chmod(0o755)
         self.program = str(wrapper)
 

@@ -6,6 +6,7 @@ import os
 import re
 import shutil
 import subprocess
+import sys
 import time
 from collections.abc import Iterator
 from pathlib import Path
@@ -38,8 +39,9 @@ class Shell:
         tools = folder / "bin"
         tools.mkdir()
         (tools / "lefence").symlink_to(PROGRAM)
+        (tools / "python3").symlink_to(sys.executable)
         self.folder = folder
-        self.environment = {**os.environ, "PATH": f"{FRONT / 'bin'}:{tools}:{os.environ['PATH']}", "QT_QPA_PLATFORM": "offscreen"}
+        self.environment = {**os.environ, "PATH": f"{tools}:{FRONT / 'bin'}:{os.environ['PATH']}", "QT_QPA_PLATFORM": "offscreen"}
         self.behind: subprocess.Popen[bytes] | None = None
         self.told = folder / "bin/told"
 

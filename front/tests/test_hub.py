@@ -16,7 +16,7 @@ from concurrent.futures import ThreadPoolExecutor
 from pathlib import Path
 from unittest import mock
 
-from support import CELLS, FRONT, PATIENCE, TEAMS, WIDTH, HubCase, Script, design_text, spot
+from support import CELLS, PATIENCE, PROGRAM, TEAMS, WIDTH, HubCase, Script, design_text, spot, tool_words
 
 from lefence import hub as hub_module
 from lefence.faults import Fault
@@ -321,6 +321,22 @@ class Ends(HubCase):
         self.assertIn("7 NoUnits", self.start())
         self.assertEqual(self.hub.process.returncode, 1)
 
+    def test_other_teams_than_the_programs_serve_nothing(self) -> None:
+        fence = '"kind":"fence","name":"f3"'
+        for edit, said in (
+            (f"s/{fence}/{fence[:-3]}Z\"/", "9 teams are found in the DEF text, and the program tells 9; found alone: f3; told alone: Z"),
+            (f"/{fence}/d", "9 teams are found in the DEF text, and the program tells 8; found alone: f3; told alone: no other"),
+        ):
+            self.program = self.describing(f"'{PROGRAM}' \"$@\" | sed '{edit}'")
+            self.assertIn(said, self.start())
+            self.assertEqual((self.hub.process.wait(PATIENCE), list((self.folder / "s").iterdir())), (1, []))
+
+    def test_a_program_that_tells_no_teams_serves_nothing(self) -> None:
+        for script, said, status in (("echo no >&2; exit 2", "no", 2), ("exit 0", "does not tell the teams", 3), ("kill -9 $$", "does not", 3)):
+            self.program = self.describing(script)
+            self.assertIn(said, self.start())
+            self.assertEqual((self.hub.process.wait(PATIENCE), list((self.folder / "s").iterdir())), (status, []))
+
     def test_what_is_left_unread_at_the_end_resets_nobody(self) -> None:
         for last in (b"bye\n" + b"where f0 0 f0c1\n" * 3000, b"where f0 0 f0c1\n" * 6000):
             self.start()
@@ -343,7 +359,7 @@ class Ends(HubCase):
         self.start()
         self.talk("f0").ask("open f0", "place f0 0 f0c1 0 0 N")
         for words in (self.words(journal="other"), self.words(sockets="s2")):
-            second = subprocess.run([str(FRONT / "bin/lefence-hub"), *words], capture_output=True, timeout=PATIENCE)
+            second = subprocess.run([*tool_words("lefence-hub"), *words], capture_output=True, timeout=PATIENCE)
             self.assertEqual((second.returncode, b"another hub holds it" in second.stderr), (3, True))
         self.hub.end()
         kept = self.journal.read_bytes()

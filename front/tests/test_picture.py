@@ -8,7 +8,7 @@ import subprocess
 import unittest
 from xml.etree import ElementTree
 
-from support import FRONT, PATIENCE, TEAMS, FrontCase
+from support import PATIENCE, TEAMS, FrontCase, tool_words
 
 from lefence.description import Box, Description
 from lefence.drawing import Drawing, shortened, text_of
@@ -141,7 +141,7 @@ class Pictures(FrontCase):
         self.assertEqual(groups[""].findtext(f"{SVG}title"), "<t&\">")
 
     def test_a_png(self) -> None:
-        words = [str(FRONT / "bin/lefence-picture"), "t.def", "t.lef", "--program", self.program, "-o", "x.png"]
+        words = [*tool_words("lefence-picture"), "t.def", "t.lef", "--program", self.program, "-o", "x.png"]
         # KLayout takes seconds to start.
         done = subprocess.run(words, cwd=self.folder, capture_output=True, timeout=5 * PATIENCE)
         if shutil.which("klayout"):

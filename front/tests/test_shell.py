@@ -8,7 +8,7 @@ import select
 import time
 import unittest
 
-from support import FRONT, PATIENCE, PROGRAM, TEAMS, HubCase
+from support import PATIENCE, PROGRAM, TEAMS, HubCase, tool_words
 
 from lefence.endpoint import start_program
 from lefence.protocol import RULES
@@ -125,7 +125,7 @@ class Completion(HubCase):
         if pid == 0:
             os.environ["XDG_STATE_HOME"] = str(self.folder)
             os.environ["TERM"] = "dumb"
-            os.execv(str(FRONT / "bin/lefence-shell"), ["lefence-shell", str(self.design), str(self.lef), "--program", PROGRAM])
+            os.execv(sys.executable, [*tool_words("lefence-shell"), str(self.design), str(self.lef), "--program", PROGRAM])
         seen = b""
         for text, due in ((b"", b"lefence> "), (b"team f0\n", b"f0> "), (b"pla\tf0c1 0 0 N\n", b"revision 1"), (b"quit\n", b"")):
             os.write(terminal, text)

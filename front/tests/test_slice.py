@@ -8,12 +8,13 @@ from concurrent.futures import ThreadPoolExecutor
 from pathlib import Path
 from unittest import mock
 
-from support import TEAMS, Hub, HubCase, Script, design_text
+from support import PROGRAM, TEAMS, Hub, HubCase, Script, design_text
 
 import lefence
 from lefence.design import Design
+from lefence.faults import Fault
 from lefence.journal import Journal
-from lefence.slice import slice_of
+from lefence.slice import refuse_difference, slice_of
 
 # What a design of a flow holds beside the small one: sections that a slice drops, comments, quotes, FIXED and COVER components.
 SECTIONS = """PINS 1 ;
@@ -65,8 +66,9 @@ class Slices(HubCase):
 
     def slice(self, team: str) -> Path:
         target = self.folder / f"{team}.def"
-        done = self.tool("lefence-slice", self.design, "--team", team, "--output", target)
+        done = self.tool("lefence-slice", self.design, self.lef, "--team", team, "--output", target, "--program", self.program)
         self.assertEqual((done.returncode, done.stdout), (0, b""), done.stderr)
+        self.assertNotIn(b"not compared", done.stderr)
         return target
 
     def test_a_slice_has_the_frame_and_the_teams_cells_alone(self) -> None:
@@ -106,6 +108,33 @@ class Slices(HubCase):
             self.assertIn(b"no team", done.stderr)
         done = self.tool("lefence-slice", self.design, "--team", "f1")
         self.assertEqual((done.returncode, done.stdout), (0, slice_of(self.design.read_bytes(), "f1")))
+        self.assertIn(b"not compared", done.stderr)
+
+    def test_what_the_program_does_not_find_alike_is_refused(self) -> None:
+        whole = self.design.read_bytes()
+        part = slice_of(whole, "f1")
+        refuse_difference(PROGRAM, self.design, part, [self.lef], "f1")
+        for other, said in (
+            (whole, "finds 12 cells of team f1 in the whole design, and 92 cells in the slice"),
+            (slice_of(whole, "f2"), "the first that differ are f1c0 there and f2c0 here"),
+            (part.replace(b"- f1c9 BUF", b"- f1c9 INV"), "the first that differ are f1c9 there and f1c9 here"),
+            (part.replace(b"- late\\* INV ", b"- late\\* INV + FIXED ( 8000 0 ) N "), "another frame"),
+            (part.replace(b"- f1c7 ", b"- f1c8 "), "the program refuses the slice, which is not written: "),
+            (slice_of(whole, "-"), "finds 12 cells of team f1 in the whole design, and 10 cells in the slice"),
+        ):
+            self.assertNotEqual(other, part)
+            with self.assertRaises(Fault) as caught:
+                refuse_difference(PROGRAM, self.design, other, [self.lef], "f1")
+            self.assertEqual((caught.exception.status, said in str(caught.exception)), (1, True), caught.exception)
+
+    def test_a_slice_that_differs_is_not_written(self) -> None:
+        target = self.folder / "f1.def"
+        for edit in ("s/f1c3/f1c33/", "/f1c3/d", "s/name...f2fixed/&d/"):
+            program = self.describing(f"""[ "$2" = "{self.design}" ] || exec '{PROGRAM}' "$@"\n'{PROGRAM}' "$@" | sed '{edit}'""")
+            for words in ((), ("--output", target)):
+                done = self.tool("lefence-slice", self.design, self.lef, "--team", "f1", "--program", program, *words)
+                self.assertEqual((done.returncode, done.stdout, target.exists()), (1, b"", False), done.stderr)
+                self.assertIn(b"the program finds", done.stderr)
 
     def test_the_design_itself_is_not_overwritten(self) -> None:
         before = self.design.read_bytes()

@@ -7,7 +7,7 @@ import sys
 import tomllib
 import unittest
 
-from support import FRONT, PROGRAM, FrontCase
+from support import FRONT, PROGRAM, FrontCase, tool_words
 
 from backend import build_wheel
 
@@ -39,6 +39,7 @@ class Tools(FrontCase):
             ("lefence-hub", ("t.def", "t.lef", *sockets, "--sockets", "nowhere/s")),
             ("lefence-slice", (b"\xff.def", "--team", "f0")),
             ("lefence-slice", ("t.def", "--team", "f0", "--output", "nowhere/x")),
+            ("lefence-slice", ("t.def", "nowhere.lef", "--team", "f0", "--program", PROGRAM)),
             ("lefence-push", (b"\xff", "s")),
             ("lefence-shell", (b"\xff.def", "t.lef", "--program", PROGRAM)),
             ("lefence-summary", ("t.def", b"\xff.def", "t.lef", "--program", PROGRAM)),
@@ -63,6 +64,7 @@ class Tools(FrontCase):
         design = ("t.def", "t.lef")
         for name, words in (
             ("lefence-hub", (*design, *sockets)),
+            ("lefence-slice", (*design, "--team", "f0")),
             ("lefence-shell", design),
             ("lefence-picture", design),
             ("lefence-report", design),
@@ -77,7 +79,7 @@ class Tools(FrontCase):
     def test_output_that_nobody_reads_ends_with_3(self) -> None:
         text = "".join(f"- x{at} INV ;\n" for at in range(20000))
         self.design.write_text(self.design.read_text().replace("END COMPONENTS", text + "END COMPONENTS"))
-        words = [str(FRONT / "bin/lefence-slice"), str(self.design), "--team", "-"]
+        words = [*tool_words("lefence-slice"), str(self.design), "--team", "-"]
         with subprocess.Popen(words, stdout=subprocess.PIPE, stderr=subprocess.PIPE) as process:
             process.stdout.close()
             self.assertNotIn(b"Traceback", process.stderr.read())
