@@ -17,6 +17,8 @@ use Rattle.lf_lex.specs.declared.fault.FaultNumber.TheVariants.{NoMacro, SecondN
 use Rattle.lf_names.specs.Names.{position_of}
 use Rattle.lf_floorplan.specs.declared.macros.Macro.{Macro}
 use Rattle.lf_lef.specs.Contents.{macro_names}
+use Rattle.lf_def.specs.declared.regions.Region.{Region}
+use Rattle.lf_def.specs.declared.groups.Group.{Group}
 use Rattle.lf_def.specs.declared.components.Component.{Component}
 use Rattle.lf_def.specs.Ranges.{IsComponent}
 use Rattle.lf_floorplan.specs.declared.frame.Frame.{Frame}
@@ -105,6 +107,21 @@ name_printed name is = record { short = is.short; printed = λ k d within. print
 position_within : (names : List (List ℕ)) (name : List ℕ) (place : ℕ) → position_of names name ≡ Some place → place < length names
 position_within names name place is = (position-Some (Rattle.std.specs.Str.bytes_eq name) names place [] is).0
 
+-- the number of a team is at most that of the fences
+pub team_within : (regions : List Region) (groups : List Group) (name : List ℕ) (team : ℕ) → IsTeamOf regions groups name team → team ≤ length (fences regions)
+team_within regions groups name team (inl one) =
+    let within : team < length (fence_names regions) = position_within (fence_names regions) one.fence team one.place in
+    let same : length (fence_names regions) ≡ length (fences regions) = grind (arith, common_steps) in
+    omega (arith, same)
+team_within regions groups name team (inr ground) = omega (arith, ground.1)
+
+-- the position of a macro is less than the number of macros
+pub macro_within : (macros : List Macro) (name : List ℕ) (place : ℕ) → position_of (macro_names macros) name ≡ Some place → place < length macros
+macro_within macros name place is =
+    let many : length (macro_names macros) ≡ length macros = grind (arith, common_steps) in
+    let within : place < length (macro_names macros) = position_within (macro_names macros) name place is in
+    omega (arith, many)
+
 -- what is asked of an entry
 abbrev IsEntry : Inputs → ℕ × Component → Type 0
 IsEntry i e = IsComponent e.1 × ((is_movable e.1 ≡ true) × (is_cover e.1 ≡ false → IfSome (macro_named i.library e.1.mac) (IsSizedIn (units_in i))))
@@ -157,7 +174,8 @@ apart i a j k d below within =
     let none = none_of_name {breaks = BearsEarlierName} (a SecondName) k d.1 behind in
     rw (first, second) ((λ same. none (j, get_or i.document.components j d.1, grind (arith, common_steps), grind (arith, common_steps, get_or_default i.document.components j (get_or i.document.components j d.1) d.1), same)), omega arith)
 
-few : (i : Inputs) → IsAccepted i → length i.document.components ≤ i.limits.components
+-- there are at most as many components as the limit
+pub few : (i : Inputs) → IsAccepted i → length i.document.components ≤ i.limits.components
 few i a =
     let behind_rows = (first_nothing (a TooMany)).1 in
     let behind_fences = (first_nothing behind_rows).1 in

@@ -193,7 +193,7 @@ few_rows i core is a =
     (none_of_name (of_core i core (λ s. NameOfFirst (λ r. r.name) (IsRowTooMany s i.limits.rows) i.document.rows) is (first_nothing (a TooMany)).0))
 
 -- nor are there more fences than their limit
-few_fences : (i : Inputs) → IsAccepted i → length (map frame_team (fences i.document.regions)) ≤ i.limits.fences
+pub few_fences : (i : Inputs) → IsAccepted i → length (map frame_team (fences i.document.regions)) ≤ i.limits.fences
 few_fences i a =
     let behind_rows = (first_nothing (a TooMany)).1 in
     few_kept frame_team is_fence i.limits.fences i.document.regions (none_of_name {breaks = IsFenceTooMany i.limits.fences} (first_nothing behind_rows).0)

@@ -1,12 +1,12 @@
 //! The movable cells of an accepted design.
 
-ghost use Rattle.std.specs.Prelude.{◌≡◌, true, IfOk, IsSome, All, option_map};
+ghost use Rattle.std.specs.Prelude.{◌≡◌, ◌<◌, ◌≤◌, true, IfOk, IsSome, All, length, option_map};
 ghost use Rattle.std.specs.List.{AllZip};
 ghost use Rattle.lf_names.specs.Names.{position_of};
 ghost use Rattle.lf_lef.specs.Contents.{macro_names};
 ghost use Rattle.lf_def.specs.Ranges.{IsComponent};
 ghost use Rattle.lf_floorplan.specs.LoadedCells.{with_name};
-ghost use Rattle.lf_claims.specs.Teams.{is_movable as is_movable_component, IsTeamOf};
+ghost use Rattle.lf_claims.specs.Teams.{fences, is_movable as is_movable_component, IsTeamOf};
 ghost use Rattle.lf_claims.specs.Entries.{NoneBreaks};
 ghost use Rattle.lf_claims.specs.Refusals.{BearsEarlierName};
 ghost use Rattle.lf_claims.specs.ClaimTables.{IsTableOf};
@@ -31,14 +31,12 @@ fn place_of(component: &Component) -> Option<Place>
     }
 }
 
-/// The number in 32 bits, which those of texts that fit into memory have.
-fn in_32_bits(number: usize) -> Result<u32, AllocError>
-    ensures { IfOk result (λ same. same ≡ number) }
+/// The number in 32 bits.
+fn in_32_bits(number: usize) -> u32
+    requires { number ≤ 4000000 }
+    ensures { result ≡ number }
 {
-    match u32::try_from(number) {
-        Ok(same) => Ok(same),
-        Err(_) => Err(AllocError),
-    }
+    number as u32
 }
 
 /// The cell of a movable component, without its name.
@@ -49,22 +47,25 @@ fn cell_of(
     team: usize,
     number: usize,
     component: &Component,
-) -> Result<PlainCell, AllocError>
+) -> PlainCell
+    requires few_teams { team ≤ 1024 }
+    requires few_components { number < 4000000 }
     requires team { IsTeamOf document.now.regions document.now.groups component.now.name team }
     requires range { IsComponent component.now }
     requires able { CanBeCell (inputs library.now document.now limits.now) component.now }
-    ensures { IfOk result (λ cell. IsCellOf (inputs library.now document.now limits.now) (number, component.now) (with_name component.now.name cell)) }
+    ensures { IsCellOf (inputs library.now document.now limits.now) (number, component.now) (with_name component.now.name result) }
 {
+    let _ = library.macros();
     let mac = library.find_macro(component.macro_name()).unwrap();
-    let own_team = in_32_bits(team)?;
-    let own_macro = in_32_bits(mac)?;
-    let entry = in_32_bits(number)?;
-    Ok(PlainCell {
+    let own_team = in_32_bits(team);
+    let own_macro = in_32_bits(mac);
+    let entry = in_32_bits(number);
+    PlainCell {
         team: own_team,
         mac: own_macro,
         component: entry,
         place: PackedPlace::of(place_of(component)),
-    })
+    }
 }
 
 /// The cells of the movable components, in the order of the text.
@@ -75,6 +76,8 @@ pub(crate) fn movable_cells(
     document: &DefDoc,
     limits: &Limits,
 ) -> Result<LoadedCells, AllocError>
+    requires few_fences { length (fences document.now.regions) ≤ 1024 }
+    requires few_components { length document.now.components ≤ 4000000 }
     requires claims { IsTableOf document.now.regions document.now.groups document.now.components claims.now }
     requires differ { NoneBreaks BearsEarlierName document.now.components }
     requires able { All (λ c. is_movable_component c ≡ true → CanBeCell (inputs library.now document.now limits.now) c) document.now.components }
@@ -84,7 +87,7 @@ pub(crate) fn movable_cells(
     for (number, component) in document.components.as_slice().iter().enumerate() {
         if is_movable(component) {
             let team = claims.team_at(number);
-            let cell = cell_of(library, document, limits, team, number, component)?;
+            let cell = cell_of(library, document, limits, team, number, component);
             cells.push(component.name(), cell)?;
         }
     }

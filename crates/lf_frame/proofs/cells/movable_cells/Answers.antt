@@ -4,8 +4,9 @@ use Rattle.lf_refusals.specs.Findings.{Inputs, inputs}
 use Rattle.lf_floorplan.specs.LoadedCells.{with_name}
 use Rattle.lf_frame.specs.Loads.{CanBeCell}
 use Rattle.std.proofs.lemmas.Option.{slice_get_read}
+use Rattle.lf_frame.proofs.DesignMade.{team_within}
 use Rattle.lf_frame.proofs.CellsMade.{cell_more, none_more, all_made, none_earlier, stays_earlier, one_earlier, is_new}
-use Rattle.lf_frame.proofs.cells.movable_cells.Goals.{then-is_movable+in_ok-cell+in_ok-push, else-is_movable}
+use Rattle.lf_frame.proofs.cells.movable_cells.Goals.{then-is_movable+in_ok-push, else-is_movable}
 use Rattle.lf_frame.proofs.cells.movable_cells.Goals as goal
 
 pub loop-number-preserved : goal.loop-number-preserved
@@ -15,11 +16,11 @@ loop-number-preserved c =
     let within : c.loop-number.number < length c.args.document.now.components = rw same at c.loop-number-test.true in
     let is : c.component-item.result ≡ get_or c.args.document.now.components c.loop-number.number c.component-item.result = rw same at c.component-item.is in
     elim c.if-is_movable.branch [
-      | then-is_movable+in_ok-cell+in_ok-push w ↦
+      | then-is_movable+in_ok-push w ↦
           let pushed = w.in_ok-push.ensures {u = tt} in
-          let cell = with_name c.component-item.result.name w.in_ok-cell.cell in
+          let cell = with_name c.component-item.result.name w.cell_of-cell.result in
           rw (w.cells-is, pushed.ok, w.name.ensures) (
-            cell_more i c.args.document.now.components c.loop-number.number c.component-item.result c.loop-number.cells cell within is (sym c.is_movable.ensures ∙ w.if-is_movable.true) (w.in_ok-cell.ensures {u = tt}) c.loop-number.invariant.0,
+            cell_more i c.args.document.now.components c.loop-number.number c.component-item.result c.loop-number.cells cell within is (sym c.is_movable.ensures ∙ w.if-is_movable.true) w.cell_of-cell.ensures c.loop-number.invariant.0,
             one_earlier c.args.document.now.components c.loop-number.number c.component-item.result c.loop-number.cells cell within is refl c.loop-number.invariant.1,
           )
       | else-is_movable w ↦ rw w.cells-is (
@@ -50,6 +51,18 @@ cell_of-requires-clause-team c =
     rw (← is) at (c.requires.able c.loop-number.number c.component-item.result within) (sym c.is_movable.ensures ∙ c.if-is_movable.true) in
     c.team_at-team.ensures c.args.document.now.regions c.args.document.now.groups c.args.document.now.components c.requires.claims c.requires.differ
     c.component-item.result at able.once
+
+pub cell_of-requires-clause-few_teams : goal.cell_of-requires-clause-few_teams
+cell_of-requires-clause-few_teams c =
+    let of = cell_of-requires-clause-team c in
+    let within = team_within c.args.document.now.regions c.args.document.now.groups c.component-item.result.name c.team_at-team.result of in
+    omega (arith, within, c.requires.few_fences)
+
+pub cell_of-requires-clause-few_components : goal.cell_of-requires-clause-few_components
+cell_of-requires-clause-few_components c =
+    let same : c.as_slice-component-items.result.now ≡ c.args.document.now.components = c.as_slice-component-items.ensures in
+    let within : c.loop-number.number < length c.args.document.now.components = rw same at c.loop-number-test.true in
+    omega (arith, within, c.requires.few_components)
 
 pub returns : goal.returns
 returns c =

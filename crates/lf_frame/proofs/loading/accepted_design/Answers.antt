@@ -1,12 +1,27 @@
+use Rattle.std.proofs.Common.{◌≡◌, length, map, arith}
+use Rattle.std.proofs.lemmas.List.{length-map}
 use Rattle.lf_lex.specs.declared.fault.FaultNumber.TheVariants.{SecondName}
-use Rattle.lf_refusals.specs.Findings.{inputs}
+use Rattle.lf_refusals.specs.Findings.{Inputs, inputs}
 use Rattle.lf_claims.specs.Refusals.{BearsEarlierName}
+use Rattle.lf_claims.specs.Teams.{fences}
+use Rattle.lf_frame.specs.Loads.{frame_team}
 use Rattle.lf_refusals.proofs.Gathered.{none_of_name}
-use Rattle.lf_frame.proofs.DesignMade.{can_be_cells, design_made}
+use Rattle.lf_frame.proofs.DesignMade.{can_be_cells, design_made, few}
+use Rattle.lf_frame.proofs.FrameMade.{few_fences}
 use Rattle.lf_frame.proofs.loading.accepted_design.Goals as goal
 
 pub movable_cells-requires : goal.movable_cells-requires
-movable_cells-requires c = record { able = can_be_cells (inputs c.args.library.now c.args.document.now c.args.limits.now) c.requires.accepted; claims = c.requires.claims; differ = none_of_name {breaks = BearsEarlierName} (c.requires.accepted SecondName) }
+movable_cells-requires c =
+    let i : Inputs = inputs c.args.library.now c.args.document.now c.args.limits.now in
+    let kept : length (map frame_team (fences c.args.document.now.regions)) ≡ length (fences c.args.document.now.regions) =
+    length-map (fences c.args.document.now.regions) frame_team in
+    record {
+      few_fences = omega (arith, kept, few_fences i c.requires.accepted, c.args.limits.now.allowed.fences_within.most);
+      few_components = omega (arith, few i c.requires.accepted, c.args.limits.now.allowed.components_within.most);
+      able = can_be_cells i c.requires.accepted;
+      claims = c.requires.claims;
+      differ = none_of_name {breaks = BearsEarlierName} (c.requires.accepted SecondName);
+    }
 
 pub loaded_from-requires : goal.loaded_from-requires
 loaded_from-requires c =
