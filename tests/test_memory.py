@@ -14,6 +14,7 @@ import subprocess
 import tempfile
 import unittest
 from collections.abc import Iterator
+from dataclasses import dataclass
 from pathlib import Path
 
 from program import DEF, LEF, PROGRAM, TESTS, Session
@@ -348,54 +349,99 @@ class StartsRefused(WithRefusals):
         self.assertLessEqual(len(spared), SPARED, spared)
 
 
-class RunsRefused(WithRefusals):
-    """A list of requests that is answered by `Floor::run`: no growth is refused without an answer that says so."""
+@dataclass(frozen=True)
+class WorkedRow:
+    """A row of lefence_rows: its settings, and its requests, each with its reply, or the first line of that."""
 
-    def test_run(self) -> None:
-        words = [str(TESTS.parent / "crates/lf_tests_floor/out/lf_tests_floor_tests"), "floors::runs_requests"]
-        for first, last in self.numbers(words, ""):
-            status, _, _, refused = self.run_with(words, "", first, last)
-            self.assertGreater(refused, 0)
-            self.assertNotEqual(status, 0, f"growth {first}")
+    name: str
+    settings: list[str]
+    script: list[tuple[str, str]]
 
 
-@unittest.skip("lefence_rows has no setting `run` yet, and ends with a status where it finds no memory")
+WORKED_ROWS = [
+    WorkedRow(
+        "run, two undos",
+        ["= run", "= limits 65535 1024 4000000 8 2 4000000000"],
+        [
+            ("open A", "ok 0 0"),
+            *PLACES,
+            ("undo A 0", "ok 4"),
+            ("undo A 0", "ok 5"),
+            ("undo A 0", "no 9 NothingToUndo"),
+            ("where A 0 a1", "ok 0 0 N"),
+            ("where A 0 a2", "no 6 Unplaced a2"),
+        ],
+    ),
+    WorkedRow(
+        "run, a DEF text",
+        ["= run"],
+        [
+            ("open A", "ok 0 0"),
+            PLACES[0],
+            ("commit A 0", "no 6 Unplaced a2"),
+            ("def A 0", "ok 320"),
+            ("place A 0 b1 0 0 N", "no 5 NoCell"),
+            ("place A 0 zz 0 0 N", "no 5 NoCell"),
+        ],
+    ),
+    WorkedRow(
+        "run, tidy and commit",
+        ["= run"],
+        [("open A", "ok 0 0"), *next(script for name, _, script in SCRIPTS if name == "tidy, commit and revert")],
+    ),
+    # (with limits of its own a row is exported by the library and not by the program, which GrowthsRefused tries)
+    WorkedRow(
+        "an exported text",
+        ["= export", "= limits 65535 1024 4000000 8 64 4000000000"],
+        [("open A", "ok 0 0"), *PLACES, ("commit A 0", "ok 4")],
+    ),
+]
+
+
 class RowsRefused(WithRefusals):
-    """A worked row whose requests are answered as one run: a refused growth is told in the place of a reply, and then the others are
-    those of the row without that request; or in the place of all that is left. Nothing else is written."""
+    """Worked rows that the library answers: a refused growth is told in the place of a reply, and then the others are those of the row
+    without that request; or in the place of all that is left. Nothing else is written, and the program ends as ever."""
 
-    heading = "# Requests that are answered as one run."
-    requests: list[str]
-    replies: list[str]
+    heading = "# A worked row."
+    worked: WorkedRow
     # What is written of the row, for those requests of it that found no memory.
     written_without: dict[tuple[int, ...], list[str]]
 
-    def setUp(self) -> None:
-        script = next(script for name, _, script in SCRIPTS if name == "tidy, commit and revert")
-        self.requests = ["open A", *(request for request, _ in script)]
-        self.replies = ["ok 0 0", *(reply for _, reply in script)]
-        self.written_without = {}
-
-    def row(self, short: tuple[int, ...]) -> str:
+    def text_of(self, short: tuple[int, ...]) -> str:
         """The text of the row without these of its requests; only the index of the rows looks for places."""
-        asked = [request for at, request in enumerate(self.requests) if at not in short]
-        return "\n".join([self.heading, "= run", "= index", *asked, ""])
+        asked = [request for at, (request, _) in enumerate(self.worked.script) if at not in short]
+        return "\n".join([self.heading, "= index", *self.worked.settings, *asked, ""])
 
     def lines_of(self, written: str) -> list[str]:
         *lines, behind = written.split("\n")
         self.assertEqual(behind, "", "the last line has no end")
         return lines
 
+    def replies_in(self, lines: list[str], short: tuple[int, ...]) -> tuple[list[list[str]], list[str]]:
+        """The lines of each reply to the requests but these, and those behind them: the exported text."""
+        replies: list[list[str]] = []
+        rest = list(lines)
+        for at, (request, _) in enumerate(self.worked.script):
+            if at in short or not rest:
+                continue
+            reply = [rest.pop(0)]
+            left = int(reply[0][3:]) if request.startswith("def ") and reply[0].startswith("ok ") else 0
+            while left > 0 and rest:
+                reply.append(rest.pop(0))
+                left -= len(reply[-1]) + 1
+            replies.append(reply)
+        return replies, rest
+
     def wanted(self, short: tuple[int, ...]) -> list[str]:
         """What is to be written of the row if these requests, and no other, find no memory."""
         if short not in self.written_without:
-            status, written, said, _ = self.run_with([str(ROWS)], self.row(short), 0, 0)
+            status, written, said, _ = self.run_with([str(ROWS)], self.text_of(short), 0, 0)
             self.assertEqual((status, said), (0, ""))
-            heading, loaded, *rest = self.lines_of(written)
-            others = iter(rest)
-            replies = [SHORT if at in short else next(others) for at in range(len(self.requests))]
-            self.assertEqual(list(others), [])
-            self.written_without[short] = [heading, loaded, *replies]
+            heading, loaded, *lines = self.lines_of(written)
+            replies, rest = self.replies_in(lines, short)
+            others = iter(replies)
+            each = [[SHORT] if at in short else next(others) for at in range(len(self.worked.script))]
+            self.written_without[short] = [heading, loaded, *(line for reply in each for line in reply), *rest]
         return self.written_without[short]
 
     def check(self, written: str) -> None:
@@ -403,26 +449,30 @@ class RowsRefused(WithRefusals):
         lines = self.lines_of(written)
         is_ended = lines[-1:] == [ENDED_SHORT]
         found = lines[:-1] if is_ended else lines
-        short = tuple(at for at, line in enumerate(found[2:]) if line == SHORT)
+        replies, _ = self.replies_in(found[2:], ())
+        short = tuple(at for at, reply in enumerate(replies) if reply == [SHORT])
         for at in short:
-            self.assertNotIn(self.requests[at].split()[0], WITHOUT_MEMORY)
+            self.assertIn(self.worked.script[at][0].split()[0], ("place", "tidy", "commit", "unplace", "revert", "def"))
         wanted = self.wanted(short)
         self.assertEqual(found, wanted[: len(found)] if is_ended else wanted)
 
-    def test_run(self) -> None:
-        usual = [self.heading, "loaded", *self.replies]
-        self.assertEqual(self.wanted(()), usual)
-        words, row = [str(ROWS)], self.row(())
-        spared = []
-        for first, last in self.numbers(words, row):
-            status, written, said, refused = self.run_with(words, row, first, last)
-            self.assertGreater(refused, 0)
-            with self.subTest(growth=first, last=last):
-                self.assertEqual((status, said), (0, ""))
-                self.check(written)
-            if written == "\n".join([*usual, ""]):
-                spared.append(first)
-        self.assertLessEqual(len(spared), SPARED, spared)
+    def test_rows(self) -> None:
+        for self.worked in WORKED_ROWS:
+            self.written_without = {}
+            words, text = [str(ROWS)], self.text_of(())
+            usual = self.wanted(())
+            replies, _ = self.replies_in(usual[2:], ())
+            self.assertEqual([reply[0] for reply in replies], [reply for _, reply in self.worked.script])
+            spared = []
+            for first, last in self.numbers(words, text):
+                status, written, said, refused = self.run_with(words, text, first, last)
+                self.assertGreater(refused, 0)
+                with self.subTest(row=self.worked.name, growth=first, last=last):
+                    self.assertEqual((status, said), (0, ""))
+                    self.check(written)
+                if self.lines_of(written) == usual:
+                    spared.append(first)
+            self.assertLessEqual(len(spared), SPARED, spared)
 
 
 if __name__ == "__main__":

@@ -25,6 +25,7 @@ use lf_lex::LoadFault;
 use lf_proto::report_json;
 use lf_reports::check_all;
 use lf_reread::loaded_cells_can_be_given;
+use lf_server::Ending;
 use lf_teams::places_follow_design;
 use lf_tests_texts::with_line;
 use lf_write::export;
@@ -338,8 +339,11 @@ fn put_answers<S: Seeker + Drop>(
     let mut reader = asked.lines;
     let mut source = FromRead::new(&mut reader);
     let mut sink = ToWrite::new(replies);
-    let _ending = answer_lines(alloc, floor, &mut source, &mut sink, MOST_LINES);
-    Ok(())
+    match answer_lines(alloc, floor, &mut source, &mut sink, MOST_LINES) {
+        // (a list of replies fails only for want of memory)
+        Ending::OutOfMemory | Ending::WriteFault => Err(AllocError),
+        _ => Ok(()),
+    }
 }
 
 /// Puts the replies to the lines on the floor of the document's design, and the exported text where it is asked for.

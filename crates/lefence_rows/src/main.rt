@@ -26,6 +26,7 @@
 //!
 //! Where the limits are the standard ones, reports are those that `lefence check` writes, and a row with an exported text is
 //! answered by `lefence replay` (`shipped`); what the calls of the library answer beside them is written too if it differs.
+//! Where memory runs out, the line of that refusal stands in the place of all that is left.
 #![tactic(auto)]
 
 mod design;
@@ -38,14 +39,14 @@ use row::{Row, is_heading};
 use std::io;
 use std::io::{Read, Write};
 
-fn main(rt: HostRuntime) -> io::Result<()> {
+/// Answers the rows of standard input, one after the other.
+fn answer_rows<W: Write>(rt: &HostRuntime, writer: &mut W) -> io::Result<()> {
     let mut script = Vec::new(rt.alloc());
     rt.reader().read_to_end(&mut script)?;
-    let mut writer = io::writer(&rt);
     let mut row = Row::new(rt.alloc())?;
     for line in script.split(|byte| *byte == b'\n') {
         if is_heading(line) {
-            row.finish(&mut writer)?;
+            row.finish(writer)?;
             row = Row::new(rt.alloc())?;
             writer.write_all(line)?;
             writer.write_all(b"\n")?;
@@ -53,6 +54,17 @@ fn main(rt: HostRuntime) -> io::Result<()> {
             row.take(line)?;
         }
     }
-    row.finish(&mut writer)?;
-    writer.flush()
+    row.finish(writer)
+}
+
+fn main(rt: HostRuntime) -> io::Result<()> {
+    let mut writer = io::writer(&rt);
+    match answer_rows(&rt, &mut writer) {
+        Ok(()) => writer.flush(),
+        Err(error) if error.kind() == io::ErrorKind::OutOfMemory => {
+            writer.write_all(b"lefence: 24 OutOfMemory\n")?;
+            writer.flush()
+        }
+        Err(error) => Err(error),
+    }
 }
