@@ -106,6 +106,8 @@ impl PatternIndex {
         let Some(matches) = names.matches(alloc, &self.literals)? else {
             return Ok(None);
         };
+        // (the copied names take more than the claims do)
+        drop(names);
         Ok(Some(claims_by_match(alloc, components.len(), &matches)?))
     }
 
