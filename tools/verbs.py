@@ -1,17 +1,22 @@
 #!/usr/bin/env python3
-"""Makes the table of commands of docs/PROTOCOL.md from the comments of the commands in lf_proto.
+"""Makes the table of commands of docs/PROTOCOL.md, and the tables of the front, from the sources of the program.
 
-A row is made of a verb's name, the fields of its shape, and the comment at its variant of Action or Change in src/verb.rt. That
-comment says what the verb does, then its reply and the numbers of its refusals. The rows are in the order of VERBS; the row of
+A row is made of a verb's name, the fields of its shape, and the comment at its variant of Action or Change in lf_proto/src/verb.rt.
+That comment says what the verb does, then its reply and the numbers of its refusals. The rows are in the order of VERBS; the row of
 open is before them and the row of bye after them, and these two are made of the comments in src/request.rt.
 
+front/lefence/tables.py has the verbs of the same sources: one changes the floor if it is a Change, or no look by `is_look` of
+lf_teams; the refusals of src/reply.rt, with the numbers and names of src/text.rt; the rules of lf_rules, and the orientations.
+
 usage: tools/verbs.py            (from the top) prints the table
-       tools/verbs.py --check    prints the lines in which the page differs, at last 'N commands agree'; status 1 where one differs
-       tools/verbs.py --write    writes the table into the page
+       tools/verbs.py --check    prints the lines in which the page and the front's tables differ, and which verb or refusal the
+                                 client library lacks; at last 'N commands agree'; status 1 where anything differs
+       tools/verbs.py --write    writes the table into the page, and the front's tables
 """
 
 from __future__ import annotations
 
+import ast
 import difflib
 import re
 import sys
@@ -19,11 +24,32 @@ from dataclasses import dataclass
 from pathlib import Path
 
 SOURCES = Path("crates/lf_proto/src")
+RULES = Path("crates/lf_rules/src/rule.rt")
+ORIENTS = Path("crates/lf_orient/src/lib.rt")
+LOOKS = Path("crates/lf_teams/specs/Journals.antt")
 PAGE = Path("docs/PROTOCOL.md")
+TABLES = Path("front/lefence/tables.py")
+CLIENT = Path("front/lefence/verbs.py")
+REFUSALS = Path("front/lefence/refusals.py")
 HEAD = ["| line | reply | what it does | refusals |", "|---|---|---|---|"]
 # A line of an enum that begins a variant, and the last paragraph of a command's comment.
 VARIANT = re.compile(r"    (\w+)\b")
 ANSWERS = re.compile(r"Reply: (.*?)\.(?: Refusals: ([\d, ]+)\.)?")
+# The words behind `ok` of a reply.
+WORDS = re.compile(r"`ok((?: [A-Z]+)*)`")
+# A line of is_look: a command of a session, with its operands in names, is a look.
+LOOK = re.compile(r"is_look \(To team \(Within session \(?(\w+)(?: \w+)*\)?\)\) = true")
+# The number and the name of a refusal, as put_refusal has them.
+NUMBERED = re.compile(r'b"(\d+)"\)?,\s*(?:Word::Text\()?b"(\w+)"')
+HEADING = '''"""The verbs, refusals, rules and orientations of the program.
+
+tools/verbs.py --write makes this file of the program's sources: change those.
+"""
+
+from __future__ import annotations
+
+# A verb of a team: its name, its fields behind TEAM (and N), the words of its reply behind `ok`, whether an accepted one changes
+# what later replies are, and what it does.'''
 
 
 class NotThere(Exception):
@@ -90,13 +116,115 @@ def table() -> list[str]:
     return [*HEAD, *rows, row("bye", comments(request, "Command").get("Bye", [""]))]
 
 
+def looks(text: str) -> set[str]:
+    """The variants of Action that change nothing, by the lines of is_look, each of which must be of a form that is known."""
+    lines = re.findall(r"^is_look .*", text, flags=re.M)
+    found = {look[1] for line in lines if (look := LOOK.fullmatch(line))}
+    if len(found) != len(lines) - 2 or lines[0] != "is_look Bye = true" or lines[-1] != "is_look _ = false":
+        raise NotThere(f"lines of is_look in {LOOKS} are of a form that is not known")
+    return found
+
+
+def front_verbs(request: str, verb_text: str) -> list[str]:
+    """The lines of the verbs in the front's table."""
+    changes, actions, orders = (comments(text, name) for text, name in ((verb_text, "Change"), (verb_text, "Action"), (request, "Order")))
+    unchanging = looks(LOOKS.read_text(encoding="utf-8"))
+    if not unchanging <= actions.keys() - {"Change"}:
+        raise NotThere(f"a look of {LOOKS} is no action that changes nothing")
+    verbs = [Verb("Open", "open", ""), *verbs_of(verb_text)]
+    said = orders | actions | changes
+    if left := (said.keys() - {verb.variant for verb in verbs}) - {"Within", "Change"}:
+        raise NotThere(f"VERBS lacks {', '.join(sorted(left))}")
+    return [front_verb(verb, said.get(verb.variant, [""]), verb.variant not in unchanging) for verb in verbs]
+
+
+def front_verb(verb: Verb, said: list[str], is_change: bool) -> str:
+    """The line of a verb in the front's table."""
+    answers = ANSWERS.fullmatch(said[-1])
+    reply = WORDS.match(answers[1]) if answers else None
+    if len(said) != 2 or not reply:
+        raise NotThere(f"no reply of {verb.name}")
+    what = said[0][0].lower() + said[0][1:].removesuffix(".")
+    return f"    ({quoted(verb.name)}, {listed(verb.fields.split())}, {listed(reply[1].split())}, {is_change}, {quoted(what)}),"
+
+
+def quoted(text: str) -> str:
+    """The text in quotes of Python's."""
+    return '"' + text.replace("\\", "\\\\").replace('"', '\\"') + '"'
+
+
+def listed(words: list[str]) -> str:
+    """The words as a tuple of Python's."""
+    return "(" + ", ".join(map(quoted, words)) + ("," if len(words) == 1 else "") + ")"
+
+
+def refusals() -> dict[int, str]:
+    """The refusals of the program by their numbers, which go from 1 on without a gap."""
+    variants = list(comments((SOURCES / "reply.rt").read_text(encoding="utf-8"), "Refusal"))
+    found = {int(number): name for number, name in NUMBERED.findall((SOURCES / "text.rt").read_text(encoding="utf-8"))}
+    if [found[number] for number in sorted(found)] != variants or sorted(found) != list(range(1, len(found) + 1)):
+        raise NotThere("the refusals of reply.rt are not those that text.rt numbers")
+    return dict(sorted(found.items()))
+
+
+def rules() -> dict[int, str]:
+    """The rules by their numbers."""
+    text = RULES.read_text(encoding="utf-8")
+    found = {int(number): name for name, number in re.findall(r"Rule::(\w+) => (\d+)", text)}
+    if [found[number] for number in sorted(found)] != list(comments(text, "Rule")):
+        raise NotThere(f"the rules of {RULES} are not those that it numbers")
+    return found
+
+
+def front_tables() -> list[str]:
+    """The lines of the front's tables."""
+    verb_text, request = ((SOURCES / name).read_text(encoding="utf-8") for name in ("verb.rt", "request.rt"))
+    orients = re.findall(r'Orient::\w+ => b"(\w+)"', ORIENTS.read_text(encoding="utf-8"))
+    if len(orients) != 8:
+        raise NotThere(f"not eight orientations in {ORIENTS}")
+    lines = [*HEADING.split("\n"), "VERBS: tuple[tuple[str, tuple[str, ...], tuple[str, ...], bool, str], ...] = ("]
+    lines += [*front_verbs(request, verb_text), ")", ""]
+    for what, name, table in (("refusals", "REFUSALS", refusals()), ("rules of a place", "RULES", rules())):
+        lines += [f"# The names of the {what} by their number.", f"{name} = {{", *(f"    {number}: {quoted(it)}," for number, it in table.items()), "}", ""]
+    return [*lines, f"ORIENTS = {listed(orients)}", ""]
+
+
+def lacking() -> list[str]:
+    """What the client library lacks: a function of CLIENT that makes a verb's line, a class of REFUSALS with a refusal's number."""
+    client = CLIENT.read_text(encoding="utf-8")
+    asked = set(re.findall(r'scope\.line\("(\w+)"|f"(\w+) \{name\(team\)\}', client))
+    names = {first or second for first, second in asked}
+    verb_text = (SOURCES / "verb.rt").read_text(encoding="utf-8")
+    wanted = ["open", *(verb.name for verb in verbs_of(verb_text))]
+    said = [f"{CLIENT} has no request of {name}" for name in wanted if name not in names]
+    kinds = [node for node in ast.parse(REFUSALS.read_text(encoding="utf-8")).body if isinstance(node, ast.ClassDef)]
+    classes = [(kind.name, number) for kind in kinds for number in numbers_of(kind)]
+    numbers = [number for _, number in classes]
+    said += [f"{REFUSALS} has two classes of number {number}" for number in dict.fromkeys(numbers) if numbers.count(number) > 1]
+    return said + [f"{REFUSALS} has no class {name} of number {number}" for number, name in refusals().items() if (name, number) not in classes]
+
+
+def numbers_of(kind: ast.ClassDef) -> list[object]:
+    """What the class assigns to `number`."""
+    assigned = (node for node in kind.body if isinstance(node, ast.Assign) and isinstance(node.value, ast.Constant))
+    return [node.value.value for node in assigned if isinstance(node.value, ast.Constant) and ast.unparse(node.targets[0]) == "number"]
+
+
+def differing(had: list[str], made: list[str], path: Path, what: str) -> bool:
+    """Whether a file's lines differ from those that are made; prints in which."""
+    if had != made:
+        print("\n".join(difflib.unified_diff(had, made, str(path), "the sources", n=0, lineterm="")))
+        print(f"{what}: tools/verbs.py --write")
+    return had != made
+
+
 def main(words: list[str]) -> int:
     if words not in ([], ["--check"], ["--write"]):
         print(__doc__, file=sys.stderr)
         return 2
     page = PAGE.read_text(encoding="utf-8").split("\n")
     try:
-        made = table()
+        made, tables, lacks = table(), front_tables(), lacking()
     except NotThere as error:
         print(f"{SOURCES}: {error}")
         return 1
@@ -105,15 +233,16 @@ def main(words: list[str]) -> int:
         return 0
     start = page.index(HEAD[0]) if HEAD[0] in page else len(page)
     stop = next((at for at in range(start, len(page)) if not page[at].startswith("|")), len(page))
-    had = page[start:stop]
     if words == ["--write"]:
         PAGE.write_text("\n".join([*page[:start], *made, *page[stop:]]), encoding="utf-8")
-    elif had != made:
-        print("\n".join(difflib.unified_diff(had, made, str(PAGE), "the comments", n=0, lineterm="")))
-        print("the table of commands differs: tools/verbs.py --write")
-        return 1
-    print(f"{len(made) - len(HEAD)} commands agree")
-    return 0
+        TABLES.write_text("\n".join(tables), encoding="utf-8")
+    else:
+        had = TABLES.read_text(encoding="utf-8").split("\n") if TABLES.exists() else []
+        differs = differing(page[start:stop], made, PAGE, "the table of commands differs")
+        if differing(had, tables, TABLES, "the front's tables differ") or differs:
+            return 1
+    print("\n".join(lacks) or f"{len(made) - len(HEAD)} commands agree")
+    return 1 if lacks else 0
 
 
 if __name__ == "__main__":

@@ -1,6 +1,6 @@
 """Lines and replies as docs/PROTOCOL.md has them: fields, verbs, and the numbers of refusals and rules.
 
-This module knows forms alone; what a command does, the program says.
+This module knows forms alone; what a command does, the program says. Which verbs there are is made of its sources (`tables`).
 """
 
 from __future__ import annotations
@@ -8,13 +8,15 @@ from __future__ import annotations
 import string
 from dataclasses import dataclass
 
+from . import tables
+
 # The most bytes of a line, with a carriage return at its end; a longer one is one bad request.
 MOST_LINE = 4096
 # The most lines that one run of `lefence replay` answers; the hub asks for as many.
 MOST_LINES = 4_294_967_295
 # The greatest number of a session and of a revision.
 MOST_NUMBER = 4_294_967_295
-ORIENTS = ("N", "W", "S", "E", "FN", "FW", "FS", "FE")
+ORIENTS = tables.ORIENTS
 # The team of the ground outside all fences.
 GROUND = "-"
 
@@ -24,61 +26,29 @@ _PLAIN_BYTES = (string.ascii_letters + string.digits + "_-").encode()
 
 @dataclass(frozen=True)
 class Verb:
-    """A verb of a team: its fields behind TEAM (and N), whether an accepted one changes the floor, and what it does."""
+    """A verb of a team: its fields behind TEAM (and N), the words of its reply, whether an accepted one changes the floor, its text."""
 
     name: str
     fields: tuple[str, ...]
+    reply: tuple[str, ...]
     is_change: bool
     text: str
 
 
-VERBS = {
-    verb.name: verb
-    for verb in (
-        Verb("open", (), True, "takes the team's least free session slot"),
-        Verb("close", (), True, "frees the session's slot"),
-        Verb("sync", (), True, "the session has seen the present revision"),
-        Verb("check", (), False, "the team's report: which cells break which rule"),
-        Verb("def", (), False, "the team's DEF text, its cells at their working places"),
-        Verb("where", ("CELL",), False, "the cell's working place"),
-        Verb("find", ("CELL", "X", "Y"), False, "the cell's best place for a target; nothing moves"),
-        Verb("place", ("CELL", "X", "Y", "O"), True, "sets the cell's place, if the place breaks no rule"),
-        Verb("legalize", ("CELL", "X", "Y"), True, "moves the cell to its best place for a target"),
-        Verb("tidy", (), True, "every cell that is unplaced or illegal goes to its best place"),
-        Verb("unplace", ("CELL",), True, "the cell becomes unplaced"),
-        Verb("swap", ("CELL", "CELL"), True, "two cells exchange their places"),
-        Verb("undo", (), True, "brings back the places before the newest change that is kept"),
-        Verb("commit", (), True, "the working places become the committed ones"),
-        Verb("revert", (), True, "the committed places become the working ones"),
-        Verb("pad", ("P",), True, "sets the padding between the team's own cells, in core sites (0 to 16)"),
-    )
-}
+VERBS = {row[0]: Verb(*row) for row in tables.VERBS}
 
 # Verbs of which an accepted one changes what later replies are: the journal keeps these and no others. That the others may
 # be left out is a law of the program (docs/THEOREM.md).
 CHANGES = frozenset(name.encode() for name, verb in VERBS.items() if verb.is_change)
-# Verbs whose replies have no bound of length.
-UNBOUNDED = frozenset((b"check", b"def"))
+# Verbs whose replies have no bound of length: those with any other words than these, which are short.
+_SHORT = frozenset("N REV X Y O MOVED".split())
+UNBOUNDED = frozenset(name.encode() for name, verb in VERBS.items() if not _SHORT.issuperset(verb.reply))
 
-# The names of the refusals by their number.
-REFUSALS = {
-    1: "BadRequest",
-    2: "NoTeam",
-    3: "NoSession",
-    4: "Stale",
-    5: "NoCell",
-    6: "Unplaced",
-    7: "Illegal",
-    8: "NoPlace",
-    9: "NothingToUndo",
-    10: "SessionsFull",
-    11: "RevisionsSpent",
-    12: "OutOfMemory",
-    13: "NotExported",
-}
-
+# Refusals that are the hub's own; then all, by their number.
+HUB_REFUSALS = {13: "NotExported"}
+REFUSALS = {**tables.REFUSALS, **HUB_REFUSALS}
 # The names of the rules of a place by their number.
-RULES = {1: "Height", 2: "Row", 3: "Stand", 4: "Orient", 5: "Rail", 6: "Fence", 7: "Obstacle", 8: "Overlap"}
+RULES = tables.RULES
 
 
 def fields_of(line: bytes) -> list[bytes]:

@@ -5,6 +5,7 @@ from __future__ import annotations
 import os
 import pty
 import select
+import sys
 import time
 import unittest
 
@@ -63,7 +64,7 @@ class Words(HubCase):
 
     def test_help_tells_each_verb(self) -> None:
         said = self.say("help", "help place", "help nonsense")
-        place = ["place CELL X Y O", "  sets the cell's place, if the place breaks no rule"]
+        place = ["place CELL X Y O", "  sets the cell's working place, if the place breaks no rule"]
         self.assertEqual(said[-3:], [*place, "no such command: nonsense"])
         self.assertTrue(all(any(line.startswith(word) for line in said) for word in OWN))
 
