@@ -23,9 +23,9 @@ from .program import NAP, PIECE, fault_of, path_words, widened
 
 # The exit statuses of a description that was written: the design is fully legal, or it is not.
 _WRITTEN = (0, 4)
-# What the line of a cell has that breaks no rule, and that of one without a place; no name can have these bytes, since its quotes
-# have backslashes before them.
-_LEGAL, _UNPLACED = b'"rule":null', b'"box":null'
+# What the line of a cell has that breaks no rule, that of one without a place, and the last line; no name can have these bytes,
+# since its quotes have backslashes before them.
+_LEGAL, _UNPLACED, _TOTAL = b'"rule":null', b'"box":null', b'"kind":"total"'
 
 
 class Box(NamedTuple):
@@ -183,6 +183,11 @@ class Description:
     def faulty_cells(self) -> Iterator[Cell]:
         """As `cells`, but those alone that are unplaced or break a rule; the lines of the others are not parsed."""
         return self._cells(lambda lines: [line for line in lines if _LEGAL not in line or _UNPLACED in line])
+
+    def cells_of(self, team: str) -> Iterator[Cell]:
+        """As `cells`, but those of one team alone; the lines of the others are not parsed."""
+        own = b'"team":%b,' % json.dumps(team).encode()
+        return self._cells(lambda lines: [line for line in lines if own in line or _TOTAL in line])
 
     def _cells(self, wanted: Callable[[list[bytes]], list[bytes]]) -> Iterator[Cell]:
         for lines in itertools.chain([self._ahead], self._batches):

@@ -63,7 +63,7 @@ def refuse_difference(program: str, whole: Path, part: bytes, libraries: list[Pa
         with Description(program, whole, libraries) as first, _described(program, Path(file.name), libraries) as second:
             if first.frame != second.frame:
                 raise Fault(REFUSED, "the program finds another frame in the slice than in the whole design; nothing is written")
-            own = [_without_rule(cell) for cell in first.cells() if cell.team == team]
+            own = [_without_rule(cell) for cell in first.cells_of(team)]
             found = [_without_rule(cell) for cell in second.cells()]
     if own != found:
         pair = next(pair for pair in zip_longest(own, found) if pair[0] != pair[1])

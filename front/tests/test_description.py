@@ -4,7 +4,7 @@ from __future__ import annotations
 
 import unittest
 
-from support import TEAMS, FrontCase
+from support import CELLS, TEAMS, FrontCase
 
 from lefence.description import Box, Cell, Description, Facts, Fence, Obstacle, Row, Total
 from lefence.faults import Fault
@@ -42,6 +42,18 @@ class Descriptions(FrontCase):
         self.assertEqual(cells[0], Cell("f0c0", "f0", "BUF", 600, 2000, None, None, None, None))
         self.assertEqual(cells[-1], Cell("two", "-", "INV", 400, 2000, Box(64200, 0, 64600, 2000), "N", 8, "one"))
         self.assertEqual(description.total, Total(4, TEAMS, 1, 1, 92, 90, 2))
+
+    def test_the_cells_of_a_team_are_those_of_all_with_its_name(self) -> None:
+        text = self.design.read_text()
+        for clause in ("- f1 (", "REGION f1 ;"):
+            text = text.replace(clause, clause.replace("f1", 'f"1\\'))
+        self.design.write_text(text)
+        cells = list(self.read().cells())
+        for team in ("f0", 'f"1\\', "-"):
+            description = self.read()
+            found = list(description.cells_of(team))
+            self.assertEqual((len(found), found), (CELLS, [cell for cell in cells if cell.team == team]))
+            self.assertEqual(description.total.cells, len(cells))
 
     def test_what_is_refused_is_told_with_its_status(self) -> None:
         for text, status, told in ((b"VERSION 5.8 ;", 1, "2 UnexpectedEnd line 1; DEF file "), (None, 3, "File; DEF file ")):
