@@ -59,7 +59,7 @@ def start_program(given: str | None, paths: list[Path]) -> Endpoint:
     near, far = socket.socketpair()
     with far:
         words = replay_words(find_program(given), paths)
-        process = subprocess.Popen(words, stdin=far, stdout=far, start_new_session=True)
+        process = subprocess.Popen(words, stdin=far.fileno(), stdout=far.fileno(), start_new_session=True)
     connection = Connection(near)
     try:
         connection.ask_line(b"")

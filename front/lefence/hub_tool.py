@@ -58,12 +58,14 @@ def bound_socket(path: Path, mode: int, keeps_mode: bool) -> socket.socket:
 async def listen(hub: Hub, folder: Path, teams: list[str]) -> list[asyncio.AbstractServer]:
     """Serves the operator's socket and one for each team."""
     loop = asyncio.get_running_loop()
-    stays = {"cleanup_socket": False} if sys.version_info >= (3, 13) else {}
+    create = functools.partial(loop.create_unix_server, backlog=1024)
+    if sys.version_info >= (3, 13):
+        create = functools.partial(create, cleanup_socket=False)
     listeners: list[asyncio.AbstractServer] = []
     for team in (None, *teams):
         bound = bound_socket(folder / socket_name(team), 0o600 if team is None else 0o660, team is not None)
         client = functools.partial(Client, hub, None if team is None else team.encode())
-        listeners.append(await loop.create_unix_server(client, sock=bound, backlog=1024, **stays))  # type: ignore[arg-type]
+        listeners.append(await create(client, sock=bound))
     return listeners
 
 

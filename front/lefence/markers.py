@@ -160,8 +160,9 @@ def main() -> int:
     def work() -> int:
         inputs = (options.design, *options.libraries)
         program = find_program(options.program)
-        for output in filter(None, (options.output, options.technology)):
-            refuse_inputs(output, inputs)
+        for output in (options.output, options.technology):
+            if output is not None:
+                refuse_inputs(output, inputs)
         with whole_file(options.output) as file, Description(program, options.design, options.libraries) as description:
             for piece in database_of(description):
                 file.write(piece.encode())

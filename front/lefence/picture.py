@@ -11,7 +11,6 @@ import tempfile
 from contextlib import ExitStack
 from itertools import zip_longest
 from pathlib import Path
-from typing import Any
 
 from .description import Box, Cell, Description
 from .drawing import Drawing, Move
@@ -92,8 +91,9 @@ def png_of(drawing: Drawing, klayout: str) -> bytes:
         words = [klayout, "-z", "-nc", "-rx", "-r", "draw.py"]
         # Qt is told to draw without a screen, and to keep its files in the folder.
         environment = {**os.environ, "QT_QPA_PLATFORM": "offscreen", "HOME": folder, "KLAYOUT_HOME": folder}
-        ends: dict[str, Any] = {"stdin": subprocess.DEVNULL, "stdout": subprocess.PIPE, "stderr": subprocess.STDOUT}
-        done = subprocess.run(words, cwd=folder, env=environment, **ends)
+        done = subprocess.run(
+            words, cwd=folder, env=environment, stdin=subprocess.DEVNULL, stdout=subprocess.PIPE, stderr=subprocess.STDOUT
+        )
         made = Path(folder) / "picture.png"
         if done.returncode != 0 or not made.exists():
             raise Fault(FAILED, f"klayout made no PNG: {done.stdout.decode(errors='backslashreplace').strip()}")

@@ -3,10 +3,10 @@
 from __future__ import annotations
 
 import argparse
+import functools
 import tempfile
 from collections import Counter
 from pathlib import Path
-from typing import Any
 
 from .description import Box, Description, Total
 from .faults import DONE, REFUSED, USAGE, Fault, Parser, log, run_tool
@@ -105,10 +105,10 @@ def parser() -> Parser:
     add("--site", metavar="NAME", help="the site of the rows (the first of the LEF texts with CLASS CORE)")
     add("--core", metavar=_BOX_WORDS, nargs=4, help="where rows are made (DIEAREA)")
     add("--margin", metavar="M", help="how far rows stay from the sides of the core (0)")
-    many: dict[str, Any] = {"action": "append", "default": []}
-    add("--fillers", metavar="PATTERN", help="takes out components by name or macro, as FILL*; again for more", **many)
-    add("--fence", metavar=("NAME", *_BOX_WORDS), nargs=5, help="adds a fence; again with its name for more rectangles", **many)
-    add("--group", metavar=("NAME", "PATTERN"), nargs="+", help="binds components to the fence of that name", **many)
+    add_many = functools.partial(add, action="append", default=[])
+    add_many("--fillers", metavar="PATTERN", help="takes out components by name or macro, as FILL*; again for more")
+    add_many("--fence", metavar=("NAME", *_BOX_WORDS), nargs=5, help="adds a fence; again with its name for more rectangles")
+    add_many("--group", metavar=("NAME", "PATTERN"), nargs="+", help="binds components to the fence of that name")
     add("--force", action="store_true", help="writes the text even if it does not load")
     made.add_program()
     return made

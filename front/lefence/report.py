@@ -12,7 +12,6 @@ from collections import Counter
 from collections.abc import Iterator
 from dataclasses import dataclass
 from pathlib import Path
-from typing import Any
 from urllib.parse import quote
 
 from .description import Box, Cell, Description, Frame, Obstacle
@@ -123,18 +122,18 @@ def page_of(report: Report) -> str:
     return re.sub("@([A-Z_]+)@", lambda found: parts[found[1]], page)
 
 
-def _embedded(data: dict[str, Any]) -> str:
+def _embedded(data: dict[str, object]) -> str:
     """JSON that may stand within an element of HTML."""
     return json.dumps(data, separators=(",", ":")).replace("<", "\\u003c")
 
 
-def _data(report: Report) -> dict[str, Any]:
+def _data(report: Report) -> dict[str, object]:
     """What the page's script draws."""
     scene, frame = report.scene, report.scene.frame
     numbers = {team: at for at, team in enumerate(frame.teams)}
     macros: dict[str, int] = {}
 
-    def cell_of(cell: Cell) -> list[Any]:
+    def cell_of(cell: Cell) -> list[object]:
         assert cell.box is not None
         macro = macros.setdefault(cell.macro, len(macros))
         return [*_sized(cell.box), numbers[cell.team], macro, cell.name, *([cell.rule] if cell.rule else [])]
@@ -161,7 +160,7 @@ def _sized(box: Box) -> list[int]:
     return [box.left, box.bottom, box.width, box.height]
 
 
-def _map(bins: Bins, broken: Bins) -> dict[str, Any]:
+def _map(bins: Bins, broken: Bins) -> dict[str, object]:
     paths, ill = ([[team, shade, path] for (team, shade), path in each.paths().items()] for each in (bins, broken))
     return {"side": bins.side, "left": bins.view.left, "bottom": bins.view.bottom, "paths": paths, "broken": ill}
 

@@ -3,11 +3,12 @@
 from __future__ import annotations
 
 import cmd
+import io
 import os
 import re
 import sys
+from collections.abc import Iterable
 from pathlib import Path
-from typing import ClassVar
 
 from .client import Connection, Session
 from .endpoint import Endpoint, connect_to, start_program
@@ -67,7 +68,7 @@ def in_words(verb: str, fields: list[str], said: object) -> list[str]:
 class Shell(cmd.Cmd):
     """Commands of one connection, each answered in words."""
 
-    identchars: ClassVar[str] = cmd.Cmd.identchars + "-"
+    identchars = cmd.Cmd.identchars + "-"
 
     def __init__(self, endpoint: Endpoint) -> None:
         super().__init__()
@@ -166,30 +167,24 @@ class Shell(cmd.Cmd):
         else:
             self._print([f"{f'{name} {fields}':<22} {text}" for name, (fields, text) in rows.items()])
 
-    def complete(self, text: str, state: int) -> str | None:
-        """What readline asks: the match of that number; the only one gets the space that goes on behind it."""
-        found = super().complete(text, state)
-        matches: list[str] = self.completion_matches or []
-        return f"{found} " if found and len(matches) == 1 else found
-
     def completenames(self, text: str, *ignored: object) -> list[str]:
-        return [name for name in [*VERBS, *OWN] if name.startswith(text) and name not in _HIDDEN]
+        return _matches(text, (name for name in [*VERBS, *OWN] if name not in _HIDDEN))
 
-    def completedefault(self, text: str, line: str, begidx: int, endidx: int) -> list[str]:
+    def completedefault(self, text: str = "", line: str = "", begidx: int = 0, endidx: int = 0, *ignored: object) -> list[str]:
         """Completes the fields of verbs: cells of the team, orientations; teams behind `team`."""
         verb, *before = line[:begidx].split()
         if verb == "team":
-            return [team for team in self._teams if team.startswith(text)]
+            return _matches(text, self._teams)
         if verb == "help":
             return self.completenames(text)
         fields = VERBS[verb].fields if verb in VERBS else ()
         kind = fields[len(before)] if len(before) < len(fields) else ""
         if kind == "O":
-            return [orient for orient in ORIENTS if orient.startswith(text)]
-        return [cell for cell in self._known_cells() if cell.startswith(text)] if kind == "CELL" else []
+            return _matches(text, ORIENTS)
+        return _matches(text, self._known_cells()) if kind == "CELL" else []
 
-    def complete_help(self, text: str, line: str, begidx: int, endidx: int) -> list[str]:
-        return self.completenames(text)
+    def complete_help(self, *words: object) -> list[str]:
+        return self.completenames(str(words[0]))
 
     def _known_cells(self) -> list[str]:
         """The team's cells, by its DEF text, which is asked for once."""
@@ -265,7 +260,8 @@ def main() -> int:
     options = parser().parse_args()
     for stream in (sys.stdin, sys.stdout):
         # Any bytes come in and go out as they are.
-        stream.reconfigure(errors="surrogateescape")  # type: ignore[union-attr]
+        if isinstance(stream, io.TextIOWrapper):
+            stream.reconfigure(errors="surrogateescape")
 
     def work() -> int:
         if len(options.where) == 1:
@@ -286,6 +282,12 @@ def main() -> int:
         return DONE
 
     return run_tool(TOOL, work)
+
+
+def _matches(text: str, words: Iterable[str]) -> list[str]:
+    """The words that begin so; the only one with the space that goes on behind it."""
+    found = [word for word in words if word.startswith(text)]
+    return [f"{found[0]} "] if len(found) == 1 else found
 
 
 def _begin(shell: Shell, team: str) -> bool:

@@ -6,7 +6,7 @@ import statistics
 import struct
 from array import array
 from bisect import bisect_left
-from collections.abc import Iterable
+from collections.abc import Iterable, Sequence
 from dataclasses import dataclass, field
 from itertools import zip_longest
 from typing import NamedTuple
@@ -225,12 +225,13 @@ def notes_of(before: Frame, after: Frame) -> list[str]:
         found.append(f"the designs have two names: {before.facts.name} before, {after.facts.name} after")
     if before.facts[2:] != after.facts[2:]:
         found.append(f"the core sites differ: {before.facts.site} before, {after.facts.site} after")
-    for what, early, late in (
+    kinds: tuple[tuple[str, Sequence[object], Sequence[object]], ...] = (
         ("rows", before.rows, after.rows),
         ("fences", before.fences, after.fences),
         ("obstacles", before.obstacles, after.obstacles),
         ("soft blockages", before.soft, after.soft),
-    ):
+    )
+    for what, early, late in kinds:
         if early != late:
             found.append(f"the {what} differ: {len(early)} before, {len(late)} after")
     return found

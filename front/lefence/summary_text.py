@@ -3,7 +3,6 @@
 from __future__ import annotations
 
 from collections.abc import Iterable
-from typing import Any
 
 from .summary import BINS, Summary, Team
 
@@ -11,7 +10,7 @@ from .summary import BINS, Summary, Team
 _NAMED, _BAR = 10, 40
 
 
-def object_of(summary: Summary) -> dict[str, Any]:
+def object_of(summary: Summary) -> dict[str, object]:
     """The summary as a JSON object; docs/FRONT.md tells its keys."""
     facts = summary.frame.facts
     return {
@@ -27,7 +26,7 @@ def object_of(summary: Summary) -> dict[str, Any]:
     }
 
 
-def _team_object(summary: Summary, team: Team) -> dict[str, Any]:
+def _team_object(summary: Summary, team: Team) -> dict[str, object]:
     facts = summary.frame.facts
     lengths = {"total": sum(team.moves), "mean": team.mean, "median": team.median, "largest": team.largest}
     return {

@@ -166,6 +166,11 @@ class Talker:
         self.socket.close()
 
 
+def converse(talker: Talker, text: bytes) -> bytes:
+    """All replies of a client to the text, which is sent in pieces of odd sizes."""
+    return talker.converse(text, 1, 7, 60, 1000)
+
+
 class FrontCase(unittest.TestCase):
     """A folder with a design, and tools that run in it."""
 

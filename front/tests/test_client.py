@@ -10,7 +10,9 @@ import os
 import signal
 import socket
 import unittest
+from collections.abc import Callable
 from decimal import Decimal
+from typing import cast
 
 from support import CELLS, FRONT, PATIENCE, HubCase
 
@@ -23,9 +25,9 @@ from lefence.refusals import refusal_of
 class Verbs(HubCase):
     """Each verb, with the field's names."""
 
-    def session(self, **options: object) -> lefence.Session:
+    def session(self, retries: int = 0, microns: bool = False) -> lefence.Session:
         connection = self.enterContext(lefence.connect(self.folder / "s/f0.sock", timeout=PATIENCE))
-        return self.enterContext(connection.session("f0", **options))
+        return self.enterContext(connection.session("f0", retries=retries, microns=microns))
 
     def test_each_verb_returns_what_its_reply_says(self) -> None:
         self.start()
@@ -64,13 +66,14 @@ class Verbs(HubCase):
         with self.assertRaises(lefence.Unplaced) as unplaced:
             session.where("f0c2")
         self.assertEqual(unplaced.exception.cell, "f0c2")
-        for error, ask in (
+        asked: tuple[tuple[type[lefence.Refusal], Callable[[], object]], ...] = (
             (lefence.NoCell, lambda: session.where("f1c1")),
             (lefence.BadRequest, lambda: session.pad(17)),
             (lefence.BadRequest, lambda: session.find("f0c1", 1 << 40, 0)),
             (lefence.NoTeam, lambda: session.connection.session("f1").open()),
             (lefence.BadRequest, lambda: session.connection.export("/tmp/x")),
-        ):
+        )
+        for error, ask in asked:
             with self.assertRaises(error):
                 ask()
         self.assertEqual(session.undo(), 2)
@@ -84,7 +87,7 @@ class Verbs(HubCase):
     def test_every_refusal_of_the_protocol_has_a_class(self) -> None:
         for number, name in REFUSALS.items():
             refusal = refusal_of(f"no {number} {name} 8 a b".encode())
-            self.assertIsInstance(refusal, lefence.Refusal)
+            assert refusal is not None
             self.assertEqual((refusal.number, refusal.name, type(refusal).__name__), (number, name, name))
             self.assertTrue(refusal.words() and type(refusal).__doc__)
         self.assertEqual([refusal_of(reply) for reply in (b"ok", b"", b"no", b"no x y")], [None] * 4)
@@ -104,7 +107,7 @@ class Verbs(HubCase):
         session.place("f0c1", 0.4, Decimal("2"), "FS")
         self.assertEqual(session.where("f0c1"), Place(0.4, 2.0, "FS"))
         self.assertEqual(session.connection.ask_line(b"where f0 0 f0c1"), b"ok 400 2000 FS\n")
-        for length in (0.0001, float("nan"), float("inf"), "x"):
+        for length in (0.0001, float("nan"), float("inf"), cast(float, "x")):
             with self.assertRaises(ValueError):
                 session.place("f0c1", length, 0, "N")
         given = self.enterContext(session.connection.session("f0", per_micron=1000))
@@ -120,7 +123,9 @@ class Verbs(HubCase):
         with contextlib.redirect_stdout(io.StringIO()) as told:
             exec(code.replace('"A"', '"f0"').replace('"u', '"f0c'), names)
         self.assertEqual(told.getvalue(), "Overlap f0c1\nPlace(x=1400, y=0, orient='N')\n()\n")
-        self.assertEqual([str(each) for each in names["refused"]], ["7 Illegal: f0c2 would overlap f0c1"])
+        refused = names["refused"]
+        assert isinstance(refused, list)
+        self.assertEqual([str(each) for each in refused], ["7 Illegal: f0c2 would overlap f0c1"])
 
     def test_no_name_smuggles_another_line_in(self) -> None:
         self.start()

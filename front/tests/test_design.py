@@ -26,7 +26,8 @@ def plain_tokens(text: bytes) -> list[bytes]:
         elif text[at : at + 1] == b"#":
             at = text.find(b"\n", at) if b"\n" in text[at:] else len(text)
         else:
-            stop = quote_end(text, at) or next((end for end in range(at, len(text)) if text[end] in WHITE), len(text))
+            word_end = next((end for end in range(at, len(text)) if text[end] in WHITE), len(text))
+            stop = quote_end(text, at) or word_end
             found.append(text[at:stop])
             at = stop
     return found
@@ -63,7 +64,8 @@ class Texts(unittest.TestCase):
 
     def test_statements_end_where_their_tokens_say(self) -> None:
         for text in self.texts():
-            tokens, found = plain_tokens(text), []
+            tokens = plain_tokens(text)
+            found: list[list[bytes]] = []
             while tokens and (not found or found[-1][0] != b"END"):
                 count = plain_statement(tokens)
                 found.append(tokens[:count])

@@ -12,11 +12,12 @@ import subprocess
 import threading
 import time
 import unittest
+from collections.abc import Callable
 from concurrent.futures import ThreadPoolExecutor
 from pathlib import Path
 from unittest import mock
 
-from support import CELLS, PATIENCE, PROGRAM, TEAMS, WIDTH, HubCase, Script, design_text, spot, tool_words
+from support import CELLS, PATIENCE, PROGRAM, TEAMS, WIDTH, HubCase, Script, Talker, converse, design_text, spot, tool_words
 
 from lefence import hub as hub_module
 from lefence.faults import Fault
@@ -61,7 +62,7 @@ class Replies(HubCase):
             texts = {team: Script(self.rng, team).lines(1200) for team in (0, 1, 2, TEAMS)}
             talkers = [self.talk(f"f{team}" if team < TEAMS else "-") for team in texts]
             with ThreadPoolExecutor() as pool:
-                found = pool.map(lambda talker, text: talker.converse(text, 1, 7, 60, 1000), talkers, texts.values())
+                found = pool.map(converse, talkers, texts.values())
             for text, replies in zip(texts.values(), found):
                 self.assertEqual(replies, self.direct(text))
             self.hub.end()
@@ -180,11 +181,16 @@ class ManyClients(HubCase):
 
     def test_the_sessions_of_clients_that_go_are_closed_and_no_others(self) -> None:
         self.start()
-        ways = [
+
+        def send_and_wait(talker: Talker) -> None:
+            talker.socket.sendall(b"where f0 0 x\n")
+            time.sleep(0.02)
+
+        ways: list[Callable[[Talker], object]] = [
             lambda talker: talker.close(),
             lambda talker: talker.ask("bye"),
             lambda talker: talker.socket.sendall(b"open f0\nopen f"),
-            lambda talker: (talker.socket.sendall(b"where f0 0 x\n"), time.sleep(0.02)),
+            send_and_wait,
             lambda talker: talker.socket.sendall(b"place f0 0 f0c1 0"),
             lambda talker: talker.socket.sendall(b"open f0\n" * 9),
         ]
@@ -261,7 +267,10 @@ class Disk(HubCase):
             client.transport = mock.Mock(**{"is_closing.return_value": False, "write": steps.write})
             client.get_buffer(8)[:8] = b"open f0\n"
             client.buffer_updated(8)
-            with mock.patch("os.fdatasync", steps.sync), self.assertRaises(Fault) if error else contextlib.nullcontext():
+            with contextlib.ExitStack() as stack:
+                stack.enter_context(mock.patch("os.fdatasync", steps.sync))
+                if error:
+                    stack.enter_context(self.assertRaises(Fault))
                 asyncio.run(hub.answer(hub.take()))
             self.assertEqual([call[0] for call in steps.mock_calls], ["sync"] if error else ["sync", "write"])
 

@@ -161,7 +161,8 @@ class Markers(FrontCase):
         early = self.folder / "early"
         early.write_text(f"#!/bin/sh\n{PROGRAM} \"$@\" | head -4\n")
         early.chmod(0o755)
-        for program, lef, status in ((PROGRAM, "nowhere.lef", 3), (str(early), self.lef, 3), (PROGRAM, self.design, 1)):
+        faults = ((PROGRAM, Path("nowhere.lef"), 3), (str(early), self.lef, 3), (PROGRAM, self.design, 1))
+        for program, lef, status in faults:
             done = self.tool("lefence-markers", self.design, lef, "--output", self.markers, "--program", program)
             self.assertEqual((done.returncode, self.markers.read_text()), (status, "old"), done.stderr)
         self.assertEqual(sorted(path.name for path in self.folder.iterdir()), ["apart", "early", "t.def", "t.lef", "t.lyrdb"])

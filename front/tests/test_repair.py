@@ -83,13 +83,14 @@ class Repairs(FrontCase):
                 self.assertEqual(after[name], cell)
             elif cell.box:
                 box = after[name].box
+                assert box
                 self.assertLess(abs(box.left - cell.box.left) + abs(box.bottom - cell.box.bottom), 6000, name)
         self.assertEqual([path.name for path in sorted(self.folder.iterdir())], ["new.def", "t.def", "t.lef"])
 
     def test_what_is_spliced_is_what_the_program_exports(self) -> None:
         self.assertEqual(self.repair("--out", self.target).returncode, 0)
         before, after = self.cells(self.design), self.cells(self.target)
-        spots = {name: spot_of(cell) for name, cell in after.items() if spot_of(cell) != spot_of(before[name])}
+        spots = {name: spot for name, cell in after.items() if (spot := spot_of(cell)) and spot != spot_of(before[name])}
         self.assertGreater(len(spots), 40)
         self.assertEqual(with_spots(self.design.read_bytes(), spots), self.target.read_bytes())
 
@@ -129,6 +130,7 @@ class Repairs(FrontCase):
         self.assertEqual(sorted(told), sorted(moved))
         for name, text in told.items():
             spot = spot_of(after[name])
+            assert spot
             self.assertIn(f" -> {spot.x} {spot.y} {spot.orient}", text)
 
     def test_the_design_itself_may_be_written_and_then_nothing_moves(self) -> None:

@@ -117,7 +117,7 @@ class Completion(HubCase):
         self.assertEqual(completed("place f0c"), [])
         shell.onecmd("team f0")
         self.assertEqual(completed("place f0c"), [f"f0c{number}" for number in range(10)])
-        self.assertEqual(completed("swap f0c1 f0c3"), ["f0c3"])
+        self.assertEqual(completed("swap f0c1 f0c3"), ["f0c3 "])
         self.assertEqual(completed("place f0c1 0 0 F"), ["FN", "FW", "FS", "FE"])
         self.assertEqual([completed("place f0c1 "), completed("tidy x"), completed("place f1")], [[]] * 3)
 

@@ -8,7 +8,7 @@ from concurrent.futures import ThreadPoolExecutor
 from pathlib import Path
 from unittest import mock
 
-from support import PROGRAM, TEAMS, Hub, HubCase, Script, design_text
+from support import PROGRAM, TEAMS, Hub, HubCase, Script, converse, design_text
 
 import lefence
 from lefence.design import Design
@@ -98,7 +98,7 @@ class Slices(HubCase):
         texts = {team: b"open f%d\n" % team + Script(self.rng, team).lines(1000) for team in (0, 1, 2)}
         talkers = [self.talk(f"f{team}") for team in texts]
         with ThreadPoolExecutor() as pool:
-            found = list(pool.map(lambda talker, text: talker.converse(text, 1000), talkers, texts.values()))
+            found = list(pool.map(converse, talkers, texts.values()))
         self.assertEqual(found[2], self.direct(texts[2], design=sliced))
 
     def test_what_is_no_team_is_refused(self) -> None:
@@ -131,7 +131,8 @@ class Slices(HubCase):
         target = self.folder / "f1.def"
         for edit in ("s/f1c3/f1c33/", "/f1c3/d", "s/name...f2fixed/&d/"):
             program = self.describing(f"""[ "$2" = "{self.design}" ] || exec '{PROGRAM}' "$@"\n'{PROGRAM}' "$@" | sed '{edit}'""")
-            for words in ((), ("--output", target)):
+            outputs: tuple[tuple[str | Path, ...], ...] = ((), ("--output", target))
+            for words in outputs:
                 done = self.tool("lefence-slice", self.design, self.lef, "--team", "f1", "--program", program, *words)
                 self.assertEqual((done.returncode, done.stdout, target.exists()), (1, b"", False), done.stderr)
                 self.assertIn(b"the program finds", done.stderr)

@@ -26,14 +26,15 @@ class Tools(FrontCase):
 
     def test_words_that_are_no_command_end_with_2(self) -> None:
         for name in TOOLS:
-            for words in ((), (b"\xff", "--x\ufffd")):
+            odd: tuple[tuple[str | bytes, ...], ...] = ((), (b"\xff", "--x\ufffd"))
+            for words in odd:
                 done = self.tool(name, *words)
                 self.assertEqual((done.returncode, done.stdout), (2, b""))
                 self.assertNotIn(b"Traceback", done.stderr)
 
     def test_files_that_are_not_there_end_with_3(self) -> None:
         sockets = ("--sockets", "s", "--journal", "j", "--program", PROGRAM)
-        for name, words in (
+        commands: tuple[tuple[str, tuple[str | bytes, ...]], ...] = (
             ("lefence-hub", (b"\xff.def", "t.lef", *sockets)),
             ("lefence-hub", ("t.def", "t.lef", *sockets, "--journal", "nowhere/j")),
             ("lefence-hub", ("t.def", "t.lef", *sockets, "--sockets", "nowhere/s")),
@@ -53,7 +54,8 @@ class Tools(FrontCase):
             ("lefence-picture", ("t.def", "t.lef", "--program", PROGRAM, "-o", "nowhere/x.svg")),
             ("lefence-report", ("nowhere.def", "t.lef", "--program", PROGRAM)),
             ("lefence-report", ("t.def", "t.lef", "--program", PROGRAM, "-o", "nowhere/x.html")),
-        ):
+        )
+        for name, words in commands:
             done = self.tool(name, *words)
             self.assertEqual((done.returncode, done.stdout), (3, b""), (name, words, done.stderr))
             self.assertTrue(done.stderr.startswith(name.encode()), done.stderr)
@@ -81,6 +83,7 @@ class Tools(FrontCase):
         self.design.write_text(self.design.read_text().replace("END COMPONENTS", text + "END COMPONENTS"))
         words = [*tool_words("lefence-slice"), str(self.design), "--team", "-"]
         with subprocess.Popen(words, stdout=subprocess.PIPE, stderr=subprocess.PIPE) as process:
+            assert process.stdout and process.stderr
             process.stdout.close()
             self.assertNotIn(b"Traceback", process.stderr.read())
             self.assertEqual(process.wait(), 3)

@@ -28,7 +28,8 @@ class WholeFiles(FrontCase):
 
     def test_a_fault_leaves_what_was_there(self) -> None:
         target = self.folder / "x"
-        for before in ([], ["x"]):
+        listings: tuple[list[str], ...] = ([], ["x"])
+        for before in listings:
             with self.assertRaises(KeyError), whole_file(target) as file:
                 file.write(b"half")
                 raise KeyError
