@@ -14,7 +14,7 @@ from functools import cached_property, lru_cache
 from .protocol import GROUND
 
 # White space and comments; then a token, a quoted text or a word. Each is an atomic group, which keeps what it took, so matching is
-# linear. Possessive repetitions of groups (`(..)*+`) are not used: Python 3.11 matches them wrongly before 3.11.5.
+# linear. Possessive repetitions of groups (`(..)*+`) are not used: Python 3.11.2, Debian 12's, matches them wrongly.
 _SKIP = rb"(?>(?:[ \t\r\n]+|#[^\n]*)*)"
 _TOKEN = rb'(?>"[^"\\]*(?:\\.[^"\\]*)*"|[^ \t\r\n]+)'
 TOKENS = re.compile(_SKIP + rb"(" + _TOKEN + rb")", re.S)

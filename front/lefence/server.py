@@ -141,7 +141,8 @@ async def teams_told(program: str, paths: list[Path]) -> list[str]:
     assert process.stdout and process.stderr
     teams = [GROUND]
     try:
-        while text := await process.stdout.readline():
+        # (the last line of one that dies may be a part)
+        while (text := await process.stdout.readline()).endswith(b"\n"):
             line = json.loads(text)
             if line["kind"] == "fence":
                 teams.append(line["name"])

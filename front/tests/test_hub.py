@@ -341,7 +341,11 @@ class Ends(HubCase):
             self.assertEqual((self.hub.process.wait(PATIENCE), list((self.folder / "s").iterdir())), (1, []))
 
     def test_a_program_that_tells_no_teams_serves_nothing(self) -> None:
-        for script, said, status in (("echo no >&2; exit 2", "no", 2), ("exit 0", "does not tell the teams", 3), ("kill -9 $$", "does not", 3)):
+        for script, said, status in (
+            ("echo no such verb >&2; exit 2", "no such verb", 2),
+            ("exit 0", "does not tell the teams", 3),
+            ("printf '{\"kind\":\"fen'; kill -9 $$", "does not tell the teams", 3),
+        ):
             self.program = self.describing(script)
             self.assertIn(said, self.start())
             self.assertEqual((self.hub.process.wait(PATIENCE), list((self.folder / "s").iterdir())), (status, []))
