@@ -30,7 +30,9 @@ SIGNATURE = re.compile(r"([^\s:({]+) :(?:\s|$)")
 # A line that brings names in, of a .antt file or a .rt file.
 IMPORT = re.compile(r"\s*(?:pub |ghost )?(?:use|mod) ")
 WORD = re.compile(r"[^\s(){}\[\],;:.`]+")
-COMMENT = {".rt": re.compile(r"//.*"), ".antt": re.compile(r"--.*")}
+# (a comment does not begin within a text)
+TEXT = r'"(?:\\.|[^"\\\n])*"'
+COMMENT = {".rt": re.compile(TEXT + r"|//.*"), ".antt": re.compile(TEXT + r"|--.*")}
 CLAUSES = re.compile(r"^ *pub (?:const )?fn .*?\n *\{\n|^ *pub fn [^{]*\{\}|^ *pub fn .*?^\{\}", re.S | re.M)
 TYPES = re.compile(r"ghost (?:\w+): \{.*?\n|ghost (?:Value|view) = \{.*?\n")
 
@@ -166,7 +168,7 @@ def words_of(path: str) -> Words:
     """The words of a file, comments apart. Only a .antt file has declarations, at its margin or at that of a `module _ ..`."""
     ending = os.path.splitext(path)[1]
     found, current, margin = Words(set(), {}), "", 0
-    for line in COMMENT[ending].sub("", text_of(path)).splitlines():
+    for line in COMMENT[ending].sub('""', text_of(path)).splitlines():
         if IMPORT.match(line):
             found.imported.update(WORD.findall(line))
             continue
