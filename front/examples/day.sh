@@ -1,0 +1,86 @@
+#!/usr/bin/env bash
+# A day of two teams: from a DEF text of another tool to one that is fully legal. Run it in an empty folder. What a command prints, on
+# both streams, stands below it behind `#> `; front/tests/test_day.py runs the script and compares.
+front=$(cd -- "$(dirname -- "$0")/.." && pwd)
+export PATH="$front/bin:$PATH:${front%/*}"
+cp "$front"/tests/data/day* .
+
+# The text has no rows and no fences, but fillers.
+lefence check day.def day.lef
+#> lefence: 9 NoRows day
+#> lefence: DEF file day.def
+lefence-prepare day.def day.lef -o in.def --fillers FILL --fence A 0 0 4 8 --group A 'ua/*' --fence B 8 0 12 8 --group B 'ub/*'
+#> lefence-prepare: 4 rows of site core added: 60 sites each, the first at 0 0 is N
+#> lefence-prepare: the rows follow the 11 placed cells: 9 of them fit along x, 11 along y, and 11 face as their row
+#> lefence-prepare: 2 fillers removed (FILL)
+#> lefence-prepare: fence A added: 1 rectangle
+#> lefence-prepare: fence B added: 1 rectangle
+#> lefence-prepare: team A has 4 cells
+#> lefence-prepare: team B has 4 cells
+#> lefence-prepare: it loads: 10 cells, 1 unplaced, 5 illegal (2 by rule 2 Row, 1 by rule 6 Fence, 2 by rule 8 Overlap)
+
+# Five cells break a rule: `klayout -nn day.lyt in.def -m day.lyrdb` shows them as markers, and a script what is in them.
+lefence-markers in.def day.lef --output day.lyrdb --technology day.lyt
+#> lefence-markers: 5 of 10 cells break a rule; 1 without a place have no marker
+klayout -zz -r day_markers.py
+#> 8 Overlap text: 'ua/u1' text: A box: (0,0;0.4,2) text: 'ua/u2' box: (0.2,0;0.8,2)
+#> 8 Overlap text: 'ua/u2' text: A box: (0.2,0;0.8,2) text: 'ua/u1' box: (0,0;0.4,2)
+#> 2 Row text: 'ua/u4' text: A box: (2.15,4;2.55,6)
+#> 2 Row text: 'ub/u2' text: B box: (9.65,0;10.25,2)
+#> 6 Fence text: 'ub/u4' text: B box: (7.6,2;8,4)
+
+# Both teams work at once, each over its own socket.
+lefence-hub in.def day.lef --sockets s --journal day.journal --export new.def 2> first.log &
+while ! grep -qs ready first.log && kill -0 $!; do sleep 0.1; done; cat first.log
+#> lefence-hub: ready: 3 teams, 0 changes restored
+
+# A puts its cells right and commits.
+lefence-shell s/A.sock <<'END'
+raw open A
+raw place A 0 ua/u2 200 0 N
+raw place A 0 ua/u2 400 0 N
+raw legalize A 0 ua/u4 2150 4000
+raw commit A 0
+END
+#> ok 0 0
+#> no 7 Illegal 8 ua/u2 ua/u1
+#> ok 1
+#> ok 2 2200 4000 N
+#> ok 3
+
+# B has put one cell right when the hub is killed; after the next start all that was acknowledged is there.
+lefence-shell s/B.sock <<'END'
+raw open B
+raw legalize B 0 ub/u4 7600 2000
+raw open A
+END
+#> ok 0 0
+#> ok 1 8000 2000 S
+#> no 2 NoTeam
+kill -9 $!; wait $! 2> /dev/null
+lefence-hub in.def day.lef --sockets s --journal day.journal --export new.def 2> second.log &
+while ! grep -qs ready second.log && kill -0 $!; do sleep 0.1; done; cat second.log
+#> lefence-hub: ready: 3 teams, 8 changes restored
+
+# B cannot commit yet, so at the end of the hub A's places alone are exported.
+lefence-shell s/B.sock <<'END'
+raw open B
+raw where B 0 ub/u4
+raw commit B 0
+END
+#> ok 0 1
+#> ok 8000 2000 S
+#> no 7 Illegal 2 ub/u2
+kill $!; wait $!; tail -n 1 second.log
+#> lefence-hub: ended
+
+# A repair does the rest, and KLayout reads the result.
+lefence-repair new.def day.lef --out done.def
+#> lefence-repair: team B: 2 moved, 0 turned, 0 newly placed, 0 stay, 0 left; moved by 0.225 microns on average, 0.400 at most
+#> lefence-repair: team -: 0 moved, 0 turned, 1 newly placed, 0 stay, 0 left
+#> lefence-repair: team all: 2 moved, 0 turned, 1 newly placed, 0 stay, 0 left; moved by 0.225 microns on average, 0.400 at most
+#> lefence-repair: every cell is legal
+lefence check done.def day.lef
+#> {"cells":10,"unplaced":0,"violations":[]}
+klayout -zz -r day_cells.py
+#> ua/u1 0,0; ua/u2 0.4,0; ua/u3 m0 1,4; ua/u4 2.2,4; ub/u1 9,0; ub/u2 9.6,0; ub/u3 m0 10,8; ub/u4 m0 8,4; top 6,0; new 4,0
