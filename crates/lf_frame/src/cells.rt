@@ -80,6 +80,7 @@ pub(crate) fn movable_cells(
     requires few_components { length document.now.components ≤ 4000000 }
     requires claims { IsTableOf document.now.regions document.now.groups document.now.components claims.now }
     requires differ { NoneBreaks BearsEarlierName document.now.components }
+    requires ranged { All IsComponent document.now.components }
     requires able { All (λ c. is_movable_component c ≡ true → CanBeCell (inputs library.now document.now limits.now) c) document.now.components }
     ensures { IfOk result (λ cells. AllZip (IsCellOf (inputs library.now document.now limits.now)) (movables document.now.components) cells) }
 {

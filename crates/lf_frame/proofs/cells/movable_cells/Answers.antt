@@ -40,8 +40,8 @@ push-requires c =
     rw c.name.ensures
     (is_new c.args.document.now.components c.loop-number.number c.component-item.result c.loop-number.cells c.requires.differ within is c.loop-number.invariant.1)
 
-pub cell_of-requires-clause-team : goal.cell_of-requires-clause-team
-cell_of-requires-clause-team c =
+pub cell_of-cell-requires-clause-team : goal.cell_of-cell-requires-clause-team
+cell_of-cell-requires-clause-team c =
     let same : c.as_slice-component-items.result.now ≡ c.args.document.now.components = c.as_slice-component-items.ensures in
     let within : c.loop-number.number < length c.args.document.now.components = rw same at c.loop-number-test.true in
     let is : c.component-item.result ≡ get_or c.args.document.now.components c.loop-number.number c.component-item.result = rw same at c.component-item.is in
@@ -52,14 +52,21 @@ cell_of-requires-clause-team c =
     c.team_at-team.ensures c.args.document.now.regions c.args.document.now.groups c.args.document.now.components c.requires.claims c.requires.differ
     c.component-item.result at able.once
 
-pub cell_of-requires-clause-few_teams : goal.cell_of-requires-clause-few_teams
-cell_of-requires-clause-few_teams c =
-    let of = cell_of-requires-clause-team c in
+pub cell_of-cell-requires-clause-range : goal.cell_of-cell-requires-clause-range
+cell_of-cell-requires-clause-range c =
+    let same : c.as_slice-component-items.result.now ≡ c.args.document.now.components = c.as_slice-component-items.ensures in
+    let within : c.loop-number.number < length c.args.document.now.components = rw same at c.loop-number-test.true in
+    let is : c.component-item.result ≡ get_or c.args.document.now.components c.loop-number.number c.component-item.result = rw same at c.component-item.is in
+    rw (← is) at (c.requires.ranged c.loop-number.number c.component-item.result within)
+
+pub cell_of-cell-requires-clause-few_teams : goal.cell_of-cell-requires-clause-few_teams
+cell_of-cell-requires-clause-few_teams c =
+    let of = cell_of-cell-requires-clause-team c in
     let within = team_within c.args.document.now.regions c.args.document.now.groups c.component-item.result.name c.team_at-team.result of in
     omega (arith, within, c.requires.few_fences)
 
-pub cell_of-requires-clause-few_components : goal.cell_of-requires-clause-few_components
-cell_of-requires-clause-few_components c =
+pub cell_of-cell-requires-clause-few_components : goal.cell_of-cell-requires-clause-few_components
+cell_of-cell-requires-clause-few_components c =
     let same : c.as_slice-component-items.result.now ≡ c.args.document.now.components = c.as_slice-component-items.ensures in
     let within : c.loop-number.number < length c.args.document.now.components = rw same at c.loop-number-test.true in
     omega (arith, within, c.requires.few_components)

@@ -18,6 +18,7 @@ movable_cells-requires c =
     record {
       few_fences = omega (arith, kept, few_fences i c.requires.accepted, c.args.limits.now.allowed.fences_within.most);
       few_components = omega (arith, few i c.requires.accepted, c.args.limits.now.allowed.components_within.most);
+      ranged = c.ranges_kept.ensures.components;
       able = can_be_cells i c.requires.accepted;
       claims = c.requires.claims;
       differ = none_of_name {breaks = BearsEarlierName} (c.requires.accepted SecondName);

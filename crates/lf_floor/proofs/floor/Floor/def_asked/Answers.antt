@@ -16,7 +16,7 @@ returns-clause-asked g c = λ l.
     let floor = floor_in c.self.inside.tables in
     let number = c.in_ok-number.number in
     rw (← c.self.view_is, c.in-To.is)
-    (subst (λ (order : Order (List ℕ) Place). Answers l floor (To c.in-To.team.now order) (Def (def_text floor c.in-To.team.now)) floor) (sym c.in_ok-session.ensures)
+    (subst (λ (order : Order (List ℕ) Place). Answers l floor (To c.in-To.team.now order) (Def (def_text floor c.in-To.team.now)) floor) (sym c.in_ok-session.ensures.is)
     (def_answers l c.self.inside.tables c.in-To.team.now c.in_ok-session.session c.in_ok-seen.field-0 number
     (subst (λ (f : Frame). Some number ≡ team_number f c.in-To.team.now) c.frame.ensures c.in_ok-number.ensures.found)
     (rw c.self.invariant.revisions (subst (λ (f : Frame). number < length f.teams + 1) c.frame.ensures c.in_ok-number.ensures.within))
