@@ -1,6 +1,6 @@
 -- A command that asks for a DEF text.
 use Rattle.std.proofs.Common.{◌≡◌, ℕ, ◌<◌, List, length, Option, Some, None, refl, sym, ap, subst, ◌∙◌}
-use Rattle.std.specs.Prelude.{slice_set}
+use Rattle.std.specs.Prelude.{IfNone, slice_set}
 use Rattle.std.proofs.lemmas.Bool.{false≢true}
 use Rattle.std.proofs.lemmas.List.{set-get_or}
 use Rattle.std.proofs.lemmas.Option.{get_or_from_slice_get}
@@ -64,6 +64,11 @@ def_answers l tables name session seen number named within opened =
     (some_answers l (floor_in tables) (floor_in tables) name (ask session) number (Def text) named
     (subst (λ (v : FloorState). Gives (answer_at (Some number) l (floor_in tables) (ask session)) (Def text) v) same
     (gives l f components (teams_in tables) number (ask session) s s (Def text) there (text_reached l f number session seen s opened))))
+
+-- what holds, holds if there is none
+pub given_none : {X : Type 0} (o : Option X) (P : Type 0) → P → IfNone o P
+given_none None P p = p
+given_none (Some x) P p = tt
 
 -- a DEF text is no refusal
 no_refusal : (text : List ℕ) (refusal : Refusal) → Def text ≡ Refused refusal → ⊥

@@ -1,14 +1,15 @@
-use Rattle.std.proofs.Common.{◌≡◌, ◌<◌, ◌+◌, length, sym, ◌∙◌, List, ℕ, Some, subst}
+use Rattle.std.proofs.Common.{◌≡◌, ◌<◌, ◌+◌, length, sym, ◌∙◌, List, ℕ, Some, None, subst}
 use Rattle.lf_floorplan.specs.declared.frame.Frame.{Frame}
 use Rattle.lf_floorplan.specs.declared.place.Place.{Place}
 use Rattle.lf_proto.specs.declared.reply.Reply.TheVariants.{Def}
 use Rattle.lf_proto.specs.declared.request.Command.TheVariants.{To}
 use Rattle.lf_proto.specs.declared.request.Order.{Order}
+use Rattle.lf_proto.specs.Commands.{order_of}
 use Rattle.lf_teams.specs.Steps.{Answers}
 use Rattle.lf_teams.specs.Teams.{team_number}
 use Rattle.lf_floor.specs.Responses.{def_text}
 use Rattle.lf_floor.specs.Tables.{floor_in}
-use Rattle.lf_floor.proofs.Asked.{def_answers}
+use Rattle.lf_floor.proofs.Asked.{def_answers, given_none, none_without_session, none_without_team}
 use Rattle.lf_floor.proofs.floor.Floor.def_asked.Goals as goal
 
 pub returns-clause-asked : goal.returns-clause-asked
@@ -21,3 +22,23 @@ returns-clause-asked g c = λ l.
     (subst (λ (f : Frame). Some number ≡ team_number f c.in-To.team.now) c.frame.ensures c.in_ok-number.ensures.found)
     (rw c.self.invariant.revisions (subst (λ (f : Frame). number < length f.teams + 1) c.frame.ensures c.in_ok-number.ensures.within))
     (sym (sym c.seen.ensures ∙ c.in_ok-seen.was {u = tt}))))
+
+pub returns-in_err-number-clause-none : goal.returns-in_err-number-clause-none
+returns-in_err-number-clause-none g c = λ l text.
+    given_none c.from_residual-in_err-number.result _
+    (rw (← c.self.view_is, c.in-To.is)
+    (λ asks answers. none_without_team l (floor_in c.self.inside.tables) c.in-To.team.now (order_of c.in-To.order) text
+    (subst (λ (f : Frame). None ≡ team_number f c.in-To.team.now) c.frame.ensures c.in_err-number.ensures.found) answers))
+
+pub returns-in_err-seen-clause-none : goal.returns-in_err-seen-clause-none
+returns-in_err-seen-clause-none g c = λ l text.
+    let tables = c.self.inside.tables in
+    let floor = floor_in tables in
+    let number = c.in_ok-number.number in
+    given_none c.from_residual-in_err-seen.result _
+    (rw (← c.self.view_is, c.in-To.is)
+    (λ asks answers. none_without_session l tables c.in-To.team.now c.in_ok-session.session number text
+    (subst (λ (f : Frame). Some number ≡ team_number f c.in-To.team.now) c.frame.ensures c.in_ok-number.ensures.found)
+    (rw c.self.invariant.revisions (subst (λ (f : Frame). number < length f.teams + 1) c.frame.ensures c.in_ok-number.ensures.within))
+    (sym (sym c.seen.ensures ∙ c.in_err-seen.was {u = tt}))
+    (subst (λ (order : Order (List ℕ) Place). Answers l floor (To c.in-To.team.now order) (Def text) floor) c.in_ok-session.ensures.is answers)))
