@@ -227,8 +227,8 @@ class Description:
         return frame
 
 
-def is_before_cells(line: bytes, teams: list[str]) -> bool:
-    """Whether a line is of those that tell the design, its rows and its fences, which come first; a fence's team is put to these."""
+def take_team(line: bytes, teams: list[str]) -> bool:
+    """Puts the team to these where the line tells a fence; whether more may come, behind the design, a row or a fence."""
     said = json.loads(line)
     if said["kind"] == "fence":
         teams.append(said["name"])

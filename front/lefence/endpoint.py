@@ -9,7 +9,7 @@ from dataclasses import dataclass
 from pathlib import Path
 
 from .client import Connection, connect
-from .description import is_before_cells
+from .description import take_team
 from .faults import FAILED, REFUSED, Fault
 from .program import Program, Run, find_program
 from .protocol import GROUND, team_of_socket
@@ -80,7 +80,7 @@ def _teams_of(telling: Run, path: str) -> list[str]:
     """The teams that a description tells, which is read no further than to its cells."""
     teams: list[str] = []
     try:
-        while all(is_before_cells(line, teams) for line in telling.lines()):
+        while all(take_team(line, teams) for line in telling.lines()):
             pass
     except EOFError:
         raise telling.fault(f"{path} does not tell the teams of the design") from None

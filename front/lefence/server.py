@@ -7,7 +7,7 @@ import itertools
 from collections.abc import Callable, Iterator
 
 from .async_run import AsyncRun
-from .description import is_before_cells
+from .description import take_team
 from .faults import FAILED, REFUSED, Fault
 from .journal import sums_of
 from .program import PIECE, Program
@@ -111,7 +111,7 @@ async def teams_told(program: Program) -> list[str]:
     try:
         # (the last line of one that dies may be a part)
         while (line := await run.reader.readline()).endswith(b"\n"):
-            if not is_before_cells(line, teams):
+            if not take_team(line, teams):
                 return teams
         raise await run.fault(f"{program.path} does not tell the teams of the design")
     finally:

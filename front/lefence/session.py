@@ -1,4 +1,4 @@
-"""What sessions of both client libraries and pipelines share: their team, their scope while they are open, a method for each verb."""
+"""What sessions and pipelines share: their team, their scope while they are open, and a method for each verb."""
 
 from __future__ import annotations
 

@@ -107,12 +107,12 @@ class Tools(FrontCase):
 
 
 class Package(FrontCase):
-    def setUp(self) -> None:
-        super().setUp()
+    @classmethod
+    def setUpClass(cls) -> None:
         if lacks := [name for name in ("pip", "setuptools", "wheel") if find_spec(name) is None]:
-            reason = f"the package is not installed, since {sys.executable} has no {' and no '.join(lacks)}"
+            reason = f"that the package can be installed, since {sys.executable} has no {' and no '.join(lacks)}"
             print(f"NOT CHECKED: {reason}", file=sys.stderr)
-            self.skipTest(reason)
+            raise unittest.SkipTest(reason)
 
     def installed(self, *words: str) -> Path:
         """The commands of an environment in which a copy of the package was installed without a network."""
@@ -130,6 +130,9 @@ class Package(FrontCase):
         for name in TOOLS:
             told = subprocess.check_output([commands / name, "--version"], text=True, cwd=self.folder)
             self.assertEqual(told, f"{name} {lefence.__version__}\n")
+        code = "import importlib.metadata; print(importlib.metadata.version('lefence'))"
+        told = subprocess.check_output([commands / "python", "-c", code], text=True, cwd=self.folder)
+        self.assertEqual(told, f"{lefence.__version__}\n")
         words: list[str | Path] = [commands / "lefence-report", self.design, self.lef, "--program", PROGRAM, "-o", self.folder / "x.html"]
         self.assertEqual(subprocess.run(words, stderr=subprocess.DEVNULL).returncode, 0)
 
