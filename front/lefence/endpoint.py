@@ -56,16 +56,16 @@ def start_program(given: str | None, paths: list[Path]) -> Endpoint:
     near, far = socket.socketpair()
     with far:
         process = program.replay_on(far)
-    endpoint = Endpoint(Connection(near), [], process)
+    connection = Connection(near)
     try:
         # (the design is loaded twice at once)
         with program.describe() as telling:
-            _wait_loaded(endpoint.connection, process)
-            endpoint.teams = _teams_of(telling, program.path)
+            _wait_loaded(connection, process)
+            return Endpoint(connection, _teams_of(telling, program.path), process)
     except BaseException:
-        endpoint.close()
+        # Whereupon the program ends, if it has not; Ctrl-C does not wait for it.
+        connection.close()
         raise
-    return endpoint
 
 
 def _wait_loaded(connection: Connection, process: subprocess.Popen[bytes]) -> None:
