@@ -5,8 +5,8 @@ A row is made of a verb's name, the fields of its shape, and the comment at its 
 That comment says what the verb does, then its reply and the numbers of its refusals. The rows are in the order of VERBS; the row of
 open is before them and the row of bye after them, and these two are made of the comments in src/request.rt.
 
-front/lefence/tables.py has the verbs of the same sources: one changes the floor if it is a Change, or no look by `is_look` of
-lf_teams; the refusals of src/reply.rt, with the numbers and names of src/text.rt; the rules of lf_rules, and the orientations.
+front/lefence/tables.py has the verbs of the same sources: one changes the floor if it is no look by `is_look` of lf_teams, and
+makes a revision if it is a Change; the refusals of src/reply.rt, with the numbers and names of src/text.rt; the rules of lf_rules, and the orientations.
 
 usage: tools/verbs.py            (from the top) prints the table
        tools/verbs.py --check    prints the lines in which the page and the front's tables differ, and which verb or refusal the
@@ -49,7 +49,7 @@ tools/verbs.py --write makes this file of the program's sources: change those.
 from __future__ import annotations
 
 # A verb of a team: its name, its fields behind TEAM (and N), the words of its reply behind `ok`, whether an accepted one changes
-# what later replies are, and what it does.'''
+# what later replies are, whether it makes a revision of the team, and what it does.'''
 
 
 class NotThere(Exception):
@@ -135,17 +135,20 @@ def front_verbs(request: str, verb_text: str) -> list[str]:
     said = orders | actions | changes
     if left := (said.keys() - {verb.variant for verb in verbs}) - {"Within", "Change"}:
         raise NotThere(f"VERBS lacks {', '.join(sorted(left))}")
-    return [front_verb(verb, said.get(verb.variant, [""]), verb.variant not in unchanging) for verb in verbs]
+    return [front_verb(verb, said.get(verb.variant, [""]), verb.variant not in unchanging, verb.variant in changes) for verb in verbs]
 
 
-def front_verb(verb: Verb, said: list[str], is_change: bool) -> str:
+def front_verb(verb: Verb, said: list[str], is_change: bool, makes_revision: bool) -> str:
     """The line of a verb in the front's table."""
     answers = ANSWERS.fullmatch(said[-1])
     reply = WORDS.match(answers[1]) if answers else None
     if len(said) != 2 or not reply:
         raise NotThere(f"no reply of {verb.name}")
+    if makes_revision and not reply[1].startswith(" REV"):
+        raise NotThere(f"the reply of {verb.name} does not begin with its revision")
     what = said[0][0].lower() + said[0][1:].removesuffix(".")
-    return f"    ({quoted(verb.name)}, {listed(verb.fields.split())}, {listed(reply[1].split())}, {is_change}, {quoted(what)}),"
+    told = (quoted(verb.name), listed(verb.fields.split()), listed(reply[1].split()), str(is_change), str(makes_revision), quoted(what))
+    return f"    ({', '.join(told)}),"
 
 
 def quoted(text: str) -> str:
@@ -182,7 +185,7 @@ def front_tables() -> list[str]:
     orients = re.findall(r'Orient::\w+ => b"(\w+)"', ORIENTS.read_text(encoding="utf-8"))
     if len(orients) != 8:
         raise NotThere(f"not eight orientations in {ORIENTS}")
-    lines = [*HEADING.split("\n"), "VERBS: tuple[tuple[str, tuple[str, ...], tuple[str, ...], bool, str], ...] = ("]
+    lines = [*HEADING.split("\n"), "VERBS: tuple[tuple[str, tuple[str, ...], tuple[str, ...], bool, bool, str], ...] = ("]
     lines += [*front_verbs(request, verb_text), ")", ""]
     for what, name, table in (("refusals", "REFUSALS", refusals()), ("rules of a place", "RULES", rules())):
         lines += [f"# The names of the {what} by their number.", f"{name} = {{", *(f"    {number}: {quoted(it)}," for number, it in table.items()), "}", ""]

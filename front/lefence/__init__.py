@@ -6,6 +6,9 @@ docs/PROTOCOL.md, `ConnectionLost` and `ProtocolError`.
 
 from __future__ import annotations
 
+# (before what is imported: a tool's `--version` reads it, and so does pyproject.toml)
+__version__ = "0.1.0"
+
 import importlib
 from types import ModuleType
 from typing import TYPE_CHECKING
@@ -58,6 +61,7 @@ __all__ = [
     "Tidied",
     "Unplaced",
     "Violation",
+    "__version__",
     "aio",
     "connect",
 ]

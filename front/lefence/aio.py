@@ -10,12 +10,10 @@ began.
 from __future__ import annotations
 
 import asyncio
-import functools
 import os
 from collections import deque
-from collections.abc import Awaitable, Callable
 from types import TracebackType
-from typing import Concatenate, ParamSpec, TypeVar
+from typing import TypeVar
 
 from . import verbs
 from .client import ConnectionLost, answer_of
@@ -24,7 +22,6 @@ from .refusals import Refusal, Stale
 from .session import BaseSession
 from .verbs import Request, Scope
 
-P = ParamSpec("P")
 T = TypeVar("T")
 
 # A reply may be as long as a report of a million cells.
@@ -114,14 +111,6 @@ class Connection:
                 waits.set_exception(self._lost)
 
 
-def _asked(build: Callable[Concatenate[Scope, P], Request[T]]) -> Callable[Concatenate[Session, P], Awaitable[T]]:
-    @functools.wraps(build)
-    def method(self: Session, /, *args: P.args, **kwargs: P.kwargs) -> Awaitable[T]:
-        return self.ask(build(self.scope, *args, **kwargs))
-
-    return method
-
-
 class Session(BaseSession[Connection]):
     """A session of a team: each method is a coroutine that sends a verb and returns what its reply says, or raises its refusal."""
 
@@ -150,18 +139,3 @@ class Session(BaseSession[Connection]):
             except Stale:
                 await self.connection.ask(verbs.sync(self.scope))
         return await self.connection.ask(request)
-
-    sync = _asked(verbs.sync)
-    check = _asked(verbs.check)
-    def_text = _asked(verbs.def_text)
-    where = _asked(verbs.where)
-    find = _asked(verbs.find)
-    place = _asked(verbs.place)
-    legalize = _asked(verbs.legalize)
-    tidy = _asked(verbs.tidy)
-    unplace = _asked(verbs.unplace)
-    swap = _asked(verbs.swap)
-    undo = _asked(verbs.undo)
-    commit = _asked(verbs.commit)
-    revert = _asked(verbs.revert)
-    pad = _asked(verbs.pad)

@@ -2,18 +2,14 @@
 
 from __future__ import annotations
 
-import os
 import select
-import subprocess
-import tempfile
 import time
 from collections.abc import Iterable, Iterator
 from itertools import islice
 from pathlib import Path
-from typing import IO
 
-from .faults import FAILED, Fault
-from .program import NAP, PIECE, fault_of, replay_words, widened
+from .faults import Fault
+from .program import NAP, Program
 
 # Lines that are put together.
 _LINES = 1000
@@ -24,24 +20,13 @@ class Bulk:
 
     def __init__(self, program: str, paths: list[Path], export: Path | None) -> None:
         """Starts the program over a DEF text and LEF texts; with `export`, `finish` has that file written."""
-        self._said: IO[bytes] = tempfile.TemporaryFile()
-        pipe = subprocess.PIPE
-        words = replay_words(program, paths, None if export is None else str(export))
-        self._process = subprocess.Popen(words, stdin=pipe, stdout=pipe, stderr=self._said, bufsize=0)
-        assert self._process.stdin and self._process.stdout
-        self._in, self._out = (widened(end.fileno()) for end in (self._process.stdin, self._process.stdout))
-        os.set_blocking(self._in, False)
-        self._rest = b""
+        self._run = Program(program, paths).replay(export)
 
     def __enter__(self) -> Bulk:
         return self
 
     def __exit__(self, *_: object) -> None:
-        self._process.kill()
-        self._process.wait()
-        for end in (self._process.stdin, self._process.stdout, self._said):
-            assert end
-            end.close()
+        self._run.close()
 
     def ask(self, line: bytes) -> bytes:
         """The reply to a line of a verb other than `def`, as those of `replies`."""
@@ -58,7 +43,7 @@ class Bulk:
                 return
             if due > _LINES:
                 time.sleep(NAP)
-            can_read, can_write, _ = select.select([self._out], [self._in] if unsent else [], [])
+            can_read, can_write, _ = select.select([self._run.output], [self._run.input] if unsent else [], [])
             if can_write:
                 unsent = unsent[self._send(unsent) :]
             if can_read:
@@ -68,28 +53,20 @@ class Bulk:
 
     def finish(self) -> None:
         """Ends the program's input, and waits until it has exported and ended."""
-        assert self._process.stdin
-        self._process.stdin.close()
-        self._process.wait()
-        if self._process.returncode:
+        if self._run.finish():
             raise self._fault()
 
     def _send(self, text: memoryview) -> int:
         try:
-            return os.write(self._in, text)
-        except BlockingIOError:
-            return 0
+            return self._run.send(text)
         except BrokenPipeError:
             raise self._fault() from None
 
     def _read(self) -> list[bytes]:
-        piece = os.read(self._out, PIECE)
-        if not piece:
-            raise self._fault()
-        *whole, self._rest = (self._rest + piece).split(b"\n")
-        return whole
+        try:
+            return self._run.lines()
+        except EOFError:
+            raise self._fault() from None
 
     def _fault(self) -> Fault:
-        status = self._process.wait()
-        fault = fault_of(status, self._said, f"the program was lost: it ended with {status}")
-        return fault if status else Fault(FAILED, str(fault))
+        return self._run.fault(f"the program was lost: it ended with {self._run.wait()}")

@@ -11,23 +11,20 @@ A connection is for one thread at a time.
 
 from __future__ import annotations
 
-import functools
 import os
 import selectors
 import socket
 from collections import deque
-from collections.abc import Callable
 from dataclasses import dataclass
 from types import TracebackType
-from typing import Any, Concatenate, Generic, ParamSpec, TypeVar
+from typing import Any, Generic, TypeVar
 
 from . import verbs
 from .protocol import text_length
 from .refusals import Refusal, Stale, refusal_of
-from .session import BaseSession
+from .session import BaseSession, Verbs
 from .verbs import ProtocolError, Request, Scope, read_reply
 
-P = ParamSpec("P")
 T = TypeVar("T")
 
 # Bytes that are read at a time, and that may wait to be sent before a sender reads what came.
@@ -216,22 +213,6 @@ class Pending(Generic[T]):
         return refusal_of(reply)
 
 
-def _asked(build: Callable[Concatenate[Scope, P], Request[T]]) -> Callable[Concatenate[Session, P], T]:
-    @functools.wraps(build)
-    def method(self: Session, /, *args: P.args, **kwargs: P.kwargs) -> T:
-        return self.ask(build(self.scope, *args, **kwargs))
-
-    return method
-
-
-def _begun(build: Callable[Concatenate[Scope, P], Request[T]]) -> Callable[Concatenate[Pipeline, P], Pending[T]]:
-    @functools.wraps(build)
-    def method(self: Pipeline, /, *args: P.args, **kwargs: P.kwargs) -> Pending[T]:
-        return self.begin(build(self.scope, *args, **kwargs))
-
-    return method
-
-
 class Session(BaseSession[Connection]):
     """A session of a team: each method sends a verb, waits for its reply and returns what it says, or raises its refusal."""
 
@@ -283,23 +264,8 @@ class Session(BaseSession[Connection]):
         """
         return Pipeline(self, raises)
 
-    sync = _asked(verbs.sync)
-    check = _asked(verbs.check)
-    def_text = _asked(verbs.def_text)
-    where = _asked(verbs.where)
-    find = _asked(verbs.find)
-    place = _asked(verbs.place)
-    legalize = _asked(verbs.legalize)
-    tidy = _asked(verbs.tidy)
-    unplace = _asked(verbs.unplace)
-    swap = _asked(verbs.swap)
-    undo = _asked(verbs.undo)
-    commit = _asked(verbs.commit)
-    revert = _asked(verbs.revert)
-    pad = _asked(verbs.pad)
 
-
-class Pipeline:
+class Pipeline(Verbs):
     """Requests of one session in flight; their replies come in their order. A stale one is not asked again."""
 
     def __init__(self, session: Session, raises: bool) -> None:
@@ -327,23 +293,8 @@ class Pipeline:
         if first and self._raises and kind is None:
             raise first
 
-    def begin(self, request: Request[T]) -> Pending[T]:
+    def ask(self, request: Request[T]) -> Pending[T]:
         """Sends a request, and waits for nothing."""
         pending = Pending(self._session.connection, request)
         self._begun.append(pending)
         return pending
-
-    sync = _begun(verbs.sync)
-    check = _begun(verbs.check)
-    def_text = _begun(verbs.def_text)
-    where = _begun(verbs.where)
-    find = _begun(verbs.find)
-    place = _begun(verbs.place)
-    legalize = _begun(verbs.legalize)
-    tidy = _begun(verbs.tidy)
-    unplace = _begun(verbs.unplace)
-    swap = _begun(verbs.swap)
-    undo = _begun(verbs.undo)
-    commit = _begun(verbs.commit)
-    revert = _begun(verbs.revert)
-    pad = _begun(verbs.pad)

@@ -8,18 +8,15 @@ from __future__ import annotations
 
 import itertools
 import json
-import os
-import subprocess
 import sys
-import tempfile
 import time
 from collections.abc import Callable, Iterator
 from dataclasses import dataclass
 from pathlib import Path
-from typing import IO, Any, NamedTuple
+from typing import Any, NamedTuple
 
 from .faults import Fault
-from .program import NAP, PIECE, fault_of, path_words, widened
+from .program import NAP, Program
 
 # The exit statuses of a description that was written: the design is fully legal, or it is not.
 _WRITTEN = (0, 4)
@@ -152,9 +149,7 @@ class Description:
 
     def __init__(self, program: str, design: Path, libraries: list[Path]) -> None:
         """Starts the program over a DEF text and LEF texts, and reads as far as the frame goes."""
-        words = [program, "describe", *path_words((design, *libraries))]
-        self._said: IO[bytes] = tempfile.TemporaryFile()
-        self._process = subprocess.Popen(words, stdin=subprocess.DEVNULL, stdout=subprocess.PIPE, stderr=self._said)
+        self._run = Program(program, [design, *libraries]).describe()
         self._batches = self._read_batches()
         # Lines behind the frame that were read with it.
         self._ahead: list[bytes] = []
@@ -172,9 +167,7 @@ class Description:
 
     def close(self) -> None:
         """Ends the program, if it is still at it."""
-        self._process.kill()
-        self._process.communicate()
-        self._said.close()
+        self._run.close()
 
     def cells(self) -> Iterator[Cell]:
         """The movable cells in loading order, once; when they are read, `total` is there."""
@@ -197,23 +190,22 @@ class Description:
                     yield _cell(line)
                 elif line["kind"] == "total":
                     self.total = Total(*(line[key] for key in Total._fields))
-                    if self._process.wait() not in _WRITTEN:
+                    if self._run.wait() not in _WRITTEN:
                         raise self._fault()
                     return
 
     def _read_batches(self) -> Iterator[list[bytes]]:
         """The lines that come, many at a time; behind the last one a fault."""
-        assert self._process.stdout is not None
-        pipe, rest = widened(self._process.stdout.fileno()), b""
-        while piece := os.read(pipe, PIECE):
-            *lines, rest = (rest + piece).split(b"\n")
+        while True:
+            try:
+                lines = self._run.lines()
+            except EOFError:
+                raise self._fault() from None
             yield lines
             time.sleep(NAP)
-        self._process.wait()
-        raise self._fault()
 
     def _fault(self) -> Fault:
-        return fault_of(self._process.returncode, self._said, "the program ended without its last line")
+        return self._run.fault("the program ended without its last line")
 
     def _read_frame(self) -> Frame:
         lines = ((batch, at, json.loads(text)) for batch in self._batches for at, text in enumerate(batch))
@@ -233,6 +225,14 @@ class Description:
                     self._ahead = batch[at:]
                     break
         return frame
+
+
+def take_team(line: bytes, teams: list[str]) -> bool:
+    """Puts the team to these where the line tells a fence; whether more may come, behind the design, a row or a fence."""
+    said = json.loads(line)
+    if said["kind"] == "fence":
+        teams.append(said["name"])
+    return said["kind"] in ("design", "row", "fence")
 
 
 def _cell(line: dict[str, Any]) -> Cell:

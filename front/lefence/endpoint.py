@@ -9,9 +9,9 @@ from dataclasses import dataclass
 from pathlib import Path
 
 from .client import Connection, connect
-from .design import fences_in
+from .description import take_team
 from .faults import FAILED, REFUSED, Fault
-from .program import find_program, replay_words
+from .program import Program, Run, find_program
 from .protocol import GROUND, team_of_socket
 
 _PORT = re.compile(r"([^/]+):(\d{1,5})")
@@ -52,18 +52,36 @@ def _teams_at(path: Path) -> list[str]:
 
 def start_program(given: str | None, paths: list[Path]) -> Endpoint:
     """A program of one's own over a design, and a connection to it; a fault where it refuses the design."""
-    try:
-        fences = fences_in(paths[0].read_bytes())
-    except OSError as error:
-        raise Fault(FAILED, str(error)) from None
+    program = Program(find_program(given), paths)
     near, far = socket.socketpair()
     with far:
-        words = replay_words(find_program(given), paths)
-        process = subprocess.Popen(words, stdin=far.fileno(), stdout=far.fileno(), start_new_session=True)
+        process = program.replay_on(far)
     connection = Connection(near)
+    try:
+        # (the design is loaded twice at once)
+        with program.describe() as telling:
+            _wait_loaded(connection, process)
+            return Endpoint(connection, _teams_of(telling, program.path), process)
+    except BaseException:
+        # Whereupon the program ends, if it has not; Ctrl-C does not wait for it.
+        connection.close()
+        raise
+
+
+def _wait_loaded(connection: Connection, process: subprocess.Popen[bytes]) -> None:
     try:
         connection.ask_line(b"")
     except OSError:
         status = process.wait()
         raise Fault(REFUSED if status == 1 else FAILED, "the program does not start; its own line tells why") from None
-    return Endpoint(connection, [*fences, GROUND], process)
+
+
+def _teams_of(telling: Run, path: str) -> list[str]:
+    """The teams that a description tells, which is read no further than to its cells."""
+    teams: list[str] = []
+    try:
+        while all(take_team(line, teams) for line in telling.lines()):
+            pass
+    except EOFError:
+        raise telling.fault(f"{path} does not tell the teams of the design") from None
+    return [*teams, GROUND]

@@ -8,6 +8,8 @@ import sys
 from collections.abc import Callable
 from pathlib import Path
 
+from . import __version__
+
 # Exit statuses, as the program's: done; refused input; no command; a file, a socket, the disk or the program failed.
 DONE, REFUSED, USAGE, FAILED = 0, 1, 2, 3
 
@@ -26,6 +28,7 @@ class Parser(argparse.ArgumentParser):
     def __init__(self, tool: str, what: str, example: str) -> None:
         epilog = "example:\n" + "\n".join(f"  {line}" for line in example.splitlines())
         super().__init__(prog=tool, description=what, epilog=epilog, formatter_class=argparse.RawDescriptionHelpFormatter)
+        self.add_argument("--version", action="version", version=f"{tool} {__version__}", help="print the version and end")
 
     def add_design(self) -> None:
         """The words of a design: its DEF text, and its LEF texts behind it."""

@@ -65,10 +65,10 @@ class Hub:
 
     async def start(self, wanted: list[str]) -> list[str]:
         """Starts the program in the state of the journal; the teams to be served, which are all or those wanted."""
-        text = await asyncio.to_thread(self.server.paths[0].read_bytes)
+        text = await asyncio.to_thread(self.server.program.texts[0].read_bytes)
         teams = [GROUND, *await asyncio.to_thread(fences_in, text)]
         self.nobody = name_of_nobody(teams)
-        telling = asyncio.create_task(teams_told(self.server.program, self.server.paths))
+        telling = asyncio.create_task(teams_told(self.server.program))
         try:
             await self._start_program()
             refuse_other_teams(teams, await telling)
@@ -265,7 +265,7 @@ class Hub:
 
     def refuse_export(self, path: str) -> None:
         """A fault where an export to the path would overwrite the journal or the design, or has no folder to go to."""
-        if os.path.exists(path) and any(os.path.samefile(path, own) for own in (self.journal.path, *self.server.paths)):
+        if os.path.exists(path) and any(os.path.samefile(path, own) for own in (self.journal.path, *self.server.program.texts)):
             raise Fault(FAILED, f"{path} is the journal or a text of the design")
         if os.path.isdir(path) or not os.access(os.path.dirname(os.path.abspath(path)), os.W_OK):
             raise Fault(FAILED, f"{path} cannot be written")
@@ -273,7 +273,7 @@ class Hub:
     async def export(self, path: str, end: int) -> bool:
         """Whether the file is there, whole: a second program writes it, over the journal up to that byte."""
         live = self.server
-        second = Server(live.program, live.paths, live.sums, export=path)
+        second = Server(live.program, live.sums, export=path)
         async with self._export_turn:
             try:
                 self.refuse_export(path)

@@ -16,7 +16,7 @@ from .faults import DONE, FAILED, Fault, Parser, log, run_tool
 from .hub import MOST_CLIENTS, Hub
 from .hub_client import Client
 from .journal import Journal, lock, sums_of
-from .program import find_program
+from .program import Program, find_program
 from .protocol import socket_name
 from .server import Server
 
@@ -113,7 +113,7 @@ async def run(options: argparse.Namespace) -> None:
     lock(os.open(options.sockets, os.O_RDONLY | os.O_DIRECTORY | os.O_CLOEXEC), options.sockets)
     sums = sums_of(paths)
     journal = Journal(options.journal, sums, say, not options.no_sync)
-    hub = Hub(Server(program, paths, sums), journal, options.patience, say)
+    hub = Hub(Server(Program(program, paths), sums), journal, options.patience, say)
     try:
         if options.export:
             hub.refuse_export(options.export)

@@ -26,12 +26,16 @@ _PLAIN_BYTES = (string.ascii_letters + string.digits + "_-").encode()
 
 @dataclass(frozen=True)
 class Verb:
-    """A verb of a team: its fields behind TEAM (and N), the words of its reply, whether an accepted one changes the floor, its text."""
+    """A verb of a team, with its fields behind TEAM (and N), and the words of its reply.
+
+    An accepted one may change what later replies are, and then make a revision of the team; the text says what it does.
+    """
 
     name: str
     fields: tuple[str, ...]
     reply: tuple[str, ...]
     is_change: bool
+    makes_revision: bool
     text: str
 
 
@@ -40,6 +44,8 @@ VERBS = {row[0]: Verb(*row) for row in tables.VERBS}
 # Verbs of which an accepted one changes what later replies are: the journal keeps these and no others. That the others may
 # be left out is a law of the program (docs/THEOREM.md).
 CHANGES = frozenset(name.encode() for name, verb in VERBS.items() if verb.is_change)
+# Verbs of which an accepted one makes a revision of the team, which is the first word of its reply.
+REVISIONS = frozenset(name.encode() for name, verb in VERBS.items() if verb.makes_revision)
 # Verbs whose replies have no bound of length: those with any other words than these, which are short.
 _SHORT = frozenset("N REV X Y O MOVED".split())
 UNBOUNDED = frozenset(name.encode() for name, verb in VERBS.items() if not _SHORT.issuperset(verb.reply))

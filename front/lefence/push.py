@@ -14,17 +14,17 @@ from .client import Connection, Sent
 from .endpoint import connect_to
 from .faults import DONE, FAILED, REFUSED, Fault, Parser, log, run_tool
 from .journal import read_records
+from .protocol import REVISIONS
 
 TOOL = "lefence-push"
-_SESSION_VERBS = (b"open", b"close", b"sync")
 
 # The number of a record in the journal, from 1; its line without a line feed, and its reply with one.
 Record = tuple[int, bytes, bytes]
 
 
 def revision_of(line: bytes, reply: bytes) -> int | None:
-    """The revision that a change of cells made; None of a record of another kind."""
-    return None if line.split()[0] in _SESSION_VERBS else int(reply.split()[1])
+    """The revision that a record made; None of one that made none, as one of a session."""
+    return int(reply.split()[1]) if line.split()[0] in REVISIONS else None
 
 
 class Push:

@@ -3,24 +3,16 @@
 from __future__ import annotations
 
 import asyncio
-import contextlib
-import io
 import itertools
-import json
-import os
-import signal
 from collections.abc import Callable, Iterator
-from pathlib import Path
 
+from .async_run import AsyncRun
+from .description import take_team
 from .faults import FAILED, REFUSED, Fault
 from .journal import sums_of
-from .program import fault_of, path_words, replay_words
+from .program import PIECE, Program
 from .protocol import GROUND, text_length
 
-# Bytes that are read at a time.
-_PIECE = 1 << 20
-# More bytes than any line of a description has.
-_LONGEST = 1 << 30
 # Lines that are asked at a time while a journal is restored.
 _CHUNK = 1000
 
@@ -34,18 +26,12 @@ class ServerLost(Exception):
 class Server:
     """A running program over a design whose texts have the given SHA-256 sums."""
 
-    def __init__(self, program: str, paths: list[Path], sums: list[str], export: str | None = None) -> None:
+    def __init__(self, program: Program, sums: list[str], export: str | None = None) -> None:
         """A server that is not started yet; with `export`, it writes that file at the end of its input."""
         self.program = program
-        self.paths = paths
         self.sums = sums
-        self._words = replay_words(program, paths, export)
-        self._process: asyncio.subprocess.Process | None = None
-
-    @property
-    def pid(self) -> int | None:
-        """The process, while there is one."""
-        return self._process.pid if self._process else None
+        self._export = export
+        self._run: AsyncRun | None = None
 
     async def start(self) -> None:
         """Starts the program and waits until it has loaded the design.
@@ -53,20 +39,16 @@ class Server:
         Raises a fault where it refuses the design or the words, or the texts are not those of the sums; ServerLost where it dies.
         """
         await self.kill()
-        pipe = asyncio.subprocess.PIPE
-        # A session of its own, so that the terminal's Ctrl-C is for the hub alone; its input ends when the hub does.
-        self._process = await asyncio.create_subprocess_exec(
-            *self._words, stdin=pipe, stdout=pipe, start_new_session=True, limit=_PIECE
-        )
+        self._run = await self.program.replay_async(self._export)
         try:
             await self.ask([b""])
         except ServerLost:
-            status = await self._process.wait()
+            status = await self._run.wait()
             if status in (1, 2):
                 reason = "its own line tells why" if status == 1 else "it does not know `replay --lines`"
-                raise Fault(REFUSED if status == 1 else FAILED, f"{self.program} does not start: {reason}") from None
+                raise Fault(REFUSED if status == 1 else FAILED, f"{self.program.path} does not start: {reason}") from None
             raise
-        if await asyncio.to_thread(sums_of, self.paths) != self.sums:
+        if await asyncio.to_thread(sums_of, self.program.texts) != self.sums:
             raise Fault(REFUSED, "the texts of the design have changed")
 
     async def ask(self, lines: list[bytes]) -> list[bytes]:
@@ -74,18 +56,18 @@ class Server:
         if not lines:
             return []
         try:
-            assert self._process and self._process.stdin
-            self._process.stdin.write(b"\n".join(lines) + b"\n")
+            assert self._run
+            self._run.send(b"\n".join(lines) + b"\n")
             return await self._replies(lines)
         except (OSError, asyncio.IncompleteReadError) as error:
             raise ServerLost(f"the program is lost: {error}") from None
 
     async def _replies(self, lines: list[bytes]) -> list[bytes]:
-        assert self._process and self._process.stdout
-        reader = self._process.stdout
+        assert self._run
+        reader = self._run.reader
         pieces, feeds = [], 0
         while feeds < len(lines):
-            piece = await reader.read(_PIECE)
+            piece = await reader.read(PIECE)
             if not piece:
                 raise ConnectionResetError("end of its replies")
             pieces.append(piece)
@@ -112,43 +94,25 @@ class Server:
 
     async def end(self) -> int:
         """Ends the program's input, and returns its exit status."""
-        assert self._process and self._process.stdin
-        self._process.stdin.close()
-        return await self._process.wait()
+        assert self._run
+        return await self._run.finish()
 
     async def kill(self) -> None:
         """Ends the program, where it runs."""
-        if self._process is not None:
-            await _kill(self._process)
-        self._process = None
+        if self._run is not None:
+            await self._run.kill()
+        self._run = None
 
 
-async def _kill(process: asyncio.subprocess.Process) -> None:
-    """Ends a process, where it runs, with its whole session: a program that is a script goes with what it runs."""
-    if process.returncode is None:
-        with contextlib.suppress(ProcessLookupError):
-            os.killpg(process.pid, signal.SIGKILL)
-        await process.wait()
-
-
-async def teams_told(program: str, paths: list[Path]) -> list[str]:
+async def teams_told(program: Program) -> list[str]:
     """The teams that the program finds in a design: `lefence describe` tells them before its cells, and is ended there."""
-    pipe = asyncio.subprocess.PIPE
-    words = [program, "describe", *path_words(paths)]
-    process = await asyncio.create_subprocess_exec(
-        *words, stdin=asyncio.subprocess.DEVNULL, stdout=pipe, stderr=pipe, start_new_session=True, limit=_LONGEST
-    )
-    assert process.stdout and process.stderr
+    run = await program.describe_async()
     teams = [GROUND]
     try:
         # (the last line of one that dies may be a part)
-        while (text := await process.stdout.readline()).endswith(b"\n"):
-            line = json.loads(text)
-            if line["kind"] == "fence":
-                teams.append(line["name"])
-            elif line["kind"] not in ("design", "row"):
+        while (line := await run.reader.readline()).endswith(b"\n"):
+            if not take_team(line, teams):
                 return teams
-        said = await process.stderr.read()
-        raise fault_of(await process.wait(), io.BytesIO(said), f"{program} does not tell the teams of the design")
+        raise await run.fault(f"{program.path} does not tell the teams of the design")
     finally:
-        await _kill(process)
+        await run.kill()

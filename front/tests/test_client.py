@@ -12,12 +12,12 @@ import socket
 import unittest
 from collections.abc import Callable
 from decimal import Decimal
-from typing import cast
+from typing import assert_type, cast
 
-from support import CELLS, FRONT, PATIENCE, HubCase
+from support import CELLS, FRONT, PATIENCE, WIDTH, HubCase
 
 import lefence
-from lefence import Legalized, Place, Report, Tidied, Violation, verbs
+from lefence import Legalized, Pending, Place, Report, Tidied, Violation, verbs
 from lefence.protocol import REFUSALS, VERBS
 from lefence.refusals import refusal_of
 
@@ -100,6 +100,23 @@ class Verbs(HubCase):
                 self.assertTrue(method.__doc__)
                 taken = list(inspect.signature(method).parameters)[1:]
                 self.assertEqual(len(taken), len(VERBS[verb].fields))
+
+    def test_methods_of_verbs_have_the_types_of_their_kind(self) -> None:
+        self.start()
+        session = self.session()
+        assert_type(session.sync(), int)
+        assert_type(session.find("f0c1", 400, y=0), Place)
+        assert_type(lefence.Session.tidy(session), Tidied)
+        with session.pipeline() as pipeline:
+            assert_type(pipeline.check(), Pending[Report])
+            assert_type(lefence.Pipeline.where(pipeline, "f0c1"), Pending[Place])
+
+        async def ask() -> None:
+            async with await lefence.aio.connect(self.folder / "s/f1.sock") as connection, connection.session("f1") as session:
+                assert_type(await session.legalize("f1c1", WIDTH, 0), Legalized)
+                assert_type(await lefence.aio.Session.def_text(session), bytes)
+
+        asyncio.run(ask())
 
     def test_microns_where_asked_and_only_whole_database_units(self) -> None:
         self.start()

@@ -98,6 +98,16 @@ class Words(HubCase):
         done = self.tool("lefence-shell", self.design, self.lef, "--program", PROGRAM)
         self.assertEqual((done.returncode, b"8 NoSite" in done.stderr), (1, True), done.stderr)
 
+    def test_teams_are_those_that_the_program_tells(self) -> None:
+        fence = '"kind":"fence","name":"f3"'
+        other = self.describing(f"'{PROGRAM}' \"$@\" | sed 's/{fence}/{fence[:-3]}Z\"/'")
+        done = self.tool("lefence-shell", self.design, self.lef, "--program", other, lines=b"teams\n")
+        self.assertEqual((done.returncode, done.stdout, done.stderr), (0, b"f0 f1 f2 Z f4 f5 f6 f7 -\n", b""))
+        for script, said, status in (("echo no such verb >&2; exit 2", "no such verb", 2), ("exit 0", "does not tell the teams", 3)):
+            silent = self.describing(script)
+            done = self.tool("lefence-shell", self.design, self.lef, "--program", silent)
+            self.assertEqual((done.returncode, done.stdout, done.stderr.decode().count(said)), (status, b"", 1), done.stderr)
+
 
 class Completion(HubCase):
     def test_verbs_teams_cells_and_orientations_are_completed(self) -> None:

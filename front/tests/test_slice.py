@@ -205,6 +205,12 @@ class Pushes(HubCase):
         self.assertEqual(status, 1)
         self.assertIn("none of this journal", said)
 
+    def test_the_number_of_a_session_is_no_revision(self) -> None:
+        lines = [b"open f1", b"open f1", b"place f1 0 f1c1 8200 0 N"]
+        made = made_journal(self.folder / "made", self.work_away(0, 100), zip(lines, [b"ok 0 0\n", b"ok 1 0\n", b"ok 1\n"]))
+        for options in ((), ("--continue",)):
+            self.assertEqual(self.push(made, "f1", *options)[0], 0)
+
     def test_where_somebody_else_wrote_the_first_difference_is_told_and_nothing_more_is_sent(self) -> None:
         journal = self.work_away(0)
         with lefence.connect(self.folder / "s/f0.sock") as connection, connection.session("f0") as session:

@@ -2,14 +2,17 @@
 
 from __future__ import annotations
 
+import shutil
 import subprocess
 import sys
-import tomllib
 import unittest
+import venv
+from importlib.util import find_spec
+from pathlib import Path
 
 from support import FRONT, PROGRAM, FrontCase, tool_words
 
-from backend import build_wheel
+import lefence
 
 TOOLS = (
     *("lefence-hub", "lefence-slice", "lefence-push", "lefence-shell", "lefence-picture", "lefence-report"),
@@ -88,15 +91,64 @@ class Tools(FrontCase):
             self.assertNotIn(b"Traceback", process.stderr.read())
             self.assertEqual(process.wait(), 3)
 
-    def test_the_package_names_each_tool(self) -> None:
-        scripts = tomllib.loads((FRONT / "pyproject.toml").read_text())["project"]["scripts"]
-        self.assertEqual(sorted(scripts), sorted(TOOLS))
-        wheel = self.folder / build_wheel(str(self.folder))
-        for name, entry in scripts.items():
-            module, function = entry.split(":")
-            code = f"import sys; sys.argv = [{name!r}, '--help']; from {module} import {function}; {function}()"
-            done = subprocess.run([sys.executable, "-c", code], env={"PYTHONPATH": str(wheel)}, capture_output=True, cwd=self.folder)
-            self.assertIn(f"usage: {name}".encode(), done.stdout)
+    def test_each_runs_through_links_of_any_name(self) -> None:
+        for name in TOOLS:
+            near, far = self.folder / name, self.folder / "a b"
+            far.unlink(missing_ok=True)
+            near.symlink_to(FRONT / "bin" / name)
+            far.symlink_to(near.name)
+            for words in ([str(near)], [str(far)], [sys.executable, str(far)]):
+                self.assertEqual(subprocess.check_output([*words, "--version"], text=True), f"{name} {lefence.__version__}\n")
+
+    def test_the_stub_by_its_own_name_is_no_command(self) -> None:
+        done = self.tool("run_in_place.py")
+        self.assertEqual((done.returncode, done.stdout), (2, b""))
+        self.assertIn(b"lefence-hub, ", done.stderr)
+
+
+class Package(FrontCase):
+    @classmethod
+    def setUpClass(cls) -> None:
+        if lacks := [name for name in ("pip", "setuptools", "wheel") if find_spec(name) is None]:
+            reason = f"that the package can be installed, since {sys.executable} has no {' and no '.join(lacks)}"
+            print(f"NOT CHECKED: {reason}", file=sys.stderr)
+            raise unittest.SkipTest(reason)
+
+    def installed(self, *words: str) -> Path:
+        """The commands of an environment in which a copy of the package was installed without a network."""
+        copy, made = self.folder / "copy", self.folder / "made"
+        shutil.copytree(FRONT / "lefence", copy / "lefence", ignore=shutil.ignore_patterns("__pycache__"))
+        shutil.copy(FRONT / "pyproject.toml", copy)
+        venv.create(made, system_site_packages=True, symlinks=True)
+        pip = [str(made / "bin/python"), "-m", "pip", "install", "--no-index", "--no-build-isolation", *words, str(copy)]
+        done = subprocess.run(pip, capture_output=True, text=True, cwd=self.folder)
+        self.assertEqual(done.returncode, 0, done.stderr)
+        return made / "bin"
+
+    def run_each(self, commands: Path) -> None:
+        self.assertEqual(sorted(path.name for path in commands.glob("lefence-*")), sorted(TOOLS))
+        for name in TOOLS:
+            told = subprocess.check_output([commands / name, "--version"], text=True, cwd=self.folder)
+            self.assertEqual(told, f"{name} {lefence.__version__}\n")
+        code = "import importlib.metadata; print(importlib.metadata.version('lefence'))"
+        told = subprocess.check_output([commands / "python", "-c", code], text=True, cwd=self.folder)
+        self.assertEqual(told, f"{lefence.__version__}\n")
+        words: list[str | Path] = [commands / "lefence-report", self.design, self.lef, "--program", PROGRAM, "-o", self.folder / "x.html"]
+        self.assertEqual(subprocess.run(words, stderr=subprocess.DEVNULL).returncode, 0)
+
+    def test_an_installation_has_every_tool_and_what_it_reads(self) -> None:
+        commands = self.installed()
+        self.run_each(commands)
+        [package] = commands.parent.glob("lib/python*/site-packages/lefence")
+        names = {path.name for path in (FRONT / "lefence").iterdir()} - {"__pycache__"}
+        self.assertEqual({path.name for path in package.iterdir()} - {"__pycache__"}, names)
+
+    def test_an_editable_installation_runs_what_stands_in_the_folder(self) -> None:
+        commands = self.installed("--editable")
+        self.run_each(commands)
+        module = self.folder / "copy/lefence/__init__.py"
+        module.write_text(module.read_text().replace(f'"{lefence.__version__}"', '"7.7"'))
+        self.assertEqual(subprocess.check_output([commands / "lefence-hub", "--version"]), b"lefence-hub 7.7\n")
 
 
 if __name__ == "__main__":
