@@ -100,11 +100,6 @@ class Tools(FrontCase):
             for words in ([str(near)], [str(far)], [sys.executable, str(far)]):
                 self.assertEqual(subprocess.check_output([*words, "--version"], text=True), f"{name} {lefence.__version__}\n")
 
-    def test_the_stub_by_its_own_name_is_no_command(self) -> None:
-        done = self.tool("run_in_place.py")
-        self.assertEqual((done.returncode, done.stdout), (2, b""))
-        self.assertIn(b"lefence-hub, ", done.stderr)
-
 
 class Package(FrontCase):
     @classmethod
