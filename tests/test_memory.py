@@ -452,7 +452,7 @@ class RowsRefused(WithRefusals):
         replies, _ = self.replies_in(found[2:], ())
         short = tuple(at for at, reply in enumerate(replies) if reply == [SHORT])
         for at in short:
-            self.assertIn(self.worked.script[at][0].split()[0], ("place", "tidy", "commit", "unplace", "revert", "def"))
+            self.assertNotIn(self.worked.script[at][0].split()[0], ("open", "sync", "where", "undo"))
         wanted = self.wanted(short)
         self.assertEqual(found, wanted[: len(found)] if is_ended else wanted)
 
