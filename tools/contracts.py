@@ -1,0 +1,263 @@
+#!/usr/bin/env python3
+"""Prints what each crate promises, from the sources: its first lines, then of each public item the declaration, its conditions
+(`requires`), and the comment above it. What an item ensures is at the item; `tools/definitions.py` prints the definitions.
+
+usage: tools/contracts.py            (from the top) prints all crates, as Markdown, in the order of crates.txt
+       tools/contracts.py NAME..     prints these crates
+       tools/contracts.py --check    prints what lacks a comment, and where the table of crates in docs/ARCHITECTURE.md differs from
+                                     the first sentences of the crates; at last 'N items of M crates'; status 1 where anything is printed before
+       tools/contracts.py --write    writes that table
+"""
+
+from __future__ import annotations
+
+import difflib
+import re
+import sys
+from pathlib import Path
+from typing import NamedTuple
+
+from libraries import lines_of
+
+HEAD = """# Contracts
+
+What each crate promises. Of a function here are its conditions alone (`requires`, which the caller must show), and of a law the
+theorem. What a function ensures is said in words: *if and only if* holds both ways, as far as no allocation fails. A call whose
+error has `AllocError` or out of memory among its cases may fail for want of memory; what it then leaves unchanged is said where
+a clause says so. Every function is proved safe (no index out of range, no sum that wraps, no lossy cast) and proved to return.
+
+A *model* is what contracts see of a value in place of its fields; `ghost` fields are facts that a type keeps. A *law* is a
+public function with an empty body whose contract is a theorem.
+"""
+PAGE = Path("docs/ARCHITECTURE.md")
+TABLE = ["| crate | what it is for |", "|---|---|"]
+ITEM = re.compile(r"pub (?:const )?(fn|struct|enum|trait|type|const|static) (\w+)")
+USE = re.compile(r"^pub use ([\w:]+?)(?:::\{([^}]*)\}| as (\w+))?;", re.M)
+CLAUSE = re.compile(r"\s*(requires|ensures)\b")
+VALUE = re.compile(r"ghost Value = \{ (.*) \};")
+ENDS = ("{", "{}")
+
+
+class Item(NamedTuple):
+    """A public item: its name, that of a method behind its type's, where it stands, the lines of its declaration and of its comment."""
+
+    name: str
+    place: str
+    text: list[str]
+    said: list[str]
+
+
+class Source(NamedTuple):
+    """The root of a crate: its first lines, the names that it makes public (each with the library that has it), and its files."""
+
+    head: list[str]
+    exported: dict[str, str]
+    files: list[Path]
+
+
+def source_of(crate: str) -> Source:
+    """What the root of the crate says."""
+    folder = Path("crates", crate, "src")
+    root = next(path for name in ("lib.rt", "main.rt") if (path := folder / name).exists())
+    text = root.read_text(encoding="utf-8")
+    head = [line.removeprefix("//!").removeprefix(" ") for line in text.splitlines() if line.startswith("//!")]
+    modules = [path for name in re.findall(r"^mod (\w+);", text, flags=re.M) if (path := folder / f"{name}.rt").exists()]
+    exported = {name: "" for _, name in ITEM.findall("\n".join(line for line in text.splitlines() if line.startswith("pub ")))}
+    for named, several, renamed in USE.findall(text):
+        names = re.findall(r"\w+", several) if several else [renamed or named.rpartition("::")[2]]
+        module = named.split("::")[0]
+        exported |= {name: "" if folder / f"{module}.rt" in modules else module for name in names}
+    return Source(head, exported, [root, *modules])
+
+
+def comment(lines: list[str], at: int) -> list[str]:
+    """The comment above a line, attributes between them left out."""
+    said: list[str] = []
+    while at > 0 and lines[at - 1].lstrip().startswith(("///", "#[")):
+        at -= 1
+        line = lines[at].strip()
+        if line.startswith("///"):
+            said.insert(0, line.removeprefix("///").removeprefix(" "))
+    return said
+
+
+def is_whole(text: list[str]) -> bool:
+    """Whether the lines of a declaration close what they open."""
+    joined = " ".join(text)
+    return joined.count("(") == joined.count(")") and joined.count("[") == joined.count("]")
+
+
+def function(lines: list[str], at: int) -> list[str]:
+    """A function without its body, with its conditions alone; of a law with all clauses."""
+    text = [lines[at].rstrip()]
+    while not is_whole(text) or not text[-1].endswith(("{", "{}", ";")):
+        if is_whole(text) and at + 1 < len(lines) and (CLAUSE.match(lines[at + 1]) or lines[at + 1].strip() in ENDS):
+            break
+        at += 1
+        text.append(lines[at].rstrip())
+    text[-1] = text[-1].removesuffix("{}").removesuffix("{").removesuffix(";").rstrip()
+    clauses: list[list[str]] = []
+    for line in lines[at + 1 :]:
+        if CLAUSE.match(line):
+            clauses.append([line])
+        elif clauses and line.strip() not in ENDS and line.startswith(" " * (indent(lines[at]) + 4)) and not clauses[-1][-1].endswith(";"):
+            clauses[-1].append(line)
+        else:
+            break
+    is_law = line.strip() == "{}" if clauses else False
+    kept = [line.removesuffix(";") for clause in clauses if is_law or clause[0].lstrip().startswith("requires") for line in clause]
+    return [*text, *kept]
+
+
+def indent(line: str) -> int:
+    """How far the line stands in."""
+    return len(line) - len(line.lstrip())
+
+
+def block(lines: list[str], at: int) -> list[str]:
+    """The lines of a block, from the one that opens it to the one that closes it; those of what opens none end with it."""
+    stop = at
+    while not lines[stop].rstrip().endswith((";", "{}")) and lines[stop] != "}" and stop + 1 < len(lines):
+        stop += 1
+        if lines[at].rstrip().endswith("{"):
+            stop = next(end for end in range(stop, len(lines)) if lines[end] == "}")
+    return lines[at : stop + 1]
+
+
+def type_of(lines: list[str], at: int, kind: str) -> list[str]:
+    """A type with what of it is public; a trait with its methods, each with its conditions alone."""
+    if kind in ("const", "static"):
+        return [f"{lines[at].partition(' =')[0]};"]
+    whole = block(lines, at)
+    if len(whole) < 3:
+        return whole
+    found: list[str] = []
+    for here, line in enumerate(whole[1:-1], start=1):
+        is_shown = indent(line) == 4 and not line.lstrip().startswith(("///", "#[", "}", ")", "ghost use"))
+        is_shown = is_shown and (kind != "struct" or line.startswith("    pub ")) and not (line.startswith("    //"))
+        if is_shown:
+            declared = function(whole, here) if line.startswith("    fn ") else through(whole[here:])
+            found += [f"    /// {said}".rstrip() for said in comment(whole, here)] + declared
+    return [whole[0], *found, "}"] if found else [f"{whole[0].rstrip().removesuffix('{').rstrip()};"]
+
+
+def through(lines: list[str]) -> list[str]:
+    """The first line, with those behind it that stand farther in, and what closes them."""
+    stop = 1
+    while stop < len(lines) and indent(lines[stop]) > indent(lines[0]):
+        stop += 1
+    closes = stop < len(lines) and stop > 1 and lines[stop].strip().startswith(("}", ")"))
+    return lines[: stop + closes]
+
+
+def items_of(crate: str, source: Source) -> list[Item]:
+    """The public items of a crate, file by file: those that its root makes public, and the public methods of these types."""
+    found: list[Item] = []
+    facts: dict[str, list[str]] = {}
+    for path in source.files:
+        lines = path.read_text(encoding="utf-8").split("\n")
+        owner = ""
+        for at, line in enumerate(lines):
+            if line.startswith("impl"):
+                owner = owner_of(lines, at, facts)
+            elif line == "}":
+                owner = ""
+            item = ITEM.match(line.removeprefix("    ") if owner else line)
+            if not item or source.exported.get(owner or item[2]) != "":
+                continue
+            text = function(lines, at) if item[1] == "fn" else type_of(lines, at, item[1])
+            text = [line.removeprefix("    ") for line in text] if owner else text
+            found.append(Item(f"{owner}::{item[2]}" if owner else item[2], f"{path}:{at + 1}", text, comment(lines, at)))
+    return [item._replace(said=[*item.said, *facts.get(item.name, [])]) for item in found]
+
+
+def owner_of(lines: list[str], at: int, facts: dict[str, list[str]]) -> str:
+    """The type of an impl block of its own methods; of one that implements a trait, a line for the type is put among the facts."""
+    head, bare = lines[at], ""
+    while head != bare:
+        head, bare = re.sub(r"<[^<>]*>", "", head), head
+    words = head.split("{")[0].split()
+    if words[2:3] != ["for"]:
+        return words[1]
+    values = [value[1] for line in block(lines, at) if (value := VALUE.search(line))]
+    told = [f"Model: `{value}`." for value in values] if words[1] == "Model" else [f"It implements `{words[1]}`."]
+    facts.setdefault(words[3], []).extend(line for fact in told for line in ("", fact))
+    return ""
+
+
+def print_crate(crate: str) -> None:
+    """Prints the crate's first lines, what it names again, and its items."""
+    source = source_of(crate)
+    print(f"\n## {crate}\n\n" + "\n".join(source.head))
+    for library in dict.fromkeys(filter(None, source.exported.values())):
+        print(f"\nIt names again, of {library}: {', '.join(f'`{name}`' for name, of in source.exported.items() if of == library)}.")
+    for item in items_of(crate, source):
+        print("\n".join([f"\n### {crate}: {item.name}\n", "```rust", *item.text, "```", *([""] if item.said else []), *item.said]))
+
+
+def first_sentence(head: list[str]) -> str:
+    """The first sentence of a crate's first lines, without its full stop."""
+    paragraph = " ".join(line.strip() for line in "\n".join(head).split("\n\n")[0].splitlines())
+    return re.split(r"\.(?:\s|$)", paragraph)[0]
+
+
+def table(crates: list[str]) -> list[str]:
+    """The lines of the table of crates."""
+    return [*TABLE, *(f"| `{crate}` | {first_sentence(source_of(crate).head)} |" for crate in crates)]
+
+
+def lacking(crates: list[str]) -> list[str]:
+    """What lacks a comment, or is made public and is not found."""
+    said: list[str] = []
+    for crate in crates:
+        source = source_of(crate)
+        items = items_of(crate, source)
+        if not any(source.head):
+            said.append(f"crates/{crate}/src: no first lines (//!)")
+        said += [f"{item.place}: {item.name} has no comment" for item in items if not any(item.said)]
+        said += [f"{item.place}: {what} has no comment" for item in items for what in methods_without(item)]
+        missing = {name for name, of in source.exported.items() if of == ""} - {item.name for item in items}
+        said += [f"crates/{crate}/src: {name} is made public, and not found" for name in sorted(missing)]
+    return said
+
+
+def methods_without(item: Item) -> list[str]:
+    """The methods of a trait that have no comment."""
+    inner = [(before, line) for before, line in zip(item.text, item.text[1:]) if line.startswith("    fn ")]
+    return [f"{item.name}::{line.split('(')[0].split()[-1]}" for before, line in inner if not before.startswith("    ///")]
+
+
+def compare(crates: list[str], is_written: bool) -> int:
+    """Prints what lacks a comment and where the table differs, or writes the table; the status."""
+    page = PAGE.read_text(encoding="utf-8").split("\n")
+    start = page.index(TABLE[0]) if TABLE[0] in page else len(page)
+    stop = next((at for at in range(start, len(page)) if not page[at].startswith("|")), len(page))
+    made = table(crates)
+    if is_written:
+        PAGE.write_text("\n".join([*page[:start], *made, *page[stop:]]), encoding="utf-8")
+        return 0
+    said = lacking(crates)
+    if page[start:stop] != made:
+        said += difflib.unified_diff(page[start:stop], made, str(PAGE), "the crates' first sentences", n=0, lineterm="")
+        said.append("the table of crates differs: tools/contracts.py --write")
+    count = sum(len(items_of(crate, source_of(crate))) for crate in crates)
+    print("\n".join([*said, f"{count} items of {len(crates)} crates"]))
+    return 1 if said else 0
+
+
+def main(words: list[str]) -> int:
+    crates = [*lines_of(Path("crates.txt").read_text(encoding="utf-8"))]
+    if words in (["--check"], ["--write"]):
+        return compare(crates, words == ["--write"])
+    if not set(words) <= set(crates):
+        print(__doc__, file=sys.stderr)
+        return 2
+    if not words:
+        print(HEAD.rstrip())
+    for crate in words or crates:
+        print_crate(crate)
+    return 0
+
+
+if __name__ == "__main__":
+    sys.exit(main(sys.argv[1:]))
