@@ -26,15 +26,17 @@ theorem. What a function ensures is said in words: *if and only if* holds both w
 error has `AllocError` or out of memory among its cases may fail for want of memory; what it then leaves unchanged is said where
 a clause says so. Every function is proved safe (no index out of range, no sum that wraps, no lossy cast) and proved to return.
 
-A *model* is what contracts see of a value in place of its fields; `ghost` fields are facts that a type keeps. A *law* is a
-public function with an empty body whose contract is a theorem.
+A *model* is what contracts see of a value in place of its fields. What a type *keeps*, here or by a `ghost` field, holds of each
+of its values, so no caller has to show it. A *law* is a public function with an empty body whose contract is a theorem.
 """
 PAGE = Path("docs/ARCHITECTURE.md")
 TABLE = ["| crate | what it is for |", "|---|---|"]
 ITEM = re.compile(r"pub (?:const )?(fn|struct|enum|trait|type|const|static) (\w+)")
 USE = re.compile(r"^pub use ([\w:]+?)(?:::\{([^}]*)\}| as (\w+))?;", re.M)
 CLAUSE = re.compile(r"\s*(requires|ensures)\b")
-VALUE = re.compile(r"ghost Value = \{ (.*) \};")
+# What contracts see of a type, and the fact that it keeps.
+SEEN = re.compile(r"ghost (Value|invariant) = \{ (.*?) \};", re.S)
+SAYS = {"Value": "Model", "invariant": "It keeps"}
 ENDS = ("{", "{}")
 
 
@@ -179,9 +181,8 @@ def owner_of(lines: list[str], at: int, facts: dict[str, list[str]]) -> str:
     words = head.split("{")[0].split()
     if words[2:3] != ["for"]:
         return words[1]
-    values = [value[1] for line in block(lines, at) if (value := VALUE.search(line))]
-    told = [f"Model: `{value}`." for value in values] if words[1] == "Model" else [f"It implements `{words[1]}`."]
-    facts.setdefault(words[3], []).extend(line for fact in told for line in ("", fact))
+    seen = [f"{SAYS[what]}: `{' '.join(said.split())}`." for what, said in SEEN.findall("\n".join(block(lines, at)))]
+    facts.setdefault(words[3], []).extend(line for fact in seen or [f"It implements `{words[1]}`."] for line in ("", fact))
     return ""
 
 
