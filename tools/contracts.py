@@ -13,6 +13,7 @@ from __future__ import annotations
 
 import difflib
 import re
+import signal
 import sys
 from pathlib import Path
 from typing import NamedTuple
@@ -253,6 +254,7 @@ def main(words: list[str]) -> int:
     if not set(words) <= set(crates):
         print(__doc__, file=sys.stderr)
         return 2
+    signal.signal(signal.SIGPIPE, signal.SIG_DFL)
     if not words:
         print(HEAD.rstrip())
     for crate in words or crates:
