@@ -22,8 +22,8 @@ from libraries import below, lines_of
 TOP = Path(__file__).resolve().parent.parent
 OUT = TOP / "crates/lefence/out"
 PARTS = ("src", "specs", "proofs")
-# A row of the table of docs/GATE.md: a crate and the processor minutes of its proof.
-ROW = re.compile(r"^\| *([a-z_]+) *\| *([0-9.]+) *\|", re.M)
+# What docs/GATE.md says of a crate: its name and the processor minutes of its proof.
+ROW = re.compile(r"\b(l(?:f_|efence)\w*) +(\d+\.\d+)\b")
 # What rattle prints at the end of a crate's check.
 ENDED = re.compile(r"^crate ([a-z_]+):")
 
