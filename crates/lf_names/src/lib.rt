@@ -2,6 +2,7 @@
 //! patterns of DEF GROUPS.
 #![tactic(auto)]
 
+mod entries;
 mod lent;
 mod name_parts;
 mod pattern;
