@@ -50,7 +50,7 @@ impl CellTable {
         Ok((frame, CellTable { parts }))
     }
 
-    /// The team's cell of that name; none if only another team, or none, has such a cell.
+    /// The team's cell of that name; none iff it has none: another team's cell is answered like a name that no cell has.
     pub fn find_own(&self, team: usize, name: &[u8]) -> Option<CellId>
         ensures own { option_map (λ id. id.own) result ≡ cell_named name.now (cells_of self.now team) }
         ensures team { IfSome result (λ id. id.team ≡ team) }
@@ -64,7 +64,7 @@ impl CellTable {
         None
     }
 
-    /// The ids of the team's cells, in loading order; none if there is no such team.
+    /// The ids of the team's cells, in loading order; empty if there is no such team.
     pub fn cells_of(&self, team: usize) -> &[CellId]
         ensures { result.now ≡ ids_of team (cells_of self.now team) }
     {
@@ -78,7 +78,7 @@ impl CellTable {
         self.parts.owners.as_slice()
     }
 
-    /// What no command changes of a cell; none if there is no such cell.
+    /// The name, the macro and the entry of a cell, which no command changes; none iff there is no such cell.
     pub fn cell(&self, id: CellId) -> Option<CellFacts<'_>>
         ensures name { option_map (λ facts. facts.name.now) result ≡ option_map (λ c. c.name) (cell_at self.now id) }
         ensures mac { option_map (λ facts. facts.mac) result ≡ option_map (λ c. c.mac) (cell_at self.now id) }
@@ -92,7 +92,7 @@ impl CellTable {
         })
     }
 
-    /// The macro and working place of a cell; none if there is no such cell.
+    /// The macro and working place of a cell; none iff there is no such cell.
     pub fn standing(&self, id: CellId) -> Option<Standing>
         ensures { result ≡ option_map standing_of (slice_get (cells_of self.now id.team) id.own) }
     {

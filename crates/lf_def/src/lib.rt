@@ -1,5 +1,17 @@
-//! Reads the parts of DEF texts that placement needs: header, rows, regions, groups, components with the offsets of
-//! their placement clauses, and placement blockages.
+//! Reads the parts of DEF 5.8 texts that placement needs, by the grammar in `specs/`.
+//!
+//! These are the header, rows, regions, groups, components and placement blockages; components come with the offsets of
+//! their placement clauses and of their `;`, so that a text can be written again with other places. Other sections and
+//! statements of DEF are skipped. Lengths and coordinates are in database units.
+//!
+//! A `DefDoc` keeps that it is what its text says. A contract sees of a `Component` its two names, its placement clause with
+//! the offsets, and the offset of its `;`.
+//!
+//! ```
+//! let doc = read_def(Global, W_DEF)?;
+//! let first = &doc.components.as_slice()[0];
+//! first.placement(); // None: `- a1 INV + SOURCE DIST ;` has no placement clause
+//! ```
 #![tactic(auto)]
 
 mod blockages;

@@ -45,7 +45,7 @@ pub struct CellParts {
 }
 
 /// The movable cells of a design, in loading order: each name stands once, in a table that `into_parts` hands on. Contracts see
-/// the list of cells.
+/// the list of cells with their names.
 #[derive(Drop)]
 pub struct LoadedCells {
     parts: CellParts,
@@ -114,7 +114,7 @@ impl LoadedCells {
         }
     }
 
-    /// Appends a cell whose name no other cell has.
+    /// Appends a cell whose name no other cell has, behind the others.
     ///
     /// `Err` if an allocation fails; the list is then unchanged.
     pub fn push(&mut self, name: &[u8], cell: PlainCell) -> Result<(), AllocError>
@@ -133,7 +133,7 @@ impl LoadedCells {
         self.parts.cells.len()
     }
 
-    /// The cell of this position; none if there is none.
+    /// The cell of this position, its name borrowed from the list; none iff there is none.
     pub fn get(&self, at: usize) -> Option<LentCell<'_>>
         ensures { option_map lent result ≡ slice_get self.now at }
     {
@@ -148,7 +148,7 @@ impl LoadedCells {
         })
     }
 
-    /// The names, and the cells without them.
+    /// The table of names, and beside it the cells without them, as many and in the same order; together they are the list.
     pub fn into_parts(self) -> CellParts
         ensures cells { with_names result.names result.cells.items ≡ self }
         ensures count { length result.names ≡ length result.cells.items }

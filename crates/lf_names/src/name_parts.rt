@@ -219,7 +219,7 @@ fn match_parts(
 }
 
 impl NameParts {
-    /// The empty list.
+    /// The empty list. `Err` if an allocation fails.
     pub fn new(alloc: Global) -> Result<Self, AllocError>
         ensures { IfOk result (λ parts. parts ≡ []) }
     {
@@ -228,7 +228,8 @@ impl NameParts {
         })
     }
 
-    /// Adds the name with its label to its part. `Err` if an allocation fails.
+    /// Adds the name with its label to its part. The same name may be added again. `Err` if an allocation fails; the list is
+    /// then unchanged.
     pub fn push(&mut self, label: usize, name: &[u8]) -> Result<(), AllocError>
         ensures ok { OnOk result (IsPermutation (self.old ++ record { label = label; name = name.now } ∷ []) self.new) }
         ensures err { OnErr result (self.new ≡ self.old) }
@@ -238,7 +239,7 @@ impl NameParts {
     }
 
     /// The two labels of each asked name that is in the list, once for each time that it is asked for, in any order.
-    /// None iff a name of the list is there twice.
+    /// None iff a name of the list is there twice. `Err` if an allocation fails.
     pub fn matches(
         &self,
         alloc: Global,

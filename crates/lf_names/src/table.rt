@@ -11,7 +11,7 @@ use std::alloc::{AllocError, Allocator, Global};
 use std::hash::{BuildHasherDefault, FoldHasher};
 use std::marker::Model;
 
-/// The position of a name that was added.
+/// What adding a name to a table finds: where the name is, and whether it is new.
 #[derive(Clone, Copy, Debug, PartialEq, Eq)]
 pub enum Added {
     /// The name was new, and is the last one.
@@ -51,7 +51,7 @@ impl<A: Allocator + Copy> NameTable<A> {
         }
     }
 
-    /// Appends the name unless it is there. `Err` if an allocation fails, which only a new name
+    /// Appends the name unless it is there, and returns where it is. `Err` if an allocation fails, which only a new name
     /// needs; the table is then unchanged.
     pub fn add(&mut self, name: &[u8]) -> Result<Added, AllocError>
         ensures ok { IfOk result (λ added. Adds self.old name.now added self.new) }
