@@ -6,7 +6,7 @@ ghost use Rattle.lf_floorplan.specs.LoadedCells.{lent, with_name, with_names};
 
 use crate::packed::PackedPlace;
 use crate::place::Place;
-use lf_names::{Added, NameTable};
+use lf_names::NameTable;
 use std::alloc::{AllocError, Global};
 use std::marker::Model;
 
@@ -65,18 +65,6 @@ impl Model for LoadedCells {
     ghost invariant = { λ l. length l.parts.names ≡ length l.parts.cells.items };
 }
 
-/// Adds a name that is not there yet.
-fn add_new(names: &mut NameTable, name: &[u8]) -> Result<(), AllocError>
-    requires { All (λ n. n ≢ name.now) names.old }
-    ensures ok { OnOk result (names.new ≡ names.old ++ name.now ∷ []) }
-    ensures err { OnErr result (names.new ≡ names.old) }
-{
-    match names.add(name)? {
-        Added::New(_) => Ok(()),
-        Added::Present(_) => unreachable!(),
-    }
-}
-
 /// Appends a cell, for which there is room if its name could be added.
 fn push_cell(parts: &mut CellParts, name: &[u8], cell: PlainCell) -> Result<(), AllocError>
     requires { All (λ n. n ≢ name.now) parts.old.names }
@@ -86,7 +74,7 @@ fn push_cell(parts: &mut CellParts, name: &[u8], cell: PlainCell) -> Result<(), 
     ensures cells_stay { OnErr result (parts.new.cells.items ≡ parts.old.cells.items) }
 {
     parts.cells.reserve(1)?;
-    add_new(&mut parts.names, name)?;
+    parts.names.add_new(name)?;
     parts.cells.push(cell).unwrap();
     Ok(())
 }
