@@ -14,7 +14,7 @@ use lf_floorplan::Macro;
 use lf_lef::Library;
 use lf_units::{Point, micros_to_dbu};
 
-/// The macro of that name; none if there is none.
+/// The macro of that name; none iff there is none.
 pub fn macro_named<'l>(library: &'l Library, name: &[u8]) -> Option<&'l Macro>
     ensures macro_is { option_copied result ≡ named_macro library.now name.now }
     ensures range { IfSome result (λ m. HasRange m.now.size) }
