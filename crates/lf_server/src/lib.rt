@@ -2,7 +2,7 @@
 //!
 //! `serve` serves one connection, over any source and sink; `serve_tcp` accepts connections over TCP and serves each to its end
 //! before the next. Each line is one step of the floor, or answered `BadRequest` with the floor unchanged. A DEF text is written in
-//! pieces of 65,536 bytes, and is never in memory as a whole. The devices of `lf_devices` are named here again.
+//! pieces, and is never in memory as a whole. The devices of `lf_devices` are named here again.
 //!
 //! Contracts see of a connection its lines, the reply to each with its text, and the floor after it (`Serves`), where the bytes of
 //! the input and of the output are known; how it ended says which lines were acted on (`Ending`). However it ended, the frame and
