@@ -2,8 +2,7 @@
 //!
 //! The first word is the program's name. `lefence` alone and `lefence demo` are the demo; `replay`, `serve`, `check` and
 //! `describe` take the path of a DEF text, then those of one LEF text or more, and their options. Paths are taken as they are
-//! written, and no file is looked at. What words name is said by a definition (`job_of`) apart from `clap`, and so is what they
-//! ask for help (`help_asked`).
+//! written, and no file is looked at. Which task words name is said by a definition (`job_of`) that knows nothing of `clap`.
 //!
 //! ```
 //! let words = ["lefence", "replay", "design.def", "cells.lef", "--lines", "10"];

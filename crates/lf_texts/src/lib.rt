@@ -1,6 +1,6 @@
 //! The DEF text of a team, and where a text goes piece by piece.
 //!
-//! The text is as LEF/DEF 5.8 has it: header, REGIONS, COMPONENTS and GROUPS of one team, which may be read as a design of its own.
+//! The text is as LEF/DEF 5.8 has it, with a header and the REGIONS, COMPONENTS and GROUPS of one team; it has no rows.
 //! `put_team_def` puts it to an `Output`, `team_def_length` counts its bytes, and `team_def` makes it whole.
 //!
 //! Of an `Output` contracts know what its implementation promises by its relation `took`: which text was put between one state of
