@@ -1,7 +1,7 @@
 //! The table of all teams' cells.
 
 ghost use Rattle.std.specs.Prelude.{◌≡◌, ◌+◌, ◌<◌, [], IfOk, IfSome, length, map, option_map, slice_get, slice_set};
-ghost use Rattle.lf_cells.specs.Cells.{AreAll, cells_of, cell_named, cell_at, component_at, ids_of};
+ghost use Rattle.lf_cells.specs.Cells.{AreAll, cells_of, cell_named, cell_at, component_at, id_in, ids_of};
 ghost use Rattle.lf_cells.specs.Cells.{standing_of, working_at, committed_at, moved, as_committed};
 ghost use Rattle.lf_cells.specs.Openings.{opening_cells, opening_components};
 
@@ -69,6 +69,16 @@ impl CellTable {
         ensures { result.now ≡ ids_of team (cells_of self.now team) }
     {
         self.parts.ids_of(team)
+    }
+
+    /// The id of the team's cell at this position; none iff the team has no such cell.
+    pub fn cell_of(&self, team: usize, own: usize) -> Option<CellId>
+        ensures { result ≡ id_in (cells_of self.now team) team own }
+    {
+        match self.cells_of(team).get(own) {
+            Some(id) => Some(*id),
+            None => None,
+        }
     }
 
     /// The ids of the cells of all teams, in loading order: the positions of their entries among all COMPONENTS rise.
