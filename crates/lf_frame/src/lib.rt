@@ -3,7 +3,7 @@
 //! A design is accepted iff no refusal of `lf_refusals` finds anything. The frame is then that of the texts, and the cells are
 //! the movable components in the order of the DEF text, each in the team whose groups claim it, or in the ground team.
 //!
-//! The public items of `lf_floorplan`, but for some measures and laws, can be named from here too.
+//! Most public items of `lf_floorplan` can be named from here too.
 //!
 //! ```
 //! let mut library = Library::new(Global);

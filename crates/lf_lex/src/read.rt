@@ -63,7 +63,7 @@ pub fn next<'a>(lexer: &mut Lexer<'a>) -> Result<Option<Token<'a>>, ReadError>
     }
 }
 
-/// Whether the token's bytes are these. For a word without quotation marks a quoted text never is.
+/// Whether the token's bytes are these. A quoted text has its quotation marks among them, so it never is a word without any.
 pub fn is(word: &[u8], token: &Token) -> bool
     ensures { result ≡ reading.is word.now (lexeme token.now) }
 {

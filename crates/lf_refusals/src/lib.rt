@@ -1,8 +1,8 @@
 //! The refusals of loading: why a design cannot be loaded, and the first of these reasons.
 //!
-//! A refusal is one of the faults 7 to 23 of `lf_lex`: NoUnits to TooMany. Each *finds* the name of the first entry of the DEF
+//! A refusal is one of the faults 7 to 23 of `lf_lex`: NoUnits to TooMany. Each *finds* a name, by the first entry of the DEF
 //! text that is at fault, or nothing; a design is accepted iff none finds anything. The *core site* is that of the first row
-//! whose site has CLASS CORE and a SIZE with both lengths above 0; rows of other sites are ignored.
+//! whose site has CLASS CORE and a SIZE with both lengths above 0; rows of other sites play no part but in NoSite.
 //!
 //! ```
 //! let claims = claim_table(Global, components, groups, regions)?; // those of the document
