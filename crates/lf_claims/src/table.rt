@@ -12,10 +12,9 @@ ghost use Rattle.lf_claims.specs.Claims.{Numbers, NumbersOneMore};
 
 use crate::claims::{Claim, claim_of};
 use crate::component_names::first_second_name;
-use crate::kinds::{is_fence, is_movable};
 use crate::name_map::NameMap;
 use crate::pattern_index::index_of;
-use lf_def::{Component, Group, Region};
+use lf_def::{Component, Group, Region, is_fence, is_movable};
 use lf_units::Name;
 use std::alloc::{AllocError, Global};
 use std::marker::Model;

@@ -21,6 +21,7 @@ mod document;
 mod entries;
 mod groups;
 mod header;
+mod kinds;
 mod laws;
 mod offsets;
 mod parts;
@@ -36,6 +37,7 @@ pub use components::{Component, Location, Placement, PlacementKind};
 pub use document::DefDoc;
 pub use groups::Group;
 pub use header::Header;
+pub use kinds::{is_cover, is_fence, is_fixed, is_movable};
 pub use laws::{
     clauses_stand_in_components, components_rise, decimal_numbers_are_read,
     nothing_behind_end_design_counts, printed_entries_read_back, printed_lists_read_back_in_texts,

@@ -8,8 +8,7 @@ ghost use Rattle.lf_claims.specs.Entries.{FirstIs, first_of};
 ghost use Rattle.lf_refusals.specs.Loading.{macro_named as named_macro, has_size as is_size, IsWholeSize};
 ghost use Rattle.lf_refusals.specs.Refusals.{HasNoMacro, HasNoSize, HasPartUnits, AreMacroFaults, IsComponentTooMany};
 
-use lf_claims::is_cover;
-use lf_def::Component;
+use lf_def::{Component, is_cover};
 use lf_floorplan::Macro;
 use lf_lef::Library;
 use lf_units::{Point, micros_to_dbu};

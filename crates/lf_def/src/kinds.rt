@@ -1,9 +1,10 @@
 //! The fences, and the components that teams may move.
 
 ghost use Rattle.std.specs.Prelude.{◌≡◌};
-ghost use Rattle.lf_claims.specs.Teams.{is_fence as is_fence_region, is_cover as is_cover_component, is_fixed as is_fixed_component, is_movable as is_movable_component};
+ghost use Rattle.lf_def.specs.Kinds.{is_fence as is_fence_region, is_cover as is_cover_component, is_fixed as is_fixed_component, is_movable as is_movable_component};
 
-use lf_def::{Component, PlacementKind, Region, RegionKind};
+use crate::components::{Component, PlacementKind};
+use crate::regions::{Region, RegionKind};
 
 /// Whether the component is FIXED (LEF/DEF 5.8, DEF COMPONENTS).
 pub fn is_fixed(component: &Component) -> bool
