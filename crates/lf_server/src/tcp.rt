@@ -67,9 +67,9 @@ fn serve_next<T: Net + AllocGlobal, K: Seeker + Drop>(
 /// for the next. How a connection ends plays no part; the first one that cannot be accepted, or not be both read from and
 /// written to, ends the service, and otherwise all are served.
 ///
-/// Each is served as `serve` does it, within the limits; no contract of this function says that the input is what the
-/// client has sent. A client that leaves its replies unread for 60 seconds ends its connection. The frame and the positions
-/// of components are unchanged, and a fully legal committed design stays so.
+/// Each is served as `serve` does it, within the limits, over some input: that this is the accepted stream's own is
+/// said by a private clause, not by this one. A client that leaves its replies unread for 60 seconds ends its
+/// connection. The frame and the positions of components are unchanged, and a fully legal committed design stays so.
 pub fn serve_tcp<T: Net + AllocGlobal, K: Seeker + Drop>(
     rt: &T,
     floor: &mut Floor<K>,
