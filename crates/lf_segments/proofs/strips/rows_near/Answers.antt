@@ -1,4 +1,4 @@
-use Rattle.std.proofs.Common.{◌≡◌, ℤ, arith, subst, to_z, of_z, w64}
+use Rattle.std.proofs.Common.{◌≡◌, ℤ, ◌≤ℤ◌, arith, subst, sym, to_z, of_z, w64}
 use Rattle.std.proofs.lemmas.Int.{ints}
 use Rattle.lf_segments.specs.RowsByY.{IsRunBetween}
 use Rattle.lf_segments.proofs.strips.rows_near.Goals as goal
@@ -6,9 +6,11 @@ use Rattle.lf_segments.proofs.strips.rows_near.Goals as goal
 pub returns : goal.returns
 returns c =
     let y2 = c.args.rect.now.y2 in
-    let same : to_z w64 (of_z w64 y2) ≡ y2 = omega (arith, ints) in
+    let from : ℤ = to_z w64 (of_z w64 c.lowest_near.result) in
+    let lowest : from ≡ c.lowest_near.result = omega (arith, ints) in
+    let highest : to_z w64 (of_z w64 y2) ≡ y2 = omega (arith, ints) in
     record {
-      from = c.lowest_near.result;
-      part = subst (λ (to : ℤ). IsRunBetween c.args.rows.now c.lowest_near.result to c.between.result.now) same c.between.ensures;
-      reach = c.lowest_near.ensures;
+      from = from;
+      part = subst (λ (to : ℤ). IsRunBetween c.args.rows.now from to c.between.result.now) highest c.between.ensures;
+      reach = λ y low under. subst (λ (v : ℤ). v ≤ℤ y) (sym lowest) (c.lowest_near.ensures y low under);
     }
