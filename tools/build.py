@@ -3,16 +3,18 @@
 
 usage: tools/build.py
 
-An interrupted build goes on where it was when it is started again. The estimate of what is left is what the crates took here last,
-or else what docs/GATE.md says of them. The log is crates/lefence/out/build.log; the status is that of the build.
+It runs the gate's own command, `rt ci`, on a copy of the program's crates without their must-fail edits: crates that do not stand on each
+other are proved side by side, and what is proved is kept on the machine, by checksums, for the next build and for ./test. An interrupted
+build goes on where it was when it is started again. The log is crates/lefence/out/build.log; the status is 0 if the program was built.
 """
 
 from __future__ import annotations
 
-import json
 import re
+import shutil
 import subprocess
 import sys
+import tempfile
 import time
 from collections.abc import Iterator
 from pathlib import Path
@@ -20,46 +22,30 @@ from pathlib import Path
 from libraries import below, lines_of
 
 TOP = Path(__file__).resolve().parent.parent
-OUT = TOP / "crates/lefence/out"
-PARTS = ("src", "specs", "proofs")
+PROGRAM = Path("crates/lefence/out/lefence")
+LOG = TOP / "crates/lefence/out/build.log"
+# What is left out of the copy.
+UNREAD = shutil.ignore_patterns("out", "must-fail", "mutants")
 # What docs/GATE.md says of a crate: its name and the processor minutes of its proof.
 ROW = re.compile(r"\b(l(?:f_|efence)\w*) +(\d+\.\d+)\b")
-# What rattle prints at the end of a crate's check.
-ENDED = re.compile(r"^crate ([a-z_]+):")
+# What rt says at the end of a crate's proof, in this run or an earlier one.
+ENDED = re.compile(r"^rt: ([a-z_]+) (proved$|is kept)")
 
 
-def newest(crate: str) -> float:
-    """When a source of the crate changed last."""
-    files = [it for part in PARTS for it in (TOP / "crates" / crate / part).rglob("*") if it.is_file()]
-    return max((it.stat().st_mtime for it in files), default=0.0)
+def lay_out(copy: Path, crates: list[str], listed: dict[str, list[str]]) -> None:
+    """Makes a repository of these crates alone."""
+    for crate in crates:
+        shutil.copytree(TOP / "crates" / crate, copy / "crates" / crate, ignore=UNREAD)
+    (copy / "crates.txt").write_text("".join(f"{crate}: {' '.join(listed[crate])}\n" for crate in crates), encoding="utf-8")
+    shutil.copy(TOP / "HANDLES", copy)
 
 
-def waiting(listing: str) -> list[str]:
-    """The crates that are to be built: those without a library newer than its sources, and all above them."""
-    found: list[str] = []
-    listed = lines_of(listing)
-    for crate in below(["lefence"], listing):
-        stamp = TOP / "crates" / crate / "out/rlib/stamp"
-        if not stamp.is_file() or stamp.stat().st_mtime < newest(crate) or set(listed[crate]) & set(found):
-            found.append(crate)
-    return found
-
-
-def seconds_before() -> dict[str, float]:
-    """What each crate took in its last build here, or else by docs/GATE.md."""
-    told = {name: 60 * float(minutes) for name, minutes in ROW.findall((TOP / "docs/GATE.md").read_text(encoding="utf-8"))}
-    try:
-        taken: dict[str, float] = json.loads((OUT / "seconds.json").read_text(encoding="utf-8"))
-        return told | taken
-    except (OSError, ValueError):
-        return told
-
-
-def lines_of_build() -> Iterator[str]:
-    """The lines that the build prints, each written to the log too; the last is its status."""
-    with open(OUT / "build.log", "w", encoding="utf-8") as log:
-        words = ["rt", "run"]
-        build = subprocess.Popen(words, cwd=OUT.parent, stdin=subprocess.DEVNULL, stdout=subprocess.PIPE, stderr=subprocess.STDOUT, text=True, errors="replace")
+def lines_of_build(copy: Path) -> Iterator[str]:
+    """The lines that rt prints, each written to the log too; the last is its status."""
+    with open(LOG, "w", encoding="utf-8") as log:
+        build = subprocess.Popen(
+            ["rt", "ci"], cwd=copy, stdin=subprocess.DEVNULL, stdout=subprocess.PIPE, stderr=subprocess.STDOUT, text=True, errors="replace"
+        )
         try:
             for line in build.stdout or ():
                 log.write(line)
@@ -68,31 +54,42 @@ def lines_of_build() -> Iterator[str]:
             yield f"status {build.wait()}"
         finally:
             build.terminate()
+            build.wait()
+
+
+def is_proved(copy: Path, crates: list[str]) -> bool:
+    """Proves the crates in the copy, and says what is left as each ends; whether all are proved and the program ran."""
+    minutes = {name: float(told) for name, told in ROW.findall((TOP / "docs/GATE.md").read_text(encoding="utf-8"))}
+    left, done, since, status = list(crates), 0.0, time.monotonic(), ""
+    for status in lines_of_build(copy):
+        ended = ENDED.match(status)
+        if ended and ended[1] in left:
+            left.remove(ended[1])
+            done += minutes.get(ended[1], 1.0) if ended[2] == "proved" else 0.0
+            # (as long as the others took, by the table)
+            rate = (time.monotonic() - since) / 60 / done if done else 1.0
+            some = rate * sum(minutes.get(it, 1.0) for it in left)
+            print(f"lefence: {ended[1]} is proved; {len(left)} crates are left, some {some:.0f} minutes", file=sys.stderr)
+    return status == "status 0"
 
 
 def main() -> int:
-    OUT.mkdir(parents=True, exist_ok=True)
     listing = (TOP / "crates.txt").read_text(encoding="utf-8")
-    left, before = waiting(listing), seconds_before()
-    taken: dict[str, float] = {}
-    since, status = time.monotonic(), "status 1"
-    print(f"lefence: proving and building {len(left)} crates, the log is {OUT}/build.log", file=sys.stderr)
-    for status in lines_of_build():
-        ended = ENDED.match(status)
-        if ended and ended[1] in left:
-            now = time.monotonic()
-            # (what it is made of is there, though it may have been taken over from another checkout without a word)
-            done = below([ended[1]], listing)
-            left = [it for it in left if it not in done]
-            taken[ended[1]], since = now - since, now
-            minutes = sum(before.get(it, 60.0) for it in left) / 60
-            print(f"lefence: {ended[1]} is proved; {len(left)} crates are left, some {minutes:.0f} minutes", file=sys.stderr)
-            (OUT / "seconds.json").write_text(json.dumps(before | taken), encoding="utf-8")
-    if status != "status 0":
-        print((OUT / "build.log").read_text(encoding="utf-8")[-4000:], file=sys.stderr)
-        print("lefence: the program is not proved, so it is not built", file=sys.stderr)
-        return 1
-    return 0
+    crates = below(["lefence"], listing)
+    LOG.parent.mkdir(parents=True, exist_ok=True)
+    print(f"lefence: proving and building {len(crates)} crates, the log is {LOG}", file=sys.stderr)
+    with tempfile.TemporaryDirectory(prefix="lefence-build-") as folder:
+        copy = Path(folder)
+        lay_out(copy, crates, lines_of(listing))
+        if is_proved(copy, crates) and (copy / PROGRAM).is_file():
+            # (whole or not at all, also if the build is interrupted here)
+            made = TOP / f"{PROGRAM}.made"
+            shutil.copy(copy / PROGRAM, made)
+            made.replace(TOP / PROGRAM)
+            return 0
+    print(LOG.read_text(encoding="utf-8", errors="replace")[-4000:], file=sys.stderr)
+    print("lefence: the program is not proved, so it is not built", file=sys.stderr)
+    return 1
 
 
 if __name__ == "__main__":

@@ -1,4 +1,8 @@
 //! The program `lefence`: it passes its words and the standard streams to `lf_app`.
+//!
+//! Its exit status is that of the task (`lf_app::perform`). Words that name no task are answered with the help that they ask for, and
+//! status 0, or else with the usage and status 2; it is 1 where an allocation for the words fails, and 3 where the help cannot be
+//! written.
 #![tactic(auto)]
 
 mod help;

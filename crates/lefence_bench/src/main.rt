@@ -1,5 +1,7 @@
-//! Reads one LEF or DEF text: `lex FILE`, `lef FILE` or `def FILE`; or loads a design: `load LEF DEF`. What was read is
-//! counted on standard output, and the nanoseconds that it took, without reading the files, go to standard error.
+//! Reads LEF and DEF texts, or loads a design, and says how long that took: for `bench/`.
+//!
+//! It takes the words `lex FILE`, `lef FILE` or `def FILE` for one text, or `load LEF DEF` for a design. What was read is counted on
+//! standard output, and the nanoseconds that it took, without reading the files, go to standard error.
 //!
 //! No function owns more than one of the library, the document and the design: what a function must drop at each of
 //! its ends is proved end by end.

@@ -1,6 +1,8 @@
-//! Answers worked rows. They are written in `rows/`, each request with its reply below it, and `tools/rows.py` makes of them
-//! `stdin` and `stdout`, on which the gate runs this program. A row of standard input begins with a heading, which is
-//! copied, and has the built-in design afresh:
+//! Answers worked rows, and prints what LEF and DEF texts say.
+//!
+//! Worked rows are written in `rows/`, each request with its reply below it, and `tools/rows.py` makes of them `stdin` and
+//! `stdout`, on which the gate runs this program. A row of standard input begins with a heading, which is copied, and has the
+//! built-in design afresh:
 //!
 //! ```text
 //! # The heading.

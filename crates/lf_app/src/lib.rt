@@ -1,4 +1,28 @@
 //! The program: its commands, its messages of faults, and the loop that answers lines.
+//!
+//! `perform` does a `Task` over the files and the network of a runtime, and returns the exit status. `perform_over` does it over any
+//! files that are read (`Texts`) and written (`Exports`), services (`Services`) and devices, and its contract says of each what was
+//! done. `Task`, `UsageFault`, `command_of`, `Help` and `help_of` are those of `lf_command`.
+//!
+//! Status 0 or 4: the task is done, and no fault is written. The design is that of the LEF texts, in the order of the words, and of
+//! the DEF text, within the standard limits; a demo has the built-in texts. Demo and replay have served the lines, at most as many
+//! as asked for, to their end or a `bye`; serve has written `listening` and served that many connections, at 127.0.0.1 and that
+//! port, within 1,000,000 lines each and 4,200 reads for each line; check has written the report of all cells at their places in
+//! the DEF text, and describe the description. 4, which only these two return, says that the design is not fully legal. With
+//! `--export` exactly the exported text, with the committed places of the floor at the end, was put at the path; nothing else ever
+//! is, and after a fault nothing was put.
+//!
+//! Status 1 or 3: there is one fault (`Fault`), whose status it is. It is the first of: the files and texts, LEF before DEF; what
+//! loading finds; the export's path and the port, before a line is read; how the lines ended; the report, the description, the
+//! service or the export at the end. Its one or two lines are written to `faults`, unless that has failed (`Exit::is_told`). If a
+//! text, the design, a file or memory for them is the fault, nothing was written to the writer.
+//!
+//! Of the files and the network of a runtime contracts know nothing; so of `perform` they say nothing of texts, exports and services.
+//!
+//! ```
+//! let task = command_of(rt.alloc(), &words)?;
+//! let status = perform(rt, &task, &mut reader, &mut writer, &mut faults);
+//! ```
 #![tactic(auto)]
 
 mod descriptions;

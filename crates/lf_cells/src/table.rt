@@ -1,7 +1,7 @@
 //! The table of all teams' cells.
 
 ghost use Rattle.std.specs.Prelude.{◌≡◌, ◌+◌, ◌<◌, [], IfOk, IfSome, length, map, option_map, slice_get, slice_set};
-ghost use Rattle.lf_cells.specs.Cells.{AreAll, cells_of, cell_named, cell_at, component_at, ids_of};
+ghost use Rattle.lf_cells.specs.Cells.{AreAll, cells_of, cell_named, cell_at, component_at, id_in, ids_of};
 ghost use Rattle.lf_cells.specs.Cells.{standing_of, working_at, committed_at, moved, as_committed};
 ghost use Rattle.lf_cells.specs.Openings.{opening_cells, opening_components};
 
@@ -50,7 +50,7 @@ impl CellTable {
         Ok((frame, CellTable { parts }))
     }
 
-    /// The team's cell of that name; none if only another team, or none, has such a cell.
+    /// The team's cell of that name; none iff it has none: another team's cell is answered like a name that no cell has.
     pub fn find_own(&self, team: usize, name: &[u8]) -> Option<CellId>
         ensures own { option_map (λ id. id.own) result ≡ cell_named name.now (cells_of self.now team) }
         ensures team { IfSome result (λ id. id.team ≡ team) }
@@ -64,11 +64,21 @@ impl CellTable {
         None
     }
 
-    /// The ids of the team's cells, in loading order; none if there is no such team.
+    /// The ids of the team's cells, in loading order; empty if there is no such team.
     pub fn cells_of(&self, team: usize) -> &[CellId]
         ensures { result.now ≡ ids_of team (cells_of self.now team) }
     {
         self.parts.ids_of(team)
+    }
+
+    /// The id of the team's cell at this position; none iff the team has no such cell.
+    pub fn cell_of(&self, team: usize, own: usize) -> Option<CellId>
+        ensures { result ≡ id_in (cells_of self.now team) team own }
+    {
+        match self.cells_of(team).get(own) {
+            Some(id) => Some(*id),
+            None => None,
+        }
     }
 
     /// The ids of the cells of all teams, in loading order: the positions of their entries among all COMPONENTS rise.
@@ -78,7 +88,7 @@ impl CellTable {
         self.parts.owners.as_slice()
     }
 
-    /// What no command changes of a cell; none if there is no such cell.
+    /// The name, the macro and the entry of a cell, which no command changes; none iff there is no such cell.
     pub fn cell(&self, id: CellId) -> Option<CellFacts<'_>>
         ensures name { option_map (λ facts. facts.name.now) result ≡ option_map (λ c. c.name) (cell_at self.now id) }
         ensures mac { option_map (λ facts. facts.mac) result ≡ option_map (λ c. c.mac) (cell_at self.now id) }
@@ -92,7 +102,7 @@ impl CellTable {
         })
     }
 
-    /// The macro and working place of a cell; none if there is no such cell.
+    /// The macro and working place of a cell; none iff there is no such cell.
     pub fn standing(&self, id: CellId) -> Option<Standing>
         ensures { result ≡ option_map standing_of (slice_get (cells_of self.now id.team) id.own) }
     {

@@ -15,7 +15,8 @@ use Rattle.lf_claims.specs.declared.claims.Claim.TheVariants.{Unclaimed, ByOne, 
 use Rattle.lf_claims.specs.declared.starred.Bound.{Bound}
 use Rattle.lf_claims.specs.declared.name_map.NameMap.{NameMap}
 use Rattle.lf_claims.specs.NameMaps.{value_of}
-use Rattle.lf_claims.specs.Teams.{is_fence, fence_names, Claims, IsClaimed, IsUnclaimed, IsClaimedBy}
+use Rattle.lf_def.specs.Kinds.{is_fence}
+use Rattle.lf_claims.specs.Teams.{fence_names, Claims, IsClaimed, IsUnclaimed, IsClaimedBy}
 use Rattle.lf_claims.specs.Refusals.{HasTwoFences}
 use Rattle.lf_claims.specs.Claims.{Tells, ClaimsBy, Numbers, bound_to, group_bounds, all_bounds}
 use Rattle.lf_claims.specs.ClaimTables.{IsClaimOf}

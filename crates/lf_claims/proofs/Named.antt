@@ -5,7 +5,8 @@ use Rattle.std.proofs.lemmas.List.{map-append, append-nil}
 use Rattle.std.proofs.lemmas.List.Elements.{filter-append}
 use Rattle.std.proofs.lemmas.Grind.{common_steps}
 use Rattle.lf_def.specs.declared.regions.Region.{Region}
-use Rattle.lf_claims.specs.Teams.{is_fence, fence_names}
+use Rattle.lf_def.specs.Kinds.{is_fence}
+use Rattle.lf_claims.specs.Teams.{fence_names}
 use Rattle.lf_units.proofs.Any.{name_of_any, any_of_name, any_kept, any_of_kept}
 
 -- a fence of a name, and the name among the fences' names

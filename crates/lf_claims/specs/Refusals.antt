@@ -4,7 +4,8 @@ use Rattle.std.specs.Prelude.{◌≡◌, ◌≢◌, ℕ, true, List, Any}
 use Rattle.lf_def.specs.declared.regions.Region.{Region}
 use Rattle.lf_def.specs.declared.groups.Group.{Group}
 use Rattle.lf_def.specs.declared.components.Component.{Component}
-use Rattle.lf_claims.specs.Teams.{is_movable, IsClaimed}
+use Rattle.lf_def.specs.Kinds.{is_movable}
+use Rattle.lf_claims.specs.Teams.{IsClaimed}
 
 -- SecondName: a component has an earlier one's name
 abbrev pub BearsEarlierName : List Component → Component → Type 0

@@ -1,24 +1,11 @@
--- The fences, the components that teams may move, and the team of each of these (DEF REGIONS, GROUPS, COMPONENTS).
-use Rattle.std.specs.Prelude.{◌≡◌, ℕ, Bool, true, false, not, ◌&&◌, ◌⊎◌, List, length, filter, map, Option, Some, None, Any}
+-- The fences, and the team of each component that teams may move (DEF REGIONS, GROUPS, COMPONENTS).
+use Rattle.std.specs.Prelude.{◌≡◌, ℕ, true, ◌⊎◌, List, length, filter, map, Some, Any}
 use Rattle.lf_names.specs.Names.{position_of}
 use Rattle.lf_names.specs.Pattern.{Matches}
+use Rattle.lf_def.specs.Kinds.{is_fence}
 use Rattle.lf_def.specs.declared.regions.Region.{Region}
-use Rattle.lf_def.specs.declared.regions.RegionKind.{RegionKind}
-use Rattle.lf_def.specs.declared.regions.RegionKind.TheVariants.{Fence, Guide}
 use Rattle.lf_def.specs.declared.groups.Group.{Group}
 use Rattle.lf_def.specs.declared.components.Component.{Component}
-use Rattle.lf_def.specs.declared.components.Placement.{Placement}
-use Rattle.lf_def.specs.declared.components.PlacementKind.{PlacementKind}
-use Rattle.lf_def.specs.declared.components.PlacementKind.TheVariants.{Fixed, Cover, Placed, Unplaced}
-
-abbrev pub is_fence_kind : Option RegionKind → Bool
-is_fence_kind (Some Fence) = true
-is_fence_kind (Some Guide) = false
-is_fence_kind None = false
-
--- the region is a fence: its TYPE is FENCE
-abbrev pub is_fence : Region → Bool
-is_fence r = is_fence_kind r.kind
 
 -- the fences, in the order of the text
 abbrev pub fences : List Region → List Region
@@ -27,33 +14,6 @@ fences regions = filter is_fence regions
 -- the names of the fences, in the order of the text
 abbrev pub fence_names : List Region → List (List ℕ)
 fence_names regions = map (λ r. r.name) (fences regions)
-
-abbrev pub is_fixed_kind : PlacementKind → Bool
-is_fixed_kind Fixed = true
-is_fixed_kind Cover = false
-is_fixed_kind Placed = false
-is_fixed_kind Unplaced = false
-
-abbrev pub is_cover_kind : PlacementKind → Bool
-is_cover_kind Fixed = false
-is_cover_kind Cover = true
-is_cover_kind Placed = false
-is_cover_kind Unplaced = false
-
--- its placement clause is of this kind; a component without one is of none
-abbrev pub says : (PlacementKind → Bool) → Option Placement → Bool
-says is_kind None = false
-says is_kind (Some p) = is_kind p.kind
-
-abbrev pub is_fixed : Component → Bool
-is_fixed c = says is_fixed_kind c.placement
-
-abbrev pub is_cover : Component → Bool
-is_cover c = says is_cover_kind c.placement
-
--- a component that teams may move: neither FIXED nor COVER
-abbrev pub is_movable : Component → Bool
-is_movable c = not (is_fixed c) && not (is_cover c)
 
 -- the name matches a pattern of the group
 abbrev pub NamedBy : Group → List ℕ → Type 0

@@ -23,7 +23,8 @@ pub(crate) fn parts_of_components(
     Ok(parts)
 }
 
-/// Adds the name; returns whether it is new.
+/// Adds the name; returns whether it is new: if so, the table did not have it, and has it afterwards. `Err` if an allocation
+/// fails.
 pub fn is_added(names: &mut NameTable, name: &[u8]) -> Result<bool, AllocError>
     ensures new { IfOk result (λ added. IsTrue added → Contains names.old name.now → ⊥) }
     ensures added { IfOk result (λ added. IsTrue added → names.new ≡ names.old ++ name.now ∷ []) }

@@ -12,10 +12,9 @@ ghost use Rattle.lf_claims.specs.Claims.{Numbers, NumbersOneMore};
 
 use crate::claims::{Claim, claim_of};
 use crate::component_names::first_second_name;
-use crate::kinds::{is_fence, is_movable};
 use crate::name_map::NameMap;
 use crate::pattern_index::index_of;
-use lf_def::{Component, Group, Region};
+use lf_def::{Component, Group, Region, is_fence, is_movable};
 use lf_units::Name;
 use std::alloc::{AllocError, Global};
 use std::marker::Model;
@@ -65,7 +64,8 @@ fn number_fences(alloc: Global, regions: &[Region]) -> Result<(NameMap<usize>, u
     Ok((numbers, count))
 }
 
-/// The table of these components, regions and groups; it has no claims if two components have one name.
+/// The table of these components, regions and groups; it has no claims if two components have one name. A group claims for the
+/// first fence of its region's name. `Err` if an allocation fails.
 pub fn claim_table(
     alloc: Global,
     components: &[Component],
@@ -91,7 +91,7 @@ pub fn claim_table(
 }
 
 impl ClaimTable {
-    /// The first component that has an earlier one's name.
+    /// The first component that has an earlier one's name, by its number; none iff all names differ.
     pub fn second_name(&self) -> Option<usize>
         ensures { TellsSecondName self.now result }
     {
@@ -122,7 +122,8 @@ impl ClaimTable {
     }
 }
 
-/// The first movable component that groups of two different fences name, if no two components have one name.
+/// The first movable component that groups of two different fences name, by its number; none iff there is none. The answer
+/// stands if no two components have one name and the table is that of the components.
 pub fn first_claimed_twice(components: &[Component], table: &ClaimTable) -> Option<usize>
     ensures { (regions : List Region) (groups : List Group) → NoneBreaks BearsEarlierName components.now → IsTableOf regions groups components.now table.now → FirstIs (IsClaimedTwice regions groups) components.now result }
 {

@@ -64,7 +64,7 @@ pub enum Task<'a> {
 /// Why the words name no task.
 #[derive(Clone, Copy, Debug, PartialEq, Eq, Drop, Error)]
 pub enum UsageFault {
-    /// They are no command of the program.
+    /// They are no command of the program: it comes only where the words name no task by the definition.
     #[error("usage")]
     Usage,
     /// An allocation failed.
@@ -399,9 +399,12 @@ fn task_of<'a>(
 /// `replay`, `serve`, `check` and `describe` take the path of a DEF text, then of one LEF text or
 /// more; `serve` needs `--port P`, from 1 to 65535, and `--connections N`, from 1 to 1,000,000;
 /// `replay` may have `--lines N`, from 1 to 4,294,967,295, and it and `serve` `--export FILE`.
-/// Options are before, between or after the paths, each once at most; `--export=FILE` is the same.
-/// After `--` a path may begin with '-'. Words for help and for the version are usage faults like
-/// any others.
+/// Numbers are digits; `+` in front and leading zeros are allowed. Options are before, between or after
+/// the paths, each once at most, with the value after `=` or as the next word, which may not begin with
+/// '-' unless it is '-'. After `--` each word is a path. Words for help and for the version are usage
+/// faults like any others.
+///
+/// `Err` of `Usage` only if the words name no task; of `OutOfMemory` if an allocation fails.
 pub fn command_of<'a>(alloc: Global, words: &'a [&'a str]) -> Result<Task<'a>, UsageFault>
     ensures ok { IfOk result (λ task. job_of (map (λ word. word.now) words.now) ≡ Some (as_job task)) }
     ensures err { IfErr result (λ fault. fault ≡ Usage → job_of (map (λ word. word.now) words.now) ≡ None) }

@@ -1,4 +1,13 @@
 //! The words of the command line: the task that they name, or what they ask to be told.
+//!
+//! The first word is the program's name. `lefence` alone and `lefence demo` are the demo; `replay`, `serve`, `check` and
+//! `describe` take the path of a DEF text, then those of one LEF text or more, and their options. Paths are taken as they are
+//! written, and no file is looked at. Which task words name is said by a definition (`job_of`) that knows nothing of `clap`.
+//!
+//! ```
+//! let words = ["lefence", "replay", "design.def", "cells.lef", "--lines", "10"];
+//! let task = command_of(alloc, &words)?;
+//! ```
 #![tactic(auto)]
 
 mod command;

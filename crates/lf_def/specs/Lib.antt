@@ -6,6 +6,7 @@ pub mod Document
 pub mod Entries
 pub mod Groups
 pub mod Header
+pub mod Kinds
 pub mod Laws
 pub mod Printed
 pub mod PrintedComponents

@@ -51,7 +51,8 @@ pub struct Placement {
     pub stop: usize,
 }
 
-/// A component (LEF/DEF 5.8, DEF COMPONENTS), whose names are borrowed from its text.
+/// A component (LEF/DEF 5.8, DEF COMPONENTS), whose names are borrowed from its text. A contract sees its name, its macro's
+/// name, its placement clause with the offsets, and the offset of its `;`.
 #[derive(Drop)]
 pub struct Component<'a> {
     words: Words<'a>,
@@ -144,7 +145,7 @@ impl<'a> Component<'a> {
         self.words.macro_name()
     }
 
-    /// Its placement clause; a component without one is unplaced.
+    /// Its placement clause with the offsets; a component without one is unplaced.
     pub fn placement(&self) -> Option<Placement>
         ensures { result ≡ self.now.placement }
     {

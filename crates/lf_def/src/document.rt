@@ -15,7 +15,7 @@ use lf_units::Sequence;
 
 /// What a DEF text says of placement, each list in the order of the text, with the text itself.
 ///
-/// Only reading a text makes a document: its fields are what its text says. Coordinates are from
+/// Only reading a text makes a document: its fields are what its text says by the grammar. Coordinates are from
 /// -2147483647 to 2147483647; names have at most 1,024 bytes, each from 33 to 126.
 #[derive(Drop)]
 pub struct DefDoc<'a> {

@@ -119,7 +119,7 @@ pub fn printed_words_are_read()
     ensures { (words : List (List ℕ)) (rest : List ℕ) → list_all is_word_text words ≡ true → BeginsWith (joined words ++ 10 ∷ rest) (map word_of words) }
 {}
 
-/// Decimal numbers are a way of writing coordinates, and each of them is a word.
+/// Decimal numbers, as the standard library writes them, are a way of writing coordinates, and each of them is a word.
 pub fn decimal_numbers_are_read()
     ensures numbers { WritesNumbers signed_decimal }
     ensures words { (x : ℤ) → IsCoordinate x → is_word_text (signed_decimal x) ≡ true }

@@ -1,5 +1,17 @@
-//! Reads the parts of DEF texts that placement needs: header, rows, regions, groups, components with the offsets of
-//! their placement clauses, and placement blockages.
+//! Reads the parts of DEF 5.8 texts that placement needs, by the grammar in `specs/`.
+//!
+//! These are the header, rows, regions, groups, components and placement blockages; components come with the offsets of
+//! their placement clauses and of their `;`, so that a text can be written again with other places. Other sections and
+//! statements of DEF are skipped. Lengths and coordinates are in database units.
+//!
+//! A `DefDoc` keeps that it is what its text says. A contract sees of a `Component` its two names, its placement clause with
+//! the offsets, and the offset of its `;`.
+//!
+//! ```
+//! let doc = read_def(Global, W_DEF)?;
+//! let first = &doc.components.as_slice()[0];
+//! first.placement(); // None: `- a1 INV + SOURCE DIST ;` has no placement clause
+//! ```
 #![tactic(auto)]
 
 mod blockages;
@@ -9,6 +21,7 @@ mod document;
 mod entries;
 mod groups;
 mod header;
+mod kinds;
 mod laws;
 mod offsets;
 mod parts;
@@ -24,6 +37,7 @@ pub use components::{Component, Location, Placement, PlacementKind};
 pub use document::DefDoc;
 pub use groups::Group;
 pub use header::Header;
+pub use kinds::{is_cover, is_fence, is_fixed, is_movable};
 pub use laws::{
     clauses_stand_in_components, components_rise, decimal_numbers_are_read,
     nothing_behind_end_design_counts, printed_entries_read_back, printed_lists_read_back_in_texts,

@@ -31,10 +31,13 @@ fn document<'a>(alloc: Global, text: &'a [u8]) -> Result<DefDoc<'a>, ReadError>
 }
 
 /// Reads a DEF text up to its END DESIGN: the header, and rows, regions, groups, components and placement blockages in
-/// the order of the text. Other sections and statements of DEF are skipped.
+/// the order of the text. Other sections and statements of DEF are skipped. Unless an allocation fails, this succeeds iff the
+/// text is DEF by the grammar in `specs/`; the document is then what the grammar makes of it.
 ///
 /// The error is the first fault in the order of the tokens, with its line: BadToken, UnexpectedEnd, Unexpected,
-/// BadNumber, WrongEnd, UnknownStatement or TooMany; or OutOfMemory if an allocation fails.
+/// BadNumber, WrongEnd, UnknownStatement or TooMany; or OutOfMemory, without a line, if an allocation fails.
+///
+/// An offset may have any size: a component with one of 2^32 or more takes 24 bytes more.
 pub fn read_def<'a>(alloc: Global, text: &'a [u8]) -> Result<DefDoc<'a>, LoadFault<'a>>
     ensures text { IfOk result (λ doc. doc.text.now ≡ text.now) }
     ensures ok { IfOk result (λ doc. document_of text.now ≡ Ok (contents doc)) }

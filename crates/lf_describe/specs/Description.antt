@@ -23,7 +23,7 @@ use Rattle.lf_floorplan.specs.Rows.{row_area}
 use Rattle.lf_floorplan.specs.Sizes.{box_at, turned}
 use Rattle.lf_def.specs.declared.components.Component.{Component}
 use Rattle.lf_def.specs.Document.{Document}
-use Rattle.lf_claims.specs.Teams.{is_fixed}
+use Rattle.lf_def.specs.Kinds.{is_fixed}
 use Rattle.lf_rules.specs.declared.rule.Broken.{Broken}
 use Rattle.lf_rules.specs.declared.report.Listed.{Listed}
 use Rattle.lf_rules.specs.declared.report.Report.{Report}

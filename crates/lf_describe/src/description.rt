@@ -16,8 +16,7 @@ use crate::cells::{is_clean, listed, verdicts_of};
 use crate::output::LineFault;
 use crate::parts::{counts_in, put_parts};
 use crate::told::Told;
-use lf_claims::is_fixed;
-use lf_def::{Component, DefDoc};
+use lf_def::{Component, DefDoc, is_fixed};
 use lf_devices::Sink;
 use lf_floorplan::{Frame, Loaded, cell_is_sized};
 use lf_rules::{Listed, legalizer_is_there};
@@ -26,11 +25,11 @@ use std::alloc::{AllocError, Global};
 /// Why a design was not described.
 #[derive(Clone, Copy, Debug, PartialEq, Eq)]
 pub enum Undescribed {
-    /// An allocation failed before the first line.
+    /// An allocation failed before the first line; nothing was written.
     OutOfMemory,
     /// An allocation for a line failed; lines before it may have been written.
     LineOutOfMemory,
-    /// The writer failed.
+    /// The writer failed; a front of the description may have been written.
     Output,
 }
 
@@ -110,12 +109,16 @@ fn describe_cells<W: Sink>(
     describe_told(alloc, &told, writer)
 }
 
-/// Writes what there is to tell of a design, each cell at its place in the DEF text, as JSON Lines: an object a line, with the
-/// design first, then its rows, fences, obstacles, soft blockages and movable cells, and the totals last; and flushes. Returns
-/// whether the design is fully legal.
+/// Writes the description of a design, each cell at its place in the DEF text, as JSON Lines: an object a line, with the design
+/// first, then its rows, fences, obstacles, soft blockages and movable cells, and the totals last. It is appended to what the
+/// writer holds, and flushed. Returns whether the design is fully legal at these places.
 ///
-/// `document` is the document that the design was loaded from: it names the FIXED components, whose boxes are the first obstacles.
-/// If an allocation or the writer fails, a front of the description is written; none of it if that was before the first line.
+/// `document` is the document that the design was loaded from: it names the FIXED components, whose boxes are the first obstacles,
+/// so the obstacle of a number has the name of the FIXED component of that number, if there is one. A name whose bytes are no
+/// UTF-8 text is written as null.
+///
+/// If an allocation or the writer fails, a front of the description is written; none of it if an allocation failed before the
+/// first line.
 pub fn describe<W: Sink>(
     alloc: Global,
     loaded: &Loaded,

@@ -2,7 +2,7 @@
 
 ghost use Rattle.lf_describe.specs.Description.{NamesAreTold};
 
-/// A name of visible characters is told as it is.
+/// A name of visible characters, as each name of a text is, is written as it is.
 pub fn names_are_told()
     ensures { NamesAreTold }
 {}

@@ -22,7 +22,8 @@ pub trait Source {
     /// Which reader the source holds, if it holds one by a reference.
     ghost holds: { Self → ℕ } = { λ _. 0 };
 
-    /// Reads into the front of the buffer and returns how many bytes; 0 is the end of the input.
+    /// Reads into the front of the buffer and returns how many bytes; 0 is the end of the input. Each call counts as a read.
+    /// `Err` if the read fails.
     fn read(&mut self, buffer: &mut [u8]) -> Result<usize, DeviceFault>
         requires countable { reads self.old < 18446744073709551615 }
         ensures bound { ReadsAtMost result buffer.new }
@@ -46,7 +47,7 @@ pub trait Sink {
     /// Which writer the sink holds, if it holds one by a reference.
     ghost holds: { Self → ℕ } = { λ _. 0 };
 
-    /// Takes a front of the bytes, at least one.
+    /// Takes a front of the bytes, at least one, and returns how many. `Err` if the write fails, or takes none.
     fn write(&mut self, bytes: &[u8]) -> Result<usize, DeviceFault>
         requires { 0 < length bytes.now }
         ensures bound { WritesAtMost result bytes.now }
@@ -56,7 +57,7 @@ pub trait Sink {
         ensures failed { has_failed self.new ≡ (has_failed self.old || is_err result) }
         ensures held { holds self.new ≡ holds self.old };
 
-    /// Makes sure that everything written has gone out.
+    /// Makes sure that everything written has gone out. `Err` if that fails.
     fn flush(&mut self) -> Result<(), DeviceFault>
         ensures bytes { Keeps (contents self.old) (contents self.new) }
         ensures flushed { OnOk result (is_flushed self.new ≡ true) }

@@ -49,16 +49,18 @@ pub trait Exports {
     // The texts that were put, the last one first, if they are known.
     ghost puts: { Self → Option (List Put) } = { λ _. None };
 
-    /// Tells before there is a text whether one can be put into the file of that path, as far as that shows: `Ok` is no promise.
+    /// Tries, before there is a text, whether one can be put into the file of that path, as far as that shows; it puts nothing.
+    /// `Ok` is no promise, and no clause says when it may be `Err`.
     fn try_path(&self, path: &str) -> Result<(), Unwritten>;
 
-    /// Puts the text into the file of that path, in place of what was there.
+    /// Puts the whole text into the file of that path, in place of what was there, and nothing else; `Err` if it could not, and
+    /// then nothing was put.
     fn put<P: Pieces>(&mut self, path: &str, text: &P) -> Result<(), Unwritten>
         ensures ok { OnOk result (Puts (puts self.old) (puts self.new) path.now (P.text text.now)) }
         ensures err { OnErr result (puts self.new ≡ puts self.old) };
 }
 
-/// The files of a runtime. Contracts know nothing of what they hold.
+/// The files of a runtime. Contracts know nothing of what they hold, nor of what was put into them.
 #[derive(Clone, Copy)]
 pub struct FileExports<'a, T> {
     files: &'a T,

@@ -15,7 +15,8 @@ pub trait Pieces {
     /// The whole text.
     ghost text: { Self → List ℕ };
 
-    /// Writes the whole text, in as many pieces as it takes; `Err` if a write fails, and then a part of it may be written.
+    /// Writes the whole text, in as many pieces as it takes: on success it is appended to what the writer holds, if that is known.
+    /// `Err` if a write fails, and then a part of it may be written.
     fn write_to<W: Write>(&self, writer: &mut W) -> io::Result<()>
         ensures { OnOk result (Appends (W.contents writer.old) (W.contents writer.new) (text self.now)) };
 }

@@ -37,6 +37,10 @@ use std::marker::Model;
 ///
 /// Contracts see the frame, each team's state and the positions of the cells' entries among all
 /// COMPONENTS: the search for best places plays no part in the replies.
+///
+/// A floor keeps of each team that the names of its cells differ and are names of a text, that there are
+/// no more undo entries and revisions than the limits allow, that each undo entry has a place for each
+/// cell, and that no session has seen a later revision than the team's.
 #[derive(Drop)]
 pub struct Floor<S: Seeker> {
     alloc: Global,
@@ -133,8 +137,8 @@ fn push_within(replies: &mut Vec<Reply>, reply: Reply)
 
 impl<S: Seeker + Drop> Floor<S> {
     /// The floor of a design as it is loaded: each team has its own cells at their places in the
-    /// DEF text, at revision 0, with nothing to undo and no session open. `seeker` is the search for
-    /// best places.
+    /// DEF text and committed there, at revision 0, with nothing to undo and no session open. `seeker` is
+    /// the search for best places. The committed design is fully legal iff the loaded design is.
     ///
     /// `Err` if an allocation fails; the design and the seeker are then dropped.
     pub fn start(alloc: Global, loaded: Loaded, seeker: S) -> Result<Floor<S>, AllocError>
@@ -161,7 +165,7 @@ impl<S: Seeker + Drop> Floor<S> {
     }
 
     /// The name of the team's cell of that position in loading order, the first at 0. Replies name
-    /// cells by their positions.
+    /// cells by their positions. It is a name of a text.
     ///
     /// None if the team has no such cell, or there is no such team.
     pub fn name_of(&self, team: &[u8], own: usize) -> Option<&[u8]>
@@ -219,8 +223,8 @@ impl<S: Seeker + Drop> Floor<S> {
         }
     }
 
-    /// Answers one command: the team that it names answers by its own state alone, and no other
-    /// team changes.
+    /// Answers one command by the rules (`Step` of `lf_teams`): the team that it names answers by its own
+    /// state alone, and no other team changes, nor does the frame, nor the positions of components.
     ///
     /// `NoTeam` comes before any refusal of a team. `OutOfMemory` only replaces the reply to an accepted
     /// change, a broken rule, a best place, the lack of one, a report or a DEF text, and never that to
@@ -250,7 +254,8 @@ impl<S: Seeker + Drop> Floor<S> {
         }
     }
 
-    /// Answers requests in order, each as `step` does, with one reply to each.
+    /// Answers requests in order, each as `step` does, with one reply to each. Each team's replies and its
+    /// last state are those of its own requests alone, one after the other.
     ///
     /// A committed design that is fully legal is so after each of them; one that was not is fully
     /// legal at the end if of each team that has a cell a commit was accepted. A commit that is a

@@ -1,5 +1,18 @@
-//! The floor of all teams: a step for each command, and runs of many. What other teams have and send plays no part in
-//! a team's replies.
+//! The floor of all teams: a step for each command, and runs of many.
+//!
+//! A floor is made of a loaded design. Each of its teams has its own cells, revision, undo entries, session slots and padding, and
+//! what other teams have and send plays no part in its replies. `step` answers one command, `respond` the same without making a DEF
+//! text, and `run` a list of them; the laws of `lf_teams` on runs are named here again, and `lf_proto` as `proto`.
+//!
+//! Contracts see of a `Floor` its frame, the state of each team, and the positions of its cells' entries among all COMPONENTS of the
+//! DEF text: not how best places are searched for. The *committed design* is the cells of all teams at their committed places. Once
+//! it is fully legal, it stays so whatever is asked.
+//!
+//! ```
+//! let mut floor = Floor::start(alloc, loaded, seeker)?;
+//! let reply = floor.step(&parse_line(b"open A")?);
+//! let replies = floor.run(&requests)?;
+//! ```
 #![tactic(auto)]
 
 /// Requests and replies, which the floor's calls take and return.

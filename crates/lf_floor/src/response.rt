@@ -18,12 +18,12 @@ use lf_legalize::Seeker;
 use lf_proto::{Action, Command, Order, Refusal, Reply, Request};
 use lf_texts::{Output, put_team_def, team_def_length};
 
-/// The reply to a request, but for a DEF text.
+/// The reply to a request, but for a DEF text, of which it has the length.
 #[derive(Drop)]
 pub enum Response {
     /// The reply.
     Whole(Reply),
-    /// The DEF text of the team, of so many bytes: `Floor::put_def` puts it.
+    /// The DEF text of the team that was asked, of so many bytes: `Floor::put_def` puts it.
     Def(usize),
 }
 
@@ -89,7 +89,7 @@ impl<S: Seeker + Drop> Floor<S> {
     }
 
     /// Answers one command as `step` does, but that no DEF text is made: the floor is not changed by that command, so its text
-    /// can be put as long as no other is answered. A DEF text is never answered `OutOfMemory`, unless it has 2^64 bytes.
+    /// can be put as long as no other is answered. A DEF text is never answered `OutOfMemory`, unless it has 2^64 bytes or more.
     pub fn respond(&mut self, request: &Request) -> Response
         ensures step { (l : Legalizer) → Step l self.old (command_of request.now) (reply_in self.new (team_of (command_of request.now)) result) self.new }
         ensures length { (count : ℕ) → result ≡ Apart count → count ≡ length (def_text self.new (team_of (command_of request.now))) }

@@ -65,10 +65,7 @@ impl Tables {
     pub(crate) fn cell_at(&self, number: usize, own: usize) -> Option<CellId>
         ensures { result ≡ id_in (cells_in number self.now) number own }
     {
-        match self.placement.cells().cells_of(number).get(own) {
-            Some(id) => Some(*id),
-            None => None,
-        }
+        self.placement.cells().cell_of(number, own)
     }
 
     /// The working place of a cell; none where it is unplaced, or there is no such cell.

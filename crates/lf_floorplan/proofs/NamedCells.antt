@@ -1,21 +1,10 @@
 -- Cells and their names, one after the other.
-use Rattle.std.proofs.Common.{◌≡◌, ◌≢◌, ℕ, zero, suc, List, [], ◌∷◌, ◌++◌, length, None, Some, refl, ap, subst, ◌∙◌, arith}
+use Rattle.std.proofs.Common.{◌≡◌, ◌≢◌, ℕ, zero, suc, List, [], ◌∷◌, ◌++◌, length, None, Some, refl, ap, ◌∙◌, arith}
 use Rattle.std.specs.Prelude.{All, slice_get}
 use Rattle.std.proofs.lemmas.List.Elements.{All-nil, All-cons, All-head, All-tail}
-use Rattle.std.proofs.lemmas.Option.{slice_get_within, get_or_from_slice_get}
-use Rattle.lf_names.specs.Adds.{Adds}
-use Rattle.lf_names.specs.declared.table.Added.{Added}
-use Rattle.lf_names.specs.declared.table.Added.TheVariants.{Present}
-use Rattle.lf_names.proofs.Positions.{stands_there}
 use Rattle.lf_floorplan.specs.declared.loaded.Cell.{Cell}
 use Rattle.lf_floorplan.specs.declared.cells.PlainCell.{PlainCell}
 use Rattle.lf_floorplan.specs.LoadedCells.{with_name, with_names}
-
--- a name that differs from all is not there
-pub is_new : (old new : List (List ℕ)) (name : List ℕ) (added : Added) (at : ℕ) → All (λ n. n ≢ name) old → Adds old name added new → added ≡ Present at → ⊥
-is_new old new name added at apart adds is =
-    let there = stands_there old name at (subst (λ (a : Added). Adds old name a new) is adds).0 in
-    apart at name (slice_get_within old at name there) (get_or_from_slice_get old at name name there)
 
 pub many_seen : (names : List (List ℕ)) (cells : List PlainCell) → length names ≡ length cells → length (with_names names cells) ≡ length cells
 many_seen [] [] same = refl

@@ -6,7 +6,7 @@ ghost use Rattle.lf_floorplan.specs.LoadedCells.{lent, with_name, with_names};
 
 use crate::packed::PackedPlace;
 use crate::place::Place;
-use lf_names::{Added, NameTable};
+use lf_names::NameTable;
 use std::alloc::{AllocError, Global};
 use std::marker::Model;
 
@@ -45,7 +45,7 @@ pub struct CellParts {
 }
 
 /// The movable cells of a design, in loading order: each name stands once, in a table that `into_parts` hands on. Contracts see
-/// the list of cells.
+/// the list of cells with their names.
 #[derive(Drop)]
 pub struct LoadedCells {
     parts: CellParts,
@@ -65,18 +65,6 @@ impl Model for LoadedCells {
     ghost invariant = { λ l. length l.parts.names ≡ length l.parts.cells.items };
 }
 
-/// Adds a name that is not there yet.
-fn add_new(names: &mut NameTable, name: &[u8]) -> Result<(), AllocError>
-    requires { All (λ n. n ≢ name.now) names.old }
-    ensures ok { OnOk result (names.new ≡ names.old ++ name.now ∷ []) }
-    ensures err { OnErr result (names.new ≡ names.old) }
-{
-    match names.add(name)? {
-        Added::New(_) => Ok(()),
-        Added::Present(_) => unreachable!(),
-    }
-}
-
 /// Appends a cell, for which there is room if its name could be added.
 fn push_cell(parts: &mut CellParts, name: &[u8], cell: PlainCell) -> Result<(), AllocError>
     requires { All (λ n. n ≢ name.now) parts.old.names }
@@ -86,7 +74,7 @@ fn push_cell(parts: &mut CellParts, name: &[u8], cell: PlainCell) -> Result<(), 
     ensures cells_stay { OnErr result (parts.new.cells.items ≡ parts.old.cells.items) }
 {
     parts.cells.reserve(1)?;
-    add_new(&mut parts.names, name)?;
+    parts.names.add_new(name)?;
     parts.cells.push(cell).unwrap();
     Ok(())
 }
@@ -114,7 +102,7 @@ impl LoadedCells {
         }
     }
 
-    /// Appends a cell whose name no other cell has.
+    /// Appends a cell whose name no other cell has, behind the others.
     ///
     /// `Err` if an allocation fails; the list is then unchanged.
     pub fn push(&mut self, name: &[u8], cell: PlainCell) -> Result<(), AllocError>
@@ -133,7 +121,7 @@ impl LoadedCells {
         self.parts.cells.len()
     }
 
-    /// The cell of this position; none if there is none.
+    /// The cell of this position, its name borrowed from the list; none iff there is none.
     pub fn get(&self, at: usize) -> Option<LentCell<'_>>
         ensures { option_map lent result ≡ slice_get self.now at }
     {
@@ -148,7 +136,7 @@ impl LoadedCells {
         })
     }
 
-    /// The names, and the cells without them.
+    /// The table of names, and beside it the cells without them, as many and in the same order; together they are the list.
     pub fn into_parts(self) -> CellParts
         ensures cells { with_names result.names result.cells.items ≡ self }
         ensures count { length result.names ≡ length result.cells.items }

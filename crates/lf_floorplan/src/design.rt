@@ -42,7 +42,7 @@ fn is_whole(micros: i64, units: u32) -> bool
     }
 }
 
-/// The macro of this number, as in a cell's `mac`.
+/// The macro of this number, as in a cell's `mac`; there must be one.
 pub fn mac_at(frame: &Frame, number: usize) -> &Macro
     requires { number < length frame.now.macros }
     ensures { result.now ≡ macro_of frame.now number }

@@ -15,7 +15,14 @@ use lf_units::{Point, Rect, Sequence};
 /// What every team sees, and no command changes.
 ///
 /// A team's number is the position of its fence in `teams`; the ground team `-` has the number of
-/// fences, and a greater number is no team. The type keeps what loading has checked.
+/// fences, and a greater number is no team. The type keeps what loading has checked:
+///
+/// - 1 to 20,000 database units per micron; a core site in the range of LEF, whose size is whole in them and above 0.
+/// - One row or more, up to the limit, each with a corner in the range of DEF, a site or more, N, S, FN or FS, and its end
+///   at x 2147483647 or before; no two share a point.
+/// - Fences up to the limit, none named `-`, names different, each of one rectangle or more; no two share a point.
+/// - Obstacles are rectangles in the range of DEF, or boxes of the frame's macros with their lower left corner in it.
+/// - Macros have sizes and origins in the range of LEF.
 #[derive(Drop)]
 pub struct Frame {
     /// The core site: that of the first ROW whose site has CLASS CORE and a size above 0.

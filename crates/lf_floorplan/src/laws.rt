@@ -10,7 +10,7 @@ pub fn size_turns_back()
     ensures { TurnsBack }
 {}
 
-/// Each point is ground of exactly one team.
+/// Each point is ground of exactly one team: of the fence that covers it, or else of the ground team.
 pub fn point_has_one_team()
     ensures { PointHasOneTeam }
 {}
@@ -26,7 +26,7 @@ pub fn obstacles_stay_near()
     ensures { ObstaclesStayNear }
 {}
 
-/// A box has one height in sites and one bottom row.
+/// A box has one height in sites at most, and a box with a width has one bottom row at most.
 pub fn standing_is_one()
     ensures { StandingIsOne }
 {}

@@ -1,5 +1,18 @@
-//! The floor plan of a design: the frame, which every team sees and no command changes, the cells,
-//! and the measures that legality rests on.
+//! The floor plan of a design: the frame, which no command changes, the cells, and the measures of legality.
+//!
+//! The types keep what loading has checked, as clauses of their fields: whoever holds a `Frame` or a `Loaded` need not check
+//! it again. The range of DEF is that of its coordinates, -2147483647 to 2147483647 database units; the range of LEF is a
+//! million microns either way, in millionths of a micron. A *team* is a fence, or the ground team `-`, which has all ground
+//! outside the fences.
+//!
+//! A contract sees of `LoadedCells` the list of the cells with their names, and of a `PackedPlace` the place or none.
+//! `Near` is what legality asks of a frame, however it is looked up.
+//!
+//! ```
+//! let limits = Limits::standard(); // 65,535 rows, 1,024 fences, 4,000,000 components, ..
+//! let place = Place::new(0, 1400, Orient::FS);
+//! let rect = macro_box(&mac.size, frame.header.units, &place); // in database units
+//! ```
 #![tactic(auto)]
 
 mod cells;

@@ -23,6 +23,9 @@ pub struct Cell {
 }
 
 /// A frame and its movable cells, in loading order: the order of the DEF text.
+///
+/// There are at most 4,000,000 cells. Each has a team and a macro of the frame, whose size is whole in database units and above
+/// 0, and a name of at most 1,024 bytes from 33 to 126; all names differ. The positions among COMPONENTS rise.
 #[derive(Drop)]
 pub struct Loaded {
     pub frame: Frame,

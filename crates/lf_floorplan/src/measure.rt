@@ -16,7 +16,8 @@ impl Row {
         i64::from(self.sites) * pitch.x
     }
 
-    /// The x at which the row ends; `pitch` is the size of a core site in database units.
+    /// The x at which the row ends, the first one that is not in it. `pitch` is the size of a core site in database units. Row and
+    /// pitch are as a frame has them.
     pub fn right_edge(&self, pitch: &Point) -> i64
         requires heeded { IsHeeded pitch.now self.now }
         requires wide { pos 0 <ℤ pitch.now.x }
@@ -25,7 +26,8 @@ impl Row {
         i64::from(self.x) + self.width(pitch)
     }
 
-    /// The points of the row; `pitch` is the size of a core site in database units.
+    /// The points of the row, one site height high. `pitch` is the size of a core site in database units. Row and pitch are as a
+    /// frame has them.
     pub fn area(&self, pitch: &Point) -> Rect
         requires heeded { IsHeeded pitch.now self.now }
         requires wide { pos 0 <ℤ pitch.now.x }

@@ -18,7 +18,7 @@ pub struct Place {
 }
 
 impl Place {
-    /// The place at a corner that a DEF text can hold.
+    /// The place at a corner that a DEF text can hold: neither number is -2147483648.
     pub fn new(x: i32, y: i32, orient: Orient) -> Place
         requires x_in_def { negsuc 2147483647 <ℤ x }
         requires y_in_def { negsuc 2147483647 <ℤ y }

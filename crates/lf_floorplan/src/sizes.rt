@@ -23,7 +23,7 @@ fn length_in_units(micros: i64, units: u32) -> i64
     micros * i64::from(units) / MICRON
 }
 
-/// A size of LEF, in millionths of a micron, as one in database units.
+/// A size of LEF, in millionths of a micron, as one in database units, in which it must be whole and above 0 both ways.
 pub fn size_in_units(size: &Point, units: u32) -> Point
     requires whole { IsPitch units size.now (size_in_dbu units size.now) }
     ensures { result ≡ size_in_dbu units size.now }
@@ -47,7 +47,8 @@ fn turned_size(size: Point, orient: Orient) -> Point
 }
 
 /// The box of a macro of this size, in millionths of a micron, at the place, in database units (LEF MACRO SIZE, DEF
-/// COMPONENTS).
+/// COMPONENTS). The size must be whole in them and above 0 both ways; W, E, FW and FE exchange width and height. The box ends
+/// at most a macro's largest size past the range of DEF.
 pub fn macro_box(size: &Point, units: u32, place: &Place) -> Rect
     requires whole { IsPitch units size.now (size_in_dbu units size.now) }
     ensures near { IsNearDefRect result }

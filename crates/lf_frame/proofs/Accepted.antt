@@ -16,7 +16,7 @@ use Rattle.lf_lef.specs.Contents.{IsMacro, macro_names}
 use Rattle.lf_def.specs.declared.components.Component.{Component}
 use Rattle.lf_def.specs.declared.components.Placement.{Placement}
 use Rattle.lf_def.specs.declared.components.PlacementKind.TheVariants.{Fixed, Cover, Placed, Unplaced}
-use Rattle.lf_claims.specs.Teams.{is_fixed, is_cover, is_movable}
+use Rattle.lf_def.specs.Kinds.{is_fixed, is_cover, is_movable}
 use Rattle.lf_refusals.specs.Loading.{macro_named, has_size, IsWholeSize, at_place}
 use Rattle.lf_floorplan.specs.Sizes.{size_in_dbu}
 use Rattle.lf_refusals.specs.Refusals.{HasNoSize, HasPartUnits}
@@ -116,13 +116,13 @@ macros_sized i range a k d within uncovered =
 fixed_uncovered : (c : Component) → is_fixed c ≡ true → is_cover c ≡ false
 fixed_uncovered c = by c.placement
   where
-    by : (p : Option Placement) → Rattle.lf_claims.specs.Teams.says Rattle.lf_claims.specs.Teams.is_fixed_kind p ≡ true →
-        Rattle.lf_claims.specs.Teams.says Rattle.lf_claims.specs.Teams.is_cover_kind p ≡ false
+    by : (p : Option Placement) → Rattle.lf_def.specs.Kinds.says Rattle.lf_def.specs.Kinds.is_fixed_kind p ≡ true →
+        Rattle.lf_def.specs.Kinds.says Rattle.lf_def.specs.Kinds.is_cover_kind p ≡ false
     by None e = absurd (false≢true e)
     by (Some p) e = kind p.kind e
       where
-        kind : (k : Rattle.lf_def.specs.declared.components.PlacementKind.PlacementKind) → Rattle.lf_claims.specs.Teams.is_fixed_kind k ≡ true →
-            Rattle.lf_claims.specs.Teams.is_cover_kind k ≡ false
+        kind : (k : Rattle.lf_def.specs.declared.components.PlacementKind.PlacementKind) → Rattle.lf_def.specs.Kinds.is_fixed_kind k ≡ true →
+            Rattle.lf_def.specs.Kinds.is_cover_kind k ≡ false
         kind Fixed e = refl
         kind Cover e = absurd (false≢true e)
         kind Placed e = refl

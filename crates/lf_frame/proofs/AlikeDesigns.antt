@@ -21,7 +21,8 @@ use Rattle.lf_def.specs.Laws.{placement_without_places, without_places}
 use Rattle.lf_floorplan.specs.declared.frame.Frame.{Frame}
 use Rattle.lf_floorplan.specs.declared.loaded.Cell.{Cell}
 use Rattle.lf_floorplan.specs.declared.loaded.Loaded.{Loaded}
-use Rattle.lf_claims.specs.Teams.{is_movable, IsTeamOf}
+use Rattle.lf_def.specs.Kinds.{is_movable}
+use Rattle.lf_claims.specs.Teams.{IsTeamOf}
 use Rattle.lf_floorplan.specs.Sizes.{size_in_dbu}
 use Rattle.lf_claims.specs.Refusals.{BearsEarlierName, IsClaimedTwice}
 use Rattle.lf_refusals.specs.Refusals.{HasBadStep, MeetsEarlierRow, HasNoMacro, HasNoSize, HasPartUnits, IsComponentTooMany, EndsTooFar}

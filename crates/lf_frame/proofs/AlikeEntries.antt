@@ -13,7 +13,7 @@ use Rattle.lf_def.specs.declared.components.Location.{Location}
 use Rattle.lf_def.specs.Laws.{without_places}
 use Rattle.lf_lef.specs.Contents.{Contents}
 use Rattle.lf_claims.specs.Entries.{FirstIs}
-use Rattle.lf_claims.specs.Teams.{is_fixed_kind, is_cover_kind, says, is_fixed, is_cover, is_movable}
+use Rattle.lf_def.specs.Kinds.{is_fixed_kind, is_cover_kind, says, is_fixed, is_cover, is_movable}
 use Rattle.lf_refusals.specs.Loading.{at_place, macro_named, has_size, IsWholeSize}
 use Rattle.lf_claims.specs.Refusals.{BearsEarlierName, HasTwoFences, IsClaimedTwice}
 use Rattle.lf_refusals.specs.Refusals.{HasNoMacro, HasNoSize, HasPartUnits, IsComponentTooMany}

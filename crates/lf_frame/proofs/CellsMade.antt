@@ -8,7 +8,7 @@ use Rattle.lf_def.specs.declared.components.Component.{Component}
 use Rattle.lf_floorplan.specs.declared.loaded.Cell.{Cell}
 use Rattle.lf_claims.specs.Entries.{NoneBreaks}
 use Rattle.lf_claims.specs.Refusals.{BearsEarlierName}
-use Rattle.lf_claims.specs.Teams.{is_movable}
+use Rattle.lf_def.specs.Kinds.{is_movable}
 use Rattle.lf_refusals.specs.Findings.{Inputs}
 use Rattle.lf_frame.specs.Loads.{movables, movables_from, IsCellOf}
 

@@ -28,7 +28,8 @@ use Rattle.lf_floorplan.specs.Boxes.{IsSized}
 use Rattle.lf_floorplan.specs.Ground.{IsTeam}
 use Rattle.lf_floorplan.specs.Design.{IsCell, MakeDesign}
 use Rattle.lf_claims.specs.Entries.{NoneBreaks}
-use Rattle.lf_claims.specs.Teams.{is_cover, is_fixed, is_movable, fences, fence_names, IsTeamOf}
+use Rattle.lf_def.specs.Kinds.{is_cover, is_fixed, is_movable}
+use Rattle.lf_claims.specs.Teams.{fences, fence_names, IsTeamOf}
 use Rattle.lf_refusals.specs.Loading.{macro_named}
 use Rattle.lf_claims.specs.Refusals.{BearsEarlierName, IsClaimedTwice}
 use Rattle.lf_refusals.specs.Refusals.{HasNoMacro, IsComponentTooMany}

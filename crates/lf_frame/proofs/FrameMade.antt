@@ -32,7 +32,8 @@ use Rattle.lf_floorplan.specs.Rows.{row_area, IsPitch, IsHeeded, RowsApart}
 use Rattle.lf_floorplan.specs.Fences.{IsFence, AreApart, FencesNamed, FencesApart}
 use Rattle.lf_floorplan.specs.Sizes.{turned, box_at, size_in_dbu}
 use Rattle.lf_claims.specs.Entries.{NoneBreaks}
-use Rattle.lf_claims.specs.Teams.{is_fence, fences, is_fixed}
+use Rattle.lf_def.specs.Kinds.{is_fence, is_fixed}
+use Rattle.lf_claims.specs.Teams.{fences}
 use Rattle.lf_refusals.specs.Loading.{at_place, is_heeded, frame_row, macro_named, has_size, IsWholeSize}
 use Rattle.lf_refusals.specs.Refusals.{IsTurned, MeetsEarlierRow, EndsTooFar, BearsEarlierFence, BearsGroundName, SharePoint, MeetsEarlierFence, IsRowTooMany}
 use Rattle.lf_refusals.specs.Refusals.{IsFenceTooMany}

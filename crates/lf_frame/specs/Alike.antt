@@ -4,7 +4,7 @@ use Rattle.lf_lex.specs.declared.fault.FaultNumber.{FaultNumber}
 use Rattle.lf_lex.specs.declared.fault.LoadFault.{LoadFault}
 use Rattle.lf_def.specs.declared.components.Component.{Component}
 use Rattle.lf_def.specs.Laws.{placement_without_places, document_without_places}
-use Rattle.lf_claims.specs.Teams.{is_movable}
+use Rattle.lf_def.specs.Kinds.{is_movable}
 use Rattle.lf_floorplan.specs.declared.loaded.Loaded.{Loaded}
 use Rattle.lf_refusals.specs.Findings.{Inputs, Finds, IsAccepted, IsFault}
 use Rattle.lf_frame.specs.Loads.{IsLoadedFrom}

@@ -20,7 +20,8 @@ use Rattle.lf_floorplan.specs.declared.loaded.Loaded.{Loaded}
 use Rattle.lf_floorplan.specs.Bounds.{IsWithin}
 use Rattle.lf_floorplan.specs.Rows.{IsPitch}
 use Rattle.lf_floorplan.specs.Sizes.{turned, box_at, size_in_dbu}
-use Rattle.lf_claims.specs.Teams.{fences, is_fixed, is_movable, IsTeamOf}
+use Rattle.lf_def.specs.Kinds.{is_fixed, is_movable}
+use Rattle.lf_claims.specs.Teams.{fences, IsTeamOf}
 use Rattle.lf_refusals.specs.Loading.{macro_named, is_heeded, frame_row}
 use Rattle.lf_claims.specs.Refusals.{HasTwoFences}
 use Rattle.lf_refusals.specs.Findings.{Inputs, units_in, core_in, IsAccepted}

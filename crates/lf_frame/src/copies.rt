@@ -7,8 +7,9 @@ ghost use Rattle.lf_claims.specs.Teams.{fences};
 ghost use Rattle.lf_refusals.specs.Loading.{is_heeded as is_heeded_row, frame_row as frame_row_of};
 ghost use Rattle.lf_frame.specs.Loads.{IsSizedIn, FixedIsSized, frame_team as frame_team_of, location as location_of, as_location, fixed_box as fixed_box_of, blocked, softly_blocked};
 
-use lf_claims::{is_fence, is_fixed};
-use lf_def::{Blockage, Component, Header as DefHeader, Location, Region, Row as DefRow};
+use lf_def::{
+    Blockage, Component, Header as DefHeader, Location, Region, Row as DefRow, is_fence, is_fixed,
+};
 use lf_floorplan::{Header, Macro, Place, Row, Site, Team, macro_box};
 use lf_lef::Library;
 use lf_refusals::{is_heeded, macro_named};

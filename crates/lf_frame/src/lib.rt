@@ -1,5 +1,16 @@
-//! Loading a design: the frame, which every team sees and no command changes, and the movable
-//! cells.
+//! Loading a design: the frame, which every team sees and no command changes, and the movable cells.
+//!
+//! A design is accepted iff no refusal of `lf_refusals` finds anything. The frame is then that of the texts, and the cells are
+//! the movable components in the order of the DEF text, each in the team whose groups claim it, or in the ground team.
+//!
+//! Most public items of `lf_floorplan` can be named from here too.
+//!
+//! ```
+//! let mut library = Library::new(Global);
+//! read_lef(&mut library, W_LEF)?;
+//! let document = read_def(Global, W_DEF)?;
+//! let loaded = load(Global, &library, &document, Limits::standard())?;
+//! ```
 #![tactic(auto)]
 
 mod cells;

@@ -119,7 +119,8 @@ fn out_of_memory<'d>() -> LoadFault<'d>
     ReadError::Memory.into_load_fault()
 }
 
-/// Loads the design of a library of LEF texts and the document of a DEF text, within the limits.
+/// Loads the design of a library of LEF texts and the document of a DEF text, within the limits. Unless an allocation fails,
+/// this succeeds iff no refusal finds anything.
 ///
 /// `Err` is the refusal of least number, from 7 on, that finds an entry, with the name of the first that it finds in the
 /// order of the DEF text: the design for NoUnits and NoRows; a site for NoSite; a row for VerticalRow, BadStep, RowOrient

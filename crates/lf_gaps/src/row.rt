@@ -136,7 +136,10 @@ fn nearest_of(spans: &[Span], grid: &Grid, wanted: &Wanted) -> Option<i64>
 }
 
 /// The grid number nearest to the target at which the width lies in one span of each list; the
-/// lesser of two equally near ones; none if there is none. Spans that touch stay apart.
+/// lesser of two equally near ones; none iff there is none. Spans that touch stay apart.
+///
+/// There is one list or more, and each rises. Width and step are above 0, and all numbers, in database units, within 2^40
+/// either way. `Err` if an allocation fails.
 pub fn best_in_row(
     alloc: Global,
     lists: &[Vec<Span>],

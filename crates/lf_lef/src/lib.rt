@@ -1,5 +1,14 @@
-//! Reads the parts of LEF texts that placement needs: sites, and macros with their sizes, symmetries
-//! and bottom rails.
+//! Reads the parts of LEF 5.8 texts that placement needs, by the grammar in `specs/`.
+//!
+//! These are sites, and macros with their sizes, origins, symmetries and bottom rails; all other statements are skipped. A
+//! `Library` takes one LEF text after the other. A contract sees its sites and its macros, each list in first-read order.
+//! Lengths are in millionths of a micron.
+//!
+//! ```
+//! let mut library = Library::new(Global);
+//! read_lef(&mut library, W_LEF)?;
+//! let inv = library.find_macro(b"INV"); // Some(0)
+//! ```
 #![tactic(auto)]
 
 mod laws;

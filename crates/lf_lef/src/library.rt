@@ -70,14 +70,14 @@ impl Library {
         &self.macros
     }
 
-    /// The position of the site of that name; none if there is none.
+    /// The position of the site of that name; none iff there is none.
     pub fn find_site(&self, name: &[u8]) -> Option<usize>
         ensures { result ≡ position_of (site_names self.now.sites) name.now }
     {
         self.site_table.find(name)
     }
 
-    /// The position of the macro of that name; none if there is none.
+    /// The position of the macro of that name; none iff there is none.
     pub fn find_macro(&self, name: &[u8]) -> Option<usize>
         ensures { result ≡ position_of (macro_names self.now.macros) name.now }
     {

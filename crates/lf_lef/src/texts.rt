@@ -163,10 +163,11 @@ fn read_statements(library: &mut Library, text: &[u8]) -> Result<(), ReadError>
 }
 
 /// Adds the sites and macros of a LEF text, up to END LIBRARY or the end of the text between statements. Of several
-/// sites or macros of one name the first counts, in one text or several.
+/// sites or macros of one name the first counts, in one text or several. Unless an allocation fails, this succeeds iff the text
+/// is LEF by the grammar in `specs/`; the library is then what the grammar makes of it.
 ///
 /// The error is the first fault in the order of the tokens, with its line: BadToken, UnexpectedEnd, Unexpected,
-/// BadNumber, WrongEnd or TooMany; or OutOfMemory. The library is unchanged after it.
+/// BadNumber, WrongEnd or TooMany; or OutOfMemory, without a line. The library is unchanged after it.
 pub fn read_lef<'a>(library: &mut Library, text: &'a [u8]) -> Result<(), LoadFault<'a>>
     ensures ok { OnOk result (grammar.library_after library.old text.now ≡ Ok library.new) }
     ensures fault { IfErr result

@@ -28,7 +28,7 @@ use std::alloc::{AllocError, Global};
 pub struct IndexSeeker;
 
 impl IndexSeeker {
-    /// The seeker, the same for each frame: what it looks up is the occupancy's. It allocates nothing.
+    /// The seeker, the same for each frame: what it looks up is the occupancy's. It allocates nothing, and never fails.
     pub fn build(_alloc: Global, _frame: &Frame) -> Result<Self, AllocError>
         ensures { IsOk result }
     {

@@ -55,7 +55,8 @@ fn push_other(
     push_box(others, frame, &standing, other.own)
 }
 
-/// The boxes of the placed cells of the cell's team but the cell itself, in loading order.
+/// The boxes of the placed cells of the cell's team but the cell itself, in loading order. The macros of
+/// the team's cells are the frame's, of whole size.
 ///
 /// `Err` if an allocation fails.
 pub fn boxes_beside(

@@ -108,9 +108,11 @@ fn with_row(search: &Search<'_>, best: Option<Place>, row: &Row) -> Option<Place
 /// are the team's other placed cells. The key is that of `precedes`; no two legal places have the same
 /// key, so there is one best place at most. The target may be any point. It allocates nothing.
 ///
-/// `padding` is the team's, in core sites. It is heeded against each of the team's other cells, wherever
-/// it stands, across obstacles and from one segment to the next; not against the ends of segments, nor
-/// against the cells of other teams.
+/// `padding` is the team's, in core sites. It keeps the cell apart from each of the team's other cells,
+/// wherever that stands, across obstacles and from one segment to the next; not from the ends of
+/// segments, nor from the cells of other teams.
+///
+/// The macro has a whole size.
 ///
 /// It tries each orientation on every site of every row: the time grows as the number of sites times
 /// that of the rows, obstacles, soft blockages and other cells. Faster searches are compared with it.

@@ -24,8 +24,9 @@ pub trait Seeker {
     /// places that are team-legal beside the team's other placed cells, and at which its box shares no point with a soft
     /// blockage, it is the one of least key.
     ///
-    /// None if there is no such place, or no such cell. `Err` if an allocation fails.
-    /// The target may be any point, in database units.
+    /// None only if there is no such place, or no such cell. `Err` if an allocation fails.
+    /// The target may be any point, in database units. The occupancy is that of the frame and of the cells at their
+    /// working places; the macros of the team's cells are the frame's, of whole size.
     ///
     /// `padding` is that of the cell's team, in core sites. It keeps the cell apart from each of the team's other
     /// cells, wherever it stands, across obstacles and from one segment to the next; not from the ends of segments,

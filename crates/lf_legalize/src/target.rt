@@ -32,8 +32,9 @@ fn first_origin(rows: &[Row]) -> Point
     }
 }
 
-/// The anchor of a team, which is the target of its unplaced cells: the lower left corner of its
-/// first rectangle, and for the ground team the origin of the first row.
+/// The anchor of a team, which is the target of its unplaced cells, in database units: the lower left
+/// corner of its first rectangle, and for the ground team the origin of the first row; (0, 0) if there is
+/// no such rectangle or row.
 pub fn anchor(frame: &Frame, team: usize) -> Point
     ensures { result ≡ anchor frame.now team }
 {

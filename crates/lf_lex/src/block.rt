@@ -8,7 +8,7 @@ ghost use Rattle.lf_lex.specs.Reading.{Reads, Statement};
 use crate::fault::ReadError;
 use crate::lexer::Lexer;
 
-/// A block of statements: how each of them is read.
+/// A block of statements: how each of them is read, and what the statements keep of a state (`keeps`).
 pub trait Block {
     /// The state: what the statements read so far say.
     type State;
@@ -32,9 +32,10 @@ pub trait Block {
         ensures kept { keeps self.now state.new };
 }
 
-/// Reads statement after statement, up to the last.
+/// Reads statement after statement up to the last, each as `Block::turn` reads it, and updates the state.
 ///
-/// `Err` is that of the first statement that fails; the state then keeps `keeps`, and nothing more is promised.
+/// `keeps` must hold of the state at the start, and holds of it at the end. `Err` is that of the first statement that
+/// fails; the state then keeps `keeps`, and nothing more is promised.
 pub fn read_block<B: Block>(
     lexer: &mut Lexer,
     block: &B,

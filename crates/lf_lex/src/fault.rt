@@ -6,7 +6,7 @@ ghost use Rattle.lf_lex.specs.Faults.{load_fault_of};
 
 use std::alloc::{AllocError, AllocFailed};
 
-/// The faults of reading and loading, from number 1 to number 24.
+/// The faults of reading and loading, numbered 1 to 24 in this order.
 #[derive(Clone, Copy, Debug, PartialEq, Eq)]
 pub enum FaultNumber {
     /// A byte that no token may hold.
@@ -100,7 +100,7 @@ impl<T: Drop> From<AllocFailed<T>> for ReadError {
 }
 
 impl ReadError {
-    /// The fault that a public reader returns.
+    /// The error for a user: the fault with its line, or `OutOfMemory` with neither line nor name.
     pub fn into_load_fault<'a>(self) -> LoadFault<'a>
         ensures { result ≡ load_fault_of self }
     {

@@ -11,7 +11,7 @@ pub fn passing_takes_tokens()
     ensures to_word { (due : List ℕ) → TakesTokens (passed_to_word due) }
 {}
 
-/// White space, comments and what follows do not affect what is read.
+/// White space, comments and what follows do not affect what the reading functions read.
 pub fn words_read_alike()
     ensures keyword { (due : List ℕ) → ReadsAlike (keyword due) }
     ensures end_name { (due : List ℕ) → ReadsAlike (end_name due) }

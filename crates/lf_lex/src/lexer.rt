@@ -8,7 +8,8 @@ use crate::scan::{line_feeds, quoted_token, skip_blank, word_token};
 use crate::tokens::{LexFault, Token};
 use std::marker::Model;
 
-/// Returns the tokens of a text one by one. After a fault every call returns that fault.
+/// Returns the tokens of a text one by one. A contract sees the tokens that are left, the fault after them if there is one,
+/// and the line on which the text ends.
 #[derive(Drop)]
 pub struct Lexer<'a> {
     text: &'a [u8],
@@ -28,6 +29,7 @@ impl<'a> Model for Lexer<'a> {
 }
 
 impl<'a> Lexer<'a> {
+    /// The lexer at the start of a text: all of its tokens are left.
     pub fn new(text: &'a [u8]) -> Self
         ensures { result ≡ tokens_of text.now }
     {
@@ -38,7 +40,7 @@ impl<'a> Lexer<'a> {
         }
     }
 
-    /// The whole text. The tokens left are slices of it.
+    /// The whole text. The tokens left are slices of it, one after the other.
     pub fn text(&self) -> &'a [u8]
         ensures slices { AreSlices result.now 0 self.now.tokens }
         ensures within { AreWithin result.now self.now.tokens }
@@ -53,7 +55,7 @@ impl<'a> Lexer<'a> {
         self.line + line_feeds(&self.text[self.at..])
     }
 
-    /// The next token, or None at the end.
+    /// The next token, or None at the end of the text. `Err` is the fault after the last token; every later call returns it too.
     pub fn next_token(&mut self) -> Result<Option<Token<'a>>, LexFault>
         ensures tokens { Answers result self.old self.new }
         ensures spelled { IfOk result (λ token. IfSome token (λ t. IsSpelled (lexeme t))) }

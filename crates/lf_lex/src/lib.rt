@@ -1,4 +1,17 @@
 //! The tokens of LEF and DEF texts, and the reading functions that both readers share.
+//!
+//! A contract sees of a `Lexer` the tokens that are left, the fault after them if there is one, and the line on which the
+//! text ends. A reading function takes tokens from the front of that list: it returns what the definition of the same name
+//! (`specs/Reading.antt`) reads, or fails with the first fault and its line. It allocates nothing, so it never fails for
+//! memory; `read_block` does where a statement of its block does.
+//!
+//! The faults of reading and of loading a design have one numbering, 1 to 24 (`FaultNumber`).
+//!
+//! ```
+//! let mut lexer = Lexer::new(b"SITE core ;");
+//! keyword(&mut lexer, b"SITE")?;
+//! let site = name(&mut lexer)?; // site.text is b"core"
+//! ```
 #![tactic(auto)]
 
 mod block;

@@ -13,7 +13,7 @@ use crate::fault::{FaultNumber, ReadError, ReadFault};
 use crate::lexer::Lexer;
 use crate::tokens::{LexFault, Token, TokenKind};
 
-/// A fault of the text at a line.
+/// The error that is this fault of the text, at this line.
 pub fn fault_at(number: FaultNumber, line: usize) -> ReadError
     ensures { result ≡ reading.error_at number line }
 {
@@ -63,7 +63,7 @@ pub fn next<'a>(lexer: &mut Lexer<'a>) -> Result<Option<Token<'a>>, ReadError>
     }
 }
 
-/// Whether the token's bytes are these.
+/// Whether the token's bytes are these. A quoted text has its quotation marks among them, so it never is a word without any.
 pub fn is(word: &[u8], token: &Token) -> bool
     ensures { result ≡ reading.is word.now (lexeme token.now) }
 {
@@ -87,7 +87,7 @@ pub fn is_word(token: &Token) -> bool
     is_any_word(token) && !is(b";", token)
 }
 
-/// Takes the next token, which must be `due`; else Unexpected.
+/// Takes the next token, which must have the bytes `due`; else Unexpected.
 #[tactic(auto, unfolding(crate::specs::Reading::keyword))]
 pub fn keyword(lexer: &mut Lexer, due: &[u8]) -> Result<(), ReadError>
     ensures read { Reads (λ x. x) result (reading.keyword due.now) lexer.old lexer.new }
@@ -166,7 +166,7 @@ impl Block for ToSemicolon {
     }
 }
 
-/// Skips past the next `;`.
+/// Skips past the next `;`. UnexpectedEnd if the text ends before it.
 pub fn to_semicolon(lexer: &mut Lexer) -> Result<(), ReadError>
     ensures read { Reads (λ x. x) result reading.to_semicolon lexer.old lexer.new }
     ensures fault { IfErr result IsFault }
@@ -198,7 +198,7 @@ impl<'d> Block for ToEnd<'d> {
     }
 }
 
-/// Skips past the next END that the name directly follows, and past that name.
+/// Skips past the next END that the name directly follows, and past that name. UnexpectedEnd if the text ends before it.
 #[tactic(auto, unfolding(crate::specs::Reading::to_end))]
 pub fn to_end(lexer: &mut Lexer, due: &[u8]) -> Result<(), ReadError>
     ensures read { Reads (λ x. x) result (reading.to_end due.now) lexer.old lexer.new }
@@ -228,7 +228,7 @@ impl<'d> Block for ToWord<'d> {
     }
 }
 
-/// Skips past the next such word.
+/// Skips past the next token with these bytes. UnexpectedEnd if the text ends before it.
 pub fn to_word(lexer: &mut Lexer, due: &[u8]) -> Result<(), ReadError>
     ensures read { Reads (λ x. x) result (reading.to_word due.now) lexer.old lexer.new }
     ensures fault { IfErr result IsFault }

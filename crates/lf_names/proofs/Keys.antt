@@ -1,9 +1,11 @@
 -- The keys that a table holds, against the names that contracts see.
 use Rattle.std.proofs.Common.{◌≡◌, ◌≢◌, ℕ, ◌+◌, Bool, true, false, cond, if◌then◌else◌, nat_lt, List, [], ◌∷◌, ◌++◌, length, map, AllPairs, None, Some, position, refl, sym, ap, subst, ◌∙◌}
 use Rattle.std.proofs.lemmas.List.{length-map, map-append}
+use Rattle.std.proofs.lemmas.List.Elements.{All-head, All-tail}
 use Rattle.std.proofs.lemmas.Map.Made.{AllPairs-from_IsDistinct}
 use Rattle.std.proofs.lemmas.Slice.Eq.{bytes_eq-Decides}
 use Rattle.std.specs.List.{position_or_len, list_any, AllByRecursion, IsDistinct}
+use Rattle.std.specs.Prelude.{All}
 use Rattle.std.specs.Str.{bytes_eq}
 use Rattle.lf_names.specs.Names.{position_of}
 
@@ -23,6 +25,18 @@ module _ {K : Type 0} (bytes : K → List ℕ) where
       ap (λ n. cond (nat_lt n (length keys)) (Some n) None) (place-map (bytes_eq name) keys)
       ∙ ap (λ n. cond (nat_lt (position_or_len (bytes_eq name) (map bytes keys)) n) (Some (position_or_len (bytes_eq name) (map bytes keys))) None) many
       ∙ ap (λ ns. position_of ns name) view
+
+  none-passes : (keys : List K) (name : List ℕ) → All (λ n. n ≢ name) (map bytes keys) → false ≡ list_any (λ k. bytes_eq name (bytes k)) keys
+  none-passes [] name apart = refl
+  none-passes (key ∷ keys) name apart = by (bytes_eq name (bytes key)) refl (none-passes keys name (All-tail (λ n. n ≢ name) (bytes key) (map bytes keys) apart))
+    where
+      by : (t : Bool) → bytes_eq name (bytes key) ≡ t → false ≡ list_any (λ k. bytes_eq name (bytes k)) keys → false ≡ list_any (λ k. bytes_eq name (bytes k)) (key ∷ keys)
+      by true is rest = absurd (All-head (λ n. n ≢ name) (bytes key) (map bytes keys) apart (sym ((bytes_eq-Decides name (bytes key)).0 is)))
+      by false is rest = rw is rest
+
+  -- a name that differs from all has no key
+  pub no-key : (keys : List K) (names : List (List ℕ)) (name : List ℕ) → map bytes keys ≡ names → All (λ n. n ≢ name) names → false ≡ list_any (λ k. bytes_eq name (bytes k)) keys
+  no-key keys names name view apart = none-passes keys name (subst (All (λ n. n ≢ name)) (sym view) apart)
 
   -- a new key puts its name after the others
   pub names-push : (keys after : List K) (key : K) (names : List (List ℕ)) (name : List ℕ) → map bytes keys ≡ names → bytes key ≡ name

@@ -11,7 +11,7 @@ use Rattle.std.specs.Prelude.{None, Some}
 use Rattle.lf_names.specs.Names.{position_of}
 use Rattle.lf_names.specs.Labels.{Labelled, Differ, match_of, matches_of}
 use Rattle.lf_names.specs.NameParts.{Keeps, joined, entry_of}
-use Rattle.lf_names.specs.declared.name_parts.Entry.{Entry}
+use Rattle.lf_names.specs.declared.entries.Entry.{Entry}
 use Rattle.lf_names.specs.declared.name_parts.Match.{Match}
 use Rattle.lf_names.specs.declared.name_parts.LabelledNames.{LabelledNames}
 use Rattle.lf_names.proofs.Positions.{stands_nowhere, stands_there}
@@ -34,15 +34,14 @@ dropped names i n within is = grind (arith, common_steps)
 taken : (names : List Labelled) (i : ℕ) (n : Labelled) → i < length names → n ≡ get_or names i n → map (λ m. m.name) (take (i + 1) names) ≡ map (λ m. m.name) (take i names) ++ n.name ∷ []
 taken names i n within is = grind (arith, common_steps)
 
-pub read : (store : LabelledNames) (names : List Labelled) (entries : List Entry) (i : ℕ) (d : Entry) → Keeps store names → entries ≡ store.entries.items → i < length entries → IsRead names i (get_or entries i d)
-read store names entries i d keeps same within =
-    let is : entries ≡ map entry_of names = same ∙ keeps.entries in
-    let many : length entries ≡ length names = ap length is ∙ length-map names entry_of in
+pub read : (store : LabelledNames) (names : List Labelled) (i : ℕ) (e : Entry) → Keeps store names → i < length store.entries → e ≡ get_or store.entries i e → IsRead names i e
+read store names i e keeps within is =
+    let many : length store.entries ≡ length names = ap length keeps.entries ∙ length-map names entry_of in
     let inside : i < length names = omega arith in
     let own : get_or names i no_name ≡ get_or names i (get_or names i no_name) = get_or_default names i no_name (get_or names i no_name) inside in
     record {
       one = get_or names i no_name;
-      entry = ap (λ es. get_or es i d) is ∙ get_or-map entry_of names i no_name d inside;
+      entry = is ∙ ap (λ es. get_or es i e) keeps.entries ∙ get_or-map entry_of names i no_name e inside;
       within = inside;
       own = own;
       left = dropped names i (get_or names i no_name) inside own;

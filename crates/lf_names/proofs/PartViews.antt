@@ -24,8 +24,8 @@ cut_joined (n ∷ names) =
     ∙ ap (λ bytes. n ∷ cut_names (map entry_of names) bytes) (drop-append_seam n.name (joined names))
     ∙ ap (λ ns. n ∷ ns) (cut_joined names)
 
-cut_kept : (store : LabelledNames) (names : List Labelled) → Keeps store names → cut_names store.entries.items store.bytes.items ≡ names
-cut_kept store names keeps = ap (λ bytes. cut_names store.entries.items bytes) keeps.bytes ∙ ap (λ entries. cut_names entries (joined names)) keeps.entries ∙
+cut_kept : (store : LabelledNames) (names : List Labelled) → Keeps store names → cut_names store.entries store.bytes.items ≡ names
+cut_kept store names keeps = ap (λ bytes. cut_names store.entries bytes) keeps.bytes ∙ ap (λ entries. cut_names entries (joined names)) keeps.entries ∙
     cut_joined names
 
 -- the names of the parts below this one, part by part
@@ -54,8 +54,8 @@ parted_below names parts are (suc k) below =
     let p : LabelledNames = get_or parts k d in
     let next : suc k ≡ k + 1 = omega arith in
     let front : take (suc k) parts ≡ take k parts ++ p ∷ [] = ap (λ n. take n parts) next ∙ take_more parts k d (omega arith) in
-    ap names_of_parts front ∙ one_more (λ s. cut_names s.entries.items s.bytes.items) (take k parts) p
-    ∙ ap (λ ns. ns ++ cut_names p.entries.items p.bytes.items) (parted_below names parts are k (omega arith))
+    ap names_of_parts front ∙ one_more (λ s. cut_names s.entries s.bytes.items) (take k parts) p
+    ∙ ap (λ ns. ns ++ cut_names p.entries p.bytes.items) (parted_below names parts are k (omega arith))
     ∙ ap (λ ns. parted k names ++ ns) (cut_kept p (names_of_part k names) (are.each k d (omega arith)))
 
 -- the list of the parts' names, by the names alone

@@ -1,7 +1,7 @@
 -- Labelled names in parts, so that equal names are in one part: each part is looked up by itself.
 use Rattle.std.specs.Prelude.{◌≡◌, ℕ, ◌+◌, ◌*◌, ◌/◌, ◌%◌, ◌^◌, ◌<◌, ◌==◌, List, [], ◌∷◌, length, map, filter, fold, flat_map, take, drop, slice_index_or}
 use Rattle.lf_names.specs.Labels.{Labelled}
-use Rattle.lf_names.specs.declared.name_parts.Entry.{Entry}
+use Rattle.lf_names.specs.declared.entries.Entry.{Entry}
 use Rattle.lf_names.specs.declared.name_parts.LabelledNames.{LabelledNames}
 
 -- the number of parts, and the factor of the hash that selects them
@@ -30,7 +30,7 @@ entry_of n = record { label = n.label; len = length n.name }
 -- the store has these names with their labels, in this order
 pub record Keeps (store : LabelledNames) (names : List Labelled) : Type 0 where
   pub bytes : store.bytes.items ≡ joined names
-  pub entries : store.entries.items ≡ map entry_of names
+  pub entries : store.entries ≡ map entry_of names
 
 -- those of the names that belong to the part, in their order
 abbrev pub names_of_part : ℕ → List Labelled → List Labelled
@@ -43,7 +43,7 @@ cut_names (e ∷ entries) bytes = record { label = e.label; name = take e.len by
 
 -- the names of all parts, part by part
 abbrev pub names_of_parts : List LabelledNames → List Labelled
-names_of_parts parts = flat_map (λ p. cut_names p.entries.items p.bytes.items) parts
+names_of_parts parts = flat_map (λ p. cut_names p.entries p.bytes.items) parts
 
 -- the parts together have these names, each part its own
 pub record ArePartsOf (names : List Labelled) (parts : List LabelledNames) : Type 0 where

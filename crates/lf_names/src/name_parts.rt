@@ -6,6 +6,7 @@ ghost use Rattle.std.specs.Option.{option_map, option_to_list};
 ghost use Rattle.lf_names.specs.Labels.{Labelled, Differ, AreMatches, label_in, labels_of, matches_of};
 ghost use Rattle.lf_names.specs.NameParts.{part_of as name_part, part_count, Keeps, ArePartsOf};
 
+use crate::entries::{Entries, Entry};
 use crate::lent::LentNames;
 use crate::table::Added;
 use std::alloc::{AllocError, Global};
@@ -17,18 +18,11 @@ const PARTS: usize = 256;
 /// The odd factor of the hash that selects the part.
 const FACTOR: u32 = 0x9E37_79B1;
 
-/// A name's label, and how many bytes it has.
-#[derive(Clone, Copy)]
-pub struct Entry {
-    label: usize,
-    len: usize,
-}
-
 /// Names with labels, in the order in which they were pushed; their bytes are joined.
 #[derive(Drop)]
 pub struct LabelledNames {
     bytes: Vec<u8>,
-    entries: Vec<Entry>,
+    entries: Entries,
 }
 
 /// The labels of a name that is in two lists: its own, and that of the asked name.
@@ -85,7 +79,7 @@ impl LabelledNames {
     {
         LabelledNames {
             bytes: Vec::new(alloc),
-            entries: Vec::new(alloc),
+            entries: Entries::new(alloc),
         }
     }
 
@@ -113,8 +107,8 @@ fn table_of(alloc: Global, names: &LabelledNames) -> Result<Option<LentNames<'_>
 {
     let mut table = LentNames::with_capacity(alloc, names.entries.len())?;
     let mut remaining = names.bytes.as_slice();
-    for entry in &names.entries {
-        let (name, behind) = cut(remaining, entry.len);
+    for position in 0..names.entries.len() {
+        let (name, behind) = cut(remaining, names.entries.at(position).len);
         remaining = behind;
         match table.add(name)? {
             Added::New(_) => (),
@@ -152,7 +146,8 @@ fn match_names(
     ensures { (own questions : List Labelled) → Keeps names.now own → table.now ≡ map (λ n. n.name) own → Keeps asked.now questions → OnOk result (matches.new.items ≡ matches.old.items ++ matches_of own questions) }
 {
     let mut remaining = asked.bytes.as_slice();
-    for entry in &asked.entries {
+    for position in 0..asked.entries.len() {
+        let entry = asked.entries.at(position);
         let (name, behind) = cut(remaining, entry.len);
         remaining = behind;
         add_match(matches, label_of(names, table, name), entry.label)?;
@@ -224,7 +219,7 @@ fn match_parts(
 }
 
 impl NameParts {
-    /// The empty list.
+    /// The empty list. `Err` if an allocation fails.
     pub fn new(alloc: Global) -> Result<Self, AllocError>
         ensures { IfOk result (λ parts. parts ≡ []) }
     {
@@ -233,7 +228,8 @@ impl NameParts {
         })
     }
 
-    /// Adds the name with its label to its part. `Err` if an allocation fails.
+    /// Adds the name with its label to its part. The same name may be added again. `Err` if an allocation fails; the list is
+    /// then unchanged.
     pub fn push(&mut self, label: usize, name: &[u8]) -> Result<(), AllocError>
         ensures ok { OnOk result (IsPermutation (self.old ++ record { label = label; name = name.now } ∷ []) self.new) }
         ensures err { OnErr result (self.new ≡ self.old) }
@@ -243,7 +239,7 @@ impl NameParts {
     }
 
     /// The two labels of each asked name that is in the list, once for each time that it is asked for, in any order.
-    /// None iff a name of the list is there twice.
+    /// None iff a name of the list is there twice. `Err` if an allocation fails.
     pub fn matches(
         &self,
         alloc: Global,

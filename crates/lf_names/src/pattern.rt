@@ -56,8 +56,8 @@ impl<'a> Pattern<'a> {
         behind_last_star(self.bytes)
     }
 
-    /// Whether the name matches the pattern. Allocates nothing; takes time at most proportional to the name's length
-    /// times the pattern's.
+    /// Whether the pattern becomes the name when each of its stars is replaced by some bytes, or none. Allocates nothing;
+    /// takes time at most proportional to the name's length times the pattern's.
     pub fn matches(&self, name: &[u8]) -> bool
         ensures { IsTrue result ↔ Matches self.now name.now }
     {

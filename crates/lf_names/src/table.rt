@@ -1,6 +1,6 @@
 //! A table of distinct names.
 
-ghost use Rattle.std.specs.Prelude.{◌≡◌, ◌≢◌, ◌↔◌, [], IfOk, IfSome, IfNone, OnErr, AllPairs, Contains, IsTrue, length, take, slice_get, Some, None};
+ghost use Rattle.std.specs.Prelude.{◌≡◌, ◌≢◌, ◌↔◌, ◌∷◌, ◌++◌, [], All, IfOk, IfSome, IfNone, OnErr, OnOk, AllPairs, Contains, IsTrue, length, take, slice_get, Some, None};
 ghost use Rattle.std.specs.Option.{option_map};
 ghost use Rattle.lf_names.specs.Names.{position_of};
 ghost use Rattle.lf_names.specs.Adds.{Adds};
@@ -11,7 +11,7 @@ use std::alloc::{AllocError, Allocator, Global};
 use std::hash::{BuildHasherDefault, FoldHasher};
 use std::marker::Model;
 
-/// The position of a name that was added.
+/// What adding a name to a table finds: where the name is, and whether it is new.
 #[derive(Clone, Copy, Debug, PartialEq, Eq)]
 pub enum Added {
     /// The name was new, and is the last one.
@@ -51,7 +51,7 @@ impl<A: Allocator + Copy> NameTable<A> {
         }
     }
 
-    /// Appends the name unless it is there. `Err` if an allocation fails, which only a new name
+    /// Appends the name unless it is there, and returns where it is. `Err` if an allocation fails, which only a new name
     /// needs; the table is then unchanged.
     pub fn add(&mut self, name: &[u8]) -> Result<Added, AllocError>
         ensures ok { IfOk result (λ added. Adds self.old name.now added self.new) }
@@ -67,6 +67,18 @@ impl<A: Allocator + Copy> NameTable<A> {
                 Ok(Added::New(position))
             }
         }
+    }
+
+    /// Appends a name that is not there: faster than `add`, which looks for it first. `Err` if an allocation fails; the
+    /// table is then unchanged.
+    pub fn add_new(&mut self, name: &[u8]) -> Result<(), AllocError>
+        requires { All (λ n. n ≢ name.now) self.old }
+        ensures ok { OnOk result (self.new ≡ self.old ++ name.now ∷ []) }
+        ensures err { OnErr result (self.new ≡ self.old) }
+    {
+        let new = StoredName::copied(*self.names.allocator(), name)?;
+        self.names.insert(new)?;
+        Ok(())
     }
 
     /// The name's position; none if it is not there.

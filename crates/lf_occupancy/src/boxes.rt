@@ -1,7 +1,7 @@
 //! The boxes of the cells of all teams, which follow from their places and macros.
 
 ghost use Rattle.std.specs.Prelude.{◌≡◌, [], All, IfSome, option_and_then, slice_index_or};
-ghost use Rattle.lf_cells.specs.Cells.{cell_at, cells_of, id_in};
+ghost use Rattle.lf_cells.specs.Cells.{cell_at, cells_of};
 ghost use Rattle.lf_occupancy.specs.Floorplans.{HasSize, HaveSize, box_of, boxes_in};
 ghost use Rattle.lf_occupancy.specs.Lanes.{IsPlaceX};
 ghost use Rattle.lf_occupancy.specs.Occupied.{cell_box};
@@ -54,16 +54,6 @@ pub(crate) fn box_at_work(frame: &Frame, cells: &CellTable, id: &CellId) -> Opti
     box_in_table(frame, cells, *id)
 }
 
-/// The team's cell of that position; none if there is no such cell.
-fn cell_in(cells: &CellTable, team: usize, own: u32) -> Option<CellId>
-    ensures { result ≡ id_in (cells_of cells.now team) team own }
-{
-    match cells.cells_of(team).get(own as usize) {
-        Some(id) => Some(*id),
-        None => None,
-    }
-}
-
 impl<'a> Boxes<'a> {
     /// The boxes of the table's cells.
     pub(crate) fn new(frame: &'a Frame, cells: &'a CellTable) -> Boxes<'a>
@@ -84,7 +74,7 @@ impl<'a> Boxes<'a> {
     pub(crate) fn get_in(&self, team: usize, own: u32) -> Option<Rect>
         ensures { result ≡ cell_box (slice_index_or self.now team []) own }
     {
-        match cell_in(self.cells, team, own) {
+        match self.cells.cell_of(team, own as usize) {
             Some(id) => box_at_work(self.frame, self.cells, &id),
             None => None,
         }

@@ -13,7 +13,7 @@ use lf_units::{Rect, Span};
 use std::alloc::{AllocError, Global};
 use std::marker::Model;
 
-/// An occupancy, lent with the boxes that its strips hold. A contract sees what of the frame is looked
+/// An occupancy together with the boxes that its strips hold. A contract sees what of the frame is looked
 /// up, the width of a core site, for each team the boxes of its cells, and for each strip how many boxes
 /// it has room for.
 #[derive(Drop)]
@@ -59,8 +59,12 @@ impl<'a> Filled<'a> {
 
     /// Within a window, the spans of a row that are free for a cell, which is taken away first:
     /// of the strips of the row and the cell's team, what the team's other cells leave with the padding
-    /// around each. All lengths are in database units. Only what lies near the window is looked at.
-    /// `Err` if an allocation fails.
+    /// around each. All lengths are in database units. The list rises; a span that holds a number lies in
+    /// one of its spans iff it lies in the window and in one of these strips, and no other cell of the
+    /// team, wherever it stands, is over it or nearer to it than the padding.
+    ///
+    /// The window begins at -2^62 or above, and the padding, a length, is from 0 to 16 core sites. Only
+    /// what lies near the window is looked at. `Err` if an allocation fails.
     pub fn free_in_row(
         &self,
         alloc: Global,
@@ -90,7 +94,9 @@ impl<'a> Filled<'a> {
 
     /// The free spans of one strip, that of the segment of that number, in database units: what the
     /// cells of its team leave of it with the padding around each, one cell left out. A cell of another
-    /// team plays no part, so with such a cell none is left out. None if there is no such segment.
+    /// team plays no part, so with such a cell none is left out. None if there is no such segment. The
+    /// list rises; a span that holds a number lies in one of its spans iff it lies in the strip, and none
+    /// of these cells is over it or nearer to it than the padding: a length, from 0 to 16 core sites.
     /// `Err` if an allocation fails.
     pub fn free_spans(
         &self,
@@ -116,9 +122,9 @@ impl<'a> Filled<'a> {
         )
     }
 
-    /// The first of the other cells of the cell's team, by their positions, that shares with the
-    /// rectangle a point of one of the team's strips, felt 16 core sites around; none if none does. It
-    /// allocates nothing.
+    /// The first of the other cells of the cell's team, by their positions, whose box shares with the
+    /// rectangle a point of one of the team's strips, made wider by 16 core sites on its left and right;
+    /// none if none does. It allocates nothing.
     pub fn first_met(&self, id: CellId, rect: &Rect) -> Option<u32>
         ensures { IsFirstMet self.now id rect.now result }
     {

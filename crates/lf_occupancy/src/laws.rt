@@ -8,8 +8,8 @@ pub fn strips_cover()
     ensures { StripsCover }
 {}
 
-/// Each point of such a box that has points, made wider by no more than 16 core sites, lies in one of
-/// the team's strips felt 16 core sites around.
+/// Each point of such a box that has points, made wider on its left and right by no more than 16 core
+/// sites, lies in one of the team's strips made wider on its left and right by 16 core sites.
 pub fn strips_feel()
     ensures { StripsFeel }
 {}

@@ -21,8 +21,9 @@ use std::alloc::{AllocError, Global};
 use std::marker::Model;
 
 /// The cells in the strips of a frame: what of the frame is looked up, the width of a core site in
-/// database units, and for each strip which cells' boxes have a part in it, felt 16 sites around, in the
-/// order of the parts' left edges. So what lies near enough to a strip for some padding is known there.
+/// database units, and for each strip, made wider by 16 core sites on its left and right, which of its
+/// team's boxes have a part in it, in the order of the parts' left edges. So what lies near enough to a
+/// strip for some padding is known there.
 ///
 /// The boxes follow from frame and cells, and are computed where they are asked for (`filled`). A contract
 /// sees what is kept, and says which boxes the strips hold.
@@ -80,7 +81,8 @@ impl Occupancy {
         16 * self.site
     }
 
-    /// The strips, filled with the table's cells at their working places.
+    /// The strips with the boxes of the table's cells at their working places, which are those that the
+    /// strips hold. The macros of the cells are the frame's, of whole size.
     pub fn filled<'a>(&'a self, frame: &'a Frame, cells: &'a CellTable) -> Filled<'a>
         requires sized { HaveSize frame.now cells.now }
         requires holds { Holds self.now (boxes_in frame.now cells.now) }
@@ -91,7 +93,9 @@ impl Occupancy {
 
     /// The free spans of one strip, that of the segment of that number, in database units: what the
     /// cells of its team leave of it with the padding around each, one cell left out. A cell of another
-    /// team plays no part, so with such a cell none is left out. None if there is no such segment.
+    /// team plays no part, so with such a cell none is left out. None if there is no such segment. The
+    /// list rises; a span that holds a number lies in one of its spans iff it lies in the strip, and none
+    /// of these cells is over it or nearer to it than the padding: a length, from 0 to 16 core sites.
     /// `Err` if an allocation fails.
     pub fn free_spans(
         &self,
@@ -111,8 +115,9 @@ impl Occupancy {
             .free_spans(alloc, segment, without, padding)
     }
 
-    /// Takes the cell, which has this box, out of the strips; if it has no box, nothing changes. It
-    /// allocates nothing, and each strip keeps the room that it has.
+    /// Takes the cell, which has this box, out of the strips; if it has no box, nothing changes: whatever
+    /// boxes the strips held, they hold those with none for the cell. It allocates nothing, and each strip
+    /// keeps the room that it has.
     pub fn remove(&mut self, id: CellId, rect: &Rect)
         requires { CanLeave self.old id rect.now }
         ensures holds { (boxes : List (List (Option Rect))) → IsAt boxes id rect.now → Holds self.old boxes → Holds self.new (boxes_set boxes id None) }
@@ -123,8 +128,10 @@ impl Occupancy {
         take_out(&mut self.lanes, &self.index, &self.site, &id, rect);
     }
 
-    /// Gives a cell without a box this one. It allocates nothing: each strip of its team that, felt
-    /// around, shares a point with the box has room for one more. Each strip keeps the room that it has.
+    /// Gives a cell without a box this one: whatever boxes the strips held, they hold those with this one
+    /// for the cell. The box's left edge is a 32-bit number, as that of a place is. It allocates nothing:
+    /// each strip of its team that, made wider by 16 core sites on its left and right, shares a point with
+    /// the box has room for one more. Each strip keeps the room that it has.
     pub fn insert(&mut self, id: CellId, rect: &Rect)
         requires edge { IsPlaceX rect.now.x1 }
         requires enter { CanEnter self.old id rect.now }
@@ -139,9 +146,9 @@ impl Occupancy {
 
     /// Makes the room that `insert` needs if the moves are made in their order, each by removing the
     /// cell's box and inserting its new one, if it has one: for as many more boxes as there are moves, in
-    /// each strip of a cell's team that, felt around, shares a point with its box. The strips hold the
-    /// same boxes. `Err` if an allocation fails: then strips may have gained room, and nothing else is
-    /// changed.
+    /// each strip of a cell's team that, made wider by 16 core sites on its left and right, shares a point
+    /// with its box. The strips hold the same boxes, and none has less room. `Err` if an allocation fails:
+    /// then strips may have gained room, and nothing else is changed.
     pub fn reserve_for(&mut self, moves: &[(CellId, Option<Rect>)]) -> Result<(), AllocError>
         ensures ok { (boxes : List (List (Option Rect))) → Holds self.old boxes
             → OnOk result (All (λ m. IfSome m.1 (λ rect. HasRoomFor (filled_by self.new boxes) m.0.team rect (length moves.now))) moves.now) }
@@ -153,8 +160,8 @@ impl Occupancy {
         reserve_moves(&mut self.lanes, &self.index, &self.site, moves)
     }
 
-    /// The boxes that the strips hold fit: each strip has room for as many of its team's boxes as share a
-    /// point with it, felt around.
+    /// A law: the boxes that the strips hold fit, that is, each strip has room for as many of its team's
+    /// boxes as share a point with it, made wider by 16 core sites on its left and right.
     pub fn boxes_fit(&self)
         ensures { (boxes : List (List (Option Rect))) → Holds self.now boxes → (team : ℕ) → FitIn (filled_by self.now boxes) team (slice_index_or boxes team []) }
     {

@@ -1,5 +1,13 @@
-//! Orientations of cells and rows, the symmetries that allow them, and the supply rail along the
-//! bottom.
+//! Orientations of cells and rows, the symmetries that allow them, and the supply rail along the bottom.
+//!
+//! Of the eight orientations of DEF, N, S, FN and FS are upright; W, E, FW and FE lie on their side, and no cell is legal so.
+//!
+//! ```
+//! let symmetry = Symmetry { x: true, y: false };
+//! is_candidate(symmetry, Orient::FS); // true: N flipped over the x axis
+//! equal_under(symmetry, Orient::FN, Orient::S); // true
+//! row_rail(Orient::FS); // Some(Rail::Power)
+//! ```
 #![tactic(auto)]
 
 ghost use Rattle.std.specs.Prelude.{◌≡◌, ◌↔◌, IsTrue};
@@ -43,7 +51,7 @@ pub enum Rail {
     Power,
 }
 
-/// The word for an orientation in a DEF text and a reply (LEF/DEF 5.8, DEF COMPONENTS).
+/// The word for an orientation in a DEF text and a reply (LEF/DEF 5.8, DEF COMPONENTS): its own name, as `FN`.
 pub fn orient_word(orient: Orient) -> &'static [u8]
     ensures { result.now ≡ orient_word orient }
 {
@@ -59,7 +67,8 @@ pub fn orient_word(orient: Orient) -> &'static [u8]
     }
 }
 
-/// Whether a macro of this symmetry may have this orientation. N is always allowed.
+/// Whether a macro of this symmetry may have this orientation: N always, FS with X, FN with Y, S with both, and none of those
+/// that lie on their side.
 pub fn is_candidate(symmetry: Symmetry, orient: Orient) -> bool
     ensures { result ≡ is_allowed symmetry orient }
 {
@@ -99,7 +108,7 @@ fn over_y(orient: Orient) -> Orient
 }
 
 /// Whether the two orientations are equal under a site's symmetry, so that a cell of one may be in
-/// a row of the other.
+/// a row of the other: they are the same, or the flips that the symmetry allows make one the other.
 pub fn equal_under(symmetry: Symmetry, a: Orient, b: Orient) -> bool
     ensures { IsTrue result ↔ EqualUnder symmetry a b }
 {
@@ -109,7 +118,8 @@ pub fn equal_under(symmetry: Symmetry, a: Orient, b: Orient) -> bool
         || (symmetry.x && symmetry.y && b == over_x(over_y(a)))
 }
 
-/// The rail along the bottom of a row of this orientation; none for one that lies on its side.
+/// The rail along the bottom of a row of this orientation: ground for N and FN, power for S and FS; none for one that lies on
+/// its side.
 pub fn row_rail(orient: Orient) -> Option<Rail>
     ensures { result ≡ rail_below orient }
 {

@@ -30,7 +30,9 @@ use std::marker::Model;
 /// each cell's box at its working place.
 ///
 /// No strip ever has less room, and each team's committed places fit. So a team can be sent back to
-/// places that it had without memory.
+/// places that it had without memory. The macros of all cells are the frame's, of whole size, and no
+/// team has more than 4,000,000 cells. Contracts see the frame, the cells, and the strips with their
+/// boxes and rooms.
 #[derive(Drop)]
 pub struct Placement {
     frame: Frame,
@@ -90,8 +92,8 @@ impl Placement {
         Plan::new(&self.frame, self.occupancy.index())
     }
 
-    /// The first of the rules but overlap that the cell breaks at the place; none also where there is
-    /// no such cell. It allocates nothing.
+    /// The first of the rules but overlap that the cell breaks at the place, whatever else is placed;
+    /// none also where there is no such cell. It allocates nothing.
     pub fn broken_alone(&self, id: CellId, place: &Place) -> Option<Rule>
         ensures { IsBrokenAlone self.now id place.now result }
     {
@@ -102,7 +104,8 @@ impl Placement {
 
     /// The first of the team's other cells, by their positions, whose box shares a point with that of
     /// the cell at the place, made wider on its left and right by the padding, where it breaks no other
-    /// rule. It allocates nothing.
+    /// rule: so overlap with it is the first rule that the cell breaks there. None iff the place is
+    /// team-legal for the cell, or there is no such cell. It allocates nothing.
     pub fn first_other(&self, id: CellId, place: &Place, padding: Padding) -> Option<u32>
         requires { IsBrokenAlone self.now id place.now None }
         ensures { IsBrokenAt self.now padding.sites id place.now (option_map (λ own. record { rule = Overlap; other = Some own }) result) }
@@ -153,7 +156,8 @@ impl Placement {
         )
     }
 
-    /// Makes the room that `make` asks where it makes these moves of the team's cells.
+    /// Makes the room that `make` asks where it makes these moves of the team's cells: these fit where the
+    /// moves lead them. Cells and boxes are unchanged, and no strip has less room.
     ///
     /// `Err` if an allocation fails: then some room may have been made, and nothing else is changed.
     pub fn reserve(&mut self, alloc: Global, team: usize, moves: &[Move]) -> Result<(), AllocError>
@@ -171,7 +175,10 @@ impl Placement {
     }
 
     /// Makes the moves of the team's cells from that one on, in their order, and leaves in each the
-    /// place that its cell had: so afterwards the moves are what takes them back. It allocates nothing.
+    /// place that its cell had: so afterwards the moves are what takes them back. Where the moves before
+    /// that one have led here from some cells, all of them now lead from the same cells. The cells fit
+    /// where the moves lead them. Other teams, the frame, the positions of components and the rooms of the
+    /// strips are unchanged. It allocates nothing.
     pub fn make(&mut self, team: usize, moves: &mut Moves, from: usize)
         requires { Fits self.old team (places_of (made (drop from moves.old) (cells_of self.old.cells team))) }
         ensures own { cells_of self.new.cells team ≡ made (drop from moves.old) (cells_of self.old.cells team) }
@@ -190,7 +197,9 @@ impl Placement {
         );
     }
 
-    /// Takes moves of the team's cells back, the last one first. It allocates nothing.
+    /// Takes moves of the team's cells back, the last one first: where they have led here from some cells,
+    /// the team has these again. The cells fit at the places that they go back to. Other teams, the frame,
+    /// the positions of components and the rooms of the strips are unchanged. It allocates nothing.
     pub fn take_back(&mut self, team: usize, moves: &Moves)
         requires { Fits self.old team (taken_back moves.now (places_of (cells_of self.old.cells team))) }
         ensures own { (before : List Cell) → HaveMoved before moves.now (cells_of self.old.cells team) → cells_of self.new.cells team ≡ before }
@@ -206,7 +215,8 @@ impl Placement {
         );
     }
 
-    /// Makes the working places of the team's cells their committed ones.
+    /// Makes the working places of the team's cells their committed ones. Other teams, the frame, the
+    /// positions of components and the rooms of the strips are unchanged.
     pub fn commit_team(&mut self, team: usize)
         ensures own { cells_of self.new.cells team ≡ map as_committed (cells_of self.old.cells team) }
         ensures others { OtherCellsStay team self.old.cells self.new.cells }
@@ -216,7 +226,7 @@ impl Placement {
         commit_places(&mut self.cells, team);
     }
 
-    /// The macros of all cells are the frame's, of whole size, and no team has more than 4,000,000
+    /// A law: the macros of all cells are the frame's, of whole size, and no team has more than 4,000,000
     /// cells.
     pub fn cells_are_sized(&self)
         ensures sized { AreSized self.now.frame self.now.cells }
@@ -225,14 +235,14 @@ impl Placement {
         let _ = &self.cells;
     }
 
-    /// The working places of each team fit.
+    /// A law: the working places of each team fit.
     pub fn places_stand(&self)
         ensures { (team : ℕ) → Fits self.now team (places_of (cells_of self.now.cells team)) }
     {
         self.occupancy.boxes_fit();
     }
 
-    /// The committed places of each team fit.
+    /// A law: the committed places of each team fit.
     pub fn committed_fit(&self)
         ensures { (team : ℕ) → Fits self.now team (committed_of (cells_of self.now.cells team)) }
     {

@@ -10,7 +10,6 @@ ghost use Rattle.lf_placement.specs.Placings.{made};
 ghost use Rattle.lf_placement.specs.Steps.{asked_for};
 
 use crate::strips::box_at;
-use crate::table::cell_of;
 use lf_cells::{CellId, CellTable};
 use lf_floorplan::Frame;
 use lf_occupancy::Occupancy;
@@ -23,7 +22,7 @@ fn asked_for(frame: &Frame, cells: &CellTable, team: usize, next: &Move) -> (Cel
     requires { All (IsSizedCell frame.now) (cells_of cells.now team) }
     ensures { result ≡ asked_for frame.now team (cells_of cells.now team) next.now }
 {
-    match cell_of(cells, team, next.own) {
+    match cells.cell_of(team, next.own as usize) {
         Some(id) => (id, box_at(frame, cells, id, next.old.place())),
         None => (CellId { team: 0, own: 0 }, None),
     }

@@ -10,7 +10,6 @@ ghost use Rattle.lf_occupancy.specs.Occupied.{cell_box};
 ghost use Rattle.lf_occupancy.specs.Strips.{Holds, IsAt, filled_by};
 ghost use Rattle.lf_placement.specs.Steps.{CanStand, HoldsSome, IsPartly, KeepsRooms, MayHave, MayStand, TakesOut, box_moved, box_set, owns, working_boxes};
 
-use crate::table::cell_of;
 use lf_cells::{CellId, CellTable};
 use lf_floorplan::{Frame, Place};
 use lf_occupancy::Occupancy;
@@ -53,7 +52,7 @@ fn take_out(frame: &Frame, occupancy: &mut Occupancy, cells: &CellTable, team: u
         → Holds occupancy.old boxes → Holds occupancy.new (box_set boxes team own None) }
     ensures rooms { KeepsRooms occupancy.old occupancy.new }
 {
-    let Some(id) = cell_of(cells, team, own) else {
+    let Some(id) = cells.cell_of(team, own as usize) else {
         return;
     };
     let Some(rect) = box_at_work(frame, cells, id) else {
@@ -101,7 +100,7 @@ fn put_at_work(frame: &Frame, occupancy: &mut Occupancy, cells: &CellTable, team
         → Holds occupancy.old boxes → Holds occupancy.new (box_set boxes team own (cell_box (working_boxes frame.now cells.now team) own)) }
     ensures rooms { KeepsRooms occupancy.old occupancy.new }
 {
-    let Some(id) = cell_of(cells, team, own) else {
+    let Some(id) = cells.cell_of(team, own as usize) else {
         return;
     };
     let Some(rect) = box_at_work(frame, cells, id) else {

@@ -2,7 +2,7 @@
 
 ghost use Rattle.std.specs.Prelude.{◌≡◌, List, drop, take};
 ghost use Rattle.lf_cells.specs.declared.cell.Cell.{Cell};
-ghost use Rattle.lf_cells.specs.Cells.{cells_of, id_in, moved, working_at};
+ghost use Rattle.lf_cells.specs.Cells.{cells_of, moved, working_at};
 ghost use Rattle.lf_placement.specs.Placings.{HaveMoved, OtherCellsStay, made};
 ghost use Rattle.lf_placement.specs.Steps.{made_back, owns};
 
@@ -10,22 +10,12 @@ use lf_cells::{CellId, CellTable};
 use lf_floorplan::Place;
 use lf_undo::Moves;
 
-/// The team's cell of that position; none where there is no such cell.
-pub(crate) fn cell_of(cells: &CellTable, team: usize, own: u32) -> Option<CellId>
-    ensures { result ≡ id_in (cells_of cells.now team) team own }
-{
-    match cells.cells_of(team).get(own as usize) {
-        Some(id) => Some(*id),
-        None => None,
-    }
-}
-
 /// The working place of the team's cell of that position; none where it is unplaced, or there is no
 /// such cell.
 fn place_at(cells: &CellTable, team: usize, own: u32) -> Option<Place>
     ensures { result ≡ working_at (cells_of cells.now team) own }
 {
-    cells.working(cell_of(cells, team, own)?)
+    cells.working(cells.cell_of(team, own as usize)?)
 }
 
 /// Changes the working place of one cell, and nothing else.
@@ -41,7 +31,7 @@ fn put_at(cells: &mut CellTable, team: usize, own: u32, place: Option<Place>)
     ensures own { cells_of cells.new team ≡ moved (cells_of cells.old team) own place }
     ensures others { OtherCellsStay team cells.old cells.new }
 {
-    if let Some(id) = cell_of(cells, team, own) {
+    if let Some(id) = cells.cell_of(team, own as usize) {
         set_place(cells, id, place);
     }
 }

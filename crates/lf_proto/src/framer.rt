@@ -29,7 +29,8 @@ pub struct Fed {
     pub got: Got,
 }
 
-/// The lines of a stream whose pieces are fed one after the other. Only `new` allocates.
+/// The lines of a stream whose pieces are fed one after the other. Only `new` allocates. Contracts see the bytes since the
+/// last line feed, or none if they are over the limit, and the line that was given last.
 #[derive(Drop)]
 pub struct LineFramer {
     buffer: Vec<u8>,
@@ -85,7 +86,7 @@ fn drop_return(buffer: &mut Vec<u8>)
 }
 
 impl LineFramer {
-    /// A framer at the start of a stream, with room for the longest line.
+    /// A framer at the start of a stream, with room for the longest line. `Err` if an allocation fails.
     pub fn new(alloc: Global) -> Result<LineFramer, AllocError>
         ensures { IfOk result (λ framer. framer.pending ≡ Some []) }
     {
@@ -137,7 +138,8 @@ impl LineFramer {
         &self.buffer
     }
 
-    /// The last line at the end of the stream: what is held, if it has a byte. It keeps its carriage return.
+    /// The last line at the end of the stream: what is held, if it has a byte, and `More` if it has none. It keeps its carriage
+    /// return.
     pub fn finish(&mut self) -> Got
         ensures given { FinishesAt self.old.pending result self.new.line }
         ensures pending { self.new.pending ≡ Some [] }

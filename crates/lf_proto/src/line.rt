@@ -242,6 +242,7 @@ fn fields_of<'a>(line: &'a [u8]) -> Fields<'a>
 }
 
 /// The request that a line is; the line is given without its line feed and the carriage return before it.
+/// `BadRequest` iff it is none.
 ///
 /// Names are slices of the line, and nothing is allocated.
 pub fn parse_line<'a>(line: &'a [u8]) -> Result<Request<'a>, BadRequest>

@@ -37,7 +37,7 @@ impl Text {
         Text { bytes }
     }
 
-    /// The bytes, lent.
+    /// The bytes.
     pub fn as_bytes(&self) -> &[u8]
         ensures { result.now ≡ self.now }
     {

@@ -51,7 +51,8 @@ fn violation_string(alloc: Global, violation: &Violation) -> Result<String, Allo
     violation_value(alloc, violation)?.to_string(alloc)
 }
 
-/// Puts a violation behind what is written of a report, and a comma before it if it comes later than another.
+/// Puts a violation behind what is written of a report, and a comma before it if it comes later than another. The names in it
+/// are names of a text.
 ///
 /// `Err` if an allocation fails; a part of it may then stand there.
 pub fn put_violation(
@@ -120,7 +121,7 @@ pub fn report_closed(mut text: Vec<u8>) -> Result<Text, AllocError>
 }
 
 /// The text of a report: compact JSON with the keys `cells`, `unplaced` and `violations`, and in each violation
-/// `cell`, for Overlap `other`, and `rule`. One violation at a time is made a value of JSON.
+/// `cell`, for Overlap `other`, and `rule`. The names in it are names of a text. One violation at a time is made a value of JSON.
 ///
 /// `Err` if an allocation fails.
 #[tactic(auto, unfolding(crate::specs::ReportText::report_text))]

@@ -50,7 +50,7 @@ impl Order<&[u8]> {
 }
 
 impl Command<&[u8]> {
-    /// A copy that owns its names.
+    /// A copy that owns its names. `Err` if an allocation fails.
     pub fn to_owned(&self, alloc: Global) -> Result<Command<Name>, AllocError>
         ensures { IfOk result (λ command. command ≡ command_of self.now) }
     {
@@ -80,7 +80,7 @@ impl Order<Name> {
 }
 
 impl Command<Name> {
-    /// The same command with its names lent.
+    /// The same command, which borrows its names.
     pub fn lent(&self) -> Request<'_>
         ensures { command_of result ≡ self.now }
     {

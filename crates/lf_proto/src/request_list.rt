@@ -8,7 +8,7 @@ use lf_units::Name;
 use std::alloc::{AllocError, Global};
 use std::marker::Model;
 
-/// Requests in order, each a copy of one that was pushed. Only `push` allocates.
+/// Requests in order, each a copy of one that was pushed. Only `push` allocates. Contracts see the list of requests.
 #[derive(Drop)]
 pub struct RequestList {
     alloc: Global,

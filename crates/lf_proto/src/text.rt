@@ -269,7 +269,8 @@ fn put_reply(
 /// Appends the text of a reply, its line with the line feed and what follows it, given the names of the cells that it is about.
 ///
 /// `cell_name` is the name of the reply's cell and `other_name` that of the other cell of an overlap; a reply
-/// without them leaves them out. If an allocation fails, `out` is unchanged.
+/// without them leaves them out. If an allocation fails, the bytes of `out` are unchanged; none fails where the text fits
+/// into the capacity of `out`.
 pub fn reply_text(
     reply: &Reply,
     cell_name: &[u8],

@@ -19,7 +19,7 @@ use Rattle.lf_units.proofs.Edges.{EdgesCross, edges_of_shared, shared_of_edges}
 use Rattle.lf_refusals.specs.declared.sweep.Piece.{Piece}
 use Rattle.lf_floorplan.specs.Rows.{row_area}
 use Rattle.lf_claims.specs.Entries.{NoneBreaks}
-use Rattle.lf_claims.specs.Teams.{is_fence}
+use Rattle.lf_def.specs.Kinds.{is_fence}
 use Rattle.lf_refusals.specs.Loading.{is_heeded, frame_row}
 use Rattle.lf_refusals.specs.Refusals.{MeetsEarlierRow, MeetsEarlierFence}
 use Rattle.lf_refusals.specs.Sweep.{piece_area, piece_of, EndsBefore, Clash, ClashesWithNone, NoneClash, Rise, row_pieces, fence_pieces, HoldPieces}

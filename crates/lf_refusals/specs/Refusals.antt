@@ -15,7 +15,7 @@ use Rattle.lf_refusals.specs.declared.component_refusals.MacroFaults.{MacroFault
 use Rattle.lf_claims.specs.Entries.{FirstIs}
 use Rattle.lf_floorplan.specs.Rows.{row_area}
 use Rattle.lf_floorplan.specs.Fences.{ground_name}
-use Rattle.lf_claims.specs.Teams.{is_fence, is_cover}
+use Rattle.lf_def.specs.Kinds.{is_fence, is_cover}
 use Rattle.lf_refusals.specs.Loading.{site_named, macro_named, has_size, IsWholeSize, is_heeded, frame_row}
 
 -- NoSite: the row's site is in no LEF text

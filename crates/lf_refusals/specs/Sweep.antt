@@ -7,7 +7,7 @@ use Rattle.lf_floorplan.specs.declared.sites.Site.{Site}
 use Rattle.lf_def.specs.declared.rows.Row.{Row}
 use Rattle.lf_def.specs.declared.regions.Region.{Region}
 use Rattle.lf_floorplan.specs.Rows.{row_area}
-use Rattle.lf_claims.specs.Teams.{is_fence}
+use Rattle.lf_def.specs.Kinds.{is_fence}
 use Rattle.lf_refusals.specs.Loading.{is_heeded, frame_row}
 use Rattle.lf_refusals.specs.declared.sweep.Piece.{Piece}
 

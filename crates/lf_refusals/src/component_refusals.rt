@@ -8,13 +8,12 @@ ghost use Rattle.lf_claims.specs.Entries.{FirstIs, first_of};
 ghost use Rattle.lf_refusals.specs.Loading.{macro_named as named_macro, has_size as is_size, IsWholeSize};
 ghost use Rattle.lf_refusals.specs.Refusals.{HasNoMacro, HasNoSize, HasPartUnits, AreMacroFaults, IsComponentTooMany};
 
-use lf_claims::is_cover;
-use lf_def::Component;
+use lf_def::{Component, is_cover};
 use lf_floorplan::Macro;
 use lf_lef::Library;
 use lf_units::{Point, micros_to_dbu};
 
-/// The macro of that name; none if there is none.
+/// The macro of that name; none iff there is none.
 pub fn macro_named<'l>(library: &'l Library, name: &[u8]) -> Option<&'l Macro>
     ensures macro_is { option_copied result ≡ named_macro library.now name.now }
     ensures range { IfSome result (λ m. HasRange m.now.size) }

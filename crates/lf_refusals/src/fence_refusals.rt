@@ -3,14 +3,15 @@
 ghost use Rattle.std.specs.Prelude.{[], ◌∷◌, ◌≡◌, ◌≢◌, ◌↔◌, ℕ, ◌<◌, ◌≤◌, ◌++◌, true, None, List, map, All, Any, Contains, IsTrue, IsFalse, IfOk, OnOk, MatchOption, IfSome, length};
 ghost use Rattle.lf_units.specs.Area.{SharesPoint};
 ghost use Rattle.lf_claims.specs.Entries.{FirstIs};
-ghost use Rattle.lf_claims.specs.Teams.{is_fence as is_fence_region, fence_names};
+ghost use Rattle.lf_def.specs.Kinds.{is_fence as is_fence_region};
+ghost use Rattle.lf_claims.specs.Teams.{fence_names};
 ghost use Rattle.lf_refusals.specs.Tables.{HoldSameNames, region_names as region_names_of, IsOutside};
 ghost use Rattle.lf_refusals.specs.Sweep.{piece_of, fence_pieces as fence_pieces_of, HoldPieces};
 ghost use Rattle.lf_refusals.specs.Refusals.{BearsEarlierFence, HasNoRegion, BearsGroundName, SharePoint, MeetsEarlierFence, IsFenceTooMany};
 
 use crate::sweep::{Piece, none_clash};
-use lf_claims::{is_added, is_fence};
-use lf_def::{Group, Region};
+use lf_claims::is_added;
+use lf_def::{Group, Region, is_fence};
 use lf_names::NameTable;
 use lf_units::Rect;
 use std::alloc::{AllocError, Global};

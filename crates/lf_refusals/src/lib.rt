@@ -1,4 +1,14 @@
-//! The refusals of loading: the search of each, and the refusal of the least number; the core site and its pitch.
+//! The refusals of loading: why a design cannot be loaded, and the first of these reasons.
+//!
+//! A refusal is one of the faults 7 to 23 of `lf_lex`: NoUnits to TooMany. Each *finds* a name, by the first entry of the DEF
+//! text that is at fault, or nothing; a design is accepted iff none finds anything. The *core site* is that of the first row
+//! whose site has CLASS CORE and a SIZE with both lengths above 0; rows of other sites play no part but in NoSite.
+//!
+//! ```
+//! let claims = claim_table(Global, components, groups, regions)?; // those of the document
+//! let found = first_refusal(Global, &claims, &library, &document, &limits)?;
+//! // None, or Some(LoadFault { number: FaultNumber::NoMacro, line: None, name: Some(b"INVX9") })
+//! ```
 #![tactic(auto)]
 
 mod component_refusals;

@@ -24,7 +24,7 @@ pub struct Pitch {
     pub ghost low: { size.y ≤ℤ pos 20000000000 },
 }
 
-/// The core site, with lengths in the range of LEF and above 0.
+/// The core site, with lengths in the range of LEF and above 0; none if no row has one.
 pub fn sized_core_site<'l>(library: &'l Library, rows: &[Row]) -> Option<&'l Site>
     ensures core { option_copied result ≡ core_site_of library.now rows.now }
     ensures range { IfSome result (λ s. HasRange s.now.size) }
@@ -33,7 +33,8 @@ pub fn sized_core_site<'l>(library: &'l Library, rows: &[Row]) -> Option<&'l Sit
     core_site(library, rows)
 }
 
-/// The size of a core site in database units; none if it is not whole in them.
+/// The size of a core site in database units, of which a micron has 1 to 20,000; none iff it is not whole in them. The site
+/// is as `sized_core_site` gives it.
 pub fn core_pitch(core: &Site, units: u32) -> Option<Pitch>
     requires least { 1 ≤ units }
     requires most { units ≤ 20000 }

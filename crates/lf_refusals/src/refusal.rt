@@ -99,7 +99,8 @@ fn finding<'d>(
     }
 }
 
-/// The refusal of the least number that finds an entry, with the name that it finds.
+/// The refusal of the least number that finds an entry, with the name of the first entry that it finds; none iff no refusal
+/// finds anything. The claims must be those of the document. `Err` if an allocation fails.
 pub fn first_refusal<'d>(
     alloc: Global,
     claims: &ClaimTable,

@@ -2,7 +2,8 @@
 
 ghost use Rattle.lf_reports.specs.Reports.{CleanIsLegal};
 
-/// A report finds no fault in its cells if and only if they make a fully legal design.
+/// A report of a whole design's cells is clean, that is, finds none unplaced and no broken rule, iff they make a fully legal
+/// design.
 pub fn clean_is_legal()
     ensures { CleanIsLegal }
 {}

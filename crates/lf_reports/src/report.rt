@@ -294,7 +294,9 @@ fn unplaced_in(cells: &[Listed<&[u8]>]) -> usize
     cells.iter().filter(|cell| cell.place.is_none()).count()
 }
 
-/// The report of a list of cells, by the verdict of each: the first rule that it breaks where it stands, or none.
+/// The report of a list of cells, if these are their verdicts: for each cell the first rule that it breaks where it stands, or
+/// none. There are as many verdicts as cells. If the macros of the cells are a frame's, of whole size, and their names are names
+/// of a text, so are the names in the report.
 ///
 /// `Err` if an allocation fails.
 pub fn report_by_verdicts(
@@ -335,8 +337,9 @@ fn boxes_in(
 /// For each of these cells the first rule that it breaks where it stands, and for Overlap the first other cell that it
 /// meets; none if it breaks no rule, or is unplaced.
 ///
-/// Overlap is between any two cells of the list: those of a team with its padding, or of a whole design with none. A cell is only
-/// compared with what lies near it. `Err` if an allocation fails.
+/// Overlap is between any two cells of the list: those of a team with its padding, or of a whole design with none. The macros of
+/// the cells are the frame's, of whole size, their names are names of a text, and there are at most 4,000,000 cells. A cell is
+/// only compared with what lies near it. `Err` if an allocation fails.
 pub fn verdicts_on(
     alloc: Global,
     plan: &Plan<'_>,
@@ -392,7 +395,8 @@ fn listed_cells<'a>(
 
 /// The verdicts of a design whose movable cells stand at these places, one for each cell in loading order: the first rule
 /// that the cell breaks there, and for Overlap the first other cell that it meets; none if it breaks no rule, or is unplaced.
-/// Overlap is between cells of any teams, and paddings play no part.
+/// Overlap is between cells of any teams, and paddings play no part. The design at these places is fully legal iff no place is
+/// none and no verdict is that a rule is broken.
 ///
 /// A cell is only compared with what lies near it. `Err` if an allocation fails.
 pub fn verdicts_of_all(
@@ -412,7 +416,8 @@ pub fn verdicts_of_all(
 }
 
 /// The report of a design whose movable cells stand at these places, one for each cell in loading order; overlap
-/// is between cells of any teams, and paddings play no part.
+/// is between cells of any teams, and paddings play no part. It is clean iff the design at these places is fully legal, and the
+/// names in it are names of a text.
 ///
 /// A cell is only compared with what lies near it. `Err` if an allocation fails.
 pub fn check_all(

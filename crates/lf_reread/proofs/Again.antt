@@ -13,7 +13,7 @@ use Rattle.lf_def.specs.declared.components.Location.{Location}
 use Rattle.lf_def.specs.declared.components.Placement.{Placement}
 use Rattle.lf_def.specs.Document.{Document}
 use Rattle.lf_def.specs.Laws.{placement_without_places, without_places, document_without_places}
-use Rattle.lf_claims.specs.Teams.{is_movable}
+use Rattle.lf_def.specs.Kinds.{is_movable}
 use Rattle.lf_frame.specs.Loads.{location, movables_from, as_location}
 use Rattle.lf_frame.specs.Alike.{settled}
 use Rattle.lf_frame.proofs.AlikeEntries.{movable_same, settled_without}

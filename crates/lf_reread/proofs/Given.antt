@@ -11,7 +11,7 @@ use Rattle.lf_def.specs.declared.components.Location.{Location}
 use Rattle.lf_def.specs.declared.components.Placement.{Placement}
 use Rattle.lf_def.specs.declared.components.PlacementKind.{PlacementKind}
 use Rattle.lf_def.specs.declared.components.PlacementKind.TheVariants.{Fixed, Cover, Placed, Unplaced}
-use Rattle.lf_claims.specs.Teams.{is_movable}
+use Rattle.lf_def.specs.Kinds.{is_movable}
 use Rattle.lf_refusals.specs.Findings.{Inputs}
 use Rattle.lf_frame.specs.Loads.{movables, movables_from, IsCellOf, IsLoadedFrom}
 use Rattle.lf_write.specs.Export.{IsMovable, Rise}

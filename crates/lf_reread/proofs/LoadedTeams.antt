@@ -19,7 +19,8 @@ use Rattle.lf_floorplan.specs.declared.loaded.Cell.{Cell as LoadedCell}
 use Rattle.lf_floorplan.specs.declared.loaded.Loaded.{Loaded}
 use Rattle.lf_floorplan.specs.Boxes.{macro_of, no_macro}
 use Rattle.lf_cells.specs.declared.cell.Cell.{Cell}
-use Rattle.lf_claims.specs.Teams.{is_fence, fences, fence_names, is_movable, Claims, IsTeamOf}
+use Rattle.lf_def.specs.Kinds.{is_fence, is_movable}
+use Rattle.lf_claims.specs.Teams.{fences, fence_names, Claims, IsTeamOf}
 use Rattle.lf_refusals.specs.Findings.{Inputs}
 use Rattle.lf_frame.specs.Loads.{frame_team, header_in, movables, IsFrameOf, IsCellOf, IsLoadedFrom}
 use Rattle.lf_reread.specs.Spelled.{IsSpelledName, IsSpelledHeader, IsSpelledCell, CanBeBound, IsSpelledTeam}

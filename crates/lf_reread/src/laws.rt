@@ -10,7 +10,8 @@ ghost use Rattle.lf_reread.specs.TeamDocument.{TeamTextReadsBack};
 /// team's cells to it by their names, and the cells at their working places, in loading order. It has no rows
 /// and no blockages.
 ///
-/// A group's pattern cannot be `+`, so if the team has a fence, none of its cells may have that name.
+/// A text must be able to spell the header, the fence and the cells, of which there are at most 4,000,000. A group's
+/// pattern cannot be `+`, so if the team has a fence, none of its cells may have that name.
 pub fn team_text_reads_back()
     ensures { TeamTextReadsBack }
 {}

@@ -36,7 +36,8 @@ impl Model for RTree {
 }
 
 impl RTree {
-    /// A tree of these boxes. Numbers may repeat, and rectangles without points are never found.
+    /// A tree of these boxes, in some order. Numbers may repeat, and rectangles without points are never found. `Err` if an
+    /// allocation fails.
     pub fn build(alloc: Global, boxes: Vec<Placed>) -> Result<Self, AllocError>
         ensures { IfOk result (λ tree. IsPermutation boxes.items tree) }
     {
@@ -65,7 +66,7 @@ impl RTree {
     }
 
     /// The least number, other than `but`, of a box that shares a point with this rectangle; none
-    /// if there is none. It allocates nothing.
+    /// iff there is no such box. It allocates nothing.
     pub fn least_met(&self, rect: &Rect, but: u32) -> Option<u32>
         ensures { MatchOption result (IsNoneMet self.now rect.now but) (IsLeastMet self.now rect.now but) }
     {

@@ -72,7 +72,7 @@ fn is_column_covered(rect: &Rect, rects: &[Rect], foot: &Point) -> bool
     true
 }
 
-/// Whether the rectangles cover every point of the box.
+/// Whether the rectangles together cover every point of the box, which is higher than 0. For a fence this is rule 6.
 pub fn is_covered(rect: &Rect, rects: &[Rect]) -> bool
     requires { rect.now.y1 <ℤ rect.now.y2 }
     ensures { IsTrue result ↔ ((x y : ℤ) → Covers rect.now x y → CoveredBy rects.now x y) }

@@ -17,7 +17,8 @@ use lf_floorplan::{Frame, Macro, Near, Place, Row};
 use lf_orient::{Orient, equal_under, is_candidate, row_rail};
 use lf_rtree::Placed;
 
-/// Whether a cell of the macro may have this orientation on this bottom row.
+/// Whether a cell of the macro may have this orientation on this bottom row: the macro's symmetry allows it and, if the height
+/// in core sites is odd, the core site's symmetry makes it equal to the row's. This is rule 4.
 pub fn is_oriented(frame: &Frame, mac: &Macro, orient: Orient, height: u32, bottom: &Row) -> bool
     ensures { IsTrue result ↔ (IsTrue (is_allowed mac.now.symmetry orient) × (height % 2 ≡ 1 → EqualUnder frame.now.site.symmetry orient bottom.now.orient)) }
 {
@@ -27,16 +28,18 @@ pub fn is_oriented(frame: &Frame, mac: &Macro, orient: Orient, height: u32, bott
     height % 2 == 0 || equal_under(frame.site.symmetry, orient, bottom.orient)
 }
 
-/// Whether the macro's bottom rail is the bottom row's, if the height is even.
+/// Whether the macro's bottom rail is the bottom row's, if the height in core sites is even. This is rule 5.
 pub fn is_on_rail(mac: &Macro, height: u32, bottom: &Row) -> bool
     ensures { IsTrue result ↔ (height % 2 ≡ 0 → rail_below bottom.now.orient ≡ Some mac.now.rail) }
 {
     height % 2 == 1 || row_rail(bottom.orient) == Some(mac.rail)
 }
 
-/// The first of the rules but overlap that a cell of the team breaks at the place; none if it keeps them all.
+/// The first of rules 1 to 7 that a cell of the team breaks at the place, whatever else is placed and whatever the padding is;
+/// none iff it keeps them all.
 ///
-/// `team` is a fence's position in the frame, or the number of fences for the ground team. It allocates nothing.
+/// `team` is a fence's position in the frame, or the number of fences for the ground team. The macro's size is whole in
+/// database units. `near` is any `Near` of the frame, as `Whole`. It allocates nothing.
 pub fn broken_alone<N: Near>(near: &N, team: usize, mac: &Macro, place: &Place) -> Option<Rule>
     requires { IsSized (N.of near.now) mac.now }
     ensures { (padding : ℕ) (others : List Placed) → IsFrameVerdict (trial_of (N.of near.now) team padding mac.now place.now others) result }
@@ -67,7 +70,7 @@ pub fn broken_alone<N: Near>(near: &N, team: usize, mac: &Macro, place: &Place) 
     None
 }
 
-/// Overlap with the other cell of this number, as the first broken rule; none if there is no such cell.
+/// Overlap with the other cell of this number, as the first broken rule; none if there is no number.
 pub fn overlap_with(met: Option<u32>) -> Option<Broken>
     ensures { result ≡ option_map (λ own. record { rule = Overlap; other = Some own }) met }
 {
@@ -81,10 +84,11 @@ pub fn overlap_with(met: Option<u32>) -> Option<Broken>
 }
 
 /// The first rule that a cell of the team breaks at the place, beside the team's other placed cells;
-/// none if the place is team-legal.
+/// none iff the place is team-legal.
 ///
 /// `team` is a fence's position in the frame, or the number of fences for the ground team. `others`
-/// are the team's other placed cells in loading order, and `padding` is the team's. It allocates nothing.
+/// are the team's other placed cells in loading order, and `padding` is the team's. The macro's size is whole in database
+/// units. It allocates nothing.
 pub fn first_broken(
     frame: &Frame,
     team: usize,

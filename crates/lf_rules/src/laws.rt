@@ -7,12 +7,12 @@ ghost use Rattle.lf_rules.specs.Legalizer.{Legalizer, VerdictIsOne, VerdictIsThe
 ghost use Rattle.lf_rules.specs.Padding.{WiderEitherWay};
 ghost use Rattle.lf_rules.specs.Tidy.{TidiedIsLegal, TidiedKeepsCells, TidyKeepsLegal};
 
-/// A trial has one verdict: one first broken rule with one other cell, or none.
+/// A cell at a place has one verdict: one first broken rule with one other cell, or none.
 pub fn verdict_is_one()
     ensures { VerdictIsOne }
 {}
 
-/// Each trial of a macro of whole size has a verdict.
+/// A cell of a macro of whole size has a verdict at each place.
 pub fn verdict_is_there()
     ensures { VerdictIsThere }
 {}
@@ -42,7 +42,7 @@ pub fn legal_in_range()
     ensures { LegalInRange }
 {}
 
-/// There is a legalizer: each trial has a first broken rule or none, and each cell a best place or none.
+/// There is a legalizer: at each place a cell has a first broken rule or none, and each cell has a best place or none.
 pub fn legalizer_is_there()
     ensures { Legalizer }
 {}
@@ -62,7 +62,7 @@ pub fn tidy_keeps_legal()
     ensures { TidyKeepsLegal }
 {}
 
-/// A design in which each team's cells are placed and team-legal is fully legal.
+/// A design in which each team's cells are placed and team-legal with no padding is fully legal.
 pub fn teams_make_legal()
     ensures { TeamsMakeLegal }
 {}
@@ -72,7 +72,7 @@ pub fn less_padding()
     ensures { LessPadding }
 {}
 
-/// It makes no difference which of two boxes is made wider by a padding: rule 8 holds of both cells or of none.
+/// It makes no difference which of two boxes that hold a point is made wider by a padding: rule 8 holds of both cells or of none.
 pub fn wider_either_way()
     ensures { WiderEitherWay }
 {}

@@ -1,4 +1,20 @@
-//! The legality of a place: eight rules, and the first that is broken.
+//! The legality of a place: eight rules, said by points, and the first of them that is broken.
+//!
+//! A place is *team-legal* for a cell of a team if it keeps all eight (`Rule`). A *verdict* is the first broken rule, with the
+//! first other cell that is met if this is Overlap, or none for a team-legal place. A *legalizer* is any pair of functions
+//! that give verdicts and best places.
+//!
+//! A best place is one that is team-legal, meets no soft blockage, and has the least *key*: the distance from the target along
+//! x plus along y, then y, then x, then the orientation in the order N, S, FN, FS. To *tidy* a team is to take its cells in
+//! loading order, each that is unplaced or breaks a rule to its best place. A design is fully legal if every cell is placed
+//! and keeps rules 1 to 7, and no two cells share a point.
+//!
+//! ```
+//! let broken = first_broken(&frame, team, mac_at(&frame, 0), &place, &others, Padding::none());
+//! if let Some(Broken { rule, .. }) = broken {
+//!     rule.number(); // 1 to 8
+//! }
+//! ```
 #![tactic(auto)]
 
 mod area;

@@ -24,7 +24,7 @@ fn length_in(frame: &Frame, sites: u32) -> i64
 }
 
 impl Padding {
-    /// The padding of this many core sites; none if that is more than 16.
+    /// The padding of this many core sites; none iff that is more than 16.
     pub fn new(sites: u32) -> Option<Padding>
         ensures { MatchOption result (16 < sites) (λ padding. padding.sites ≡ sites) }
     {
@@ -41,7 +41,7 @@ impl Padding {
         Padding { sites: 0 }
     }
 
-    /// Its length in database units.
+    /// Its length in database units: so many widths of the frame's core site.
     pub fn length(self, frame: &Frame) -> i64
         ensures is { result ≡ length_of frame.now self.sites }
         ensures short { IsShort result }
@@ -68,7 +68,8 @@ fn plus(x: i64, by: i64) -> i64
     x + by
 }
 
-/// The rectangle made wider by a length on its left and on its right, in database units.
+/// The rectangle made wider by a length on its left and on its right, in database units. The length is from 0 to
+/// 320,000,000,000, and the x range within 2^62 either way.
 pub fn wider(rect: &Rect, by: i64) -> Rect
     requires short { IsShort by }
     requires room { HasRoomAround rect.now }

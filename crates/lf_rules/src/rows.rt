@@ -38,7 +38,7 @@ fn foot_of(pitch: &Point, rect: &Rect, sites: u32) -> Point
     }
 }
 
-/// How many core sites high the box is, if that is a whole number from 1 to 8.
+/// How many core sites high the box is; none iff that is not a whole number from 1 to 8. This is rule 1. The box has points.
 pub fn height_in_sites(frame: &Frame, rect: &Rect) -> Option<u32>
     requires { IsSolid rect.now }
     ensures { MatchOption result ((k : ℕ) → IsSitesHigh frame.now rect.now k → ⊥) (λ k. IsSitesHigh frame.now rect.now k) }
@@ -81,7 +81,8 @@ fn is_row_of_box(frame: &Frame, rect: &Rect, sites: u32, row: &Row) -> bool
     true
 }
 
-/// Whether the row lies at the box's lower edge, under all of its width, and its grid holds the box's left edge.
+/// Whether the row lies at the box's lower edge, under all of its width, and its grid holds the box's left edge. Rule 2 asks
+/// for such a row. The box has points, and the row is one of the frame.
 pub fn is_bottom_row(frame: &Frame, rect: &Rect, row: &Row) -> bool
     requires solid { IsSolid rect.now }
     requires known { Contains frame.now.rows row.now }
@@ -140,7 +141,9 @@ fn changed_rail(orient: Orient, times: u32) -> Option<Rail>
     rail
 }
 
-/// Whether the row carries the box this many site heights above its bottom row.
+/// Whether the row carries the box this many site heights above its bottom row: it lies there, under all of its width, and its
+/// rail is the bottom row's, alternated as often. Rule 3 asks for such a row at each height. The box has points, the row is one
+/// of the frame, and it is at most 8 sites up.
 pub fn carries(frame: &Frame, rect: &Rect, bottom: &Row, sites: u32, row: &Row) -> bool
     requires solid { IsSolid rect.now }
     requires few { sites ≤ 8 }

@@ -10,7 +10,8 @@ use crate::padding::{Padding, wider};
 use lf_floorplan::{Frame, Macro, Place, macro_box};
 use lf_units::Rect;
 
-/// The box of the macro with its lower left corner at the place.
+/// The box of the macro with its lower left corner at the place, as `box_of`; the contract says also that it has points.
+/// The macro's size is whole in database units and above 0.
 pub fn solid_box(frame: &Frame, mac: &Macro, place: &Place) -> Rect
     requires { IsSized frame.now mac.now }
     ensures is { result ≡ box_at (turned (size_of frame.now mac.now) place.now.orient) place.now.x place.now.y }
@@ -20,7 +21,7 @@ pub fn solid_box(frame: &Frame, mac: &Macro, place: &Place) -> Rect
 }
 
 /// The box of the macro with its lower left corner at the place, in database units
-/// (LEF MACRO SIZE, DEF COMPONENTS).
+/// (LEF MACRO SIZE, DEF COMPONENTS). The macro's size is whole in them and above 0.
 pub fn box_of(frame: &Frame, mac: &Macro, place: &Place) -> Rect
     requires { IsSized frame.now mac.now }
     ensures { result ≡ box_at (turned (size_of frame.now mac.now) place.now.orient) place.now.x place.now.y }

@@ -18,7 +18,8 @@ use std::marker::Model;
 /// What of a frame is looked up by where it lies: its rows, the segments of its teams and the strips of those, the segments as if
 /// there were no obstacles, and what soft blockages cover of the segments.
 ///
-/// A contract sees the lists. Only `build` allocates; each look-up is by bisection.
+/// A contract sees these lists, a rectangle that holds all rows, and the height of a row. Only `build` allocates; each look-up
+/// is by bisection.
 #[derive(Drop)]
 pub struct Ground {
     rows: RowsByY,
@@ -99,7 +100,7 @@ impl Ground {
         &self.rows
     }
 
-    /// The rectangle that all rows lie in, in database units.
+    /// A rectangle that holds all rows, in database units.
     pub fn extent(&self) -> &Rect
         ensures { result.now ≡ self.now.extent }
     {
@@ -114,14 +115,15 @@ impl Ground {
         self.soft.of_segment(segment)
     }
 
-    /// The numbers of the strips of a row and a team that overlap a range of x.
+    /// The numbers of the strips of a row and a team that overlap the range of x from `lo` on and below `hi`; they are
+    /// consecutive.
     pub fn near(&self, row: usize, team: usize, lo: &i64, hi: &i64) -> NearStrips
         ensures { AreNear self.now.strips row team lo.now hi.now result.start result.end }
     {
         near_strips(&self.strips, &self.segments, row, team, lo, hi)
     }
 
-    /// The entries of the rows whose strips may share a point with the rectangle.
+    /// A run of the entries of the rows in order of y, with each row whose strips may share a point with the rectangle.
     pub fn rows_near(&self, rect: &Rect) -> &[RowEntry]
         ensures { AreRowsNear self.now.rows self.now.height rect.now result.now }
     {

@@ -4,7 +4,8 @@ ghost use Rattle.lf_segments.specs.Laws.{CutIsOne, SegmentsDecide};
 ghost use Rattle.lf_segments.specs.RowsByY.{RunAtHasRows, RunBetweenHasRows};
 
 /// A wide box that stands on rows stays in a team's ground and clear of a list of obstacles iff, in
-/// each row that carries it, its x range lies in one segment of the team beside these obstacles.
+/// each row that carries it, its x range lies in one segment of the team beside these obstacles. The
+/// list need not be the frame's own.
 pub fn lies_in_segments()
     ensures { SegmentsDecide }
 {}

@@ -1,4 +1,20 @@
-//! Segments: the spans of rows that a team may use, each maximal, in one list; and a frame's rows in order of y.
+//! Segments, the maximal spans of rows that a team may use, and all that is looked up of a frame.
+//!
+//! A team may use a number of a row if the row is there the team's ground over its whole height and in no obstacle.
+//!
+//! - `Segments`: a list of row, team and x span, in the order of row, team and x. A contract sees the list.
+//! - *Land*: the segments as if there were no obstacles. *Strips*: the areas of the segments, one for each.
+//! - *Soft spans* of a segment: the maximal spans of its numbers at which a point of its strip lies in a soft blockage.
+//! - `RowStarts`, `RowsByY`: where each row's segments begin in the list; the rows in order of y, then x.
+//! - `Ground` has all of these for one frame; a contract sees the lists. `Plan` is a frame together with its `Ground`; a
+//!   contract sees the frame, of which it answers what legality asks (`Near` of `lf_floorplan`), by bisection and without
+//!   memory.
+//!
+//! ```
+//! let ground = Ground::build(Global, &frame)?;
+//! let plan = Plan::new(&frame, &ground);
+//! let rows = plan.rows_at(1400); // the rows at this y, in order of x
+//! ```
 #![tactic(auto)]
 
 mod boxes;

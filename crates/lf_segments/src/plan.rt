@@ -14,7 +14,9 @@ use lf_floorplan::{Frame, Near};
 use lf_units::{Rect, Span};
 use std::marker::Model;
 
-/// A frame with its look-ups. A contract sees the frame.
+/// A frame with its look-ups, both borrowed. A contract sees the frame.
+///
+/// It answers what legality asks (`Near` of `lf_floorplan`) by bisection and without memory.
 #[derive(Drop)]
 pub struct Plan<'a> {
     frame: &'a Frame,
@@ -81,7 +83,7 @@ fn soft_of<'a>(frame: &Frame, index: &'a Ground, segment: usize) -> &'a [Span]
 }
 
 impl<'a> Plan<'a> {
-    /// The pair of a frame and its look-ups.
+    /// The pair of a frame and its look-ups, which must be those of this frame.
     pub fn new(frame: &'a Frame, index: &'a Ground) -> Plan<'a>
         requires { IsGroundOf frame.now index.now }
         ensures { result ≡ frame.now }
@@ -110,7 +112,7 @@ impl<'a> Plan<'a> {
         rows_between(self.frame, self.index, &from, &to)
     }
 
-    /// The rectangle that all rows lie in, in database units.
+    /// A rectangle that holds all rows, in database units.
     pub fn extent(&self) -> &'a Rect
         ensures { IsExtentOf self.now result.now }
     {

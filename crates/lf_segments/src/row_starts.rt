@@ -53,8 +53,8 @@ fn starts_of(alloc: Global, segments: &[Segment], rows: usize) -> Result<Vec<usi
 }
 
 impl RowStarts {
-    /// The starts for segments of `rows` rows, in the order of their rows. `Err` if an allocation
-    /// fails.
+    /// The starts for segments of `rows` rows. The segments are in the order of their rows, and each row is below `rows`. `Err` if
+    /// an allocation fails.
     pub fn build(alloc: Global, segments: &[Segment], rows: usize) -> Result<Self, AllocError>
         requires order { IsNonDecreasingBy (λ g. g.row) segments.now }
         requires known { All (λ g. g.row < rows) segments.now }

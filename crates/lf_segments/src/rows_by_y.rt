@@ -18,7 +18,7 @@ pub struct RowEntry {
 }
 
 /// The rows of a frame in order of y, and those of one y in order of x. A contract sees the list of
-/// their entries. Only `build` allocates.
+/// their entries, one for each row. Only `build` allocates.
 #[derive(Drop)]
 pub struct RowsByY {
     entries: Vec<RowEntry>,
@@ -161,14 +161,14 @@ impl RowsByY {
         Ok(RowsByY { entries })
     }
 
-    /// The rows at this y, in order of x. They are found by bisection.
+    /// The entries of the rows at this y, in order of x, a run of the list. They are found by bisection.
     pub fn at(&self, y: i64) -> &[RowEntry]
         ensures { IsRunAt self.now y result.now }
     {
         run_at(&self.entries, &y)
     }
 
-    /// The rows from one y on and below another, in order of y and then of x. They are found by
+    /// The entries of the rows from one y on and below another, in order of y and then of x, a run of the list. They are found by
     /// bisection.
     pub fn between(&self, from: i64, to: i64) -> &[RowEntry]
         ensures { IsRunBetween self.now from to result.now }
@@ -176,7 +176,8 @@ impl RowsByY {
         run_between(&self.entries, &from, &to)
     }
 
-    /// The last of the rows at this y that do not begin right of x; none if there is no such row. It is found by bisection.
+    /// Of the rows at this y that do not begin right of x the one farthest right; none iff there is no such row. It is found by
+    /// bisection.
     pub fn last_at(&self, y: &i64, x: &i64) -> Option<&RowEntry>
         ensures { MatchOption result (All (λ e. BeginsBy y.now x.now e → ⊥) self.now) (λ e. IsLastAt self.now y.now x.now e.now) }
     {

@@ -14,8 +14,8 @@ use lf_floorplan::Frame;
 use std::alloc::{AllocError, Global};
 use std::marker::Model;
 
-/// The segments of a frame, in order of rows, then of teams, then from left to right. A contract sees their one list.
-/// Only `cut` allocates.
+/// The segments of a frame, in order of rows, then of teams, then from left to right. A contract sees their one list, of row,
+/// team and x span. Only `cut` allocates.
 #[derive(Drop)]
 pub struct Segments {
     list: Vec<Segment>,
@@ -105,7 +105,8 @@ pub(crate) fn cuts_of(alloc: Global, frame: &Frame) -> Result<Cuts, AllocError>
 }
 
 impl Segments {
-    /// The segments of the frame: of each row and team the maximal spans of the row that the team may use. `Err` if an
+    /// The segments of the frame: of each row and team the maximal spans of the row that the team may use. A filled span lies in
+    /// a segment of a row and a team iff at each of its numbers the row is the team's ground and in no obstacle. `Err` if an
     /// allocation fails.
     pub fn cut(alloc: Global, frame: &Frame) -> Result<Self, AllocError>
         ensures { IfOk result (λ segments. IsCut frame.now segments) }
@@ -128,7 +129,7 @@ impl Segments {
         self.list.len()
     }
 
-    /// The segments of the row and the team, from left to right; none if there is no such row or team. They are found
+    /// The segments of the row and the team, from left to right, a run of the list; empty if there are none. They are found
     /// by a look-up and bisection.
     pub fn of_row(&self, row: usize, team: usize) -> &[Segment]
         ensures { IsRunOf self.now row team result.now }
@@ -143,7 +144,7 @@ impl Segments {
         range_in(&self.list, &self.starts, row)
     }
 
-    /// The position in the list of the segment of the row and the team that holds x; none if there is none. It is found
+    /// The position in the list of the segment of the row and the team that holds x; none iff none does. It is found
     /// by a look-up and bisection.
     pub fn segment_at(&self, row: usize, team: usize, x: i64) -> Option<usize>
         ensures { MatchOption result (All (λ g. IsAt row team x g → ⊥) self.now) (HoldsAt (IsAt row team x) self.now) }

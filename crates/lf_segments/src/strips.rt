@@ -1,6 +1,6 @@
 //! The strips of segments, and how they are found.
 
-ghost use Rattle.std.specs.Prelude.{◌≡◌, ◌<◌, ◌≤◌, ◌<ℤ◌, ◌≤ℤ◌, ℕ, All, AllPairs, IfOk, length, map, negsuc, pos, true, false};
+ghost use Rattle.std.specs.Prelude.{◌≡◌, ◌<◌, ◌≤◌, ◌<ℤ◌, ◌≤ℤ◌, ◌+ℤ◌, ℕ, ℤ, All, AllPairs, IfOk, length, map, negsuc, pos, true, false};
 ghost use Rattle.lf_segments.specs.declared.strip.Strip.{Strip};
 ghost use Rattle.lf_segments.specs.RowStarts.{rows_of};
 ghost use Rattle.lf_segments.specs.Strips.{AreNear, AreRowsNear, LiesBefore, is_begun, is_earlier, is_ended, row_y, rows_in, strip_of};
@@ -125,6 +125,15 @@ pub(crate) fn near_strips(
     }
 }
 
+/// The lowest y at which the strip of a row of this height may share a point with the rectangle.
+fn lowest_near(height: &i64, rect: &Rect) -> i64
+    requires high { pos 0 <ℤ height.now }
+    requires small { height.now ≤ℤ pos 20000000000 }
+    ensures { (y : ℤ) → negsuc 2147483647 ≤ℤ y → rect.now.y1 <ℤ (y +ℤ height.now) → result ≤ℤ y }
+{
+    rect.y1.max(LOWEST) - *height + 1
+}
+
 /// The entries of the rows of this height whose strips may share a point with the rectangle. They are
 /// found by bisection.
 pub(crate) fn rows_near<'a>(rows: &'a RowsByY, height: &i64, rect: &Rect) -> &'a [RowEntry]
@@ -132,6 +141,5 @@ pub(crate) fn rows_near<'a>(rows: &'a RowsByY, height: &i64, rect: &Rect) -> &'a
     requires small { height.now ≤ℤ pos 20000000000 }
     ensures { AreRowsNear rows.now height.now rect.now result.now }
 {
-    let from = rect.y1.max(LOWEST) - *height;
-    rows.between(from, rect.y2)
+    rows.between(lowest_near(height, rect), rect.y2)
 }

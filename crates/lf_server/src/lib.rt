@@ -1,5 +1,17 @@
-//! Serving the lines of a connection: one reply to each line, in order, each written and flushed before the next line is
-//! acted on.
+//! Serving lines: one reply to each, in order, written and flushed before the next line is acted on.
+//!
+//! `serve` serves one connection, over any source and sink; `serve_tcp` accepts connections over TCP and serves each to its end
+//! before the next. Each line is one step of the floor, or answered `BadRequest` with the floor unchanged. A DEF text is written in
+//! pieces, and is never in memory as a whole. The devices of `lf_devices` are named here again.
+//!
+//! Contracts see of a connection its lines, the reply to each with its text, and the floor after it (`Serves`), where the bytes of
+//! the input and of the output are known; how it ended says which lines were acted on (`Ending`). However it ended, the frame and
+//! the positions of components are unchanged, and a fully legal committed design stays so (`Stays`).
+//!
+//! ```
+//! let limits = ServeLimits { lines: 1_000_000, reads: 4_200_000_000 };
+//! let served = serve(alloc, &mut floor, &mut source, &mut sink, limits);
+//! ```
 #![tactic(auto)]
 
 mod laws;

@@ -22,20 +22,20 @@ const LINE: usize = 4096;
 /// How many bytes of a DEF text are written at once; no less than a line.
 const PIECE: usize = 65_536;
 
-/// How serving a connection ended.
+/// How serving a connection ended, and so which lines were acted on.
 #[derive(Clone, Copy, Debug, PartialEq, Eq)]
 pub enum Ending {
-    /// The input ended.
+    /// The input ended, and all lines were acted on.
     Done,
-    /// A line said `bye`.
+    /// A line said `bye`: the lines up to the first of these were acted on.
     Bye,
-    /// The reader failed, or the limit on reads was reached.
+    /// The reader failed, or the limit on reads was reached: the lines that were read with their line feed were acted on.
     ReadFault,
-    /// The writer failed, or took no byte.
+    /// The writer failed, or took no byte: of the reply to the last line acted on a front was written, perhaps nothing.
     WriteFault,
-    /// A line followed the last one allowed.
+    /// A line followed the last one allowed: as many as are allowed were acted on.
     TooManyLines,
-    /// An allocation for the buffers failed, and nothing was read.
+    /// An allocation for the buffers failed: nothing was read, and no line was acted on.
     OutOfMemory,
 }
 
@@ -246,7 +246,13 @@ fn told(lines: u64, ending: Ending) -> Served
 }
 
 /// Serves the lines of the source until it ends, a line says `bye`, a device fails or a limit is met: one reply to
-/// each line acted on, in order, each flushed before the next line is acted on.
+/// each line acted on, in order, each written whole and flushed before the next line is acted on. A line is one step of
+/// the floor, or is answered `BadRequest`, and then the floor is unchanged.
+///
+/// At most as many lines are acted on and as many reads are made as the limits allow. The reader has failed, or that many
+/// reads were made, if the ending is `ReadFault`, and the writer has failed if it is `WriteFault`; at other endings neither
+/// has. Neither has failed before. The frame and the positions of components are unchanged, and a fully legal committed
+/// design stays so.
 pub fn serve<K: Seeker + Drop, S: Source, W: Sink>(
     alloc: Global,
     floor: &mut Floor<K>,

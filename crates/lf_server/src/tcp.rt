@@ -22,7 +22,7 @@ const PATIENCE: u64 = 60;
 pub struct TcpServed {
     /// The connections that were accepted and served to their ends.
     pub connections: u32,
-    /// Whether accepting a connection failed, which ended the service.
+    /// Whether a connection could not be accepted, or not be both read from and written to, which ended the service.
     pub accept_fault: bool,
 }
 
@@ -65,7 +65,11 @@ fn serve_next<T: Net + AllocGlobal, K: Seeker + Drop>(
 
 /// Accepts this many connections and serves each to its end before the next: sessions, places and commits of one remain
 /// for the next. How a connection ends plays no part; the first one that cannot be accepted, or not be both read from and
-/// written to, ends the service.
+/// written to, ends the service, and otherwise all are served.
+///
+/// Each is served as `serve` does it, within the limits, over some input: that this is the accepted stream's own is
+/// said by a private clause, not by this one. A client that leaves its replies unread for 60 seconds ends its
+/// connection. The frame and the positions of components are unchanged, and a fully legal committed design stays so.
 pub fn serve_tcp<T: Net + AllocGlobal, K: Seeker + Drop>(
     rt: &T,
     floor: &mut Floor<K>,

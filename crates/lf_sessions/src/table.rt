@@ -40,8 +40,8 @@ impl SessionTable {
     }
 
     /// Opens a session of the team, which has seen this revision: takes the team's least free slot
-    /// and returns its number. None if all are taken or there is no such team; then nothing
-    /// changes.
+    /// and returns its number. None iff all are taken or there is no such team; then nothing
+    /// changes. Else only this slot changes.
     pub fn take_slot(&mut self, team: usize, revision: u32) -> Option<u32>
         ensures session { result ≡ position is_none (slots_of self.old team) }
         ensures table { MatchOption result (self.new ≡ self.old) (λ session. self.new ≡ with_slot self.old team session (Some revision)) }
@@ -50,7 +50,7 @@ impl SessionTable {
         self.teams.get_mut(team)?.take(revision)
     }
 
-    /// Closes a session of the team and frees its slot. False if it is not open or there is no such
+    /// Closes a session of the team and frees its slot, which alone changes. False iff it is not open or there is no such
     /// team; then nothing changes.
     pub fn free_slot(&mut self, team: usize, session: u32) -> bool
         ensures open { result ≡ is_some (seen_at (slots_of self.old team) session) }
@@ -60,7 +60,7 @@ impl SessionTable {
         write_open(&mut self.teams, team, session, None)
     }
 
-    /// The revision that a session of the team has seen; none if it is not open, or there is no
+    /// The revision that a session of the team has seen; none iff it is not open, or there is no
     /// such team.
     pub fn seen(&self, team: usize, session: u32) -> Option<u32>
         ensures { result ≡ seen_at (slots_of self.now team) session }
@@ -68,7 +68,7 @@ impl SessionTable {
         self.teams.get(team)?.seen(session)
     }
 
-    /// Sets the revision that an open session of the team has seen. False if it is not open or
+    /// Sets the revision that an open session of the team has seen; no other slot changes. False iff it is not open or
     /// there is no such team; then nothing changes.
     pub fn set_seen(&mut self, team: usize, session: u32, revision: u32) -> bool
         ensures open { result ≡ is_some (seen_at (slots_of self.old team) session) }

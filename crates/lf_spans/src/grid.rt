@@ -7,6 +7,7 @@ ghost use Rattle.lf_spans.specs.GridSteps.{AreEnds, IsNearer, IsSmall};
 use crate::span::Span;
 
 /// The numbers a whole number of steps from the origin, in database units, as the sites of a row.
+/// The contracts ask for a step above 0, and for both numbers within 2^40 either way.
 #[derive(Clone, Copy, Debug, PartialEq, Eq)]
 pub struct Grid {
     pub origin: i64,
@@ -88,8 +89,8 @@ fn nearer(grid: &Grid, left: i64, target: i64) -> i64
     left
 }
 
-/// The grid number nearest to the target at which the width fits into the span; the lesser of two
-/// equally near ones; none if there is none. All lengths are in database units.
+/// The grid number nearest to the target at which the width lies in the span; the lesser of two equally near ones; none iff
+/// there is none. All lengths are in database units and within 2^40 either way; the step is above 0.
 pub fn nearest_fit(span: &Span, grid: &Grid, width: i64, target: i64) -> Option<i64>
     requires grid { IsGrid grid.now }
     requires span { IsBoundedSpan span.now }
@@ -117,7 +118,7 @@ fn grid_from(origin: i64, step: i64) -> Grid
     Grid { origin, step }
 }
 
-/// `nearest_fit` on the grid of this origin and step.
+/// `nearest_fit` on the grid of this origin and step, with its conditions.
 pub fn nearest_on_grid(span: &Span, origin: i64, step: i64, width: i64, target: i64) -> Option<i64>
     requires grid { IsGrid (grid_of origin step) }
     requires span { IsBoundedSpan span.now }

@@ -5,7 +5,7 @@ ghost use Rattle.lf_spans.specs.declared.span.Span.{Span};
 
 /// The whole numbers from `lo` on and below `hi`, in database units.
 ///
-/// A span that does not begin below its end is allowed, and holds no number.
+/// A span that does not begin below its end is allowed, and holds no number; any other is *filled*.
 #[derive(Clone, Copy, Debug, PartialEq, Eq)]
 pub struct Span {
     pub lo: i64,

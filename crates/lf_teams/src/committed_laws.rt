@@ -11,7 +11,8 @@ pub fn legal_makes_teams()
     ensures { LegalMakesTeams }
 {}
 
-/// The committed design is fully legal if and only if each team's committed places are team-legal.
+/// The committed design, in which the cells of all teams are at their committed places, is fully legal if and only if each
+/// team's committed places are team-legal.
 pub fn committed_by_teams()
     ensures { CommittedByTeams }
 {}
@@ -88,7 +89,7 @@ pub fn legal_commits()
 {}
 
 /// In each run, a commit after an accepted tidy, with no accepted change of the team between them,
-/// finds no fault in the cells.
+/// finds no fault in the cells: it is accepted, or refused only for its session or the revision.
 pub fn run_tidied_commits()
     ensures { RunTidiedCommits }
 {

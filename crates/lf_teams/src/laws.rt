@@ -3,7 +3,8 @@
 ghost use Rattle.lf_teams.specs.Laws.{OthersDoNotMatter, OtherDesignsDoNotMatter, RunIsIsolated};
 ghost use Rattle.lf_teams.specs.Journals.{LooksAndRefusalsLeaveOut, JournalRestores, TeamsInAnyOrder};
 
-/// In each run, each team's replies and its state are those of its own orders alone, from its state at the start.
+/// In each run, each team's replies and its last state are those of its own orders alone, one after the other from its state at
+/// the start. A reply `OutOfMemory` counts as not asked.
 pub fn run_is_isolated()
     ensures { RunIsIsolated }
 {}

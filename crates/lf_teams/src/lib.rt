@@ -1,5 +1,21 @@
-//! The teams of a floor: the outcome of each command by the written rules, for one team and for all, and the laws that
-//! follow. No code runs here; a floor is proved to do what these definitions say.
+//! The teams of a floor: the outcome of each command by the written rules, and the laws that follow.
+//!
+//! No code runs here. `specs` defines what each verb does to one team, what a floor of all teams answers to a command (`Step`), and
+//! what a run of many commands is (`Run`); a floor (`lf_floor`) is proved to do what these definitions say. Each function is a law:
+//! its contract is a theorem, and the definition that its `ensures` names states it.
+//!
+//! The state of a team is its cells with their working and committed places, its revision, its undo entries (the working places
+//! before each change that is kept), its session slots, each free or with the revision that the session has seen, and its padding. A
+//! floor is its frame, a state for each team, and the positions of the teams' cells among the COMPONENTS of the DEF text.
+//!
+//! A command is *refused* if its reply is a refusal; one that is answered `OutOfMemory` changes nothing and counts as not asked.
+//! A *change* is a verb that counts the team's revision on; a *look* is `bye`, `check`, `def`, `where` or `find`.
+//!
+//! ```
+//! let replies = floor.run(&requests)?;
+//! run_stays_legal();
+//! journal_restores();
+//! ```
 #![tactic(auto)]
 
 mod committed_laws;

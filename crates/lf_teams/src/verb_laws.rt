@@ -20,12 +20,14 @@ pub fn stuck_tidy_keeps()
     ensures { StuckTidyKeeps }
 {}
 
-/// An accepted change adds one to the team's revision; this session, and no other, has seen the new one.
+/// An accepted change was asked by a session that had seen the team's revision, while there was one left; it adds one to the
+/// revision, and this session, and no other, has seen the new one.
 pub fn change_counts()
     ensures { ChangeCounts }
 {}
 
-/// A verb that is no change leaves the team's cells, revision, undo entries and padding unchanged.
+/// A verb that is no change leaves the team's cells, revision, undo entries and padding unchanged; only its session slots may
+/// differ.
 pub fn look_keeps()
     ensures { LookKeeps }
 {}
@@ -35,7 +37,7 @@ pub fn undo_brings_back()
     ensures { UndoBringsBack }
 {}
 
-/// Revert after an accepted commit changes no working place.
+/// Revert after an accepted commit leaves the working places as they were before the commit.
 pub fn revert_after_commit_keeps()
     ensures { RevertAfterCommitKeeps }
 {}
@@ -98,7 +100,7 @@ pub fn swap_makes_legal()
     legal_in_range();
 }
 
-/// After any verb a team of the frame is still one.
+/// After any verb a team of the frame is still one: this is what a floor keeps of each team (`teams_are_of_the_frame`).
 pub fn verb_keeps_team()
     ensures { VerbKeepsTeam }
 {}

@@ -1,4 +1,4 @@
-//! Tests of what is made of a design that is read, up to the floor and its connections: what no clause says of them.
+//! Tests of segments, occupancies, loading, the floor and connections: what no clause says of them.
 #![tactic(auto)]
 
 #[cfg(test)]

@@ -1,4 +1,8 @@
 //! What tests and worked rows share: texts that are another one with a line exchanged.
+//!
+//! ```
+//! let text = with_line(alloc, text, 5, b"SIZE 0.1905 BY 2.0 ;")?;
+//! ```
 #![tactic(auto)]
 
 use std::alloc::{AllocError, Global};

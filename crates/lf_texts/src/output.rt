@@ -7,12 +7,14 @@ use std::alloc::{AllocError, Global};
 
 /// Where the bytes of a text go, one piece behind the other.
 ///
-/// A piece that can't be taken is dropped, and so are all after it: whoever made the output asks it at the end.
+/// A piece that can't be taken is dropped, and so are all after it: whoever made the output asks it at the end. What an
+/// implementation promises of the text that was put is its `took`.
 pub trait Output {
     /// From the first output on to the second just the bytes of this text were put.
     ghost took: { Self → Self → List ℕ → Type 0 };
 
-    /// Puts the bytes behind those that were put before.
+    /// Puts the bytes behind those that were put before: where `took` held of a text until now, it holds of the text with these
+    /// bytes behind it.
     fn put(&mut self, bytes: &[u8])
         ensures { Puts took self.old self.new bytes.now };
 }

@@ -107,7 +107,7 @@ pub fn put_team_def<O: Output>(out: &mut O, frame: &Frame, cells: &CellTable, te
     put_end(out, b"DESIGN");
 }
 
-/// How many bytes that text has; none just if they are 2^64 or more.
+/// How many bytes the DEF text of the team of that number has (that of `put_team_def`); none just if they are 2^64 or more.
 pub fn team_def_length(frame: &Frame, cells: &CellTable, team: usize) -> Option<usize>
     ensures { IsLengthOf (team_text frame.now team (cells_of cells.now team)) result }
 {
@@ -116,7 +116,7 @@ pub fn team_def_length(frame: &Frame, cells: &CellTable, team: usize) -> Option<
     length.count
 }
 
-/// That text, whole, in memory for just its bytes.
+/// The DEF text of the team of that number (that of `put_team_def`), whole, in memory for just its bytes.
 ///
 /// `Err` if an allocation fails.
 pub fn team_def(

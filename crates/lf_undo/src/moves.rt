@@ -54,7 +54,7 @@ impl<A: Allocator> Moves<A> {
         }
     }
 
-    /// No move, with room for this many.
+    /// No move, with room for this many; contracts say nothing of the room.
     ///
     /// `Err` if an allocation fails.
     pub fn with_capacity(alloc: A, count: usize) -> Result<Self, AllocError>
@@ -67,7 +67,7 @@ impl<A: Allocator> Moves<A> {
 
     /// Appends a move.
     ///
-    /// `Err` if an allocation fails.
+    /// `Err` if an allocation fails; the list is then unchanged.
     pub fn push(&mut self, moved: Move) -> Result<(), AllocError>
         ensures ok { OnOk result (self.new ≡ self.old ++ moved ∷ []) }
         ensures err { OnErr result (self.new ≡ self.old) }
@@ -76,7 +76,7 @@ impl<A: Allocator> Moves<A> {
         Ok(())
     }
 
-    /// Gives the move of that position another place. It allocates nothing.
+    /// Gives the move of that position, which there must be, another place. It allocates nothing.
     pub fn replace(&mut self, at: usize, old: Option<Place>)
         requires { at < length self.old }
         ensures { self.new ≡ replaced self.old at old }
@@ -92,5 +92,5 @@ impl<A: Allocator> Moves<A> {
     }
 }
 
-/// For each team the entries of its last commands, the newest first.
+/// For each team the entries of its last commands, the newest first: stacks of `Moves`.
 pub type UndoStore<A = Global> = Stacks<Moves<A>, A>;

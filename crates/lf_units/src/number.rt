@@ -142,7 +142,9 @@ fn value_of(
 /// become millionths of a micron, and 0 for coordinates of DEF.
 ///
 /// The text is an optional sign and decimal digits with at most one point, as `-.5` or `100.00`.
-/// `max` bounds the number without its sign, in the same units.
+/// `max`, at most 10^12, bounds the number without its sign, in the same units. `decimals` is at most 6.
+///
+/// `Err` is the first of NotANumber, TooFine and TooLarge that applies; it never is a failed allocation.
 pub fn read_fixed(text: &[u8], decimals: usize, max: u64) -> Result<i64, NumberFault>
     requires decimals { decimals ≤ 6 }
     requires max { max ≤ 10 ^ 12 }
@@ -157,9 +159,9 @@ pub fn read_fixed(text: &[u8], decimals: usize, max: u64) -> Result<i64, NumberF
     }
 }
 
-/// A length in millionths of a micron as one in database units; none if it is not whole in them.
+/// A length in millionths of a micron, within 10^12 either way, as one in database units; none iff it is not whole in them.
 ///
-/// `units` is the number of database units per micron (LEF/DEF 5.8, DEF UNITS). Nothing is rounded.
+/// `units` is the number of database units per micron, 1 to 20,000 (LEF/DEF 5.8, DEF UNITS). Nothing is rounded.
 pub fn micros_to_dbu(length: i64, units: u32) -> Option<i64>
     requires low { negsuc 999999999999 ≤ℤ length }
     requires high { length ≤ℤ pos (10 ^ 12) }

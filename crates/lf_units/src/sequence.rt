@@ -78,7 +78,7 @@ impl<T: Drop> Sequence<T> {
     }
 }
 
-/// The bytes of a name or of another word of a text. Upper and lower case differ.
+/// The bytes of a name or of another word of a text. Upper and lower case differ. A contract sees the list of the bytes.
 #[derive(Drop)]
 pub struct Name {
     bytes: Vec<u8>,
@@ -93,7 +93,7 @@ impl Model for Name {
 }
 
 impl Name {
-    /// A copy of the bytes.
+    /// A copy of the bytes. `Err` if an allocation fails.
     pub fn from_slice(alloc: Global, bytes: &[u8]) -> Result<Self, AllocError>
         ensures { IfOk result (λ name. name ≡ bytes.now) }
     {

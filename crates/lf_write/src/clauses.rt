@@ -79,6 +79,9 @@ const _: () = prove!(
 
 /// What is kept of the components of a text, in their order: 8 bytes of each whose clause is plain, and 28 of any other. From
 /// the first component on whose offsets take more than 32 bits, which only a text of 4 GiB or more has, it is 32 of each.
+///
+/// Contracts see a list: of each component the offsets of its clause, or those of its semicolon if it has none, whether the clause
+/// is plain, and if not the component's place.
 #[derive(Drop)]
 pub struct Clauses {
     /// The first components.

@@ -18,9 +18,9 @@ use std::alloc::{AllocError, Global};
 use std::io;
 use std::io::Write;
 
-/// Places that components are given.
+/// Places that components are given, which are looked up one by one.
 pub trait Given {
-    /// The places, each with the position of its component among all components of the text.
+    /// The places, each with the position of its component among all components of the text; none unplaces it.
     ghost places: { Self → List (ℕ × Option Place) };
 
     /// How many there are.
@@ -121,6 +121,10 @@ fn fits_text(place: &Option<Place>)
 /// Writes the text with these places given to the components of these clauses: piece by piece, so that nothing is
 /// allocated. Every byte outside the clauses that are written anew is copied: a plain clause is, also if its component
 /// stays, since the same bytes are written then.
+///
+/// On success exactly that text is appended to what the writer holds, if its bytes are known; `Err` if a write fails. The places
+/// are those of clauses, which lie one behind the other in the text: so it is where a document's clauses are those of
+/// `clauses_of` and the places can be given in an `export` of it (`clauses_serve`).
 pub fn write_export<G: Given, W: Write>(
     out: &mut W,
     text: &[u8],

@@ -1,6 +1,7 @@
 use Rattle.std.proofs.Common.{◌≡◌, true, false, take, sym, ◌∙◌, arith}
 use Rattle.std.proofs.lemmas.List.{length_push}
-use Rattle.lf_claims.specs.Teams.{is_fence, fence_names}
+use Rattle.lf_def.specs.Kinds.{is_fence}
+use Rattle.lf_claims.specs.Teams.{fence_names}
 use Rattle.lf_claims.proofs.Named.{fence_next, fence_same}
 use Rattle.lf_claims.proofs.Tellings.{all_bounds_seen}
 use Rattle.lf_claims.proofs.table.number_fences.Goals as goal

@@ -1,22 +1,21 @@
-use Rattle.std.proofs.Common.{◌∙◌, ◌+◌, ◌++◌, ap, drop}
+use Rattle.std.proofs.Common.{◌∙◌, ◌+◌, ◌++◌, ap, arith, drop}
 use Rattle.std.specs.Option.{option_map, option_to_list}
 use Rattle.lf_names.specs.Labels.{label_in, labels_of, matches_of}
-use Rattle.lf_names.specs.declared.name_parts.Entry.{Entry}
+use Rattle.lf_names.specs.declared.entries.Entry.{Entry}
 use Rattle.lf_names.proofs.LabelledLemmas.{read, cut_front, cut_back, matched_more}
 use Rattle.lf_names.proofs.name_parts.match_names.Goals as goal
 
-pub loop-entry-preserved : goal.loop-entry-preserved
-loop-entry-preserved c =
+pub loop-position-preserved : goal.loop-position-preserved
+loop-position-preserved c =
     let store = c.args.asked.now in
-    let i = c.loop-entry.entry-index in
-    let d : Entry = record { label = 0; len = 0 } in
-    let matches = c.loop-entry.matches.items in
-    let known = c.loop-entry.invariant in
+    let i = c.loop-position.position in
+    let matches = c.loop-position.matches.items in
+    let known = c.loop-position.invariant in
     record {
-      left = λ questions keeps. c.cut.ensures.back ∙ cut_back questions i _ (read store questions c.deref-entry-items.result.now i d keeps c.deref-entry-items.ensures.value c.loop-entry-test.true) c.loop-entry.remaining.now (known.left questions keeps);
+      left = λ questions keeps. c.cut.ensures.back ∙ cut_back questions i _ (read store questions i c.at-entry.result keeps (omega arith) c.at-entry.ensures) c.loop-position.remaining.now (known.left questions keeps);
       matched = λ own questions names table keeps.
-          let r = read store questions c.deref-entry-items.result.now i d keeps c.deref-entry-items.ensures.value c.loop-entry-test.true in
-          let name = c.cut.ensures.front ∙ cut_front questions i _ r c.loop-entry.remaining.now (known.left questions keeps) in
+          let r = read store questions i c.at-entry.result keeps (omega arith) c.at-entry.ensures in
+          let name = c.cut.ensures.front ∙ cut_front questions i _ r c.loop-position.remaining.now (known.left questions keeps) in
           let label = c.label_of.ensures own names table ∙ ap (label_in own) name in
           ap (λ ms. ms ++ matches_of own (drop (i + 1) questions)) c.in_ok-add_match.ensures
           ∙ ap (λ (e : Entry). (matches ++ option_to_list (option_map (labels_of e.label) c.label_of.result)) ++ matches_of own (drop (i + 1) questions)) r.entry

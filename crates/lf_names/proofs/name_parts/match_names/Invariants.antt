@@ -3,9 +3,9 @@ use Rattle.lf_names.specs.Labels.{Labelled, matches_of}
 use Rattle.lf_names.specs.NameParts.{Keeps, joined}
 use Rattle.lf_names.proofs.name_parts.match_names.Given as goal
 
-abbrev pub invariant-loop-entry : goal.invariant-loop-entry
-invariant-loop-entry l = record {
-  left : (questions : List Labelled) → Keeps l.asked questions → l.remaining ≡ joined (drop l.entry-index questions);
+abbrev pub invariant-loop-position : goal.invariant-loop-position
+invariant-loop-position l = record {
+  left : (questions : List Labelled) → Keeps l.asked questions → l.remaining ≡ joined (drop l.position questions);
   matched : (own questions : List Labelled) → Keeps l.names own → l.table ≡ map (λ n. n.name) own → Keeps l.asked questions →
-      l.matches.items ++ matches_of own (drop l.entry-index questions) ≡ l.fn.matches.items ++ matches_of own questions;
+      l.matches.items ++ matches_of own (drop l.position questions) ≡ l.fn.matches.items ++ matches_of own questions;
 }

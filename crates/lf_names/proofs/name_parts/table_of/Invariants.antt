@@ -3,9 +3,9 @@ use Rattle.lf_names.specs.Labels.{Labelled}
 use Rattle.lf_names.specs.NameParts.{Keeps, joined}
 use Rattle.lf_names.proofs.name_parts.table_of.Given as goal
 
-abbrev pub invariant-loop-entry : goal.invariant-loop-entry
-invariant-loop-entry l = record {
-  left : (own : List Labelled) → Keeps l.names own → l.remaining ≡ joined (drop l.entry-index own);
-  known : (own : List Labelled) → Keeps l.names own → l.table ≡ map (λ n. n.name) (take l.entry-index own);
+abbrev pub invariant-loop-position : goal.invariant-loop-position
+invariant-loop-position l = record {
+  left : (own : List Labelled) → Keeps l.names own → l.remaining ≡ joined (drop l.position own);
+  known : (own : List Labelled) → Keeps l.names own → l.table ≡ map (λ n. n.name) (take l.position own);
   differ : AllPairs (λ name later. name ≢ later) l.table;
 }

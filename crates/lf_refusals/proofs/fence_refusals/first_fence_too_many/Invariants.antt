@@ -1,6 +1,6 @@
 use Rattle.std.proofs.Common.{◌≡◌, length, take}
 use Rattle.std.specs.Prelude.{filter}
-use Rattle.lf_claims.specs.Teams.{is_fence}
+use Rattle.lf_def.specs.Kinds.{is_fence}
 use Rattle.lf_refusals.specs.Refusals.{IsFenceTooMany}
 use Rattle.lf_claims.proofs.Firsts.{NoneBelow}
 use Rattle.lf_refusals.proofs.fence_refusals.first_fence_too_many.Given as goal

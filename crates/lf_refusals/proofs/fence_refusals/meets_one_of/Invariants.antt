@@ -1,6 +1,6 @@
 use Rattle.std.proofs.Common.{◌≡◌, ℕ, ◌<◌, true, get_or}
 use Rattle.lf_def.specs.declared.regions.Region.{Region}
-use Rattle.lf_claims.specs.Teams.{is_fence}
+use Rattle.lf_def.specs.Kinds.{is_fence}
 use Rattle.lf_refusals.specs.Refusals.{SharePoint}
 use Rattle.lf_refusals.proofs.fence_refusals.meets_one_of.Given as goal
 

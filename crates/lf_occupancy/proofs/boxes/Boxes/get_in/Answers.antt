@@ -16,7 +16,7 @@ returns-in-Some c =
     let own = c.args.own in
     c.box_at_work.ensures.is
     ∙ ap (λ (i : CellId). cell_box (get_or (boxes_in f cells) i.team []) i.own)
-    (id_there team own (slice_get (cells_of cells team) own) c.in-Some.id (sym c.in-Some.is ∙ c.cell_in.ensures))
+    (id_there team own (slice_get (cells_of cells team) own) c.in-Some.id (sym c.in-Some.is ∙ c.cell_of.ensures))
     ∙ ap (λ (bs : List (List (Option Rect))). cell_box (get_or bs team []) own) c.self.view_is
 
 pub returns-in-None : goal.returns-in-None
@@ -25,5 +25,5 @@ returns-in-None c =
     let cells = c.self.inside.cells.now in
     let team = c.args.team in
     let own = c.args.own in
-    sym (box_here f cells (id_of team own) ∙ none_in f team own (slice_get (cells_of cells team) own) (sym c.in-None.is ∙ c.cell_in.ensures))
+    sym (box_here f cells (id_of team own) ∙ none_in f team own (slice_get (cells_of cells team) own) (sym c.in-None.is ∙ c.cell_of.ensures))
     ∙ ap (λ (bs : List (List (Option Rect))). cell_box (get_or bs team []) own) c.self.view_is

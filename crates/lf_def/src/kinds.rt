@@ -1,11 +1,12 @@
 //! The fences, and the components that teams may move.
 
 ghost use Rattle.std.specs.Prelude.{◌≡◌};
-ghost use Rattle.lf_claims.specs.Teams.{is_fence as is_fence_region, is_cover as is_cover_component, is_fixed as is_fixed_component, is_movable as is_movable_component};
+ghost use Rattle.lf_def.specs.Kinds.{is_fence as is_fence_region, is_cover as is_cover_component, is_fixed as is_fixed_component, is_movable as is_movable_component};
 
-use lf_def::{Component, PlacementKind, Region, RegionKind};
+use crate::components::{Component, PlacementKind};
+use crate::regions::{Region, RegionKind};
 
-/// Whether the component is FIXED.
+/// Whether the component is FIXED (LEF/DEF 5.8, DEF COMPONENTS).
 pub fn is_fixed(component: &Component) -> bool
     ensures { result ≡ is_fixed_component component.now }
 {
@@ -20,7 +21,7 @@ pub fn is_fixed(component: &Component) -> bool
     }
 }
 
-/// Whether the component is COVER.
+/// Whether the component is COVER (LEF/DEF 5.8, DEF COMPONENTS).
 pub fn is_cover(component: &Component) -> bool
     ensures { result ≡ is_cover_component component.now }
 {
@@ -42,7 +43,7 @@ pub fn is_movable(component: &Component) -> bool
     !is_fixed(component) && !is_cover(component)
 }
 
-/// Whether the region's TYPE is FENCE.
+/// Whether the region's TYPE is FENCE (LEF/DEF 5.8, DEF REGIONS).
 pub fn is_fence(region: &Region) -> bool
     ensures { result ≡ is_fence_region region.now }
 {

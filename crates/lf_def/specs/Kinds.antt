@@ -1,0 +1,45 @@
+-- Which regions are fences, and which components are FIXED, COVER, or teams' to move (DEF REGIONS, COMPONENTS).
+use Rattle.std.specs.Prelude.{Bool, true, false, not, ◌&&◌, Option, Some, None}
+use Rattle.lf_def.specs.declared.regions.Region.{Region}
+use Rattle.lf_def.specs.declared.regions.RegionKind.{RegionKind}
+use Rattle.lf_def.specs.declared.regions.RegionKind.TheVariants.{Fence, Guide}
+use Rattle.lf_def.specs.declared.components.Component.{Component}
+use Rattle.lf_def.specs.declared.components.Placement.{Placement}
+use Rattle.lf_def.specs.declared.components.PlacementKind.{PlacementKind}
+use Rattle.lf_def.specs.declared.components.PlacementKind.TheVariants.{Fixed, Cover, Placed, Unplaced}
+
+abbrev pub is_fence_kind : Option RegionKind → Bool
+is_fence_kind (Some Fence) = true
+is_fence_kind (Some Guide) = false
+is_fence_kind None = false
+
+-- the region is a fence: its TYPE is FENCE
+abbrev pub is_fence : Region → Bool
+is_fence r = is_fence_kind r.kind
+
+abbrev pub is_fixed_kind : PlacementKind → Bool
+is_fixed_kind Fixed = true
+is_fixed_kind Cover = false
+is_fixed_kind Placed = false
+is_fixed_kind Unplaced = false
+
+abbrev pub is_cover_kind : PlacementKind → Bool
+is_cover_kind Fixed = false
+is_cover_kind Cover = true
+is_cover_kind Placed = false
+is_cover_kind Unplaced = false
+
+-- its placement clause is of this kind; a component without one is of none
+abbrev pub says : (PlacementKind → Bool) → Option Placement → Bool
+says is_kind None = false
+says is_kind (Some p) = is_kind p.kind
+
+abbrev pub is_fixed : Component → Bool
+is_fixed c = says is_fixed_kind c.placement
+
+abbrev pub is_cover : Component → Bool
+is_cover c = says is_cover_kind c.placement
+
+-- a component that teams may move: neither FIXED nor COVER
+abbrev pub is_movable : Component → Bool
+is_movable c = not (is_fixed c) && not (is_cover c)
