@@ -51,10 +51,10 @@ class Item(NamedTuple):
 
 
 class Source(NamedTuple):
-    """The root of a crate: its first lines, the names that it makes public (each with the library that has it), and its files."""
+    """The root of a crate: its first lines, the names that it makes public, each with its file or the library that has it, and its files."""
 
     head: list[str]
-    exported: dict[str, str]
+    exported: dict[str, Path | str]
     files: list[Path]
 
 
@@ -65,11 +65,11 @@ def source_of(crate: str) -> Source:
     text = root.read_text(encoding="utf-8")
     head = [line.removeprefix("//!").removeprefix(" ") for line in text.splitlines() if line.startswith("//!")]
     modules = [path for name in re.findall(r"^mod (\w+);", text, flags=re.M) if (path := folder / f"{name}.rt").exists()]
-    exported = {name: "" for _, name in ITEM.findall("\n".join(line for line in text.splitlines() if line.startswith("pub ")))}
+    exported: dict[str, Path | str] = {name: root for _, name in ITEM.findall("\n".join(line for line in text.splitlines() if line.startswith("pub ")))}
     for named, several, renamed in USE.findall(text):
         names = re.findall(r"\w+", several) if several else [renamed or named.rpartition("::")[2]]
         module = named.split("::")[0]
-        exported |= {name: "" if folder / f"{module}.rt" in modules else module for name in names}
+        exported |= {name: path if (path := folder / f"{module}.rt") in modules else module for name in names}
     return Source(head, exported, [root, *modules])
 
 
@@ -166,7 +166,8 @@ def items_of(crate: str, source: Source) -> list[Item]:
             elif line == "}":
                 owner = ""
             item = ITEM.match(line.removeprefix("    ") if owner else line)
-            if not item or source.exported.get(owner or item[2]) != "":
+            home = source.exported.get(owner or item[2]) if item else None
+            if not item or not isinstance(home, Path) or home != path and not owner:
                 continue
             text = function(lines, at) if item[1] == "fn" else type_of(lines, at, item[1])
             text = [line.removeprefix("    ") for line in text] if owner else text
@@ -191,7 +192,7 @@ def print_crate(crate: str) -> None:
     """Prints the crate's first lines, what it names again, and its items."""
     source = source_of(crate)
     print(f"\n## {crate}\n\n" + "\n".join(source.head))
-    for library in dict.fromkeys(filter(None, source.exported.values())):
+    for library in dict.fromkeys(of for of in source.exported.values() if isinstance(of, str)):
         print(f"\nIt names again, of {library}: {', '.join(f'`{name}`' for name, of in source.exported.items() if of == library)}.")
     for item in items_of(crate, source):
         print("\n".join([f"\n### {crate}: {item.name}\n", "```rust", *item.text, "```", *([""] if item.said else []), *item.said]))
@@ -218,7 +219,7 @@ def lacking(crates: list[str]) -> list[str]:
             said.append(f"crates/{crate}/src: no first lines (//!)")
         said += [f"{item.place}: {item.name} has no comment" for item in items if not any(item.said)]
         said += [f"{item.place}: {what} has no comment" for item in items for what in methods_without(item)]
-        missing = {name for name, of in source.exported.items() if of == ""} - {item.name for item in items}
+        missing = {name for name, of in source.exported.items() if isinstance(of, Path)} - {item.name for item in items}
         said += [f"crates/{crate}/src: {name} is made public, and not found" for name in sorted(missing)]
     return said
 
