@@ -3,6 +3,9 @@ pub mod Designs
 pub mod Exits
 pub mod Faults
 pub mod Lines
+pub mod Refusals
 pub mod Reporting
 pub mod Services
+pub mod Surroundings
+pub mod Texts
 pub mod Work

@@ -2,7 +2,8 @@
 
 use crate::shelf::Shelf;
 use lf_app::{
-    Exit, FileTexts, NetServices, Offer, Services, Task, Unserved, perform, perform_over,
+    Exit, FileTexts, NetServices, Offer, Services, Surroundings, Task, Unbound, Unserved, perform,
+    perform_over,
 };
 use lf_def::W_DEF;
 use lf_devices::{FromRead, Sink, ToWrite};
@@ -91,7 +92,40 @@ impl Services for Noted {
         _writer: &mut W,
     ) -> Result<(), Unserved> {
         self.offer = Some(*offer);
-        Err(Unserved::Bind)
+        Err(Unserved::Bind(Unbound::InUse))
+    }
+}
+
+/// Exported texts that are kept elsewhere.
+#[derive(Drop)]
+struct KeptThere<'a, 'b> {
+    kept: &'a mut Kept<'b>,
+}
+
+impl<'a, 'b> Exports for KeptThere<'a, 'b> {
+    fn try_path(&self, path: &str) -> Result<(), Unwritten> {
+        self.kept.try_path(path)
+    }
+
+    fn put<P: Pieces>(&mut self, path: &str, text: &P) -> Result<(), Unwritten> {
+        self.kept.put(path, text)
+    }
+}
+
+/// Services that are offered elsewhere.
+#[derive(Drop)]
+struct OfferedThere<'a, V> {
+    services: &'a mut V,
+}
+
+impl<'a, V: Services> Services for OfferedThere<'a, V> {
+    fn offer<W: Sink>(
+        &mut self,
+        offer: &Offer,
+        floor: &mut Floor<IndexSeeker>,
+        writer: &mut W,
+    ) -> Result<(), Unserved> {
+        self.services.offer(offer, floor, writer)
     }
 }
 
@@ -268,23 +302,18 @@ fn with_devices<V: Services, R: Read, W: Write, F: Write>(
         alloc: rt.alloc(),
         files,
     };
-    let texts = FileTexts::new(&shelf);
-    let mut source = FromRead::new(reader);
-    let mut sink = ToWrite::new(writer);
-    let mut told = ToWrite::new(faults);
-    let exit = perform_over(
-        rt.alloc(),
-        &texts,
-        exports,
-        services,
-        task,
-        &mut source,
-        &mut sink,
-        &mut told,
-    );
+    let mut around = Surroundings {
+        texts: FileTexts::new(&shelf),
+        exports: KeptThere { kept: exports },
+        services: OfferedThere { services },
+        reader: FromRead::new(reader),
+        writer: ToWrite::new(writer),
+        faults: ToWrite::new(faults),
+    };
+    let exit = perform_over(rt.alloc(), &mut around, task);
     End {
         exit,
-        asked: exports.asked,
+        asked: around.exports.kept.asked,
     }
 }
 
@@ -482,9 +511,9 @@ fn a_replay_reads_its_own_lef_files_alone(rt: HostRuntime) -> Result<(), Fail> {
 #[test]
 fn a_file_that_cannot_be_read_is_a_fault(rt: HostRuntime) -> Result<(), Fail> {
     let files = [("w.lef", Some(W_LEF)), ("folder", None)];
-    let fault = "lefence: File\nlefence: DEF file w.def cannot be read\n";
+    let fault = "lefence: File\nlefence: DEF file w.def cannot be read: there is no such file\n";
     assert!(rt; ends(&rt, files.as_slice(), LEFS, 3, fault)?);
-    let fault = "lefence: File\nlefence: LEF file x.lef cannot be read\n";
+    let fault = "lefence: File\nlefence: LEF file x.lef cannot be read: there is no such file\n";
     assert!(rt; ends(&rt, files.as_slice(), ["x.lef"].as_slice(), 3, fault)?);
     let fault = "lefence: File\nlefence: LEF file folder cannot be read\n";
     assert!(rt; ends(&rt, files.as_slice(), ["folder"].as_slice(), 3, fault)?);
@@ -560,7 +589,7 @@ fn a_design_is_described(rt: HostRuntime) -> Result<(), Fail> {
 #[test]
 fn a_check_without_its_file_is_a_fault(rt: HostRuntime) -> Result<(), Fail> {
     let files = [("w.lef", Some(W_LEF))];
-    let fault = "lefence: File\nlefence: DEF file w.def cannot be read\n";
+    let fault = "lefence: File\nlefence: DEF file w.def cannot be read: there is no such file\n";
     assert!(rt; checks(&rt, files.as_slice(), 3, "", fault)?);
     Ok(())
 }
@@ -794,7 +823,8 @@ fn offered(rt: &HostRuntime) -> Result<Option<Offer>, AllocError> {
         &task,
         &mut reader,
     );
-    let faults = "lefence: Bind\nlefence: port 5800 of 127.0.0.1 cannot be listened on\n";
+    let faults =
+        "lefence: Bind\nlefence: port 5800 of 127.0.0.1 cannot be listened on: it is in use\n";
     if !run.is(3, "", faults) {
         return Ok(None);
     }
