@@ -92,7 +92,7 @@ fn put_fault<W: Write>(alloc: Global, writer: &mut W, refusal: &LoadFault<'_>) -
             kind: TextKind::Def,
             path: "row",
         },
-        refusal: Refusal::new(alloc, b"", refusal),
+        refusal: Refusal::new(alloc, TextKind::Def, b"", refusal),
     };
     match write_fault(&mut ToWrite::new(writer), &fault) {
         Ok(()) => Ok(()),

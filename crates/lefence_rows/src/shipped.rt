@@ -1,9 +1,7 @@
 //! What the program itself answers of a row: the report of `lefence check`, and the replies and the exported text of
 //! `lefence replay`, over texts in memory.
 
-use lf_app::{
-    Offer, Services, Surroundings, Task, Texts, Unbound, Unread, Unserved, perform_over,
-};
+use lf_app::{Offer, Services, Surroundings, Task, Texts, Unbound, Unread, Unserved, perform_over};
 use lf_devices::{FromRead, Sink, ToWrite};
 use lf_files::{Exports, Pieces, Unwritten};
 use lf_floor::Floor;

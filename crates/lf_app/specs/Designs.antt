@@ -96,7 +96,7 @@ IsDefRefusal library text refusal =
 
 -- the fault tells a refusal of this kind of the text, read as this from the file of the path
 abbrev pub IsRefused : TextKind → List ℕ → List ℕ → (LoadFault → Type 0) → Fault → Type 0
-IsRefused kind path text why (Refused file its) = IsFile kind path file × ((refusal : LoadFault) × why refusal × Tells text refusal its)
+IsRefused kind path text why (Refused file its) = IsFile kind path file × ((refusal : LoadFault) × why refusal × Tells kind text refusal its)
 IsRefused kind path text why _ = ⊥
 
 -- why the text of a file was not read: an allocation fails, or the file cannot be read

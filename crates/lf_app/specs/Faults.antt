@@ -11,6 +11,8 @@ use Rattle.lf_app.specs.declared.faults.Fault.TheVariants.{Refused, File, ReadFa
 use Rattle.lf_app.specs.declared.faults.TextFile.{TextFile}
 use Rattle.lf_app.specs.declared.faults.TextKind.{TextKind}
 use Rattle.lf_app.specs.declared.faults.TextKind.TheVariants.{Lef, Def}
+use Rattle.lf_app.specs.declared.hints.Hint.{Hint}
+use Rattle.lf_app.specs.declared.hints.Hint.TheVariants.{Compressed, OtherKind}
 use Rattle.lf_app.specs.declared.refusals.Refusal.{Refusal}
 use Rattle.lf_app.specs.declared.services.Unbound.{Unbound}
 use Rattle.lf_app.specs.declared.services.Unbound.TheVariants as unbound
@@ -109,7 +111,7 @@ line_shown None bytes = []
 line_shown (Some number) bytes = number_words number ++ shown bytes
 
 abbrev pub shown_line : Refusal → List ℕ
-shown_line refusal = line_shown refusal.line refusal.shown.items
+shown_line refusal = line_shown refusal.at refusal.shown.items
 
 -- the path of the exported text
 abbrev pub export_words : List ℕ → List ℕ
@@ -124,9 +126,16 @@ abbrev pub is_memory : FaultNumber → Bool
 is_memory number.OutOfMemory = true
 is_memory _ = false
 
+-- what a refused text that was read as this rather seems to be
+abbrev pub hint_words : TextKind → Option Hint → List ℕ
+hint_words kind None = []
+hint_words kind (Some Compressed) = codes " (it looks compressed)"
+hint_words Lef (Some OtherKind) = codes " (read as LEF: is the DEF text first?)"
+hint_words Def (Some OtherKind) = codes " (read as DEF: is the DEF text first?)"
+
 -- where a text is refused: nowhere if only memory ran out
 abbrev pub refusal_words : TextFile → Refusal → List ℕ
-refusal_words file refusal = if is_memory refusal.number then [] else codes "lefence: " ++ file_words file ++ shown_line refusal ++ 10 ∷ []
+refusal_words file refusal = if is_memory refusal.number then [] else codes "lefence: " ++ file_words file ++ hint_words file.kind refusal.hint ++ shown_line refusal ++ 10 ∷ []
 
 -- the file, the path or the port that is at fault
 abbrev pub subject_words : Fault → List ℕ

@@ -2,6 +2,7 @@ pub mod Checks
 pub mod Designs
 pub mod Exits
 pub mod Faults
+pub mod Hints
 pub mod Lines
 pub mod Refusals
 pub mod Reporting

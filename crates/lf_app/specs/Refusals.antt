@@ -2,7 +2,9 @@
 use Rattle.std.specs.Prelude.{◌≡◌, ◌+◌, ◌-◌, ℕ, zero, suc, List, [], drop, position, take, Option, Some, None, option_map}
 use Rattle.lf_lex.specs.declared.fault.LoadFault.{LoadFault}
 use Rattle.lf_lex.specs.Tokens.{is_line_feed}
+use Rattle.lf_app.specs.declared.faults.TextKind.{TextKind}
 use Rattle.lf_app.specs.declared.refusals.Refusal.{Refusal}
+use Rattle.lf_app.specs.Hints.{hint_of, line_told}
 
 -- what follows a line feed there; no byte if there is none
 abbrev pub behind_feed : List ℕ → Option ℕ → List ℕ
@@ -36,9 +38,12 @@ abbrev pub line_front : List ℕ → Option ℕ → List ℕ
 line_front text None = []
 line_front text (Some number) = take 80 (line_at text number)
 
--- this is told of the fault of the text: its number, its line with the first bytes of that, and its name
-pub record Tells (text : List ℕ) (fault : LoadFault) (refusal : Refusal) : Type 0 where
+-- this is told of the fault of the text that was read as this: its number, line and name; the line that it is about, with its first
+-- bytes; and what the text rather seems to be
+pub record Tells (kind : TextKind) (text : List ℕ) (fault : LoadFault) (refusal : Refusal) : Type 0 where
   pub number : refusal.number ≡ fault.number
   pub line : refusal.line ≡ fault.line
-  pub shown : refusal.shown.items ≡ line_front text fault.line
   pub name : option_map (λ name. name.items) refusal.name ≡ option_map (λ name. name.now) fault.name
+  pub at : refusal.at ≡ line_told text fault
+  pub shown : refusal.shown.items ≡ line_front text (line_told text fault)
+  pub hint : refusal.hint ≡ hint_of kind text

@@ -68,7 +68,7 @@ fn refused<'a>(alloc: Global, file: TextFile<'a>, text: &[u8], fault: &LoadFault
 {
     Fault::Refused {
         file,
-        refusal: Refusal::new(alloc, text, fault),
+        refusal: Refusal::new(alloc, file.kind, text, fault),
     }
 }
 

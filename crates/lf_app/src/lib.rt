@@ -5,6 +5,7 @@ mod descriptions;
 mod designs;
 mod exported;
 mod faults;
+mod hints;
 mod lines;
 mod origins;
 mod refusals;
@@ -16,7 +17,8 @@ mod texts;
 mod work;
 
 pub use faults::{Exit, Fault, TextFile, TextKind, status_of, write_fault};
-pub use lf_command::{Help, Task, UsageFault, command_of, help_of};
+pub use hints::Hint;
+pub use lf_command::{Help, Task, UsageFault, command_of, complaint_of, help_of};
 pub use lines::answer_lines;
 pub use refusals::Refusal;
 pub use services::{NetServices, Offer, Services, Unbound, Unserved};

@@ -3,10 +3,11 @@
 ghost use Rattle.std.specs.Prelude.{◌≡◌, ◌<◌, OnErr, OnOk, true};
 ghost use Rattle.std.specs.Io.KnownBytes.{Appends};
 ghost use Rattle.std.specs.Char.{digit_char};
-ghost use Rattle.lf_app.specs.Faults.{complaint_line, complaint_words, export_words, file_words, is_memory, number_words, port_words, reason_words, refusal_words, second_line};
+ghost use Rattle.lf_app.specs.Faults.{complaint_line, complaint_words, export_words, file_words, hint_words, is_memory, number_words, port_words, reason_words, refusal_words, second_line};
 ghost use Rattle.lf_app.specs.Faults.{shown, shown_byte, shown_line, subject_words, unbound_words, unreadable_words};
 
 use crate::faults::{Fault, TextFile, TextKind};
+use crate::hints::Hint;
 use crate::refusals::Refusal;
 use crate::services::Unbound;
 use crate::texts::Unreadable;
@@ -84,11 +85,23 @@ fn put_shown_line<W: Sink>(sink: &mut W, refusal: &Refusal) -> Result<(), Device
     ensures failed { OnErr result (W.has_failed sink.new ≡ true) }
     ensures held { W.holds sink.new ≡ W.holds sink.old }
 {
-    let Some(number) = refusal.line else {
+    let Some(number) = refusal.at else {
         return Ok(());
     };
     put_number(sink, number)?;
     put_shown(sink, refusal.shown.as_slice())
+}
+
+/// What a refused text that was read as this rather seems to be.
+fn hint_words(kind: TextKind, hint: Option<Hint>) -> &'static [u8]
+    ensures { result.now ≡ hint_words kind hint }
+{
+    match (hint, kind) {
+        (None, _) => b"",
+        (Some(Hint::Compressed), _) => b" (it looks compressed)",
+        (Some(Hint::OtherKind), TextKind::Lef) => b" (read as LEF: is the DEF text first?)",
+        (Some(Hint::OtherKind), TextKind::Def) => b" (read as DEF: is the DEF text first?)",
+    }
 }
 
 /// Whether the refusal is a failed allocation.
@@ -113,6 +126,7 @@ fn put_refused<W: Sink>(
     }
     send(sink, b"lefence: ")?;
     put_file(sink, file)?;
+    send(sink, hint_words(file.kind, refusal.hint))?;
     put_shown_line(sink, refusal)?;
     send(sink, b"\n")
 }

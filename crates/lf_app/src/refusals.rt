@@ -1,12 +1,14 @@
 //! What is told of a refused text: it is taken from the text, which may then go.
 
-ghost use Rattle.std.specs.Prelude.{◌≡◌, ◌⊎◌, ◌<◌, ℕ, List, IfOk, IfSome, length, option_map, position, take};
+ghost use Rattle.std.specs.Prelude.{◌≡◌, ◌⊎◌, ◌<◌, IfOk, IfSome, length, option_map, position, take};
 ghost use Rattle.lf_lex.specs.Tokens.{is_line_feed};
 ghost use Rattle.lf_lex.specs.declared.fault.LoadFault.{LoadFault};
 ghost use Rattle.lf_lex.specs.declared.fault.ReadError.TheVariants.{Memory};
 ghost use Rattle.lf_lex.specs.Faults.{load_fault_of};
 ghost use Rattle.lf_app.specs.Refusals.{Tells, behind_line, behind_lines, first_line, line_at, line_front};
 
+use crate::faults::TextKind;
+use crate::hints::{Hint, hint_of, line_told};
 use lf_lex::{FaultNumber, LoadFault};
 use std::alloc::{AllocError, Global};
 
@@ -17,12 +19,16 @@ const SHOWN: usize = 80;
 #[derive(Drop)]
 pub struct Refusal {
     pub number: FaultNumber,
-    /// The line of the text that it is about.
+    /// The line that a reader gives.
     pub line: Option<usize>,
+    /// The name that loading gives.
+    pub name: Option<Vec<u8>>,
+    /// The line that is shown: the reader's, or the one in which the name stands.
+    pub at: Option<usize>,
     /// The first bytes of that line.
     pub shown: Vec<u8>,
-    /// The name that it is about.
-    pub name: Option<Vec<u8>>,
+    /// What the text rather seems to be.
+    pub hint: Option<Hint>,
 }
 
 /// Where the first line feed is.
@@ -103,39 +109,49 @@ fn copied(alloc: Global, name: Option<&[u8]>) -> Result<Option<Vec<u8>>, AllocEr
 }
 
 /// What is told of the text that is refused so.
-fn told_of(alloc: Global, text: &[u8], fault: &LoadFault<'_>) -> Result<Refusal, AllocError>
-    ensures { IfOk result (Tells text.now fault.now) }
+fn told_of(
+    alloc: Global,
+    kind: TextKind,
+    text: &[u8],
+    fault: &LoadFault<'_>,
+) -> Result<Refusal, AllocError>
+    ensures { IfOk result (Tells kind text.now fault.now) }
 {
-    let shown = Vec::from_slice(alloc, line_front(text, fault.line))?;
     let name = copied(alloc, fault.name)?;
+    let at = line_told(text, fault);
+    let shown = Vec::from_slice(alloc, line_front(text, at))?;
     Ok(Refusal {
         number: fault.number,
         line: fault.line,
-        shown,
         name,
+        at,
+        shown,
+        hint: hint_of(kind, text),
     })
 }
 
 /// What is told of a failed allocation.
-fn told_of_memory(alloc: Global) -> Refusal
-    ensures { (text : List ℕ) → Tells text (load_fault_of Memory) result }
+fn told_of_memory(alloc: Global, kind: TextKind, text: &[u8]) -> Refusal
+    ensures { Tells kind text.now (load_fault_of Memory) result }
 {
     Refusal {
         number: FaultNumber::OutOfMemory,
         line: None,
-        shown: Vec::new(alloc),
         name: None,
+        at: None,
+        shown: Vec::new(alloc),
+        hint: hint_of(kind, text),
     }
 }
 
 impl Refusal {
-    /// What is told of the text that is refused so: that an allocation failed, if there is no memory to tell more.
-    pub fn new(alloc: Global, text: &[u8], fault: &LoadFault<'_>) -> Refusal
-        ensures { (told : LoadFault) × ((told ≡ fault.now) ⊎ (told ≡ load_fault_of Memory)) × Tells text.now told result }
+    /// What is told of the text, read as this, that is refused so: that an allocation failed, if there is no memory to tell more.
+    pub fn new(alloc: Global, kind: TextKind, text: &[u8], fault: &LoadFault<'_>) -> Refusal
+        ensures { (told : LoadFault) × ((told ≡ fault.now) ⊎ (told ≡ load_fault_of Memory)) × Tells kind text.now told result }
     {
-        match told_of(alloc, text, fault) {
+        match told_of(alloc, kind, text, fault) {
             Ok(refusal) => refusal,
-            Err(_) => told_of_memory(alloc),
+            Err(_) => told_of_memory(alloc, kind, text),
         }
     }
 }

@@ -1,7 +1,7 @@
 //! Work on a design: its lines are answered or its connections served, and then the text with its committed places is
 //! written if one is asked for.
 
-ghost use Rattle.std.specs.Prelude.{None, Some, ◌≡◌, ℕ, List, Option, IfErr, IfOk, OnErr, OnOk, map, option_map, true};
+ghost use Rattle.std.specs.Prelude.{◌≡◌, ℕ, List, Option, IfErr, IfOk, OnOk, map, option_map, true};
 ghost use Rattle.lf_lef.specs.Contents.{Contents};
 ghost use Rattle.lf_def.specs.Document.{Document};
 ghost use Rattle.lf_floorplan.specs.declared.loaded.Loaded.{Loaded};
@@ -11,22 +11,22 @@ ghost use Rattle.lf_teams.specs.Designs.{opening};
 ghost use Rattle.lf_teams.specs.Places.{AreCommittedPlaces};
 ghost use Rattle.lf_teams.specs.States.{FloorState};
 ghost use Rattle.lf_app.specs.Designs.{IsDesignFault, IsDesignOf, IsKept};
-ghost use Rattle.lf_app.specs.Exits.{IsAnswered, IsExported, IsFinished, IsJobStop, IsLinesFault, IsOffered, IsWorked};
-ghost use Rattle.lf_app.specs.Faults.{Blames, IsExportFault, IsServiceFault, unserved_fault};
+ghost use Rattle.lf_app.specs.Exits.{IsAnswered, IsFinished, IsJobStop, IsLinesFault, IsOffered, IsWorked};
+ghost use Rattle.lf_app.specs.Faults.{Blames, IsServiceFault, unserved_fault};
 ghost use Rattle.lf_app.specs.Lines.{ReadsFail, most_lines};
 ghost use Rattle.lf_app.specs.Services.{OffersLocal};
 ghost use Rattle.lf_app.specs.Surroundings.{IsReady, Keeps, io_of};
 ghost use Rattle.lf_app.specs.Work.{IsDone, IsFault, IsOfferFor, IsReaderSpent, IsStopped, Leaves};
 
 use crate::designs::{Opened, Original, open_files};
-use crate::exported::exported_text;
+use crate::exported::{export_to, try_export};
 use crate::faults::{Fault, ending_fault};
 use crate::lines::{MOST_LINES, answer_lines};
 use crate::services::{Services, Unserved, local_offer};
 use crate::surroundings::Surroundings;
 use crate::texts::Texts;
 use lf_devices::{Sink, Source};
-use lf_files::{Exports, Unwritten};
+use lf_files::Exports;
 use lf_floor::Floor;
 use lf_frame::Loaded;
 use lf_legalize::IndexSeeker;
@@ -136,54 +136,6 @@ fn answer<'a, T, E: Exports, V: Services, R: Source, W: Sink, F>(
         Lines::Port { port, connections } => {
             offer(&mut around.services, floor, port, connections, writer)
         }
-    }
-}
-
-/// The fault of a text that is not put into its file.
-fn export_fault<'f>(path: &'f str, unwritten: Unwritten) -> Fault<'f>
-    ensures { IsExportFault (Some path.now) result }
-{
-    match unwritten {
-        Unwritten::File => Fault::Unwritten(path),
-        Unwritten::OutOfMemory => Fault::NoRoom,
-    }
-}
-
-/// Makes sure, as far as that shows beforehand, that a text can be written to the file of that path, if one is given.
-fn try_export<'a, E: Exports>(path: Option<&'a str>, exports: &E) -> Result<(), Fault<'a>>
-    ensures err { IfErr result (IsExportFault (option_map (λ path. path.now) path.entry)) }
-{
-    match path {
-        None => Ok(()),
-        Some(path) => match exports.try_path(path) {
-            Ok(()) => Ok(()),
-            Err(unwritten) => Err(export_fault(path, unwritten)),
-        },
-    }
-}
-
-/// Writes the exported text to the file of that path, if one is given.
-fn export_to<'a, E: Exports>(
-    floor: &Floor<IndexSeeker>,
-    original: &Original,
-    path: Option<&'a str>,
-    exports: &mut E,
-) -> Result<(), Fault<'a>>
-    requires fits { (places : List (ℕ × Option Place)) → AreCommittedPlaces floor.now places → CanBeRenewed original.now.text.items original.now.clauses places }
-    ensures ok { (document : Document) → original.now.clauses ≡ map (clause_of original.now.text.items) document.components
-        → OnOk result (IsExported (option_map (λ path. path.now) path.entry) original.now.text.items document floor.now (E.puts exports.old) (E.puts exports.new)) }
-    ensures err { IfErr result (IsExportFault (option_map (λ path. path.now) path.entry)) }
-    ensures unput { OnErr result (E.puts exports.new ≡ E.puts exports.old) }
-    ensures unasked { option_map (λ path. path.now) path.entry ≡ None → exports.new ≡ exports.old }
-{
-    clauses_serve();
-    let Some(path) = path else {
-        return Ok(());
-    };
-    let exported = exported_text(floor, &original.text, &original.clauses);
-    match exports.put(path, &exported) {
-        Ok(()) => Ok(()),
-        Err(unwritten) => Err(export_fault(path, unwritten)),
     }
 }
 

@@ -415,3 +415,12 @@ pub fn command_of<'a>(alloc: Global, words: &'a [&'a str]) -> Result<Task<'a>, U
         Err(_) => Err(UsageFault::Usage),
     }
 }
+
+/// What `clap` says of words that it does not take: which of them is wrong, or which is missing, and what it may be. None of
+/// words that it takes, or that ask for help or the version. Contracts know nothing of the text.
+pub fn complaint_of(alloc: Global, words: &[&str]) -> Result<Option<String>, AllocError> {
+    match command(alloc)?.try_get_matches_from(words) {
+        Err(error) if error.use_stderr() => Ok(Some(format!(in alloc; "{error}")?)),
+        _ => Ok(None),
+    }
+}
