@@ -111,9 +111,11 @@ pub(crate) fn export_to<'a, E: Exports>(
     path: Option<&'a str>,
     exports: &mut E,
 ) -> Result<(), Fault<'a>>
-    requires fits { (places : List (ℕ × Option Place)) → AreCommittedPlaces floor.now places → CanBeRenewed original.now.text.items original.now.clauses places }
+    requires fits { (places : List (ℕ × Option Place)) → AreCommittedPlaces floor.now places
+        → CanBeRenewed original.now.text.items original.now.clauses places }
     ensures ok { (document : Document) → original.now.clauses ≡ map (clause_of original.now.text.items) document.components
-        → OnOk result (IsExported (option_map (λ path. path.now) path.entry) original.now.text.items document floor.now (E.puts exports.old) (E.puts exports.new)) }
+        → OnOk result (IsExported (option_map (λ path. path.now) path.entry) original.now.text.items document floor.now
+        (E.puts exports.old) (E.puts exports.new)) }
     ensures err { IfErr result (IsExportFault (option_map (λ path. path.now) path.entry)) }
     ensures unput { OnErr result (E.puts exports.new ≡ E.puts exports.old) }
     ensures unasked { option_map (λ path. path.now) path.entry ≡ None → exports.new ≡ exports.old }

@@ -16,7 +16,7 @@ ghost use Rattle.lf_app.specs.Faults.{Blames, IsServiceFault, unserved_fault};
 ghost use Rattle.lf_app.specs.Lines.{ReadsFail, most_lines};
 ghost use Rattle.lf_app.specs.Services.{OffersLocal};
 ghost use Rattle.lf_app.specs.Surroundings.{IsReady, Keeps, io_of};
-ghost use Rattle.lf_app.specs.Work.{IsDone, IsFault, IsOfferFor, IsReaderSpent, IsStopped, Leaves};
+ghost use Rattle.lf_app.specs.Work.{BlamesIn, IsDone, IsFault, IsOfferFor, IsStopped, Leaves};
 
 use crate::designs::{Opened, Original, open_files};
 use crate::exported::{export_to, try_export};
@@ -123,8 +123,7 @@ fn answer<'a, T, E: Exports, V: Services, R: Source, W: Sink, F>(
     ensures components { floor.new.components ≡ floor.old.components }
     ensures err { (loaded : Loaded) → floor.old ≡ opening loaded → IfErr result (λ fault.
         IsFault lines loaded fault (io_of R.remaining W.contents E.puts around.old around.new)
-        × Blames fault (around.new.writer ≡ around.old.writer) (IsReaderSpent lines (R.has_failed around.new.reader) (R.reads around.old.reader) (R.reads around.new.reader))
-        (W.has_failed around.new.writer ≡ true)) }
+        × BlamesIn R.has_failed R.reads W.has_failed lines around.old around.new fault) }
     ensures exports { around.new.exports ≡ around.old.exports }
     ensures offered { IsOfferFor lines (V.offers around.old.services) (V.offers around.new.services) }
     ensures keeps { Keeps R.holds W.holds around.old around.new }
@@ -157,8 +156,7 @@ fn work_on_floor<'a, T, E: Exports, V: Services, R: Source, W: Sink, F>(
         original.now.text.items document (io_of R.remaining W.contents E.puts around.old around.new)) }
     ensures err { (loaded : Loaded) → floor.old ≡ opening loaded → IfErr result (λ fault.
         IsStopped (option_map (λ path. path.now) path.entry) lines loaded fault (io_of R.remaining W.contents E.puts around.old around.new)
-        × Blames fault (around.new.writer ≡ around.old.writer) (IsReaderSpent lines (R.has_failed around.new.reader) (R.reads around.old.reader) (R.reads around.new.reader))
-        (W.has_failed around.new.writer ≡ true)) }
+        × BlamesIn R.has_failed R.reads W.has_failed lines around.old around.new fault) }
     ensures leaves { Leaves E.puts V.offers lines (option_map (λ path. path.now) path.entry) result around.old around.new }
     ensures keeps { Keeps R.holds W.holds around.old around.new }
 {
@@ -177,14 +175,14 @@ fn work_on_opened<'a, T, E: Exports, V: Services, R: Source, W: Sink, F>(
     path: Option<&'a str>,
 ) -> Result<u8, Fault<'a>>
     requires ready { IsReady R.has_failed R.reads W.has_failed around.old.reader around.old.writer }
-    requires loads { (library : Contents) × (document : Document) × IsKept opened.original.text.items library document opened.original.clauses opened.loaded }
+    requires loads { (library : Contents) × (document : Document)
+        × IsKept opened.original.text.items library document opened.original.clauses opened.loaded }
     ensures ok { (document : Document) → opened.original.clauses ≡ map (clause_of opened.original.text.items) document.components
         → IfOk result (λ status. (status ≡ 0) × IsFinished (IsDone lines opened.loaded) (option_map (λ path. path.now) path.entry)
         opened.original.text.items document (io_of R.remaining W.contents E.puts around.old around.new)) }
     ensures err { IfErr result (λ fault.
         IsStopped (option_map (λ path. path.now) path.entry) lines opened.loaded fault (io_of R.remaining W.contents E.puts around.old around.new)
-        × Blames fault (around.new.writer ≡ around.old.writer) (IsReaderSpent lines (R.has_failed around.new.reader) (R.reads around.old.reader) (R.reads around.new.reader))
-        (W.has_failed around.new.writer ≡ true)) }
+        × BlamesIn R.has_failed R.reads W.has_failed lines around.old around.new fault) }
     ensures leaves { Leaves E.puts V.offers lines (option_map (λ path. path.now) path.entry) result around.old around.new }
     ensures keeps { Keeps R.holds W.holds around.old around.new }
 {
@@ -206,13 +204,13 @@ pub(crate) fn work<'a, T: Texts, E: Exports, V: Services, R: Source, W: Sink, F>
     path: Option<&'a str>,
 ) -> Result<u8, Fault<'a>>
     requires ready { IsReady R.has_failed R.reads W.has_failed around.old.reader around.old.writer }
-    ensures ok { IfOk result (λ status. IsWorked (T.gives around.old.texts) def.now (map (λ lef. lef.now) lefs.now) (option_map (λ path. path.now) path.entry)
-        (IsDone lines) (io_of R.remaining W.contents E.puts around.old around.new) × (status ≡ 0)) }
+    ensures ok { IfOk result (λ status. IsWorked (T.gives around.old.texts) def.now (map (λ lef. lef.now) lefs.now)
+        (option_map (λ path. path.now) path.entry) (IsDone lines) (io_of R.remaining W.contents E.puts around.old around.new) × (status ≡ 0)) }
     ensures err { IfErr result (λ fault. IsJobStop
-        (IsDesignFault (T.gives around.old.texts) def.now (map (λ lef. lef.now) lefs.now)) (IsDesignOf (T.gives around.old.texts) def.now (map (λ lef. lef.now) lefs.now))
+        (IsDesignFault (T.gives around.old.texts) def.now (map (λ lef. lef.now) lefs.now))
+        (IsDesignOf (T.gives around.old.texts) def.now (map (λ lef. lef.now) lefs.now))
         (IsStopped (option_map (λ path. path.now) path.entry) lines) fault (io_of R.remaining W.contents E.puts around.old around.new)
-        × Blames fault (around.new.writer ≡ around.old.writer) (IsReaderSpent lines (R.has_failed around.new.reader) (R.reads around.old.reader) (R.reads around.new.reader))
-        (W.has_failed around.new.writer ≡ true)) }
+        × BlamesIn R.has_failed R.reads W.has_failed lines around.old around.new fault) }
     ensures leaves { Leaves E.puts V.offers lines (option_map (λ path. path.now) path.entry) result around.old around.new }
     ensures keeps { Keeps R.holds W.holds around.old around.new }
 {

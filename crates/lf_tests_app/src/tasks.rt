@@ -468,7 +468,8 @@ fn a_replay_answers_as_many_lines_as_it_says(rt: HostRuntime) -> Result<(), Fail
 fn fences_that_overlap_are_refused(rt: HostRuntime) -> Result<(), Fail> {
     let fence = b"- B ( 3999 0 ) ( 10000 8000 ) + TYPE FENCE ;";
     let def = with_line(rt.alloc(), W_DEF, 12, fence)?;
-    let fault = "lefence: 21 FencesOverlap B\nlefence: DEF file w.def\n";
+    let fault = "lefence: 21 FencesOverlap B\n\
+        lefence: DEF file w.def, line 12: - B ( 3999 0 ) ( 10000 8000 ) + TYPE FENCE ;\n";
     assert!(rt; ends(&rt, &files_of(&def), LEFS, 1, fault)?);
     assert!(rt; checks(&rt, &files_of(&def), 1, "", fault)?);
     Ok(())
@@ -503,7 +504,8 @@ fn lef_files_are_read_in_order_up_to_the_first_fault(rt: HostRuntime) -> Result<
 #[test]
 fn a_replay_reads_its_own_lef_files_alone(rt: HostRuntime) -> Result<(), Fail> {
     let files = [("x.lef", Some(b"".as_slice())), ("w.def", Some(W_DEF))];
-    let fault = "lefence: 8 NoSite core\nlefence: DEF file w.def\n";
+    let fault = "lefence: 8 NoSite core\n\
+        lefence: DEF file w.def, line 6: ROW r0 core 0 0 N DO 50 BY 1 STEP 200 0 ;\n";
     assert!(rt; ends(&rt, files.as_slice(), ["x.lef"].as_slice(), 1, fault)?);
     Ok(())
 }
